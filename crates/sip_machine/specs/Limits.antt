@@ -1,0 +1,20 @@
+use Rattle.std.specs.Prelude.{◌+◌, ◌-◌, ◌≤◌, ℕ, Option, Some, None}
+use Rattle.sip_machine.specs.Times.{Times}
+
+-- the first moment at which a timer that was set at s for d may fire
+abbrev pub open_at : Times → ℕ → ℕ → ℕ
+open_at p s d = s + (d - p.tolerance)
+
+-- the last moment at which it may
+abbrev pub close_at : Times → ℕ → ℕ → ℕ
+close_at p s d = s + d + p.tolerance
+
+-- m is not past the limit, if there is one
+abbrev pub IsWithin : ℕ → Option ℕ → Type 0
+IsWithin m None = Unit {0}
+IsWithin m (Some last) = m ≤ last
+
+-- h is in the window, if there is one: from its opening to its close
+abbrev pub IsOpenAt : ℕ → Option (ℕ × Option ℕ) → Type 0
+IsOpenAt h None = ⊥
+IsOpenAt h (Some w) = (w.0 ≤ h) × IsWithin h w.1

@@ -1,0 +1,41 @@
+use Rattle.std.specs.Prelude.{◌≡◌, ◌≢◌, ◌↔◌, ℕ, Option, None, List, All, Contains, AllPairs, map}
+use Rattle.sip_machine.specs.Limits.{IsWithin, IsOpenAt}
+use Rattle.sip_machine.specs.Texts.{Texts, Keeps}
+use Rattle.sip_machine.specs.Heard.{Heard}
+
+-- a machine over states X: its first state, its ended state, its visible steps, when it may end and how long it may stay
+pub record Rules (X : Type 0) : Type 1 where
+  pub first : X
+  pub ended : X
+  pub Take : X → Heard → X → Type 0
+  pub window : X → Option (ℕ × Option ℕ)
+  pub until : X → Option ℕ
+
+-- x may stay until h
+abbrev pub Waits : {X : Type 0} → Rules X → X → ℕ → Type 0
+Waits r x h = IsWithin h (r.until x)
+
+-- x may end at h, which gives y
+pub record Hide {X : Type 0} (r : Rules X) (x : X) (h : ℕ) (y : X) : Type 0 where
+  pub opened : IsOpenAt h (r.window x)
+  pub waited : Waits r x h
+  pub gives : y ≡ r.ended
+
+-- what every machine keeps: the first and the ended state stay for ever, and a visible step gives a state that can wait at its own moment
+pub record IsLawful {X : Type 0} (r : Rules X) : Type 0 where
+  pub first_has_no_end : r.window r.first ≡ None
+  pub first_stays : r.until r.first ≡ None
+  pub ended_has_no_end : r.window r.ended ≡ None
+  pub ended_stays : r.until r.ended ≡ None
+  pub fresh : (x : X) (e : Heard) (y : X) → r.Take x e y → Waits r y e.moment
+
+-- the messages that a state names are kept
+abbrev pub Knows : {S : Type 0} → (S → List ℕ) → Texts → S → Type 0
+Knows names texts x = All (Keeps texts) (names x)
+
+-- the code's states xs stand for exactly those of which P holds, each once; the book keeps what they name
+pub record StandFor {X S : Type 0} (names : S → List ℕ) (InRange : S → Type 0) (seen : Texts → S → X) (texts : Texts) (P : X → Type 0) (xs : List S) : Type 0 where
+  pub members : (x : X) → Contains (map (seen texts) xs) x ↔ P x
+  pub distinct : AllPairs (λ x y. x ≢ y) (map (seen texts) xs)
+  pub known : All (Knows names texts) xs
+  pub in_range : All InRange xs

@@ -1,0 +1,12 @@
+//! Machines of SIP transactions (RFC 3261 section 17): what they may send and receive, and when.
+#![tactic(auto)]
+
+mod book;
+mod event;
+mod params;
+mod plain_client;
+
+pub use book::Book;
+pub use event::{Action, Event, Kind};
+pub use params::Params;
+pub use plain_client::{PlainClient, PlainState, PlainWaiting};

@@ -1,4 +1,4 @@
-use Rattle.std.specs.Prelude.{◌≡◌, ◌≤◌, ℕ, Bool, List}
+use Rattle.std.specs.Prelude.{◌≤◌, ℕ, Bool, List}
 use Rattle.sip_machine.specs.declared.event.Action.{Action}
 use Rattle.sip_machine.specs.declared.event.Kind.{Kind}
 use Rattle.sip_machine.specs.Times.{last_moment}

@@ -1,7 +1,11 @@
 pub mod Times
 pub mod Limits
 pub mod Texts
+pub mod TextLaws
 pub mod Told
 pub mod Heard
 pub mod Rules
+pub mod RuleLaws
+pub mod Single
 pub mod PlainClient
+pub mod PlainLaws

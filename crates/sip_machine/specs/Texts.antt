@@ -1,4 +1,4 @@
-use Rattle.std.specs.Prelude.{◌≡◌, ◌<◌, ℕ, Bool, List, [], ◌∷◌, Contains, AllPairs, map, if◌then◌else◌, ◌==◌}
+use Rattle.std.specs.Prelude.{◌≡◌, ◌<◌, ℕ, List, [], ◌∷◌, Contains, AllPairs, map, if◌then◌else◌, ◌==◌}
 
 -- what a book holds: the numbers of its messages with their bytes, in the order in which they were added
 abbrev pub Texts : Type 0

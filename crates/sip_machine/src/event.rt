@@ -69,4 +69,31 @@ impl Event {
     {
         self.moment
     }
+
+    /// What was done with the message.
+    pub(crate) fn action(&self) -> Action
+        ensures { result ≡ self.now.action }
+    {
+        self.action
+    }
+
+    /// The number of the message in a `Book`.
+    pub(crate) fn number(&self) -> u32
+        ensures { result ≡ self.now.number }
+    {
+        self.number
+    }
+
+    pub(crate) fn kind(&self) -> Kind
+        ensures { result ≡ self.now.kind }
+    {
+        self.kind
+    }
+
+    /// Whether the transport delivers what it takes.
+    pub(crate) fn reliable(&self) -> bool
+        ensures { result ≡ self.now.reliable }
+    {
+        self.reliable
+    }
 }

@@ -3,8 +3,11 @@
 
 mod book;
 mod event;
+pub mod laws;
 mod params;
 mod plain_client;
+#[cfg(test)]
+mod tests;
 
 pub use book::Book;
 pub use event::{Action, Event, Kind};

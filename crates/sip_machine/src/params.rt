@@ -1,6 +1,7 @@
 //! The times of an element: its timers T1, T2 and T4, and how far from them it may be.
-ghost use Rattle.std.specs.Prelude.{◌≡◌, MatchOption};
-ghost use Rattle.sip_machine.specs.Times.{Times, AreTimes};
+ghost use Rattle.std.specs.Prelude.{◌≡◌, ◌≤◌, ◌<◌, ◌^◌, MatchOption};
+ghost use Rattle.sip_machine.specs.Times.{Times, AreTimes, last_moment};
+ghost use Rattle.sip_machine.specs.Limits.{open_at, close_at};
 
 use std::marker::Model;
 
@@ -59,22 +60,43 @@ impl Params {
 
     /// T2, the longest interval between repeats of a non-INVITE request, in milliseconds.
     pub fn t2(&self) -> u64
-        ensures { result ≡ self.now.t2 }
+        ensures value { result ≡ self.now.t2 }
+        ensures within { AreTimes self.now }
     {
         self.t2
     }
 
     /// T4, how long a message may stay in the network, in milliseconds.
     pub fn t4(&self) -> u64
-        ensures { result ≡ self.now.t4 }
+        ensures value { result ≡ self.now.t4 }
+        ensures within { AreTimes self.now }
     {
         self.t4
     }
 
     /// How far from its due moment an element may act, in milliseconds.
     pub fn tolerance(&self) -> u64
-        ensures { result ≡ self.now.tolerance }
+        ensures value { result ≡ self.now.tolerance }
+        ensures within { AreTimes self.now }
     {
         self.tolerance
+    }
+
+    /// The first moment at which a timer that was set then for so long may fire.
+    pub(crate) fn opens(&self, set: u64, duration: u64) -> u64
+        requires set { set ≤ last_moment }
+        requires duration { duration < 2 ^ 50 }
+        ensures { result ≡ open_at self.now set duration }
+    {
+        set + duration.saturating_sub(self.tolerance)
+    }
+
+    /// The last moment at which it may.
+    pub(crate) fn closes(&self, set: u64, duration: u64) -> u64
+        requires set { set ≤ last_moment }
+        requires duration { duration < 2 ^ 50 }
+        ensures { result ≡ close_at self.now set duration }
+    {
+        set + duration + self.tolerance
     }
 }

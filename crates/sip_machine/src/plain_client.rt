@@ -6,14 +6,19 @@ ghost use Rattle.sip_machine.specs.Texts.{Texts};
 ghost use Rattle.sip_machine.specs.Rules.{Knows, StandFor};
 ghost use Rattle.sip_machine.specs.PlainClient.{PlainTake, plain_seen, plain_names, PlainInRange, plain_window, plain_until};
 
+mod ends;
+mod rows;
+
 use crate::book::Book;
-use crate::event::{Action, Event, Kind};
+use crate::event::Event;
 use crate::params::Params;
+use crate::plain_client::ends::{until, window};
+use crate::plain_client::rows::next_state;
 use std::alloc::AllocError;
 use std::marker::Model;
 
 /// A request that waits for its final response. Moments and intervals are in milliseconds.
-#[derive(Clone, Copy, Debug, PartialEq, Eq)]
+#[derive(Clone, Copy, Debug, PartialEq, Eq, PartialOrd, Ord)]
 pub struct PlainWaiting {
     /// Whether its transport is reliable.
     pub reliable: bool,
@@ -28,7 +33,7 @@ pub struct PlainWaiting {
 }
 
 /// A state of the non-INVITE client transaction.
-#[derive(Clone, Copy, Debug, PartialEq, Eq)]
+#[derive(Clone, Copy, Debug, PartialEq, Eq, PartialOrd, Ord)]
 pub enum PlainState {
     /// Nothing was sent yet.
     Idle,
@@ -89,9 +94,12 @@ impl PlainClient {
         requires in_range { PlainInRange state.now }
         ensures ok { OnOk result ((added : List PlainState) × (out.new.items ≡ out.old.items ++ added)
             × StandFor plain_names PlainInRange plain_seen book.now
-                (PlainTake self.now (plain_seen book.now state.now) (heard book.now event.now)) added) }
+            (PlainTake self.now (plain_seen book.now state.now) (heard book.now event.now)) added) }
         ensures err { OnErr result (out.new.items ≡ out.old.items) }
     {
+        if let Some(next) = next_state(&self.params, book, state, event) {
+            out.push(next)?;
+        }
         Ok(())
     }
 
@@ -100,7 +108,7 @@ impl PlainClient {
         requires { PlainInRange state.now }
         ensures { (texts : Texts) → result ≡ plain_window self.now (plain_seen texts state.now) }
     {
-        None
+        window(&self.params, state)
     }
 
     /// The last moment to which the state may be waited in, None if there is none.
@@ -108,6 +116,6 @@ impl PlainClient {
         requires { PlainInRange state.now }
         ensures { (texts : Texts) → result ≡ plain_until self.now (plain_seen texts state.now) }
     {
-        None
+        until(&self.params, state)
     }
 }

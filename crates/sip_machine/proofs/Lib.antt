@@ -1,0 +1,2 @@
+pub mod SingleLemmas
+pub mod PlainSteps

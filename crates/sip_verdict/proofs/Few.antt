@@ -1,0 +1,49 @@
+use Rattle.std.proofs.Common.{◌≡◌, ◌≢◌, ◌≤◌, ◌<◌, ◌∙◌, ℕ, zero, suc, List, [], ◌∷◌, All, AllPairs, Contains, length, get_or, sym, arith, remove, add-one, ap}
+use Rattle.std.proofs.Math.Decide.{dec_lt}
+use Rattle.std.proofs.lemmas.List.{get_or_default}
+use Rattle.std.proofs.lemmas.List.Elements.{All-head, All-tail}
+use Rattle.std.proofs.lemmas.List.Edits.{length-remove, get_or-remove_below, get_or-remove_above}
+
+-- A pigeonhole: a list holds no more elements that all differ than it has places.
+
+-- the first of a list differs from each of the others
+pub AllPairs-head : {X : Type 0} (R : X → X → Type 0) (x : X) (xs : List X) → AllPairs R (x ∷ xs) → All (R x) xs
+AllPairs-head R x xs apart k d low = apart 0 (suc k) d (omega arith) (omega arith)
+
+-- and the others from one another
+pub AllPairs-tail : {X : Type 0} (R : X → X → Type 0) (x : X) (xs : List X) → AllPairs R (x ∷ xs) → AllPairs R xs
+AllPairs-tail R x xs apart i j d low high = apart (suc i) (suc j) d (omega arith) (omega arith)
+
+module _ {X : Type 0} (xs : List X) (i : ℕ) (within : i < length xs) (x : X) where
+  -- an element before the place that goes stays where it is
+  before_it : (k : ℕ) → k < i → get_or xs k x ≡ x → Contains (remove xs i) x
+  before_it k low at =
+      let long = length-remove xs i within in (k, omega (arith, long), get_or-remove_below xs i x k low within ∙ at)
+
+  -- one after it moves up
+  after_it : (k : ℕ) → i < k → k < length xs → get_or xs k x ≡ x → Contains (remove xs i) x
+  after_it zero high low at = absurd (omega arith)
+  after_it (suc j) high low at =
+      let long = length-remove xs i within in
+      (j, omega (arith, long), get_or-remove_above xs i x j (omega arith) within ∙ rw add-one at)
+
+  -- so all that differ from the one that goes stay
+  pub still_has : (y : X) → get_or xs i y ≡ y → y ≢ x → Contains xs x → Contains (remove xs i) x
+  still_has y is differs (k, low, at) = go (dec_lt k i) (dec_lt i k)
+    where
+      go : Dec (k < i) → Dec (i < k) → Contains (remove xs i) x
+      go (yes before) _ = before_it k before at
+      go (no _) (yes after) = after_it k after low at
+      go (no not_before) (no not_after) =
+          let same : k ≡ i = omega arith in
+          absurd (differs (sym is ∙ get_or_default xs i y x within ∙ ap (λ n. get_or xs n x) (sym same) ∙ at))
+
+-- elements that all differ, each of them in another list, are at most as many as that list has
+pub distinct_few : {X : Type 0} (ys xs : List X) → AllPairs (λ x y. x ≢ y) ys → All (Contains xs) ys → length ys ≤ length xs
+distinct_few [] xs apart each = omega arith
+distinct_few (y ∷ ys) xs apart each =
+    let (i, within, is) = All-head (Contains xs) y ys each in
+    let rest : All (Contains (remove xs i)) ys =
+    λ k d low. still_has xs i within (get_or ys k d) y is (AllPairs-head (λ a b. a ≢ b) y ys apart k d low) (All-tail (Contains xs) y ys each k d low) in
+    let fewer = distinct_few ys (remove xs i) (AllPairs-tail (λ a b. a ≢ b) y ys apart) rest in
+    omega (arith, fewer, length-remove xs i within)

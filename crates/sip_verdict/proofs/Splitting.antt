@@ -1,0 +1,16 @@
+-- Where two splits of one list stand to each other.
+use Rattle.std.proofs.Common.{◌≡◌, ◌⊎◌, inl, inr, List, [], ◌∷◌, ◌++◌, refl, sym, ap, ◌∙◌}
+
+-- two splits of one list are at the same place, or one is before the other
+pub split_compare : {A : Type 0} (xs us ys vs : List A) (x y : A) → xs ++ x ∷ us ≡ ys ++ y ∷ vs
+    → ((xs ≡ ys) × (x ≡ y)) ⊎ (((zs : List A) × (ys ≡ xs ++ x ∷ zs)) ⊎ ((zs : List A) × (xs ≡ ys ++ y ∷ zs)))
+split_compare [] us [] vs x y e = inl (refl, cc)
+split_compare [] us (b ∷ ys) vs x y e = inr (inl (ys, cc))
+split_compare (a ∷ xs) us [] vs x y e = inr (inr (xs, cc))
+split_compare {A} (a ∷ xs) us (b ∷ ys) vs x y e = go (split_compare xs us ys vs x y (cc))
+  where
+    go : ((xs ≡ ys) × (x ≡ y)) ⊎ (((zs : List A) × (ys ≡ xs ++ x ∷ zs)) ⊎ ((zs : List A) × (xs ≡ ys ++ y ∷ zs)))
+        → ((a ∷ xs ≡ b ∷ ys) × (x ≡ y)) ⊎ (((zs : List A) × (b ∷ ys ≡ (a ∷ xs) ++ x ∷ zs)) ⊎ ((zs : List A) × (a ∷ xs ≡ (b ∷ ys) ++ y ∷ zs)))
+    go (inl h) = inl (cc, h.1)
+    go (inr (inl h)) = inr (inl (h.0, cc))
+    go (inr (inr h)) = inr (inr (h.0, cc))

@@ -1,0 +1,35 @@
+use Rattle.std.proofs.Common.{◌≡◌, ◌+◌, inl, inr, List, ℕ, [], length, drop, sym}
+use Rattle.std.proofs.lemmas.List.{length-append}
+use Rattle.sip_verdict.specs.declared.log_reason.LogReason.TheVariants as reasons
+use Rattle.sip_verdict.specs.Header.{ComesSecond}
+use Rattle.sip_verdict.specs.Next.{gives}
+use Rattle.sip_verdict.specs.Window.{items}
+use Rattle.sip_verdict.proofs.SaysLemmas.{Says-value, Says-fault}
+use Rattle.sip_verdict.proofs.ToldLemmas.{none_left}
+use Rattle.sip_verdict.proofs.HeaderLemmas.{ComesSecond-none, ComesSecond-other, ComesSecond-times}
+use Rattle.sip_verdict.proofs.header.read_second.Goals as goal
+
+pub returns-in_default : goal.returns-in_default
+returns-in_default g c =
+    let line = c.in_ok-len.ensures in
+    let held = items c.line_len.new.self in
+    Says-fault _ held _ _ _ ComesSecond _ reasons.Header line.reads line.fine
+        (λ ys left. ComesSecond-none held ys (rw c.in_default.is at line.first)
+            (elim (line.none c.in_default.is) [ inl many ↦ inl many | inr end ↦ inr (none_left _ ys left end) ]))
+
+pub returns-in_default-read_times : goal.returns-in_default-read_times
+returns-in_default-read_times g c =
+    let line = c.in_ok-len.ensures in
+    let held = items c.line_len.new.self in
+    Says-fault _ held _ _ _ ComesSecond _ reasons.Header line.reads line.fine
+        (λ ys left. ComesSecond-other held ys c.in-Some.len (rw c.in-Some.is at line.first)
+            (rw c.as_slice.ensures.value at c.in_default-read_times.ensures))
+
+pub returns : goal.returns
+returns g c =
+    let line = c.in_ok-len.ensures in
+    let held = items c.line_len.new.self in
+    let times = rw c.as_slice.ensures.value at c.in-Some-read_times.ensures in
+    rw c.consume.ensures
+        (Says-value _ held _ _ _ ComesSecond (drop (c.in-Some.len + 1) held) _ (gives c.in-Some-read_times.times) line.reads line.fine
+            (λ ys left. ComesSecond-times held ys c.in-Some.len (rw c.in-Some.is at line.first) _ times.0 times.1))

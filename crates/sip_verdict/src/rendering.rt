@@ -1,0 +1,169 @@
+//! The text of a verdict.
+ghost use Rattle.std.specs.Prelude.{◌≡◌, ◌++◌, IfOk, OnOk, codes, decimal, string_bytes};
+ghost use Rattle.sip_verdict.specs.Rendering.{rendered, rendered_unit};
+ghost use Rattle.sip_verdict.specs.declared.verdict.Verdict.TheVariants.{Malformed, LogFault};
+
+use crate::fault::{Fault, Unit};
+use crate::log_reason::LogReason;
+use crate::verdict::Verdict;
+use itoa::Buffer;
+use std::alloc::{AllocError, Global};
+
+/// The text of a verdict, one line without its end: `legal entries E transactions T`, `malformed E UNIT NO REASON`,
+/// `breach E transaction T`, `undecided E transaction T` or `log fault E NO REASON`, where UNIT is `head`, `line N` or `body`.
+pub fn render(alloc: Global, verdict: &Verdict) -> Result<String, AllocError>
+    ensures { IfOk result (λ text. string_bytes text ≡ rendered verdict.now) }
+{
+    match *verdict {
+        Verdict::Legal {
+            entries,
+            transactions,
+        } => two_numbers(
+            alloc,
+            "legal entries ",
+            entries,
+            " transactions ",
+            transactions,
+        ),
+        Verdict::Malformed { entry, fault } => malformed(alloc, entry, fault),
+        Verdict::Breach { entry, transaction } => {
+            two_numbers(alloc, "breach ", entry, " transaction ", transaction)
+        }
+        Verdict::Undecided { entry, transaction } => {
+            two_numbers(alloc, "undecided ", entry, " transaction ", transaction)
+        }
+        Verdict::LogFault { entry, reason } => log_fault(alloc, entry, reason),
+    }
+}
+
+/// Two words, each with a number behind it.
+fn two_numbers(
+    alloc: Global,
+    first_word: &str,
+    first: u32,
+    second_word: &str,
+    second: u32,
+) -> Result<String, AllocError>
+    ensures { IfOk result (λ text.
+        string_bytes text ≡ first_word.now ++ decimal first ++ second_word.now ++ decimal second) }
+{
+    let mut text = String::new(alloc);
+    push_with_number(&mut text, first_word, first.into())?;
+    push_with_number(&mut text, second_word, second.into())?;
+    Ok(text)
+}
+
+fn malformed(alloc: Global, entry: u32, fault: Fault) -> Result<String, AllocError>
+    ensures { IfOk result (λ text. string_bytes text ≡ rendered (Malformed entry fault)) }
+{
+    let mut text = String::new(alloc);
+    push_with_number(&mut text, "malformed ", entry.into())?;
+    text.push_str(" ")?;
+    push_unit(&mut text, fault.unit)?;
+    push_reason(&mut text, fault.reason.number(), fault.reason.name())?;
+    Ok(text)
+}
+
+fn log_fault(alloc: Global, entry: u32, reason: LogReason) -> Result<String, AllocError>
+    ensures { IfOk result (λ text. string_bytes text ≡ rendered (LogFault entry reason)) }
+{
+    let mut text = String::new(alloc);
+    push_with_number(&mut text, "log fault ", entry.into())?;
+    push_reason(&mut text, reason.number(), reason.name())?;
+    Ok(text)
+}
+
+/// Appends where a message has its fault.
+fn push_unit(text: &mut String, unit: Unit) -> Result<(), AllocError>
+    ensures { OnOk result (string_bytes text.new ≡ string_bytes text.old ++ rendered_unit unit) }
+{
+    match unit {
+        Unit::Head => text.push_str("head"),
+        Unit::Line(number) => push_with_number(text, "line ", number as u64),
+        Unit::Body => text.push_str("body"),
+    }
+}
+
+/// Appends a reason's number and name, each behind a blank.
+fn push_reason(text: &mut String, number: u8, name: &str) -> Result<(), AllocError>
+    ensures { OnOk result (string_bytes text.new
+        ≡ string_bytes text.old ++ codes " " ++ decimal number ++ codes " " ++ name.now) }
+{
+    push_with_number(text, " ", number.into())?;
+    text.push_str(" ")?;
+    text.push_str(name)
+}
+
+/// Appends a word and a number.
+fn push_with_number(text: &mut String, word: &str, number: u64) -> Result<(), AllocError>
+    ensures { OnOk result (string_bytes text.new ≡ string_bytes text.old ++ word.now ++ decimal number) }
+{
+    text.push_str(word)?;
+    text.push_str(Buffer::new().format(number))
+}
+
+#[cfg(test)]
+mod tests {
+    use super::*;
+    use crate::fault::Reason;
+    use std::test::Fail;
+
+    #[test]
+    fn writes_each_verdict(rt: HostRuntime) -> Result<(), Fail> {
+        let malformed = |unit| Verdict::Malformed {
+            entry: 1,
+            fault: Fault {
+                unit,
+                reason: Reason::NotYet,
+            },
+        };
+        let log_fault = |entry, reason| Verdict::LogFault { entry, reason };
+        for (verdict, text) in [
+            (
+                Verdict::Legal {
+                    entries: 0,
+                    transactions: 0,
+                },
+                "legal entries 0 transactions 0",
+            ),
+            (
+                Verdict::Legal {
+                    entries: 12,
+                    transactions: 1,
+                },
+                "legal entries 12 transactions 1",
+            ),
+            (malformed(Unit::Head), "malformed 1 head 13 NotYet"),
+            (malformed(Unit::Line(10)), "malformed 1 line 10 13 NotYet"),
+            (malformed(Unit::Body), "malformed 1 body 13 NotYet"),
+            (
+                Verdict::Breach {
+                    entry: 5,
+                    transaction: 1,
+                },
+                "breach 5 transaction 1",
+            ),
+            (
+                Verdict::Undecided {
+                    entry: 147,
+                    transaction: 1,
+                },
+                "undecided 147 transaction 1",
+            ),
+            (log_fault(0, LogReason::Header), "log fault 0 20 Header"),
+            (
+                log_fault(1, LogReason::EntryLine),
+                "log fault 1 21 EntryLine",
+            ),
+            (
+                log_fault(1, LogReason::Truncated),
+                "log fault 1 22 Truncated",
+            ),
+            (log_fault(2, LogReason::Order), "log fault 2 23 Order"),
+            (log_fault(1, LogReason::Limit), "log fault 1 24 Limit"),
+        ] {
+            assert_eq!(rt; render(rt.alloc(), &verdict)?.as_str(), text);
+        }
+        Ok(())
+    }
+}

@@ -1,0 +1,88 @@
+//! `siptrace`: judges the log on its standard input, and prints the verdict.
+//!
+//! It ends with 0 for a legal log, 1 for a malformed message or a breach, 2 for a log that cannot be read, 3 where it is
+//! undecided, 4 where it cannot read, write or get memory, and 5 where it does not understand its words.
+#![tactic(auto)]
+
+ghost use Rattle.std.specs.Prelude.{◌≡◌};
+ghost use Rattle.siptrace.specs.Status.{status_of};
+
+use sip_verdict::{FromRead, JudgeError, Verdict, judge, render};
+use std::alloc::AllocError;
+use std::env;
+use std::hash::RandomState;
+use std::io;
+use std::process::ExitCode;
+use thiserror::Error;
+
+/// Why there is no verdict to print.
+#[derive(Debug, Drop, Error)]
+enum Failure {
+    #[error("cannot read")]
+    Read,
+    #[error("cannot write")]
+    Write,
+    #[error("out of memory")]
+    Memory,
+    #[error("no words yet")]
+    Words,
+}
+
+impl From<AllocError> for Failure {
+    fn from(_: AllocError) -> Failure {
+        Failure::Memory
+    }
+}
+
+impl From<JudgeError> for Failure {
+    fn from(error: JudgeError) -> Failure {
+        match error {
+            JudgeError::Io => Failure::Read,
+            JudgeError::Memory => Failure::Memory,
+        }
+    }
+}
+
+/// The status that a verdict ends the program with.
+fn status_of(verdict: &Verdict) -> u8
+    ensures { result ≡ status_of verdict.now }
+{
+    match verdict {
+        Verdict::Legal { .. } => 0,
+        Verdict::Malformed { .. } | Verdict::Breach { .. } => 1,
+        Verdict::LogFault { .. } => 2,
+        Verdict::Undecided { .. } => 3,
+    }
+}
+
+/// What could not be had from the system.
+fn read_failure(error: io::Error) -> Failure {
+    if error.kind() == io::ErrorKind::OutOfMemory {
+        Failure::Memory
+    } else {
+        Failure::Read
+    }
+}
+
+/// Judges the standard input and prints the verdict.
+fn run(rt: &HostRuntime) -> Result<u8, Failure> {
+    let words = env::args(rt).map_err(read_failure)?;
+    if words.count() > 1 {
+        return Err(Failure::Words);
+    }
+    let seed = RandomState::new(rt).map_err(read_failure)?;
+    let verdict = judge(rt.alloc(), &mut FromRead::new(rt.stdin()), seed)?;
+    let text = render(rt.alloc(), &verdict)?;
+    println!(rt; "{text}").map_err(|_| Failure::Write)?;
+    Ok(status_of(&verdict))
+}
+
+fn main(rt: HostRuntime) -> ExitCode {
+    match run(&rt) {
+        Ok(status) => ExitCode::from(status),
+        Err(failure) => {
+            let _ = eprintln!(rt; "siptrace: {failure}");
+            ExitCode::from(if matches!(failure, Failure::Words) { 5 } else { 4 })
+        }
+    }
+}

@@ -28,7 +28,7 @@ module _ (most : ℕ) (held ys : List ℕ) where
       let low : length line < length front = omega (arith, length-take most held) in
       let here : get_or front (length line) 0 ≡ line_feed =
       get_or-take most held (length line) 0 short ∙ sym (get_or-append held ys 0 (length line) inside)
-          ∙ ap (λ (t : List ℕ). get_or t (length line) 0) whole ∙ get_or-append_seam line line_feed behind 0 in
+      ∙ ap (λ (t : List ℕ). get_or t (length line) 0) whole ∙ get_or-append_seam line line_feed behind 0 in
       (first-none line_feed front none).nowhere (length line) low here
     where
       inside-held : (most ≤ length held) ⊎ (ys ≡ []) → length (held ++ ys) ≡ length line + length (line_feed ∷ behind) → length line < most

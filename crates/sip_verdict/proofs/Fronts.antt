@@ -14,9 +14,11 @@ Reaches count last rest (e ∷ es) count2 last2 rest2 =
 -- one more entry leads on
 pub Reaches-push : (count last : ℕ) (rest : List ℕ) (es : List Item) (count2 last2 : ℕ) (rest2 : List ℕ) (e : Item) (behind : List ℕ)
     → Reaches count last rest es count2 last2 rest2 → ComesNext count2 last2 rest2 (gives e behind) → Reaches count last rest (es ++ e ∷ []) (count2 + 1) e.moment behind
-Reaches-push count last rest [] count2 last2 rest2 e behind r next =
-    (behind, subst (λ c. ComesNext c last rest (gives e behind)) r.0 (subst (λ l. ComesNext count2 l rest (gives e behind)) r.1 (subst (λ xs. ComesNext count2 last2 xs (gives e behind)) r.2 next)),
-        (ap (λ c. c + 1) r.0, refl, refl))
+Reaches-push count last rest [] count2 last2 rest2 e behind r next = (
+  behind,
+  subst (λ c. ComesNext c last rest (gives e behind)) r.0 (subst (λ l. ComesNext count2 l rest (gives e behind)) r.1 (subst (λ xs. ComesNext count2 last2 xs (gives e behind)) r.2 next)),
+  (ap (λ c. c + 1) r.0, refl, refl),
+)
 Reaches-push count last rest (f ∷ es) count2 last2 rest2 e behind r next =
     (r.0, r.1, Reaches-push (count + 1) f.moment r.0 es count2 last2 rest2 e behind r.2 next)
 

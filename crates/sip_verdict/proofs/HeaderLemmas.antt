@@ -53,7 +53,7 @@ TimesLine-parts line p is = record {
   t1_is = record { number = is.t1; number_is = is.t1_is; parted = inr (_, refl); whole = is.whole ∙ simp (append_assoc, append-nil) };
   t2_is = record { number = is.t2; number_is = is.t2_is; parted = inr (_, refl); whole = refl };
   t4_is = record { number = is.t4; number_is = is.t4_is; parted = inr (_, refl); whole = refl };
-  tolerance_is = record { number = is.tolerance; number_is = is.tolerance_is; parted = inl refl; whole = refl }
+  tolerance_is = record { number = is.tolerance; number_is = is.tolerance_is; parted = inl refl; whole = refl };
 }
 
 pub TimesLine-of : (line : List ℕ) (p : Times) → TimesParts line p → TimesLine line p
@@ -66,7 +66,7 @@ TimesLine-of line p is = record {
   t2_is = is.t2_is.number_is;
   t4_is = is.t4_is.number_is;
   tolerance_is = is.tolerance_is.number_is;
-  whole = is.t1_is.whole ∙ simp (is.t2_is.whole, is.t4_is.whole, is.tolerance_is.whole, append_assoc, append-nil)
+  whole = is.t1_is.whole ∙ simp (is.t2_is.whole, is.t4_is.whole, is.tolerance_is.whole, append_assoc, append-nil);
 }
 
 -- what was read of line 2, step by step, is what stands there
@@ -123,7 +123,7 @@ within-cut_times p is = record {
   t2_high = omega (arith, is.t2_high);
   t4_low = omega (arith, is.t4_low);
   t4_high = omega (arith, is.t4_high);
-  tolerance_high = omega (arith, is.tolerance_high)
+  tolerance_high = omega (arith, is.tolerance_high);
 }
 
 -- the times of a line, as `Params` takes them
@@ -142,11 +142,11 @@ times-read line n kept (Some q) is only as_kept new =
 pub TimesLine-lacks : (line : List ℕ) (p : Times) → TimesLine line p → Lacks line_feed line
 TimesLine-lacks line p is =
     subst (Lacks line_feed) (sym is.whole)
-        (behind (behind (behind (behind (behind (behind (behind
-            (Lacks-word line_feed (codes "t1 ") refl) (IsNumber-no_line_feed is.t1 p.t1 is.t1_is))
-            (Lacks-word line_feed (codes " t2 ") refl)) (IsNumber-no_line_feed is.t2 p.t2 is.t2_is))
-            (Lacks-word line_feed (codes " t4 ") refl)) (IsNumber-no_line_feed is.t4 p.t4 is.t4_is))
-            (Lacks-word line_feed (codes " tolerance ") refl)) (IsNumber-no_line_feed is.tolerance p.tolerance is.tolerance_is))
+    (behind (behind (behind (behind (behind (behind (behind
+    (Lacks-word line_feed (codes "t1 ") refl) (IsNumber-no_line_feed is.t1 p.t1 is.t1_is))
+    (Lacks-word line_feed (codes " t2 ") refl)) (IsNumber-no_line_feed is.t2 p.t2 is.t2_is))
+    (Lacks-word line_feed (codes " t4 ") refl)) (IsNumber-no_line_feed is.t4 p.t4 is.t4_is))
+    (Lacks-word line_feed (codes " tolerance ") refl)) (IsNumber-no_line_feed is.tolerance p.tolerance is.tolerance_is))
   where
     behind : {xs ys : List ℕ} → Lacks line_feed xs → Lacks line_feed ys → Lacks line_feed (xs ++ ys)
     behind {xs} {ys} = Lacks-append line_feed xs ys
@@ -175,12 +175,12 @@ module _ (held ys : List ℕ) where
     -- a line that is not line 2
     pub ComesSecond-other : ((p : Times) → TimesLine (take k held) p → ¬ (AreTimes p)) → ComesSecond (held ++ ys) (stops reasons.Header)
     ComesSecond-other other = inr (
-        (λ p behind is.
-            let at = line-held longest_times held ys k found in
-            let same = cut-one line_feed is.line behind (take k held) (drop (k + 1) held ++ ys) (TimesLine-lacks is.line p is.times) at.first (sym is.whole ∙ at.whole) in
-            other p (subst (λ line. TimesLine line p) same.0 is.times) is.within),
-        refl
-      )
+      (λ p behind is.
+          let at = line-held longest_times held ys k found in
+          let same = cut-one line_feed is.line behind (take k held) (drop (k + 1) held ++ ys) (TimesLine-lacks is.line p is.times) at.first (sym is.whole ∙ at.whole) in
+          other p (subst (λ line. TimesLine line p) same.0 is.times) is.within),
+      refl,
+    )
 
     -- line 2
     pub ComesSecond-times : (p : Times) → TimesLine (take k held) p → AreTimes p → ComesSecond (held ++ ys) (gives p (drop (k + 1) held ++ ys))
@@ -194,12 +194,12 @@ title = codes "sip-trace 1" ++ line_feed ∷ []
 -- the bytes of line 1 are not held
 pub ComesFirst-other : (held ys : List ℕ) → length title ≤ length held → held ≢ title ++ drop (length title) held → ComesFirst (held ++ ys) (stops reasons.Header)
 ComesFirst-other held ys long other = inr (
-    (λ p behind is.
-        let front : take (length title) held ≡ title =
-        sym (take-append-le (length title) held ys long) ∙ ap (take (length title)) is.title ∙ take-append_seam title is.rest in
-        other (sym (take-append-drop (length title) held) ∙ ap (λ (t : List ℕ). t ++ drop (length title) held) front)),
-    refl
-  )
+  (λ p behind is.
+      let front : take (length title) held ≡ title =
+      sym (take-append-le (length title) held ys long) ∙ ap (take (length title)) is.title ∙ take-append_seam title is.rest in
+      other (sym (take-append-drop (length title) held) ∙ ap (λ (t : List ℕ). t ++ drop (length title) held) front)),
+  refl,
+)
 
 -- what comes behind line 1 comes first in the input
 pub ComesFirst-second : (held ys : List ℕ) (next : Next Times) → held ≡ title ++ drop (length title) held
@@ -211,5 +211,5 @@ ComesFirst-second held ys next is (inr (none, same)) =
       (λ p behind is2.
           let rest = append_cancel_left title _ _ (sym is2.title ∙ ap (λ (t : List ℕ). t ++ ys) is) in
           none p behind (subst (λ t. TimesFront t p behind) rest is2.times)),
-      same
+      same,
     )

@@ -20,7 +20,6 @@ abbrev pub WaitFrom : Texts → Held Times PlainState → ℕ → PlainPhase →
 WaitFrom texts set moment = Wait (plain_rules set.machine) (Contains (map (plain_seen texts) set.states)) set.moment moment
 
 module _ (texts : Texts) (p : Times) (events : List Heard) (set new : Held Times PlainState) (leads : LeadsTo texts p events set) where
-
   -- a set of the same machine at the moment leads to the runs over its events
   led : (more : List Heard) (moment : ℕ) → new.machine ≡ set.machine → new.moment ≡ moment → Leads plain_names plain_seen texts (plain_rules p) more moment new.states → LeadsTo texts p more new
   led more moment machine at l = record {
@@ -30,7 +29,6 @@ module _ (texts : Texts) (p : Times) (events : List Heard) (set new : Held Times
 
   module _ (e : Heard) (low : set.moment ≤ e.moment)
       (gives : StandFor plain_names PlainInRange plain_seen texts (Gives (plain_rules set.machine) (WaitFrom texts set e.moment) e) new.states) where
-
     -- the same by the rules of these times
     given : StandFor plain_names PlainInRange plain_seen texts (Gives (plain_rules p) (Wait (plain_rules p) (Contains (map (plain_seen texts) set.states)) set.moment e.moment) e) new.states
     given = subst (λ q. StandFor plain_names PlainInRange plain_seen texts (Gives (plain_rules q) (Wait (plain_rules q) (Contains (map (plain_seen texts) set.states)) set.moment e.moment) e) new.states) leads.times gives
@@ -56,10 +54,9 @@ module _ (texts : Texts) (p : Times) (events : List Heard) (set new : Held Times
       → RunsUntil p (events ++ e ∷ []) e.moment × IsWideAfter p events e
   heard_wide e low wide =
       wide_runs plain_names plain_seen texts (plain_rules p) (plain_lawful p) events set.moment set.states leads.leads e low
-          (subst (λ q. IsWide (Gives (plain_rules q) (Wait (plain_rules q) (Contains (map (plain_seen texts) set.states)) set.moment e.moment) e)) leads.times wide)
+      (subst (λ q. IsWide (Gives (plain_rules q) (Wait (plain_rules q) (Contains (map (plain_seen texts) set.states)) set.moment e.moment) e)) leads.times wide)
 
   module _ (moment : ℕ) (low : set.moment ≤ moment) (waits : StandFor plain_names PlainInRange plain_seen texts (WaitFrom texts set moment) new.states) where
-
     waited : StandFor plain_names PlainInRange plain_seen texts (Wait (plain_rules p) (Contains (map (plain_seen texts) set.states)) set.moment moment) new.states
     waited = subst (λ q. StandFor plain_names PlainInRange plain_seen texts (Wait (plain_rules q) (Contains (map (plain_seen texts) set.states)) set.moment moment) new.states) leads.times waits
 

@@ -108,7 +108,6 @@ next_alone None new P h = tt
 next_alone (Some xs) new P h = h.2
 
 module _ (start now : Option (List ℕ)) (texts : Texts) (p : Times) (transactions : List Transaction) (count last : ℕ) (judged : Judged start now texts p transactions count last) where
-
   -- the log ends
   pub judged_legal : (n : ℕ) (new : Option (List ℕ)) → n ≡ length transactions → IfSome now (λ xs. (ys : List ℕ) × (new ≡ Some ys) × ComesNext count last xs ends)
       → IfSome start (λ rest. IsJudgedFrom p rest (Legal count n))
@@ -116,14 +115,14 @@ module _ (start now : Option (List ℕ)) (texts : Texts) (p : Times) (transactio
       let long : length judged.es ≡ count = sym judged.counts in
       let keys : length (keys_of (plain_machines p) judged.es) ≡ n = ap length (sym judged.stands.keys) ∙ length-map transactions (λ t. t.key) ∙ sym many in
       subst (λ k. IfSome start (λ rest. IsJudgedFrom p rest (Legal count k))) keys
-        (subst (λ c. IfSome start (λ rest. IsJudgedFrom p rest (Legal c (length (keys_of (plain_machines p) judged.es))))) long
-          (leads-end start now p judged.items judged.es count last Clean judged.leads judged.said judged.stands.good (next_alone now new _ next)))
+      (subst (λ c. IfSome start (λ rest. IsJudgedFrom p rest (Legal c (length (keys_of (plain_machines p) judged.es))))) long
+      (leads-end start now p judged.items judged.es count last Clean judged.leads judged.said judged.stands.good (next_alone now new _ next)))
 
   -- the next entry cannot be read
   pub judged_fault : (reason : LogReason) → IfSome now (λ xs. ComesNext count last xs (stops reason)) → IfSome start (λ rest. IsJudgedFrom p rest (LogFault (count + 1) reason))
   judged_fault reason next =
       subst (λ c. IfSome start (λ rest. IsJudgedFrom p rest (LogFault (c + 1) reason))) (sym judged.counts)
-        (leads-end start now p judged.items judged.es count last (Stops reason) judged.leads judged.said judged.stands.good next)
+      (leads-end start now p judged.items judged.es count last (Stops reason) judged.leads judged.said judged.stands.good next)
 
 -- the header of an input
 header_of : (input : List ℕ) (p : Times) (ys : List ℕ) → ComesFirst input (gives p ys) → Header input p ys
@@ -177,7 +176,6 @@ may_start texts ts none empty =
 
 module _ (start now new : Option (List ℕ)) (old mid : Texts) (p : Times) (ts us : List Transaction) (count last : ℕ) (judged : Judged start now old p ts count last)
     (e : Entry) (next : IfSome now (λ xs. (ys : List ℕ) × (new ≡ Some ys) × ComesNext count last xs (gives (item e) ys))) (continues : Continues (count + 1) last e) (q : Times) (same : q ≡ p) where
-
   -- the entry is the next one
   number_is : e.number ≡ length judged.es + 1
   number_is = continues.number_is ∙ ap (λ n. n + 1) judged.counts
@@ -191,8 +189,8 @@ module _ (start now new : Option (List ℕ)) (old mid : Texts) (p : Times) (ts u
   judged_trouble v says =
       let h = says judged.es (subst (λ t. Stands old t judged.es ts) (sym same) judged.stands) number_is in
       leads-trouble start new p (judged.items ++ item e ∷ []) (judged.es ++ h.0 ∷ []) (count + 1) e.moment v
-          (leads-push start now new judged.items count last (item e) judged.leads next) (said-push judged.items judged.es (item e) h.0 judged.said h.1)
-          (subst (λ t. IsFirstTrouble (plain_machines t) (judged.es ++ h.0 ∷ []) v) same h.2)
+      (leads-push start now new judged.items count last (item e) judged.leads next) (said-push judged.items judged.es (item e) h.0 judged.said h.1)
+      (subst (λ t. IsFirstTrouble (plain_machines t) (judged.es ++ h.0 ∷ []) v) same h.2)
 
   -- it is in none
   pub judged_more : Says None → Judged start new mid p us e.number e.moment

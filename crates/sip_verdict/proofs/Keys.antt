@@ -30,7 +30,6 @@ moment_of_newest-push (f ∷ []) e = refl
 moment_of_newest-push (f ∷ g ∷ es) e = moment_of_newest-push (g ∷ es) e
 
 module _ {K : Type 0} (m : Machines K) where
-
   -- the keys of one entry more
   pub keys_of-push : (es : List (Said K)) (e : Said K) → keys_of m (es ++ e ∷ []) ≡ with_keys m.same (keys_of m es) e.keys
   keys_of-push es e = with_keys_of-push m.same [] es e
@@ -95,6 +94,7 @@ module _ {K : Type 0} (m : Machines K) where
       old : (b : Bool) → m.same key k ≡ b → is_among m.same k keys ≡ true → is_among m.same key keys ≡ false → b ≡ false
       old false e known none = refl
       old true e known none = absurd (false≢true (sym none ∙ ap (λ x. is_among m.same x keys) ((exact key k).0 e) ∙ known))
+
       go : (b : Bool) → is_among m.same k keys ≡ b → is_among m.same key (cond b keys (keys ++ k ∷ [])) ≡ false
           → (is_among m.same key keys ≡ false) × (m.same key k ≡ false)
       go true e none = (none, old (m.same key k) refl e none)

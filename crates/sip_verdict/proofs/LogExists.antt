@@ -40,9 +40,9 @@ within a n b = both (a ≤ n) (n ≤ b) (at_most a n) (at_most n b)
 cut-or-lacks : (m : ℕ) (xs : List ℕ) → ((front : List ℕ) × (back : List ℕ) × Cut m xs front back) ⊎ Lacks m xs
 cut-or-lacks m [] = inr (record { nowhere = λ k inside. absurd (omega arith) })
 cut-or-lacks m (x ∷ xs) = elim (cases_eq x m) as (λ _. ((front : List ℕ) × (back : List ℕ) × Cut m (x ∷ xs) front back) ⊎ Lacks m (x ∷ xs)) [
-  inl same ↦ inl ([], xs, record { whole = ap (λ y. y ∷ xs) same; first = record { nowhere = λ k inside. absurd (omega arith) } })
+  | inl same ↦ inl ([], xs, record { whole = ap (λ y. y ∷ xs) same; first = record { nowhere = λ k inside. absurd (omega arith) } })
   | inr other ↦ elim (cut-or-lacks m xs) as (λ _. ((front : List ℕ) × (back : List ℕ) × Cut m (x ∷ xs) front back) ⊎ Lacks m (x ∷ xs)) [
-    inl at ↦ inl (x ∷ at.0, at.1, record { whole = ap (λ (t : List ℕ). x ∷ t) at.2.whole; first = Lacks-cons m x at.0 other at.2.first })
+    | inl at ↦ inl (x ∷ at.0, at.1, record { whole = ap (λ (t : List ℕ). x ∷ t) at.2.whole; first = Lacks-cons m x at.0 other at.2.first })
     | inr lacks ↦ inr (Lacks-cons m x xs other lacks)
   ]
 ]
@@ -52,9 +52,9 @@ begins-or-not : (word xs : List ℕ) → ((rest : List ℕ) × (xs ≡ word ++ r
 begins-or-not [] xs = inl (xs, refl)
 begins-or-not (w ∷ word) [] = inr (λ rest same. cc)
 begins-or-not (w ∷ word) (x ∷ xs) = elim (cases_eq x w) as (λ _. ((rest : List ℕ) × (x ∷ xs ≡ w ∷ word ++ rest)) ⊎ ((rest : List ℕ) → x ∷ xs ≢ w ∷ word ++ rest)) [
-  inr other ↦ inr (λ rest same. other (ap (λ (t : List ℕ). get_or t 0 0) same))
+  | inr other ↦ inr (λ rest same. other (ap (λ (t : List ℕ). get_or t 0 0) same))
   | inl first ↦ elim (begins-or-not word xs) as (λ _. ((rest : List ℕ) × (x ∷ xs ≡ w ∷ word ++ rest)) ⊎ ((rest : List ℕ) → x ∷ xs ≢ w ∷ word ++ rest)) [
-    inl is ↦ inl (is.0, λ i. first i ∷ is.1 i)
+    | inl is ↦ inl (is.0, λ i. first i ∷ is.1 i)
     | inr other ↦ inr (λ rest same. other rest (ap (drop 1) same))
   ]
 ]
@@ -67,26 +67,26 @@ digits-or-not (c ∷ cs) = both (digit_value c < 10) (AllDigits 10 cs) (at_most 
 
 plain-or-not : (text : List ℕ) → Settled (get_or text 0 0 ≡ digit_zero → length text ≡ 1)
 plain-or-not text = elim (cases_eq (length text) 1) as (λ _. Settled (get_or text 0 0 ≡ digit_zero → length text ≡ 1)) [
-  inl one ↦ inl (λ none. one)
+  | inl one ↦ inl (λ none. one)
   | inr many ↦ elim (cases_eq (get_or text 0 0) digit_zero) as (λ _. Settled (get_or text 0 0 ≡ digit_zero → length text ≡ 1)) [
-    inl none ↦ inr (λ plain. many (plain none))
+    | inl none ↦ inr (λ plain. many (plain none))
     | inr other ↦ inl (λ none. absurd (other none))
   ]
 ]
 
 number-or-not : (text : List ℕ) → ((n : ℕ) × IsNumber text n) ⊎ ((n : ℕ) → ¬ (IsNumber text n))
 number-or-not text = elim (both _ _ (both _ _ (at_most 1 (length text)) (digits-or-not text)) (plain-or-not text)) as (λ _. ((n : ℕ) × IsNumber text n) ⊎ ((n : ℕ) → ¬ (IsNumber text n))) [
-  inl is ↦ inl (digits_value 10 text, record { digits = is.0; plain = is.1; value = refl })
+  | inl is ↦ inl (digits_value 10 text, record { digits = is.0; plain = is.1; value = refl })
   | inr other ↦ inr (λ n is. other (is.digits, is.plain))
 ]
 
 numbers-or-not : (text : List ℕ) → ((moment : ℕ) × (len : ℕ) × Numbers text moment len) ⊎ ((moment len : ℕ) → ¬ (Numbers text moment len))
 numbers-or-not text = elim (cut-or-lacks space text) [
-  inr lacks ↦ inr (λ moment len is. Lacks-cut space text is.moment_text is.len_text lacks is.whole)
+  | inr lacks ↦ inr (λ moment len is. Lacks-cut space text is.moment_text is.len_text lacks is.whole)
   | inl at ↦ elim (number-or-not at.0) [
-    inr other ↦ inr (λ moment len is. other moment (Numbers-parts text at.0 at.1 moment len at.2 is).0)
+    | inr other ↦ inr (λ moment len is. other moment (Numbers-parts text at.0 at.1 moment len at.2 is).0)
     | inl first ↦ elim (number-or-not at.1) [
-      inr other ↦ inr (λ moment len is. other len (Numbers-parts text at.0 at.1 moment len at.2 is).1)
+      | inr other ↦ inr (λ moment len is. other len (Numbers-parts text at.0 at.1 moment len at.2 is).1)
       | inl second ↦ inl (first.0, second.0, Numbers-of text at.0 at.1 first.0 second.0 at.2 first.1 second.1)
     ]
   ]
@@ -95,11 +95,11 @@ numbers-or-not text = elim (cut-or-lacks space text) [
 -- the action of a letter
 action-or-not : (b : ℕ) → ((a : Action) × (a ≢ Mark) × (b ≡ letter a)) ⊎ ((a : Action) → a ≢ Mark → b ≢ letter a)
 action-or-not b = elim (cases_eq b (letter Sent)) [
-  inl is ↦ inl (Sent, (λ same. cc), is)
+  | inl is ↦ inl (Sent, (λ same. cc), is)
   | inr sent ↦ elim (cases_eq b (letter Received)) [
-    inl is ↦ inl (Received, (λ same. cc), is)
+    | inl is ↦ inl (Received, (λ same. cc), is)
     | inr received ↦ elim (cases_eq b (letter Failed)) [
-      inl is ↦ inl (Failed, (λ same. cc), is)
+      | inl is ↦ inl (Failed, (λ same. cc), is)
       | inr failed ↦ inr (λ a. elim a as (λ a. a ≢ Mark → b ≢ letter a) [ Sent ↦ λ other. sent | Received ↦ λ other. received | Failed ↦ λ other. failed | Mark ↦ λ other. absurd (other refl) ])
     ]
   ]
@@ -115,9 +115,9 @@ no-head line other (mark moment) is = other (letter Mark) is.0 is.2
 
 mark-line : (text : List ℕ) → HeadOrNot (letter Mark ∷ space ∷ text)
 mark-line text = elim (number-or-not text) as (λ _. HeadOrNot (letter Mark ∷ space ∷ text)) [
-  inl is ↦ inl (mark is.0, (text, is.1, refl))
+  | inl is ↦ inl (mark is.0, (text, is.1, refl))
   | inr none ↦ inr (λ h. elim h as (λ h. ¬ (HeadLine (letter Mark ∷ space ∷ text) h)) [
-    message action moment len ↦ λ is. is.1 (letter-mark action (ap (λ (t : List ℕ). get_or t 0 0) is.3))
+    | message action moment len ↦ λ is. is.1 (letter-mark action (ap (λ (t : List ℕ). get_or t 0 0) is.3))
     | mark moment ↦ λ is. none moment (subst (λ t. IsNumber t moment) (ap (drop 2) (sym is.2)) is.1)
   ])
 ]
@@ -130,14 +130,14 @@ mark-line text = elim (number-or-not text) as (λ _. HeadOrNot (letter Mark ∷ 
 
 message-line : (b : ℕ) (text : List ℕ) → b ≢ letter Mark → HeadOrNot (b ∷ space ∷ text)
 message-line b text other = elim (action-or-not b) as (λ _. HeadOrNot (b ∷ space ∷ text)) [
-  inr none ↦ inr (λ h. elim h as (λ h. ¬ (HeadLine (b ∷ space ∷ text) h)) [
-    message action moment len ↦ λ is. none action is.1 (ap (λ (t : List ℕ). get_or t 0 0) is.3)
+  | inr none ↦ inr (λ h. elim h as (λ h. ¬ (HeadLine (b ∷ space ∷ text) h)) [
+    | message action moment len ↦ λ is. none action is.1 (ap (λ (t : List ℕ). get_or t 0 0) is.3)
     | mark moment ↦ λ is. other (ap (λ (t : List ℕ). get_or t 0 0) is.2)
   ])
   | inl by ↦ elim (numbers-or-not text) as (λ _. HeadOrNot (b ∷ space ∷ text)) [
-    inl is ↦ inl (message by.0 is.0 is.1, (text, by.1, is.2, ap (λ c. c ∷ space ∷ text) by.2))
+    | inl is ↦ inl (message by.0 is.0 is.1, (text, by.1, is.2, ap (λ c. c ∷ space ∷ text) by.2))
     | inr none ↦ inr (λ h. elim h as (λ h. ¬ (HeadLine (b ∷ space ∷ text) h)) [
-      message action moment len ↦ λ is. none moment len (subst (λ t. Numbers t moment len) (ap (drop 2) (sym is.3)) is.2)
+      | message action moment len ↦ λ is. none moment len (subst (λ t. Numbers t moment len) (ap (drop 2) (sym is.3)) is.2)
       | mark moment ↦ λ is. other (ap (λ (t : List ℕ). get_or t 0 0) is.2)
     ])
   ]
@@ -147,18 +147,18 @@ head-or-not : (line : List ℕ) → HeadOrNot line
 head-or-not [] = inr (no-head [] (λ b text same. cc))
 head-or-not (b ∷ []) = inr (no-head (b ∷ []) (λ c text same. cc))
 head-or-not (b ∷ s ∷ text) = elim (cases_eq s space) as (λ _. HeadOrNot (b ∷ s ∷ text)) [
-  inr other ↦ inr (no-head (b ∷ s ∷ text) (λ c t same. other (ap (λ (t : List ℕ). get_or t 1 0) same)))
+  | inr other ↦ inr (no-head (b ∷ s ∷ text) (λ c t same. other (ap (λ (t : List ℕ). get_or t 1 0) same)))
   | inl blank ↦ subst (λ s. HeadOrNot (b ∷ s ∷ text)) (sym blank) (elim (cases_eq b (letter Mark)) as (λ _. HeadOrNot (b ∷ space ∷ text)) [
-    inl is ↦ subst (λ b. HeadOrNot (b ∷ space ∷ text)) (sym is) (mark-line text)
+    | inl is ↦ subst (λ b. HeadOrNot (b ∷ space ∷ text)) (sym is) (mark-line text)
     | inr other ↦ message-line b text other
   ])
 ]
 
 front-or-not : (rest : List ℕ) → ((line : List ℕ) × (behind : List ℕ) × FrontLine rest line behind) ⊎ ((line behind : List ℕ) → ¬ (FrontLine rest line behind))
 front-or-not rest = elim (cut-or-lacks line_feed rest) [
-  inr lacks ↦ inr (λ line behind is. Lacks-cut line_feed rest line behind lacks is.whole)
+  | inr lacks ↦ inr (λ line behind is. Lacks-cut line_feed rest line behind lacks is.whole)
   | inl at ↦ elim (at_most (suc (length at.0)) longest_line) [
-    inl short ↦ inl (at.0, at.1, record { whole = at.2.whole; first = at.2.first.nowhere; short = short })
+    | inl short ↦ inl (at.0, at.1, record { whole = at.2.whole; first = at.2.first.nowhere; short = short })
     | inr long ↦ inr (λ line behind is.
         let parts = cut-one line_feed line behind at.0 at.1 (record { nowhere = is.first }) at.2.first (sym is.whole ∙ at.2.whole) in
         long (subst (λ t. suc (length t) ≤ longest_line) parts.0 is.short))
@@ -179,12 +179,12 @@ Unless-some Demand reason Follows (inr fails) follows = (stops reason, inl (fail
 message-some : (action : Action) (moment len : ℕ) (behind : List ℕ) → Comes (AtMessage action moment len behind)
 message-some action moment len behind = Unless-some (len < length behind) reasons.Truncated _ (at_most (suc len) (length behind))
     (λ inside.
-        let text = take len behind in
-        let b = get_or behind len 0 in
-        let after = drop (len + 1) behind in
-        let close = Unless-some (b ≡ line_feed) reasons.EntryLine (λ next. next ≡ gives (record { action = action; moment = moment; text = text }) after)
-            (cases_eq b line_feed) (λ is. (gives (record { action = action; moment = moment; text = text }) after, refl)) in
-        (close.0, (text, b, after, cut-at behind len inside, length-take-le len behind (omega arith), close.1)))
+    let text = take len behind in
+    let b = get_or behind len 0 in
+    let after = drop (len + 1) behind in
+    let close = Unless-some (b ≡ line_feed) reasons.EntryLine (λ next. next ≡ gives (record { action = action; moment = moment; text = text }) after)
+    (cases_eq b line_feed) (λ is. (gives (record { action = action; moment = moment; text = text }) after, refl)) in
+    (close.0, (text, b, after, cut-at behind len inside, length-take-le len behind (omega arith), close.1)))
 
 body-some : (head : Head) (behind : List ℕ) → Comes (AtBody head behind)
 body-some (message action moment len) behind = message-some action moment len behind
@@ -192,22 +192,22 @@ body-some (mark moment) behind = (gives (record { action = Mark; moment = moment
 
 limits-or-not : (head : Head) → Settled (IsWithinLimits head)
 limits-or-not (message action moment len) = elim (both _ _ (at_most moment last_moment) (within 1 len 65535)) as (λ _. Settled (IsWithinLimits (message action moment len))) [
-  inl is ↦ inl (is.0, is.1.0, is.1.1)
+  | inl is ↦ inl (is.0, is.1.0, is.1.1)
   | inr other ↦ inr (λ is. other (is.0, (is.1, is.2)))
 ]
 limits-or-not (mark moment) = at_most moment last_moment
 
 line-some : (last : ℕ) (rest : List ℕ) → Comes (AtLine last rest)
 line-some last rest = elim (front-or-not rest) [
-  inr none ↦
-    let next = Unless-some (longest_line ≤ length rest) reasons.Truncated (λ next. next ≡ stops reasons.EntryLine) (at_most longest_line (length rest)) (λ long. (stops reasons.EntryLine, refl)) in
-    (next.0, inl (none, next.1))
+  | inr none ↦
+      let next = Unless-some (longest_line ≤ length rest) reasons.Truncated (λ next. next ≡ stops reasons.EntryLine) (at_most longest_line (length rest)) (λ long. (stops reasons.EntryLine, refl)) in
+      (next.0, inl (none, next.1))
   | inl front ↦ elim (head-or-not front.0) [
-    inr none ↦ (stops reasons.EntryLine, inr (front.0, front.1, front.2, inl (none, refl)))
+    | inr none ↦ (stops reasons.EntryLine, inr (front.0, front.1, front.2, inl (none, refl)))
     | inl head ↦
-      let next = Unless-some (IsWithinLimits head.0) reasons.Limit _ (limits-or-not head.0)
-          (λ limits. Unless-some (last ≤ moment_of head.0) reasons.Order _ (at_most last (moment_of head.0)) (λ order. body-some head.0 front.1)) in
-      (next.0, inr (front.0, front.1, front.2, inr (head.0, head.1, next.1)))
+        let next = Unless-some (IsWithinLimits head.0) reasons.Limit _ (limits-or-not head.0)
+        (λ limits. Unless-some (last ≤ moment_of head.0) reasons.Order _ (at_most last (moment_of head.0)) (λ order. body-some head.0 front.1)) in
+        (next.0, inr (front.0, front.1, front.2, inr (head.0, head.1, next.1)))
   ]
 ]
 
@@ -275,15 +275,15 @@ NumberOrNot word text = ((n : ℕ) × (behind : List ℕ) × NumberAfter word te
 
 part-or-not : (word text front back : List ℕ) → text ≡ word ++ (front ++ back) → Lacks space front → Parted back → NumberOrNot word text
 part-or-not word text front back after lacks parted = elim (number-or-not front) [
-  inl is ↦ inl (is.0, back, NumberAfter-of word text front back after lacks parted is.0 is.1)
+  | inl is ↦ inl (is.0, back, NumberAfter-of word text front back after lacks parted is.0 is.1)
   | inr none ↦ inr (λ n behind is. none n (NumberAfter-part word text front back after lacks parted n behind is))
 ]
 
 number_after-or-not : (word text : List ℕ) → NumberOrNot word text
 number_after-or-not word text = elim (begins-or-not word text) [
-  inr none ↦ inr (λ n behind is. none _ is.whole)
+  | inr none ↦ inr (λ n behind is. none _ is.whole)
   | inl is ↦ elim (cut-or-lacks space is.0) [
-    inl at ↦ part-or-not word text at.0 (space ∷ at.1) (is.1 ∙ ap (λ (t : List ℕ). word ++ t) at.2.whole) at.2.first (inr (at.1, refl))
+    | inl at ↦ part-or-not word text at.0 (space ∷ at.1) (is.1 ∙ ap (λ (t : List ℕ). word ++ t) at.2.whole) at.2.first (inr (at.1, refl))
     | inr lacks ↦ part-or-not word text is.0 [] (is.1 ∙ ap (λ (t : List ℕ). word ++ t) (sym (append-nil is.0))) lacks (inl refl)
   ]
 ]
@@ -293,13 +293,13 @@ TimesOrNot line = ((p : Times) × TimesLine line p) ⊎ ((p : Times) → ¬ (Tim
 
 times-or-not : (line : List ℕ) → TimesOrNot line
 times-or-not line = elim (number_after-or-not (codes "t1 ") line) as (λ _. TimesOrNot line) [
-  inr none ↦ inr (λ p is. none _ _ (TimesLine-parts line p is).t1_is)
+  | inr none ↦ inr (λ p is. none _ _ (TimesLine-parts line p is).t1_is)
   | inl t1 ↦ elim (number_after-or-not (codes " t2 ") t1.1) as (λ _. TimesOrNot line) [
-    inr none ↦ inr (λ p is. none _ _ (t2-after line p (TimesLine-parts line p is) t1.0 t1.1 t1.2))
+    | inr none ↦ inr (λ p is. none _ _ (t2-after line p (TimesLine-parts line p is) t1.0 t1.1 t1.2))
     | inl t2 ↦ elim (number_after-or-not (codes " t4 ") t2.1) as (λ _. TimesOrNot line) [
-      inr none ↦ inr (λ p is. none _ _ (t4-after line p (TimesLine-parts line p is) t1.0 t1.1 t1.2 t2.0 t2.1 t2.2))
+      | inr none ↦ inr (λ p is. none _ _ (t4-after line p (TimesLine-parts line p is) t1.0 t1.1 t1.2 t2.0 t2.1 t2.2))
       | inl t4 ↦ elim (number_after-or-not (codes " tolerance ") t4.1) as (λ _. TimesOrNot line) [
-        inr none ↦ inr (λ p is. none _ _ (tolerance-after line p (TimesLine-parts line p is) t1.0 t1.1 t1.2 t2.0 t2.1 t2.2 t4.0 t4.1 t4.2))
+        | inr none ↦ inr (λ p is. none _ _ (tolerance-after line p (TimesLine-parts line p is) t1.0 t1.1 t1.2 t2.0 t2.1 t2.2 t4.0 t4.1 t4.2))
         | inl tolerance ↦ last t1.0 t1.1 t1.2 t2.0 t2.1 t2.2 t4.0 t4.1 t4.2 tolerance.0 tolerance.1 tolerance.2
       ]
     ]
@@ -317,7 +317,7 @@ times-or-not line = elim (number_after-or-not (codes "t1 ") line) as (λ _. Time
           t1_is = t1;
           t2_is = t2;
           t4_is = t4;
-          tolerance_is = tolerance
+          tolerance_is = tolerance;
         } in
         inl (_, TimesLine-of line _ parts)
     last n1 rest1 t1 n2 rest2 t2 n3 rest3 t4 n4 (x ∷ xs) tolerance =
@@ -329,14 +329,14 @@ times-or-not line = elim (number_after-or-not (codes "t1 ") line) as (λ _. Time
 are-times-or-not : (p : Times) → Settled (AreTimes p)
 are-times-or-not p =
     elim (both _ _ (both _ _ (within 1 p.t1 10000) (within 1 p.t2 60000)) (both _ _ (within 1 p.t4 60000) (at_most p.tolerance 10000))) as (λ _. Settled (AreTimes p)) [
-      inl is ↦ inl (record {
+      | inl is ↦ inl (record {
         t1_low = is.0.0.0;
         t1_high = is.0.0.1;
         t2_low = is.0.1.0;
         t2_high = is.0.1.1;
         t4_low = is.1.0.0;
         t4_high = is.1.0.1;
-        tolerance_high = is.1.1
+        tolerance_high = is.1.1;
       })
       | inr other ↦ inr (λ is. other (((is.t1_low, is.t1_high), (is.t2_low, is.t2_high)), ((is.t4_low, is.t4_high), is.tolerance_high)))
     ]
@@ -346,11 +346,11 @@ SecondOrNot rest = ((p : Times) × (behind : List ℕ) × TimesFront rest p behi
 
 second-or-not : (rest : List ℕ) → SecondOrNot rest
 second-or-not rest = elim (cut-or-lacks line_feed rest) as (λ _. SecondOrNot rest) [
-  inr lacks ↦ inr (λ p behind is. Lacks-cut line_feed rest is.line behind lacks is.whole)
+  | inr lacks ↦ inr (λ p behind is. Lacks-cut line_feed rest is.line behind lacks is.whole)
   | inl at ↦ elim (times-or-not at.0) as (λ _. SecondOrNot rest) [
-    inr none ↦ inr (λ p behind is. none p (line-is at.0 at.1 at.2 p behind is))
+    | inr none ↦ inr (λ p behind is. none p (line-is at.0 at.1 at.2 p behind is))
     | inl times ↦ elim (are-times-or-not times.0) as (λ _. SecondOrNot rest) [
-      inl limits ↦ inl (times.0, at.1, record { line = at.0; times = times.1; within = limits; whole = at.2.whole })
+      | inl limits ↦ inl (times.0, at.1, record { line = at.0; times = times.1; within = limits; whole = at.2.whole })
       | inr outside ↦ inr (λ p behind is. outside (subst AreTimes (TimesLine-one at.0 p times.0 (line-is at.0 at.1 at.2 p behind is) times.1) is.within))
     ]
   ]
@@ -363,9 +363,9 @@ second-or-not rest = elim (cut-or-lacks line_feed rest) as (λ _. SecondOrNot re
 
 header-or-not : (input : List ℕ) → ((p : Times) × (behind : List ℕ) × Header input p behind) ⊎ NoHeader input
 header-or-not input = elim (begins-or-not title input) [
-  inr none ↦ inr (λ p behind is. none is.rest is.title)
+  | inr none ↦ inr (λ p behind is. none is.rest is.title)
   | inl is ↦ elim (second-or-not is.0) [
-    inl times ↦ inl (times.0, times.1, record { rest = is.0; title = is.1; times = times.2 })
+    | inl times ↦ inl (times.0, times.1, record { rest = is.0; title = is.1; times = times.2 })
     | inr none ↦ inr (λ p behind is2. none p behind (subst (λ t. TimesFront t p behind) (append_cancel_left title _ _ (sym is2.title ∙ is.1)) is2.times))
   ]
 ]
@@ -373,8 +373,8 @@ header-or-not input = elim (begins-or-not title input) [
 -- each input has a log
 pub log_is_some : (input : List ℕ) → (log : Log) × IsLogOf input log
 log_is_some input = elim (header-or-not input) [
-  inr none ↦ (Faulty, none)
+  | inr none ↦ (Faulty, none)
   | inl is ↦
-    let follow = Follow-some 0 0 is.1 in
-    (Holds is.0 follow.0 follow.1, (is.1, is.2, follow.2))
+      let follow = Follow-some 0 0 is.1 in
+      (Holds is.0 follow.0 follow.1, (is.1, is.2, follow.2))
 ]

@@ -99,10 +99,10 @@ AtClose-one action moment text b after n n2 = Unless-one _ _ n n2 _ _ (λ e e2. 
 AtMessage-one : (action : Action) (moment len : ℕ) (behind : List ℕ) (n n2 : Next Item) → AtMessage action moment len behind n → AtMessage action moment len behind n2 → n ≡ n2
 AtMessage-one action moment len behind n n2 = Unless-one _ _ n n2 _ _
     (λ a b.
-        let parts = parts-one a.0 (a.1 ∷ a.2) b.0 (b.1 ∷ b.2) (a.4 ∙ sym b.4) (sym a.3 ∙ b.3) in
-        let byte : a.1 ≡ b.1 = ap (λ (t : List ℕ). get_or t 0 0) parts.1 in
-        let after : a.2 ≡ b.2 = ap (drop 1) parts.1 in
-        AtClose-one action moment b.0 b.1 b.2 n n2 (coe 0 1 (i. AtClose action moment (parts.0 i) (byte i) (after i) n) a.5) b.5)
+    let parts = parts-one a.0 (a.1 ∷ a.2) b.0 (b.1 ∷ b.2) (a.4 ∙ sym b.4) (sym a.3 ∙ b.3) in
+    let byte : a.1 ≡ b.1 = ap (λ (t : List ℕ). get_or t 0 0) parts.1 in
+    let after : a.2 ≡ b.2 = ap (drop 1) parts.1 in
+    AtClose-one action moment b.0 b.1 b.2 n n2 (coe 0 1 (i. AtClose action moment (parts.0 i) (byte i) (after i) n) a.5) b.5)
 
 AtBody-one : (head : Head) (behind : List ℕ) (n n2 : Next Item) → AtBody head behind n → AtBody head behind n2 → n ≡ n2
 AtBody-one (message action moment len) behind n n2 a b = AtMessage-one action moment len behind n n2 a b

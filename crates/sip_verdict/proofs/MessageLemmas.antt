@@ -13,16 +13,16 @@ module _ (action : Action) (moment len : ℕ) (held ys : List ℕ) where
   AtMessage-held : len < length held → (next : _) → AtClose action moment (take len held) (get_or held len 0) (drop (len + 1) held ++ ys) next
       → AtMessage action moment len (held ++ ys) next
   AtMessage-held inside next close = inr (
-      omega (arith, length-append held ys),
-      (
-        take len held,
-        get_or held len 0,
-        drop (len + 1) held ++ ys,
-        cut-more (take len held) (drop (len + 1) held) (get_or held len 0) held ys (cut-at held len inside),
-        length-take-le len held (omega arith),
-        close
-      )
-    )
+    omega (arith, length-append held ys),
+    (
+      take len held,
+      get_or held len 0,
+      drop (len + 1) held ++ ys,
+      cut-more (take len held) (drop (len + 1) held) (get_or held len 0) held ys (cut-at held len inside),
+      length-take-le len held (omega arith),
+      close,
+    ),
+  )
 
   -- a byte other than LF behind the message
   pub AtMessage-open : len < length held → get_or held len 0 ≢ line_feed → AtMessage action moment len (held ++ ys) (stops reasons.EntryLine)
@@ -33,4 +33,4 @@ module _ (action : Action) (moment len : ℕ) (held ys : List ℕ) where
       → AtMessage action moment len (held ++ ys) (gives (record { action = action; moment = moment; text = text }) (drop (len + 1) held ++ ys))
   AtMessage-gives text inside feed is =
       AtMessage-held inside (gives (record { action = action; moment = moment; text = text }) (drop (len + 1) held ++ ys))
-          (inr (feed, ap (λ (t : List ℕ). gives (record { action = action; moment = moment; text = t }) (drop (len + 1) held ++ ys)) is))
+      (inr (feed, ap (λ (t : List ℕ). gives (record { action = action; moment = moment; text = t }) (drop (len + 1) held ++ ys)) is))

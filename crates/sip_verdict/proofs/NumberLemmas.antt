@@ -39,16 +39,16 @@ after-ge n (c ∷ cs) =
 pub IsNumber-short : (text : List ℕ) (n k : ℕ) → 1 ≤ k → n < 10 ^ k → IsNumber text n → length text ≤ k
 IsNumber-short [] n k some low is = omega arith
 IsNumber-short (c ∷ cs) n k some low is = elim (cases_lt 0 (digit_value c)) as (λ _. length (c ∷ cs) ≤ k) [
-  inr none ↦
-    let first : c ≡ digit_zero = omega (arith, digit_value_digit c (digit_from_value c is.digits.1.0), none) in
-    omega (arith, is.plain first)
+  | inr none ↦
+      let first : c ≡ digit_zero = omega (arith, digit_value_digit c (digit_from_value c is.digits.1.0), none) in
+      omega (arith, is.plain first)
   | inl more ↦ elim (cases_lt (length cs) k) as (λ _. length (c ∷ cs) ≤ k) [
-    inl short ↦ omega arith
+    | inl short ↦ omega arith
     | inr long ↦
-      let power : 10 ^ k ≤ 10 ^ length cs = pow-le-pow_right (omega arith) long in
-      let times : 10 ^ length cs ≤ 10 ^ length cs * digit_value c = le-mul_of_pos_right (10 ^ length cs) more in
-      let front : 0 * 10 + digit_value c ≡ digit_value c = omega arith in
-      let value : n ≡ digits_value_after 10 (digit_value c) cs = is.value ∙ ap (λ x. digits_value_after 10 x cs) front in
-      absurd (omega (arith, after-ge (digit_value c) cs))
+        let power : 10 ^ k ≤ 10 ^ length cs = pow-le-pow_right (omega arith) long in
+        let times : 10 ^ length cs ≤ 10 ^ length cs * digit_value c = le-mul_of_pos_right (10 ^ length cs) more in
+        let front : 0 * 10 + digit_value c ≡ digit_value c = omega arith in
+        let value : n ≡ digits_value_after 10 (digit_value c) cs = is.value ∙ ap (λ x. digits_value_after 10 x cs) front in
+        absurd (omega (arith, after-ge (digit_value c) cs))
   ]
 ]

@@ -50,7 +50,6 @@ said_one (x ∷ xs) (e ∷ es) [] a b = elim b [ ]
 said_one (x ∷ xs) (e ∷ es) (f ∷ fs) a b = ap (λ z. z ∷ es) (said_by_one x.action x e f a.0 b.0) ∙ ap (λ gs. f ∷ gs) (said_one xs es fs a.1 b.1)
 
 module _ (p : Times) where
-
   -- a front in trouble and a longer one have the same verdict
   trouble_longer : (xs more : List Item) (es fs : List (Said PlainKey)) (v w : Verdict) → AreSaid xs es → AreSaid (xs ++ more) fs
       → IsFirstTrouble (plain_machines p) es v → IsFirstTrouble (plain_machines p) fs w → v ≡ w
@@ -82,7 +81,7 @@ both_troubles : (input : List ℕ) (v w : Verdict) → EndsInTrouble input v →
 both_troubles input v w a b =
     let one = one_log input b.times a.times b.items a.items b.end a.end b.log a.log in
     troubles_one a.times a.judged a.rest b.judged b.rest a.es b.es v w (sym a.front ∙ sym one.1 ∙ b.front) a.said b.said a.trouble
-        (subst (λ p. IsFirstTrouble (plain_machines p) b.es w) one.0 b.trouble)
+    (subst (λ p. IsFirstTrouble (plain_machines p) b.es w) one.0 b.trouble)
 
 trouble_and_none : (input : List ℕ) (v w : Verdict) → EndsInTrouble input v → EndsInNone input w → ⊥
 trouble_and_none input v w a b =

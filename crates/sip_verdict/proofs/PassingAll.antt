@@ -58,7 +58,6 @@ keys-set (x ∷ xs) zero t d low same = ap (λ k. k ∷ map (λ y. y.key) xs) sa
 keys-set (x ∷ xs) (suc n) t d low same = ap (λ z. x.key ∷ z) (keys-set xs n t d (omega arith) same)
 
 module _ (texts : Texts) (p : Times) (es : List (Said PlainKey)) (e : Said PlainKey) where
-
   -- the transaction has a run
   abbrev HasOne : Transaction → Type 0
   HasOne t = HasRun (plain_machines p) t.key (es ++ e ∷ [])
@@ -68,7 +67,6 @@ module _ (texts : Texts) (p : Times) (es : List (Said PlainKey)) (e : Said Plain
   so_far_none = record { runs = All-nil HasOne; widest = All-nil (KeyGoesOn texts p es e) }
 
   module _ (passed : List Transaction) where
-
     -- one more goes on
     pub so_far_runs : (t : Transaction) (wide : Option ℕ) → SoFar texts p es e passed wide → KeyGoesOn texts p es e t → SoFar texts p es e (passed ++ t ∷ []) wide
     so_far_runs t None s goes = record {
@@ -87,9 +85,9 @@ module _ (texts : Texts) (p : Times) (es : List (Said PlainKey)) (e : Said Plain
       runs = All-push HasOne passed t s.runs run;
       widest = rw (map-append (λ (x : Transaction). x.key) passed (t ∷ []))
           (first-behind (IsTooWide (plain_machines p) es e) (map (λ x. x.key) passed) [] t.key n
-              (All-map (λ k. IsTooWide (plain_machines p) es e k → ⊥) (λ x. x.key) passed
-                  (All-weaker (KeyGoesOn texts p es e) (λ x. IsTooWide (plain_machines p) es e x.key → ⊥) (λ x goes. goes.narrow) passed s.widest))
-              wide (long ∙ sym (length-map passed (λ x. x.key))));
+          (All-map (λ k. IsTooWide (plain_machines p) es e k → ⊥) (λ x. x.key) passed
+          (All-weaker (KeyGoesOn texts p es e) (λ x. IsTooWide (plain_machines p) es e x.key → ⊥) (λ x goes. goes.narrow) passed s.widest))
+          wide (long ∙ sym (length-map passed (λ x. x.key))));
     }
 
     -- one more is too wide, but not the first
@@ -104,10 +102,10 @@ module _ (texts : Texts) (p : Times) (es : List (Said PlainKey)) (e : Said Plain
         → IsFirst (λ key. HasRun (plain_machines p) key (es ++ e ∷ []) → ⊥) (map (λ x. x.key) (passed ++ t ∷ rest)) (n + 1)
     so_far_no_run t rest wide n long s none =
         rw (map-append (λ (x : Transaction). x.key) passed (t ∷ rest))
-          (first-behind (λ key. HasRun (plain_machines p) key (es ++ e ∷ []) → ⊥) (map (λ x. x.key) passed) (map (λ x. x.key) rest) t.key n
-              (All-map (λ k. (HasRun (plain_machines p) k (es ++ e ∷ []) → ⊥) → ⊥) (λ x. x.key) passed
-                  (All-weaker HasOne (λ x. (HasOne x → ⊥) → ⊥) (λ x run none. none run) passed s.runs))
-              none (long ∙ sym (length-map passed (λ x. x.key))))
+        (first-behind (λ key. HasRun (plain_machines p) key (es ++ e ∷ []) → ⊥) (map (λ x. x.key) passed) (map (λ x. x.key) rest) t.key n
+        (All-map (λ k. (HasRun (plain_machines p) k (es ++ e ∷ []) → ⊥) → ⊥) (λ x. x.key) passed
+        (All-weaker HasOne (λ x. (HasOne x → ⊥) → ⊥) (λ x run none. none run) passed s.runs))
+        none (long ∙ sym (length-map passed (λ x. x.key))))
 
     -- all have a run
     pub so_far_all_run : (wide : Option ℕ) → SoFar texts p es e passed wide → All (λ key. HasRun (plain_machines p) key (es ++ e ∷ [])) (map (λ x. x.key) passed)
@@ -121,7 +119,6 @@ module _ (texts : Texts) (p : Times) (es : List (Said PlainKey)) (e : Said Plain
 
   -- the same where a transaction takes its place in a list
   module _ (xs : List Transaction) (t : Transaction) (n : ℕ) (low : n < length xs) where
-
     pub turn_runs : (wide : Option ℕ) → SoFar texts p es e (take n xs) wide → IsPassed texts p es e t Runs → SoFar texts p es e (take (n + 1) (set xs n t)) wide
     turn_runs wide s h = rw (take_more_set xs n t low) (so_far_runs (take n xs) t wide s h)
 

@@ -25,7 +25,6 @@ pub plain_keys_exact : (p : Times) → IsExact (plain_machines p)
 plain_keys_exact p = λ a b. same_key-exact a b
 
 module _ (texts : Texts) (p : Times) (es : List (Said PlainKey)) (key : PlainKey) (set : Held Times PlainState) where
-
   -- a run over the events of the entries that stands at the newest moment is one of the key
   runs_key : (fs : List (Said PlainKey)) (events : List Heard) (moment : ℕ) → events_of (plain_machines p) key fs ≡ events → moment_of_newest fs ≡ moment
       → RunsUntil p events moment → HasRun (plain_machines p) key fs
@@ -38,7 +37,6 @@ module _ (texts : Texts) (p : Times) (es : List (Said PlainKey)) (key : PlainKey
 
   -- an entry that concerns the key
   module _ (said : Said PlainKey) (concerned : is_among (plain_machines p).same key said.keys ≡ true) where
-
     own_events : events_of (plain_machines p) key (es ++ said ∷ []) ≡ events_of (plain_machines p) key es ++ said.heard ∷ []
     own_events = events_of-concerned (plain_machines p) key es said concerned
 
@@ -52,12 +50,11 @@ module _ (texts : Texts) (p : Times) (es : List (Said PlainKey)) (key : PlainKey
     own_passed NoRun h = λ run. h (key_runs (es ++ said ∷ []) _ _ own_events (moment_of_newest-push es said) run)
     own_passed TooWide h = (
       runs_key (es ++ said ∷ []) _ _ own_events (moment_of_newest-push es said) h.0,
-      record { concerned = concerned; wide = h.1 }
+      record { concerned = concerned; wide = h.1 },
     )
 
   -- an entry that does not
   module _ (said : Said PlainKey) (other : is_among (plain_machines p).same key said.keys ≡ false) where
-
     other_events : events_of (plain_machines p) key (es ++ said ∷ []) ≡ events_of (plain_machines p) key es
     other_events = events_of-other (plain_machines p) key es said other
 
@@ -97,7 +94,7 @@ pub other_pass : {E : Type 0} (r : Result Passed E) (texts : Texts) (key : Plain
     → IfOk r (λ passed. (p : Times) (es : List (Said PlainKey)) → LeadsTo texts p (events_of (plain_machines p) key es) old → IsPassed texts p es said (record { key = key; set = set }) passed)
 other_pass r texts key old set said moment other at h =
     IfOk-weaker r _ _ (λ passed stepped p es ready. other_passed texts p es key set said other passed
-        (subst (λ m. IsStepped texts p (events_of (plain_machines p) key es) None m set passed) (sym at) (stepped p (events_of (plain_machines p) key es) ready))) h
+    (subst (λ m. IsStepped texts p (events_of (plain_machines p) key es) None m set passed) (sym at) (stepped p (events_of (plain_machines p) key es) ready))) h
 
 -- an entry that was noted has no fault
 pub said_noted-fault : (texts : Texts) (moment : ℕ) (noted : Option Noted) → (said_noted texts moment noted).fault ≡ None

@@ -14,5 +14,5 @@ pub Reads-both : (held held2 held3 : List ℕ) (left left2 left3 : Option (List 
 Reads-both held held2 held3 left left2 left3 first then = record {
   came = first.came ++ then.came;
   held_is = then.held_is ∙ ap (λ (t : List ℕ). t ++ then.came) first.held_is ∙ append_assoc held first.came then.came;
-  left_is = Consumes-trans left left2 left3 first.came then.came first.left_is then.left_is
+  left_is = Consumes-trans left left2 left3 first.came then.came first.left_is then.left_is;
 }

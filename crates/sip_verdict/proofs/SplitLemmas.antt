@@ -64,9 +64,11 @@ first-cut m xs k (before, here) =
     let parts : drop k xs ≡ m ∷ drop (k + 1) xs = drop-cons xs k 0 inside ∙ ap (λ x. x ∷ drop (suc k) xs) byte ∙ ap (λ (n : ℕ). m ∷ drop n xs) (sym (add-one k)) in
     record {
       whole = sym (take-append-drop k xs) ∙ ap (λ (t : List ℕ). take k xs ++ t) parts;
-      first = record { nowhere = λ j short same.
-          let low : j < k = omega (arith, length-take k xs) in
-          before.before j (omega arith) low (eq-eqb _ m (sym (get_or-take k xs j 0 low) ∙ same)) }
+      first = record {
+        nowhere = λ j short same.
+            let low : j < k = omega (arith, length-take k xs) in
+            before.before j (omega arith) low (eq-eqb _ m (sym (get_or-take k xs j 0 low) ∙ same));
+      };
     }
 
 -- no m was found
@@ -103,9 +105,9 @@ first-of-front m most xs k (before, here) =
       record {
         low = before.low;
         high = omega arith;
-        before = λ j low under same. before.before j low under (ap (is_byte m) (at j (omega arith)) ∙ same)
+        before = λ j low under same. before.before j low under (ap (is_byte m) (at j (omega arith)) ∙ same);
       },
-      ap (is_byte m) (sym (at k (omega arith))) ∙ here
+      ap (is_byte m) (sym (at k (omega arith))) ∙ here,
     )
 
 -- the part before the first m, and what is behind it: nothing, or m and more
@@ -115,13 +117,13 @@ part-one m front back front2 back2 lacks lacks2 (inl none) (inl none2) same =
     (sym (append-nil front) ∙ ap (λ (t : List ℕ). front ++ t) (sym none) ∙ same ∙ ap (λ (t : List ℕ). front2 ++ t) none2 ∙ append-nil front2, none ∙ sym none2)
 part-one m front back front2 back2 lacks lacks2 (inl none) (inr more2) same =
     absurd (Lacks-cut m front front2 more2.0 lacks
-        (sym (append-nil front) ∙ ap (λ (t : List ℕ). front ++ t) (sym none) ∙ same ∙ ap (λ (t : List ℕ). front2 ++ t) more2.1))
+    (sym (append-nil front) ∙ ap (λ (t : List ℕ). front ++ t) (sym none) ∙ same ∙ ap (λ (t : List ℕ). front2 ++ t) more2.1))
 part-one m front back front2 back2 lacks lacks2 (inr more) (inl none2) same =
     absurd (Lacks-cut m front2 front more.0 lacks2
-        (sym (append-nil front2) ∙ ap (λ (t : List ℕ). front2 ++ t) (sym none2) ∙ sym same ∙ ap (λ (t : List ℕ). front ++ t) more.1))
+    (sym (append-nil front2) ∙ ap (λ (t : List ℕ). front2 ++ t) (sym none2) ∙ sym same ∙ ap (λ (t : List ℕ). front ++ t) more.1))
 part-one m front back front2 back2 lacks lacks2 (inr more) (inr more2) same =
     let cut = cut-one m front more.0 front2 more2.0 lacks lacks2
-        (ap (λ (t : List ℕ). front ++ t) (sym more.1) ∙ same ∙ ap (λ (t : List ℕ). front2 ++ t) more2.1) in
+    (ap (λ (t : List ℕ). front ++ t) (sym more.1) ∙ same ∙ ap (λ (t : List ℕ). front2 ++ t) more2.1) in
     (cut.0, more.1 ∙ ap (λ (t : List ℕ). m ∷ t) cut.1 ∙ sym more2.1)
 
 -- the part up to the first m that a search found, or the whole

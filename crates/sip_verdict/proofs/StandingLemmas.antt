@@ -63,7 +63,6 @@ may_later texts ts number moment later low may = record {
 }
 
 module _ (p : Times) (es : List (Said PlainKey)) where
-
   -- an entry that concerns no key passes the transactions that are there
   pub before_none : (texts : Texts) (e : Said PlainKey) (ts : List Transaction) → e.keys ≡ [] → Stands texts p es ts → StandsBefore texts p es e ts
   before_none texts e ts none s = record {
@@ -113,11 +112,11 @@ module _ (p : Times) (es : List (Said PlainKey)) where
     where
       none : is_among same_key key (keys_of (plain_machines p) es) ≡ false
       none = not_among (plain_machines p) (plain_keys_exact p) key (keys_of (plain_machines p) es) (λ there. h.0 (subst (λ ks. Contains ks key) (sym keys) there))
+
       fresh : with_key same_key (keys_of (plain_machines p) es) key ≡ keys_of (plain_machines p) es ++ key ∷ []
       fresh = cond_false (is_among same_key key (keys_of (plain_machines p) es)) (keys_of (plain_machines p) es) (keys_of (plain_machines p) es ++ key ∷ []) none
 
   module _ (texts : Texts) (e : Said PlainKey) (old new : List Transaction) (before : StandsBefore texts p es e old) (same : map (λ t. t.key) new ≡ map (λ t. t.key) old) where
-
     -- every transaction goes on: the entries stand
     pub judged_fine : e.fault ≡ None → All (KeyGoesOn texts p es e) new → Stands texts p (es ++ e ∷ []) new
     judged_fine formed goes = record {
@@ -127,10 +126,10 @@ module _ (p : Times) (es : List (Said PlainKey)) where
         formed = formed;
         runs = subst (All (λ key. HasRun (plain_machines p) key (es ++ e ∷ []))) (same ∙ before.keys)
             (All-map (λ key. HasRun (plain_machines p) key (es ++ e ∷ [])) (λ (t : Transaction). t.key) new
-                (All-weaker (KeyGoesOn texts p es e) (λ t. HasRun (plain_machines p) t.key (es ++ e ∷ [])) (λ t g. g.runs) new goes));
+            (All-weaker (KeyGoesOn texts p es e) (λ t. HasRun (plain_machines p) t.key (es ++ e ∷ [])) (λ t g. g.runs) new goes));
         narrow = subst (All (λ key. IsTooWide (plain_machines p) es e key → ⊥)) (same ∙ before.keys)
             (All-map (λ key. IsTooWide (plain_machines p) es e key → ⊥) (λ (t : Transaction). t.key) new
-                (All-weaker (KeyGoesOn texts p es e) (λ t. IsTooWide (plain_machines p) es e t.key → ⊥) (λ t g. g.narrow) new goes));
+            (All-weaker (KeyGoesOn texts p es e) (λ t. IsTooWide (plain_machines p) es e t.key → ⊥) (λ t g. g.narrow) new goes));
       });
     }
 
@@ -160,7 +159,7 @@ module _ (p : Times) (es : List (Said PlainKey)) where
         counts,
         formed,
         subst (All (λ key. HasRun (plain_machines p) key (es ++ e ∷ []))) (same ∙ before.keys) runs,
-        subst (λ keys. IsFirst (IsTooWide (plain_machines p) es e) keys transaction) (same ∙ before.keys) first
+        subst (λ keys. IsFirst (IsTooWide (plain_machines p) es e) keys transaction) (same ∙ before.keys) first,
       );
     }
 
@@ -189,16 +188,19 @@ may_noted old new p key ts us number moment bytes may grows touched = record {
     order : IsTouched p key ts us → All (λ t. t.set.moment ≤ moment) us
     order (inl h) = subst (All (λ t. t.set.moment ≤ moment)) (sym h.0) may.order
     order (inr h) = subst (All (λ t. t.set.moment ≤ moment)) (sym h.1) (All-push (λ t. t.set.moment ≤ moment) ts (new_transaction p key) may.order (omega arith))
+
     beside : (new ≡ old) ⊎ (new ≡ old ++ (number, bytes) ∷ []) → All (λ t. All (Knows plain_names new) t.set.states) ts
     beside (inl same) = subst (λ texts. All (λ t. All (Knows plain_names texts) t.set.states) ts) (sym same) may.known
     beside (inr grown) = subst (λ texts. All (λ t. All (Knows plain_names texts) t.set.states) ts) (sym grown)
         (All-weaker (λ t. All (Knows plain_names old) t.set.states) (λ t. All (Knows plain_names (old ++ (number, bytes) ∷ [])) t.set.states)
-            (λ t knows. All-weaker (Knows plain_names old) (Knows plain_names (old ++ (number, bytes) ∷ []))
-                (λ x k. All-weaker (Keeps old) (Keeps (old ++ (number, bytes) ∷ [])) (Keeps-grow old number bytes) (plain_names x) k) t.set.states knows) ts may.known)
+        (λ t knows. All-weaker (Knows plain_names old) (Knows plain_names (old ++ (number, bytes) ∷ []))
+        (λ x k. All-weaker (Keeps old) (Keeps (old ++ (number, bytes) ∷ [])) (Keeps-grow old number bytes) (plain_names x) k) t.set.states knows) ts may.known)
+
     known : IsTouched p key ts us → All (λ t. All (Knows plain_names new) t.set.states) ts → All (λ t. All (Knows plain_names new) t.set.states) us
     known (inl h) all = subst (All (λ t. All (Knows plain_names new) t.set.states)) (sym h.0) all
     known (inr h) all = subst (All (λ t. All (Knows plain_names new) t.set.states)) (sym h.1)
         (All-push (λ t. All (Knows plain_names new) t.set.states) ts (new_transaction p key) all (All-cons (Knows plain_names new) Idle [] (All-nil (Keeps new)) (All-nil (Knows plain_names new))))
+
     numbered : (new ≡ old) ⊎ (new ≡ old ++ (number, bytes) ∷ []) → (n : ℕ) → Keeps new n → n < number + 1
     numbered (inl same) n keeps = let low = may.numbered n (subst (λ texts. Keeps texts n) same keeps) in omega arith
     numbered (inr grown) n keeps = go (Keeps-grow_cases old number bytes n (subst (λ texts. Keeps texts n) grown keeps))
@@ -206,6 +208,7 @@ may_noted old new p key ts us number moment bytes may grows touched = record {
         go : Keeps old n ⊎ (number ≡ n) → n < number + 1
         go (inl k) = let low = may.numbered n k in omega arith
         go (inr e) = omega arith
+
     few : IsTouched p key ts us → length us < number + 1
     few (inl h) = omega (arith, may.few, ap length h.0)
     few (inr h) = omega (arith, may.few, simp length-append at (ap length h.1))
@@ -219,7 +222,6 @@ said_by Mark i e some h = absurd (some refl)
 
 -- what is judged of the entries and of one that is said, is judged of the log
 module _ {E : Type 0} (r : Result (Option Verdict) E) (old new : Texts) (p : Times) (ts us : List Transaction) (i : Item) (number : ℕ) where
-
   -- a mark
   pub mark_judged : i.action ≡ Mark
       → IfOk r (λ verdict. (es : List (Said PlainKey)) → StandsBefore old p es (said_mark i.moment) ts → number ≡ length es + 1 → IsJudged new p (es ++ said_mark i.moment ∷ []) us verdict)
@@ -228,7 +230,7 @@ module _ {E : Type 0} (r : Result (Option Verdict) E) (old new : Texts) (p : Tim
       (λ verdict judged es stands counts. (
         said_mark i.moment,
         subst (λ a. IsSaidBy a i (said_mark i.moment)) (sym mark) refl,
-        judged es (before_none p es old (said_mark i.moment) ts refl stands) counts
+        judged es (before_none p es old (said_mark i.moment) ts refl stands) counts,
       )) h
 
   -- a message of the plain form, which was noted
@@ -240,5 +242,5 @@ module _ {E : Type 0} (r : Result (Option Verdict) E) (old new : Texts) (p : Tim
       (λ verdict judged es stands counts. (
         e,
         said_by i.action i e some (inl (parts, plain, is)),
-        judged es (subst (λ s. StandsBefore mid p es s vs) (sym is) (noted es stands)) counts
+        judged es (subst (λ s. StandsBefore mid p es s vs) (sym is) (noted es stands)) counts,
       )) h

@@ -34,7 +34,6 @@ pub first_not_run : {K : Type 0} (P : K → Type 0) (keys : List K) (n : ℕ) �
 first_not_run P keys n a h = a.holds (All-middle P a.before a.rest a.key (subst (All P) a.is h))
 
 module _ {K : Type 0} (m : Machines K) where
-
   -- an entry that is in no trouble has no verdict
   pub fine_no_trouble : (front : List (Said K)) (e : Said K) (v : Verdict) → IsFine m front e → IsTrouble m front e v → ⊥
   fine_no_trouble front e (Legal n t) f h = h

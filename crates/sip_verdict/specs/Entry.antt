@@ -22,7 +22,7 @@ AtClose action moment text b after next =
 abbrev pub AtMessage : Action → ℕ → ℕ → List ℕ → Next Item → Type 0
 AtMessage action moment len behind next =
     Unless (len < length behind) reasons.Truncated next
-        ((text : List ℕ) × (b : ℕ) × (after : List ℕ) × (behind ≡ text ++ b ∷ after) × (length text ≡ len) × AtClose action moment text b after next)
+    ((text : List ℕ) × (b : ℕ) × (after : List ℕ) × (behind ≡ text ++ b ∷ after) × (length text ≡ len) × AtClose action moment text b after next)
 
 -- a mark ends with its line, and a message stands behind it
 abbrev pub AtBody : Head → List ℕ → Next Item → Type 0
@@ -47,7 +47,7 @@ AtFront last line behind next =
 abbrev pub AtLine : ℕ → List ℕ → Next Item → Type 0
 AtLine last rest next =
     (((line : List ℕ) (behind : List ℕ) → ¬ (FrontLine rest line behind))
-        × Unless (longest_line ≤ length rest) reasons.Truncated next (next ≡ stops reasons.EntryLine))
+    × Unless (longest_line ≤ length rest) reasons.Truncated next (next ≡ stops reasons.EntryLine))
     ⊎ ((line : List ℕ) × (behind : List ℕ) × FrontLine rest line behind × AtFront last line behind next)
 
 -- the most entries of a log

@@ -19,7 +19,10 @@ use sip_machine::Params;
 const LONGEST_TIMES: usize = 43;
 
 /// Reads line 1 and line 2. Anything wrong in them is the fault `Header`.
-pub(crate) fn read_header<R: Source>(window: &mut Window, source: &mut R) -> Result<Params, LogError>
+pub(crate) fn read_header<R: Source>(
+    window: &mut Window,
+    source: &mut R,
+) -> Result<Params, LogError>
     ensures { Says (unread window.old (R.left source.old)) (unread window.new (R.left source.new))
         (R.has_failed source.old) (R.has_failed source.new) ComesFirst gives result }
 {

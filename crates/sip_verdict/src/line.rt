@@ -38,7 +38,8 @@ impl Head {
         ensures { IsTrue result ↔ IsWithinLimits (head_of self) }
     {
         match self {
-            Head::Message(_, moment, len) => moment <= LAST_MOMENT && (1..=LONGEST_MESSAGE).contains(&len),
+            Head::Message(_, moment, len) => moment <= LAST_MOMENT
+                && (1..=LONGEST_MESSAGE).contains(&len),
             Head::Mark(moment) => moment <= LAST_MOMENT,
         }
     }

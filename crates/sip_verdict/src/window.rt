@@ -124,7 +124,11 @@ impl Window {
 
     /// The length of the line at the front, where its line feed is among the next `most` bytes.
     /// Reads only as far as that takes.
-    pub(crate) fn line_len<R: Source>(&mut self, source: &mut R, most: usize) -> Result<Option<usize>, Broken>
+    pub(crate) fn line_len<R: Source>(
+        &mut self,
+        source: &mut R,
+        most: usize,
+    ) -> Result<Option<usize>, Broken>
         requires { most ≤ window_size }
         ensures reads { OnOk result (Reads (items self.old) (items self.new) (R.left source.old) (R.left source.new)) }
         ensures within { IfOk result (λ at. IfSome at (λ n. (n < length (items self.new)) × (n < most))) }

@@ -9,10 +9,9 @@ ghost use Rattle.siptrace.specs.Status.{status_of};
 
 use sip_verdict::{FromRead, JudgeError, Verdict, judge, render};
 use std::alloc::AllocError;
-use std::env;
 use std::hash::RandomState;
-use std::io;
 use std::process::ExitCode;
+use std::{env, io};
 use thiserror::Error;
 
 /// Why there is no verdict to print.
@@ -82,7 +81,11 @@ fn main(rt: HostRuntime) -> ExitCode {
         Ok(status) => ExitCode::from(status),
         Err(failure) => {
             let _ = eprintln!(rt; "siptrace: {failure}");
-            ExitCode::from(if matches!(failure, Failure::Words) { 5 } else { 4 })
+            ExitCode::from(if matches!(failure, Failure::Words) {
+                5
+            } else {
+                4
+            })
         }
     }
 }

@@ -56,7 +56,10 @@ fn faults_of_entries(rt: HostRuntime) {
 fn faults_of_headers(rt: HostRuntime) {
     let rows: [(&[u8], u8); 10] = [
         (HEADER, 0),
-        (b"sip-trace 1\nt1 10000 t2 60000 t4 60000 tolerance 10000\n", 0),
+        (
+            b"sip-trace 1\nt1 10000 t2 60000 t4 60000 tolerance 10000\n",
+            0,
+        ),
         (b"", 20),
         (b"sip-trace 1", 20),
         (b"sip-trace 2\nt1 500 t2 4000 t4 5000 tolerance 50\n", 20),

@@ -20,10 +20,10 @@ returns-in_err-value c =
     let rest = c.in_ok-text.text.now in
     let len = c.unwrap_or-len.result in
     let after = strip_prefix_is Decides-eqb text word (Some c.in_ok-text.text) c.in_ok-text.ensures.cases
-        ∙ ap (λ (t : List ℕ). word ++ t) (sym (take-append-drop len rest)) in
+    ∙ ap (λ (t : List ℕ). word ++ t) (sym (take-append-drop len rest)) in
     let found = rw (← c.unwrap_or-len.ensures) at (part-found space rest c.memchr.result c.memchr.ensures) in
     rw c.from_residual-in_err-value.ensures
-        (λ n behind is. c.in_err-value.ensures n (NumberAfter-part word text (take len rest) (drop len rest) after found.0 found.1 n behind is))
+    (λ n behind is. c.in_err-value.ensures n (NumberAfter-part word text (take len rest) (drop len rest) after found.0 found.1 n behind is))
 
 pub returns : goal.returns
 returns c =
@@ -32,7 +32,7 @@ returns c =
     let rest = c.in_ok-text.text.now in
     let len = c.unwrap_or-len.result in
     let after = strip_prefix_is Decides-eqb text word (Some c.in_ok-text.text) c.in_ok-text.ensures.cases
-        ∙ ap (λ (t : List ℕ). word ++ t) (sym (take-append-drop len rest)) in
+    ∙ ap (λ (t : List ℕ). word ++ t) (sym (take-append-drop len rest)) in
     let found = rw (← c.unwrap_or-len.ensures) at (part-found space rest c.memchr.result c.memchr.ensures) in
     let is = c.in_ok-value.ensures in
     (is.0, rw take_rest (NumberAfter-of word text (take len rest) (drop len rest) after found.0 found.1 is.0 is.1), is.2)

@@ -16,8 +16,8 @@ returns-then-not-starts_with g c =
     let held = items c.hold.new.self in
     let test = rw c.as_slice.ensures.value at c.if-not-starts_with.ensures.value in
     Says-fault _ held _ _ _ ComesFirst _ reasons.Header hold.reads hold.fine
-        (λ ys left. ComesFirst-other held ys (hold.some c.if-not-branch.false)
-            (λ same. true≢false (sym ((starts_is Decides-eqb held title false test).1 (drop (length title) held) same))))
+    (λ ys left. ComesFirst-other held ys (hold.some c.if-not-branch.false)
+    (λ same. true≢false (sym ((starts_is Decides-eqb held title false test).1 (drop (length title) held) same))))
 
 pub returns : goal.returns
 returns g c =
@@ -26,5 +26,5 @@ returns g c =
     let test = rw c.as_slice.ensures.value at c.if-not-starts_with.ensures.value in
     let front = (starts_is Decides-eqb held title true test).0 refl in
     Says-step _ held _ _ _ ComesFirst (drop (length title) held) _ _ _ ComesSecond gives c.read_second.result hold.reads hold.fine
-        (λ ys next left behind. ComesFirst-second held ys next front behind)
-        (rw (← c.consume.ensures) c.read_second.ensures)
+    (λ ys next left behind. ComesFirst-second held ys next front behind)
+    (rw (← c.consume.ensures) c.read_second.ensures)

@@ -14,16 +14,16 @@ returns-in_default g c =
     let line = c.in_ok-len.ensures in
     let held = items c.line_len.new.self in
     Says-fault _ held _ _ _ ComesSecond _ reasons.Header line.reads line.fine
-        (λ ys left. ComesSecond-none held ys (rw c.in_default.is at line.first)
-            (elim (line.none c.in_default.is) [ inl many ↦ inl many | inr end ↦ inr (none_left _ ys left end) ]))
+    (λ ys left. ComesSecond-none held ys (rw c.in_default.is at line.first)
+    (elim (line.none c.in_default.is) [ inl many ↦ inl many | inr end ↦ inr (none_left _ ys left end) ]))
 
 pub returns-in_default-read_times : goal.returns-in_default-read_times
 returns-in_default-read_times g c =
     let line = c.in_ok-len.ensures in
     let held = items c.line_len.new.self in
     Says-fault _ held _ _ _ ComesSecond _ reasons.Header line.reads line.fine
-        (λ ys left. ComesSecond-other held ys c.in-Some.len (rw c.in-Some.is at line.first)
-            (rw c.as_slice.ensures.value at c.in_default-read_times.ensures))
+    (λ ys left. ComesSecond-other held ys c.in-Some.len (rw c.in-Some.is at line.first)
+    (rw c.as_slice.ensures.value at c.in_default-read_times.ensures))
 
 pub returns : goal.returns
 returns g c =
@@ -31,5 +31,5 @@ returns g c =
     let held = items c.line_len.new.self in
     let times = rw c.as_slice.ensures.value at c.in-Some-read_times.ensures in
     rw c.consume.ensures
-        (Says-value _ held _ _ _ ComesSecond (drop (c.in-Some.len + 1) held) _ (gives c.in-Some-read_times.times) line.reads line.fine
-            (λ ys left. ComesSecond-times held ys c.in-Some.len (rw c.in-Some.is at line.first) _ times.0 times.1))
+    (Says-value _ held _ _ _ ComesSecond (drop (c.in-Some.len + 1) held) _ (gives c.in-Some-read_times.times) line.reads line.fine
+    (λ ys left. ComesSecond-times held ys c.in-Some.len (rw c.in-Some.is at line.first) _ times.0 times.1))

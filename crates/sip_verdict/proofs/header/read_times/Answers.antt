@@ -10,20 +10,20 @@ use Rattle.sip_verdict.proofs.header.read_times.Goals as goal
 pub returns-in_err-t1 : goal.returns-in_err-t1
 returns-in_err-t1 c =
     rw c.from_residual.ensures
-        (λ p is within. c.in_err-t1.ensures _ _ (TimesLine-parts c.args.line.now p is).t1_is)
+    (λ p is within. c.in_err-t1.ensures _ _ (TimesLine-parts c.args.line.now p is).t1_is)
 
 pub returns-in_err-t2 : goal.returns-in_err-t2
 returns-in_err-t2 c =
     let t1 = c.in_ok-t1.ensures in
     rw c.from_residual-in_err-t2.ensures
-        (λ p is within. c.in_err-t2.ensures _ _ (t2-after c.args.line.now p (TimesLine-parts c.args.line.now p is) t1.0 _ t1.1))
+    (λ p is within. c.in_err-t2.ensures _ _ (t2-after c.args.line.now p (TimesLine-parts c.args.line.now p is) t1.0 _ t1.1))
 
 pub returns-in_err-t4 : goal.returns-in_err-t4
 returns-in_err-t4 c =
     let t1 = c.in_ok-t1.ensures in
     let t2 = c.in_ok-t2.ensures in
     rw c.from_residual-in_err-t4.ensures
-        (λ p is within. c.in_err-t4.ensures _ _ (t4-after c.args.line.now p (TimesLine-parts c.args.line.now p is) t1.0 _ t1.1 t2.0 _ t2.1))
+    (λ p is within. c.in_err-t4.ensures _ _ (t4-after c.args.line.now p (TimesLine-parts c.args.line.now p is) t1.0 _ t1.1 t2.0 _ t2.1))
 
 pub returns-in_err-tolerance : goal.returns-in_err-tolerance
 returns-in_err-tolerance c =
@@ -31,9 +31,9 @@ returns-in_err-tolerance c =
     let t2 = c.in_ok-t2.ensures in
     let t4 = c.in_ok-t4.ensures in
     rw c.from_residual-in_err-tolerance.ensures
-        (λ p is within.
-            c.in_err-tolerance.ensures _ _
-                (tolerance-after c.args.line.now p (TimesLine-parts c.args.line.now p is) t1.0 _ t1.1 t2.0 _ t2.1 t4.0 _ t4.1))
+    (λ p is within.
+    c.in_err-tolerance.ensures _ _
+    (tolerance-after c.args.line.now p (TimesLine-parts c.args.line.now p is) t1.0 _ t1.1 t2.0 _ t2.1 t4.0 _ t4.1))
 
 pub returns-then-not-is_empty : goal.returns-then-not-is_empty
 returns-then-not-is_empty c = λ p is within.
@@ -60,9 +60,9 @@ returns c =
       t1_is = t1.1;
       t2_is = t2.1;
       t4_is = t4.1;
-      tolerance_is = subst (NumberAfter (codes " tolerance ") c.in_ok-t4.rest.now tolerance.0) none tolerance.1
+      tolerance_is = subst (NumberAfter (codes " tolerance ") c.in_ok-t4.rest.now tolerance.0) none tolerance.1;
     } in
     times-read line n _ c.new.result (TimesLine-of line n parts)
-        (λ p is. times-after line p (TimesLine-parts line p is) t1.0 _ t1.1 t2.0 _ t2.1 t4.0 _ t4.1 tolerance.0 _ tolerance.1)
-        (λ i. record { t1 = t1.2 i; t2 = t2.2 i; t4 = t4.2 i; tolerance = tolerance.2 i })
-        c.new.ensures
+    (λ p is. times-after line p (TimesLine-parts line p is) t1.0 _ t1.1 t2.0 _ t2.1 t4.0 _ t4.1 tolerance.0 _ tolerance.1)
+    (λ i. record { t1 = t1.2 i; t2 = t2.2 i; t4 = t4.2 i; tolerance = tolerance.2 i })
+    c.new.ensures

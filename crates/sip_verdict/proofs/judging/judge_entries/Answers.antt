@@ -18,7 +18,7 @@ loop-entry-init g c = record {
 pub returns-in-Ok-None-clause-verdict : goal.returns-in-Ok-None-clause-verdict
 returns-in-Ok-None-clause-verdict g c =
     judged_legal _ _ _ _ _ c.loop-entry.count c.loop-entry.last c.loop-entry.invariant.judged c.transactions.result _ c.transactions.ensures
-        (rw c.in-Ok-None.field-0-is at c.in-Ok-None.ensures.says).1
+    (rw c.in-Ok-None.field-0-is at c.in-Ok-None.ensures.says).1
 
 pub returns-in-Err-clause-verdict : goal.returns-in-Err-clause-verdict
 returns-in-Err-clause-verdict g c =
@@ -29,14 +29,14 @@ entry-requires-clause-may g c =
     let continues = rw c.in-Ok-Some.field-0-is at c.in-Ok-Some.ensures.entry in
     let s = c.loop-entry.standing in
     subst (λ n. MayTake s.book s.transactions.items n c.in-Ok-Some.entry.moment) (sym continues.number_is)
-      (may_later s.book s.transactions.items (c.loop-entry.count + 1) c.loop-entry.last c.in-Ok-Some.entry.moment continues.order c.loop-entry.invariant.may)
+    (may_later s.book s.transactions.items (c.loop-entry.count + 1) c.loop-entry.last c.in-Ok-Some.entry.moment continues.order c.loop-entry.invariant.may)
 
 pub returns-in-Some-clause-verdict : goal.returns-in-Some-clause-verdict
 returns-in-Some-clause-verdict g c =
     let continues = rw c.in-Ok-Some.field-0-is at c.in-Ok-Some.ensures.entry in
     let says = rw c.in-Ok-Some.field-0-is at c.in-Ok-Some.ensures.says in
     judged_trouble _ _ _ _ c.entry.new.self.book c.args.standing.machine _ c.entry.new.self.transactions.items c.loop-entry.count c.loop-entry.last c.loop-entry.invariant.judged
-        c.in-Ok-Some.entry says.1 continues c.loop-entry.standing.machine c.loop-entry.invariant.times c.in-Some.verdict (rw c.in-Some.is at c.in_ok-verdict.ensures.judged)
+    c.in-Ok-Some.entry says.1 continues c.loop-entry.standing.machine c.loop-entry.invariant.times c.in-Some.verdict (rw c.in-Some.is at c.in_ok-verdict.ensures.judged)
 
 pub loop-entry-preserved : goal.loop-entry-preserved
 loop-entry-preserved g c =

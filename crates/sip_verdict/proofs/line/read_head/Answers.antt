@@ -16,7 +16,7 @@ pub returns-in_err-moment-2 : goal.returns-in_err-moment-2
 returns-in_err-moment-2 c =
     let line = c.args.line.now in
     rw c.from_residual-in_err-moment-2.ensures
-        (HeadLine-none line (λ same. absurd (omega arith)) (rw (take_rest line 2) at c.in_err-moment-2.ensures))
+    (HeadLine-none line (λ same. absurd (omega arith)) (rw (take_rest line 2) at c.in_err-moment-2.ensures))
 
 pub returns : goal.returns
 returns c =
@@ -27,5 +27,5 @@ returns c =
     let by = c.in_ok-action.ensures in (
       message action is.0 is.1,
       HeadLine-message line action is.0 is.1 by.0 c.in-32.len_at_least by.1 blank is.2,
-      cc
+      cc,
     )

@@ -18,5 +18,5 @@ loop-byte-preserved c =
     let more = digits_value_more 10 text i inside in
     record {
       digits = digits_more 10 text i inside c.loop-byte.invariant.digits digit.bound;
-      value = omega (arith, more, digit_value_digit _ digit.cases, c.loop-byte.invariant.value)
+      value = omega (arith, more, digit_value_digit _ digit.cases, c.loop-byte.invariant.value);
     }

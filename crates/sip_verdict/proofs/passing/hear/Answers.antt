@@ -14,7 +14,7 @@ pub returns-else-is_empty-clause-stepped : goal.returns-else-is_empty-clause-ste
 returns-else-is_empty-clause-stepped c = λ p events leads.
     let some : c.take.new.self.states ≢ [] = search rules in
     heard_some c.args.book.now p events c.args.set.now c.take.new.self leads (heard c.args.book.now c.args.event.now) c.requires.order c.in-Ok.ensures.states
-        c.in-Ok.ensures.at.0 c.in-Ok.ensures.at.1 some c.in-Ok.ensures.few
+    c.in-Ok.ensures.at.0 c.in-Ok.ensures.at.1 some c.in-Ok.ensures.few
 
 pub returns-in-Err-TooMany-clause-known : goal.returns-in-Err-TooMany-clause-known
 returns-in-Err-TooMany-clause-known c = rw c.in-Err-TooMany.ensures.err c.requires.known
@@ -22,4 +22,4 @@ returns-in-Err-TooMany-clause-known c = rw c.in-Err-TooMany.ensures.err c.requir
 pub returns-in-Err-TooMany-clause-stepped : goal.returns-in-Err-TooMany-clause-stepped
 returns-in-Err-TooMany-clause-stepped c = λ p events leads.
     heard_wide c.args.book.now p events c.args.set.now c.take.new.self leads (heard c.args.book.now c.args.event.now) c.requires.order
-        (c.in-Err-TooMany.ensures.too_many (search rules))
+    (c.in-Err-TooMany.ensures.too_many (search rules))

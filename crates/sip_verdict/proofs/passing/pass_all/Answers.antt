@@ -33,7 +33,7 @@ returns-in-NoRun-clause-outcome c = λ p es ready.
     let said = said_noted c.args.book.now c.args.moment (option_copied c.args.noted) in
     let here = All-same_rest (IsReady c.args.book.now p es) c.loop-n.transactions c.args.transactions.now c.loop-n.n c.index-transactions-n.result c.loop-n.invariant.rest (omega arith) ready in
     turn_no_run c.args.book.now p es said c.loop-n.transactions c.pass.new.transaction c.loop-n.n (omega arith) c.loop-n.wide (c.loop-n.invariant.passed p es ready)
-        (subst (IsPassed c.args.book.now p es said c.pass.new.transaction) c.in-NoRun.is (c.in_ok-pass.ensures.passed p es here))
+    (subst (IsPassed c.args.book.now p es said c.pass.new.transaction) c.in-NoRun.is (c.in_ok-pass.ensures.passed p es here))
 
 pub loop-n-preserved : goal.loop-n-preserved
 loop-n-preserved c = record {
@@ -42,20 +42,20 @@ loop-n-preserved c = record {
   order = All-set (λ t. t.set.moment ≤ c.args.moment) c.loop-n.transactions c.loop-n.n c.pass.new.transaction c.in_ok-pass.ensures.order c.loop-n.invariant.order;
   known = All-set (λ t. All (Knows plain_names c.args.book.now) t.set.states) c.loop-n.transactions c.loop-n.n c.pass.new.transaction c.in_ok-pass.ensures.known c.loop-n.invariant.known;
   numbered = elim c.match-branch-2.branch [
-      in-Runs w ↦ rw w.wide-is (numbered_more c.loop-n.wide c.loop-n.n c.loop-n.invariant.numbered)
+    | in-Runs w ↦ rw w.wide-is (numbered_more c.loop-n.wide c.loop-n.n c.loop-n.invariant.numbered)
     | in-TooWide w ↦ rw (w.wide-is, w.or-wide.ensures) (numbered_or c.loop-n.wide c.loop-n.n c.loop-n.invariant.numbered)
-    ];
+  ];
   passed = λ p es ready.
-    let said = said_noted c.args.book.now c.args.moment (option_copied c.args.noted) in
-    let here = All-same_rest (IsReady c.args.book.now p es) c.loop-n.transactions c.args.transactions.now c.loop-n.n c.index-transactions-n.result c.loop-n.invariant.rest (omega arith) ready in
-    elim c.match-branch-2.branch [
-      in-Runs w ↦ rw w.wide-is
-        (turn_runs c.args.book.now p es said c.loop-n.transactions c.pass.new.transaction c.loop-n.n (omega arith) c.loop-n.wide (c.loop-n.invariant.passed p es ready)
+      let said = said_noted c.args.book.now c.args.moment (option_copied c.args.noted) in
+      let here = All-same_rest (IsReady c.args.book.now p es) c.loop-n.transactions c.args.transactions.now c.loop-n.n c.index-transactions-n.result c.loop-n.invariant.rest (omega arith) ready in
+      elim c.match-branch-2.branch [
+        | in-Runs w ↦ rw w.wide-is
+            (turn_runs c.args.book.now p es said c.loop-n.transactions c.pass.new.transaction c.loop-n.n (omega arith) c.loop-n.wide (c.loop-n.invariant.passed p es ready)
             (subst (IsPassed c.args.book.now p es said c.pass.new.transaction) w.in-Runs.is (c.in_ok-pass.ensures.passed p es here)))
-    | in-TooWide w ↦ rw (w.wide-is, w.or-wide.ensures)
-        (turn_too_wide c.args.book.now p es said c.loop-n.transactions c.pass.new.transaction c.loop-n.n (omega arith) c.loop-n.wide (c.loop-n.invariant.passed p es ready)
+        | in-TooWide w ↦ rw (w.wide-is, w.or-wide.ensures)
+            (turn_too_wide c.args.book.now p es said c.loop-n.transactions c.pass.new.transaction c.loop-n.n (omega arith) c.loop-n.wide (c.loop-n.invariant.passed p es ready)
             (subst (IsPassed c.args.book.now p es said c.pass.new.transaction) w.in-TooWide.is (c.in_ok-pass.ensures.passed p es here)))
-    ];
+      ];
 }
 
 pub returns-in-None-clause-outcome : goal.returns-in-None-clause-outcome
@@ -68,9 +68,8 @@ pub returns-in-Some-clause-outcome : goal.returns-in-Some-clause-outcome
 returns-in-Some-clause-outcome c = λ p es ready.
     let said = said_noted c.args.book.now c.args.moment (option_copied c.args.noted) in
     let s = subst (SoFar c.args.book.now p es said (take c.loop-n.n c.loop-n.transactions)) c.in-Some.is (c.loop-n.invariant.passed p es ready) in
-    let all = take_all c.loop-n.n c.loop-n.transactions (omega arith) in
-    (
+    let all = take_all c.loop-n.n c.loop-n.transactions (omega arith) in (
       subst (λ ts. All (λ key. HasRun (plain_machines p) key (es ++ said ∷ [])) (map (λ t. t.key) ts)) all
-        (so_far_all_run c.args.book.now p es said (take c.loop-n.n c.loop-n.transactions) (Some c.in-Some.number) s),
-      subst (λ ts. IsFirst (IsTooWide (plain_machines p) es said) (map (λ t. t.key) ts) c.in-Some.number) all s.widest
+          (so_far_all_run c.args.book.now p es said (take c.loop-n.n c.loop-n.transactions) (Some c.in-Some.number) s),
+      subst (λ ts. IsFirst (IsTooWide (plain_machines p) es said) (map (λ t. t.key) ts) c.in-Some.number) all s.widest,
     )

@@ -6,10 +6,10 @@ pub returns-then-is_empty-clause-stepped : goal.returns-then-is_empty-clause-ste
 returns-then-is_empty-clause-stepped c = λ p events leads.
     let none : c.advance.new.self.states ≡ [] = search rules in
     waited_none c.args.book.now p events c.args.set.now c.advance.new.self leads c.args.moment c.requires.order
-        (c.in_ok-advance.ensures.states c.args.book.now c.known.ensures c.requires.known) none
+    (c.in_ok-advance.ensures.states c.args.book.now c.known.ensures c.requires.known) none
 
 pub returns-else-is_empty-clause-stepped : goal.returns-else-is_empty-clause-stepped
 returns-else-is_empty-clause-stepped c = λ p events leads.
     let some : c.advance.new.self.states ≢ [] = search rules in
     waited_some c.args.book.now p events c.args.set.now c.advance.new.self leads c.args.moment c.requires.order
-        (c.in_ok-advance.ensures.states c.args.book.now c.known.ensures c.requires.known) c.in_ok-advance.ensures.at.0 c.in_ok-advance.ensures.at.1 some
+    (c.in_ok-advance.ensures.states c.args.book.now c.known.ensures c.requires.known) c.in_ok-advance.ensures.at.0 c.in_ok-advance.ensures.at.1 some

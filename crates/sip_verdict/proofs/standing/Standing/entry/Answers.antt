@@ -25,7 +25,7 @@ returns-in_default-message c =
       judged = λ es stands counts. (
         said_fault i,
         said_by i.action i (said_fault i) c.in_default.not-Mark (inr (none, refl)),
-        judged_malformed c.args.self.now.machine es c.args.self.now.book (said_fault i) c.args.self.now.transactions.items c.args.entry.now.number not_yet stands counts refl
+        judged_malformed c.args.self.now.machine es c.args.self.now.book (said_fault i) c.args.self.now.transactions.items c.args.entry.now.number not_yet stands counts refl,
       );
     }
 
@@ -36,9 +36,9 @@ returns-clause-judged c =
     let m = c.note.new.self in
     let parts = parts_of c.in-Some.message in
     message_judged c.pass-2.result s.book c.pass-2.new.self.book s.machine s.transactions.items c.pass-2.new.self.transactions.items i c.args.entry.now.number
-        m.book m.transactions.items parts (said_noted m.book i.moment (Some (record { message = c.in-Some.message; event = c.in_ok-event.event })))
-        c.in_default.not-Mark
-        (subst (λ text. PlainText i.action text parts) c.as_slice.ensures.value c.in-Some.ensures.0)
-        (ap (λ h. record { fault = None; heard = h; keys = key_of parts ∷ [] }) c.in_ok-event.ensures.heard)
-        c.in_ok-event.ensures.stands
-        (rw c.in_ok-event.ensures.machine at c.pass-2.ensures.judged)
+    m.book m.transactions.items parts (said_noted m.book i.moment (Some (record { message = c.in-Some.message; event = c.in_ok-event.event })))
+    c.in_default.not-Mark
+    (subst (λ text. PlainText i.action text parts) c.as_slice.ensures.value c.in-Some.ensures.0)
+    (ap (λ h. record { fault = None; heard = h; keys = key_of parts ∷ [] }) c.in_ok-event.ensures.heard)
+    c.in_ok-event.ensures.stands
+    (rw c.in_ok-event.ensures.machine at c.pass-2.ensures.judged)

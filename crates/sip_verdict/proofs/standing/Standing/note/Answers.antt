@@ -10,11 +10,11 @@ pub returns-clause-may : goal.returns-clause-may
 returns-clause-may c =
     let s = c.args.self.now in
     may_noted s.book c.add.new.self s.machine (key_of (parts_of c.args.message.now)) s.transactions.items c.touch.new.transactions.items c.args.entry.now.number c.args.entry.now.moment
-        c.as_slice.result.now c.requires.may (elim c.in_ok-number.ensures.grows [ inl h ↦ inl h.0 | inr h ↦ inr h.0 ]) c.in_ok-touch.ensures
+    c.as_slice.result.now c.requires.may (elim c.in_ok-number.ensures.grows [ inl h ↦ inl h.0 | inr h ↦ inr h.0 ]) c.in_ok-touch.ensures
 
 pub returns-clause-stands : goal.returns-clause-stands
 returns-clause-stands c = λ es stands.
     let s = c.args.self.now in
     before_touched s.machine es c.add.new.self (said_message (item c.args.entry.now) (parts_of c.args.message.now)) (key_of (parts_of c.args.message.now)) s.transactions.items c.touch.new.transactions.items refl stands.keys
-        (ready_beside s.machine es s.book c.add.new.self c.args.entry.now.number c.as_slice.result.now (elim c.in_ok-number.ensures.grows [ inl h ↦ inl h.0 | inr h ↦ inr h.0 ]) s.transactions.items stands.ready)
-        stands.good c.in_ok-touch.ensures
+    (ready_beside s.machine es s.book c.add.new.self c.args.entry.now.number c.as_slice.result.now (elim c.in_ok-number.ensures.grows [ inl h ↦ inl h.0 | inr h ↦ inr h.0 ]) s.transactions.items stands.ready)
+    stands.good c.in_ok-touch.ensures

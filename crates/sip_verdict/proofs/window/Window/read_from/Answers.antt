@@ -20,7 +20,7 @@ returns-clause-reads g c =
       held_is = ap (λ (t : List ℕ). slice_range t w.start (w.end + n)) (with_items_is w.bytes put len)
           ∙ grown bytes buf w.start w.end (length bytes - w.end) n w.ordered within fills.0
           ∙ ap (λ (t : List ℕ). slice_range t w.start w.end ++ take n buf) c.deref_mut.ensures.value;
-      left_is = fills.1
+      left_is = fills.1;
     }
 
 pub returns-clause-end : goal.returns-clause-end

@@ -1,6 +1,6 @@
 -- The line at the front of what is left, by what is held of it.
-use Rattle.std.proofs.Common.{◌≡◌, ◌≢◌, ◌⊎◌, inl, inr, ℕ, ◌+◌, ◌<◌, ◌≤◌, List, [], ◌∷◌, ◌++◌, length, take, drop, get_or, Some, None, refl, subst, sym, ap, ◌∙◌, arith}
-use Rattle.std.proofs.lemmas.List.{append-nil, get_or-take, length-take, length-append}
+use Rattle.std.proofs.Common.{◌≡◌, ◌⊎◌, inl, inr, ℕ, ◌+◌, ◌<◌, ◌≤◌, List, [], ◌∷◌, ◌++◌, length, take, drop, get_or, Some, None, refl, sym, ap, ◌∙◌, arith}
+use Rattle.std.proofs.lemmas.List.{get_or-take, length-take, length-append}
 use Rattle.std.proofs.Math.ListN.{get_or-append}
 use Rattle.std.proofs.Math.Seq.{get_or-append_seam}
 use Rattle.memchr.specs.Find.{IsFirstByte, is_byte}
@@ -8,7 +8,7 @@ use Rattle.sip_verdict.specs.declared.log_reason.LogReason.TheVariants as reason
 use Rattle.sip_verdict.specs.Line.{line_feed, longest_line, FrontLine, Head, HeadLine}
 use Rattle.sip_verdict.specs.Next.{Next, stops}
 use Rattle.sip_verdict.specs.Entry.{Item, AtHead, AtLine, ComesNext, most_entries}
-use Rattle.sip_verdict.proofs.SplitLemmas.{Lacks, Cut, first-cut, first-none, first-of-front, cut-more}
+use Rattle.sip_verdict.proofs.SplitLemmas.{Cut, first-cut, first-none, first-of-front, cut-more}
 
 module _ (most : ℕ) (held ys : List ℕ) where
   -- a line feed that was found

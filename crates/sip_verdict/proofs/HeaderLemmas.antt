@@ -1,5 +1,5 @@
 -- Line 2, word by word, and the header.
-use Rattle.std.proofs.Common.{◌≡◌, ◌≢◌, ◌⊎◌, inl, inr, Option, None, Some, MatchOption, ◌<◌, ◌≤◌, ◌+◌, ◌^◌, ℕ, min, List, [], ◌∷◌, ◌++◌, length, take, drop, refl, subst, sym, ap, ◌∙◌, arith, append_assoc}
+use Rattle.std.proofs.Common.{◌≡◌, ◌≢◌, ◌⊎◌, inl, inr, Option, None, Some, MatchOption, ◌<◌, ◌≤◌, ◌+◌, ℕ, List, [], ◌∷◌, ◌++◌, length, take, drop, refl, subst, sym, ap, ◌∙◌, arith, append_assoc}
 use Rattle.std.specs.Prelude.{codes}
 use Rattle.std.proofs.lemmas.List.{append-nil, append_cancel_left, take-append-drop, take-append-le, length-append}
 use Rattle.std.proofs.Math.Seq.{take-append_seam}
@@ -9,7 +9,7 @@ use Rattle.sip_verdict.specs.declared.log_reason.LogReason.TheVariants as reason
 use Rattle.sip_verdict.specs.Line.{line_feed, space}
 use Rattle.sip_verdict.specs.Next.{Next, gives, stops}
 use Rattle.sip_verdict.specs.Number.{IsNumber, cut}
-use Rattle.sip_verdict.specs.Header.{TimesLine, TimesFront, Header, ComesFirst, ComesSecond, NumberAfter, Parted}
+use Rattle.sip_verdict.specs.Header.{TimesLine, TimesFront, ComesFirst, ComesSecond, NumberAfter, Parted}
 use Rattle.sip_verdict.proofs.SplitLemmas.{Lacks, Lacks-append, Lacks-word, cut-one, part-one}
 use Rattle.sip_verdict.proofs.FrontLemmas.{line-held, line-none}
 use Rattle.sip_verdict.proofs.NumberLemmas.{IsNumber-no_space, IsNumber-no_line_feed, IsNumber-one, IsNumber-short}

@@ -1,5 +1,5 @@
 -- Each input has a log.
-use Rattle.std.proofs.Common.{◌≡◌, ◌≢◌, ◌⊎◌, inl, inr, ℕ, zero, suc, ◌+◌, ◌<◌, ◌≤◌, List, [], ◌∷◌, ◌++◌, length, take, drop, get_or, refl, subst, sym, ap, ◌∙◌, arith, append_assoc}
+use Rattle.std.proofs.Common.{◌≡◌, ◌≢◌, ◌⊎◌, inl, inr, ℕ, zero, suc, ◌+◌, ◌<◌, ◌≤◌, List, [], ◌∷◌, ◌++◌, length, take, drop, get_or, refl, subst, sym, ap, ◌∙◌, arith}
 use Rattle.std.specs.Prelude.{codes}
 use Rattle.std.specs.Char.{digit_value}
 use Rattle.std.specs.Str.Parse.{AllDigits, digits_value}
@@ -14,12 +14,12 @@ use Rattle.sip_verdict.specs.Number.{IsNumber, digit_zero}
 use Rattle.sip_verdict.specs.Line.{line_feed, space, letter, longest_line, Numbers, Head, message, mark, HeadLine, IsWithinLimits, moment_of, FrontLine}
 use Rattle.sip_verdict.specs.Next.{Next, ends, gives, stops, Unless}
 use Rattle.sip_verdict.specs.Header.{TimesLine, TimesFront, Header, NoHeader, NumberAfter, Parted}
-use Rattle.sip_verdict.specs.Entry.{Item, AtClose, AtMessage, AtBody, AtMoment, AtHead, AtFront, AtLine, ComesNext, most_entries}
+use Rattle.sip_verdict.specs.Entry.{Item, AtMessage, AtBody, AtLine, ComesNext, most_entries}
 use Rattle.sip_verdict.specs.Log.{LogEnd, Clean, Stops, Follow, Log, Faulty, Holds, IsLogOf}
 use Rattle.sip_verdict.proofs.SplitLemmas.{Lacks, Lacks-cons, Lacks-cut, Cut, cut-one, cut-at}
 use Rattle.sip_verdict.proofs.LineLemmas.{Numbers-parts, Numbers-of}
 use Rattle.sip_verdict.proofs.LogLaws.{TimesLine-one}
-use Rattle.sip_verdict.proofs.HeaderLemmas.{TimesParts, TimesLine-parts, TimesLine-of, TimesLine-lacks, NumberAfter-part, NumberAfter-of, t2-after, t4-after, tolerance-after, none-after, times-after, title}
+use Rattle.sip_verdict.proofs.HeaderLemmas.{TimesParts, TimesLine-parts, TimesLine-of, TimesLine-lacks, NumberAfter-part, NumberAfter-of, t2-after, t4-after, tolerance-after, none-after, title}
 
 -- it holds or not
 abbrev Settled : Type 0 → Type 0

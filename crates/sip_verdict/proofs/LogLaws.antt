@@ -1,18 +1,18 @@
 -- An input has one log.
-use Rattle.std.proofs.Common.{◌≡◌, ◌≢◌, ◌⊎◌, inl, inr, ℕ, suc, ◌+◌, ◌<◌, ◌≤◌, List, [], ◌∷◌, ◌++◌, length, get_or, drop, if◌then◌else◌, ◌==◌, refl, subst, sym, ap, ◌∙◌, arith}
+use Rattle.std.proofs.Common.{◌≡◌, ◌≢◌, inl, inr, ℕ, ◌+◌, List, [], ◌∷◌, ◌++◌, length, get_or, drop, if◌then◌else◌, ◌==◌, refl, subst, sym, ap, ◌∙◌, arith}
 use Rattle.std.proofs.lemmas.List.{append_cancel_left}
 use Rattle.sip_machine.specs.Times.{Times}
 use Rattle.sip_machine.specs.declared.event.Action.{Action}
 use Rattle.sip_machine.specs.declared.event.Action.TheVariants.{Sent, Received, Failed, Mark}
 use Rattle.sip_verdict.specs.declared.log_reason.LogReason.{LogReason}
 use Rattle.sip_verdict.specs.Line.{line_feed, space, letter, Numbers, Head, message, mark, HeadLine, FrontLine}
-use Rattle.sip_verdict.specs.Next.{Next, ends, gives, stops, Unless}
-use Rattle.sip_verdict.specs.Header.{TimesLine, TimesFront, Header, NoHeader}
-use Rattle.sip_verdict.specs.Entry.{Item, AtClose, AtMessage, AtBody, AtMoment, AtHead, AtFront, AtLine, ComesNext}
+use Rattle.sip_verdict.specs.Next.{Next, gives, Unless}
+use Rattle.sip_verdict.specs.Header.{TimesLine, Header}
+use Rattle.sip_verdict.specs.Entry.{Item, AtClose, AtMessage, AtBody, AtHead, AtFront, AtLine, ComesNext}
 use Rattle.sip_verdict.specs.Log.{LogEnd, Clean, Stops, next_at, Follow, Log, Faulty, Holds, IsLogOf}
 use Rattle.sip_verdict.proofs.SplitLemmas.{cut-one}
 use Rattle.sip_verdict.proofs.NumberLemmas.{IsNumber-no_space, IsNumber-one}
-use Rattle.sip_verdict.proofs.HeaderLemmas.{TimesParts, TimesLine-parts, TimesLine-lacks, times-after, title}
+use Rattle.sip_verdict.proofs.HeaderLemmas.{TimesLine-parts, TimesLine-lacks, times-after, title}
 
 -- Line 2 and the header.
 

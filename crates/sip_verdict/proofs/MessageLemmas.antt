@@ -1,5 +1,5 @@
 -- A message and the byte behind it, by what is held of them.
-use Rattle.std.proofs.Common.{◌≡◌, ◌≢◌, inl, inr, ℕ, ◌+◌, ◌<◌, ◌≤◌, List, [], ◌∷◌, ◌++◌, length, take, drop, get_or, refl, sym, ap, ◌∙◌, arith}
+use Rattle.std.proofs.Common.{◌≡◌, ◌≢◌, inl, inr, ℕ, ◌+◌, ◌<◌, List, ◌++◌, length, take, drop, get_or, refl, ap, arith}
 use Rattle.std.proofs.lemmas.List.{length-take-le, length-append}
 use Rattle.sip_machine.specs.declared.event.Action.{Action}
 use Rattle.sip_verdict.specs.declared.log_reason.LogReason.TheVariants as reasons

@@ -10,39 +10,36 @@ use Rattle.sip_verdict.specs.Next.{Next, stops}
 use Rattle.sip_verdict.specs.Told.{Says}
 use Rattle.sip_verdict.proofs.ToldLemmas.{told, known}
 
-module _ {B : Type 0} (held held2 : List ℕ) (left left2 : Option (List ℕ)) (before : Bool) (P : List ℕ → Next B → Type 0) where
+module _ {B : Type 0} {held held2 : List ℕ} {left left2 : Option (List ℕ)} {before mid : Bool} (reads : Reads held held2 left left2 before mid)
+    (P : List ℕ → Next B → Type 0) where
   -- a value, with the rest of what was held and what is left behind it
-  pub Says-value : (rest : List ℕ) (after : Bool) (next : List ℕ → Next B) → Reads held held2 left left2 → after ≡ before
-      → ((ys : List ℕ) → left2 ≡ Some ys → P (held2 ++ ys) (next (rest ++ ys)))
-      → (after ≡ before) × IfSome (prepend_known held left) (λ xs. (ys : List ℕ) × (prepend_known rest left2 ≡ Some ys) × P xs (next ys))
-  Says-value rest after next reads fine fact = (
-    fine,
-    told held held2 left left2 (λ xs. (ys : List ℕ) × (prepend_known rest left2 ≡ Some ys) × P xs (next ys)) reads
+  pub Says-value : (rest : List ℕ) (next : List ℕ → Next B) → ((ys : List ℕ) → left2 ≡ Some ys → P (held2 ++ ys) (next (rest ++ ys)))
+      → (mid ≡ before) × IfSome (prepend_known held left) (λ xs. (ys : List ℕ) × (prepend_known rest left2 ≡ Some ys) × P xs (next ys))
+  Says-value rest next fact = (
+    reads.fine,
+    told reads (λ xs. (ys : List ℕ) × (prepend_known rest left2 ≡ Some ys) × P xs (next ys))
         (λ ys is. (rest ++ ys, ap (prepend_known rest) is, fact ys is)),
   )
 
   -- a fault of the log
-  pub Says-fault : (after : Bool) (reason : LogReason) → Reads held held2 left left2 → after ≡ before
-      → ((ys : List ℕ) → left2 ≡ Some ys → P (held2 ++ ys) (stops reason))
-      → (after ≡ before) × IfSome (prepend_known held left) (λ xs. P xs (stops reason))
-  Says-fault after reason reads fine fact = (fine, told held held2 left left2 (λ xs. P xs (stops reason)) reads fact)
+  pub Says-fault : (reason : LogReason) → ((ys : List ℕ) → left2 ≡ Some ys → P (held2 ++ ys) (stops reason))
+      → (mid ≡ before) × IfSome (prepend_known held left) (λ xs. P xs (stops reason))
+  Says-fault reason fact = (reads.fine, told reads (λ xs. P xs (stops reason)) fact)
 
   -- what the rest of a call says of the bytes behind, it says of those in front
-  pub Says-step : {A : Type 0} (rest : List ℕ) (new : Option (List ℕ)) (mid after : Bool) (Q : List ℕ → Next B → Type 0) (seen : A → List ℕ → Next B)
-      (r : Result A LogError) → Reads held held2 left left2 → mid ≡ before
-      → ((ys : List ℕ) (n : Next B) → left2 ≡ Some ys → Q (rest ++ ys) n → P (held2 ++ ys) n)
+  pub Says-step : {A : Type 0} (rest : List ℕ) (new : Option (List ℕ)) (after : Bool) (Q : List ℕ → Next B → Type 0) (seen : A → List ℕ → Next B)
+      (r : Result A LogError) → ((ys : List ℕ) (n : Next B) → left2 ≡ Some ys → Q (rest ++ ys) n → P (held2 ++ ys) n)
       → Says (prepend_known rest left2) new mid after Q seen r → Says (prepend_known held left) new before after P seen r
-  Says-step rest new mid after Q seen (Ok a) reads fine step says = (
-    says.0 ∙ fine,
-    told held held2 left left2 (λ xs. (zs : List ℕ) × (new ≡ Some zs) × P xs (seen a zs)) reads
+  Says-step rest new after Q seen (Ok a) step says = (
+    says.0 ∙ reads.fine,
+    told reads (λ xs. (zs : List ℕ) × (new ≡ Some zs) × P xs (seen a zs))
         (λ ys is.
         let behind = known rest left2 ys (λ xs. (zs : List ℕ) × (new ≡ Some zs) × Q xs (seen a zs)) is says.1 in
         (behind.0, behind.1, step ys (seen a behind.0) is behind.2)),
   )
-  Says-step rest new mid after Q seen (Err (Fault reason)) reads fine step says = (
-    says.0 ∙ fine,
-    told held held2 left left2 (λ xs. P xs (stops reason)) reads
-        (λ ys is. step ys (stops reason) is (known rest left2 ys (λ xs. Q xs (stops reason)) is says.1)),
+  Says-step rest new after Q seen (Err (Fault reason)) step says = (
+    says.0 ∙ reads.fine,
+    told reads (λ xs. P xs (stops reason)) (λ ys is. step ys (stops reason) is (known rest left2 ys (λ xs. Q xs (stops reason)) is says.1)),
   )
-  Says-step rest new mid after Q seen (Err Io) reads fine step says = says
-  Says-step rest new mid after Q seen (Err Memory) reads fine step says = tt
+  Says-step rest new after Q seen (Err Io) step says = says
+  Says-step rest new after Q seen (Err Memory) step says = tt

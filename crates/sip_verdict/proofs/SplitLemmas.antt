@@ -1,5 +1,5 @@
 -- A list at the first place where a byte stands.
-use Rattle.std.proofs.Common.{◌≡◌, ◌≢◌, ◌⊎◌, inl, inr, Option, unwrap_or, subst, ℕ, zero, suc, ◌+◌, ◌-◌, ◌<◌, ◌≤◌, List, [], ◌∷◌, ◌++◌, length, take, drop, get_or, Some, None, true, not, ◌==◌, refl, sym, ap, ◌∙◌, arith, drop-cons, add-one, append_assoc}
+use Rattle.std.proofs.Common.{◌≡◌, ◌≢◌, ◌⊎◌, inl, inr, Option, unwrap_or, subst, ℕ, zero, suc, ◌+◌, ◌<◌, ◌≤◌, List, [], ◌∷◌, ◌++◌, length, take, drop, get_or, Some, None, true, not, ◌==◌, refl, sym, ap, ◌∙◌, arith, drop-cons, add-one, append_assoc}
 use Rattle.std.proofs.lemmas.List.{take-append-drop, get_or-take, length-take, length-append, append-nil, append_cancel_left}
 use Rattle.std.proofs.Math.Seq.{get_or-append_seam, take-length, drop-length}
 use borrow.Author.Tests.{eq-eqb, eqb-true}

@@ -54,10 +54,6 @@ module _ {X : Type 0} (r : Rules X) where
     λ g. record { before = g.before; among = (same g.before).1 g.among; takes = g.takes },
   )
 
-  -- where one stands after a wait one can wait until then
-  pub Wait-waits : (S : X → Type 0) (h m : ℕ) (y : X) → Wait r S h m y → Waits r y m
-  Wait-waits S h m y w = w.stands.waits
-
 module _ {X : Type 0} (r : Rules X) (lawful : IsLawful r) where
   -- an end is a wait
   pub Wait-end : (S : X → Type 0) (h m : ℕ) (y : X) → EndsFrom r S h m y → Wait r S h m y

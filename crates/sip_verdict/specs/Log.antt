@@ -1,4 +1,4 @@
-use Rattle.std.specs.Prelude.{◌≡◌, ◌+◌, ℕ, List, [], ◌∷◌}
+use Rattle.std.specs.Prelude.{◌+◌, ℕ, List, [], ◌∷◌}
 use Rattle.sip_machine.specs.Times.{Times}
 use Rattle.sip_verdict.specs.declared.log_reason.LogReason.{LogReason}
 use Rattle.sip_verdict.specs.Next.{Next, ends, gives, stops}

@@ -1,4 +1,4 @@
-use Rattle.std.specs.Prelude.{◌≡◌, ◌+◌, ◌≤◌, ℕ, Bool, true, List, [], length, Option, Some, None, Result, Ok, Err, IfSome}
+use Rattle.std.specs.Prelude.{◌≡◌, ◌≤◌, ℕ, Bool, true, List, length, Option, Some, None, Result, Ok, Err, IfSome}
 use Rattle.sip_machine.specs.Times.{last_moment}
 use Rattle.sip_verdict.specs.declared.entry.Entry.{Entry}
 use Rattle.sip_verdict.specs.declared.log_error.LogError.{LogError}

@@ -12,10 +12,12 @@ ghost use Rattle.sip_verdict.specs.Ways.{until_of};
 mod each_once;
 mod ends;
 mod steps;
+#[cfg(test)]
+mod tests;
 
 use crate::state_set::each_once::keep_each_once;
-use crate::state_set::ends::advance;
-use crate::state_set::steps::steps;
+use crate::state_set::ends::advance_states;
+use crate::state_set::steps::given_states;
 use sip_machine::{Book, Event, PlainClient, PlainState};
 use std::alloc::{AllocError, Global};
 use std::marker::Model;
@@ -89,7 +91,7 @@ impl StateSet {
         ensures one_more { OnOk result (length self.new.states ≤ length self.old.states + 1) }
         ensures err { OnErr result (self.new ≡ self.old) }
     {
-        advance(&self.machine, &mut self.states, self.moment, moment)?;
+        advance_states(&self.machine, &mut self.states, self.moment, moment)?;
         self.moment = moment;
         Ok(())
     }
@@ -112,7 +114,7 @@ impl StateSet {
     {
         book.known();
         let alloc = *self.states.allocator();
-        let mut found = steps(alloc, &self.machine, book, &self.states, self.moment, event)?;
+        let mut found = given_states(alloc, &self.machine, book, &self.states, self.moment, event)?;
         keep_each_once(&mut found);
         if found.len() > WIDEST {
             return Err(TakeError::TooMany);

@@ -68,10 +68,10 @@ impl Window {
 
     /// Reads once into the room behind what is held, and answers how many bytes came.
     fn read_from<R: Source>(&mut self, source: &mut R) -> Result<usize, Broken>
-        ensures reads { OnOk result (Reads (items self.old) (items self.new) (R.left source.old) (R.left source.new)) }
+        ensures reads { OnOk result (Reads (items self.old) (items self.new) (R.left source.old) (R.left source.new)
+            (R.has_failed source.old) (R.has_failed source.new)) }
         ensures count { IfOk result (λ n. length (items self.new) ≡ length (items self.old) + n) }
         ensures end { IfOk result (λ n. n ≡ 0 → self.old.end < window_size → (items self.new ≡ items self.old) × IsAtEnd (R.left source.new)) }
-        ensures fine { OnOk result (R.has_failed source.new ≡ R.has_failed source.old) }
         ensures broken { OnErr result (R.has_failed source.new ≡ true) }
     {
         let end = self.end;
@@ -83,10 +83,10 @@ impl Window {
     /// Reads once. False at the end of the source.
     fn more<R: Source>(&mut self, source: &mut R) -> Result<bool, Broken>
         requires { length (items self.old) < window_size }
-        ensures reads { OnOk result (Reads (items self.old) (items self.new) (R.left source.old) (R.left source.new)) }
+        ensures reads { OnOk result (Reads (items self.old) (items self.new) (R.left source.old) (R.left source.new)
+            (R.has_failed source.old) (R.has_failed source.new)) }
         ensures some { IfOk result (λ some. some ≡ true → length (items self.old) < length (items self.new)) }
         ensures none { IfOk result (λ some. some ≡ false → (items self.new ≡ items self.old) × IsAtEnd (R.left source.new)) }
-        ensures fine { OnOk result (R.has_failed source.new ≡ R.has_failed source.old) }
         ensures broken { OnErr result (R.has_failed source.new ≡ true) }
     {
         if self.end == SIZE {
@@ -99,10 +99,10 @@ impl Window {
     /// Reads until `count` bytes are held; false where the source ends before.
     pub(crate) fn hold<R: Source>(&mut self, source: &mut R, count: usize) -> Result<bool, Broken>
         requires { count ≤ window_size }
-        ensures reads { OnOk result (Reads (items self.old) (items self.new) (R.left source.old) (R.left source.new)) }
+        ensures reads { OnOk result (Reads (items self.old) (items self.new) (R.left source.old) (R.left source.new)
+            (R.has_failed source.old) (R.has_failed source.new)) }
         ensures some { IfOk result (λ some. some ≡ true → count ≤ length (items self.new)) }
         ensures none { IfOk result (λ some. some ≡ false → (length (items self.new) < count) × IsAtEnd (R.left source.new)) }
-        ensures fine { OnOk result (R.has_failed source.new ≡ R.has_failed source.old) }
         ensures broken { OnErr result (R.has_failed source.new ≡ true) }
     {
         while self.as_slice().len() < count {
@@ -130,11 +130,11 @@ impl Window {
         most: usize,
     ) -> Result<Option<usize>, Broken>
         requires { most ≤ window_size }
-        ensures reads { OnOk result (Reads (items self.old) (items self.new) (R.left source.old) (R.left source.new)) }
+        ensures reads { OnOk result (Reads (items self.old) (items self.new) (R.left source.old) (R.left source.new)
+            (R.has_failed source.old) (R.has_failed source.new)) }
         ensures within { IfOk result (λ at. IfSome at (λ n. (n < length (items self.new)) × (n < most))) }
         ensures first { IfOk result (λ at. IsFirstByte (is_byte line_feed) (take most (items self.new)) at) }
         ensures none { IfOk result (λ at. at ≡ None → (most ≤ length (items self.new)) ⊎ IsAtEnd (R.left source.new)) }
-        ensures fine { OnOk result (R.has_failed source.new ≡ R.has_failed source.old) }
         ensures broken { OnErr result (R.has_failed source.new ≡ true) }
     {
         loop {

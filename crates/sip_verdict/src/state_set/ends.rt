@@ -56,7 +56,7 @@ pub fn keep_waiting(machine: &PlainClient, states: &mut Vec<PlainState>, moment:
 }
 
 /// Lets the states wait: those that can stay, and the ended one where one of them can end.
-pub fn advance(
+pub fn advance_states(
     machine: &PlainClient,
     states: &mut Vec<PlainState>,
     from: u64,

@@ -11,7 +11,7 @@ use std::alloc::{AllocError, Global};
 
 /// The states that the event gives from those in which one can stand at its moment, after standing
 /// in one of `states` at `from`; some may be there more than once.
-pub fn steps(
+pub fn given_states(
     alloc: Global,
     machine: &PlainClient,
     book: &Book,

@@ -1,4 +1,4 @@
-use Rattle.std.proofs.Common.{◌≡◌, ◌<◌, ◌+◌, List, ℕ, length, take, drop, get_or, arith, ap, sym, ◌∙◌}
+use Rattle.std.proofs.Common.{◌<◌, ◌+◌, List, ℕ, length, take, drop, get_or, arith, ap, sym, ◌∙◌}
 use Rattle.sip_verdict.specs.declared.log_reason.LogReason.TheVariants as reasons
 use Rattle.sip_verdict.specs.Next.{gives}
 use Rattle.sip_verdict.specs.Entry.{AtMessage}
@@ -14,7 +14,7 @@ returns-then-held-len-ne10-clause-says g c =
     let held = items c.hold.new.self in
     let inside : len < length held = omega (arith, hold.some) in
     let byte = ap (λ (t : List ℕ). get_or t len 0) c.as_slice-held.ensures.value in
-    Says-fault _ held _ _ _ (AtMessage c.args.action c.args.moment len) _ reasons.EntryLine hold.reads hold.fine
+    Says-fault hold.reads (AtMessage c.args.action c.args.moment len) reasons.EntryLine
     (λ ys left. AtMessage-open c.args.action c.args.moment len held ys inside (λ same. c.if-held-len-ne10.true (byte ∙ same)))
 
 pub returns-clause-says : goal.returns-clause-says
@@ -26,6 +26,6 @@ returns-clause-says g c =
     let byte = ap (λ (t : List ℕ). get_or t len 0) c.as_slice-held.ensures.value in
     let text = c.in_ok-bytes.ensures.items_if_clones_equal (λ x y same. same) ∙ ap (take len) c.as_slice-held.ensures.value in
     rw c.consume.ensures
-    (Says-value _ held _ _ _ (AtMessage c.args.action c.args.moment len) (drop (len + 1) held) _
-    (λ behind. gives (record { action = c.args.action; moment = c.args.moment; text = c.in_ok-bytes.bytes.items }) behind) hold.reads hold.fine
+    (Says-value hold.reads (AtMessage c.args.action c.args.moment len) (drop (len + 1) held)
+    (λ behind. gives (record { action = c.args.action; moment = c.args.moment; text = c.in_ok-bytes.bytes.items }) behind)
     (λ ys left. AtMessage-gives c.args.action c.args.moment len held ys _ inside (sym byte ∙ c.if-held-len-ne10.false) text))

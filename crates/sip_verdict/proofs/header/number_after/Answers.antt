@@ -1,10 +1,9 @@
-use Rattle.std.proofs.Common.{◌≡◌, ◌++◌, List, ℕ, length, take, drop, unwrap_or, None, Some, sym, ap, ◌∙◌}
+use Rattle.std.proofs.Common.{◌++◌, List, ℕ, take, drop, None, Some, sym, ap, ◌∙◌}
 use Rattle.std.proofs.lemmas.List.{take_rest, take-append-drop}
 use Rattle.std.proofs.lemmas.Bool.Decides.{Decides-eqb}
 use Rattle.std.proofs.lemmas.Slice.Eq.{strip_prefix_is}
 use Rattle.sip_verdict.specs.Line.{space}
-use Rattle.sip_verdict.specs.Header.{Parted}
-use Rattle.sip_verdict.proofs.SplitLemmas.{Lacks, part-found}
+use Rattle.sip_verdict.proofs.SplitLemmas.{part-found}
 use Rattle.sip_verdict.proofs.HeaderLemmas.{NumberAfter-part, NumberAfter-of}
 use Rattle.sip_verdict.proofs.header.number_after.Goals as goal
 

@@ -1,4 +1,4 @@
-use Rattle.std.proofs.Common.{◌≡◌, ◌++◌, length, drop, sym, false, true, refl}
+use Rattle.std.proofs.Common.{length, drop, sym, false, true, refl}
 use Rattle.std.proofs.lemmas.Bool.Decides.{Decides-eqb}
 use Rattle.std.proofs.lemmas.Slice.Eq.{starts_is}
 use mathlib.Core.Bool.{true≢false}
@@ -15,7 +15,7 @@ returns-then-not-starts_with g c =
     let hold = c.in_ok-hold.ensures in
     let held = items c.hold.new.self in
     let test = rw c.as_slice.ensures.value at c.if-not-starts_with.ensures.value in
-    Says-fault _ held _ _ _ ComesFirst _ reasons.Header hold.reads hold.fine
+    Says-fault hold.reads ComesFirst reasons.Header
     (λ ys left. ComesFirst-other held ys (hold.some c.if-not-branch.false)
     (λ same. true≢false (sym ((starts_is Decides-eqb held title false test).1 (drop (length title) held) same))))
 
@@ -25,6 +25,6 @@ returns g c =
     let held = items c.hold.new.self in
     let test = rw c.as_slice.ensures.value at c.if-not-starts_with.ensures.value in
     let front = (starts_is Decides-eqb held title true test).0 refl in
-    Says-step _ held _ _ _ ComesFirst (drop (length title) held) _ _ _ ComesSecond gives c.read_second.result hold.reads hold.fine
+    Says-step hold.reads ComesFirst (drop (length title) held) _ _ ComesSecond gives c.read_second.result
     (λ ys next left behind. ComesFirst-second held ys next front behind)
     (rw (← c.consume.ensures) c.read_second.ensures)

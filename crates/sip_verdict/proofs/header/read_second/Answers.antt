@@ -1,5 +1,4 @@
-use Rattle.std.proofs.Common.{◌≡◌, ◌+◌, inl, inr, List, ℕ, [], length, drop, sym}
-use Rattle.std.proofs.lemmas.List.{length-append}
+use Rattle.std.proofs.Common.{◌+◌, inl, inr, drop}
 use Rattle.sip_verdict.specs.declared.log_reason.LogReason.TheVariants as reasons
 use Rattle.sip_verdict.specs.Header.{ComesSecond}
 use Rattle.sip_verdict.specs.Next.{gives}
@@ -13,7 +12,7 @@ pub returns-in_default : goal.returns-in_default
 returns-in_default g c =
     let line = c.in_ok-len.ensures in
     let held = items c.line_len.new.self in
-    Says-fault _ held _ _ _ ComesSecond _ reasons.Header line.reads line.fine
+    Says-fault line.reads ComesSecond reasons.Header
     (λ ys left. ComesSecond-none held ys (rw c.in_default.is at line.first)
     (elim (line.none c.in_default.is) [ inl many ↦ inl many | inr end ↦ inr (none_left _ ys left end) ]))
 
@@ -21,7 +20,7 @@ pub returns-in_default-read_times : goal.returns-in_default-read_times
 returns-in_default-read_times g c =
     let line = c.in_ok-len.ensures in
     let held = items c.line_len.new.self in
-    Says-fault _ held _ _ _ ComesSecond _ reasons.Header line.reads line.fine
+    Says-fault line.reads ComesSecond reasons.Header
     (λ ys left. ComesSecond-other held ys c.in-Some.len (rw c.in-Some.is at line.first)
     (rw c.as_slice.ensures.value at c.in_default-read_times.ensures))
 
@@ -31,5 +30,5 @@ returns g c =
     let held = items c.line_len.new.self in
     let times = rw c.as_slice.ensures.value at c.in-Some-read_times.ensures in
     rw c.consume.ensures
-    (Says-value _ held _ _ _ ComesSecond (drop (c.in-Some.len + 1) held) _ (gives c.in-Some-read_times.times) line.reads line.fine
+    (Says-value line.reads ComesSecond (drop (c.in-Some.len + 1) held) (gives c.in-Some-read_times.times)
     (λ ys left. ComesSecond-times held ys c.in-Some.len (rw c.in-Some.is at line.first) _ times.0 times.1))

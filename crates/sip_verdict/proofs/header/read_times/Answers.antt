@@ -1,10 +1,10 @@
-use Rattle.std.proofs.Common.{◌≡◌, ◌≢◌, [], ap, length, subst, sym}
+use Rattle.std.proofs.Common.{◌≡◌, [], ap, length, subst, sym}
 use Rattle.std.specs.Prelude.{codes}
 use Rattle.std.proofs.lemmas.Bool.{eqb-true, eqb-false}
 use Rattle.std.proofs.lemmas.List.{nil_from_length}
 use Rattle.sip_machine.specs.Times.{Times}
 use Rattle.sip_verdict.specs.Header.{NumberAfter}
-use Rattle.sip_verdict.proofs.HeaderLemmas.{TimesParts, TimesLine-parts, TimesLine-of, t2-after, t4-after, tolerance-after, none-after, times-after, cut_times, times-read}
+use Rattle.sip_verdict.proofs.HeaderLemmas.{TimesParts, TimesLine-parts, TimesLine-of, t2-after, t4-after, tolerance-after, none-after, times-after, times-read}
 use Rattle.sip_verdict.proofs.header.read_times.Goals as goal
 
 pub returns-in_err-t1 : goal.returns-in_err-t1

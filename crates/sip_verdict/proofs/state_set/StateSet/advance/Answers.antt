@@ -12,6 +12,6 @@ use Rattle.sip_verdict.proofs.state_set.StateSet.advance.Goals as goal
 pub returns-clause-states : goal.returns-clause-states
 returns-clause-states c = λ texts book known.
     let set = c.args.self.now in
-    let advances = subst (λ (s : Held Times PlainState). Advances PlainInRange (window_of s.machine) (until_of s.machine) Ended s.moment c.args.moment s.states c.advance.new.states.items) c.self.view_is c.in_ok-advance.ensures.advances in
+    let advances = subst (λ (s : Held Times PlainState). Advances PlainInRange (window_of s.machine) (until_of s.machine) Ended s.moment c.args.moment s.states c.advance_states.new.states.items) c.self.view_is c.in_ok-advance_states.ensures.advances in
     advances_stand plain_names PlainInRange plain_seen (plain_rules set.machine) Ended (window_of set.machine) (until_of set.machine) (plain_follows set.machine) texts
-    set.moment c.args.moment c.requires set.states book c.advance.new.states.items known advances
+    set.moment c.args.moment c.requires set.states book c.advance_states.new.states.items known advances

@@ -13,8 +13,8 @@ use Rattle.sip_verdict.proofs.PlainFollows.{plain_follows}
 use Rattle.sip_verdict.proofs.state_set.StateSet.take.Goals as goal
 use Rattle.sip_verdict.proofs.state_set.StateSet.take.Goals.{After-len}
 
-pub steps-requires-clause-known : goal.steps-requires-clause-known
-steps-requires-clause-known c =
+pub given_states-requires-clause-known : goal.given_states-requires-clause-known
+given_states-requires-clause-known c =
     rw c.deref.ensures.value (subst (λ (s : Held Times PlainState). All (Knows plain_names c.args.book.now) s.states) (sym c.self.view_is) c.requires.known)
 
 -- each state found once, they are what the event gives

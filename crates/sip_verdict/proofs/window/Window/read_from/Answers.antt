@@ -21,6 +21,7 @@ returns-clause-reads g c =
           ∙ grown bytes buf w.start w.end (length bytes - w.end) n w.ordered within fills.0
           ∙ ap (λ (t : List ℕ). slice_range t w.start w.end ++ take n buf) c.deref_mut.ensures.value;
       left_is = fills.1;
+      fine = c.in_ok-count.ensures.ok;
     }
 
 pub returns-clause-end : goal.returns-clause-end

@@ -9,8 +9,8 @@ use Rattle.sip_verdict.specs.Ways.{window_of, until_of}
 use Rattle.sip_verdict.proofs.Advancing.{within_told}
 use Rattle.sip_verdict.proofs.Stepping.{gives_more, gives_same, gives_stayed, gives_ended}
 use Rattle.sip_verdict.proofs.PlainFollows.{plain_follows}
-use Rattle.sip_verdict.proofs.state_set.steps.steps.Goals as goal
-use Rattle.sip_verdict.proofs.state_set.steps.steps.Goals.{then-is_within+in_ok-successors, else-is_within, then-some_can_end+in_ok-successors-2, else-some_can_end}
+use Rattle.sip_verdict.proofs.state_set.steps.given_states.Goals as goal
+use Rattle.sip_verdict.proofs.state_set.steps.given_states.Goals.{then-is_within+in_ok-successors, else-is_within, then-some_can_end+in_ok-successors-2, else-some_can_end}
 
 pub successors-requires-clause-known : goal.successors-requires-clause-known
 successors-requires-clause-known c = All-get_or (Knows plain_names c.args.book.now) c.args.states.now _ _ (omega arith) c.requires.known

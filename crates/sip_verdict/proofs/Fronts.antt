@@ -1,6 +1,6 @@
 -- Entries that an input begins with, one more at a time.
 use Rattle.std.proofs.Common.{◌≡◌, ◌⊎◌, inl, inr, ℕ, ◌+◌, List, [], ◌∷◌, ◌++◌, refl, sym, ap, ◌∙◌, subst}
-use Rattle.sip_verdict.specs.Next.{Next, gives}
+use Rattle.sip_verdict.specs.Next.{gives}
 use Rattle.sip_verdict.specs.Entry.{Item, ComesNext}
 use Rattle.sip_verdict.specs.Log.{LogEnd, next_at, Follow}
 use Rattle.sip_verdict.proofs.LogLaws.{ComesNext-one, next_at-not_gives}

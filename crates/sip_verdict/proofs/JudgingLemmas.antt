@@ -1,5 +1,5 @@
 -- How the entries that were read tell of the input.
-use Rattle.std.proofs.Common.{◌≡◌, ◌≤◌, ◌⊎◌, inl, inr, ℕ, ◌+◌, Bool, Result, IfOk, Option, Some, None, IfSome, All, arith, List, [], ◌∷◌, ◌++◌, length, map, refl, sym, ap, ◌∙◌, subst}
+use Rattle.std.proofs.Common.{◌≡◌, ◌≤◌, inl, inr, ℕ, ◌+◌, Bool, Result, IfOk, Option, Some, None, IfSome, All, arith, List, [], ◌∷◌, ◌++◌, length, refl, sym, ap, ◌∙◌, subst}
 use Rattle.std.proofs.lemmas.List.{length-map, length_push}
 use Rattle.std.proofs.lemmas.List.Elements.{All-nil}
 use Rattle.sip_machine.specs.Times.{Times}
@@ -16,8 +16,8 @@ use Rattle.sip_verdict.specs.declared.log_reason.LogReason.{LogReason}
 use Rattle.sip_verdict.specs.declared.log_reason.LogReason.TheVariants as reasons
 use Rattle.sip_verdict.specs.declared.verdict.Verdict.{Verdict}
 use Rattle.sip_verdict.specs.declared.verdict.Verdict.TheVariants.{Legal, LogFault}
-use Rattle.sip_verdict.specs.Next.{Next, ends, gives, stops}
-use Rattle.sip_verdict.specs.Header.{Header, NoHeader, ComesFirst}
+use Rattle.sip_verdict.specs.Next.{ends, gives, stops}
+use Rattle.sip_verdict.specs.Header.{Header, ComesFirst}
 use Rattle.sip_verdict.specs.Entry.{Item, ComesNext}
 use Rattle.sip_verdict.specs.Log.{LogEnd, Clean, Stops, next_at, Follow, Log, Faulty, Holds, IsLogOf}
 use Rattle.sip_verdict.specs.Key.{PlainKey}
@@ -26,7 +26,7 @@ use Rattle.sip_verdict.specs.Verdicts.{IsGood, IsFirstTrouble}
 use Rattle.sip_verdict.specs.Saying.{plain_machines, IsSaid}
 use Rattle.sip_verdict.specs.Told.{FailsAs, item, Continues}
 use Rattle.sip_verdict.specs.Standing.{IsReady, Stands, MayTake, IsJudged}
-use Rattle.sip_verdict.specs.VerdictOf.{AreSaid, verdict_at, EndsInTrouble, EndsInNone, IsVerdictOf}
+use Rattle.sip_verdict.specs.VerdictOf.{AreSaid, verdict_at, IsVerdictOf}
 use Rattle.sip_verdict.specs.Judging
 use Rattle.sip_verdict.specs.Judging.{IsJudgedFrom}
 use Rattle.sip_verdict.proofs.Unique.{good-nil}

@@ -1,7 +1,6 @@
 -- The keys of entries, and the events of a key, with one entry more.
-use Rattle.std.proofs.Common.{◌≡◌, ◌≢◌, ◌⊎◌, inl, inr, ℕ, zero, suc, Bool, true, false, cond, List, [], ◌∷◌, ◌++◌, length, map, All, Contains, refl, sym, ap, ◌∙◌, subst, arith}
+use Rattle.std.proofs.Common.{◌≡◌, zero, suc, Bool, true, false, cond, List, [], ◌∷◌, ◌++◌, Contains, refl, sym, ap, ◌∙◌, arith}
 use Rattle.std.proofs.lemmas.Bool.{false≢true}
-use Rattle.std.proofs.lemmas.List.Elements.{All-nil, All-cons, All-head, All-tail}
 use Rattle.sip_machine.specs.Heard.{Heard}
 use Rattle.sip_verdict.specs.Keyed.{Said, Machines, IsExact, is_among, with_key, with_keys, with_keys_of, keys_of, events_of, moment_of_newest}
 

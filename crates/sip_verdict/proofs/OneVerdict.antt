@@ -1,6 +1,5 @@
 -- An input has one verdict.
 use Rattle.std.proofs.Common.{◌≡◌, ◌⊎◌, inl, inr, ℕ, List, [], ◌∷◌, ◌++◌, refl, sym, ap, ◌∙◌, subst}
-use Rattle.std.specs.List.{AllZip}
 use Rattle.sip_machine.specs.Times.{Times}
 use Rattle.sip_machine.specs.declared.event.Action.{Action}
 use Rattle.sip_machine.specs.declared.event.Action.TheVariants.{Sent, Received, Failed, Mark}
@@ -10,7 +9,7 @@ use Rattle.sip_verdict.specs.Log.{LogEnd, Faulty, Holds, IsLogOf}
 use Rattle.sip_verdict.specs.Key.{PlainKey}
 use Rattle.sip_verdict.specs.Keyed.{Said}
 use Rattle.sip_verdict.specs.Verdicts.{IsGood, IsFirstTrouble}
-use Rattle.sip_verdict.specs.Saying.{plain_machines, said_message, IsSaidOfMessage, IsSaidBy, IsSaid}
+use Rattle.sip_verdict.specs.Saying.{plain_machines, said_message, IsSaidOfMessage, IsSaidBy}
 use Rattle.sip_verdict.specs.VerdictOf.{AreSaid, verdict_at, EndsInTrouble, EndsInNone, IsVerdictOf}
 use Rattle.sip_verdict.proofs.PlainUnique.{plain-one}
 use Rattle.sip_verdict.proofs.LogLaws.{log_is_one}

@@ -2,7 +2,7 @@
 use Rattle.std.proofs.Common.{◌≡◌, ◌+◌, ◌≤◌, ◌<◌, ℕ, zero, suc, Option, Some, None, List, [], ◌∷◌, ◌++◌, All, IfSome, map, length, take, drop, get_or, set, refl, sym, ap, ◌∙◌, subst, arith, append_assoc, add-zero}
 use Rattle.std.specs.Option.{option_or}
 use Rattle.std.proofs.lemmas.List.{map-append, length-map, length-take-le, get_or-drop, drop-drop, drop-set-lt, set_split, take_more_set}
-use Rattle.std.proofs.lemmas.List.Elements.{All-nil, All-push, All-get_or, All-append, All-map, All-weaker}
+use Rattle.std.proofs.lemmas.List.Elements.{All-nil, All-push, All-get_or, All-map, All-weaker}
 use Rattle.sip_machine.specs.Times.{Times}
 use Rattle.sip_machine.specs.Texts.{Texts}
 use Rattle.sip_verdict.specs.declared.transaction.Transaction.{Transaction}
@@ -11,7 +11,7 @@ use Rattle.sip_verdict.specs.Key.{PlainKey}
 use Rattle.sip_verdict.specs.Keyed.{Said, HasRun}
 use Rattle.sip_verdict.specs.Verdicts.{IsFirst, IsTooWide}
 use Rattle.sip_verdict.specs.Saying.{plain_machines}
-use Rattle.sip_verdict.specs.Passing.{KeyGoesOn, IsPassed, IsWideSoFar, SoFar}
+use Rattle.sip_verdict.specs.Passing.{KeyGoesOn, IsPassed, SoFar}
 
 -- the first key of some is the first of more
 pub first-append : {K : Type 0} (P : K → Type 0) (keys more : List K) (n : ℕ) → IsFirst P keys n → IsFirst P (keys ++ more) n

@@ -1,24 +1,22 @@
 -- From the events of one transaction to the entries of a log, one entry more.
-use Rattle.std.proofs.Common.{◌≡◌, ◌↔◌, ℕ, Bool, true, false, cond, Result, IfOk, Option, Some, None, List, [], ◌∷◌, ◌++◌, refl, sym, ap, ◌∙◌, subst, arith}
+use Rattle.std.proofs.Common.{◌≡◌, ℕ, Bool, true, false, cond, Result, IfOk, Option, Some, None, List, [], ◌∷◌, ◌++◌, refl, sym, ◌∙◌, subst, arith}
 use Rattle.std.proofs.lemmas.Bool.{false≢true}
 use Rattle.std.proofs.lemmas.Result.{IfOk-weaker}
 use Rattle.sip_machine.specs.Times.{Times}
 use Rattle.sip_machine.specs.Texts.{Texts}
-use Rattle.sip_machine.specs.Heard.{Heard, heard}
+use Rattle.sip_machine.specs.Heard.{Heard}
 use Rattle.sip_machine.specs.declared.plain_client.PlainState.{PlainState}
 use Rattle.sip_verdict.specs.declared.passing.Noted.{Noted}
 use Rattle.sip_verdict.specs.declared.passing.Passed.{Passed}
 use Rattle.sip_verdict.specs.declared.passing.Passed.TheVariants.{Runs, NoRun, TooWide}
 use Rattle.sip_verdict.specs.Held.{Held}
-use Rattle.sip_verdict.specs.Key.{PlainKey, key_of, same_key}
-use Rattle.sip_verdict.specs.PlainForm.{parts_of}
+use Rattle.sip_verdict.specs.Key.{PlainKey, same_key}
 use Rattle.sip_verdict.specs.Keyed.{Said, IsExact, is_among, events_of, moment_of_newest, HasRun}
-use Rattle.sip_verdict.specs.Verdicts.{IsTooWide}
 use Rattle.sip_verdict.specs.Saying.{plain_machines}
 use Rattle.sip_verdict.specs.Standing.{LeadsTo}
 use Rattle.sip_verdict.specs.Passing.{RunsUntil, IsStepped, IsPassed, said_noted}
 use Rattle.sip_verdict.proofs.KeyLemmas.{same_key-exact}
-use Rattle.sip_verdict.proofs.Keys.{events_of-concerned, events_of-other, moment_of_newest-push, contains-among, among-contains}
+use Rattle.sip_verdict.proofs.Keys.{events_of-concerned, events_of-other, moment_of_newest-push, contains-among}
 
 -- keys are compared exactly
 pub plain_keys_exact : (p : Times) → IsExact (plain_machines p)

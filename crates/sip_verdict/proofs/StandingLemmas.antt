@@ -1,5 +1,5 @@
 -- What stands of a log before and after an entry passes.
-use Rattle.std.proofs.Common.{◌≡◌, ◌≤◌, ◌<◌, ◌+◌, ◌⊎◌, inl, inr, ℕ, Bool, true, false, cond, Result, IfOk, Option, Some, None, List, [], ◌∷◌, ◌++◌, All, Contains, map, length, take, drop, refl, sym, ap, ◌∙◌, subst, arith, length-append}
+use Rattle.std.proofs.Common.{◌≡◌, ◌≤◌, ◌<◌, ◌+◌, ◌⊎◌, inl, inr, ℕ, false, Result, IfOk, Option, Some, None, List, [], ◌∷◌, ◌++◌, All, Contains, map, length, take, drop, refl, sym, ap, ◌∙◌, subst, arith, length-append}
 use Rattle.std.proofs.lemmas.Result.{IfOk-weaker}
 use Rattle.std.proofs.lemmas.List.{map-append, length-map, take_all, append-nil, drop_all}
 use Rattle.std.proofs.lemmas.List.Elements.{All-nil, All-cons, All-map, All-weaker, All-push}
@@ -18,11 +18,11 @@ use Rattle.sip_verdict.specs.declared.verdict.Verdict.TheVariants.{Malformed, Br
 use Rattle.sip_verdict.specs.declared.fault.Fault.{Fault}
 use Rattle.sip_verdict.specs.Key.{PlainKey, same_key}
 use Rattle.sip_verdict.specs.Keyed.{Said, is_among, with_key, with_keys, keys_of, events_of, HasRun}
-use Rattle.sip_verdict.specs.Verdicts.{IsFirst, IsTooWide, AllRun, IsFine, IsTrouble, IsGood, IsFirstTrouble}
+use Rattle.sip_verdict.specs.Verdicts.{IsFirst, IsTooWide, IsGood, IsFirstTrouble}
 use Rattle.sip_verdict.specs.Entry.{Item}
 use Rattle.sip_verdict.specs.PlainForm.{PlainParts, PlainText}
 use Rattle.sip_verdict.specs.Saying.{plain_machines, said_mark, said_message, IsSaidOfMessage, IsSaidBy, IsSaid}
-use Rattle.sip_verdict.specs.Standing.{LeadsTo, IsReady, Stands, StandsBefore, MayTake, IsTouched, IsJudged, new_transaction}
+use Rattle.sip_verdict.specs.Standing.{IsReady, Stands, StandsBefore, MayTake, IsTouched, IsJudged, new_transaction}
 use Rattle.sip_verdict.specs.Passing.{KeyGoesOn}
 use Rattle.sip_verdict.proofs.Keys.{cond_true, cond_false, keys_of-push, new_key, contains-among, not_among}
 use Rattle.sip_verdict.proofs.Leading.{Leads-start, Leads-grow}

@@ -1,10 +1,10 @@
 -- There is at most one verdict on a list of entries.
-use Rattle.std.proofs.Common.{◌≡◌, ◌⊎◌, inl, inr, ◌+◌, ◌≤◌, ◌<◌, ℕ, List, [], ◌∷◌, ◌++◌, length, Option, Some, None, All, Contains, refl, sym, ap, ◌∙◌, subst, arith, append_assoc, length-append}
+use Rattle.std.proofs.Common.{◌≡◌, ◌⊎◌, inl, inr, ◌+◌, ℕ, List, [], ◌∷◌, ◌++◌, length, Some, None, All, Contains, refl, sym, ap, ◌∙◌, subst, arith, append_assoc, length-append}
 use Rattle.std.proofs.lemmas.List.Elements.{All-contains, Contains-append_right}
 use Rattle.sip_verdict.specs.declared.verdict.Verdict.{Verdict}
 use Rattle.sip_verdict.specs.declared.verdict.Verdict.TheVariants.{Legal, Malformed, Breach, Undecided, LogFault}
-use Rattle.sip_verdict.specs.Keyed.{Said, Machines, HasRun, keys_of}
-use Rattle.sip_verdict.specs.Verdicts.{IsFirst, IsTooWide, AllRun, IsFine, IsTrouble, IsGood, IsFirstTrouble}
+use Rattle.sip_verdict.specs.Keyed.{Said, Machines}
+use Rattle.sip_verdict.specs.Verdicts.{IsFirst, IsFine, IsTrouble, IsGood, IsFirstTrouble}
 use Rattle.sip_verdict.proofs.Splitting.{split_compare}
 
 -- what stands in the middle of a list is in it

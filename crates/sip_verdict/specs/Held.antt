@@ -1,4 +1,4 @@
-use Rattle.std.specs.Prelude.{◌≡◌, ◌≢◌, ◌≤◌, ◌+◌, ◌⊎◌, ℕ, Option, List, All, AllPairs, Contains, length}
+use Rattle.std.specs.Prelude.{◌≢◌, ◌≤◌, ◌⊎◌, ℕ, Option, List, All, AllPairs, Contains, length}
 use Rattle.sip_machine.specs.Limits.{IsWithin}
 
 -- what a set of states holds: its machine, its moment, its states

@@ -1,5 +1,4 @@
-use Rattle.std.specs.Prelude.{◌≡◌, ◌≢◌, ◌≤◌, ◌<◌, ◌↔◌, ℕ, Option, Some, None, List, [], ◌∷◌, ◌++◌, length, map, All, AllPairs}
-use Rattle.sip_machine.specs.Limits.{IsWithin}
+use Rattle.std.specs.Prelude.{◌≡◌, ◌≢◌, ◌≤◌, ◌<◌, ℕ, List, [], ◌∷◌, ◌++◌, length, map, All, AllPairs}
 use Rattle.sip_machine.specs.Heard.{Heard}
 use Rattle.sip_machine.specs.Rules.{Rules, Waits, Hide}
 

@@ -2,13 +2,12 @@ use Rattle.std.specs.Prelude.{◌≡◌, ◌≤◌, ◌<◌, ◌⊎◌, ◌++◌
 use Rattle.sip_machine.specs.Times.{Times}
 use Rattle.sip_machine.specs.Texts.{Texts, Keeps}
 use Rattle.sip_machine.specs.Heard.{Heard}
-use Rattle.sip_machine.specs.Rules.{Rules, Knows}
-use Rattle.sip_machine.specs.PlainClient.{PlainPhase, plain_rules, plain_names, plain_seen}
+use Rattle.sip_machine.specs.Rules.{Knows}
+use Rattle.sip_machine.specs.PlainClient.{plain_rules, plain_names, plain_seen}
 use Rattle.sip_machine.specs.declared.plain_client.PlainState.{PlainState}
 use Rattle.sip_machine.specs.declared.plain_client.PlainState.TheVariants.{Idle}
 use Rattle.sip_verdict.specs.declared.transaction.Transaction.{Transaction}
 use Rattle.sip_verdict.specs.declared.verdict.Verdict.{Verdict}
-use Rattle.sip_verdict.specs.Runs.{Run, After, IsWide}
 use Rattle.sip_verdict.specs.Held.{Held}
 use Rattle.sip_verdict.specs.Leads.{Leads}
 use Rattle.sip_verdict.specs.Key.{PlainKey}

@@ -1,7 +1,5 @@
-use Rattle.std.proofs.Common.{◌≡◌, ◌+◌, ◌≤◌, ◌∙◌, Some, None, refl, sym, subst, arith}
-use Rattle.sip_verdict.specs.Told.{Continues}
+use Rattle.std.proofs.Common.{◌+◌, ◌∙◌, refl, sym, subst, arith}
 use Rattle.sip_verdict.specs.Standing.{MayTake}
-use Rattle.sip_verdict.specs.Window.{unread}
 use Rattle.sip_verdict.proofs.StandingLemmas.{may_later}
 use Rattle.sip_verdict.proofs.JudgingLemmas.{judged_start, may_start, judged_legal, judged_stopped, judged_trouble, judged_more}
 use Rattle.sip_verdict.proofs.judging.judge_entries.Goals as goal

@@ -1,5 +1,4 @@
 use Rattle.std.proofs.Common.{◌≡◌, ◌+◌, ◌-◌, ◌≤◌}
-use Rattle.sip_machine.specs.Times.{last_moment}
 use Rattle.sip_verdict.specs.Window.{unread}
 use Rattle.sip_verdict.specs.Entry.{most_entries}
 use Rattle.sip_verdict.specs.Standing.{MayTake}

@@ -1,7 +1,5 @@
-use Rattle.std.proofs.Common.{rules, ◌≡◌, ◌≢◌, [], All, subst}
+use Rattle.std.proofs.Common.{rules, ◌≡◌, ◌≢◌, []}
 use Rattle.sip_machine.specs.Heard.{heard}
-use Rattle.sip_machine.specs.Rules.{Knows}
-use Rattle.sip_machine.specs.PlainClient.{plain_names}
 use Rattle.sip_verdict.proofs.Hearing.{heard_none, heard_some, heard_wide}
 use Rattle.sip_verdict.proofs.passing.hear.Goals as goal
 

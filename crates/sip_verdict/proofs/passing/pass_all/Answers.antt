@@ -1,4 +1,4 @@
-use Rattle.std.proofs.Common.{rules, ◌≡◌, ◌≤◌, ◌<◌, ◌+◌, [], ◌∷◌, ◌++◌, All, IfSome, Some, length, map, take, arith, subst, ◌∙◌}
+use Rattle.std.proofs.Common.{◌≤◌, [], ◌∷◌, ◌++◌, All, Some, map, take, arith, subst, ◌∙◌}
 use Rattle.std.specs.Option.{option_copied}
 use Rattle.std.proofs.lemmas.List.{take_all}
 use Rattle.std.proofs.lemmas.List.Elements.{All-get_or, All-set}
@@ -9,7 +9,7 @@ use Rattle.sip_verdict.specs.Keyed.{HasRun}
 use Rattle.sip_verdict.specs.Verdicts.{IsFirst, IsTooWide}
 use Rattle.sip_verdict.specs.Saying.{plain_machines}
 use Rattle.sip_verdict.specs.Passing.{said_noted, IsPassed, KeyGoesOn, SoFar}
-use Rattle.sip_verdict.proofs.PassingAll.{All-same_rest, keys-set, rest-set, so_far_none, so_far_all_run, turn_runs, turn_too_wide, turn_no_run, numbered_more, numbered_or}
+use Rattle.sip_verdict.proofs.PassingAll.{All-same_rest, keys-set, rest-set, so_far_all_run, turn_runs, turn_too_wide, turn_no_run, numbered_more, numbered_or}
 use Rattle.sip_verdict.proofs.passing.pass_all.Goals as goal
 use Rattle.sip_verdict.proofs.passing.pass_all.Goals.{in-Runs, in-TooWide}
 

@@ -1,4 +1,4 @@
-use Rattle.std.proofs.Common.{◌≡◌, ◌≤◌, ℕ, List, All, map, take, drop, IfSome}
+use Rattle.std.proofs.Common.{◌≡◌, ◌≤◌, List, All, map, take, drop, IfSome}
 use Rattle.std.specs.Option.{option_copied}
 use Rattle.sip_machine.specs.Times.{Times}
 use Rattle.sip_machine.specs.Rules.{Knows}

@@ -1,4 +1,4 @@
-use Rattle.std.proofs.Common.{◌≡◌, inr, None, Some, [], ◌∷◌, refl, ap, subst}
+use Rattle.std.proofs.Common.{inr, None, Some, [], ◌∷◌, refl, ap, subst}
 use Rattle.sip_verdict.specs.Told.{item}
 use Rattle.sip_verdict.specs.PlainForm.{PlainParts, PlainText, parts_of}
 use Rattle.sip_verdict.specs.Key.{key_of}

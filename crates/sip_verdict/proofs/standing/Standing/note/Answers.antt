@@ -1,4 +1,4 @@
-use Rattle.std.proofs.Common.{◌≡◌, ◌⊎◌, inl, inr, ◌++◌, [], ◌∷◌, refl}
+use Rattle.std.proofs.Common.{inl, inr, refl}
 use Rattle.sip_verdict.specs.PlainForm.{parts_of}
 use Rattle.sip_verdict.specs.Key.{key_of}
 use Rattle.sip_verdict.specs.Saying.{said_message}

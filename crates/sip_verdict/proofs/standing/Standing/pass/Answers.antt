@@ -1,11 +1,8 @@
-use Rattle.std.proofs.Common.{◌≡◌, ◌≤◌, ◌++◌, All, map, length, take, drop, ap, ◌∙◌, subst, arith}
+use Rattle.std.proofs.Common.{◌≡◌, ◌++◌, map, length, take, drop, ap, ◌∙◌, subst, arith}
 use Rattle.std.specs.Option.{option_copied}
-use Rattle.sip_machine.specs.Rules.{Knows}
-use Rattle.sip_machine.specs.PlainClient.{plain_names}
-use Rattle.sip_verdict.specs.Standing.{IsReady, MayTake}
 use Rattle.sip_verdict.specs.Passing.{said_noted, IsOutcome}
 use Rattle.sip_verdict.proofs.PassingLemmas.{said_noted-fault}
-use Rattle.sip_verdict.proofs.StandingLemmas.{whole_again, may_still, judged_fine, judged_breach, judged_undecided}
+use Rattle.sip_verdict.proofs.StandingLemmas.{whole_again, may_still, judged_fine, judged_undecided}
 use Rattle.sip_verdict.proofs.standing.Standing.pass.Goals as goal
 
 pub pass_all-requires-clause-known : goal.pass_all-requires-clause-known

@@ -1,0 +1,11 @@
+use Rattle.std.proofs.Common.{◌≤◌, ◌-◌, length}
+use Rattle.sip_text.specs.Text.{Many, HasFront}
+use Rattle.sip_text.specs.Blanks.{Blank}
+use Rattle.sip_text.proofs.blanks.skip_lws.Given as goal
+
+-- the front so far is blanks
+abbrev pub invariant-blanks : goal.invariant-blanks
+invariant-blanks l = record { within : l.at ≤ length l.text; front : HasFront (Many Blank) l.text l.at }
+
+abbrev pub decreases-blanks : goal.decreases-blanks
+decreases-blanks l = length l.initial.text - l.at

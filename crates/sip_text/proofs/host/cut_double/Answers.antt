@@ -1,0 +1,30 @@
+use Rattle.std.proofs.Common.{◌≡◌, ◌+◌, ◌-◌, true, get_or, Some, drop, sym, ap, ◌∙◌, arith}
+use Rattle.std.proofs.lemmas.Bool.{and_from, eq-eqb}
+use Rattle.std.proofs.lemmas.List.{take_rest}
+use Rattle.sip_text.specs.HostTests.{is_double_at}
+use Rattle.sip_text.proofs.DoubleLemmas.{double-first, double-nowhere}
+use Rattle.sip_text.proofs.host.cut_double.Goals as goal
+
+-- a "::" begins at the byte before
+found : (c : goal.After-result-1) → is_double_at c.args.text.now (c.loop-at.at - 1) ≡ true
+found c =
+    let next : c.loop-at.at - 1 + 1 ≡ c.loop-at.at = omega arith in
+    and_from _ _ (eq-eqb _ _ c.if-text-at-eq58.true)
+    (eq-eqb _ _ (ap (λ n. get_or c.args.text.now n 0) next ∙ c.if-text-at-eq58-2.true))
+
+pub returns-then-text-at-eq58-2-clause-front : goal.returns-then-text-at-eq58-2-clause-front
+returns-then-text-at-eq58-2-clause-front c =
+    sym (double-first (c.loop-at.at - 1) c.args.text.now (omega arith) (found c) (λ j below. c.loop-at.invariant j (omega arith))).0
+
+pub returns-then-text-at-eq58-2-clause-rest : goal.returns-then-text-at-eq58-2-clause-rest
+returns-then-text-at-eq58-2-clause-rest c =
+    let next : c.loop-at.at + 1 ≡ c.loop-at.at - 1 + 2 = omega arith in
+    ap Some (take_rest c.args.text.now (c.loop-at.at + 1))
+    ∙ ap (λ n. Some (drop n c.args.text.now)) next
+    ∙ sym (double-first (c.loop-at.at - 1) c.args.text.now (omega arith) (found c) (λ j below. c.loop-at.invariant j (omega arith))).1
+
+pub returns-clause-front : goal.returns-clause-front
+returns-clause-front c = sym (double-nowhere c.args.text.now (λ k within. c.loop-at.invariant k (omega arith))).0
+
+pub returns-clause-rest : goal.returns-clause-rest
+returns-clause-rest c = sym (double-nowhere c.args.text.now (λ k within. c.loop-at.invariant k (omega arith))).1

@@ -1,0 +1,38 @@
+use Rattle.std.proofs.Common.{option_copied, sym, ap, ◌∙◌}
+use Rattle.std.proofs.lemmas.Bool.{and_from, and_left, and_right}
+use Rattle.sip_text.specs.Bytes.{colon}
+use Rattle.sip_text.specs.HostTests.{has_len, is_hex4}
+use Rattle.sip_text.proofs.CutLemmas.{behind-shorter, parts-fail, parts-last, parts-more}
+use Rattle.sip_text.proofs.host.is_hexseq.Goals as goal
+
+pub returns-in_default : goal.returns-in_default
+returns-in_default c =
+    sym (parts-fail is_hex4 colon c.groups.rest.now (and_right _ _ (sym c.in_default.ensures.run))) ∙ c.groups.invariant
+
+pub returns-then-not-has_len : goal.returns-then-not-has_len
+returns-then-not-has_len c =
+    let group = c.in-Some.ensures in
+    sym (parts-fail is_hex4 colon c.groups.rest.now
+    (and_left _ _ (ap (has_len 4) (sym group.front) ∙ sym c.has_len.ensures ∙ c.if-not-has_len.true)))
+    ∙ c.groups.invariant
+
+pub groups-smaller : goal.groups-smaller
+groups-smaller c =
+    let group = c.in-Some.ensures in
+    behind-shorter colon c.groups.rest.now c.in-Some-more.groups.now (sym group.rest ∙ ap option_copied c.in-Some-more.is)
+
+pub groups-preserved : goal.groups-preserved
+groups-preserved c =
+    let group = c.in-Some.ensures in
+    parts-more is_hex4 colon c.groups.rest.now c.in-Some-more.groups.now
+    (and_from _ _ (ap (has_len 4) (sym group.front) ∙ sym c.has_len.ensures ∙ c.if-not-has_len.false) (sym group.run))
+    (sym group.rest ∙ ap option_copied c.in-Some-more.is)
+    ∙ c.groups.invariant
+
+pub returns-in-None : goal.returns-in-None
+returns-in-None c =
+    let group = c.in-Some.ensures in
+    sym (parts-last is_hex4 colon c.groups.rest.now
+    (and_from _ _ (ap (has_len 4) (sym group.front) ∙ sym c.has_len.ensures ∙ c.if-not-has_len.false) (sym group.run))
+    (sym group.rest ∙ ap option_copied c.in-None.is))
+    ∙ c.groups.invariant

@@ -1,0 +1,10 @@
+use Rattle.std.proofs.Common.{◌≡◌, length}
+use Rattle.sip_text.specs.HostTests.{is_hexseq}
+use Rattle.sip_text.proofs.host.is_hexseq.Given as goal
+
+-- the groups so far pass, so that the rest decides
+abbrev pub invariant-groups : goal.invariant-groups
+invariant-groups l = is_hexseq l.rest ≡ is_hexseq l.text
+
+abbrev pub decreases-groups : goal.decreases-groups
+decreases-groups l = length l.rest

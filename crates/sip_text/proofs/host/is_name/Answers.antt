@@ -1,0 +1,38 @@
+use Rattle.std.proofs.Common.{option_copied, sym, ap, ◌∙◌}
+use Rattle.std.proofs.lemmas.Bool.{and_from, and_left}
+use Rattle.sip_text.specs.Bytes.{dot}
+use Rattle.sip_text.specs.HostTests.{has_label_ends, has_top_ends}
+use Rattle.sip_text.proofs.CutLemmas.{behind-shorter}
+use Rattle.sip_text.proofs.LabelLemmas.{labels-fail, labels-last_run, labels-more, labels-other}
+use Rattle.sip_text.proofs.host.is_name.Goals as goal
+
+pub returns-in_default : goal.returns-in_default
+returns-in_default c = sym (labels-other c.labels.rest.now (sym c.in_default.ensures.run)) ∙ c.labels.invariant
+
+pub labels-smaller : goal.labels-smaller
+labels-smaller c =
+    let label = c.in-Some.ensures in
+    behind-shorter dot c.labels.rest.now c.in-Some-more.labels.now (sym label.rest ∙ ap option_copied c.in-Some-more.is)
+
+pub labels-preserved : goal.labels-preserved
+labels-preserved c =
+    let label = c.in-Some.ensures in
+    labels-more c.labels.rest.now c.in-Some-more.labels.now
+    (and_from _ _ (ap has_label_ends (sym label.front) ∙ sym c.has_label_ends.ensures ∙ c.if-has_label_ends.true) (sym label.run))
+    (sym label.rest ∙ ap option_copied c.in-Some-more.is)
+    ∙ c.labels.invariant
+
+pub returns-in-Some-2 : goal.returns-in-Some-2
+returns-in-Some-2 c =
+    let label = c.in-Some.ensures in
+    sym (labels-fail c.labels.rest.now c.in-Some-more.labels.now
+    (and_left _ _ (ap has_label_ends (sym label.front) ∙ sym c.has_label_ends.ensures ∙ c.if-has_label_ends.false))
+    (sym label.rest ∙ ap option_copied c.in-Some-more.is))
+    ∙ c.labels.invariant
+
+pub returns-in-None : goal.returns-in-None
+returns-in-None c =
+    let label = c.in-Some.ensures in
+    c.has_top_ends.ensures ∙ ap has_top_ends label.front
+    ∙ sym (labels-last_run c.labels.rest.now (sym label.run) (sym label.rest ∙ ap option_copied c.in-None.is))
+    ∙ c.labels.invariant

@@ -1,0 +1,12 @@
+use Rattle.std.proofs.Common.{◌≡◌, length}
+use Rattle.sip_text.specs.Bytes.{dot}
+use Rattle.sip_text.specs.Cut.{parts}
+use Rattle.sip_text.specs.HostTests.{are_labels}
+use Rattle.sip_text.proofs.host.is_name.Given as goal
+
+-- the labels so far pass, so that the rest decides
+abbrev pub invariant-labels : goal.invariant-labels
+invariant-labels l = are_labels (parts dot l.rest) ≡ are_labels (parts dot l.text)
+
+abbrev pub decreases-labels : goal.decreases-labels
+decreases-labels l = length l.rest

@@ -1,0 +1,18 @@
+use Rattle.std.proofs.Common.{sym, ◌∙◌}
+use Rattle.sip_text.proofs.HostLemmas.{only-v6, only-v4, only-name, no-host}
+use Rattle.sip_text.proofs.host.read_host.Goals as goal
+
+pub returns-then-is_v6_reference : goal.returns-then-is_v6_reference
+returns-then-is_v6_reference c =
+    only-v6 c.args.text.now (sym c.is_v6_reference.ensures ∙ c.if-is_v6_reference.true)
+
+pub returns-then-is_v4 : goal.returns-then-is_v4
+returns-then-is_v4 c = only-v4 c.args.text.now (sym c.is_v4.ensures ∙ c.if-is_v4.true)
+
+pub returns-then-is_hostname : goal.returns-then-is_hostname
+returns-then-is_hostname c = only-name c.args.text.now (sym c.is_hostname.ensures ∙ c.if-is_hostname.true)
+
+pub returns-else-is_hostname : goal.returns-else-is_hostname
+returns-else-is_hostname c =
+    no-host c.args.text.now (sym c.is_v6_reference.ensures ∙ c.if-is_v6_reference.false)
+    (sym c.is_v4.ensures ∙ c.if-is_v4.false) (sym c.is_hostname.ensures ∙ c.if-is_hostname.false)

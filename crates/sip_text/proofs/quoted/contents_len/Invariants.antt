@@ -1,0 +1,11 @@
+use Rattle.std.proofs.Common.{◌≤◌, ◌-◌, length}
+use Rattle.sip_text.specs.Text.{Many, HasFront}
+use Rattle.sip_text.specs.Quoted.{QuotedItem}
+use Rattle.sip_text.proofs.quoted.contents_len.Given as goal
+
+-- the front so far is pieces
+abbrev pub invariant-items : goal.invariant-items
+invariant-items l = record { within : l.at ≤ length l.text; front : HasFront (Many QuotedItem) l.text l.at }
+
+abbrev pub decreases-items : goal.decreases-items
+decreases-items l = length l.initial.text - l.at

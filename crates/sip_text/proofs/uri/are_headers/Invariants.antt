@@ -1,0 +1,12 @@
+use Rattle.std.proofs.Common.{◌↔◌, length}
+use Rattle.sip_text.specs.Bytes.{ampersand}
+use Rattle.sip_text.specs.Uri.{Header}
+use Rattle.sip_text.proofs.UriPartLemmas.{Each}
+use Rattle.sip_text.proofs.uri.are_headers.Given as goal
+
+-- each part of the rest is one exactly if each of the whole text is
+abbrev pub invariant-headers : goal.invariant-headers
+invariant-headers l = Each ampersand Header l.rest ↔ Each ampersand Header l.fn.text
+
+abbrev pub decreases-headers : goal.decreases-headers
+decreases-headers l = length l.rest

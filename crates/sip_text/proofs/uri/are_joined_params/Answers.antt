@@ -1,0 +1,34 @@
+use Rattle.std.proofs.Common.{sym, ap, ◌∙◌, refl, option_copied}
+use Rattle.std.proofs.lemmas.Bool.{both_ways, false≢true}
+use Rattle.sip_text.specs.Bytes.{semicolon}
+use Rattle.sip_text.specs.Uri.{UriParameter}
+use Rattle.sip_text.proofs.UriPartLemmas.{each-past, each-last, each-first, joined-each, each-joined}
+use Rattle.sip_text.proofs.uri.are_joined_params.Goals as goal
+
+pub returns-then-not-is_param : goal.returns-then-not-is_param
+returns-then-not-is_param c = (
+  λ is. absurd (false≢true is),
+  λ params.
+      let each = c.params.invariant.1 (joined-each c.args.text.now params) in
+      absurd (both_ways c.is_param.result c.if-not-is_param.true
+      (c.is_param.ensures.1 (each-first semicolon UriParameter c.params.rest.now _ c.cut.ensures.front each))),
+)
+
+pub params-smaller : goal.params-smaller
+params-smaller c =
+    (each-past semicolon UriParameter c.params.rest.now c.cut.result.0.now c.in-Some.more.now c.cut.ensures.front
+    (ap option_copied (sym c.in-Some.is) ∙ c.cut.ensures.rest) (c.is_param.ensures.0 c.if-not-is_param.false)).1
+
+pub params-preserved : goal.params-preserved
+params-preserved c =
+    let past = (each-past semicolon UriParameter c.params.rest.now c.cut.result.0.now c.in-Some.more.now c.cut.ensures.front
+    (ap option_copied (sym c.in-Some.is) ∙ c.cut.ensures.rest) (c.is_param.ensures.0 c.if-not-is_param.false)).0 in
+    (λ each. c.params.invariant.0 (past.0 each), λ each. past.1 (c.params.invariant.1 each))
+
+pub returns-in-None : goal.returns-in-None
+returns-in-None c = (
+  λ _. each-joined c.args.text.now (c.params.invariant.0
+      (each-last semicolon UriParameter c.params.rest.now c.cut.result.0.now c.cut.ensures.front
+      (ap option_copied (sym c.in-None.is) ∙ c.cut.ensures.rest) (c.is_param.ensures.0 c.if-not-is_param.false))),
+  λ _. refl,
+)

@@ -1,0 +1,12 @@
+use Rattle.std.proofs.Common.{◌↔◌, length}
+use Rattle.sip_text.specs.Bytes.{semicolon}
+use Rattle.sip_text.specs.Uri.{UriParameter}
+use Rattle.sip_text.proofs.UriPartLemmas.{Each}
+use Rattle.sip_text.proofs.uri.are_joined_params.Given as goal
+
+-- each part of the rest is one exactly if each of the whole text is
+abbrev pub invariant-params : goal.invariant-params
+invariant-params l = Each semicolon UriParameter l.rest ↔ Each semicolon UriParameter l.fn.text
+
+abbrev pub decreases-params : goal.decreases-params
+decreases-params l = length l.rest

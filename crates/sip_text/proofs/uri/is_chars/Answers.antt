@@ -1,0 +1,23 @@
+use Rattle.std.proofs.Common.{sym, ◌∙◌}
+use Rattle.sip_text.specs.Class.{is_in}
+use Rattle.sip_text.proofs.UriCharLemmas.{run-slice, chars-past, chars-stop}
+use Rattle.sip_text.proofs.uri.is_chars.Goals as goal
+
+pub chars-smaller : goal.chars-smaller
+chars-smaller c =
+    let run = run-slice (is_in c.args.class) c.chars.rest.now c.run_len.result c.run_len.ensures.run in
+    (chars-past c.args.class c.chars.rest.now _ c.in-Some.behind.now c.requires run (sym c.in-Some.ensures)).1
+
+pub chars-preserved : goal.chars-preserved
+chars-preserved c =
+    let run = run-slice (is_in c.args.class) c.chars.rest.now c.run_len.result c.run_len.ensures.run in
+    let past = chars-past c.args.class c.chars.rest.now _ c.in-Some.behind.now c.requires run (sym c.in-Some.ensures) in
+    (λ many. c.chars.invariant.0 (past.0.0 many), λ many. past.0.1 (c.chars.invariant.1 many))
+
+pub returns-in-None : goal.returns-in-None
+returns-in-None c =
+    let run = run-slice (is_in c.args.class) c.chars.rest.now c.run_len.result c.run_len.ensures.run in
+    let stop = chars-stop c.args.class c.chars.rest.now _ c.requires run (sym c.in-None.ensures) in (
+      λ empty. c.chars.invariant.0 (stop.0 (sym c.is_empty.ensures ∙ empty)),
+      λ many. c.is_empty.ensures ∙ stop.1 (c.chars.invariant.1 many),
+    )

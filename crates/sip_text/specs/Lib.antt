@@ -1,0 +1,12 @@
+pub mod Text
+pub mod Bytes
+pub mod Grammar
+pub mod Blanks
+pub mod Case
+pub mod Class
+pub mod Cut
+pub mod Host
+pub mod HostTests
+pub mod Quoted
+pub mod Uri
+pub mod UriCut

@@ -1,0 +1,21 @@
+//! The lowest texts of SIP (RFC 3261, section 25.1), read exactly: tokens, blank runs, quoted
+//! strings, hosts and URIs. No call allocates, and none fails.
+#![tactic(auto)]
+
+mod blanks;
+mod case;
+mod class;
+mod cut;
+mod host;
+mod quoted;
+#[cfg(test)]
+mod tests;
+mod token;
+mod uri;
+
+pub use crate::blanks::skip_lws;
+pub use crate::case::same_text;
+pub use crate::host::{Host, read_host};
+pub use crate::quoted::read_quoted;
+pub use crate::token::token_len;
+pub use crate::uri::{Uri, read_uri};

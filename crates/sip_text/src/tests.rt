@@ -1,0 +1,84 @@
+use crate::{Host, read_host, read_quoted, same_text, skip_lws, token_len};
+
+// A text, and the length of the longest token and of the longest blank run at its front.
+const FRONTS: [(&[u8], usize, usize); 8] = [
+    (b"a-b c", 3, 0),
+    (b"<x>", 0, 0),
+    (b"", 0, 0),
+    (b" \t\r\n x", 0, 5),
+    (b"\r\nx", 0, 0),
+    (b" \r\nx", 0, 1),
+    (b"\r\n \r\n\t", 0, 6),
+    (b"-.!%*_+`'~09azAZ@", 16, 0),
+];
+
+const QUOTED: [(&[u8], Option<usize>); 6] = [
+    (b" \"a\\\"b\"c", Some(7)),
+    (b"\"\"", Some(2)),
+    (b"\"a", None),
+    (b"\"\\\r\"", None),
+    (b"\"a\r\n b\"", Some(7)),
+    (b"\"a\r\nb\"", None),
+];
+
+const HOSTS: [(&[u8], &str); 18] = [
+    (b"a.example.com.", "name"),
+    (b"x--y", "name"),
+    (b"1.2.3.4.a", "name"),
+    (b"999.1.1.1", "v4"),
+    (b"[::ffff:1.2.3.4]", "v6"),
+    (b"[64:ff9b::1.2.3.4]", "v6"),
+    (b"[:::1.2.3.4]", "v6"),
+    (b"[1:::1.2.3.4]", "v6"),
+    (b"[1:2:3:4:5:6:7:8:9]", "v6"),
+    (b"[::]", "v6"),
+    (b"a.1", "none"),
+    (b"a..b", "none"),
+    (b"a-.b", "none"),
+    (b"[1:::2]", "none"),
+    (b"[1.2.3.4]", "none"),
+    (b"1.2.3.4.", "none"),
+    (b"::1", "none"),
+    (b"", "none"),
+];
+
+const PAIRS: [(&[u8], &[u8], bool); 4] = [
+    (b"z9hG4bK", b"Z9HG4BK", true),
+    (b"a[", b"a{", false),
+    (b"a", b"ab", false),
+    (b"\xc0", b"\xe0", false),
+];
+
+fn kind(host: Option<Host<'_>>) -> &'static str {
+    match host {
+        Some(Host::Name(_)) => "name",
+        Some(Host::V4(_)) => "v4",
+        Some(Host::V6(_)) => "v6",
+        None => "none",
+    }
+}
+
+#[test]
+fn reads_fronts(rt: HostRuntime) {
+    for (text, token, blanks) in FRONTS {
+        assert_eq!(rt; token_len(text), token, "token of {text:?}");
+        assert_eq!(rt; skip_lws(text), blanks, "blanks of {text:?}");
+    }
+    for (text, len) in QUOTED {
+        assert_eq!(rt; read_quoted(text), len, "quoted string of {text:?}");
+    }
+}
+
+#[test]
+fn reads_hosts(rt: HostRuntime) {
+    for (text, want) in HOSTS {
+        assert_eq!(rt; kind(read_host(text)), want, "host of {text:?}");
+    }
+}
+
+#[test]
+fn folds_case(rt: HostRuntime) {
+    for (a, b, same) in PAIRS {
+        assert_eq!(rt; same_text(a, b), same, "{a:?} and {b:?}");
+    }
+}

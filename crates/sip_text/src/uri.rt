@@ -1,0 +1,297 @@
+//! URIs.
+ghost use Rattle.std.specs.Prelude.{◌≡◌, ◌↔◌, ◌<◌, ◌≤◌, Bool, false, ◌∷◌, Some, length, IsTrue, option_copied};
+ghost use Rattle.sip_text.specs.Bytes.{percent};
+ghost use Rattle.sip_text.specs.Text.{Many, OneOrMore, IsOnlyValue, Joined};
+ghost use Rattle.sip_text.specs.Class.{is_in};
+ghost use Rattle.sip_text.specs.Uri.{User, Password, Port, ParamWord, UriParameter, UriParameters, Header, Headers, Scheme, Uric, UriText, uri_parts};
+ghost use Rattle.sip_text.specs.UriCut.{Char, behind_escape, IsInfoCut, IsPortCut, cut_parts, IsSipCut, InfoFits, TailFits, SipText};
+
+use crate::case::same_text;
+use crate::class::{Class, all_in, has, run_len};
+use crate::cut::{cut, cut_last, past};
+use crate::host::{Host, read_host};
+
+/// A URI (RFC 3261, section 25.1), in slices of its text.
+#[derive(Clone, Copy, Debug, PartialEq, Eq)]
+pub enum Uri<'a> {
+    /// A SIP or SIPS URI.
+    Sip {
+        /// Whether the scheme is `sips`.
+        secure: bool,
+        /// The user, without its `@`.
+        user: Option<&'a [u8]>,
+        /// The password, without its `:`; it may be empty.
+        password: Option<&'a [u8]>,
+        /// The host.
+        host: Host<'a>,
+        /// The port, one to five digits, at most 65535, without its `:`.
+        port: Option<&'a [u8]>,
+        /// The parameters, from their first `;` on; empty if there is none.
+        params: &'a [u8],
+        /// The headers, without their `?`.
+        headers: Option<&'a [u8]>,
+    },
+    /// Any other URI.
+    Other {
+        /// The scheme, without its `:`.
+        scheme: &'a [u8],
+        /// What follows the `:`.
+        rest: &'a [u8],
+    },
+}
+
+/// The URI that the whole text is (RFC 3261, section 25.1), or None if it is none.
+pub fn read_uri(text: &[u8]) -> Option<Uri<'_>>
+    ensures { IsOnlyValue UriText uri_parts text.now result }
+{
+    let (scheme, rest) = cut(text, b':');
+    let rest = rest?;
+    if same_text(scheme, b"sip") {
+        read_sip(false, rest)
+    } else if same_text(scheme, b"sips") {
+        read_sip(true, rest)
+    } else if is_scheme(scheme) && is_some_chars(Class::Uric, rest) {
+        Some(Uri::Other { scheme, rest })
+    } else {
+        None
+    }
+}
+
+// The parts of a SIP URI, cut and not yet tested.
+#[derive(Clone, Copy)]
+struct Cuts<'a> {
+    user: Option<&'a [u8]>,
+    password: Option<&'a [u8]>,
+    host: &'a [u8],
+    port: Option<&'a [u8]>,
+    params: &'a [u8],
+    headers: Option<&'a [u8]>,
+}
+
+// The SIP URI whose scheme this text follows.
+fn read_sip(secure: bool, text: &[u8]) -> Option<Uri<'_>>
+    ensures { IsOnlyValue (SipText secure) uri_parts text.now result }
+{
+    let cuts = cut_sip(text);
+    let host = read_host(cuts.host)?;
+    if !userinfo_fits(&cuts) || !tail_fits(&cuts) {
+        return None;
+    }
+    let Cuts {
+        user,
+        password,
+        port,
+        params,
+        headers,
+        ..
+    } = cuts;
+    Some(Uri::Sip {
+        secure,
+        user,
+        password,
+        host,
+        port,
+        params,
+        headers,
+    })
+}
+
+// Cuts what follows the scheme of a SIP URI, each time at the first byte that the part before it
+// cannot hold.
+fn cut_sip(text: &[u8]) -> Cuts<'_>
+    ensures { IsSipCut text.now (cut_parts result) }
+{
+    let (user, password, rest) = cut_userinfo(text);
+    let (front, headers) = cut(rest, b'?');
+    let (hostport, _) = cut(front, b';');
+    let params = &front[hostport.len()..];
+    let (host, port) = cut_port(hostport);
+    Cuts {
+        user,
+        password,
+        host,
+        port,
+        params,
+        headers,
+    }
+}
+
+// The user and the password, and what stands behind their `@`.
+fn cut_userinfo(text: &[u8]) -> (Option<&[u8]>, Option<&[u8]>, &[u8])
+    ensures { IsInfoCut text.now (option_copied result.0) (option_copied result.1) result.2.now }
+{
+    match cut(text, b'@') {
+        (info, Some(rest)) => {
+            let (user, password) = cut(info, b':');
+            (Some(user), password, rest)
+        }
+        (_, None) => (None, None, text),
+    }
+}
+
+// The host, and the port where the text ends with `:` and a port.
+fn cut_port(text: &[u8]) -> (&[u8], Option<&[u8]>)
+    ensures { IsPortCut text.now result.0.now (option_copied result.1) }
+{
+    let (front, port) = cut_last(text, b':');
+    match front {
+        Some(host) if is_port(port) => (host, Some(port)),
+        _ => (text, None),
+    }
+}
+
+// Whether the user and the password are texts of their productions.
+fn userinfo_fits(cuts: &Cuts<'_>) -> bool
+    ensures { IsTrue result ↔ InfoFits (cut_parts cuts.now) }
+{
+    cuts.user
+        .is_none_or(|user| is_some_chars(Class::User, user))
+        && cuts
+            .password
+            .is_none_or(|password| is_chars(Class::Password, password))
+}
+
+// Whether the parameters and the headers are texts of their productions.
+fn tail_fits(cuts: &Cuts<'_>) -> bool
+    ensures { IsTrue result ↔ TailFits (cut_parts cuts.now) }
+{
+    are_params(cuts.params) && cuts.headers.is_none_or(|headers| are_headers(headers))
+}
+
+// Whether the text is a scheme.
+fn is_scheme(text: &[u8]) -> bool
+    ensures { IsTrue result ↔ Scheme text.now }
+{
+    match text.split_first() {
+        Some((first, rest)) => has(Class::Alphabetic, *first) && all_in(Class::Scheme, rest),
+        None => false,
+    }
+}
+
+// The most digits of a port, and the highest.
+const PORT_DIGITS: usize = 5;
+
+const LAST_PORT: u32 = 65535;
+
+// Whether the text is a port.
+fn is_port(text: &[u8]) -> bool
+    ensures { IsTrue result ↔ Port text.now }
+{
+    if text.is_empty() || text.len() > PORT_DIGITS {
+        return false;
+    }
+    let mut number: u32 = 0;
+    for byte in text {
+        if !has(Class::Digit, *byte) {
+            return false;
+        }
+        number = number * 10 + u32::from(*byte - b'0');
+        if number > LAST_PORT {
+            return false;
+        }
+    }
+    true
+}
+
+// Whether the text is URI parameters, each behind its `;`.
+fn are_params(text: &[u8]) -> bool
+    ensures { IsTrue result ↔ UriParameters text.now }
+{
+    match past(text, b';') {
+        Some(params) => are_joined_params(params),
+        None => text.is_empty(),
+    }
+}
+
+// Whether the text is URI parameters, with a `;` between any two.
+fn are_joined_params(text: &[u8]) -> bool
+    ensures { IsTrue result ↔ Joined 59 UriParameter text.now }
+{
+    let mut rest = text;
+    'params: loop {
+        let (param, more) = cut(rest, b';');
+        if !is_param(param) {
+            return false;
+        }
+        match more {
+            Some(more) => rest = more,
+            None => return true,
+        }
+    }
+}
+
+// Whether the text is a URI parameter.
+fn is_param(text: &[u8]) -> bool
+    ensures { IsTrue result ↔ UriParameter text.now }
+{
+    let (name, value) = cut(text, b'=');
+    match value {
+        Some(value) => is_some_chars(Class::Param, name) && is_some_chars(Class::Param, value),
+        None => is_some_chars(Class::Param, name),
+    }
+}
+
+// Whether the text is headers, without their `?`.
+fn are_headers(text: &[u8]) -> bool
+    ensures { IsTrue result ↔ Headers text.now }
+{
+    let mut rest = text;
+    'headers: loop {
+        let (header, more) = cut(rest, b'&');
+        if !is_header(header) {
+            return false;
+        }
+        match more {
+            Some(more) => rest = more,
+            None => return true,
+        }
+    }
+}
+
+// Whether the text is a header.
+fn is_header(text: &[u8]) -> bool
+    ensures { IsTrue result ↔ Header text.now }
+{
+    let (name, value) = cut(text, b'=');
+    match value {
+        Some(value) => is_some_chars(Class::Header, name) && is_chars(Class::Header, value),
+        None => false,
+    }
+}
+
+// Whether the text is one or more characters of the class.
+fn is_some_chars(class: Class, text: &[u8]) -> bool
+    requires { is_in class percent ≡ false }
+    ensures { IsTrue result ↔ OneOrMore (Char class) text.now }
+{
+    !text.is_empty() && is_chars(class, text)
+}
+
+// Whether the text is characters of the class: its bytes, and escapes. A `%` is never such a byte.
+fn is_chars(class: Class, text: &[u8]) -> bool
+    requires { is_in class percent ≡ false }
+    ensures { IsTrue result ↔ Many (Char class) text.now }
+{
+    let mut rest = text;
+    'chars: loop {
+        let stop = &rest[run_len(class, rest)..];
+        match strip_escape(stop) {
+            Some(behind) => rest = behind,
+            None => return stop.is_empty(),
+        }
+    }
+}
+
+// What stands behind the escape at the front.
+fn strip_escape(text: &[u8]) -> Option<&[u8]>
+    ensures { option_copied result ≡ behind_escape text.now }
+{
+    match text {
+        [b'%', high, low, rest @ ..] if has(Class::HexDigit, *high) && has(Class::HexDigit, *low) =>
+            Some(rest),
+        _ => None,
+    }
+}
+
+#[cfg(test)]
+mod tests;

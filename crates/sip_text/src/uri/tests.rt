@@ -1,0 +1,93 @@
+use crate::host::Host;
+use crate::uri::{Uri, read_uri};
+
+// A URI and its parts in order: the scheme, user, password, host, port, parameters and headers of a
+// SIP URI, the scheme and the rest of another. A part that is not there is `-`.
+const URIS: [(&[u8], [&[u8]; 7]); 8] = [
+    (
+        b"sip:bob:pw@b.c:5060;lr?x=1&y=",
+        [b"sip", b"bob", b"pw", b"b.c", b"5060", b";lr", b"x=1&y="],
+    ),
+    (b"sip:a;b@c", [b"sip", b"a;b", b"-", b"c", b"-", b"", b"-"]),
+    (
+        b"SIPS:[::1]:5061",
+        [b"sips", b"-", b"-", b"[::1]", b"5061", b"", b"-"],
+    ),
+    (b"sip:a:@b", [b"sip", b"a", b"", b"b", b"-", b"", b"-"]),
+    (
+        b"sIp:%41?=/@1.2.3.4:05060",
+        [b"sip", b"%41?=/", b"-", b"1.2.3.4", b"05060", b"", b"-"],
+    ),
+    (
+        b"sip:b;x=%7e;[y]:z?a=&[b]=:",
+        [b"sip", b"-", b"-", b"b", b"-", b";x=%7e;[y]:z", b"a=&[b]=:"],
+    ),
+    (b"tel:+1", [b"tel", b"+1", b"-", b"-", b"-", b"-", b"-"]),
+    (
+        b"x-1.y+z::@?%7e",
+        [b"x-1.y+z", b":@?%7e", b"-", b"-", b"-", b"-", b"-"],
+    ),
+];
+
+const NONE: [&[u8]; 17] = [
+    b"sip:a@b@c",
+    b"sip:@b",
+    b"SIP:@b",
+    b"sip:b?x",
+    b"sip:b?",
+    b"sip:b;",
+    b"sip:b:70000",
+    b"sip:b:005060",
+    b"sip:b:",
+    b"sip:[::1]x:80",
+    b"sip:%4@b",
+    b"sip:a:b:c@d",
+    b"sip",
+    b"mailto:",
+    b"1x:a",
+    b":a",
+    b"http:[a]",
+];
+
+fn spelled(host: Host<'_>) -> &[u8] {
+    match host {
+        Host::Name(text) | Host::V4(text) | Host::V6(text) => text,
+    }
+}
+
+fn parts(uri: Option<Uri<'_>>) -> [&[u8]; 7] {
+    let none: &[u8] = b"-";
+    match uri {
+        Some(
+            Uri::Sip {
+                secure,
+                user,
+                password,
+                host,
+                port,
+                params,
+                headers,
+            },
+        ) => [
+            if secure { b"sips" } else { b"sip" },
+            user.unwrap_or(none),
+            password.unwrap_or(none),
+            spelled(host),
+            port.unwrap_or(none),
+            params,
+            headers.unwrap_or(none),
+        ],
+        Some(Uri::Other { scheme, rest }) => [scheme, rest, none, none, none, none, none],
+        None => [none; 7],
+    }
+}
+
+#[test]
+fn reads_uris(rt: HostRuntime) {
+    for (text, want) in URIS {
+        assert_eq!(rt; parts(read_uri(text)), want, "{text:?}");
+    }
+    for text in NONE {
+        assert_eq!(rt; read_uri(text), None, "{text:?}");
+    }
+}

@@ -10,6 +10,7 @@ pub mod JudgingLemmas
 pub mod KeyLemmas
 pub mod Keys
 pub mod Leading
+pub mod LegalRuns
 pub mod LineLemmas
 pub mod Listed
 pub mod LogExists

@@ -1,4 +1,4 @@
-use Rattle.std.specs.Prelude.{◌≡◌, ◌+◌, ◌⊎◌, ◌++◌, ℕ, List, length}
+use Rattle.std.specs.Prelude.{◌≡◌, ◌+◌, ◌⊎◌, ◌++◌, ℕ, None, List, length, All}
 use Rattle.std.specs.List.{AllZip}
 use Rattle.sip_machine.specs.Times.{Times}
 use Rattle.sip_verdict.specs.declared.log_reason.LogReason.TheVariants.{Header}
@@ -8,7 +8,7 @@ use Rattle.sip_verdict.specs.Entry.{Item}
 use Rattle.sip_verdict.specs.Log.{LogEnd, Clean, Stops, Faulty, Holds, IsLogOf}
 use Rattle.sip_verdict.specs.Key.{PlainKey}
 use Rattle.sip_verdict.specs.Keyed.{Said, keys_of}
-use Rattle.sip_verdict.specs.Verdicts.{IsGood, IsFirstTrouble}
+use Rattle.sip_verdict.specs.Verdicts.{AllRun, IsGood, IsFirstTrouble}
 use Rattle.sip_verdict.specs.Saying.{plain_machines, IsSaid}
 
 -- The verdict of an input of any bytes.
@@ -49,3 +49,15 @@ pub record EndsInNone (input : List ℕ) (v : Verdict) : Type 0 where
 -- the verdict of an input: that of its header, of the first entry in trouble, or of its end
 abbrev pub IsVerdictOf : List ℕ → Verdict → Type 0
 IsVerdictOf input v = (IsLogOf input Faulty × (v ≡ LogFault 0 Header)) ⊎ (EndsInTrouble input v ⊎ EndsInNone input v)
+
+-- the log of an input is read whole and has this many entries and keys; no entry has a fault, and each key has a run over them
+pub record HasRuns (input : List ℕ) (entries transactions : ℕ) : Type 0 where
+  pub times : Times
+  pub items : List Item
+  pub log : IsLogOf input (Holds times items Clean)
+  pub es : List (Said PlainKey)
+  pub said : AreSaid items es
+  pub entries_are : length es ≡ entries
+  pub transactions_are : length (keys_of (plain_machines times) es) ≡ transactions
+  pub formed : All (λ e. e.fault ≡ None) es
+  pub runs : AllRun (plain_machines times) es

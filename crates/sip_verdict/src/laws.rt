@@ -3,7 +3,8 @@ ghost use Rattle.std.specs.Prelude.{◌≡◌, ◌≤◌, ◌↔◌, ◌++◌, �
 ghost use Rattle.sip_machine.specs.Heard.{Heard};
 ghost use Rattle.sip_machine.specs.PlainClient.{PlainPhase, plain_rules};
 ghost use Rattle.sip_verdict.specs.Runs.{Wait, Gives, After};
-ghost use Rattle.sip_verdict.specs.VerdictOf.{IsVerdictOf};
+ghost use Rattle.sip_verdict.specs.VerdictOf.{IsVerdictOf, HasRuns};
+ghost use Rattle.sip_verdict.specs.declared.verdict.Verdict.TheVariants.{Legal};
 
 use crate::verdict::Verdict;
 use sip_machine::PlainClient;
@@ -26,4 +27,10 @@ pub fn by_waiting_and_stepping(_machine: &PlainClient)
 /// An input has at most one verdict.
 pub fn an_input_has_one_verdict(_one: &Verdict, _other: &Verdict)
     ensures { (input : List ℕ) → IsVerdictOf input _one.now → IsVerdictOf input _other.now → _one.now ≡ _other.now }
+{}
+
+/// A legal log is read whole, has so many entries and transactions, and each transaction has a run over all of them.
+pub fn a_legal_log_has_runs()
+    ensures { (input : List ℕ) (entries transactions : ℕ) →
+        IsVerdictOf input (Legal entries transactions) → HasRuns input entries transactions }
 {}

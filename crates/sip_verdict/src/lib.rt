@@ -25,7 +25,9 @@ mod window;
 pub use fault::{Fault, Reason, Unit};
 pub use judge_error::JudgeError;
 pub use judging::judge;
-pub use laws::{an_input_has_one_verdict, by_waiting_and_stepping, in_one_wait_or_two};
+pub use laws::{
+    a_legal_log_has_runs, an_input_has_one_verdict, by_waiting_and_stepping, in_one_wait_or_two,
+};
 pub use log_reason::LogReason;
 pub use rendering::render;
 pub use source::{Broken, FromRead, Source};

@@ -1,9 +1,9 @@
-//! URIs.
-ghost use Rattle.std.specs.Prelude.{◌≡◌, ◌↔◌, ◌<◌, ◌≤◌, Bool, false, ◌∷◌, Some, length, IsTrue, option_copied};
-ghost use Rattle.sip_text.specs.Bytes.{percent};
-ghost use Rattle.sip_text.specs.Text.{Many, OneOrMore, IsOnlyValue, Joined};
+//! URIs: those of SIP in their parts, and any other by its scheme.
+ghost use Rattle.std.specs.Prelude.{◌≡◌, ◌↔◌, false, IsTrue, option_copied};
+ghost use Rattle.sip_text.specs.Bytes.{percent, semicolon};
+ghost use Rattle.sip_text.specs.Text.{Many, OneOrMore, Joined, IsOnlyValue};
 ghost use Rattle.sip_text.specs.Class.{is_in};
-ghost use Rattle.sip_text.specs.Uri.{User, Password, Port, ParamWord, UriParameter, UriParameters, Header, Headers, Scheme, Uric, UriText, uri_parts};
+ghost use Rattle.sip_text.specs.Uri.{Port, UriParameter, UriParameters, Header, Headers, Scheme, UriText, uri_parts};
 ghost use Rattle.sip_text.specs.UriCut.{Char, behind_escape, IsInfoCut, IsPortCut, cut_parts, IsSipCut, InfoFits, TailFits, SipText};
 
 use crate::case::same_text;
@@ -41,6 +41,10 @@ pub enum Uri<'a> {
 }
 
 /// The URI that the whole text is (RFC 3261, section 25.1), or None if it is none.
+///
+/// A SIP URI is cut into its parts in the only way there is. A port has one to five digits and is at
+/// most 65535. Any other URI is a scheme that is neither `sip` nor `sips`, compared without case, a
+/// `:` and one or more `uric`, whatever the scheme asks of them.
 pub fn read_uri(text: &[u8]) -> Option<Uri<'_>>
     ensures { IsOnlyValue UriText uri_parts text.now result }
 {
@@ -205,7 +209,7 @@ fn are_params(text: &[u8]) -> bool
 
 // Whether the text is URI parameters, with a `;` between any two.
 fn are_joined_params(text: &[u8]) -> bool
-    ensures { IsTrue result ↔ Joined 59 UriParameter text.now }
+    ensures { IsTrue result ↔ Joined semicolon UriParameter text.now }
 {
     let mut rest = text;
     'params: loop {

@@ -1,8 +1,8 @@
 //! Shapes of texts, made as long as one likes.
-use sip_text::{read_host, read_quoted, read_uri, skip_lws, token_len};
 ghost use Rattle.std.specs.Prelude.{IfOk};
-ghost use Rattle.text_bench.specs.Shape.{IsOfShape};
+ghost use Rattle.text_bench.specs.Shape.{AnswerOf, IsOfShape};
 
+use sip_text::{read_host, read_quoted, read_uri, skip_lws, token_len};
 use std::alloc::{AllocError, Global};
 
 /// A reader of `sip_text`.
@@ -286,8 +286,10 @@ pub fn text_of(alloc: Global, shape: Shape, size: usize) -> Result<Vec<u8>, Allo
     Ok(text)
 }
 
-/// What the reader answers, as a number.
-pub fn answer(reader: Reader, text: &[u8]) -> usize {
+/// What the reader answers: the length of the front, or 1 for a value, and 0 for none.
+pub fn answer(reader: Reader, text: &[u8]) -> usize
+    ensures { AnswerOf reader text.now result }
+{
     match reader {
         Reader::Token => token_len(text),
         Reader::Blanks => skip_lws(text),

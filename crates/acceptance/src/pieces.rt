@@ -1,0 +1,83 @@
+//! A source that hands out its bytes in pieces, and may fail.
+ghost use Rattle.std.specs.Prelude.{◌≡◌, false, Some};
+
+use sip_verdict::{Broken, Source};
+
+/// Hands out the bytes in pieces: the first of one size, and each other of a second one.
+#[derive(Drop)]
+pub(crate) struct Pieces<'a> {
+    bytes: &'a [u8],
+    first: usize,
+    others: usize,
+    /// The calls that are answered before one fails; none fails where there is no number.
+    calls: Option<usize>,
+    failed: bool,
+}
+
+impl<'a> Pieces<'a> {
+    /// The bytes before a place in one piece, and those behind it in another.
+    pub(crate) fn cut_at(bytes: &'a [u8], place: usize) -> Pieces<'a>
+        ensures { result.failed ≡ false }
+    {
+        Pieces {
+            bytes,
+            first: place,
+            others: bytes.len(),
+            calls: None,
+            failed: false,
+        }
+    }
+
+    /// Single bytes.
+    pub(crate) fn single(bytes: &'a [u8]) -> Pieces<'a>
+        ensures { result.failed ≡ false }
+    {
+        Pieces {
+            bytes,
+            first: 1,
+            others: 1,
+            calls: None,
+            failed: false,
+        }
+    }
+
+    /// Single bytes, and the call behind so many fails.
+    pub(crate) fn failing(bytes: &'a [u8], calls: usize) -> Pieces<'a>
+        ensures { result.failed ≡ false }
+    {
+        Pieces {
+            bytes,
+            first: 1,
+            others: 1,
+            calls: Some(calls),
+            failed: false,
+        }
+    }
+}
+
+impl<'a> Source for Pieces<'a> {
+    ghost left = { λ s. Some s.bytes.now };
+
+    ghost has_failed = { λ s. s.failed };
+
+    fn fill(&mut self, buf: &mut [u8]) -> Result<usize, Broken> {
+        match self.calls {
+            Some(0) => {
+                self.failed = true;
+                return Err(Broken);
+            }
+            Some(calls) => self.calls = Some(calls - 1),
+            None => {}
+        }
+        let count = self.bytes.len().min(self.first.max(1)).min(buf.len());
+        self.first = self.others;
+        let (piece, rest) = self.bytes.split_at(count);
+        buf[..count].copy_from_slice(piece);
+        self.bytes = rest;
+        Ok(count)
+    }
+
+    fn has_failed(&self) -> bool {
+        self.failed
+    }
+}

@@ -69,7 +69,9 @@ impl<'a> Source for Pieces<'a> {
             Some(calls) => self.calls = Some(calls - 1),
             None => {}
         }
-        let count = self.bytes.len().min(self.first.max(1)).min(buf.len());
+        // A piece of no bytes would be the end.
+        let size = self.first.max(1);
+        let count = size.min(self.bytes.len()).min(buf.len());
         self.first = self.others;
         let (piece, rest) = self.bytes.split_at(count);
         buf[..count].copy_from_slice(piece);

@@ -7,6 +7,7 @@ use Rattle.sip_machine.specs.declared.event.Action.TheVariants.{Sent, Received, 
 use Rattle.sip_machine.specs.declared.event.Kind.{Kind}
 use Rattle.sip_machine.specs.declared.event.Kind.TheVariants.{Request, Response}
 use Rattle.sip_verdict.specs.declared.plain_form.PlainMessage.{PlainMessage}
+use Rattle.sip_verdict.specs.Line.{line_feed}
 
 -- found, none and only at once: without an answer no value fits the text, and the answer's fits it and is the only one
 abbrev pub IsOnlyValue : {A X : Type 0} → (List ℕ → X → Type 0) → (A → X) → List ℕ → Option A → Type 0
@@ -16,10 +17,6 @@ IsOnlyValue {X = X} Fits view text (Some a) = Fits text (view a) × ((x : X) →
 -- b'\r'
 abbrev pub carriage_return : ℕ
 carriage_return = 13
-
--- b'\n'
-abbrev pub line_feed : ℕ
-line_feed = 10
 
 -- CRLF, RFC 3261 section 7: the end of each line
 abbrev pub crlf : List ℕ

@@ -4,7 +4,11 @@
 //! undecided, 4 where it cannot read, write or get memory, and 5 where it does not understand its words.
 #![tactic(auto)]
 
-ghost use Rattle.std.specs.Prelude.{◌≡◌};
+ghost use Rattle.std.specs.Prelude.{◌≡◌, ◌≢◌};
+ghost use Rattle.std.specs.IoError.{error_kind};
+ghost use Rattle.std.specs.declared.io.ErrorKind.TheVariants.{OutOfMemory};
+ghost use Rattle.siptrace.specs.declared.Failure.TheVariants.{Memory, Read};
+ghost use Rattle.siptrace.specs.Failures.{failure_of, status_without};
 ghost use Rattle.siptrace.specs.Status.{status_of};
 
 use sip_verdict::{FromRead, JudgeError, Verdict, judge, render};
@@ -28,12 +32,16 @@ enum Failure {
 }
 
 impl From<AllocError> for Failure {
+    ghost from_gives = { λ _ failure. failure ≡ Memory };
+
     fn from(_: AllocError) -> Failure {
         Failure::Memory
     }
 }
 
 impl From<JudgeError> for Failure {
+    ghost from_gives = { λ error failure. failure ≡ failure_of error };
+
     fn from(error: JudgeError) -> Failure {
         match error {
             JudgeError::Io => Failure::Read,
@@ -54,8 +62,21 @@ fn status_of(verdict: &Verdict) -> u8
     }
 }
 
+/// The status that the program ends with where there is no verdict.
+fn status_without(failure: &Failure) -> u8
+    ensures { result ≡ status_without failure.now }
+{
+    match failure {
+        Failure::Read | Failure::Write | Failure::Memory => 4,
+        Failure::Words => 5,
+    }
+}
+
 /// What could not be had from the system.
-fn read_failure(error: io::Error) -> Failure {
+fn read_failure(error: io::Error) -> Failure
+    ensures memory { error_kind error ≡ OutOfMemory → result ≡ Memory }
+    ensures read { error_kind error ≢ OutOfMemory → result ≡ Read }
+{
     if error.kind() == io::ErrorKind::OutOfMemory {
         Failure::Memory
     } else {
@@ -81,11 +102,7 @@ fn main(rt: HostRuntime) -> ExitCode {
         Ok(status) => ExitCode::from(status),
         Err(failure) => {
             let _ = eprintln!(rt; "siptrace: {failure}");
-            ExitCode::from(if matches!(failure, Failure::Words) {
-                5
-            } else {
-                4
-            })
+            ExitCode::from(status_without(&failure))
         }
     }
 }

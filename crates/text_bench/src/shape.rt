@@ -270,7 +270,7 @@ pub const SHAPES: [Shape; 34] = [
 
 /// The text of this shape, as long as `size` or a little shorter.
 pub fn text_of(alloc: Global, shape: Shape, size: usize) -> Result<Vec<u8>, AllocError>
-    ensures { IfOk result (λ text. IsOfShape shape text.items) }
+    ensures { IfOk result (λ text. IsOfShape shape size text.items) }
 {
     let mut text = Vec::new(alloc);
     let frame = shape.front.len().saturating_add(shape.end.len());

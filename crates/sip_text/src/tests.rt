@@ -1,4 +1,6 @@
-use crate::{Host, read_host, read_quoted, same_text, skip_lws, token_len};
+use crate::{
+    Host, is_ipv6_address, is_port, read_host, read_quoted, same_text, skip_lws, token_len,
+};
 
 // A text, and the length of the longest token and of the longest blank run at its front.
 const FRONTS: [(&[u8], usize, usize); 8] = [
@@ -42,6 +44,16 @@ const HOSTS: [(&[u8], &str); 18] = [
     (b"", "none"),
 ];
 
+// A text, and whether it is an IPv6 address, and a port.
+const ADDRESSES: [(&[u8], bool, bool); 6] = [
+    (b"2001:db8::9:1", true, false),
+    (b"::ffff:192.0.2.10", true, false),
+    (b"[::1]", false, false),
+    (b"05060", false, true),
+    (b"65536", false, false),
+    (b"", false, false),
+];
+
 const PAIRS: [(&[u8], &[u8], bool); 4] = [
     (b"z9hG4bK", b"Z9HG4BK", true),
     (b"a[", b"a{", false),
@@ -73,6 +85,10 @@ fn reads_fronts(rt: HostRuntime) {
 fn reads_hosts(rt: HostRuntime) {
     for (text, want) in HOSTS {
         assert_eq!(rt; kind(read_host(text)), want, "host of {text:?}");
+    }
+    for (text, address, port) in ADDRESSES {
+        assert_eq!(rt; is_ipv6_address(text), address, "IPv6 address {text:?}");
+        assert_eq!(rt; is_port(text), port, "port {text:?}");
     }
 }
 

@@ -177,8 +177,8 @@ const PORT_DIGITS: usize = 5;
 
 const LAST_PORT: u32 = 65535;
 
-// Whether the text is a port.
-fn is_port(text: &[u8]) -> bool
+/// Whether the whole text is a `port` (RFC 3261, section 25.1): one to five digits, at most 65535.
+pub fn is_port(text: &[u8]) -> bool
     ensures { IsTrue result ↔ Port text.now }
 {
     if text.is_empty() || text.len() > PORT_DIGITS {

@@ -1,0 +1,15 @@
+//! Tests of `sip_message` on whole messages: what each comes to, row by row.
+#![tactic(auto)]
+
+#[cfg(test)]
+mod answer;
+#[cfg(test)]
+mod changed;
+#[cfg(test)]
+mod ipv6;
+#[cfg(test)]
+mod rows;
+#[cfg(test)]
+mod tests;
+#[cfg(test)]
+mod torture;

@@ -1,0 +1,246 @@
+//! What a change of one line of the OPTIONS request comes to, worked out from RFC 3261 sections 7, 20 and 25.
+
+use crate::answer::Answer;
+use crate::changed::{NO_LINE, OVER_TCP};
+use Answer::{Body, Head, Line, Read};
+use Reason::{
+    BareLineEnd, FieldLine, LongBody, MethodMismatch, Missing, NoLength, Repeated, ShortBody,
+    StartLine, Value,
+};
+use sip_message::Reason;
+
+/// The lines that are changed, the body, and what the message comes to.
+pub(crate) type Change = (&'static [(usize, &'static [u8])], &'static [u8], Answer);
+
+const READ: Answer = Read { body: 0 };
+
+/// The start line, and the head as a whole, which comes first.
+pub(crate) static STARTS: &[Change] = &[
+    (&[], b"", READ),
+    (
+        &[(0, b"OPTIONS sip:example.com SIP/1.0")],
+        b"",
+        Line(0, StartLine),
+    ),
+    (
+        &[(0, b"OPTIONS sip:example.com SIP/2.0 ")],
+        b"",
+        Line(0, StartLine),
+    ),
+    (
+        &[(0, b"OPTIONS\r\n sip:example.com SIP/2.0")],
+        b"",
+        Line(0, StartLine),
+    ),
+    (&[(0, b"OPTIONS sip:example.com sip/2.0")], b"", READ),
+    (&[(0, b"SIP/2.0 99 Reply")], b"", Line(0, StartLine)),
+    (&[(0, b"SIP/2.0 100 ")], b"", READ),
+    (&[(0, b"SIP/2.0 699 R\xc3\xa4ply\t")], b"", READ),
+    (&[(0, b"SIP/2.0 700 Reply")], b"", Line(0, StartLine)),
+    (&[(0, b"SIP/2.0 200")], b"", Line(0, StartLine)),
+    (&[(1, b"Via SIP"), (3, b"To: a\rb")], b"", Head(BareLineEnd)),
+    (&[(1, b"Via SIP"), (3, b"To: a\nb")], b"", Head(BareLineEnd)),
+];
+
+/// Lines, one after another: a name and a colon, and then a value.
+pub(crate) static LINES: &[Change] = &[
+    (&[(1, b"Via SIP")], b"", Line(1, FieldLine)),
+    (&[(1, b": SIP")], b"", Line(1, FieldLine)),
+    (&[(3, b"To : <sip:bob@example.com>")], b"", READ),
+    (&[(3, b"To\t \t:\t<sip:bob@example.com>  ")], b"", READ),
+    (
+        &[(3, b"To\r\n : <sip:bob@example.com>")],
+        b"",
+        Line(3, FieldLine),
+    ),
+    (&[(6, b"Content-Length: 0\r\nSubject:")], b"", READ),
+    (
+        &[(6, b"Content-Length: 0\r\nSubject: a\x01")],
+        b"",
+        Line(7, Value),
+    ),
+    (
+        &[(6, b"Subject: a\r\n b\r\nContent-Length: x")],
+        b"",
+        Line(7, Value),
+    ),
+];
+
+/// Via.
+pub(crate) static VIAS: &[Change] = &[
+    (
+        &[(
+            1,
+            b"v: SIP / 2.0 / UDP\r\n a.example.com : 5060 ; branch = z9hG4bK1",
+        )],
+        b"",
+        READ,
+    ),
+    (&[(1, b"Via: SIP/2.0/UDP a;branch")], b"", Line(1, Value)),
+    (
+        &[(1, b"Via: SIP/2.0/UDP a;branch=\"x\"")],
+        b"",
+        Line(1, Value),
+    ),
+    (
+        &[(1, b"Via: SIP/2.0/UDP a;BRANCH=\"x\"")],
+        b"",
+        Line(1, Value),
+    ),
+    (
+        &[(1, b"Via: SIP/2.0/UDP a;branch=z9hG4bK1;branch")],
+        b"",
+        Line(1, Value),
+    ),
+    (
+        &[(
+            1,
+            b"Via: SIP/2.0/UDP a;branch=z9hG4bK1, SIP/2.0/UDP b;branch",
+        )],
+        b"",
+        Line(1, Value),
+    ),
+    (
+        &[(1, b"Via: SIP/2.0/UDP a;branch=z9hG4bK1,")],
+        b"",
+        Line(1, Value),
+    ),
+    (&[(1, b"Via: SIP/2.0/UDP a:65535")], b"", READ),
+    (&[(1, b"Via: SIP/2.0/UDP a:65536")], b"", Line(1, Value)),
+    (&[(1, b"Via: SIP/2.0/UDP a:005060")], b"", Line(1, Value)),
+    (
+        &[(1, b"Via: SIP/2.0/UDPa.example.com")],
+        b"",
+        Line(1, Value),
+    ),
+    (
+        &[(
+            1,
+            b"Via: SIP/2.0/UDP a;ttl=1;maddr=[::1];received=::1;x=\"y, ;\"",
+        )],
+        b"",
+        READ,
+    ),
+    (&[(1, b"Via: SIP/2.0/UDP a;x=")], b"", Line(1, Value)),
+    (&[(1, b"Via: SIP/2.0/UDP a;")], b"", Line(1, Value)),
+    (&[(1, NO_LINE)], b"", Head(Missing)),
+];
+
+/// From and To.
+pub(crate) static ADDRESSES: &[Change] = &[
+    (&[(2, b"From: \"A, B\" <sip:a@b>;tag=1")], b"", READ),
+    (&[(2, b"From: \"A\\\\\\\"\" <sip:a@b>")], b"", READ),
+    (&[(2, b"From: <sip:a@b?x=1>;tag=1;lr")], b"", READ),
+    (&[(2, b"From: sip:a@b?x=1")], b"", Line(2, Value)),
+    (&[(2, b"From: sip:a,b@c")], b"", Line(2, Value)),
+    (&[(2, b"From: sip:a@b;tag")], b"", READ),
+    (&[(2, b"From: <sip:a@b> x")], b"", Line(2, Value)),
+    (&[(2, b"From: <sip:a@b")], b"", Line(2, Value)),
+    (&[(2, b"From:")], b"", Line(2, Value)),
+];
+
+/// Call-ID and CSeq.
+pub(crate) static NUMBERS: &[Change] = &[
+    (&[(4, b"Call-ID: a@b@c")], b"", Line(4, Value)),
+    (&[(4, b"i: (a)<b>@c")], b"", READ),
+    (&[(4, b"Call-ID: @c")], b"", Line(4, Value)),
+    (&[(5, b"CSeq: 2147483647 OPTIONS")], b"", READ),
+    (&[(5, b"CSeq: 2147483648 OPTIONS")], b"", Line(5, Value)),
+    (
+        &[(5, b"CSeq: 00000000000000000000001\r\n\tOPTIONS")],
+        b"",
+        READ,
+    ),
+    (
+        &[(5, b"CSeq: 18446744073709551617 OPTIONS")],
+        b"",
+        Line(5, Value),
+    ),
+    (&[(5, b"CSeq: 1OPTIONS")], b"", Line(5, Value)),
+    (&[(5, b"CSeq: 1 INVITE")], b"", Line(5, MethodMismatch)),
+    (&[(5, b"CSeq: 1 options")], b"", Line(5, MethodMismatch)),
+    (
+        &[(0, b"SIP/2.0 200 Reply"), (5, b"CSeq: 1 INVITE")],
+        b"",
+        READ,
+    ),
+];
+
+/// What stands once, and what must stand; a bad value of a later line comes before a field that is missing.
+pub(crate) static NAMES: &[Change] = &[
+    (
+        &[(5, b"CSeq: 1 OPTIONS\r\nCSeq: 1 OPTIONS")],
+        b"",
+        Line(6, Repeated),
+    ),
+    (
+        &[(4, NO_LINE), (6, b"Content-Length: 0\r\nt: sip:a@b")],
+        b"",
+        Line(6, Repeated),
+    ),
+    (
+        &[(2, NO_LINE), (6, b"Content-Length: 0\r\nt: sip:a@b")],
+        b"",
+        Head(Missing),
+    ),
+    (
+        &[(3, b"To: sip:a@b\r\nt: sip:a@b\r\ntO: sip:a@b")],
+        b"",
+        Line(4, Repeated),
+    ),
+    (&[(6, b"Content-Length: 0\r\nl: 0")], b"", Line(7, Repeated)),
+    (&[(4, NO_LINE)], b"", Head(Missing)),
+    (&[(5, NO_LINE)], b"", Head(Missing)),
+    (
+        &[(4, NO_LINE), (6, b"Content-Length: x")],
+        b"",
+        Line(5, Value),
+    ),
+];
+
+/// The body, and that a later Via element has no part in it.
+pub(crate) static BODIES: &[Change] = &[
+    (
+        &[(6, b"Content-Length: 99999999999999999999")],
+        b"",
+        Body(ShortBody),
+    ),
+    (
+        &[OVER_TCP, (6, b"Content-Length: 99999999999999999999")],
+        b"",
+        Body(ShortBody),
+    ),
+    (
+        &[(6, b"Content-Length: 18446744073709551616")],
+        b"a",
+        Body(ShortBody),
+    ),
+    (&[(6, b"Content-Length: 4294967297")], b"a", Body(ShortBody)),
+    (
+        &[(6, b"Content-Length: 00000000000000000000003")],
+        b"abc",
+        Read { body: 3 },
+    ),
+    (&[(6, b"Content-Length: 3")], b"ab", Body(ShortBody)),
+    (&[], b"a", READ),
+    (&[OVER_TCP], b"a", Body(LongBody)),
+    (&[OVER_TCP], b"", READ),
+    (&[(6, NO_LINE)], b"abc", Read { body: 3 }),
+    (&[OVER_TCP, (6, NO_LINE)], b"abc", Body(NoLength)),
+    (
+        &[(1, b"Via: SIP/2.0/tls a"), (6, NO_LINE)],
+        b"",
+        Body(NoLength),
+    ),
+    (&[(1, b"Via: SIP/2.0/WSS a"), (6, NO_LINE)], b"", READ),
+    (
+        &[(1, b"Via: SIP/2.0/UDP a, SIP/2.0/TCP b"), (6, NO_LINE)],
+        b"",
+        READ,
+    ),
+    (
+        &[(1, b"Via: SIP/2.0/TCP a, SIP/2.0/UDP b"), (6, NO_LINE)],
+        b"",
+        Body(NoLength),
+    ),
+];

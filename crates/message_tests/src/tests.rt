@@ -1,0 +1,220 @@
+use crate::answer::{Answer, Row, answer_to};
+use crate::changed::changed;
+use crate::ipv6::IPV6;
+use crate::rows::{ADDRESSES, BODIES, Change, LINES, NAMES, NUMBERS, STARTS, VIAS};
+use crate::torture::TORTURE;
+use sip_message::{Message, ReadError, Reason, write};
+use std::alloc::{AllocError, Global};
+use std::process::Abort;
+use std::test::Fail;
+
+/// An OPTIONS request with folds, compact names and blanks wherever they may stand.
+const FOLDED: &[u8] = b"OPTIONS sip:example.com SIP/2.0\r\n\
+    v: SIP / 2.0 / UDP\r\n\
+    \x20a.example.com\r\n\
+    \t;branch = z9hG4bKr2\r\n\
+    f: <sip:bob@example.com>;tag=1\r\n\
+    t: sip:bob@example.com\r\n\
+    i: c2@a\r\n\
+    CSeq: 1 OPTIONS\r\n\
+    l: 0\r\n\
+    \r\n";
+
+/// Its canonical form.
+const UNFOLDED: &[u8] = b"OPTIONS sip:example.com SIP/2.0\r\n\
+    Via: SIP / 2.0 / UDP a.example.com ;branch = z9hG4bKr2\r\n\
+    From: <sip:bob@example.com>;tag=1\r\n\
+    To: sip:bob@example.com\r\n\
+    Call-ID: c2@a\r\n\
+    CSeq: 1 OPTIONS\r\n\
+    Content-Length: 0\r\n\
+    \r\n";
+
+/// The canonical form of the bytes, or their first fault.
+fn canonical(alloc: Global, bytes: &[u8]) -> Result<Vec<u8>, ReadError> {
+    let message = Message::read(alloc, bytes)?;
+    let mut out = Vec::new(alloc);
+    write(&message, &mut out)?;
+    Ok(out)
+}
+
+/// Reads each message.
+fn read_rows(rt: &(impl Abort + AllocGlobal), rows: &[Row]) -> Result<(), Fail> {
+    for row in rows {
+        assert_eq!(rt;
+            answer_to(rt.alloc(), row.text)?,
+            row.answer,
+            "{}",
+            row.name
+        );
+    }
+    Ok(())
+}
+
+#[test]
+fn reads_torture_messages(rt: HostRuntime) -> Result<(), Fail> {
+    read_rows(&rt, TORTURE)?;
+    read_rows(&rt, IPV6)
+}
+
+/// Reads each changed request.
+fn read_changes(rt: &(impl Abort + AllocGlobal), rows: &[Change]) -> Result<(), Fail> {
+    for (n, row) in rows.iter().enumerate() {
+        let text = changed(rt.alloc(), row.0, row.1)?;
+        assert_eq!(rt; answer_to(rt.alloc(), &text)?, row.2, "row {n}");
+    }
+    Ok(())
+}
+
+#[test]
+fn reads_start_lines(rt: HostRuntime) -> Result<(), Fail> {
+    read_changes(&rt, STARTS)
+}
+
+#[test]
+fn reads_lines(rt: HostRuntime) -> Result<(), Fail> {
+    read_changes(&rt, LINES)
+}
+
+#[test]
+fn reads_vias(rt: HostRuntime) -> Result<(), Fail> {
+    read_changes(&rt, VIAS)
+}
+
+#[test]
+fn reads_addresses(rt: HostRuntime) -> Result<(), Fail> {
+    read_changes(&rt, ADDRESSES)
+}
+
+#[test]
+fn reads_call_ids_and_cseqs(rt: HostRuntime) -> Result<(), Fail> {
+    read_changes(&rt, NUMBERS)
+}
+
+#[test]
+fn reads_fields_that_stand_once(rt: HostRuntime) -> Result<(), Fail> {
+    read_changes(&rt, NAMES)
+}
+
+#[test]
+fn reads_bodies(rt: HostRuntime) -> Result<(), Fail> {
+    read_changes(&rt, BODIES)
+}
+
+#[test]
+fn tells_a_head_from_none(rt: HostRuntime) -> Result<(), Fail> {
+    let mut text = changed(rt.alloc(), &[], b"")?;
+    let no_end = Answer::Head(Reason::NoHeadEnd);
+    assert_eq!(rt; text.len(), 196);
+    text.truncate(194);
+    assert_eq!(rt; answer_to(rt.alloc(), &text)?, no_end);
+    assert_eq!(rt; answer_to(rt.alloc(), b"")?, no_end);
+    assert_eq!(rt;
+        answer_to(rt.alloc(), b"\r\n\r\n")?,
+        Answer::Line(0, Reason::StartLine)
+    );
+    Ok(())
+}
+
+#[test]
+fn writes_the_canonical_form(rt: HostRuntime) -> Result<(), Fail> {
+    assert_eq!(rt; FOLDED.len(), 181);
+    assert_eq!(rt; UNFOLDED.len(), 202);
+    assert!(rt; canonical(rt.alloc(), FOLDED)?.as_slice() == UNFOLDED);
+    assert!(rt; canonical(rt.alloc(), UNFOLDED)?.as_slice() == UNFOLDED);
+    Ok(())
+}
+
+#[test]
+fn reads_back_what_it_writes(rt: HostRuntime) -> Result<(), Fail> {
+    let mut text = FOLDED.to_vec(rt.alloc())?;
+    for at in 0..FOLDED.len() {
+        for byte in 0..=255 {
+            text[at] = byte;
+            match canonical(rt.alloc(), &text) {
+                Ok(out) => assert!(rt;
+                    canonical(rt.alloc(), &out)?.as_slice() == out.as_slice(),
+                    "{byte} at {at}"
+                ),
+                Err(ReadError::Fault(fault)) => {
+                    let later = matches!(fault.reason, Reason::NoCookie | Reason::NotYet);
+                    assert!(rt; !later, "{byte} at {at}");
+                }
+                Err(ReadError::Memory) => return Err(AllocError.into()),
+            }
+        }
+        text[at] = FOLDED[at];
+    }
+    Ok(())
+}
+
+#[test]
+fn shows_the_parts(rt: HostRuntime) -> Result<(), Fail> {
+    let message = Message::read(rt.alloc(), TORTURE[0].text)?;
+    let top = message.top_via();
+    assert!(rt; top.transport == b"UDP".as_slice() && top.branch == Some(b"390skdjuw".as_slice()));
+    assert!(rt; top.whole == b"SIP  /   2.0\r\n /UDP\r\n    192.0.2.2;branch=390skdjuw".as_slice());
+    assert!(rt; !message.is_reliable());
+    let mut branches = message.vias();
+    for want in [b"390skdjuw".as_slice(), b"z9hG4bK9ikj8", b"z9hG4bK30239"] {
+        assert!(rt; branches.next().is_some_and(|via| via.branch == Some(want)));
+    }
+    assert!(rt; branches.next().is_none());
+    assert!(rt; message.from().display == Some(b"\"J Rosenberg \\\\\\\"\"".as_slice()));
+    assert!(rt; message.from().params == b";\r\n  tag = 98asjd8".as_slice());
+    assert!(rt;
+        message.to().whole
+            == b"sip:vivekg@chair-dnrc.example.com ;   tag    = 1918181833n".as_slice()
+    );
+    assert!(rt; message.to().display == None);
+    assert!(rt; message.call_id() == b"wsinv.ndaksdj@192.0.2.1".as_slice());
+    assert_eq!(rt; message.cseq().number, 9);
+    assert!(rt; message.cseq().method == b"INVITE".as_slice());
+    let mut routes = message.routes();
+    let route = b"<sip:services.example.com;lr;unknownwith=value;unknown-no-value>";
+    assert!(rt; routes.next() == Some(route.as_slice()) && routes.next() == None);
+    assert!(rt; message.body().len() == 150 && message.body().first() == Some(&b'v'));
+    Ok(())
+}
+
+/// A request with one more line: its front, a part of it many times, and its end.
+fn long_line(
+    alloc: Global,
+    front: &[u8],
+    part: &[u8],
+    times: usize,
+    end: &[u8],
+) -> Result<Vec<u8>, AllocError> {
+    let mut line = Vec::new(alloc);
+    line.extend_from_slice(b"Content-Length: 0\r\n")?;
+    line.extend_from_slice(front)?;
+    for _ in 0..times {
+        line.extend_from_slice(part)?;
+    }
+    line.extend_from_slice(end)?;
+    changed(alloc, &[(6, &line)], b"")
+}
+
+#[test]
+fn reads_long_lines(rt: HostRuntime) -> Result<(), Fail> {
+    let text = long_line(rt.alloc(), b"s: a", b"\r\n ", 20_000, b"b")?;
+    assert_eq!(rt; canonical(rt.alloc(), &text)?.len(), 210);
+    // The unit, how often, and whether the line is one.
+    let read = Answer::Read { body: 0 };
+    let value = Answer::Line(7, Reason::Value);
+    let rows: [(&[u8], &[u8], usize, &[u8], Answer); 8] = [
+        (b"Via: SIP/2.0/UDP a", b";a", 30_000, b"", read),
+        (b"Via: SIP/2.0/UDP a", b", SIP/2.0/UDP a", 4_000, b"", read),
+        (b"Via: SIP/2.0/UDP a", b",", 60_000, b"", value),
+        (b"Via: SIP/2.0/UDP a;x=\"", b"\\\"", 30_000, b"\"", read),
+        (b"Via: SIP/2.0/UDP a;x=\"", b"\\\"", 30_000, b"", value),
+        (b"s: x", b"\r\ns: x", 10_000, b"", read),
+        (b"Route: ", b"a,", 30_000, b"", read),
+        (b"x: ", b"\xff", 60_000, b"", read),
+    ];
+    for (n, &(front, part, times, end, want)) in rows.iter().enumerate() {
+        let text = long_line(rt.alloc(), front, part, times, end)?;
+        assert_eq!(rt; answer_to(rt.alloc(), &text)?, want, "long line {n}");
+    }
+    Ok(())
+}

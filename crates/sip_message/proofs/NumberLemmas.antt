@@ -1,0 +1,40 @@
+-- Numbers of any number of digits, read up to a bound.
+use Rattle.std.proofs.Common.{◌≡◌, ℕ, ◌+◌, ◌*◌, ◌-◌, ◌<◌, ◌≤◌, Bool, true, false, List, length, take, get_or, sym, ◌∙◌, arith}
+use Rattle.std.specs.Bool.{Decides}
+use Rattle.std.specs.Char.{is_ascii_digit}
+use Rattle.std.specs.List.{list_all}
+use Rattle.std.specs.Str.Parse.{digits_value}
+use Rattle.std.proofs.lemmas.Bool.{both_ways}
+use Rattle.std.proofs.lemmas.Int.Digits.{digits_value_more}
+use Rattle.std.proofs.lemmas.List.Folds.{list_all_at}
+use Rattle.std.proofs.lemmas.Str.Parse.{digits_value-take-le}
+use Rattle.sip_text.specs.Text.{One, Many}
+use Rattle.sip_text.proofs.ManyLemmas.{many-some}
+use Rattle.sip_text.proofs.RunLemmas.{run-list_all, list_all-run}
+use Rattle.sip_text.proofs.UriPortLemmas.{digit-above}
+use Rattle.sip_message.specs.Values.{Digits}
+
+-- the digits before the index write the number
+pub record ReadsNumber (text : List ℕ) (at number most : ℕ) : Type 0 where
+  pub value : number ≡ digits_value 10 (take at text)
+  pub small : number ≤ most
+
+-- a byte that is no digit stands in no digits
+pub digits-at : (text : List ℕ) (k : ℕ) → Digits text → k < length text → is_ascii_digit (get_or text k 0) ≡ false → ⊥
+digits-at text k digits within other =
+    both_ways (list_all is_ascii_digit text) (list_all_at is_ascii_digit text k 0 within other)
+    (run-list_all is_ascii_digit text (many-some (One is_ascii_digit) text digits))
+
+-- one digit more
+pub number-more : (text : List ℕ) (at number most : ℕ) → at < length text → ReadsNumber text at number most → is_ascii_digit (get_or text at 0) ≡ true → number * 10 + (get_or text at 0 - 48) ≡ digits_value 10 (take (at + 1) text)
+number-more text at number most within reads is =
+    let digit = digit-above (get_or text at 0) is in
+    omega (arith, digits_value_more 10 text at within, reads.value, digit.2, digit.0)
+
+-- digits that write a larger number write a larger one with all that follow
+pub number-large : (text : List ℕ) (at number most : ℕ) → number ≡ digits_value 10 (take at text) → most < number → most < digits_value 10 text
+number-large text at number most is large = omega (arith, is, large, digits_value-take-le 10 text at (omega arith))
+
+-- what decides each byte decides a run
+pub all-decides : (test : ℕ → Bool) (text : List ℕ) (r : Bool) → r ≡ list_all test text → Decides r (Many (One test) text)
+all-decides test text r is = (λ all. list_all-run test text (sym is ∙ all), λ many. is ∙ run-list_all test text many)

@@ -1,0 +1,10 @@
+use Rattle.std.proofs.Common.{◌-◌, length}
+use Rattle.sip_message.proofs.WordLemmas.{WordsSoFar}
+use Rattle.sip_message.proofs.address.cut_words.Given as goal
+
+-- the front so far is words
+abbrev pub invariant-words : goal.invariant-words
+invariant-words l = WordsSoFar l.text l.at
+
+abbrev pub decreases-words : goal.decreases-words
+decreases-words l = length l.text - l.at

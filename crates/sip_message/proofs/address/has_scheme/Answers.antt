@@ -1,0 +1,8 @@
+use Rattle.sip_message.proofs.AddressLemmas.{decides-scheme, scheme-short}
+use Rattle.sip_message.proofs.address.has_scheme.Goals as goal
+
+pub returns-then-len-text : goal.returns-then-len-text
+returns-then-len-text c = decides-scheme c.args.text.now c.token_len-len.result c.token_len-len.ensures.reads c.if-len-text.true
+
+pub returns-else-len-text : goal.returns-else-len-text
+returns-else-len-text c = scheme-short c.args.text.now c.token_len-len.result c.token_len-len.ensures.reads c.if-len-text.false

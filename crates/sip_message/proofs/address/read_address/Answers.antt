@@ -1,0 +1,25 @@
+use Rattle.std.proofs.Common.{sym, subst}
+use Rattle.sip_text.specs.Text.{IsOnlyValue}
+use Rattle.sip_message.specs.Reading.{AddressValue}
+use Rattle.sip_message.specs.ValueParts.{address_parts}
+use Rattle.sip_message.proofs.FrontLemmas.{stop, go-stop, go, last}
+use Rattle.sip_message.proofs.AddressLemmas.{read-address, no-address}
+use Rattle.sip_message.proofs.address.read_address.Goals as goal
+
+pub returns-in_err-cuts : goal.returns-in_err-cuts
+returns-in_err-cuts c =
+    subst (IsOnlyValue AddressValue address_parts c.args.text.now) (sym c.from_residual.ensures)
+    (no-address c.args.text.now (stop c.in_err-cuts.ensures))
+
+pub returns-in_err-uri : goal.returns-in_err-uri
+returns-in_err-uri c =
+    subst (IsOnlyValue AddressValue address_parts c.args.text.now) (sym c.from_residual-in_err-uri.ensures)
+    (no-address c.args.text.now (go-stop c.in_ok-cuts.ensures (stop c.in_err-uri.ensures)))
+
+pub returns-in_err-params : goal.returns-in_err-params
+returns-in_err-params c =
+    subst (IsOnlyValue AddressValue address_parts c.args.text.now) (sym c.from_residual-in_err-params.ensures)
+    (no-address c.args.text.now (go-stop c.in_ok-cuts.ensures (go-stop c.in_ok-uri.ensures (stop c.in_err-params.ensures))))
+
+pub returns : goal.returns
+returns c = read-address c.args.text.now _ (go c.in_ok-cuts.ensures (go c.in_ok-uri.ensures (go c.in_ok-params.ensures (last _))))

@@ -1,0 +1,8 @@
+use Rattle.std.proofs.Common.{take, map}
+use Rattle.std.proofs.Common.{◌≡◌, ◌++◌}
+use Rattle.sip_message.specs.inner.Appends.{fields_text}
+use Rattle.sip_message.specs.Views.{field_parts}
+use Rattle.sip_message.proofs.canon.append_fields.Given as goal
+
+abbrev pub invariant-fields : goal.invariant-fields
+invariant-fields l = l.out.items ≡ l.fn.out.items ++ fields_text (map field_parts (take l.field-index l.fields))

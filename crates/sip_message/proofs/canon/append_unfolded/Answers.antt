@@ -1,0 +1,27 @@
+use Rattle.std.proofs.Common.{sym, ◌∙◌, subst}
+use Rattle.sip_message.specs.Unfold.{unfolded}
+use Rattle.sip_message.specs.inner.Appends.{Appends}
+use Rattle.sip_message.proofs.CanonLemmas.{unfolded-same}
+use Rattle.sip_message.proofs.HeadLemmas.{inner-none}
+use Rattle.sip_message.proofs.UnfoldReads.{unfold-start, unfold-blank, unfold-solid, unfold-part, part-more}
+use Rattle.sip_message.proofs.canon.append_unfolded.Goals as goal
+
+pub returns-in_default : goal.returns-in_default
+returns-in_default c = subst (λ t. Appends c.args.out.now.items c.append.new.out.items t c.append.result) (sym (unfolded-same c.args.text.now (inner-none c.args.text.now c.in_default.ensures))) c.append.ensures
+
+pub bytes-init : goal.bytes-init
+bytes-init c = unfold-start c.args.out.now.items c.args.text.now
+
+pub bytes-preserved-then-is_blank : goal.bytes-preserved-then-is_blank
+bytes-preserved-then-is_blank c =
+    unfold-blank c.args.out.now.items c.args.text.now c.bytes.out.items c.bytes.from c.bytes.at c.bytes-test.true (sym c.is_blank.ensures ∙ c.if-is_blank.true) c.bytes.invariant
+
+pub returns-in_err-append : goal.returns-in_err-append
+returns-in_err-append c =
+    unfold-part c.args.out.now.items c.args.text.now c.bytes.out.items c.append-in-bytes.new.out.items (unfolded c.args.text.now) c.bytes.from c.bytes.at c.from_residual-in_err-append.result c.from_residual-in_err-append.ensures.0 c.bytes.invariant
+    (part-more c.bytes.out.items c.append_run.new.out.items c.append-in-bytes.new.out.items _ c.in_ok-append_run.ensures c.in_err-append.ensures)
+
+pub bytes-preserved : goal.bytes-preserved
+bytes-preserved c =
+    unfold-solid c.args.out.now.items c.args.text.now c.bytes.out.items c.append_run.new.out.items c.append-in-bytes.new.out.items c.bytes.from c.bytes.at c.bytes-test.true (sym c.is_blank.ensures ∙ c.if-is_blank.false) c.bytes.invariant
+    c.in_ok-append_run.ensures c.in_ok-append.ensures

@@ -1,0 +1,5 @@
+use Rattle.sip_message.proofs.UnfoldReads.{Unfolding}
+use Rattle.sip_message.proofs.canon.append_unfolded.Given as goal
+
+abbrev pub invariant-bytes : goal.invariant-bytes
+invariant-bytes l = Unfolding l.fn.out.items l.text l.from l.at l.out.items

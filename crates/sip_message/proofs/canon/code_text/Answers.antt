@@ -1,0 +1,5 @@
+use Rattle.sip_message.proofs.UnfoldReads.{three-digits}
+use Rattle.sip_message.proofs.canon.code_text.Goals as goal
+
+pub returns : goal.returns
+returns c = three-digits c.args.code c.requires.0 c.requires.1

@@ -1,0 +1,23 @@
+use Rattle.std.proofs.Common.{◌≡◌, List, ℕ, take, drop, sym, ap, ◌∙◌, subst}
+use Rattle.std.proofs.lemmas.List.{take_rest}
+use Rattle.sip_text.specs.Text.{IsLongestFront}
+use Rattle.sip_text.specs.Grammar.{Token}
+use Rattle.sip_message.specs.inner.Fronts.{TokenFront}
+use Rattle.sip_message.proofs.FrontLemmas.{token-cut, no-token, same-token}
+use Rattle.sip_message.proofs.cursor.cut_token.Goals as goal
+
+pub returns-then-len-eq0 : goal.returns-then-len-eq0
+returns-then-len-eq0 c (t, r) =
+    no-token c.args.text.now (subst (IsLongestFront Token c.args.text.now) c.if-len-eq0.true c.token_len-len.ensures.reads) t r
+
+pub returns : goal.returns
+returns c =
+    let text = c.args.text.now in
+    let n = c.token_len-len.result in
+    let front = token-cut text n c.token_len-len.ensures.reads c.if-len-eq0.false in
+    subst (λ t. TokenFront text (take n text, t) × ((x : List ℕ × List ℕ) → TokenFront text x → x ≡ (take n text, t))) (sym (take_rest text n)) (
+      front,
+      (λ x is.
+          let same = same-token text x.0 x.1 (take n text) (drop n text) is front in
+          ap (λ t. (t, x.1)) same.0 ∙ ap (λ t. (take n text, t)) same.1),
+    )

@@ -1,0 +1,42 @@
+use Rattle.std.proofs.Common.{sym, subst}
+use Rattle.std.proofs.lemmas.List.{take_rest}
+use Rattle.sip_text.specs.Text.{IsOnlyValue, IsLongestFront}
+use Rattle.sip_text.specs.Grammar.{Blanks}
+use Rattle.sip_message.specs.inner.Fronts.{ProtocolFront, protocol_parts, BlanksFront}
+use Rattle.sip_message.proofs.FrontLemmas.{ReadAs, stop, go-stop, go, last, no-blanks, longest-blanks_front}
+use Rattle.sip_message.proofs.cursor.read_protocol.Goals as goal
+
+pub returns-in_err-protocol : goal.returns-in_err-protocol
+returns-in_err-protocol c =
+    subst (IsOnlyValue ProtocolFront protocol_parts c.args.text.now) (sym c.from_residual.ensures) (stop c.in_err-protocol.ensures)
+
+pub returns-in_err-past_mark : goal.returns-in_err-past_mark
+returns-in_err-past_mark c =
+    subst (IsOnlyValue ProtocolFront protocol_parts c.args.text.now) (sym c.from_residual-in_err-past_mark.ensures)
+    (go-stop c.in_ok-protocol.ensures (stop c.in_err-past_mark.ensures))
+
+pub returns-in_err-version : goal.returns-in_err-version
+returns-in_err-version c =
+    subst (IsOnlyValue ProtocolFront protocol_parts c.args.text.now) (sym c.from_residual-in_err-version.ensures)
+    (go-stop c.in_ok-protocol.ensures (go-stop c.in_ok-past_mark.ensures (stop c.in_err-version.ensures)))
+
+pub returns-in_err-past_mark-2 : goal.returns-in_err-past_mark-2
+returns-in_err-past_mark-2 c =
+    subst (IsOnlyValue ProtocolFront protocol_parts c.args.text.now) (sym c.from_residual-in_err-past_mark-2.ensures)
+    (go-stop c.in_ok-protocol.ensures (go-stop c.in_ok-past_mark.ensures (go-stop c.in_ok-version.ensures (stop c.in_err-past_mark-2.ensures))))
+
+pub returns-in_err-transport : goal.returns-in_err-transport
+returns-in_err-transport c =
+    subst (IsOnlyValue ProtocolFront protocol_parts c.args.text.now) (sym c.from_residual-in_err-transport.ensures)
+    (go-stop c.in_ok-protocol.ensures (go-stop c.in_ok-past_mark.ensures (go-stop c.in_ok-version.ensures (go-stop c.in_ok-past_mark-2.ensures (stop c.in_err-transport.ensures)))))
+
+pub returns-then-blanks-eq0 : goal.returns-then-blanks-eq0
+returns-then-blanks-eq0 c =
+    go-stop c.in_ok-protocol.ensures (go-stop c.in_ok-past_mark.ensures (go-stop c.in_ok-version.ensures (go-stop c.in_ok-past_mark-2.ensures (go-stop c.in_ok-transport.ensures
+    (stop (no-blanks c.in_ok-transport.rest.now (subst (IsLongestFront Blanks c.in_ok-transport.rest.now) c.if-blanks-eq0.true c.skip_lws-blanks.ensures.reads)))))))
+
+pub returns : goal.returns
+returns c =
+    let rest = c.in_ok-transport.rest.now in
+    go c.in_ok-protocol.ensures (go c.in_ok-past_mark.ensures (go c.in_ok-version.ensures (go c.in_ok-past_mark-2.ensures (go c.in_ok-transport.ensures
+    (go (subst (ReadAs (BlanksFront rest)) (sym (take_rest rest c.skip_lws-blanks.result)) (longest-blanks_front rest c.skip_lws-blanks.result c.skip_lws-blanks.ensures.reads c.if-blanks-eq0.false)) (last _))))))

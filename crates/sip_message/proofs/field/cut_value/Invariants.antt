@@ -1,0 +1,15 @@
+use Rattle.std.proofs.Common.{◌+◌, length, ◌-◌, ◌≡◌, drop, map}
+use Rattle.sip_message.specs.Elements.{values}
+use Rattle.sip_message.specs.Message.{found_from}
+use Rattle.sip_message.specs.Views.{field_parts}
+use Rattle.sip_message.proofs.field.cut_value.Given as goal
+
+-- no field of the name was passed over
+abbrev pub invariant-loop-at : goal.invariant-loop-at
+invariant-loop-at l = record {
+  values : values l.name (drop l.fn.from (map field_parts l.fields)) ≡ values l.name (drop l.at (map field_parts l.fields));
+  found : found_from (l.fn.from + 1) l.name (drop l.fn.from (map field_parts l.fields)) ≡ found_from (l.at + 1) l.name (drop l.at (map field_parts l.fields));
+}
+
+abbrev pub decreases-loop-at : goal.decreases-loop-at
+decreases-loop-at l = length l.fields - l.at

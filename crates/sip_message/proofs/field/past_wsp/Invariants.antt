@@ -1,0 +1,10 @@
+use Rattle.std.proofs.Common.{◌≡◌, length}
+use Rattle.sip_message.specs.inner.Fronts.{past_wsp}
+use Rattle.sip_message.proofs.field.past_wsp.Given as goal
+
+-- SP and HTAB alone were passed
+abbrev pub invariant-blanks : goal.invariant-blanks
+invariant-blanks l = past_wsp l.rest ≡ past_wsp l.fn.text
+
+abbrev pub decreases-blanks : goal.decreases-blanks
+decreases-blanks l = length l.rest

@@ -1,0 +1,28 @@
+use Rattle.std.proofs.Common.{◌+◌, ◌∷◌, [], map, sym, ap, ◌∙◌, subst, arith}
+use Rattle.std.proofs.lemmas.List.{map-append, length-map}
+use Rattle.sip_message.specs.Outcome.{stops}
+use Rattle.sip_message.specs.Faults.{FieldsOf, FieldOf}
+use Rattle.sip_message.specs.Views.{field_parts, fields_parts}
+use Rattle.sip_message.specs.inner.Settles.{outcome_of}
+use Rattle.sip_message.proofs.ReadLemmas.{SoFar, so_far-all, so_far-more, so_far-stops, settles-fault}
+use Rattle.sip_message.proofs.field.read_fields.Goals as goal
+
+pub returns-in_err-field : goal.returns-in_err-field
+returns-in_err-field c lines are =
+    let fault = c.in_err-field.field-0.0 in
+    let line = c.in-Some.line.now in
+    let fields = fields_parts c.lines.fields in
+    let field = subst (λ r. FieldOf (c.len.result + 1) line (outcome_of field_parts r)) c.in_err-field.was c.read_field.ensures in
+    settles-fault (FieldsOf 1 lines) fields_parts c.from_residual.result fault c.from_residual.ensures.0 c.from_residual.ensures.1
+    (so_far-stops lines c.lines.rest.now line c.in-Some.more.now fields fault (c.lines.invariant lines are) c.in-Some.ensures
+    (subst (λ n. FieldOf n line (stops fault)) (omega (arith, c.len.ensures, length-map c.lines.fields.items field_parts)) field))
+
+pub lines-preserved : goal.lines-preserved
+lines-preserved c lines are =
+    let line = c.in-Some.line.now in
+    let field = field_parts c.in_ok-field.field in
+    subst (SoFar lines c.in-Some.more.now) (sym (ap (map field_parts) c.in_default-push.ensures.items ∙ map-append field_parts c.lines.fields.items (c.in_ok-field.field ∷ [])))
+    (so_far-more lines c.lines.rest.now line c.in-Some.more.now (fields_parts c.lines.fields) field (c.len.result + 1) (c.lines.invariant lines are) c.in-Some.ensures c.in_ok-field.ensures)
+
+pub returns : goal.returns
+returns c lines are = so_far-all lines c.lines.rest.now (fields_parts c.lines.fields) (c.lines.invariant lines are) c.in_default.ensures

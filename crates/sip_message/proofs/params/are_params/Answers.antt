@@ -1,0 +1,13 @@
+use Rattle.std.proofs.Common.{◌↔◌, IsTrue, sym, subst}
+use Rattle.sip_message.proofs.ParamsLemmas.{AreParams, params-some, params-none}
+use Rattle.sip_message.proofs.params.are_params.Goals as goal
+
+pub returns-in-Some : goal.returns-in-Some
+returns-in-Some c =
+    subst (λ b. IsTrue b ↔ AreParams c.args.text.now) (sym c.is_empty.ensures)
+    (params-some c.args.text.now c.in-Some.field-0.now c.past_params.result.now (sym c.in-Some.ensures) c.past_params.ensures)
+
+pub returns-in-None : goal.returns-in-None
+returns-in-None c =
+    subst (λ b. IsTrue b ↔ AreParams c.args.text.now) (sym c.is_empty-in-None.ensures)
+    (params-none c.args.text.now (sym c.in-None.ensures))

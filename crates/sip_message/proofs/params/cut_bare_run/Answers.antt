@@ -1,0 +1,18 @@
+use Rattle.std.proofs.Common.{refl}
+use Rattle.std.proofs.lemmas.Bool.{both_ways}
+use Rattle.sip_message.proofs.ValueLemmas.{bare-found, bare-missing, rest-short}
+use Rattle.sip_message.proofs.params.cut_bare_run.Goals as goal
+
+pub slice_bounds-value-count : goal.slice_bounds-value-count
+slice_bounds-value-count c =
+    let run = c.past_bare-rest.ensures.1 in
+    rest-short c.args.text.now run.0 c.past_bare-rest.result.now run.2
+
+pub returns-then-is_bare : goal.returns-then-is_bare
+returns-then-is_bare c =
+    bare-found c.args.text.now c.past_bare-rest.result.now _ c.past_bare-rest.ensures refl (c.is_bare.ensures.0 c.if-is_bare.true)
+
+pub returns-else-is_bare : goal.returns-else-is_bare
+returns-else-is_bare c =
+    bare-missing c.args.text.now c.past_bare-rest.result.now _ c.past_bare-rest.ensures refl
+    (λ kind. both_ways c.is_bare.result c.if-is_bare.false (c.is_bare.ensures.1 kind))

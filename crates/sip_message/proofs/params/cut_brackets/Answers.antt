@@ -1,0 +1,24 @@
+use Rattle.std.proofs.Common.{option_copied, sym, ap, subst, ◌∙◌}
+use Rattle.sip_text.specs.Text.{IsOnlyValue}
+use Rattle.sip_message.specs.inner.Fronts.{pair_parts}
+use Rattle.sip_message.specs.inner.ParamFronts.{BracketFront}
+use Rattle.sip_message.proofs.ValueLemmas.{no-bracket, no-close, one-closed, closed-short}
+use Rattle.sip_message.proofs.params.cut_brackets.Goals as goal
+
+pub returns-in_err-past : goal.returns-in_err-past
+returns-in_err-past c =
+    subst (IsOnlyValue BracketFront pair_parts c.args.text.now) (sym c.from_residual.ensures)
+    (no-bracket c.args.text.now (sym c.in_err-past.ensures))
+
+pub returns-in_err-rest : goal.returns-in_err-rest
+returns-in_err-rest c =
+    subst (IsOnlyValue BracketFront pair_parts c.args.text.now) (sym c.from_residual-in_err-rest.ensures)
+    (no-close c.args.text.now c.in_ok-past.field-0.now (sym c.in_ok-past.ensures) (sym c.cut.ensures.rest ∙ ap option_copied c.in_err-rest.was))
+
+pub slice_bounds-result-count : goal.slice_bounds-result-count
+slice_bounds-result-count c =
+    closed-short c.args.text.now c.in_ok-past.field-0.now c.in_ok-rest.rest.now (sym c.in_ok-past.ensures) (sym c.cut.ensures.rest ∙ ap option_copied c.in_ok-rest.was)
+
+pub returns : goal.returns
+returns c =
+    one-closed c.args.text.now c.in_ok-past.field-0.now c.in_ok-rest.rest.now (sym c.in_ok-past.ensures) (sym c.cut.ensures.rest ∙ ap option_copied c.in_ok-rest.was)

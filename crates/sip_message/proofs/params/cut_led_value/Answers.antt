@@ -1,0 +1,20 @@
+use Rattle.std.proofs.Common.{refl, sym, subst}
+use Rattle.sip_text.specs.Text.{IsOnlyValue}
+use Rattle.sip_text.specs.Bytes.{equals}
+use Rattle.sip_message.specs.inner.ParamFronts.{ValueFront, LedFront, led_parts}
+use Rattle.sip_message.proofs.OneFrontLemmas.{one-value}
+use Rattle.sip_message.proofs.LedLemmas.{no-led, led-none, led-some}
+use Rattle.sip_message.proofs.params.cut_led_value.Goals as goal
+
+pub returns-in_default : goal.returns-in_default
+returns-in_default c = led-none equals ValueFront c.args.text.now refl one-value c.in_default.ensures
+
+pub returns-in_err-value : goal.returns-in_err-value
+returns-in_err-value c =
+    subst (IsOnlyValue (LedFront equals ValueFront) led_parts c.args.text.now) (sym c.from_residual.ensures)
+    (no-led equals ValueFront c.args.text.now c.in-Some.inner.now c.in-Some.ensures c.in_err-value.ensures)
+
+pub returns : goal.returns
+returns c =
+    led-some equals ValueFront c.args.text.now c.in-Some.inner.now c.in_ok-value.value.now c.in_ok-value.rest.now refl one-value
+    c.in-Some.ensures c.in_ok-value.ensures.0

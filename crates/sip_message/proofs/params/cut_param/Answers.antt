@@ -1,0 +1,22 @@
+use Rattle.std.proofs.Common.{sym, subst}
+use Rattle.sip_text.specs.Text.{IsOnlyValue}
+use Rattle.sip_message.specs.inner.ParamFronts.{ParamFront, param_parts}
+use Rattle.sip_message.proofs.FrontLemmas.{stop, go-stop, go, last}
+use Rattle.sip_message.proofs.params.cut_param.Goals as goal
+
+pub returns-in_err-past_mark : goal.returns-in_err-past_mark
+returns-in_err-past_mark c =
+    subst (IsOnlyValue ParamFront param_parts c.args.text.now) (sym c.from_residual.ensures) (stop c.in_err-past_mark.ensures)
+
+pub returns-in_err-name : goal.returns-in_err-name
+returns-in_err-name c =
+    subst (IsOnlyValue ParamFront param_parts c.args.text.now) (sym c.from_residual-in_err-name.ensures)
+    (go-stop c.in_ok-past_mark.ensures (stop c.in_err-name.ensures))
+
+pub returns-in_err-value : goal.returns-in_err-value
+returns-in_err-value c =
+    subst (IsOnlyValue ParamFront param_parts c.args.text.now) (sym c.from_residual-in_err-value.ensures)
+    (go-stop c.in_ok-past_mark.ensures (go-stop c.in_ok-name.ensures (stop c.in_err-value.ensures)))
+
+pub returns : goal.returns
+returns c = go c.in_ok-past_mark.ensures (go c.in_ok-name.ensures (go c.in_ok-value.ensures (last _)))

@@ -1,0 +1,25 @@
+use Rattle.std.proofs.Common.{take, sym, subst}
+use Rattle.std.proofs.lemmas.List.{take_rest}
+use Rattle.sip_text.specs.Text.{IsOnlyValue}
+use Rattle.sip_message.specs.inner.Fronts.{pair_parts}
+use Rattle.sip_message.specs.inner.ParamFronts.{QuotedFront}
+use Rattle.sip_message.proofs.FrontLemmas.{ReadAs}
+use Rattle.sip_message.proofs.ValueLemmas.{no-open, no-quoted, one-quoted_string}
+use Rattle.sip_message.proofs.params.cut_quoted.Goals as goal
+
+pub returns-in_err-past : goal.returns-in_err-past
+returns-in_err-past c =
+    subst (IsOnlyValue QuotedFront pair_parts c.args.text.now) (sym c.from_residual.ensures)
+    (no-open c.args.text.now (sym c.in_err-past.ensures))
+
+pub returns-in_err-len : goal.returns-in_err-len
+returns-in_err-len c =
+    subst (IsOnlyValue QuotedFront pair_parts c.args.text.now) (sym c.from_residual-in_err-len.ensures)
+    (no-quoted c.args.text.now c.in_err-len.ensures.reads)
+
+pub returns : goal.returns
+returns c =
+    let text = c.args.text.now in
+    let n = c.in_ok-len.len in
+    subst (λ t. ReadAs (QuotedFront text) (take n text, t)) (sym (take_rest text n))
+    (one-quoted_string text c.in_ok-past.field-0.now n (sym c.in_ok-past.ensures) c.in_ok-len.ensures.reads)

@@ -1,0 +1,10 @@
+use Rattle.std.proofs.Common.{length}
+use Rattle.sip_message.proofs.ValueLemmas.{BareSoFar}
+use Rattle.sip_message.proofs.params.past_bare.Given as goal
+
+-- so far all are bytes of tokens and colons
+abbrev pub invariant-colons : goal.invariant-colons
+invariant-colons l = BareSoFar l.fn.text l.rest
+
+abbrev pub decreases-colons : goal.decreases-colons
+decreases-colons l = length l.rest

@@ -1,0 +1,10 @@
+use Rattle.std.proofs.Common.{List, length}
+use Rattle.sip_message.specs.inner.ParamFronts.{Param, ParamsFront}
+use Rattle.sip_message.proofs.params.past_params.Given as goal
+
+-- so far all are parameters
+abbrev pub invariant-params : goal.invariant-params
+invariant-params l = (params : List Param) × ParamsFront l.fn.text params l.rest
+
+abbrev pub decreases-params : goal.decreases-params
+decreases-params l = length l.rest

@@ -1,0 +1,5 @@
+use Rattle.sip_message.proofs.TrimLemmas.{sws-whole}
+use Rattle.sip_message.proofs.row.is_sws.Goals as goal
+
+pub returns : goal.returns
+returns c = sws-whole c.args.text.now c.skip_lws.result c.skip_lws.ensures.within c.skip_lws.ensures.reads

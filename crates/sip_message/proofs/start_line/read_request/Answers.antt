@@ -1,0 +1,46 @@
+use Rattle.std.proofs.Common.{false, refl, sym, subst, arith}
+use Rattle.std.proofs.lemmas.Bool.{both_ways}
+use Rattle.sip_text.specs.Text.{IsOnlyValue}
+use Rattle.sip_text.specs.Case.{SameText}
+use Rattle.std.specs.Prelude.{codes}
+use Rattle.sip_text.specs.Uri.{UriText, uri_parts}
+use Rattle.sip_message.specs.inner.StartFronts.{RequestLine}
+use Rattle.sip_message.specs.inner.Fronts.{pair_parts}
+use Rattle.sip_message.proofs.FrontLemmas.{ReadAs, NotRead}
+use Rattle.sip_message.proofs.StartReads.{request-no_token, request-no_space, request-short, request-no_version, request-no_uri, request-read}
+use Rattle.sip_message.proofs.start_line.read_request.Goals as goal
+
+pub returns-in_err-method : goal.returns-in_err-method
+returns-in_err-method c = subst (IsOnlyValue RequestLine pair_parts c.args.line.now) (sym c.from_residual.ensures) (request-no_token c.args.line.now c.in_err-method.ensures)
+
+pub returns-in_err-rest : goal.returns-in_err-rest
+returns-in_err-rest c =
+    subst (IsOnlyValue RequestLine pair_parts c.args.line.now) (sym c.from_residual-in_err-rest.ensures)
+    (request-no_space c.args.line.now c.in_ok-method.method.now c.in_ok-method.rest.now c.in_ok-method.ensures (sym c.in_err-rest.ensures))
+
+pub returns-in_err-at : goal.returns-in_err-at
+returns-in_err-at c =
+    subst (IsOnlyValue RequestLine pair_parts c.args.line.now) (sym c.from_residual-in_err-at.ensures)
+    (request-short c.args.line.now c.in_ok-method.method.now c.in_ok-method.rest.now c.in_ok-rest.rest.now c.in_ok-method.ensures (sym c.in_ok-rest.ensures) (omega (arith, c.in_err-at.ensures)))
+
+pub returns-then-not-same_text : goal.returns-then-not-same_text
+returns-then-not-same_text c =
+    let more = c.in_ok-rest.rest.now in
+    request-no_version c.args.line.now c.in_ok-method.method.now c.in_ok-method.rest.now more c.in_ok-at.at c.in_ok-method.ensures (sym c.in_ok-rest.ensures) (omega (arith, c.in_ok-at.ensures.0, c.in_ok-at.ensures.1))
+    (λ same. both_ways false refl (c.if-not-same_text.ensures.1 (subst (λ t. SameText t (codes " SIP/2.0")) (sym c.split_at.ensures.back) same)))
+
+pub returns-in_err-read_uri : goal.returns-in_err-read_uri
+returns-in_err-read_uri c =
+    let more = c.in_ok-rest.rest.now in
+    subst (IsOnlyValue RequestLine pair_parts c.args.line.now) (sym c.from_residual-in_err-read_uri.ensures)
+    (request-no_uri c.args.line.now c.in_ok-method.method.now c.in_ok-method.rest.now more c.in_ok-at.at c.in_ok-method.ensures (sym c.in_ok-rest.ensures) (omega (arith, c.in_ok-at.ensures.0, c.in_ok-at.ensures.1))
+    (subst (λ t. NotRead (UriText t)) c.split_at.ensures.front c.in_err-read_uri.ensures))
+
+pub returns : goal.returns
+returns c =
+    let more = c.in_ok-rest.rest.now in
+    let at = c.in_ok-at.at in
+    subst (λ t. ReadAs (RequestLine c.args.line.now) (c.in_ok-method.method.now, t)) (sym c.split_at.ensures.front)
+    (request-read c.args.line.now c.in_ok-method.method.now c.in_ok-method.rest.now more at (uri_parts c.in_ok-read_uri.field-0) c.in_ok-method.ensures (sym c.in_ok-rest.ensures)
+    (subst (λ t. SameText t (codes " SIP/2.0")) c.split_at.ensures.back (c.if-not-same_text.ensures.0 refl))
+    (subst (λ t. UriText t (uri_parts c.in_ok-read_uri.field-0)) c.split_at.ensures.front c.in_ok-read_uri.ensures.0))

@@ -1,0 +1,17 @@
+use Rattle.std.proofs.Common.{sym, subst}
+use Rattle.sip_text.specs.Text.{IsOnlyValue}
+use Rattle.sip_message.specs.StartLine.{StartText}
+use Rattle.sip_message.specs.ValueParts.{start_parts}
+use Rattle.sip_message.proofs.StartReads.{start-request, start-status, start-none}
+use Rattle.sip_message.proofs.start_line.read_start.Goals as goal
+
+pub returns-in-Some : goal.returns-in-Some
+returns-in-Some c = start-request c.args.line.now c.in-Some.method.now c.in-Some.uri.now c.in-Some.ensures
+
+pub returns-in_err-code : goal.returns-in_err-code
+returns-in_err-code c =
+    subst (IsOnlyValue StartText start_parts c.args.line.now) (sym c.from_residual.ensures)
+    (start-none c.args.line.now c.in_default.ensures c.in_err-code.ensures)
+
+pub returns : goal.returns
+returns c = start-status c.args.line.now c.in_ok-code.code c.in_ok-code.reason.now c.in_ok-code.ensures

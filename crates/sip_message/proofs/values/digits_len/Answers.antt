@@ -1,0 +1,14 @@
+use Rattle.std.proofs.Common.{length, sym, ◌∙◌, arith}
+use Rattle.std.proofs.lemmas.List.Sums.{prefix_len_is}
+use Rattle.std.specs.Char.{is_ascii_digit}
+use Rattle.sip_message.proofs.values.digits_len.Goals as goal
+
+pub returns-then-not-is_ascii_digit-clause-run : goal.returns-then-not-is_ascii_digit-clause-run
+returns-then-not-is_ascii_digit-clause-run c =
+    sym (prefix_len_is is_ascii_digit c.args.text.now c.loop-at.at 0 (omega arith) c.loop-at.invariant
+    (λ _. sym c.is_ascii_digit.ensures.value ∙ c.if-not-is_ascii_digit.true))
+
+pub returns-clause-run : goal.returns-clause-run
+returns-clause-run c =
+    sym (prefix_len_is is_ascii_digit c.args.text.now (length c.args.text.now) 0 (omega arith)
+    (λ k h. c.loop-at.invariant k (omega arith)) (λ h. absurd (omega arith)))

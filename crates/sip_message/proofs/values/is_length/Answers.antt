@@ -1,0 +1,11 @@
+use Rattle.std.proofs.Common.{sym, ◌∙◌}
+use Rattle.std.specs.Char.{is_ascii_digit}
+use Rattle.sip_text.specs.Text.{One}
+use Rattle.sip_text.proofs.UriCharLemmas.{some-decides}
+use Rattle.sip_message.proofs.NumberLemmas.{all-decides}
+use Rattle.sip_message.proofs.values.is_length.Goals as goal
+
+pub returns-then-not-is_empty : goal.returns-then-not-is_empty
+returns-then-not-is_empty c =
+    some-decides (One is_ascii_digit) c.args.text.now c.are_digits.result (sym c.is_empty.ensures ∙ c.if-not-is_empty.true)
+    (all-decides is_ascii_digit c.args.text.now c.are_digits.result c.are_digits.ensures)

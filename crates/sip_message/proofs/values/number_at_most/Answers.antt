@@ -1,0 +1,30 @@
+use Rattle.std.proofs.Common.{◌+◌, ◌*◌, ◌<◌, sym, ap, ◌∙◌, arith}
+use Rattle.std.specs.Str.Parse.{digits_value}
+use Rattle.std.proofs.lemmas.List.{take_all}
+use Rattle.sip_message.proofs.NumberLemmas.{digits-at, number-more, number-large}
+use Rattle.sip_message.proofs.values.number_at_most.Goals as goal
+use Rattle.sip_message.proofs.values.number_at_most.Goals.{then-digit-most-via-then-digit-most, then-digit-most-via-else-digit-most+then-number-most}
+
+pub returns-then-not-is_ascii_digit : goal.returns-then-not-is_ascii_digit
+returns-then-not-is_ascii_digit c = λ digits.
+    absurd (digits-at c.args.text.now c.loop-byte.byte-index digits c.loop-byte-test.true (sym c.is_ascii_digit.ensures.value ∙ c.if-not-is_ascii_digit.true))
+
+pub returns-then-digit-most : goal.returns-then-digit-most
+returns-then-digit-most c = λ digits.
+    let text = c.args.text.now in
+    let at = c.loop-byte.byte-index in
+    let more = number-more text at c.loop-byte.number c.args.most c.loop-byte-test.true c.loop-byte.invariant (sym c.is_ascii_digit.ensures.value ∙ c.if-not-is_ascii_digit.false) in
+    let large : c.args.most < c.loop-byte.number * 10 + c.from-digit.result = elim c.then-digit-most.branch [
+      | then-digit-most-via-then-digit-most w ↦ omega (arith, w.if-digit-most.true)
+      | then-digit-most-via-else-digit-most+then-number-most w ↦ omega (arith, w.if-digit-most.false, w.if-number-most.true)
+    ] in
+    number-large text (at + 1) (c.loop-byte.number * 10 + c.from-digit.result) c.args.most (ap (λ d. c.loop-byte.number * 10 + d) c.from-digit.ensures ∙ more) large
+
+pub loop-byte-preserved : goal.loop-byte-preserved
+loop-byte-preserved c =
+    let more = number-more c.args.text.now c.loop-byte.byte-index c.loop-byte.number c.args.most c.loop-byte-test.true c.loop-byte.invariant (sym c.is_ascii_digit.ensures.value ∙ c.if-not-is_ascii_digit.false) in
+    record { value = ap (λ d. c.loop-byte.number * 10 + d) c.from-digit.ensures ∙ more; small = omega arith }
+
+pub returns : goal.returns
+returns c =
+    (c.loop-byte.invariant.value ∙ ap (digits_value 10) (take_all c.loop-byte.byte-index c.args.text.now c.loop-byte-test.false), c.loop-byte.invariant.small)

@@ -1,0 +1,21 @@
+use Rattle.std.proofs.Common.{refl, sym, subst}
+use Rattle.sip_text.specs.Text.{IsOnlyValue}
+use Rattle.sip_text.specs.Bytes.{colon}
+use Rattle.sip_message.specs.inner.ParamFronts.{LedFront, led_parts}
+use Rattle.sip_message.specs.inner.ViaFronts.{PortFront}
+use Rattle.sip_message.proofs.HostFrontLemmas.{one-port}
+use Rattle.sip_message.proofs.LedLemmas.{no-led, led-none, led-some}
+use Rattle.sip_message.proofs.via.cut_led_port.Goals as goal
+
+pub returns-in_default : goal.returns-in_default
+returns-in_default c = led-none colon PortFront c.args.text.now refl one-port c.in_default.ensures
+
+pub returns-in_err-port : goal.returns-in_err-port
+returns-in_err-port c =
+    subst (IsOnlyValue (LedFront colon PortFront) led_parts c.args.text.now) (sym c.from_residual.ensures)
+    (no-led colon PortFront c.args.text.now c.in-Some.inner.now c.in-Some.ensures c.in_err-port.ensures)
+
+pub returns : goal.returns
+returns c =
+    led-some colon PortFront c.args.text.now c.in-Some.inner.now c.in_ok-port.port.now c.in_ok-port.rest.now refl one-port
+    c.in-Some.ensures c.in_ok-port.ensures.0

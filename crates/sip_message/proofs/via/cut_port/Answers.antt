@@ -1,0 +1,20 @@
+use Rattle.std.proofs.Common.{sym, subst}
+use Rattle.std.proofs.lemmas.Bool.{both_ways}
+use Rattle.sip_text.specs.Text.{IsOnlyValue}
+use Rattle.sip_message.specs.inner.Fronts.{pair_parts}
+use Rattle.sip_message.specs.inner.ViaFronts.{PortFront}
+use Rattle.sip_message.proofs.HostFrontLemmas.{port-found, port-missing}
+use Rattle.sip_message.proofs.via.cut_port.Goals as goal
+
+pub returns-in_err-port : goal.returns-in_err-port
+returns-in_err-port c =
+    subst (IsOnlyValue PortFront pair_parts c.args.text.now) (sym c.from_residual.ensures) (λ x is. c.in_err-port.ensures x is.1)
+
+pub returns-then-is_port : goal.returns-then-is_port
+returns-then-is_port c =
+    port-found c.args.text.now c.in_ok-port.port.now c.in_ok-port.rest.now c.in_ok-port.ensures (c.is_port.ensures.0 c.if-is_port.true)
+
+pub returns-else-is_port : goal.returns-else-is_port
+returns-else-is_port c =
+    port-missing c.args.text.now c.in_ok-port.port.now c.in_ok-port.rest.now c.in_ok-port.ensures
+    (λ is. both_ways c.is_port.result c.if-is_port.false (c.is_port.ensures.1 is))

@@ -1,0 +1,20 @@
+use Rattle.std.proofs.Common.{sym, subst, option_copied}
+use Rattle.sip_text.specs.Text.{IsOnlyValue}
+use Rattle.sip_message.specs.inner.ViaFronts.{TailFront, tail_parts}
+use Rattle.sip_message.proofs.ValueLemmas.{rest-short}
+use Rattle.sip_message.proofs.BranchLemmas.{branch-whole, tail-found, tail-missing}
+use Rattle.sip_message.proofs.via.cut_tail.Goals as goal
+
+pub returns-in_err-branch : goal.returns-in_err-branch
+returns-in_err-branch c =
+    subst (IsOnlyValue TailFront tail_parts c.args.text.now) (sym c.from_residual.ensures)
+    (tail-missing c.args.text.now c.in_err-branch.ensures)
+
+pub slice_bounds-skip_blanks-count : goal.slice_bounds-skip_blanks-count
+slice_bounds-skip_blanks-count c =
+    let whole = branch-whole c.args.text.now (option_copied c.in_ok-branch.branch) c.in_ok-branch.rest.now c.in_ok-branch.ensures.0 in
+    rest-short c.args.text.now whole.0 c.in_ok-branch.rest.now whole.1
+
+pub returns : goal.returns
+returns c =
+    tail-found c.args.text.now c.skip_blanks.result.now (option_copied c.in_ok-branch.branch) c.in_ok-branch.rest.now c.in_ok-branch.ensures c.skip_blanks.ensures

@@ -1,0 +1,65 @@
+use Rattle.std.proofs.Common.{ℕ, List, Option, sym, subst, option_copied}
+use Rattle.std.proofs.lemmas.Bool.{both_ways}
+use Rattle.sip_text.specs.Text.{IsOnlyValue}
+use Rattle.sip_text.specs.Host.{HostParts, host_parts}
+use Rattle.sip_message.specs.Via.{ViaParts}
+use Rattle.sip_message.specs.inner.Fronts.{ProtocolParts}
+use Rattle.sip_message.specs.inner.ElementFronts.{ViaFront}
+use Rattle.sip_message.specs.inner.ViaFronts.{ViaSteps}
+use Rattle.sip_message.specs.ViaParts.{front_parts}
+use Rattle.sip_message.proofs.FrontLemmas.{stop, go-stop}
+use Rattle.sip_message.proofs.ViaStepLemmas.{parts_of, via-steps_of, via-missing, via-found, via-short}
+use Rattle.sip_message.proofs.via.read_via.Goals as goal
+
+pub returns-in_err-protocol : goal.returns-in_err-protocol
+returns-in_err-protocol c =
+    subst (IsOnlyValue ViaFront front_parts c.args.text.now) (sym c.from_residual.ensures)
+    (via-missing c.args.text.now (stop c.in_err-protocol.ensures))
+
+pub returns-in_err-host : goal.returns-in_err-host
+returns-in_err-host c =
+    subst (IsOnlyValue ViaFront front_parts c.args.text.now) (sym c.from_residual-in_err-host.ensures)
+    (via-missing c.args.text.now (go-stop c.in_ok-protocol.ensures (stop c.in_err-host.ensures)))
+
+pub returns-in_err-port : goal.returns-in_err-port
+returns-in_err-port c =
+    subst (IsOnlyValue ViaFront front_parts c.args.text.now) (sym c.from_residual-in_err-port.ensures)
+    (via-missing c.args.text.now (go-stop c.in_ok-protocol.ensures (go-stop c.in_ok-host.ensures (stop c.in_err-port.ensures))))
+
+pub returns-in_err-params : goal.returns-in_err-params
+returns-in_err-params c =
+    subst (IsOnlyValue ViaFront front_parts c.args.text.now) (sym c.from_residual-in_err-params.ensures)
+    (via-missing c.args.text.now (go-stop c.in_ok-protocol.ensures (go-stop c.in_ok-host.ensures (go-stop c.in_ok-port.ensures (stop c.in_err-params.ensures)))))
+
+pub returns-then-not-ends_element : goal.returns-then-not-ends_element
+returns-then-not-ends_element c =
+    via-missing c.args.text.now (go-stop c.in_ok-protocol.ensures (go-stop c.in_ok-host.ensures (go-stop c.in_ok-port.ensures (go-stop c.in_ok-params.ensures
+    (λ y is. both_ways c.ends_element.result c.if-not-ends_element.true (c.ends_element.ensures.1 is.0))))))
+
+-- what each step found
+abbrev sent : goal.Else-not-ends_element → ProtocolParts
+sent c = record { protocol = c.in_ok-protocol.protocol.now; version = c.in_ok-protocol.version.now; transport = c.in_ok-protocol.transport.now; rest = c.in_ok-protocol.rest.now }
+
+abbrev host : goal.Else-not-ends_element → HostParts × List ℕ
+host c = (host_parts c.in_ok-host.host, c.in_ok-host.rest.now)
+
+abbrev port : goal.Else-not-ends_element → Option (List ℕ) × List ℕ
+port c = (option_copied c.in_ok-port.port, c.in_ok-port.rest.now)
+
+abbrev tail : goal.Else-not-ends_element → (List ℕ × Option (List ℕ)) × List ℕ
+tail c = ((c.in_ok-params.params.now, option_copied c.in_ok-params.branch), c.in_ok-params.rest.now)
+
+abbrev parts : goal.Else-not-ends_element → ViaParts
+parts c = parts_of (sent c) (host c) (port c) (tail c)
+
+-- the steps that were read
+steps : (c : goal.Else-not-ends_element) → ViaSteps c.args.text.now (parts c, c.in_ok-params.rest.now)
+steps c =
+    via-steps_of c.args.text.now (sent c) (host c) (port c) (tail c) c.in_ok-protocol.ensures.0 c.in_ok-host.ensures.0 c.in_ok-port.ensures.0
+    c.in_ok-params.ensures.0 (c.ends_element.ensures.0 c.if-not-ends_element.false)
+
+pub slice_bounds-result-count : goal.slice_bounds-result-count
+slice_bounds-result-count c = via-short c.args.text.now (parts c) c.in_ok-params.rest.now (steps c)
+
+pub returns : goal.returns
+returns c = via-found c.args.text.now (parts c) c.in_ok-params.rest.now (steps c)

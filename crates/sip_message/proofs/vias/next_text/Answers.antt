@@ -1,0 +1,12 @@
+use Rattle.std.proofs.Common.{drop}
+use Rattle.sip_message.specs.declared.name.Known.TheVariants as known_name
+use Rattle.sip_message.specs.Elements.{values}
+use Rattle.sip_message.specs.Views.{slice_fields}
+use Rattle.sip_message.proofs.ViewLemmas.{next-behind, next-cut}
+use Rattle.sip_message.proofs.vias.next_text.Goals as goal
+
+pub returns-in-Some : goal.returns-in-Some
+returns-in-Some c es left = next-behind _ _ _ c.in-Some.ensures
+
+pub returns-in-None : goal.returns-in-None
+returns-in-None c = next-cut c.args.rest.now _ (λ at. values known_name.Via (drop at (slice_fields c.args.fields))) c.in-None.ensures c.cut_value.result c.cut_value.ensures.values

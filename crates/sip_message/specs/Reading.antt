@@ -1,0 +1,55 @@
+-- A message that was read: as it is spelled, with the parts of its named fields.
+use Rattle.std.specs.Prelude.{◌≡◌, ℕ, List, ◌∷◌}
+use Rattle.sip_message.specs.declared.name.Known.{Known}
+use Rattle.sip_message.specs.declared.name.Known.TheVariants as known_name
+use Rattle.sip_message.specs.Address.{AddressParts, AddressText}
+use Rattle.sip_message.specs.Values.{CSeqText}
+use Rattle.sip_message.specs.Field.{Field}
+use Rattle.sip_message.specs.Message.{Message, MessageText}
+use Rattle.sip_message.specs.Only.{IsOnly}
+use Rattle.sip_message.specs.Elements.{Element, AreElements, values}
+
+-- the text is the first value of a field of the name
+abbrev pub IsValueOf : Known → List Field → List ℕ → Type 0
+IsValueOf known fields text = (more : List (List ℕ)) × (values known fields ≡ text ∷ more)
+
+-- an address, with its text
+abbrev pub AddressValue : List ℕ → List ℕ × AddressParts → Type 0
+AddressValue text (whole, a) = AddressText text a × (whole ≡ text)
+
+-- CSeq's number and method
+abbrev pub CSeqValue : List ℕ → ℕ × List ℕ → Type 0
+CSeqValue text (number, method) = CSeqText text number method
+
+-- the parts of the named fields
+pub record Parts : Type 0 where
+  pub via : Element
+  pub others : List Element
+  pub from : List ℕ × AddressParts
+  pub to : List ℕ × AddressParts
+  pub call_id : List ℕ
+  pub cseq : ℕ × List ℕ
+
+-- these are the parts of the named fields
+pub record HasParts (fields : List Field) (p : Parts) : Type 0 where
+  pub vias : AreElements (values known_name.Via fields) (p.via ∷ p.others)
+  pub from : (text : List ℕ) × IsValueOf known_name.From fields text × AddressValue text p.from
+  pub to : (text : List ℕ) × IsValueOf known_name.To fields text × AddressValue text p.to
+  pub call_id : IsValueOf known_name.CallId fields p.call_id
+  pub cseq : (text : List ℕ) × IsValueOf known_name.CSeq fields text × CSeqValue text p.cseq
+
+-- what contracts see of a message: its start line, its fields and its body as they are spelled, and
+-- the parts of its named fields
+pub record Reading : Type 0 where
+  pub message : Message
+  pub parts : Parts
+
+-- where the named fields stand, and that some bytes spell the message
+pub record Keeps (m : Message) (p : Parts) (v f t i c : List ℕ) : Type 0 where
+  pub parts : IsOnly (HasParts m.fields) p
+  pub spelled : (bytes : List ℕ) × MessageText bytes m
+  pub via : IsValueOf known_name.Via m.fields v
+  pub from : IsValueOf known_name.From m.fields f
+  pub to : IsValueOf known_name.To m.fields t
+  pub call_id : IsValueOf known_name.CallId m.fields i
+  pub cseq : IsValueOf known_name.CSeq m.fields c

@@ -1,0 +1,14 @@
+pub mod ParamFronts
+pub mod ViaFronts
+pub mod Fronts
+pub mod StartFronts
+pub mod AddressFronts
+pub mod ValueFronts
+pub mod Stages
+pub mod Finds
+pub mod Appends
+pub mod ElementFronts
+pub mod Lines
+pub mod Settles
+pub mod Codes
+pub mod Names

@@ -1,0 +1,77 @@
+-- How the reader of addresses cuts a text.
+use Rattle.std.specs.Prelude.{◌≡◌, ◌⊎◌, ◌&&◌, not, ℕ, Bool, true, List, ◌∷◌, ◌++◌, Option, None, Some, codes, option_copied}
+use Rattle.std.specs.List.{AllByRecursion}
+use Rattle.std.specs.Borrow.{Bor}
+use Rattle.sip_text.specs.Bytes.{colon, is_one_of, is_token_byte}
+use Rattle.sip_text.specs.Text.{◌then◌, Many}
+use Rattle.sip_text.specs.Grammar.{Token, Blanks}
+use Rattle.sip_text.specs.Cut.{before, behind}
+use Rattle.sip_text.specs.Uri.{UriText}
+use Rattle.sip_message.specs.declared.address.Cuts.{Cuts}
+use Rattle.sip_message.specs.Unfold.{is_blank}
+use Rattle.sip_message.specs.Params.{left_angle, right_angle, ParamsPart, BehindBlanks}
+use Rattle.sip_message.specs.Address.{AddressParts}
+use Rattle.sip_message.specs.inner.Fronts.{Stops, Behind, Seq}
+use Rattle.sip_message.specs.inner.ParamFronts.{QuotedFront}
+
+-- tokens, with a blank run between any two
+abbrev pub Words : List ℕ → Type 0
+Words = Token then Many (Blanks then Token)
+
+-- all the words at the front, and what is left: behind its blanks no token begins
+abbrev pub WordsFront : List ℕ → List ℕ × List ℕ → Type 0
+WordsFront text (words, rest) =
+    Words words × ((stop : List ℕ) × Behind rest stop × Stops is_token_byte stop) × (text ≡ words ++ rest)
+
+-- a display name, and what is left
+abbrev pub NameFront : List ℕ → List ℕ × List ℕ → Type 0
+NameFront text name = QuotedFront text name ⊎ WordsFront text name
+
+-- [ display-name ] SWS "<", and what is left
+abbrev pub DisplayFront : List ℕ → Option (List ℕ) × List ℕ → Type 0
+DisplayFront text (None, inner) = text ≡ left_angle ∷ inner
+DisplayFront text (Some name, inner) =
+    (rest : List ℕ) × NameFront text (name, rest) × Behind rest (left_angle ∷ inner)
+
+-- the text begins with a scheme, if it has one
+abbrev pub HasScheme : List ℕ → Type 0
+HasScheme text =
+    (scheme : List ℕ) × (rest : List ℕ) × AllByRecursion (λ byte. is_token_byte byte ≡ true) scheme
+    × (text ≡ scheme ++ colon ∷ rest)
+
+-- a byte of a URI that stands without "<"
+abbrev pub is_plain_byte : ℕ → Bool
+is_plain_byte byte = not (is_blank byte) && not (is_one_of (codes ",?;") byte)
+
+-- the display name, the text of the URI, and what follows them
+pub record CutParts : Type 0 where
+  pub display : Option (List ℕ)
+  pub uri : List ℕ
+  pub rest : List ℕ
+
+-- the URI ends at the first ">"; without "<" where a byte stands that it cannot hold
+pub data AddressCut (text : List ℕ) (c : CutParts) : Type 0 where
+  named : (inner : List ℕ) → DisplayFront text (c.display, inner)
+      → c.uri ≡ before right_angle inner → behind right_angle inner ≡ Some c.rest → AddressCut text c
+  plain : HasScheme text → c.display ≡ None
+      → AllByRecursion (λ byte. is_plain_byte byte ≡ true) c.uri → Stops is_plain_byte c.rest
+      → text ≡ c.uri ++ c.rest → AddressCut text c
+
+-- the whole text is parameters, behind their blanks
+abbrev pub TailText : List ℕ → List ℕ → Type 0
+TailText text params =
+    BehindBlanks params text × ((ps : List (List ℕ × Option (List ℕ))) × ParamsPart params ps)
+
+-- an address, step by step
+abbrev pub AddressSteps : List ℕ → List ℕ × AddressParts → Type 0
+AddressSteps text =
+    Seq (AddressCut text) (λ c.
+    Seq (UriText c.uri) (λ uri.
+    Seq (TailText c.rest) (λ params a.
+    a ≡ (text, record { display = c.display; uri_text = c.uri; uri = uri; params = params }))))
+
+abbrev pub display_parts : Option (Bor (List ℕ)) × Bor (List ℕ) → Option (List ℕ) × List ℕ
+display_parts (display, inner) = (option_copied display, inner.now)
+
+abbrev pub cut_parts : Cuts → CutParts
+cut_parts c = record { display = option_copied c.display; uri = c.uri.now; rest = c.rest.now }

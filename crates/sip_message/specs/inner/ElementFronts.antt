@@ -1,0 +1,27 @@
+-- The elements of Via that are left, one after another.
+use Rattle.std.specs.Prelude.{◌≡◌, ◌⊎◌, ℕ, List, [], ◌∷◌, ◌++◌}
+use Rattle.sip_message.specs.Params.{comma}
+use Rattle.sip_message.specs.Via.{ViaText}
+use Rattle.sip_message.specs.Elements.{Element, MoreElements, AreElements}
+use Rattle.sip_message.specs.inner.Fronts.{MarkFront}
+
+-- the elements that are left: those of the rest of a value, and those of the values behind it
+pub record AreLeft (rest : List ℕ) (values : List (List ℕ)) (es : List Element) : Type 0 where
+  pub now : List Element
+  pub more : List Element
+  pub are_now : MoreElements now rest
+  pub are_more : AreElements values more
+  pub whole : es ≡ now ++ more
+
+-- the next element that is left begins this text; behind the text stand these values
+pub record NextText (rest : List ℕ) (values : List (List ℕ)) (text : List ℕ) (more : List (List ℕ)) : Type 0 where
+  pub to : (es : List Element) → AreLeft rest values es → AreElements (text ∷ more) es
+  pub from : (es : List Element) → AreElements (text ∷ more) es → AreLeft rest values es
+
+-- an element ends where the text does, or before a comma
+abbrev pub EndsElement : List ℕ → Type 0
+EndsElement rest = (rest ≡ []) ⊎ ((next : List ℕ) × MarkFront comma rest next)
+
+-- an element at the front, and what is left
+abbrev pub ViaFront : List ℕ → Element × List ℕ → Type 0
+ViaFront text (e, rest) = ViaText e.0 e.1 × (text ≡ e.0 ++ rest) × EndsElement rest

@@ -1,0 +1,98 @@
+-- What stands at the front of a text, with what is left behind it.
+use Rattle.std.specs.Prelude.{◌≡◌, ℕ, ◌-◌, ◌&&◌, ◌==◌, not, nat_lt, slice_index, length, Bool, List, [], ◌∷◌, ◌++◌, false, Option, None, if◌then◌else◌}
+use Rattle.std.specs.Borrow.{Bor}
+use Rattle.sip_text.specs.Bytes.{carriage_return, line_feed, is_wsp, is_token_byte}
+use Rattle.sip_text.specs.Text.{Exactly, ◌then◌}
+use Rattle.sip_text.specs.Grammar.{Token, Sws, Blanks}
+use Rattle.sip_text.specs.Blanks.{blank_len}
+use Rattle.sip_text.specs.Cut.{past}
+use Rattle.sip_message.specs.Lines.{BeginsBlank, IsFolded, with_end}
+use Rattle.sip_message.specs.Params.{slash, Mark}
+
+-- the text begins with no byte that passes
+abbrev pub Stops : (ℕ → Bool) → List ℕ → Type 0
+Stops test [] = Unit {0}
+Stops test (b ∷ text) = test b ≡ false
+
+-- the text begins with no blank run
+abbrev pub StopsBlank : List ℕ → Type 0
+StopsBlank text = blank_len text ≡ 0
+
+-- what is left behind the longest run of blanks at the front
+abbrev pub Behind : List ℕ → List ℕ → Type 0
+Behind text rest = StopsBlank rest × (Sws then Exactly rest) text
+
+-- and there is one such rest
+abbrev pub IsOnlyBehind : List ℕ → List ℕ → Type 0
+IsOnlyBehind text rest = Behind text rest × ((other : List ℕ) → Behind text other → other ≡ rest)
+
+-- a token, and what is left
+abbrev pub TokenFront : List ℕ → List ℕ × List ℕ → Type 0
+TokenFront text (token, rest) =
+    Token token × Stops is_token_byte rest × (Exactly token then Exactly rest) text
+
+-- a mark, and what is left
+abbrev pub MarkFront : ℕ → List ℕ → List ℕ → Type 0
+MarkFront mark text rest = StopsBlank rest × (Mark mark then Exactly rest) text
+
+-- sent-protocol LWS, and what is left
+pub record ProtocolParts : Type 0 where
+  pub protocol : List ℕ
+  pub version : List ℕ
+  pub transport : List ℕ
+  pub rest : List ℕ
+
+-- one reading, and then another of what it gives
+pub data Seq {X Y : Type 0} (R : X → Type 0) (S : X → Y → Type 0) (y : Y) : Type 0 where
+  both : (x : X) → R x → S x y → Seq R S y
+
+-- a blank run, and what is left
+abbrev pub BlanksFront : List ℕ → List ℕ → Type 0
+BlanksFront text rest = StopsBlank rest × (Blanks then Exactly rest) text
+
+-- sent-protocol LWS, and what is left
+abbrev pub ProtocolFront : List ℕ → ProtocolParts → Type 0
+ProtocolFront text =
+    Seq (TokenFront text) (λ protocol.
+    Seq (MarkFront slash (protocol.1)) (λ behind_protocol.
+    Seq (TokenFront behind_protocol) (λ version.
+    Seq (MarkFront slash (version.1)) (λ behind_version.
+    Seq (TokenFront behind_version) (λ transport.
+    Seq (BlanksFront (transport.1)) (λ rest p.
+    p ≡ record { protocol = protocol.0; version = version.0; transport = transport.0; rest = rest }))))))
+
+abbrev pub text_parts : Bor (List ℕ) → List ℕ
+text_parts text = text.now
+
+abbrev pub pair_parts : Bor (List ℕ) × Bor (List ℕ) → List ℕ × List ℕ
+pair_parts (a, b) = (a.now, b.now)
+
+abbrev pub protocol_parts : Bor (List ℕ) × Bor (List ℕ) × Bor (List ℕ) × Bor (List ℕ) → ProtocolParts
+protocol_parts (a, b, c, d) = record { protocol = a.now; version = b.now; transport = c.now; rest = d.now }
+
+-- a logical line with its end, and what is left
+abbrev pub LineFront : List ℕ → List ℕ × List ℕ → Type 0
+LineFront text (line, rest) = IsFolded line × ¬ (BeginsBlank rest) × (text ≡ with_end line ++ rest)
+
+-- the text ends with CR
+abbrev pub ends_cr : List ℕ → Bool
+ends_cr text = nat_lt 0 (length text) && slice_index text (length text - 1) == carriage_return
+
+-- the text begins with SP or HTAB
+abbrev pub begins_wsp : List ℕ → Bool
+begins_wsp [] = false
+begins_wsp (byte ∷ text) = is_wsp byte
+
+-- the LF between the two texts ends a line
+abbrev pub is_line : List ℕ → List ℕ → Bool
+is_line front rest = ends_cr front && not (begins_wsp rest)
+
+-- the text past the CRLF at its front, if it begins with one
+abbrev pub past_end : List ℕ → Option (List ℕ)
+past_end [] = None
+past_end (byte ∷ text) = if byte == carriage_return then past line_feed text else None
+
+-- the text past the SP and HTAB at its front
+abbrev pub past_wsp : List ℕ → List ℕ
+past_wsp [] = []
+past_wsp (byte ∷ text) = if is_wsp byte then past_wsp text else byte ∷ text

@@ -1,0 +1,101 @@
+//! Cursors: what stands at the front of a text, and what is left behind it.
+ghost use Rattle.std.specs.Prelude.{◌≡◌, false, option_copied};
+ghost use Rattle.sip_text.specs.Cut.{before, behind, past};
+ghost use Rattle.sip_message.specs.Unfold.{is_blank};
+ghost use Rattle.sip_text.specs.Text.{IsOnlyValue};
+ghost use Rattle.sip_message.specs.inner.Fronts.{IsOnlyBehind, LineFront, is_line, TokenFront, MarkFront, ProtocolFront, pair_parts, text_parts, protocol_parts};
+
+use memchr::memchr;
+use sip_text::{skip_lws, token_len};
+
+/// The token at the front, and what is behind it.
+pub fn cut_token(text: &[u8]) -> Option<(&[u8], &[u8])>
+    ensures { IsOnlyValue TokenFront pair_parts text.now result }
+{
+    let len = token_len(text);
+    if len == 0 {
+        return None;
+    }
+    Some((&text[..len], &text[len..]))
+}
+
+/// What is behind the mark at the front: blanks, the byte, and blanks.
+pub fn past_mark(text: &[u8], mark: u8) -> Option<&[u8]>
+    requires { is_blank mark ≡ false }
+    ensures { IsOnlyValue (MarkFront mark) text_parts text.now result }
+{
+    let inner = past(skip_blanks(text), mark)?;
+    Some(skip_blanks(inner))
+}
+
+/// `sent-protocol LWS` at the front: protocol name, version and transport, and what is behind them.
+pub fn read_protocol(text: &[u8]) -> Option<(&[u8], &[u8], &[u8], &[u8])>
+    ensures { IsOnlyValue ProtocolFront protocol_parts text.now result }
+{
+    let (protocol, rest) = cut_token(text)?;
+    let (version, rest) = cut_token(past_mark(rest, b'/')?)?;
+    let (transport, rest) = cut_token(past_mark(rest, b'/')?)?;
+    let blanks = skip_lws(rest);
+    if blanks == 0 {
+        return None;
+    }
+    Some((protocol, version, transport, &rest[blanks..]))
+}
+
+/// What is behind the blanks at the front.
+pub(crate) fn skip_blanks(text: &[u8]) -> &[u8]
+    ensures { IsOnlyBehind text.now result.now }
+{
+    &text[skip_lws(text)..]
+}
+
+/// The text past the byte at its front, if it begins with it.
+#[inline]
+pub(crate) fn past(text: &[u8], byte: u8) -> Option<&[u8]>
+    ensures { option_copied result ≡ past byte text.now }
+{
+    match text {
+        [first, rest @ ..] if *first == byte => Some(rest),
+        _ => None,
+    }
+}
+
+/// The text before the first mark, and the text behind it if there is one.
+#[inline]
+pub(crate) fn cut(text: &[u8], mark: u8) -> (&[u8], Option<&[u8]>)
+    ensures front { result.0.now ≡ before mark text.now }
+    ensures rest { option_copied result.1 ≡ behind mark text.now }
+{
+    match memchr(mark, text) {
+        Some(at) => (&text[..at], Some(&text[at + 1..])),
+        None => (text, None),
+    }
+}
+
+/// The first logical line, without its end, and what is behind it. A line ends at a CRLF that no
+/// blank follows.
+pub fn cut_line(text: &[u8]) -> Option<(&[u8], &[u8])>
+    ensures { IsOnlyValue LineFront pair_parts text.now result }
+{
+    let mut at = 0;
+    'ends: loop {
+        let (front, behind) = cut(&text[at..], b'\n');
+        let rest = behind?;
+        let end = at + front.len();
+        if is_line(front, rest) {
+            return Some((&text[..end - 1], rest));
+        }
+        at = end + 1;
+    }
+}
+
+// Whether a line ends between the two texts, which an LF parts.
+fn is_line(front: &[u8], rest: &[u8]) -> bool
+    ensures { result ≡ is_line front.now rest.now }
+{
+    match (front, rest) {
+        ([.., b'\r'], [b' ' | b'\t', ..]) => false,
+        ([.., b'\r'], _) => true,
+        _ => false,
+    }
+}

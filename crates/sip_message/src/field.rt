@@ -1,0 +1,116 @@
+//! Field lines.
+ghost use Rattle.sip_text.specs.Text.{IsOnlyValue};
+ghost use Rattle.std.specs.Prelude.{◌≡◌, ℕ, List, [], ◌∷◌, drop, MatchOption};
+ghost use Rattle.std.specs.Option.{option_map};
+ghost use Rattle.sip_message.specs.Elements.{values};
+ghost use Rattle.sip_message.specs.inner.Finds.{IsFound, found_parts};
+ghost use Rattle.sip_message.specs.inner.Lines.{AreLines};
+ghost use Rattle.sip_message.specs.Faults.{IsNamed, IsValue, FieldOf, FieldsOf};
+ghost use Rattle.sip_message.specs.Views.{name_parts, field_parts, fields_parts, slice_fields};
+ghost use Rattle.sip_message.specs.inner.Settles.{outcome_of, Settles};
+ghost use Rattle.sip_message.specs.inner.Names.{named_parts};
+ghost use Rattle.sip_message.specs.inner.Fronts.{text_parts, past_wsp};
+
+use crate::cursor::{cut_line, cut_token, past};
+use crate::fault::{Fault, ReadError, Reason, Unit};
+use crate::name::{Known, Name, read_name};
+use crate::row::{is_of_row, trim};
+use std::alloc::{AllocError, Global};
+
+/// A field of a message.
+#[derive(Clone, Copy, Debug, PartialEq, Eq)]
+pub struct Field<'a> {
+    /// Its name.
+    pub name: Name<'a>,
+    /// Its value, as it is spelled.
+    pub value: &'a [u8],
+}
+
+// The name of the line's field, and what follows its colon.
+fn cut_name(line: &[u8]) -> Option<(Name<'_>, &[u8])>
+    ensures { IsOnlyValue IsNamed named_parts line.now result }
+{
+    let (name, rest) = cut_token(line)?;
+    let rest = past(past_wsp(rest), b':')?;
+    Some((read_name(name), rest))
+}
+
+// The text past the SP and HTAB at its front.
+fn past_wsp(text: &[u8]) -> &[u8]
+    ensures { result.now ≡ past_wsp text.now }
+{
+    let mut rest = text;
+    'blanks: while let [b' ' | b'\t', more @ ..] = rest {
+        rest = more;
+    }
+    rest
+}
+
+// The value of a field of this name.
+fn read_value<'a>(name: Name<'a>, rest: &'a [u8]) -> Option<&'a [u8]>
+    ensures { IsOnlyValue (λ t v. IsValue (name_parts name.entry, t) v) text_parts rest.now result }
+{
+    let value = trim(rest)?;
+    if is_of_row(name, value) {
+        Some(value)
+    } else {
+        None
+    }
+}
+
+/// The field that line `n` is, or the fault of the line.
+pub fn read_field(n: usize, line: &[u8]) -> Result<Field<'_>, Fault>
+    ensures { FieldOf n line.now (outcome_of field_parts result) }
+{
+    let Some((name, rest)) = cut_name(line) else {
+        return Err(Fault {
+            unit: Unit::Line(n),
+            reason: Reason::FieldLine,
+        });
+    };
+    let Some(value) = read_value(name, rest) else {
+        return Err(Fault {
+            unit: Unit::Line(n),
+            reason: Reason::Value,
+        });
+    };
+    Ok(Field { name, value })
+}
+
+/// The fields that the lines are, or the first fault of the lines.
+pub(crate) fn read_fields(alloc: Global, text: &[u8]) -> Result<Vec<Field<'_>>, ReadError>
+    ensures { (lines : List (List ℕ)) → AreLines text.now lines → Settles (FieldsOf 1 lines) fields_parts result }
+{
+    let mut fields = Vec::new(alloc);
+    let mut rest = text;
+    'lines: while let Some((line, more)) = cut_line(rest) {
+        let field = read_field(fields.len() + 1, line)?;
+        if let Err(e) = fields.push(field) {
+            return Err(AllocError::from(e).into());
+        }
+        rest = more;
+    }
+    Ok(fields)
+}
+
+/// The value of the first field of this name from place `from` on, and the place behind it, which is
+/// the number of its line.
+pub(crate) fn cut_value<'a>(
+    fields: &[Field<'a>],
+    from: usize,
+    name: Known,
+) -> Option<(&'a [u8], usize)>
+    ensures values { MatchOption result (values name (drop from (slice_fields fields.entry)) ≡ [])
+        (λ cut. values name (drop from (slice_fields fields.entry)) ≡ cut.0.now ∷ values name (drop cut.1 (slice_fields fields.entry))) }
+    ensures found { IsFound name from (slice_fields fields.entry) (option_map found_parts result) }
+{
+    let mut at = from;
+    while at < fields.len() {
+        let field = fields[at];
+        at += 1;
+        if field.name.is(name) {
+            return Some((field.value, at));
+        }
+    }
+    None
+}

@@ -1,0 +1,27 @@
+//! SIP messages (RFC 3261, section 7), read exactly, and written in their canonical form.
+#![tactic(auto)]
+
+mod address;
+mod canon;
+mod cursor;
+mod fault;
+mod field;
+pub mod laws;
+mod message;
+mod name;
+mod params;
+mod row;
+mod stages;
+mod start_line;
+mod values;
+mod via;
+mod vias;
+
+pub use crate::address::Address;
+pub use crate::canon::write;
+pub use crate::fault::{Fault, ReadError, Reason, Unit};
+pub use crate::message::Message;
+pub use crate::start_line::StartLine;
+pub use crate::values::CSeq;
+pub use crate::via::Via;
+pub use crate::vias::{Routes, Vias};

@@ -1,0 +1,203 @@
+//! Messages.
+ghost use Rattle.std.specs.Prelude.{◌≡◌, ◌∷◌, ℕ, List, IsTrue};
+ghost use Rattle.sip_message.specs.Only.{IsOnly, One, the, One-prop};
+ghost use Rattle.sip_message.specs.Reading.{Reading, Parts, HasParts, Keeps};
+ghost use Rattle.sip_message.specs.inner.Codes.{parts_code};
+ghost use Rattle.sip_message.specs.Views.{fields_parts, slice_fields};
+ghost use Rattle.sip_message.specs.ValueParts.{start_parts, address_parts, cseq_parts};
+ghost use Rattle.sip_message.specs.ViaParts.{element};
+
+use crate::address::{Address, read_address};
+use crate::fault::{Fault, ReadError, Reason, Unit};
+use crate::field::{Field, read_fields};
+use crate::stages::{cut_first, cut_head, find_named, is_clean, is_stream, read_body};
+use crate::start_line::{StartLine, read_start};
+use crate::values::{CSeq, read_cseq};
+use crate::via::{Via, read_via};
+use crate::vias::{Routes, Vias};
+use std::alloc::Global;
+use std::marker::Model;
+
+/// A message (RFC 3261, section 7), in slices of its bytes.
+#[derive(Drop)]
+pub struct Message<'a> {
+    start: StartLine<'a>,
+    fields: Vec<Field<'a>>,
+    body: &'a [u8],
+    via: &'a [u8],
+    from: &'a [u8],
+    to: &'a [u8],
+    call_id: &'a [u8],
+    cseq: &'a [u8],
+    ghost parts: { One (HasParts (fields_parts fields)) } by { One-prop parts_code (HasParts (fields_parts fields)) },
+}
+
+impl<'a> Model for Message<'a> {
+    ghost Value = { Reading };
+
+    ghost view = { λ m. record { message = record { start = start_parts m.start; fields = fields_parts m.fields; body = m.body.now }; parts = the m.parts } };
+
+    ghost invariant = { λ m. Keeps (record { start = start_parts m.start; fields = fields_parts m.fields; body = m.body.now }) (the m.parts) m.via.now m.from.now m.to.now m.call_id.now m.cseq.now };
+}
+
+impl<'a> Message<'a> {
+    ghost use Rattle.sip_message.specs.Reads.{ReadsTo};
+    ghost use Rattle.sip_message.specs.Message.{Message as Text};
+
+    // The message of these parts.
+    fn new(
+        start: StartLine<'a>,
+        fields: Vec<Field<'a>>,
+        body: &'a [u8],
+        via: &'a [u8],
+        from: &'a [u8],
+        to: &'a [u8],
+        call_id: &'a [u8],
+        cseq: &'a [u8],
+    ) -> Self
+        requires { (p : Parts) × Keeps (record { start = start_parts start; fields = fields_parts fields; body = body.now }) p via.now from.now to.now call_id.now cseq.now }
+        ensures message { ◌≡◌ {A = Text} result.message (record { start = start_parts start.entry; fields = fields_parts fields.entry; body = body.entry.now }) }
+        ensures parts { IsOnly (HasParts result.message.fields) result.parts }
+    {
+        Message {
+            start,
+            fields,
+            body,
+            via,
+            from,
+            to,
+            call_id,
+            cseq,
+        }
+    }
+
+    /// The message that the bytes spell, or their first fault.
+    pub fn read(alloc: Global, bytes: &'a [u8]) -> Result<Self, ReadError>
+        ensures { ReadsTo bytes.entry.now result }
+    {
+        let Some((head, rest)) = cut_head(bytes) else {
+            return Err(ReadError::Fault(Fault {
+                unit: Unit::Head,
+                reason: Reason::NoHeadEnd,
+            }));
+        };
+        if !is_clean(head) {
+            return Err(ReadError::Fault(Fault {
+                unit: Unit::Head,
+                reason: Reason::BareLineEnd,
+            }));
+        }
+        let (first, lines) = cut_first(head);
+        let Some(start) = read_start(first) else {
+            return Err(ReadError::Fault(Fault {
+                unit: Unit::Line(0),
+                reason: Reason::StartLine,
+            }));
+        };
+        let fields = read_fields(alloc, lines)?;
+        let named = find_named(&fields)?;
+        let body = read_body(start, named, &fields, rest)?;
+        Ok(Message::new(
+            start,
+            fields,
+            body,
+            named.via,
+            named.from,
+            named.to,
+            named.call_id,
+            named.cseq,
+        ))
+    }
+
+    /// The start line.
+    pub fn start(&self) -> StartLine<'a>
+        ensures { start_parts result ≡ self.now.message.start }
+    {
+        self.start
+    }
+
+    /// The body.
+    pub fn body(&self) -> &'a [u8]
+        ensures { result.now ≡ self.now.message.body }
+    {
+        self.body
+    }
+
+    /// The value of Call-ID.
+    pub fn call_id(&self) -> &'a [u8]
+        ensures { result.now ≡ self.now.parts.call_id }
+    {
+        self.call_id
+    }
+
+    /// The address of From.
+    pub fn from(&self) -> Address<'a>
+        ensures { address_parts result ≡ self.now.parts.from }
+    {
+        read_address(self.from).unwrap()
+    }
+
+    /// The address of To.
+    pub fn to(&self) -> Address<'a>
+        ensures { address_parts result ≡ self.now.parts.to }
+    {
+        read_address(self.to).unwrap()
+    }
+
+    /// The number and method of CSeq.
+    pub fn cseq(&self) -> CSeq<'a>
+        ensures { cseq_parts result ≡ self.now.parts.cseq }
+    {
+        read_cseq(self.cseq).unwrap()
+    }
+
+    /// The first element of the first Via field.
+    pub fn top_via(&self) -> Via<'a>
+        ensures { element result ≡ self.now.parts.via }
+    {
+        read_via(self.via).unwrap().0
+    }
+
+    /// The elements of all Via fields, in order.
+    pub fn vias(&self) -> Vias<'_, 'a>
+        ensures { result ≡ self.now.parts.via ∷ self.now.parts.others }
+    {
+        Vias::new(&self.fields)
+    }
+}
+
+impl<'a> Message<'a> {
+    ghost use Rattle.std.specs.Prelude.{◌↔◌};
+    ghost use Rattle.sip_message.specs.declared.name.Known.TheVariants as known_name;
+    ghost use Rattle.sip_message.specs.Elements.{values};
+    ghost use Rattle.sip_message.specs.Message.{is_stream, MessageText};
+
+    /// The values of the Route fields, in order.
+    pub fn routes(&self) -> Routes<'_, 'a>
+        ensures { result ≡ values known_name.Route self.now.message.fields }
+    {
+        Routes::new(&self.fields)
+    }
+
+    /// Whether the transport of the top Via is a stream, TCP or TLS.
+    pub fn is_reliable(&self) -> bool
+        ensures { result ≡ is_stream self.now.parts.via.1.transport }
+    {
+        is_stream(self.top_via().transport)
+    }
+
+    // The fields.
+    pub(crate) fn fields(&self) -> &[Field<'a>]
+        ensures { slice_fields result ≡ self.now.message.fields }
+    {
+        &self.fields
+    }
+
+    /// Some bytes spell the message, and it has these parts alone.
+    pub fn known(&self)
+        ensures spelled { (bytes : List ℕ) × MessageText bytes self.now.message }
+        ensures parts { IsOnly (HasParts self.now.message.fields) self.now.parts }
+    {
+        let _ = &self.fields;
+    }
+}

@@ -1,0 +1,102 @@
+//! Values of field lines: cut off their blanks, and judged by the row of their field's name.
+ghost use Rattle.std.specs.Prelude.{◌≡◌, ◌≤◌, ◌<◌, ◌-◌, ◌↔◌, ℕ, List, IsTrue, length, slice_index, true, false};
+ghost use Rattle.std.specs.List.{prefix_len};
+ghost use Rattle.sip_text.specs.Text.{IsOnlyValue};
+ghost use Rattle.sip_text.specs.Grammar.{Sws};
+ghost use Rattle.sip_message.specs.Unfold.{is_blank};
+ghost use Rattle.sip_message.specs.Address.{AddressParts, AddressText};
+ghost use Rattle.sip_message.specs.Values.{CSeqText};
+ghost use Rattle.sip_message.specs.Field.{ValueText, Row};
+ghost use Rattle.sip_message.specs.inner.Fronts.{text_parts};
+ghost use Rattle.sip_message.specs.Views.{name_parts};
+
+use crate::address::read_address;
+use crate::name::{Known, Name};
+use crate::values::{is_call_id, is_length, is_other, read_cseq};
+use crate::via::are_vias;
+use sip_text::skip_lws;
+
+/// The value in what follows the colon of a field line: the text without the longest blank runs at
+/// its two ends. It is None where what stands there is no blank run.
+pub(crate) fn trim(text: &[u8]) -> Option<&[u8]>
+    ensures { IsOnlyValue ValueText text_parts text.now result }
+{
+    let front = blank_len(text);
+    let rest = &text[front..];
+    let end = solid_len(rest);
+    if is_sws(&text[..front]) && is_sws(&rest[end..]) {
+        Some(&rest[..end])
+    } else {
+        None
+    }
+}
+
+// The length of the front of bytes of blank runs.
+fn blank_len(text: &[u8]) -> usize
+    ensures run { result ≡ prefix_len is_blank text.now }
+    ensures within { result ≤ length text.now }
+{
+    for (at, byte) in text.iter().enumerate() {
+        if !is_blank(*byte) {
+            return at;
+        }
+    }
+    text.len()
+}
+
+// The length of the text without the bytes of blank runs at its end.
+fn solid_len(text: &[u8]) -> usize
+    ensures blank { (k : ℕ) → result ≤ k → k < length text.now → is_blank (slice_index text.now k) ≡ true }
+    ensures solid { 0 < result → is_blank (slice_index text.now (result - 1)) ≡ false }
+    ensures within { result ≤ length text.now }
+{
+    let mut len = text.len();
+    while len > 0 && is_blank(text[len - 1]) {
+        len -= 1;
+    }
+    len
+}
+
+// A byte of a blank run.
+#[inline]
+fn is_blank(byte: u8) -> bool
+    ensures { result ≡ is_blank byte }
+{
+    matches!(byte, b' ' | b'\t' | b'\r' | b'\n')
+}
+
+// Whether the text is a blank run, or empty.
+fn is_sws(text: &[u8]) -> bool
+    ensures { IsTrue result ↔ Sws text.now }
+{
+    skip_lws(text) == text.len()
+}
+
+/// Whether a field of this name may have the value.
+pub(crate) fn is_of_row(name: Name<'_>, value: &[u8]) -> bool
+    ensures { IsTrue result ↔ Row (name_parts name.entry) value.now }
+{
+    match name {
+        Name::Known(Known::Via) => are_vias(value),
+        Name::Known(Known::From) => is_address(value),
+        Name::Known(Known::To) => is_address(value),
+        Name::Known(Known::CallId) => is_call_id(value),
+        Name::Known(Known::CSeq) => is_cseq(value),
+        Name::Known(Known::ContentLength) => is_length(value),
+        _ => is_other(value),
+    }
+}
+
+// Whether the text is an address.
+fn is_address(text: &[u8]) -> bool
+    ensures { IsTrue result ↔ ((a : AddressParts) × AddressText text.now a) }
+{
+    read_address(text).is_some()
+}
+
+// Whether the text is a CSeq.
+fn is_cseq(text: &[u8]) -> bool
+    ensures { IsTrue result ↔ ((number : ℕ) × (method : List ℕ) × CSeqText text.now number method) }
+{
+    read_cseq(text).is_some()
+}

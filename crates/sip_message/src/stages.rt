@@ -1,0 +1,216 @@
+//! The stages of reading.
+ghost use Rattle.std.specs.Prelude.{◌≡◌, ◌↔◌, option_copied, ℕ, List, IsTrue, IfOk};
+ghost use Rattle.sip_text.specs.Text.{IsOnlyValue};
+ghost use Rattle.sip_message.specs.Lines.{HasNoBareEnd, IsLines};
+ghost use Rattle.sip_message.specs.inner.Lines.{AreLines};
+ghost use Rattle.std.specs.List.{AllByRecursion};
+ghost use Rattle.sip_message.specs.declared.name.Known.TheVariants as known_name;
+ghost use Rattle.sip_message.specs.Name.{known};
+ghost use Rattle.sip_message.specs.Field.{Row};
+ghost use Rattle.sip_message.specs.Message.{content_length, is_stream, IsStream, MethodFits};
+ghost use Rattle.sip_message.specs.Faults.{IsCut, Present, NotTwice, Once, NamesOf, BodyOf};
+ghost use Rattle.sip_message.specs.inner.Finds.{found_parts, nothing_parts};
+ghost use Rattle.sip_message.specs.Reading.{IsValueOf};
+ghost use Rattle.sip_message.specs.inner.Fronts.{pair_parts, text_parts, past_end};
+ghost use Rattle.sip_message.specs.Views.{slice_fields};
+ghost use Rattle.sip_message.specs.inner.Settles.{outcome_of};
+ghost use Rattle.sip_message.specs.ValueParts.{start_parts};
+ghost use Rattle.sip_message.specs.inner.Stages.{names_parts, Stand};
+
+use crate::cursor::cut_line;
+use crate::fault::{Fault, Reason, Unit};
+use crate::field::{Field, cut_value};
+use crate::name::Known;
+use crate::start_line::StartLine;
+use crate::values::{number_at_most, read_cseq};
+use crate::via::read_via;
+use memchr::{memchr2, memmem};
+use sip_text::same_text;
+
+/// Where the named fields stand.
+#[derive(Clone, Copy, Drop)]
+pub(crate) struct Named<'a> {
+    pub(crate) via_line: usize,
+    pub(crate) via: &'a [u8],
+    pub(crate) from: &'a [u8],
+    pub(crate) to: &'a [u8],
+    pub(crate) call_id: &'a [u8],
+    pub(crate) cseq_line: usize,
+    pub(crate) cseq: &'a [u8],
+}
+
+// The head, and what follows it.
+pub(crate) fn cut_head(bytes: &[u8]) -> Option<(&[u8], &[u8])>
+    ensures { IsOnlyValue IsCut pair_parts bytes.now result }
+{
+    let at = memmem::find(bytes, b"\r\n\r\n")?;
+    Some((&bytes[..at + 2], &bytes[at + 4..]))
+}
+
+// No CR without LF, and no LF without CR.
+pub(crate) fn is_clean(head: &[u8]) -> bool
+    ensures { IsTrue result ↔ HasNoBareEnd head.now }
+{
+    let mut rest = head;
+    'ends: while let Some(at) = memchr2(b'\r', b'\n', rest) {
+        match past_end(&rest[at..]) {
+            Some(more) => rest = more,
+            None => return false,
+        }
+    }
+    true
+}
+
+// The text past the CRLF at its front, if it begins with one.
+fn past_end(text: &[u8]) -> Option<&[u8]>
+    ensures { option_copied result ≡ past_end text.now }
+{
+    match text {
+        [b'\r', b'\n', rest @ ..] => Some(rest),
+        _ => None,
+    }
+}
+
+// The first line, and the text of the others.
+pub(crate) fn cut_first(head: &[u8]) -> (&[u8], &[u8])
+    ensures { (first : List ℕ) (others : List (List ℕ)) → IsLines head.now first others → (first ≡ result.0.now) × AreLines result.1.now others }
+{
+    match cut_line(head) {
+        Some(cut) => cut,
+        None => (head, &[]),
+    }
+}
+
+// The named fields, or the first of them that is missing or stands twice.
+pub(crate) fn find_named<'a>(fields: &[Field<'a>]) -> Result<Named<'a>, Fault>
+    ensures names { NamesOf (slice_fields fields.entry) (outcome_of names_parts result) }
+    ensures stand { IfOk result (Stand (slice_fields fields.entry)) }
+{
+    let (via, via_line) = find_first(fields, Known::Via)?;
+    let (from, _) = find_once(fields, Known::From)?;
+    let (to, _) = find_once(fields, Known::To)?;
+    let (call_id, _) = find_once(fields, Known::CallId)?;
+    let (cseq, cseq_line) = find_once(fields, Known::CSeq)?;
+    check_not_twice(fields, Known::ContentLength)?;
+    Ok(Named {
+        via_line,
+        via,
+        from,
+        to,
+        call_id,
+        cseq_line,
+        cseq,
+    })
+}
+
+// The value of the first field of the name, with its line.
+fn find_first<'a>(fields: &[Field<'a>], name: Known) -> Result<(&'a [u8], usize), Fault>
+    ensures { Present name (slice_fields fields.entry) (outcome_of found_parts result) }
+{
+    match cut_value(fields, 0, name) {
+        Some(first) => Ok(first),
+        None => Err(Fault {
+            unit: Unit::Head,
+            reason: Reason::Missing,
+        }),
+    }
+}
+
+// That the name stands at most once.
+fn check_not_twice(fields: &[Field<'_>], name: Known) -> Result<(), Fault>
+    ensures { NotTwice name (slice_fields fields.entry) (outcome_of nothing_parts result) }
+{
+    let Some((_, line)) = cut_value(fields, 0, name) else {
+        return Ok(());
+    };
+    match cut_value(fields, line, name) {
+        Some((_, second)) => Err(Fault {
+            unit: Unit::Line(second),
+            reason: Reason::Repeated,
+        }),
+        None => Ok(()),
+    }
+}
+
+// The value of the one field of the name, with its line.
+fn find_once<'a>(fields: &[Field<'a>], name: Known) -> Result<(&'a [u8], usize), Fault>
+    ensures { Once name (slice_fields fields.entry) (outcome_of found_parts result) }
+{
+    check_not_twice(fields, name)?;
+    find_first(fields, name)
+}
+
+// The body.
+pub(crate) fn read_body<'a>(
+    start: StartLine<'a>,
+    named: Named<'a>,
+    fields: &[Field<'a>],
+    rest: &'a [u8],
+) -> Result<&'a [u8], Fault>
+    requires rows { AllByRecursion (λ f. Row f.name f.value) (slice_fields fields) }
+    requires via { IsValueOf known_name.Via (slice_fields fields) named.via.now }
+    ensures { BodyOf (start_parts start.entry) ((names_parts named.entry).1) ((names_parts named.entry).0.1) (content_length (slice_fields fields.entry)) rest.entry.now (outcome_of text_parts result) }
+{
+    if !fits_method(start, named.cseq) {
+        return Err(Fault {
+            unit: Unit::Line(named.cseq_line),
+            reason: Reason::MethodMismatch,
+        });
+    }
+    let Some((digits, _)) = cut_value(fields, 0, Known::ContentLength) else {
+        if is_stream_via(named.via) {
+            return Err(Fault {
+                unit: Unit::Body,
+                reason: Reason::NoLength,
+            });
+        }
+        return Ok(rest);
+    };
+    let Some(len) = number_at_most(digits, rest.len()) else {
+        return Err(Fault {
+            unit: Unit::Body,
+            reason: Reason::ShortBody,
+        });
+    };
+    if len == rest.len() {
+        return Ok(rest);
+    }
+    if is_stream_via(named.via) {
+        return Err(Fault {
+            unit: Unit::Body,
+            reason: Reason::LongBody,
+        });
+    }
+    Ok(&rest[..len])
+}
+
+// Whether the method of CSeq is that of the request.
+fn fits_method(start: StartLine<'_>, cseq: &[u8]) -> bool
+    ensures { IsTrue result ↔ MethodFits (start_parts start.entry) cseq.now }
+{
+    match start {
+        StartLine::Request { method, .. } => match read_cseq(cseq) {
+            Some(cseq) => cseq.method == method,
+            None => false,
+        },
+        StartLine::Status { .. } => true,
+    }
+}
+
+// Whether the transport of the value's first element is a stream.
+fn is_stream_via(via: &[u8]) -> bool
+    requires { Row (known known_name.Via) via.now }
+    ensures { IsTrue result ↔ IsStream via.now }
+{
+    match read_via(via) {
+        Some((via, _)) => is_stream(via.transport),
+        None => false,
+    }
+}
+
+/// Whether the transport is a stream: TCP or TLS.
+pub(crate) fn is_stream(transport: &[u8]) -> bool
+    ensures { result ≡ is_stream transport.now }
+{
+    same_text(transport, b"TCP") || same_text(transport, b"TLS")
+}

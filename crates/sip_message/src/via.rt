@@ -1,0 +1,165 @@
+//! Via elements.
+ghost use Rattle.std.specs.Prelude.{◌≡◌, ◌↔◌, ℕ, List, Option, IsTrue, MatchOption, option_copied};
+ghost use Rattle.sip_text.specs.Text.{IsOnlyValue};
+ghost use Rattle.sip_text.specs.Bytes.{colon};
+ghost use Rattle.sip_message.specs.Via.{ViaParts, ViasText};
+ghost use Rattle.sip_message.specs.inner.Fronts.{pair_parts};
+ghost use Rattle.sip_message.specs.inner.ElementFronts.{EndsElement, ViaFront};
+ghost use Rattle.sip_message.specs.ViaParts.{front_parts};
+ghost use Rattle.sip_message.specs.inner.ParamFronts.{LedFront, led_parts};
+ghost use Rattle.sip_message.specs.inner.ViaFronts.{HostCut, HostFront, PortFront, BranchOf, BranchFront, TailFront, host_front_parts, tail_parts};
+
+use crate::cursor::{cut_token, past_mark, read_protocol, skip_blanks};
+use crate::params::{cut_brackets, cut_param, is_token};
+use sip_text::{Host, is_port, read_host, same_text};
+
+/// An element of Via (RFC 3261, section 20.42), in slices of the message.
+#[derive(Clone, Copy, Debug, PartialEq, Eq)]
+pub struct Via<'a> {
+    /// The whole element.
+    pub whole: &'a [u8],
+    /// The protocol's name.
+    pub protocol: &'a [u8],
+    /// The protocol's version.
+    pub version: &'a [u8],
+    /// The transport.
+    pub transport: &'a [u8],
+    /// The host of sent-by.
+    pub host: Host<'a>,
+    /// The port of sent-by.
+    pub port: Option<&'a [u8]>,
+    /// The parameters, from their first `;` on.
+    pub params: &'a [u8],
+    /// The value of the first parameter named branch.
+    pub branch: Option<&'a [u8]>,
+}
+
+/// Whether the whole text is one or more elements of Via, with a comma between any two.
+pub(crate) fn are_vias(text: &[u8]) -> bool
+    ensures { IsTrue result ↔ ((v : ViaParts) × (vias : List ViaParts) × ViasText text.now v vias) }
+{
+    let mut rest = text;
+    'elements: loop {
+        let Some((_, more)) = read_via(rest) else {
+            return false;
+        };
+        match past_mark(more, b',') {
+            Some(next) => rest = next,
+            None => return true,
+        }
+    }
+}
+
+/// The element at the front, and what is behind it: nothing, or a comma and more.
+pub(crate) fn read_via(text: &[u8]) -> Option<(Via<'_>, &[u8])>
+    ensures { IsOnlyValue ViaFront front_parts text.now result }
+{
+    let (protocol, version, transport, rest) = read_protocol(text)?;
+    let (host, rest) = cut_host(rest)?;
+    let (port, rest) = cut_led_port(rest)?;
+    let (params, branch, rest) = cut_tail(rest)?;
+    if !ends_element(rest) {
+        return None;
+    }
+    Some((
+        Via {
+            whole: &text[..text.len() - rest.len()],
+            protocol,
+            version,
+            transport,
+            host,
+            port,
+            params,
+            branch,
+        },
+        rest,
+    ))
+}
+
+// Whether an element may end here: before a comma, or where the text does.
+fn ends_element(text: &[u8]) -> bool
+    ensures { IsTrue result ↔ EndsElement text.now }
+{
+    text.is_empty() || past_mark(text, b',').is_some()
+}
+
+// The host at the front.
+fn cut_host(text: &[u8]) -> Option<(Host<'_>, &[u8])>
+    ensures { IsOnlyValue HostFront host_front_parts text.now result }
+{
+    let (part, rest) = cut_host_text(text)?;
+    let host = read_host(part)?;
+    Some((host, rest))
+}
+
+// What may be a host at the front: the text from a `[` to the first `]`, or the longest token.
+fn cut_host_text(text: &[u8]) -> Option<(&[u8], &[u8])>
+    ensures { IsOnlyValue HostCut pair_parts text.now result }
+{
+    if let Some((part, rest)) = cut_brackets(text) {
+        return Some((part, rest));
+    }
+    cut_token(text)
+}
+
+// The port at the front, behind its colon if there is one.
+fn cut_led_port(text: &[u8]) -> Option<(Option<&[u8]>, &[u8])>
+    ensures { IsOnlyValue (LedFront colon PortFront) led_parts text.now result }
+{
+    let Some(inner) = past_mark(text, b':') else {
+        return Some((None, text));
+    };
+    let (port, rest) = cut_port(inner)?;
+    Some((Some(port), rest))
+}
+
+// The port at the front.
+fn cut_port(text: &[u8]) -> Option<(&[u8], &[u8])>
+    ensures { IsOnlyValue PortFront pair_parts text.now result }
+{
+    let (port, rest) = cut_token(text)?;
+    if is_port(port) {
+        Some((port, rest))
+    } else {
+        None
+    }
+}
+
+// The parameters at the front, from their first `;` on, and the branch.
+fn cut_tail(text: &[u8]) -> Option<(&[u8], Option<&[u8]>, &[u8])>
+    ensures { IsOnlyValue TailFront tail_parts text.now result }
+{
+    let (branch, rest) = cut_branch(text)?;
+    Some((skip_blanks(&text[..text.len() - rest.len()]), branch, rest))
+}
+
+// The branch of the parameters at the front, and what is behind them.
+fn cut_branch(text: &[u8]) -> Option<(Option<&[u8]>, &[u8])>
+    ensures { IsOnlyValue BranchFront led_parts text.now result }
+{
+    let mut branch = None;
+    let mut rest = text;
+    'params: while let Some((name, value, more)) = cut_param(rest) {
+        branch = branch.or(branch_of(name, value)?);
+        rest = more;
+    }
+    Some((branch, rest))
+}
+
+// The branch that a parameter is, None within where it has another name, and None where it is a
+// branch without a token.
+fn branch_of<'a>(name: &[u8], value: Option<&'a [u8]>) -> Option<Option<&'a [u8]>>
+    ensures { MatchOption result
+        ((branch : Option (List ℕ)) → ¬ (BranchOf (name.entry.now, option_copied value.entry) branch))
+        (λ branch. BranchOf (name.entry.now, option_copied value.entry) (option_copied branch)) }
+{
+    if !same_text(name, b"branch") {
+        return Some(None);
+    }
+    let branch = value?;
+    if is_token(branch) {
+        Some(Some(branch))
+    } else {
+        None
+    }
+}

@@ -1,0 +1,116 @@
+//! The elements of all Via fields, and the values of Route fields, one after another.
+ghost use Rattle.std.specs.Prelude.{◌≡◌, ℕ, List, [], drop, MatchOption};
+ghost use Rattle.sip_message.specs.declared.name.Known.TheVariants as known_name;
+ghost use Rattle.sip_message.specs.Only.{IsOnly, One, the, One-prop};
+ghost use Rattle.sip_message.specs.Elements.{Element, AreElements, values};
+ghost use Rattle.sip_message.specs.inner.ElementFronts.{AreLeft, NextText};
+ghost use Rattle.sip_message.specs.inner.Codes.{elements_code};
+ghost use Rattle.sip_message.specs.ViaParts.{element};
+ghost use Rattle.sip_message.specs.Views.{slice_fields};
+
+use crate::cursor::past_mark;
+use crate::field::{Field, cut_value};
+use crate::name::Known;
+use crate::via::{Via, read_via};
+use std::marker::Model;
+
+/// The elements of all Via fields, in order.
+#[derive(Drop)]
+pub struct Vias<'s, 'a> {
+    fields: &'s [Field<'a>],
+    at: usize,
+    rest: &'a [u8],
+    ghost left: { One (AreLeft rest.now (values known_name.Via (drop at (slice_fields fields)))) } by { One-prop elements_code (AreLeft rest.now (values known_name.Via (drop at (slice_fields fields)))) },
+}
+
+impl<'s, 'a> Model for Vias<'s, 'a> {
+    ghost Value = { List Element };
+
+    ghost coded = { elements_code };
+
+    ghost view = { λ it. the it.left };
+}
+
+impl<'s, 'a> Vias<'s, 'a> {
+    /// The elements of the fields.
+    pub(crate) fn new(fields: &'s [Field<'a>]) -> Self
+        requires { (es : List Element) × IsOnly (AreElements (values known_name.Via (slice_fields fields))) es }
+        ensures { IsOnly (AreElements (values known_name.Via (slice_fields fields.entry))) result }
+    {
+        Vias {
+            fields,
+            at: 0,
+            rest: &[],
+        }
+    }
+}
+
+impl<'s, 'a> Iterator for Vias<'s, 'a> {
+    ghost use Rattle.std.specs.Iterator.{YieldsFirstBy, item_count};
+    ghost use Rattle.sip_message.specs.ViaParts.{element};
+
+    type Item = Via<'a>;
+
+    ghost next_gives = { YieldsFirstBy element (λ it. it) };
+
+    ghost remaining = { item_count (λ it. it) };
+
+    fn next(&mut self) -> Option<Via<'a>> {
+        let (text, at) = next_text(self.fields, self.at, self.rest)?;
+        let (via, rest) = read_via(text)?;
+        self.at = at;
+        self.rest = rest;
+        Some(via)
+    }
+}
+
+// The text that begins with the next element, and the place behind its field.
+fn next_text<'a>(fields: &[Field<'a>], at: usize, rest: &'a [u8]) -> Option<(&'a [u8], usize)>
+    ensures { MatchOption result
+        ((es : List Element) → AreLeft rest.entry.now (values known_name.Via (drop at (slice_fields fields.entry))) es → es ≡ [])
+        (λ next. (es : List Element) → AreLeft rest.entry.now (values known_name.Via (drop at (slice_fields fields.entry))) es
+        → NextText rest.entry.now (values known_name.Via (drop at (slice_fields fields.entry))) next.0.now (values known_name.Via (drop next.1 (slice_fields fields.entry)))) }
+{
+    match past_mark(rest, b',') {
+        Some(text) => Some((text, at)),
+        None => cut_value(fields, at, Known::Via),
+    }
+}
+
+/// The values of the Route fields, in order.
+#[derive(Drop)]
+pub struct Routes<'s, 'a> {
+    fields: &'s [Field<'a>],
+    at: usize,
+}
+
+impl<'s, 'a> Model for Routes<'s, 'a> {
+    ghost Value = { List (List ℕ) };
+
+    ghost view = { λ it. values known_name.Route (drop it.at (slice_fields it.fields)) };
+}
+
+impl<'s, 'a> Routes<'s, 'a> {
+    /// The values of the fields.
+    pub(crate) fn new(fields: &'s [Field<'a>]) -> Self
+        ensures { result ≡ values known_name.Route (slice_fields fields.entry) }
+    {
+        Routes { fields, at: 0 }
+    }
+}
+
+impl<'s, 'a> Iterator for Routes<'s, 'a> {
+    ghost use Rattle.std.specs.Iterator.{YieldsFirstRef, item_count};
+
+    type Item = &'a [u8];
+
+    ghost next_gives = { YieldsFirstRef (λ it. it) };
+
+    ghost remaining = { item_count (λ it. it) };
+
+    fn next(&mut self) -> Option<&'a [u8]> {
+        let (value, at) = cut_value(self.fields, self.at, Known::Route)?;
+        self.at = at;
+        Some(value)
+    }
+}

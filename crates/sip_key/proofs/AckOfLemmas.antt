@@ -1,0 +1,62 @@
+-- Which ACK belongs to which INVITE.
+use Rattle.std.specs.Prelude.{◌≡◌, ◌↔◌, ℕ, Bool, IsTrue, List, [], ◌∷◌, ◌++◌, Option, None, Some, codes, bytes_eq, unwrap_or}
+use Rattle.std.specs.Borrow.{Bor}
+use Rattle.std.specs.List.{flat_map, join_with_byte}
+use Rattle.std.specs.Iterator.{YieldsFirstRef}
+use Rattle.std.specs.Cmp.Lexicographic.{bytes_decides}
+use Rattle.std.proofs.Common.{sym, ◌∙◌, ap, ap₂, subst, append-nil}
+use Rattle.std.proofs.lemmas.List.Elements.{filter-append}
+use Rattle.sip_message.specs.Params.{comma}
+use Rattle.sip_message.specs.StartLine.{StartLine, request}
+use Rattle.sip_key.specs.Solid.{solid}
+use Rattle.sip_message.specs.Reading.{Reading}
+use Rattle.sip_message.specs.Reads.{Reads}
+use Rattle.sip_message.proofs.MessageLemmas.{same_reading}
+use Rattle.sip_key.specs.AckOf.{IsAckLine, IsAckOf, AckOf}
+
+-- a request whose method is ACK, and another with the same URI
+pub ack-line : (method uri other target : List ℕ) (a i : StartLine) (r : Bool) → a ≡ request method uri → i ≡ request other target → method ≡ codes "ACK"
+    → r ≡ bytes_eq uri target → IsTrue r ↔ IsAckLine a i
+ack-line method uri other target a i r a_is i_is ack r_is = (
+  λ same. (uri, other, a_is ∙ ap (λ m. request m uri) ack, i_is ∙ ap (λ u. request other u) (sym ((bytes_decides uri target).0 (sym r_is ∙ same)))),
+  λ line. r_is ∙ (bytes_decides uri target).1 (same-uri line.0 line.1 (sym a_is ∙ line.2) (sym i_is ∙ line.3)),
+)
+  where
+    same-uri : (u m : List ℕ) → request method uri ≡ request (codes "ACK") u → request other target ≡ request m u → uri ≡ target
+    same-uri u m e f = cc
+
+-- a comma and the value, for each value
+abbrev each : List (List ℕ) → List ℕ
+each values = flat_map (λ value. comma ∷ solid value) values
+
+solid-append : (a b : List ℕ) → solid (a ++ b) ≡ solid a ++ solid b
+solid-append a b = filter-append _ a b
+
+-- the values joined by commas: the first, and each further one behind a comma
+pub solid-joined : (value : List ℕ) (values : List (List ℕ)) → solid (join_with_byte comma (value ∷ values)) ≡ solid value ++ each values
+solid-joined value [] = sym (append-nil (solid value))
+solid-joined value (next ∷ values) =
+    solid-append value (comma ∷ join_with_byte comma (next ∷ values))
+    ∙ ap (λ t. solid value ++ comma ∷ t) (solid-joined next values)
+
+-- the first of the values, and the others
+pub solid-begins : (values more : List (List ℕ)) (first : Option (Bor (List ℕ))) (none : Bor (List ℕ)) → YieldsFirstRef (λ it. it) values first more → none.now ≡ []
+    → solid (unwrap_or first none).now ++ each more ≡ solid (join_with_byte comma values)
+solid-begins values more None none steps empty =
+    ap₂ (λ (t : List ℕ) (vs : List (List ℕ)). solid t ++ each vs) empty steps.1 ∙ ap (λ vs. solid (join_with_byte comma vs)) (sym steps.0)
+solid-begins values more (Some x) none steps empty =
+    sym (solid-joined x.now more) ∙ ap (λ vs. solid (join_with_byte comma vs)) (sym steps)
+
+along : (a a' i i' r r' : Reading) → a' ≡ a → i' ≡ i → r' ≡ r → IsAckOf a' i' r' → IsAckOf a i r
+along a a' i i' r r' p q s is =
+    let P : Reading → Type 0 = λ x. IsAckOf x i' r' in
+    let Q : Reading → Type 0 = λ y. IsAckOf a y r' in
+    let R : Reading → Type 0 = λ z. IsAckOf a i z in
+    subst R s (subst Q q (subst P p is))
+
+-- texts are so related exactly if the messages are that they spell
+pub ack-of_bytes : (ack invite response : List ℕ) (a i r : Reading) → Reads ack a → Reads invite i → Reads response r → AckOf ack invite response ↔ IsAckOf a i r
+ack-of_bytes ack invite response a i r reads_a reads_i reads_r = (
+  λ of. along a of.0 i of.1 r of.2 (same_reading ack of.0 a of.3 reads_a) (same_reading invite of.1 i of.4 reads_i) (same_reading response of.2 r of.5 reads_r) of.6,
+  λ is. (a, i, r, reads_a, reads_i, reads_r, is),
+)

@@ -1,0 +1,46 @@
+-- The keys that a message concerns.
+use Rattle.std.specs.Prelude.{◌≡◌, ℕ, ◌&&◌, Bool, true, false, List, [], ◌∷◌, Some, IfSome, is_some, not, option_map, refl}
+use Rattle.std.proofs.Common.{sym, ◌∙◌, ap, subst}
+use Rattle.sip_text.specs.Uri.{Port}
+use Rattle.sip_message.specs.declared.name.Known.TheVariants as known_name
+use Rattle.sip_message.specs.Field.{Field}
+use Rattle.sip_message.specs.Elements.{Element, AreElements, values}
+use Rattle.sip_message.specs.Reading.{Reading, Parts, HasParts}
+use Rattle.sip_key.specs.declared.role.Role.{Role}
+use Rattle.sip_key.specs.declared.role.Direction.{Direction}
+use Rattle.sip_key.specs.Key.{KeyParts}
+use Rattle.sip_key.specs.Concerns.{branch_of, role_of, sent_by_of, method_of, own_key, is_sent_request, lacks_cookie}
+
+-- the port of the first element is one
+first-port : (vals : List (List ℕ)) (e : Element) (es : List Element) → AreElements vals (e ∷ es) → IfSome e.1.port Port
+first-port [] e es are = let never : e ∷ es ≡ [] = are in cc
+first-port (value ∷ vals) e es ([], more, now_is, more_are, whole) = absurd now_is
+first-port (value ∷ vals) e es (f ∷ now, more, now_is, more_are, whole) =
+    let same : f ≡ e = cc in
+    let P : Element → Type 0 = λ x. IfSome x.1.port Port in
+    subst P same now_is.0.0.port
+
+pub top-port : (fields : List Field) (p : Parts) → HasParts fields p → IfSome p.via.1.port Port
+top-port fields p has = first-port (values known_name.Via fields) p.via p.others has.vias
+
+and-false : (a : Bool) → (a && false) ≡ false
+and-false true = refl
+and-false false = refl
+
+-- a key of these parts is the message's own
+pub own-is : (r : Reading) (d : Direction) (role : Role) (branch sent_by method : List ℕ) {k : KeyParts}
+    → k ≡ record { role = role; branch = branch; sent_by = sent_by; method = method }
+    → role ≡ role_of r.message.start d
+    → branch_of r ≡ Some branch
+    → sent_by ≡ sent_by_of role r.parts.via.1
+    → method ≡ method_of r.message.start r.parts.cseq.1
+    → (Some k ≡ own_key r d) × (lacks_cookie r d ≡ false)
+own-is r d role branch sent_by method key by_role by_branch by_sent_by by_method =
+    let sent_by_is : sent_by ≡ sent_by_of (role_of r.message.start d) r.parts.via.1 =
+    by_sent_by ∙ ap (λ s. sent_by_of s r.parts.via.1) by_role in
+    let f : List ℕ → KeyParts =
+    λ b. record { role = role_of r.message.start d; branch = b; sent_by = sent_by_of (role_of r.message.start d) r.parts.via.1; method = method_of r.message.start r.parts.cseq.1 } in
+    let own : own_key r d ≡ Some (f branch) = ap (option_map f) by_branch in (
+      ap Some (key ∙ (λ i. record { role = by_role i; branch = branch; sent_by = sent_by_is i; method = by_method i })) ∙ sym own,
+      ap (λ o. is_sent_request r.message.start d && not (is_some o)) by_branch ∙ and-false (is_sent_request r.message.start d),
+    )

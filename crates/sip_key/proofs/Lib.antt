@@ -1,0 +1,4 @@
+pub mod SentByLemmas
+pub mod SolidLemmas
+pub mod ConcernLemmas
+pub mod AckOfLemmas

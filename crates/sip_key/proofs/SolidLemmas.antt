@@ -1,0 +1,51 @@
+-- Iterators over bytes that are compared.
+use Rattle.std.specs.Prelude.{◌≡◌, ◌↔◌, ◌==◌, ℕ, Bool, true, false, IsTrue, List, [], ◌∷◌, ◌++◌, Option, None, Some, MatchOption, IfSome, refl}
+use Rattle.std.specs.List.{AllZip}
+use Rattle.std.specs.Iterator.{YieldsFirst, Yields, ComparesItemsByEq}
+use Rattle.std.proofs.Common.{sym, ◌∙◌, ap, ap₂}
+use Rattle.std.proofs.lemmas.Bool.{eqb-true, eqb-false}
+
+-- an iterator that is seen as the list of its items
+abbrev Steps : List ℕ → Option ℕ → List ℕ → Type 0
+Steps = YieldsFirst (λ it. it)
+
+-- what was given stood before what is left
+yielded : (s t xs : List ℕ) → Yields Steps s xs t → s ≡ xs ++ t
+yielded s t [] e = e
+yielded s t (x ∷ xs) e = e.1 ∙ ap (λ r. x ∷ r) (yielded e.0 t xs e.2)
+
+-- texts with the same front are the same if their rests are
+same-behind : (P : Type 0) (xs ys t w : List ℕ) → AllZip (λ x y. (x == y) ≡ true) xs ys → (P ↔ (t ≡ w)) → P ↔ (xs ++ t ≡ ys ++ w)
+same-behind P [] [] t w z h = h
+same-behind P [] (y ∷ ys) t w z h = absurd z
+same-behind P (x ∷ xs) [] t w z h = absurd z
+same-behind P (x ∷ xs) (y ∷ ys) t w z h =
+    let more = same-behind P xs ys t w z.1 h in
+    (λ p. ap₂ ◌∷◌ (eqb-true x y z.0) (more.0 p), λ e. more.1 (let tail : xs ++ t ≡ ys ++ w = cc in tail))
+
+not-cons : (x : ℕ) (xs t : List ℕ) → t ≡ [] → t ≡ x ∷ xs → ⊥
+not-cons x xs t e f = let both : [] ≡ x ∷ xs = sym e ∙ f in cc
+
+no : false ≡ true → ⊥
+no e = cc
+
+-- the last two answers
+last-same : (r : Bool) (o p : Option ℕ) (t u w v : List ℕ) → Steps t o u → Steps w p v
+    → MatchOption o (MatchOption p (r ≡ true) (λ _. r ≡ false)) (λ x. (r ≡ false) × IfSome p (λ y. (x == y) ≡ false)) → IsTrue r ↔ (t ≡ w)
+last-same true None None t u w v a b h = (λ _. a.0 ∙ sym b.0, λ _. refl)
+last-same false None None t u w v a b h = cc
+last-same true None (Some y) t u w v a b h = cc
+last-same false None (Some y) t u w v a b h = (λ never. absurd (no never), λ e. absurd (not-cons y v t a.0 (e ∙ b)))
+last-same true (Some x) None t u w v a b h = cc
+last-same false (Some x) None t u w v a b h = (λ never. absurd (no never), λ e. absurd (not-cons x u w b.0 (sym e ∙ a)))
+last-same true (Some x) (Some y) t u w v a b h = let none : true ≡ false = h.0 in cc
+last-same false (Some x) (Some y) t u w v a b h =
+    (λ never. absurd (no never), λ e. let both : x ∷ u ≡ y ∷ v = sym a ∙ e ∙ b in let same : x ≡ y = cc in absurd (eqb-false x y h.1 same))
+
+-- iterators are compared by their items
+pub same-items : (r : Bool) (xs ys : List ℕ) → ComparesItemsByEq Steps (λ (other it : List ℕ). it ≡ other) Steps xs ys (λ x y. x == y) r → IsTrue r ↔ (xs ≡ ys)
+same-items r xs ys (it, cs, bs, o, p, u, v, is, (t, a, end), (w, b, last), zip, h) =
+    let same = same-behind (IsTrue r) cs bs t w zip (last-same r o p t u w v end last h) in
+    let one = yielded xs t cs a in
+    let other = sym is ∙ yielded it w bs b in
+    (λ true_is. one ∙ same.0 true_is ∙ sym other, λ e. same.1 (sym one ∙ e ∙ other))

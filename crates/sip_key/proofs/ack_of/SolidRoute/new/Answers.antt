@@ -1,0 +1,13 @@
+use Rattle.std.specs.Prelude.{List, ℕ, ◌++◌, ◌∷◌, refl}
+use Rattle.std.specs.Borrow.{Bor}
+use Rattle.std.specs.List.{flat_map}
+use Rattle.std.proofs.Common.{◌∙◌, ap}
+use Rattle.sip_message.specs.Params.{comma}
+use Rattle.sip_key.specs.Solid.{solid}
+use Rattle.sip_key.proofs.AckOfLemmas.{solid-begins}
+use Rattle.sip_key.proofs.ack_of.SolidRoute.new.Goals as goal
+
+pub returns : goal.returns
+returns c =
+    ap (λ (t : Bor (List ℕ)). solid t.now ++ flat_map (λ value. comma ∷ solid value) c.next.new.self) c.unwrap_or-rest.ensures
+    ∙ solid-begins c.args.values c.next.new.self c.next.result _ c.next.ensures.steps refl

@@ -1,0 +1,10 @@
+use Rattle.std.proofs.Common.{sym, ◌∙◌, ap}
+use Rattle.std.specs.Cmp.Lexicographic.{bytes_decides}
+use Rattle.sip_message.specs.ValueParts.{start_parts}
+use Rattle.sip_key.proofs.AckOfLemmas.{ack-line}
+use Rattle.sip_key.proofs.ack_of.is_ack_line.Goals as goal
+
+pub returns-then-eq : goal.returns-then-eq
+returns-then-eq c =
+    ack-line _ _ _ _ _ _ c.eq-then-eq.result (ap start_parts c.in-Request-Request.is-0) (ap start_parts c.in-Request-Request.is-1)
+    ((bytes_decides _ _).0 (sym c.eq.ensures ∙ c.if-eq.true) ∙ c.as_slice.ensures) c.eq-then-eq.ensures

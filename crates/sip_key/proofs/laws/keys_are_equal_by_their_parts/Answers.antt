@@ -1,0 +1,5 @@
+use Rattle.sip_key.specs.inner.KeyLaws.{same_key-decides}
+use Rattle.sip_key.proofs.laws.keys_are_equal_by_their_parts.Goals as goal
+
+pub returns : goal.returns
+returns c = same_key-decides

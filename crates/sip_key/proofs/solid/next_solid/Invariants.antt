@@ -1,0 +1,10 @@
+use Rattle.std.proofs.Common.{◌≡◌, length}
+use Rattle.sip_key.specs.Solid.{solid}
+use Rattle.sip_key.proofs.solid.next_solid.Given as goal
+
+-- what was passed was blank
+abbrev pub invariant-blanks : goal.invariant-blanks
+invariant-blanks l = solid l.rest ≡ solid l.fn.text
+
+abbrev pub decreases-blanks : goal.decreases-blanks
+decreases-blanks l = length l.rest

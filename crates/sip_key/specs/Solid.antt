@@ -1,0 +1,7 @@
+-- Texts compared but for their blanks.
+use Rattle.std.specs.Prelude.{ℕ, not, List, filter}
+use Rattle.sip_message.specs.Unfold.{is_blank}
+
+-- the text without its blanks, wherever they stand
+abbrev pub solid : List ℕ → List ℕ
+solid text = filter (λ byte. not (is_blank byte)) text

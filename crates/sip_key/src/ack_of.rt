@@ -1,0 +1,103 @@
+//! Which ACK belongs to which INVITE.
+ghost use Rattle.std.specs.Prelude.{◌≡◌, ◌↔◌, [], IsTrue};
+ghost use Rattle.sip_key.specs.Solid.{solid};
+ghost use Rattle.sip_message.specs.ValueParts.{start_parts};
+ghost use Rattle.sip_key.specs.AckOf.{IsAckLine, IsAckOf, SameSolid, route};
+
+use crate::solid::{next_solid, same_solid};
+use sip_message::{Message, Routes, StartLine};
+use std::marker::Model;
+
+/// Whether the first message is the ACK for the third, a response to the second, which is an INVITE
+/// (RFC 3261, section 17.1.1.3). From, To, Via and Route are compared but for blanks, the rest byte for
+/// byte. It takes no memory.
+pub fn is_ack_of(ack: &Message<'_>, invite: &Message<'_>, response: &Message<'_>) -> bool
+    ensures { IsTrue result ↔ IsAckOf ack.now invite.now response.now }
+{
+    is_ack_line(ack.start(), invite.start())
+        && ack.call_id() == invite.call_id()
+        && same_solid(ack.from().whole, invite.from().whole)
+        && same_solid(ack.to().whole, response.to().whole)
+        && has_one_via(ack)
+        && same_solid(ack.top_via().whole, invite.top_via().whole)
+        && ack.cseq().number == invite.cseq().number
+        && same_route(ack, invite)
+}
+
+// An ACK, with the Request-URI of the request.
+fn is_ack_line(ack: StartLine<'_>, invite: StartLine<'_>) -> bool
+    ensures { IsTrue result ↔ IsAckLine (start_parts ack.entry) (start_parts invite.entry) }
+{
+    match (ack, invite) {
+        (StartLine::Request { method, uri }, StartLine::Request { uri: target, .. }) => {
+            method == b"ACK".as_slice() && uri == target
+        }
+        _ => false,
+    }
+}
+
+// One Via element in all.
+fn has_one_via(message: &Message<'_>) -> bool
+    ensures { IsTrue result ↔ (message.now.parts.others ≡ []) }
+{
+    let mut vias = message.vias();
+    vias.next();
+    vias.next().is_none()
+}
+
+// The same Route values, joined by commas.
+fn same_route(a: &Message<'_>, b: &Message<'_>) -> bool
+    ensures { IsTrue result ↔ SameSolid (route a.now) (route b.now) }
+{
+    SolidRoute::new(a.routes()).eq(SolidRoute::new(b.routes()))
+}
+
+// The bytes of values joined by commas that are no blanks, in order.
+#[derive(Drop)]
+struct SolidRoute<'s, 'a> {
+    rest: &'a [u8],
+    values: Routes<'s, 'a>,
+}
+
+impl<'s, 'a> Model for SolidRoute<'s, 'a> {
+    ghost use Rattle.std.specs.Prelude.{ℕ, List, ◌++◌, ◌∷◌};
+    ghost use Rattle.std.specs.List.{flat_map};
+    ghost use Rattle.sip_message.specs.Params.{comma};
+    ghost use Rattle.sip_key.specs.Solid.{solid};
+
+    ghost Value = { List ℕ };
+
+    ghost view = { λ it. solid it.rest.now ++ flat_map (λ value. comma ∷ solid value) it.values };
+}
+
+impl<'s, 'a> SolidRoute<'s, 'a> {
+    ghost use Rattle.std.specs.List.{join_with_byte};
+    ghost use Rattle.sip_message.specs.Params.{comma};
+
+    // The bytes of these values.
+    fn new(mut values: Routes<'s, 'a>) -> Self
+        ensures { result ≡ solid (join_with_byte comma values.entry) }
+    {
+        let rest = values.next().unwrap_or(b"");
+        SolidRoute { rest, values }
+    }
+}
+
+impl<'s, 'a> Iterator for SolidRoute<'s, 'a> {
+    ghost use Rattle.std.specs.Iterator.{YieldsFirst, item_count};
+
+    type Item = u8;
+
+    ghost next_gives = { YieldsFirst (λ it. it) };
+
+    ghost remaining = { item_count (λ it. it) };
+
+    fn next(&mut self) -> Option<u8> {
+        if let Some((byte, rest)) = next_solid(self.rest) {
+            self.rest = rest;
+            return Some(byte);
+        }
+        self.rest = self.values.next()?;
+        Some(b',')
+    }
+}

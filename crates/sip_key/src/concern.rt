@@ -1,0 +1,135 @@
+//! The keys of the transactions that a message concerns.
+ghost use Rattle.std.specs.Prelude.{◌≡◌, ◌≢◌, IfOk, IfSome, MatchOption, None, Some, option_copied};
+ghost use Rattle.sip_text.specs.Case.{folded};
+ghost use Rattle.sip_text.specs.Host.{host_parts, host_text};
+ghost use Rattle.sip_text.specs.Uri.{Port};
+ghost use Rattle.sip_key.specs.Branch.{cookie_branch};
+ghost use Rattle.sip_message.specs.ValueParts.{start_parts};
+ghost use Rattle.sip_message.specs.ViaParts.{element};
+ghost use Rattle.sip_key.specs.Concerns.{cancelled_key, method_of, own_key, role_of, sent_by_of};
+ghost use Rattle.sip_key.specs.OwnKey.{IsOwnKey};
+
+use crate::branch::{folded, has_cookie};
+use crate::key::Key;
+use crate::role::{Direction, Role};
+use crate::sent_by::sent_by;
+use sip_message::{Message, StartLine, Via};
+use sip_text::Host;
+use std::alloc::{AllocError, Global};
+
+/// Why no key is answered.
+#[derive(Clone, Copy, Debug, PartialEq, Eq)]
+pub enum KeyError {
+    /// A growth was refused.
+    Memory,
+    /// A request is sent whose top branch lacks the cookie.
+    NoCookie,
+}
+
+impl From<AllocError> for KeyError {
+    ghost use Rattle.std.specs.Prelude.{◌≡◌};
+    ghost use Rattle.sip_key.specs.declared.concern.KeyError.TheVariants.{Memory};
+
+    ghost from_gives = { λ _ e. e ≡ Memory };
+
+    fn from(_error: AllocError) -> Self {
+        KeyError::Memory
+    }
+}
+
+/// The key of the transaction that a message matches when it is sent or received (RFC 3261, sections
+/// 17.1.3 and 17.2.3): None where a message that is received, or a response, lacks the cookie. A send
+/// that the transport refused has the direction Sent.
+pub fn key_of(
+    alloc: Global,
+    message: &Message<'_>,
+    direction: Direction,
+) -> Result<Option<Key>, KeyError>
+    ensures { IsOwnKey message.now direction result }
+{
+    message.known();
+    let start = message.start();
+    let via = message.top_via();
+    let Some(branch) = cookie_branch(via) else {
+        return match (start, direction) {
+            (StartLine::Request { .. }, Direction::Sent) => Err(KeyError::NoCookie),
+            _ => Ok(None),
+        };
+    };
+    let role = role_of(start, direction);
+    let branch = folded(alloc, branch)?;
+    let sent_by = sent_by_of(alloc, role, via)?;
+    let method = Vec::from_slice(alloc, method_of(message))?;
+    Ok(Some(Key::new(role, branch, sent_by, method)))
+}
+
+/// The key of the INVITE client transaction that a sent CANCEL cancels (RFC 3261, section 9.1), if it
+/// has the cookie; None for any other message. It is never the message's own.
+pub fn cancelled_key(
+    alloc: Global,
+    message: &Message<'_>,
+    direction: Direction,
+) -> Result<Option<Key>, AllocError>
+    ensures key { IfOk result (λ key. key ≡ cancelled_key message.now direction) }
+    ensures other { IfOk result (λ key. IfSome key (λ k. own_key message.now direction ≢ Some k)) }
+{
+    match (message.start(), direction) {
+        (StartLine::Request { method, .. }, Direction::Sent) if method == b"CANCEL".as_slice() => {}
+        _ => return Ok(None),
+    }
+    let Some(branch) = cookie_branch(message.top_via()) else {
+        return Ok(None);
+    };
+    let branch = folded(alloc, branch)?;
+    let method = Vec::from_slice(alloc, b"INVITE")?;
+    Ok(Some(Key::new(Role::Client, branch, Vec::new(alloc), method)))
+}
+
+// The branch, if it has the cookie.
+fn cookie_branch(via: Via<'_>) -> Option<&[u8]>
+    ensures { MatchOption result (cookie_branch (option_copied via.entry.branch) ≡ None) (λ branch. cookie_branch (option_copied via.entry.branch) ≡ Some (folded branch.now)) }
+{
+    via.branch.filter(|branch| has_cookie(branch))
+}
+
+// The side of the transaction.
+fn role_of(start: StartLine<'_>, direction: Direction) -> Role
+    ensures { result ≡ role_of (start_parts start.entry) direction }
+{
+    match (start, direction) {
+        (StartLine::Request { .. }, Direction::Sent)
+        | (StartLine::Status { .. }, Direction::Received) => Role::Client,
+        _ => Role::Server,
+    }
+}
+
+// The sent-by of a server's key, and nothing for a client's.
+fn sent_by_of(alloc: Global, role: Role, via: Via<'_>) -> Result<Vec<u8>, AllocError>
+    requires { IfSome (option_copied via.port) Port }
+    ensures { IfOk result (λ text. text.items ≡ sent_by_of role (element via.entry).1) }
+{
+    match role {
+        Role::Client => Ok(Vec::new(alloc)),
+        Role::Server => sent_by(alloc, host_text(via.host), via.port),
+    }
+}
+
+// The text of the host.
+fn host_text(host: Host<'_>) -> &[u8]
+    ensures { result.now ≡ host_text (host_parts host.entry) }
+{
+    match host {
+        Host::Name(text) | Host::V4(text) | Host::V6(text) => text,
+    }
+}
+
+// The method of the request that made the transaction.
+fn method_of<'a>(message: &Message<'a>) -> &'a [u8]
+    ensures { result.now ≡ method_of message.now.message.start message.now.parts.cseq.1 }
+{
+    match message.start() {
+        StartLine::Request { method, .. } if method == b"ACK".as_slice() => b"INVITE",
+        StartLine::Request { method, .. } => method,
+        StartLine::Status { .. } => message.cseq().method,
+    }
+}

@@ -1,0 +1,16 @@
+//! Laws of keys. The functions do nothing: their contracts are the laws.
+ghost use Rattle.std.specs.Prelude.{◌≡◌, ◌↔◌, ℕ, List, true};
+ghost use Rattle.sip_message.specs.Reading.{Reading};
+ghost use Rattle.sip_message.specs.Reads.{Reads};
+ghost use Rattle.sip_key.specs.Key.{KeyParts, same_key};
+ghost use Rattle.sip_key.specs.AckOf.{AckOf, IsAckOf};
+
+/// Keys are equal exactly if they have the same parts.
+pub fn keys_are_equal_by_their_parts()
+    ensures { (a b : KeyParts) → (same_key a b ≡ true) ↔ (a ≡ b) }
+{}
+
+/// Three texts are an ACK, an INVITE and a response to it exactly if the messages that they spell are.
+pub fn an_ack_is_told_by_its_bytes()
+    ensures { (ack invite response : List ℕ) (a i r : Reading) → Reads ack a → Reads invite i → Reads response r → AckOf ack invite response ↔ IsAckOf a i r }
+{}

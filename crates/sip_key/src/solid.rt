@@ -1,0 +1,65 @@
+//! Texts compared but for their blanks.
+ghost use Rattle.std.specs.Prelude.{◌≡◌, ◌∷◌, ◌↔◌, [], IsTrue, MatchOption};
+ghost use Rattle.sip_message.specs.Unfold.{is_blank};
+ghost use Rattle.sip_key.specs.Solid.{solid};
+
+use std::marker::Model;
+
+/// Whether the texts are equal without their blanks. It walks both, and takes no memory.
+pub(crate) fn same_solid(a: &[u8], b: &[u8]) -> bool
+    ensures { IsTrue result ↔ (solid a.now ≡ solid b.now) }
+{
+    Solid { rest: a }.eq(Solid { rest: b })
+}
+
+// The bytes of a text that are no blanks, in order.
+#[derive(Drop)]
+struct Solid<'a> {
+    rest: &'a [u8],
+}
+
+impl<'a> Model for Solid<'a> {
+    ghost use Rattle.std.specs.Prelude.{ℕ, List};
+    ghost use Rattle.sip_key.specs.Solid.{solid};
+
+    ghost Value = { List ℕ };
+
+    ghost view = { λ it. solid it.rest.now };
+}
+
+impl<'a> Iterator for Solid<'a> {
+    ghost use Rattle.std.specs.Iterator.{YieldsFirst, item_count};
+
+    type Item = u8;
+
+    ghost next_gives = { YieldsFirst (λ it. it) };
+
+    ghost remaining = { item_count (λ it. it) };
+
+    fn next(&mut self) -> Option<u8> {
+        let (byte, rest) = next_solid(self.rest)?;
+        self.rest = rest;
+        Some(byte)
+    }
+}
+
+/// The first byte that is no blank, and what is behind it.
+pub(crate) fn next_solid(text: &[u8]) -> Option<(u8, &[u8])>
+    ensures { MatchOption result (solid text.now ≡ []) (λ r. solid text.now ≡ r.0 ∷ solid r.1.now) }
+{
+    let mut rest = text;
+    'blanks: while let [byte, behind @ ..] = rest {
+        if !is_blank(*byte) {
+            return Some((*byte, behind));
+        }
+        rest = behind;
+    }
+    None
+}
+
+// SP, HTAB, CR or LF.
+fn is_blank(byte: u8) -> bool
+    ensures { result ≡ is_blank byte }
+{
+    matches!(byte, b' ' | b'\t' | b'\r' | b'\n')
+}

@@ -1,0 +1,454 @@
+//! Keys and ACKs worked out by hand from RFC 3261.
+use crate::{Direction, Key, KeyError, Role, cancelled_key, is_ack_of, key_of};
+use sip_message::Message;
+use std::alloc::{AllocError, Global};
+use std::test::Fail;
+
+/// What differs among the messages: a line, and its fields.
+#[derive(Clone, Copy)]
+struct Text {
+    start: &'static str,
+    via: &'static str,
+    from: &'static str,
+    to: &'static str,
+    call_id: &'static str,
+    cseq: &'static str,
+    more: &'static str,
+}
+
+impl Text {
+    fn bytes(&self, alloc: Global) -> Result<String, AllocError> {
+        let Text {
+            start,
+            via,
+            from,
+            to,
+            call_id,
+            cseq,
+            more,
+        } = *self;
+        format!(in alloc;
+            "{start}\r\nVia: {via}\r\nFrom:{from}\r\nTo: {to}\r\nCall-ID: {call_id}\r\nCSeq: {cseq}\r\n{more}Content-Length: 0\r\n\r\n"
+        )
+    }
+}
+
+const INVITE: Text = Text {
+    start: "INVITE sip:example.com SIP/2.0",
+    via: "SIP/2.0/UDP a.example.com;branch=z9hG4bK1",
+    from: " <sip:bob@example.com>;tag=1",
+    to: "<sip:bob@example.com>",
+    call_id: "c1@a",
+    cseq: "1 INVITE",
+    more: "",
+};
+
+const BUSY: Text = Text {
+    start: "SIP/2.0 486 Reply",
+    to: "<sip:bob@example.com>;tag=2",
+    ..INVITE
+};
+
+const ACK: Text = Text {
+    start: "ACK sip:example.com SIP/2.0",
+    to: "<sip:bob@example.com>;tag=2",
+    cseq: "1 ACK",
+    ..INVITE
+};
+
+/// The parts of a key.
+type Parts = (Role, &'static str, &'static str, &'static str);
+
+/// A message by its start line, Via and CSeq, which way it goes, and its key.
+const KEYS: [(Direction, &str, &str, &str, Result<Option<Parts>, KeyError>); 20] = [
+    // The role, sent-by and method by direction and kind.
+    (
+        Direction::Sent,
+        "OPTIONS sip:b SIP/2.0",
+        "SIP/2.0/UDP a;branch=z9hG4bK1",
+        "1 OPTIONS",
+        Ok(Some((Role::Client, "z9hg4bk1", "", "OPTIONS"))),
+    ),
+    (
+        Direction::Received,
+        "OPTIONS sip:b SIP/2.0",
+        "SIP/2.0/UDP a;branch=z9hG4bK1",
+        "1 OPTIONS",
+        Ok(Some((Role::Server, "z9hg4bk1", "a:5060", "OPTIONS"))),
+    ),
+    (
+        Direction::Received,
+        "SIP/2.0 200 OK",
+        "SIP/2.0/UDP a;branch=z9hG4bK1",
+        "1 OPTIONS",
+        Ok(Some((Role::Client, "z9hg4bk1", "", "OPTIONS"))),
+    ),
+    (
+        Direction::Sent,
+        "SIP/2.0 200 OK",
+        "SIP/2.0/UDP a;branch=z9hG4bK1",
+        "1 OPTIONS",
+        Ok(Some((Role::Server, "z9hg4bk1", "a:5060", "OPTIONS"))),
+    ),
+    // An ACK counts as an INVITE where it is a request.
+    (
+        Direction::Sent,
+        "ACK sip:b SIP/2.0",
+        "SIP/2.0/UDP a;branch=z9hG4bK1",
+        "1 ACK",
+        Ok(Some((Role::Client, "z9hg4bk1", "", "INVITE"))),
+    ),
+    (
+        Direction::Received,
+        "ACK sip:b SIP/2.0",
+        "SIP/2.0/UDP a;branch=z9hG4bK1",
+        "1 ACK",
+        Ok(Some((Role::Server, "z9hg4bk1", "a:5060", "INVITE"))),
+    ),
+    (
+        Direction::Received,
+        "SIP/2.0 200 OK",
+        "SIP/2.0/UDP a;branch=z9hG4bK1",
+        "1 ACK",
+        Ok(Some((Role::Client, "z9hg4bk1", "", "ACK"))),
+    ),
+    (
+        Direction::Received,
+        "invite sip:b SIP/2.0",
+        "SIP/2.0/UDP a;branch=z9hG4bK1",
+        "1 invite",
+        Ok(Some((Role::Server, "z9hg4bk1", "a:5060", "invite"))),
+    ),
+    // sent-by
+    (
+        Direction::Received,
+        "OPTIONS sip:b SIP/2.0",
+        "SIP/2.0/UDP A.Example.com;branch=z9hG4bK1",
+        "1 OPTIONS",
+        Ok(Some((Role::Server, "z9hg4bk1", "a.example.com:5060", "OPTIONS"))),
+    ),
+    (
+        Direction::Received,
+        "OPTIONS sip:b SIP/2.0",
+        "SIP/2.0/TLS a.example.com:05060;branch=z9hG4bK1",
+        "1 OPTIONS",
+        Ok(Some((Role::Server, "z9hg4bk1", "a.example.com:5060", "OPTIONS"))),
+    ),
+    (
+        Direction::Received,
+        "OPTIONS sip:b SIP/2.0",
+        "SIP/2.0/UDP [::1] : 65535 ;branch=z9hG4bK1",
+        "1 OPTIONS",
+        Ok(Some((Role::Server, "z9hg4bk1", "[::1]:65535", "OPTIONS"))),
+    ),
+    (
+        Direction::Received,
+        "OPTIONS sip:b SIP/2.0",
+        "SIP/2.0/TLS [0:0::1];branch=z9hG4bK1",
+        "1 OPTIONS",
+        Ok(Some((Role::Server, "z9hg4bk1", "[0:0::1]:5060", "OPTIONS"))),
+    ),
+    (
+        Direction::Received,
+        "OPTIONS sip:b SIP/2.0",
+        "SIP/2.0/UDP a.b.:00;branch=z9hG4bK1",
+        "1 OPTIONS",
+        Ok(Some((Role::Server, "z9hg4bk1", "a.b.:0", "OPTIONS"))),
+    ),
+    // Branches and the cookie: the first parameter of the top Via, without case.
+    (
+        Direction::Sent,
+        "OPTIONS sip:b SIP/2.0",
+        "SIP/2.0/UDP a;x;Branch=Z9HG4BKaB;branch=z9hG4bK2, SIP/2.0/UDP c;branch=z9hG4bK3",
+        "1 OPTIONS",
+        Ok(Some((Role::Client, "z9hg4bkab", "", "OPTIONS"))),
+    ),
+    (
+        Direction::Sent,
+        "OPTIONS sip:b SIP/2.0",
+        "SIP/2.0/UDP a;branch=z9hG4bK",
+        "1 OPTIONS",
+        Ok(Some((Role::Client, "z9hg4bk", "", "OPTIONS"))),
+    ),
+    (
+        Direction::Sent,
+        "OPTIONS sip:b SIP/2.0",
+        "SIP/2.0/UDP a;branch=abc",
+        "1 OPTIONS",
+        Err(KeyError::NoCookie),
+    ),
+    (
+        Direction::Sent,
+        "OPTIONS sip:b SIP/2.0",
+        "SIP/2.0/UDP a",
+        "1 OPTIONS",
+        Err(KeyError::NoCookie),
+    ),
+    (
+        Direction::Received,
+        "OPTIONS sip:b SIP/2.0",
+        "SIP/2.0/UDP a;branch=z9hG4b",
+        "1 OPTIONS",
+        Ok(None),
+    ),
+    (
+        Direction::Received,
+        "SIP/2.0 200 OK",
+        "SIP/2.0/UDP a;branch=abc",
+        "1 OPTIONS",
+        Ok(None),
+    ),
+    (
+        Direction::Sent,
+        "SIP/2.0 200 OK",
+        "SIP/2.0/UDP a",
+        "1 OPTIONS",
+        Ok(None),
+    ),
+];
+
+/// The message of this text.
+fn read(alloc: Global, text: &str) -> Result<Message<'_>, Fail> {
+    Message::read(alloc, text.as_bytes()).map_err(|_| Fail::from("no message"))
+}
+
+fn has_parts(key: &Option<Key>, parts: Option<Parts>) -> bool {
+    match (key, parts) {
+        (Some(key), Some((role, branch, sent_by, method))) => {
+            key.role() == role
+                && key.branch() == branch.as_bytes()
+                && key.sent_by() == sent_by.as_bytes()
+                && key.method() == method.as_bytes()
+        }
+        (None, None) => true,
+        _ => false,
+    }
+}
+
+#[test]
+fn a_message_has_its_key(rt: HostRuntime) -> Result<(), Fail> {
+    for (direction, start, via, cseq, expected) in KEYS {
+        let text = Text {
+            start,
+            via,
+            cseq,
+            ..INVITE
+        };
+        let text = text.bytes(rt.alloc())?;
+        let message = read(rt.alloc(), &text)?;
+        match (key_of(rt.alloc(), &message, direction), expected) {
+            (Ok(key), Ok(parts)) => assert!(rt; has_parts(&key, parts), "{text}"),
+            (Err(error), Err(fault)) => assert_eq!(rt; error, fault, "{text}"),
+            _ => assert!(rt; false, "{text}"),
+        }
+    }
+    Ok(())
+}
+
+#[test]
+fn keys_are_equal_if_their_parts_are(rt: HostRuntime) -> Result<(), Fail> {
+    for (one, other, same) in [
+        ("A.Example.com", "a.example.com:05060", true),
+        ("[::1]", "[0:0::1]", false),
+        ("a.b", "a.b.", false),
+        ("a.example.com", "b.example.com", false),
+        ("a.example.com", "A.EXAMPLE.com:5060", true),
+        ("a:5061", "a:5060", false),
+    ] {
+        let one = server_key(rt.alloc(), one)?;
+        let other = server_key(rt.alloc(), other)?;
+        assert_eq!(rt; one == other, same);
+    }
+    Ok(())
+}
+
+/// The server key of an OPTIONS request with this sent-by.
+fn server_key(alloc: Global, sent_by: &str) -> Result<Option<Key>, Fail> {
+    let text = format!(in alloc;
+        "OPTIONS sip:b SIP/2.0\r\nv: SIP/2.0/UDP {sent_by};branch=z9hG4bK1\r\nf: sip:a\r\nt: sip:b\r\ni: c\r\nCSeq: 1 OPTIONS\r\n\r\n"
+    )?;
+    let message = read(alloc, &text)?;
+    key_of(alloc, &message, Direction::Received).map_err(|_| Fail::from("no key"))
+}
+
+#[test]
+fn a_sent_cancel_has_a_second_key(rt: HostRuntime) -> Result<(), Fail> {
+    let cancelled = Some((Role::Client, "z9hg4bk1", "", "INVITE"));
+    for (direction, method, branch, parts) in [
+        (Direction::Sent, "CANCEL", "z9hG4bK1", cancelled),
+        (Direction::Received, "CANCEL", "z9hG4bK1", None),
+        (Direction::Sent, "CANCEL", "1", None),
+        (Direction::Sent, "INVITE", "z9hG4bK1", None),
+        (Direction::Sent, "cancel", "z9hG4bK1", None),
+    ] {
+        let text = format!(in rt.alloc();
+            "{method} sip:b SIP/2.0\r\nv: SIP/2.0/UDP a;branch={branch}\r\nf: sip:a\r\nt: sip:b\r\ni: c\r\nCSeq: 1 {method}\r\n\r\n"
+        )?;
+        let message = read(rt.alloc(), &text)?;
+        let key = cancelled_key(rt.alloc(), &message, direction)?;
+        assert!(rt; has_parts(&key, parts), "{text}");
+    }
+    Ok(())
+}
+
+/// Texts of an ACK and of an INVITE, and whether the ACK is the INVITE's for a 486.
+static ACKS: [(Text, Text, bool); 17] = [
+    (ACK, INVITE, true),
+    (
+        Text {
+            cseq: "01 ACK",
+            ..ACK
+        },
+        INVITE,
+        true,
+    ),
+    (
+        Text {
+            from: "  <sip:bob@example.com>;tag=1",
+            ..ACK
+        },
+        INVITE,
+        true,
+    ),
+    (
+        Text {
+            from: " <sip:bob@example.com>\r\n\t; tag = 1",
+            ..ACK
+        },
+        INVITE,
+        true,
+    ),
+    (
+        Text {
+            from: " <sip:Bob@example.com>;tag=1",
+            ..ACK
+        },
+        INVITE,
+        false,
+    ),
+    (
+        Text {
+            to: "<sip:bob@example.com>",
+            ..ACK
+        },
+        INVITE,
+        false,
+    ),
+    (
+        Text {
+            call_id: "C1@a",
+            ..ACK
+        },
+        INVITE,
+        false,
+    ),
+    (
+        Text {
+            start: "ACK sip:example.org SIP/2.0",
+            ..ACK
+        },
+        INVITE,
+        false,
+    ),
+    (
+        Text {
+            cseq: "2 ACK",
+            ..ACK
+        },
+        INVITE,
+        false,
+    ),
+    (INVITE, INVITE, false),
+    (
+        Text {
+            via: "SIP/2.0/UDP a.example.com;branch=z9hG4bK1, SIP/2.0/UDP b;branch=z9hG4bK2",
+            ..ACK
+        },
+        INVITE,
+        false,
+    ),
+    (
+        Text {
+            more: "Via: SIP/2.0/UDP b;branch=z9hG4bK2\r\n",
+            ..ACK
+        },
+        INVITE,
+        false,
+    ),
+    (
+        Text {
+            via: "SIP / 2.0 / UDP a.example.com ; branch=z9hG4bK1",
+            ..ACK
+        },
+        Text {
+            more: "Via: SIP/2.0/UDP b;branch=z9hG4bK2\r\n",
+            ..INVITE
+        },
+        true,
+    ),
+    (
+        Text {
+            more: "Route: <sip:r>\r\n",
+            ..ACK
+        },
+        INVITE,
+        false,
+    ),
+    (
+        Text {
+            more: "Route:\r\n",
+            ..ACK
+        },
+        INVITE,
+        true,
+    ),
+    (
+        Text {
+            more: "Route: <sip:r>\r\nX: y\r\nRoute: <sip:s>,<sip:t>\r\n",
+            ..ACK
+        },
+        Text {
+            more: "Route: <sip:r> , <sip:s>\r\nRoute: <sip:t>\r\n",
+            ..INVITE
+        },
+        true,
+    ),
+    (
+        Text {
+            more: "Route: <sip:s>\r\nRoute: <sip:r>\r\n",
+            ..ACK
+        },
+        Text {
+            more: "Route: <sip:r>\r\nRoute: <sip:s>\r\n",
+            ..INVITE
+        },
+        false,
+    ),
+];
+
+/// Whether the ACK is that of the INVITE for the 486.
+fn belongs(alloc: Global, ack: &Text, invite: &Text) -> Result<bool, Fail> {
+    let ack = ack.bytes(alloc)?;
+    let invite = invite.bytes(alloc)?;
+    let response = BUSY.bytes(alloc)?;
+    let is_its = is_ack_of(
+        &read(alloc, &ack)?,
+        &read(alloc, &invite)?,
+        &read(alloc, &response)?,
+    );
+    Ok(is_its)
+}
+
+#[test]
+fn an_ack_belongs_to_its_invite(rt: HostRuntime) -> Result<(), Fail> {
+    for (ack, invite, is_its) in &ACKS {
+        assert_eq!(rt;
+            belongs(rt.alloc(), ack, invite)?,
+            *is_its,
+            "{} {}",
+            ack.start,
+            ack.more
+        );
+    }
+    Ok(())
+}

@@ -7,25 +7,25 @@ pub(crate) const HEADER: &str = "sip-trace 1\nt1 500 t2 4000 t4 5000 tolerance 5
 
 /// A message over UDP: a response where it has a code, and else a request.
 #[derive(Clone, Copy, Debug)]
-pub(crate) struct Message {
+pub(crate) struct Message<'a> {
     code: Option<u16>,
     method: &'static str,
     /// What stands behind the cookie of its branch.
-    branch: &'static str,
+    branch: &'a str,
 }
 
 /// What stands in a log. Moments are in milliseconds.
 #[derive(Clone, Copy, Debug)]
-pub(crate) enum Logged {
+pub(crate) enum Logged<'a> {
     /// An entry at each of the moments, with its letter and its message.
-    Entries(char, &'static [u64], Message),
+    Entries(char, &'static [u64], Message<'a>),
     Mark(u64),
     /// Text as it stands.
-    Text(&'static str),
+    Text(&'a str),
 }
 
 /// A request of branch 1.
-fn request(method: &'static str) -> Message {
+fn request(method: &'static str) -> Message<'static> {
     Message {
         code: None,
         method,
@@ -34,22 +34,26 @@ fn request(method: &'static str) -> Message {
 }
 
 /// A request that was sent at each of the moments.
-pub(crate) fn sent(moments: &'static [u64], method: &'static str) -> Logged {
+pub(crate) fn sent(moments: &'static [u64], method: &'static str) -> Logged<'static> {
     Logged::Entries('S', moments, request(method))
 }
 
 /// A request whose send the transport refused at each of the moments.
-pub(crate) fn failed(moments: &'static [u64], method: &'static str) -> Logged {
+pub(crate) fn failed(moments: &'static [u64], method: &'static str) -> Logged<'static> {
     Logged::Entries('F', moments, request(method))
 }
 
 /// A request that was received at each of the moments.
-pub(crate) fn received(moments: &'static [u64], method: &'static str) -> Logged {
+pub(crate) fn received(moments: &'static [u64], method: &'static str) -> Logged<'static> {
     Logged::Entries('R', moments, request(method))
 }
 
 /// A response to a request, which was received at each of the moments.
-pub(crate) fn answered(moments: &'static [u64], code: u16, method: &'static str) -> Logged {
+pub(crate) fn answered(
+    moments: &'static [u64],
+    code: u16,
+    method: &'static str,
+) -> Logged<'static> {
     let message = Message {
         code: Some(code),
         ..request(method)
@@ -57,9 +61,12 @@ pub(crate) fn answered(moments: &'static [u64], code: u16, method: &'static str)
     Logged::Entries('R', moments, message)
 }
 
-impl Logged {
+impl<'a> Logged<'a> {
     /// The same with another branch.
-    pub(crate) fn on(self, branch: &'static str) -> Logged {
+    pub(crate) fn on<'b>(self, branch: &'b str) -> Logged<'b>
+    where
+        'a: 'b,
+    {
         match self {
             Logged::Entries(letter, moments, message) => {
                 Logged::Entries(letter, moments, Message { branch, ..message })
@@ -70,7 +77,7 @@ impl Logged {
 }
 
 /// The bytes of a message.
-fn text_of(alloc: Global, message: Message) -> Result<String, AllocError> {
+fn text_of(alloc: Global, message: Message<'_>) -> Result<String, AllocError> {
     let Message {
         code,
         method,
@@ -108,19 +115,24 @@ fn push_entries(
     Ok(())
 }
 
+/// Appends what is logged.
+pub(crate) fn push(alloc: Global, log: &mut String, logged: Logged<'_>) -> Result<(), AllocError> {
+    match logged {
+        Logged::Entries(letter, moments, message) => {
+            let message = text_of(alloc, message)?;
+            push_entries(log, letter, moments, message.as_str())
+        }
+        Logged::Mark(moment) => write!(log, "M {moment}\n"),
+        Logged::Text(plain) => log.push_str(plain),
+    }
+}
+
 /// The bytes of a log: the header, and what stands behind it.
-pub(crate) fn log_of(alloc: Global, logged: &[Logged]) -> Result<String, AllocError> {
+pub(crate) fn log_of(alloc: Global, logged: &[Logged<'_>]) -> Result<String, AllocError> {
     let mut text = String::with_capacity(alloc, 4096)?;
     text.push_str(HEADER)?;
     for it in logged {
-        match *it {
-            Logged::Entries(letter, moments, message) => {
-                let message = text_of(alloc, message)?;
-                push_entries(&mut text, letter, moments, message.as_str())?;
-            }
-            Logged::Mark(moment) => write!(text, "M {moment}\n")?,
-            Logged::Text(plain) => text.push_str(plain)?,
-        }
+        push(alloc, &mut text, *it)?;
     }
     Ok(text)
 }

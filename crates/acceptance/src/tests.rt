@@ -2,17 +2,17 @@
 //! T1 is 500, T2 4000, T4 5000, the tolerance 50 ms, the transport UDP, and the branch 1 where no other is named.
 ghost use Rattle.std.specs.Prelude.{◌≡◌, false};
 
-use crate::logged::{HEADER, Logged, answered, failed, log_of, received, sent};
+use crate::logged::{HEADER, Logged, answered, failed, log_of, push, received, sent};
 use crate::pieces::Pieces;
 use Logged::{Mark, Text};
-use sip_verdict::{FromRead, JudgeError, Source, judge, render};
+use sip_verdict::{JudgeError, Source, judge, judge_bytes, render};
 use std::alloc::{AllocError, Global};
 use std::hash::{BuildHasherDefault, FoldHasher};
 use std::process::Abort;
 use std::test::Fail;
 
 /// What is logged, and the verdict on it.
-type Row<'a> = (&'a [Logged], &'a str);
+type Row<'a> = (&'a [Logged<'a>], &'a str);
 
 /// The verdict on a first entry whose message is not of the plain form.
 const MALFORMED: &str = "malformed 1 head 13 NotYet";
@@ -28,11 +28,13 @@ fn verdict_of<S: Source>(alloc: Global, source: &mut S) -> Result<String, JudgeE
 
 /// The text of the verdict on these bytes.
 fn verdict_on(alloc: Global, bytes: &[u8]) -> Result<String, JudgeError> {
-    verdict_of(alloc, &mut FromRead::new(bytes))
+    let hasher = BuildHasherDefault::<FoldHasher>::new();
+    let verdict = judge_bytes(alloc, bytes, hasher)?;
+    Ok(render(alloc, &verdict)?)
 }
 
 /// An OPTIONS that was sent at each of the moments.
-fn options(moments: &'static [u64]) -> Logged {
+fn options(moments: &'static [u64]) -> Logged<'static> {
     sent(moments, "OPTIONS")
 }
 
@@ -137,6 +139,20 @@ fn judges_transactions(rt: HostRuntime) -> Result<(), Fail> {
                 "breach 3 transaction 1",
             ),
             (
+                // Within timer K's window the second response finds the transaction completed or ended.
+                &[
+                    options(&[0]),
+                    answered(&[100, 5_100], 200, "OPTIONS"),
+                    Mark(6_000),
+                ],
+                "legal entries 4 transactions 1",
+            ),
+            (
+                // The last moment that a log can name.
+                &[options(&[9_999_999_999_999]), Mark(9_999_999_999_999)],
+                "legal entries 2 transactions 1",
+            ),
+            (
                 // A response to nothing.
                 &[answered(&[100], 200, "OPTIONS").on("9")],
                 "legal entries 1 transactions 1",
@@ -180,6 +196,11 @@ fn judges_messages(rt: HostRuntime) -> Result<(), Fail> {
             ),
             (&[answered(&[0], 700, "OPTIONS")], MALFORMED),
             (
+                // A branch end of 16 bytes.
+                &[options(&[0]).on("abcdefghijklmnop")],
+                "legal entries 1 transactions 1",
+            ),
+            (
                 // A branch end of 17 bytes.
                 &[options(&[0]).on("12345678901234567")],
                 MALFORMED,
@@ -187,6 +208,47 @@ fn judges_messages(rt: HostRuntime) -> Result<(), Fail> {
             (&[Text("S 0 5\nhello\n")], MALFORMED),
         ],
     )
+}
+
+#[test]
+fn judges_the_longest_message(rt: HostRuntime) -> Result<(), Fail> {
+    let mut log = String::with_capacity(rt.alloc(), 66_000)?;
+    log.push_str(HEADER)?;
+    log.push_str("S 0 65535\n")?;
+    for _ in 0..65_535 {
+        log.push('x')?;
+    }
+    log.push_str("\n")?;
+    let bytes = log.as_str().as_bytes();
+    let text = verdict_on(rt.alloc(), bytes)?;
+    assert_eq!(rt; text.as_str(), MALFORMED);
+    let text = verdict_of(rt.alloc(), &mut Pieces::single(bytes))?;
+    assert_eq!(rt; text.as_str(), MALFORMED, "in single bytes");
+    Ok(())
+}
+
+#[test]
+fn judges_many_transactions(rt: HostRuntime) -> Result<(), Fail> {
+    let mut log = log_of(rt.alloc(), &[])?;
+    for number in 0..300 {
+        let branch = format!(in rt.alloc(); "{number}")?;
+        let logged = options(&[0]).on(branch.as_str());
+        push(rt.alloc(), &mut log, logged)?;
+    }
+    let text = verdict_on(rt.alloc(), log.as_str().as_bytes())?;
+    assert_eq!(rt; text.as_str(), "legal entries 300 transactions 300");
+    Ok(())
+}
+
+#[test]
+fn judges_many_messages(rt: HostRuntime) -> Result<(), Fail> {
+    let mut log = log_of(rt.alloc(), &[options(&[0])])?;
+    for code in 100..120 {
+        push(rt.alloc(), &mut log, answered(&[100], code, "OPTIONS"))?;
+    }
+    let text = verdict_on(rt.alloc(), log.as_str().as_bytes())?;
+    assert_eq!(rt; text.as_str(), "legal entries 21 transactions 1");
+    Ok(())
 }
 
 #[test]
@@ -298,5 +360,8 @@ fn answers_io_where_a_read_fails(rt: HostRuntime) -> Result<(), Fail> {
         let answer = verdict_of(rt.alloc(), &mut Pieces::failing(bytes, calls));
         assert_eq!(rt; answer.err(), Some(JudgeError::Io), "after {calls} calls");
     }
+    // A source that told its end is not asked again.
+    let text = verdict_of(rt.alloc(), &mut Pieces::failing(bytes, bytes.len() + 1))?;
+    assert_eq!(rt; text.as_str(), "legal entries 4 transactions 1");
     Ok(())
 }

@@ -1,2 +1,4 @@
-pub mod SingleLemmas
 pub mod PlainSteps
+pub mod RuleLaws
+pub mod SingleLemmas
+pub mod TextLaws

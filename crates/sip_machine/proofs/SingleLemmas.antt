@@ -3,9 +3,9 @@ use Rattle.std.specs.Prelude.{unwrap_or}
 use Rattle.std.specs.Option.{option_and}
 use Rattle.std.proofs.lemmas.List.Elements.{All-nil, All-cons, Contains-push, Contains-push_cases}
 use Rattle.sip_machine.specs.Texts.{Texts}
-use Rattle.sip_machine.specs.TextLaws.{Contains-nil}
+use Rattle.sip_machine.proofs.TextLaws.{Contains-nil}
 use Rattle.sip_machine.specs.Rules.{Knows, StandFor}
-use Rattle.sip_machine.specs.Single.{IsTheOne, AnswersOne}
+use Rattle.sip_machine.specs.inner.Single.{IsTheOne, AnswersOne}
 
 -- where P holds of nothing, no state stands for it
 pub StandFor-none : {X S : Type 0} (names : S → List ℕ) (InRange : S → Type 0) (seen : Texts → S → X)

@@ -1,24 +1,24 @@
 use Rattle.std.specs.Prelude.{◌≤◌, ℕ, Bool, List}
 use Rattle.sip_machine.specs.declared.event.Action.{Action}
-use Rattle.sip_machine.specs.declared.event.Kind.{Kind}
 use Rattle.sip_machine.specs.Times.{last_moment}
-use Rattle.sip_machine.specs.Told.{Told}
+use Rattle.sip_machine.specs.Message.{MessageKind, kind_of}
+use Rattle.sip_machine.specs.NumberedEvent.{NumberedEvent}
 use Rattle.sip_machine.specs.Texts.{Texts, Keeps, text_of}
 
--- an event with the bytes of its message in place of a number
+-- an event: its moment, what was done with its message, the message's bytes and its kind, and whether its transport is reliable
 pub record Heard : Type 0 where
   pub moment : ℕ
   pub action : Action
   pub text : List ℕ
-  pub kind : Kind
+  pub kind : MessageKind
   pub reliable : Bool
 
--- what an event tells beside the texts of a book
-abbrev pub heard : Texts → Told → Heard
+-- the event of the code beside the texts of a book
+abbrev pub heard : Texts → NumberedEvent → Heard
 heard texts e =
-    record { moment = e.moment; action = e.action; text = text_of texts e.number; kind = e.kind; reliable = e.reliable }
+    record { moment = e.moment; action = e.action; text = text_of texts e.number; kind = kind_of e.kind; reliable = e.reliable }
 
 -- the book keeps the message of the event, and its moment is within the limits
-pub record FitsBook (texts : Texts) (e : Told) : Type 0 where
+pub record FitsBook (texts : Texts) (e : NumberedEvent) : Type 0 where
   pub keeps : Keeps texts e.number
   pub limit : e.moment ≤ last_moment

@@ -1,11 +1,9 @@
 pub mod Times
 pub mod Limits
 pub mod Texts
-pub mod TextLaws
-pub mod Told
+pub mod Message
+pub mod NumberedEvent
 pub mod Heard
 pub mod Rules
-pub mod RuleLaws
-pub mod Single
+pub mod inner
 pub mod PlainClient
-pub mod PlainLaws

@@ -5,7 +5,7 @@ use Rattle.sip_machine.specs.Times.{Times}
 abbrev pub open_at : Times → ℕ → ℕ → ℕ
 open_at p s d = s + (d - p.tolerance)
 
--- the last moment at which it may
+-- the last moment at which it may; what is due at once has d = 0, so that a deadline is a close too
 abbrev pub close_at : Times → ℕ → ℕ → ℕ
 close_at p s d = s + d + p.tolerance
 

@@ -31,7 +31,7 @@ impl Model for Book {
 }
 
 impl Book {
-    /// An empty book. It takes no memory.
+    /// An empty book.
     pub fn new(alloc: Global) -> Self
         ensures { result ≡ [] }
     {

@@ -36,9 +36,9 @@ impl Model for Event {
     ghost use Rattle.std.specs.Prelude.{◌≢◌, ◌≤◌};
     ghost use Rattle.sip_machine.specs.declared.event.Action.TheVariants.{Mark};
     ghost use Rattle.sip_machine.specs.Times.{last_moment};
-    ghost use Rattle.sip_machine.specs.Told.{Told};
+    ghost use Rattle.sip_machine.specs.NumberedEvent.{NumberedEvent};
 
-    ghost Value = { Told };
+    ghost Value = { NumberedEvent };
 
     ghost view = { λ e. record { moment = e.moment; action = e.action; number = e.number; kind = e.kind; reliable = e.reliable } };
 

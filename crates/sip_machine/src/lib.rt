@@ -4,6 +4,7 @@
 mod book;
 mod event;
 pub mod laws;
+mod machine;
 mod params;
 mod plain_client;
 #[cfg(test)]
@@ -11,5 +12,6 @@ mod tests;
 
 pub use book::Book;
 pub use event::{Action, Event, Kind};
+pub use machine::Machine;
 pub use params::Params;
 pub use plain_client::{PlainClient, PlainState, PlainWaiting};

@@ -1,16 +1,12 @@
 //! The non-INVITE client transaction (RFC 3261 section 17.1.2).
-ghost use Rattle.std.specs.Prelude.{◌≡◌, ◌++◌, ℕ, List, Option, OnOk, OnErr};
-ghost use Rattle.sip_machine.specs.declared.plain_client.PlainState.TheVariants.{Idle, Ended};
-ghost use Rattle.sip_machine.specs.Heard.{FitsBook, heard};
-ghost use Rattle.sip_machine.specs.Texts.{Texts};
-ghost use Rattle.sip_machine.specs.Rules.{Knows, StandFor};
-ghost use Rattle.sip_machine.specs.PlainClient.{PlainTake, plain_seen, plain_names, PlainInRange, plain_window, plain_until};
+ghost use Rattle.std.specs.Prelude.{◌≡◌};
 
 mod ends;
 mod rows;
 
 use crate::book::Book;
 use crate::event::Event;
+use crate::machine::Machine;
 use crate::params::Params;
 use crate::plain_client::ends::{until, window};
 use crate::plain_client::rows::next_state;
@@ -66,56 +62,80 @@ impl PlainClient {
     {
         PlainClient { params }
     }
+}
 
-    /// The state before anything was sent.
-    pub fn first(&self) -> PlainState
-        ensures { result ≡ Idle }
-    {
+impl Machine for PlainClient {
+    ghost use Rattle.std.specs.Prelude.{refl, []};
+    ghost use Rattle.sip_machine.specs.declared.plain_client.PlainState.TheVariants.{Idle, Ended};
+    ghost use Rattle.sip_machine.specs.PlainClient.{PlainPhase, plain_rules, plain_seen, plain_names, PlainInRange, plain_window, plain_until};
+    ghost use Rattle.sip_machine.specs.inner.PlainLaws.{plain_lawful, plain_first_is, plain_ended_is, plain_window_same, plain_until_same, plain_exact, plain_apart, plain_seen_by_names};
+
+    type State = PlainState;
+
+    ghost Seen = { PlainPhase };
+
+    ghost seen = { plain_seen };
+
+    ghost names = { plain_names };
+
+    ghost in_range = { PlainInRange };
+
+    ghost rules = { plain_rules };
+
+    ghost first = { λ p. Idle };
+
+    ghost ended = { λ p. Ended };
+
+    ghost end_window = { λ p x. plain_window p (plain_seen [] x) };
+
+    ghost until = { λ p x. plain_until p (plain_seen [] x) };
+
+    fn first(&self) -> PlainState {
         PlainState::Idle
     }
 
-    /// The state after the end.
-    pub fn ended(&self) -> PlainState
-        ensures { result ≡ Ended }
-    {
+    fn ended(&self) -> PlainState {
         PlainState::Ended
     }
 
-    /// Appends each state that the event gives, once.
-    pub fn successors(
+    fn successors(
         &self,
         book: &Book,
         state: &PlainState,
         event: &Event,
         out: &mut Vec<PlainState>,
-    ) -> Result<(), AllocError>
-        requires fits { FitsBook book.now event.now }
-        requires known { Knows plain_names book.now state.now }
-        requires in_range { PlainInRange state.now }
-        ensures ok { OnOk result ((added : List PlainState) × (out.new.items ≡ out.old.items ++ added)
-            × StandFor plain_names PlainInRange plain_seen book.now
-            (PlainTake self.now (plain_seen book.now state.now) (heard book.now event.now)) added) }
-        ensures err { OnErr result (out.new.items ≡ out.old.items) }
-    {
+    ) -> Result<(), AllocError> {
         if let Some(next) = next_state(&self.params, book, state, event) {
             out.push(next)?;
         }
         Ok(())
     }
 
-    /// From when, and until when if there is such a moment, the transaction may end; None if it may not.
-    pub fn end_window(&self, state: &PlainState) -> Option<(u64, Option<u64>)>
-        requires { PlainInRange state.now }
-        ensures { (texts : Texts) → result ≡ plain_window self.now (plain_seen texts state.now) }
-    {
+    fn end_window(&self, state: &PlainState) -> Option<(u64, Option<u64>)> {
         window(&self.params, state)
     }
 
-    /// The last moment to which the state may be waited in, None if there is none.
-    pub fn until(&self, state: &PlainState) -> Option<u64>
-        requires { PlainInRange state.now }
-        ensures { (texts : Texts) → result ≡ plain_until self.now (plain_seen texts state.now) }
-    {
+    fn until(&self, state: &PlainState) -> Option<u64> {
         until(&self.params, state)
     }
+
+    ghost lawful = { plain_lawful };
+
+    ghost first_stands = { λ p texts. plain_first_is texts p };
+
+    ghost ended_stands = { λ p texts. plain_ended_is texts p };
+
+    ghost first_fits = { λ p. (refl, tt) };
+
+    ghost ended_fits = { λ p. (refl, tt) };
+
+    ghost window_stands = { λ p texts x. plain_window_same texts [] p x };
+
+    ghost until_stands = { λ p texts x. plain_until_same texts [] p x };
+
+    ghost exact = { plain_exact };
+
+    ghost apart = { plain_apart };
+
+    ghost by_names = { plain_seen_by_names };
 }

@@ -2,7 +2,7 @@
 ghost use Rattle.std.specs.Prelude.{◌≡◌, false};
 ghost use Rattle.sip_machine.specs.PlainClient.{PlainInRange};
 
-use crate::{Action, Book, Event, Kind, Params, PlainClient, PlainState, PlainWaiting};
+use crate::{Action, Book, Event, Kind, Machine, Params, PlainClient, PlainState, PlainWaiting};
 use std::alloc::Global;
 use std::test::Fail;
 

@@ -5,7 +5,8 @@ use Rattle.std.proofs.Math.ListN.{get_or-append}
 use Rattle.std.proofs.Math.Seq.{get_or-append_seam}
 use Rattle.memchr.specs.Find.{IsFirstByte, is_byte}
 use Rattle.sip_verdict.specs.declared.log_reason.LogReason.TheVariants as reasons
-use Rattle.sip_verdict.specs.Line.{line_feed, longest_line, FrontLine, Head, HeadLine}
+use Rattle.sip_verdict.specs.Line.{longest_line, FrontLine, Head, HeadLine}
+use Rattle.sip_text.specs.Bytes.{line_feed}
 use Rattle.sip_verdict.specs.Next.{Next, stops}
 use Rattle.sip_verdict.specs.Entry.{Item, AtHead, AtLine, ComesNext, most_entries}
 use Rattle.sip_verdict.proofs.SplitLemmas.{Cut, first-cut, first-none, first-of-front, cut-more}

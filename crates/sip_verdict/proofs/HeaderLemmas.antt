@@ -6,7 +6,7 @@ use Rattle.std.proofs.Math.Seq.{take-append_seam}
 use Rattle.sip_machine.specs.Times.{Times, AreTimes}
 use Rattle.memchr.specs.Find.{IsFirstByte, is_byte}
 use Rattle.sip_verdict.specs.declared.log_reason.LogReason.TheVariants as reasons
-use Rattle.sip_verdict.specs.Line.{line_feed, space}
+use Rattle.sip_text.specs.Bytes.{line_feed, space}
 use Rattle.sip_verdict.specs.Next.{Next, gives, stops}
 use Rattle.sip_verdict.specs.Number.{IsNumber, cut}
 use Rattle.sip_verdict.specs.Header.{TimesLine, TimesFront, ComesFirst, ComesSecond, NumberAfter, Parted}

@@ -3,13 +3,13 @@ use Rattle.std.proofs.lemmas.List.Elements.{All-cons, All-nil, All-weaker, Conta
 use Rattle.sip_machine.specs.Texts.{Texts, text_of}
 use Rattle.sip_machine.specs.Heard.{Heard}
 use Rattle.sip_machine.specs.Rules.{Rules, IsLawful, Waits, Knows, StandFor}
-use Rattle.sip_verdict.specs.Runs.{Wait, Gives, Run, After}
-use Rattle.sip_machine.specs.RuleLaws.{AgreeOn, AgreeOn-grow, map-seen}
-use Rattle.sip_verdict.specs.Leads.{Leads}
-use Rattle.sip_verdict.proofs.Listed.{Contains-single, Contains-none, Contains-map}
-use Rattle.sip_verdict.proofs.RunLemmas.{Run-wait, Run-wait_first, After-run}
-use Rattle.sip_verdict.proofs.Waiting.{Wait-iff, Gives-iff, Wait-stay}
-use Rattle.sip_verdict.proofs.Twice.{Wait-twice}
+use Rattle.sip_states.specs.Runs.{Wait, Gives, Run, After}
+use Rattle.sip_machine.proofs.RuleLaws.{AgreeOn, AgreeOn-grow, map-seen}
+use Rattle.sip_verdict.specs.inner.Leads.{Leads}
+use Rattle.sip_states.proofs.Listed.{Contains-single, Contains-none, Contains-map}
+use Rattle.sip_states.proofs.RunLemmas.{Run-wait, Run-wait_first, After-run}
+use Rattle.sip_states.proofs.Waiting.{Wait-iff, Gives-iff, Wait-stay}
+use Rattle.sip_states.proofs.Twice.{Wait-twice}
 
 -- How a set that leads to where the runs stand goes on to lead there.
 

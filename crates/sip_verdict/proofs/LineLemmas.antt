@@ -3,7 +3,8 @@ use Rattle.std.proofs.Common.{◌≡◌, ◌≢◌, ◌≤◌, ℕ, List, ◌∷
 use Rattle.sip_verdict.specs.Number.{IsNumber}
 use Rattle.sip_machine.specs.declared.event.Action.{Action}
 use Rattle.sip_machine.specs.declared.event.Action.TheVariants.{Mark}
-use Rattle.sip_verdict.specs.Line.{space, letter, Numbers, Head, message, mark, HeadLine}
+use Rattle.sip_verdict.specs.Line.{letter, Numbers, Head, message, mark, HeadLine}
+use Rattle.sip_text.specs.Bytes.{space}
 use Rattle.sip_verdict.proofs.NumberLemmas.{IsNumber-no_space}
 use Rattle.sip_verdict.proofs.SplitLemmas.{Cut, cut-one, two-front}
 

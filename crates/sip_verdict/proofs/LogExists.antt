@@ -11,7 +11,8 @@ use Rattle.sip_machine.specs.declared.event.Action.TheVariants.{Sent, Received, 
 use Rattle.sip_verdict.specs.declared.log_reason.LogReason.{LogReason}
 use Rattle.sip_verdict.specs.declared.log_reason.LogReason.TheVariants as reasons
 use Rattle.sip_verdict.specs.Number.{IsNumber, digit_zero}
-use Rattle.sip_verdict.specs.Line.{line_feed, space, letter, longest_line, Numbers, Head, message, mark, HeadLine, IsWithinLimits, moment_of, FrontLine}
+use Rattle.sip_verdict.specs.Line.{letter, longest_line, Numbers, Head, message, mark, HeadLine, IsWithinLimits, moment_of, FrontLine}
+use Rattle.sip_text.specs.Bytes.{line_feed, space}
 use Rattle.sip_verdict.specs.Next.{Next, ends, gives, stops, Unless}
 use Rattle.sip_verdict.specs.Header.{TimesLine, TimesFront, Header, NoHeader, NumberAfter, Parted}
 use Rattle.sip_verdict.specs.Entry.{Item, AtMessage, AtBody, AtLine, ComesNext, most_entries}

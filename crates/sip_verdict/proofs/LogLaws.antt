@@ -5,7 +5,8 @@ use Rattle.sip_machine.specs.Times.{Times}
 use Rattle.sip_machine.specs.declared.event.Action.{Action}
 use Rattle.sip_machine.specs.declared.event.Action.TheVariants.{Sent, Received, Failed, Mark}
 use Rattle.sip_verdict.specs.declared.log_reason.LogReason.{LogReason}
-use Rattle.sip_verdict.specs.Line.{line_feed, space, letter, Numbers, Head, message, mark, HeadLine, FrontLine}
+use Rattle.sip_verdict.specs.Line.{letter, Numbers, Head, message, mark, HeadLine, FrontLine}
+use Rattle.sip_text.specs.Bytes.{line_feed, space}
 use Rattle.sip_verdict.specs.Next.{Next, gives, Unless}
 use Rattle.sip_verdict.specs.Header.{TimesLine, Header}
 use Rattle.sip_verdict.specs.Entry.{Item, AtClose, AtMessage, AtBody, AtHead, AtFront, AtLine, ComesNext}

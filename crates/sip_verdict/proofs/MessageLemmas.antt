@@ -3,7 +3,7 @@ use Rattle.std.proofs.Common.{◌≡◌, ◌≢◌, inl, inr, ℕ, ◌+◌, ◌<
 use Rattle.std.proofs.lemmas.List.{length-take-le, length-append}
 use Rattle.sip_machine.specs.declared.event.Action.{Action}
 use Rattle.sip_verdict.specs.declared.log_reason.LogReason.TheVariants as reasons
-use Rattle.sip_verdict.specs.Line.{line_feed}
+use Rattle.sip_text.specs.Bytes.{line_feed}
 use Rattle.sip_verdict.specs.Next.{gives, stops}
 use Rattle.sip_verdict.specs.Entry.{AtClose, AtMessage}
 use Rattle.sip_verdict.proofs.SplitLemmas.{cut-at, cut-more}

@@ -8,7 +8,7 @@ use Rattle.std.proofs.lemmas.Str.{digit_value_digit}
 use Rattle.std.proofs.lemmas.Str.Parse.{digit_at, digit_from_value}
 use Rattle.std.proofs.Math.Nat.{pow-le-pow_right, le-mul_of_pos_right}
 use native.Mathlib.Nat.{pow-zero, pow-succ'}
-use Rattle.sip_verdict.specs.Line.{line_feed, space}
+use Rattle.sip_text.specs.Bytes.{line_feed, space}
 use Rattle.sip_verdict.specs.Number.{IsNumber, digit_zero}
 use Rattle.sip_verdict.proofs.SplitLemmas.{Lacks}
 

@@ -1,110 +1,96 @@
--- An input has one verdict.
-use Rattle.std.proofs.Common.{◌≡◌, ◌⊎◌, inl, inr, ℕ, List, [], ◌∷◌, ◌++◌, refl, sym, ap, ◌∙◌, subst}
+-- An input has one verdict, where one thing is observed of each entry.
+use Rattle.std.proofs.Common.{◌≡◌, ◌⊎◌, inl, inr, ℕ, List, [], ◌∷◌, ◌++◌, refl, sym, ap, ◌∙◌, subst, append_assoc}
+use Rattle.std.proofs.lemmas.List.{append-nil, append_cancel_left}
 use Rattle.sip_machine.specs.Times.{Times}
-use Rattle.sip_machine.specs.declared.event.Action.{Action}
-use Rattle.sip_machine.specs.declared.event.Action.TheVariants.{Sent, Received, Failed, Mark}
 use Rattle.sip_verdict.specs.declared.verdict.Verdict.{Verdict}
 use Rattle.sip_verdict.specs.Entry.{Item}
-use Rattle.sip_verdict.specs.Log.{LogEnd, Faulty, Holds, IsLogOf}
-use Rattle.sip_verdict.specs.Key.{PlainKey}
-use Rattle.sip_verdict.specs.Keyed.{Said}
-use Rattle.sip_verdict.specs.Verdicts.{IsGood, IsFirstTrouble}
-use Rattle.sip_verdict.specs.Saying.{plain_machines, said_message, IsSaidOfMessage, IsSaidBy}
-use Rattle.sip_verdict.specs.VerdictOf.{AreSaid, verdict_at, EndsInTrouble, EndsInNone, IsVerdictOf}
-use Rattle.sip_verdict.proofs.PlainUnique.{plain-one}
+use Rattle.sip_verdict.specs.Log.{LogEnd, Clean, Stops, Faulty, Holds, IsLogOf}
+use Rattle.sip_verdict.specs.Keyed.{Observation}
+use Rattle.sip_verdict.specs.Verdicts.{IsGood, IsTrouble}
+use Rattle.sip_verdict.specs.Reading.{Reading, AreObserved, IsVerdictAfter, IsVerdictOfEntries, IsVerdictBy}
 use Rattle.sip_verdict.proofs.LogLaws.{log_is_one}
 use Rattle.sip_verdict.proofs.Fronts.{fronts_compare}
-use Rattle.sip_verdict.proofs.Unique.{trouble_not_good, first_trouble_is_one, trouble-append}
-
--- one thing is said of a message
-said_of_message_one : (i : Item) (e f : Said PlainKey) → IsSaidOfMessage i e → IsSaidOfMessage i f → e ≡ f
-said_of_message_one i e f (inl a) (inl b) = a.2 ∙ ap (said_message i) (plain-one i.action i.text a.0 b.0 a.1 b.1) ∙ sym b.2
-said_of_message_one i e f (inl a) (inr b) = absurd (b.0 a.0 a.1)
-said_of_message_one i e f (inr a) (inl b) = absurd (a.0 b.0 b.1)
-said_of_message_one i e f (inr a) (inr b) = a.1 ∙ sym b.1
-
-said_by_one : (action : Action) (i : Item) (e f : Said PlainKey) → IsSaidBy action i e → IsSaidBy action i f → e ≡ f
-said_by_one Sent i e f a b = said_of_message_one i e f a b
-said_by_one Received i e f a b = said_of_message_one i e f a b
-said_by_one Failed i e f a b = said_of_message_one i e f a b
-said_by_one Mark i e f a b = a ∙ sym b
-
--- one thing is said of each entry, and so of more entries more
-said_more : (xs more : List Item) (es fs : List (Said PlainKey)) → AreSaid xs es → AreSaid (xs ++ more) fs → (gs : List (Said PlainKey)) × (fs ≡ es ++ gs)
-said_more [] more [] fs a b = (fs, refl)
-said_more [] more (e ∷ es) fs a b = elim a [ ]
-said_more (x ∷ xs) more [] fs a b = elim a [ ]
-said_more (x ∷ xs) more (e ∷ es) [] a b = elim b [ ]
-said_more (x ∷ xs) more (e ∷ es) (f ∷ fs) a b =
-    let h = said_more xs more es fs a.1 b.1 in
-    let s = said_by_one x.action x e f a.0 b.0 in
-    (h.0, ap (λ z. z ∷ fs) (sym s) ∙ ap (λ gs. e ∷ gs) h.1)
-
-said_one : (xs : List Item) (es fs : List (Said PlainKey)) → AreSaid xs es → AreSaid xs fs → es ≡ fs
-said_one [] [] [] a b = refl
-said_one [] [] (f ∷ fs) a b = elim b [ ]
-said_one [] (e ∷ es) fs a b = elim a [ ]
-said_one (x ∷ xs) [] fs a b = elim a [ ]
-said_one (x ∷ xs) (e ∷ es) [] a b = elim b [ ]
-said_one (x ∷ xs) (e ∷ es) (f ∷ fs) a b = ap (λ z. z ∷ es) (said_by_one x.action x e f a.0 b.0) ∙ ap (λ gs. f ∷ gs) (said_one xs es fs a.1 b.1)
-
-module _ (p : Times) where
-  -- a front in trouble and a longer one have the same verdict
-  trouble_longer : (xs more : List Item) (es fs : List (Said PlainKey)) (v w : Verdict) → AreSaid xs es → AreSaid (xs ++ more) fs
-      → IsFirstTrouble (plain_machines p) es v → IsFirstTrouble (plain_machines p) fs w → v ≡ w
-  trouble_longer xs more es fs v w a b t u =
-      let h = said_more xs more es fs a b in
-      first_trouble_is_one (plain_machines p) (es ++ h.0) v w (trouble-append (plain_machines p) es h.0 v t) (subst (λ gs. IsFirstTrouble (plain_machines p) gs w) h.1 u)
-
-  -- a front in trouble is none of a good log
-  trouble_of_good : (xs more : List Item) (es fs : List (Said PlainKey)) (v : Verdict) → AreSaid xs es → AreSaid (xs ++ more) fs
-      → IsFirstTrouble (plain_machines p) es v → IsGood (plain_machines p) fs → ⊥
-  trouble_of_good xs more es fs v a b t good =
-      let h = said_more xs more es fs a b in
-      trouble_not_good (plain_machines p) (es ++ h.0) v (trouble-append (plain_machines p) es h.0 v t) (subst (IsGood (plain_machines p)) h.1 good)
-
-  -- two fronts of one list that are in trouble have the same verdict
-  troubles_one : (xs us ys vs : List Item) (es fs : List (Said PlainKey)) (v w : Verdict) → xs ++ us ≡ ys ++ vs → AreSaid xs es → AreSaid ys fs
-      → IsFirstTrouble (plain_machines p) es v → IsFirstTrouble (plain_machines p) fs w → v ≡ w
-  troubles_one xs us ys vs es fs v w same a b t u = go (fronts_compare xs us ys vs same)
-    where
-      go : ((zs : List Item) × (ys ≡ xs ++ zs)) ⊎ ((zs : List Item) × (xs ≡ ys ++ zs)) → v ≡ w
-      go (inl h) = trouble_longer xs h.0 es fs v w a (subst (λ zs. AreSaid zs fs) h.1 b) t u
-      go (inr h) = sym (trouble_longer ys h.0 fs es w v b (subst (λ zs. AreSaid zs es) h.1 a) u t)
+use Rattle.sip_verdict.proofs.Unique.{fine_no_trouble, trouble_is_one}
 
 -- an input has one log with a header
 one_log : (input : List ℕ) (p q : Times) (xs ys : List Item) (end fin : LogEnd) → IsLogOf input (Holds p xs end) → IsLogOf input (Holds q ys fin) → (p ≡ q) × (xs ≡ ys) × (end ≡ fin)
 one_log input p q xs ys end fin a b = let e = log_is_one input (Holds p xs end) (Holds q ys fin) a b in (cc, cc, cc)
 
-both_troubles : (input : List ℕ) (v w : Verdict) → EndsInTrouble input v → EndsInTrouble input w → v ≡ w
-both_troubles input v w a b =
-    let one = one_log input b.times a.times b.items a.items b.end a.end b.log a.log in
-    troubles_one a.times a.judged a.rest b.judged b.rest a.es b.es v w (sym a.front ∙ sym one.1 ∙ b.front) a.said b.said a.trouble
-    (subst (λ p. IsFirstTrouble (plain_machines p) b.es w) one.0 b.trouble)
-
-trouble_and_none : (input : List ℕ) (v w : Verdict) → EndsInTrouble input v → EndsInNone input w → ⊥
-trouble_and_none input v w a b =
-    let one = one_log input b.times a.times b.items a.items b.end a.end b.log a.log in
-    trouble_of_good a.times a.judged a.rest a.es b.es v a.said (subst (λ zs. AreSaid zs b.es) (one.1 ∙ a.front) b.said) a.trouble (subst (λ p. IsGood (plain_machines p) b.es) one.0 b.good)
-
-both_none : (input : List ℕ) (v w : Verdict) → EndsInNone input v → EndsInNone input w → v ≡ w
-both_none input v w a b =
-    let one = one_log input a.times b.times a.items b.items a.end b.end a.log b.log in
-    let es = said_one a.items a.es b.es a.said (subst (λ xs. AreSaid xs b.es) (sym one.1) b.said) in
-    a.is ∙ ap (λ p. verdict_at p a.es a.end) one.0 ∙ ap (λ fs. verdict_at b.times fs a.end) es ∙ ap (verdict_at b.times b.es) one.2 ∙ sym b.is
-
 -- a log has no header or holds entries
 not_both : (input : List ℕ) (p : Times) (items : List Item) (end : LogEnd) → IsLogOf input Faulty → IsLogOf input (Holds p items end) → ⊥
 not_both input p items end none is = none p is.0 is.1
 
--- an input has one verdict
-pub verdict_is_one : (input : List ℕ) (v w : Verdict) → IsVerdictOf input v → IsVerdictOf input w → v ≡ w
-verdict_is_one input v w (inl a) (inl b) = a.1 ∙ sym b.1
-verdict_is_one input v w (inl a) (inr (inl b)) = absurd (not_both input b.times b.items b.end a.0 b.log)
-verdict_is_one input v w (inl a) (inr (inr b)) = absurd (not_both input b.times b.items b.end a.0 b.log)
-verdict_is_one input v w (inr (inl a)) (inl b) = absurd (not_both input a.times a.items a.end b.0 a.log)
-verdict_is_one input v w (inr (inr a)) (inl b) = absurd (not_both input a.times a.items a.end b.0 a.log)
-verdict_is_one input v w (inr (inl a)) (inr (inl b)) = both_troubles input v w a b
-verdict_is_one input v w (inr (inl a)) (inr (inr b)) = absurd (trouble_and_none input v w a b)
-verdict_is_one input v w (inr (inr a)) (inr (inl b)) = absurd (trouble_and_none input w v b a)
-verdict_is_one input v w (inr (inr a)) (inr (inr b)) = both_none input v w a b
+module _ {K : Type 0} (r : Reading K) (one : (es : List (Observation K)) (item : Item) (e f : Observation K) → r.Observes es item e → r.Observes es item f → e ≡ f) where
+  -- more is observed of more entries
+  observed_more : (before : List (Observation K)) (xs more : List Item) (es fs : List (Observation K)) → AreObserved r before xs es → AreObserved r before (xs ++ more) fs
+      → (gs : List (Observation K)) × (fs ≡ es ++ gs) × AreObserved r (before ++ es) more gs
+  observed_more before [] more [] fs a b = (fs, refl, subst (λ z. AreObserved r z more fs) (sym (append-nil before)) b)
+  observed_more before [] more (e ∷ es) fs a b = elim a [ ]
+  observed_more before (x ∷ xs) more [] fs a b = elim a [ ]
+  observed_more before (x ∷ xs) more (e ∷ es) [] a b = elim b [ ]
+  observed_more before (x ∷ xs) more (e ∷ es) (f ∷ fs) a b =
+      let same = one before x e f a.0 b.0 in
+      let h = observed_more (before ++ e ∷ []) xs more es fs a.1 (subst (λ z. AreObserved r (before ++ z ∷ []) (xs ++ more) fs) (sym same) b.1) in (
+        h.0,
+        ap (λ z. z ∷ fs) (sym same) ∙ ap (λ zs. e ∷ zs) h.1,
+        subst (λ z. AreObserved r z more h.0) (append_assoc before (e ∷ []) es) h.2,
+      )
+
+  -- nothing is observed of no entry
+  nothing_more : (before gs : List (Observation K)) → AreObserved r before [] gs → gs ≡ []
+  nothing_more before [] a = refl
+  nothing_more before (g ∷ gs) a = elim a [ ]
+
+  -- the same is observed of the same entries
+  observed_same : (xs : List Item) (es fs : List (Observation K)) → AreObserved r [] xs es → AreObserved r [] xs fs → es ≡ fs
+  observed_same xs es fs a b =
+      let h = observed_more [] xs [] es fs a (subst (λ z. AreObserved r [] z fs) (sym (append-nil xs)) b) in
+      sym (h.1 ∙ ap (λ z. es ++ z) (nothing_more es h.0 h.2) ∙ append-nil es)
+
+  -- behind the same entries there is one verdict
+  after_is_one : (p : Times) (es : List (Observation K)) (rest : List Item) (end : LogEnd) (v w : Verdict) → IsVerdictAfter r p es rest end v → IsVerdictAfter r p es rest end w → v ≡ w
+  after_is_one p es (item ∷ rest) end v w a b = trouble_is_one (r.machines p) es a.0 v w a.2 (subst (λ f. IsTrouble (r.machines p) es f w) (sym (one es item a.0 b.0 a.1 b.1)) b.2)
+  after_is_one p es [] Clean v w a b = a ∙ sym b
+  after_is_one p es [] (Stops reason) v w a b = a ∙ sym b
+
+  module _ (p : Times) (end : LogEnd) (xs us ys vs : List Item) (es fs : List (Observation K)) (v w : Verdict) (observed : AreObserved r [] xs es) (more : AreObserved r [] ys fs)
+      (good : IsGood (r.machines p) fs) (same : xs ++ us ≡ ys ++ vs) (after : IsVerdictAfter r p es us end v) (after2 : IsVerdictAfter r p fs vs end w) where
+    -- of two fronts in no trouble neither is longer, and so there is one verdict
+    longer : (zs : List Item) → ys ≡ xs ++ zs → v ≡ w
+    longer [] is =
+        let is_same : xs ≡ ys = sym (is ∙ append-nil xs) in
+        let rest : us ≡ vs = append_cancel_left xs us vs (same ∙ ap (λ z. z ++ vs) (sym is_same)) in
+        let alike : es ≡ fs = observed_same xs es fs observed (subst (λ z. AreObserved r [] z fs) (sym is_same) more) in
+        after_is_one p es us end v w after (subst (λ z. IsVerdictAfter r p es z end w) (sym rest) (subst (λ z. IsVerdictAfter r p z vs end w) (sym alike) after2))
+    longer (z ∷ zs) is =
+        let rest : us ≡ z ∷ (zs ++ vs) = append_cancel_left xs us (z ∷ (zs ++ vs)) (same ∙ ap (λ y. y ++ vs) is ∙ append_assoc xs (z ∷ zs) vs) in
+        let next = subst (λ y. IsVerdictAfter r p es y end v) rest after in
+        let h = observed_more [] xs (z ∷ zs) es fs observed (subst (λ y. AreObserved r [] y fs) is more) in
+        go next.0 next.1 next.2 h.0 h.1 h.2
+      where
+        go : (e : Observation K) → r.Observes es z e → IsTrouble (r.machines p) es e v → (gs : List (Observation K)) → fs ≡ es ++ gs → AreObserved r es (z ∷ zs) gs → v ≡ w
+        go e seen trouble [] all none = elim none [ ]
+        go e seen trouble (g ∷ gs) all seen2 =
+            absurd (fine_no_trouble (r.machines p) es g v (good es g gs all) (subst (λ f. IsTrouble (r.machines p) es f v) (one es z e g seen seen2.0) trouble))
+
+  -- an input with a header has one verdict
+  entries_have_one : (input : List ℕ) (v w : Verdict) → IsVerdictOfEntries r input v → IsVerdictOfEntries r input w → v ≡ w
+  entries_have_one input v w a b =
+      let one = one_log input a.times b.times (a.begins.items ++ a.rest) (b.begins.items ++ b.rest) a.end b.end a.begins.log b.begins.log in
+      let good : IsGood (r.machines a.times) b.es = subst (λ p. IsGood (r.machines p) b.es) (sym one.0) b.begins.good in
+      let next : IsVerdictAfter r a.times b.es b.rest a.end w = subst (λ p. IsVerdictAfter r p b.es b.rest a.end w) (sym one.0) (subst (λ end. IsVerdictAfter r b.times b.es b.rest end w) (sym one.2) b.next) in
+      go one.1 good next (fronts_compare a.begins.items a.rest b.begins.items b.rest one.1)
+    where
+      go : a.begins.items ++ a.rest ≡ b.begins.items ++ b.rest → IsGood (r.machines a.times) b.es → IsVerdictAfter r a.times b.es b.rest a.end w
+          → ((zs : List Item) × (b.begins.items ≡ a.begins.items ++ zs)) ⊎ ((zs : List Item) × (a.begins.items ≡ b.begins.items ++ zs)) → v ≡ w
+      go same good next (inl h) =
+          longer a.times a.end a.begins.items a.rest b.begins.items b.rest a.es b.es v w a.begins.observed b.begins.observed good same a.next next h.0 h.1
+      go same good next (inr h) =
+          sym (longer a.times a.end b.begins.items b.rest a.begins.items a.rest b.es a.es w v b.begins.observed a.begins.observed a.begins.good (sym same) next a.next h.0 h.1)
+
+  -- an input has one verdict
+  pub verdict_is_one : (input : List ℕ) (v w : Verdict) → IsVerdictBy r input v → IsVerdictBy r input w → v ≡ w
+  verdict_is_one input v w (inl a) (inl b) = a.1 ∙ sym b.1
+  verdict_is_one input v w (inl a) (inr b) = absurd (not_both input b.times (b.begins.items ++ b.rest) b.end a.0 b.begins.log)
+  verdict_is_one input v w (inr a) (inl b) = absurd (not_both input a.times (a.begins.items ++ a.rest) a.end b.0 a.begins.log)
+  verdict_is_one input v w (inr a) (inr b) = entries_have_one input v w a b

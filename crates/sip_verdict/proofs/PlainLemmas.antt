@@ -5,8 +5,10 @@ use Rattle.std.proofs.lemmas.List.{append_assoc, append_cancel_left}
 use Rattle.std.proofs.lemmas.Fmt.{decimal_step, decimal_digit}
 use Rattle.std.specs.Borrow.{Bor}
 use Rattle.sip_machine.specs.declared.event.Kind.TheVariants.{Request, Response}
-use Rattle.sip_verdict.specs.PlainForm.{IsOnlyValue, PlainParts, IsStatusCode, IsRequest, IsResponse, crlf, message, request_text, response_text}
-use Rattle.sip_verdict.specs.PlainPieces.{StartsWithMethod, StartsWithBranchEnd, StartsWithCode, AreCodeDigits, AreFixedFields, AreFields, rest_of, request_front, response_front, from_and_to, call_id_and_cseq, end_of_message, behind_branch}
+use Rattle.sip_text.specs.Text.{IsOnlyValue}
+use Rattle.sip_text.specs.Bytes.{crlf}
+use Rattle.sip_verdict.specs.PlainForm.{PlainParts, IsStatusCode, IsRequest, IsResponse, message, request_text, response_text}
+use Rattle.sip_verdict.specs.inner.PlainPieces.{StartsWithMethod, StartsWithBranchEnd, StartsWithCode, AreCodeDigits, AreFixedFields, AreFields, rest_of, request_front, response_front, from_and_to, call_id_and_cseq, end_of_message, behind_branch}
 
 -- the spelling of a status code has three digits
 decimal-code : (code : ℕ) → IsStatusCode code → decimal code ≡ (48 + code / 100) ∷ (48 + code / 10 % 10) ∷ (48 + code % 10) ∷ []

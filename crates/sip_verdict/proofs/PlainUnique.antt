@@ -7,7 +7,7 @@ use Rattle.sip_machine.specs.declared.event.Action.{Action}
 use Rattle.sip_machine.specs.declared.event.Action.TheVariants.{Sent, Received, Failed, Mark}
 use Rattle.sip_machine.specs.declared.event.Kind.TheVariants.{Response}
 use Rattle.sip_verdict.specs.PlainForm.{PlainParts, IsRequest, IsResponse, PlainText}
-use Rattle.sip_verdict.specs.PlainPieces.{request_front, response_front, from_and_to, call_id_and_cseq, end_of_message, behind_branch}
+use Rattle.sip_verdict.specs.inner.PlainPieces.{request_front, response_front, from_and_to, call_id_and_cseq, end_of_message, behind_branch}
 use Rattle.sip_verdict.proofs.PrefixLemmas.{same-run}
 use Rattle.sip_verdict.proofs.PlainLemmas.{code-only, request-method, response-pieces, response-code, same-parts}
 

@@ -2,7 +2,7 @@
 use Rattle.std.proofs.Common.{ℕ, Bool, List, [], ◌++◌, Option, refl, sym, ap, ◌∙◌, append_assoc}
 use Rattle.std.proofs.lemmas.List.{append-nil}
 use Rattle.std.proofs.KnownBytes.{Consumes-nil, Consumes-trans}
-use Rattle.sip_verdict.specs.Source.{Reads}
+use Rattle.sip_verdict.specs.inner.Reads.{Reads}
 
 -- nothing came yet
 pub Reads-none : (held : List ℕ) (left : Option (List ℕ)) (failed : Bool) → Reads held held left left failed failed

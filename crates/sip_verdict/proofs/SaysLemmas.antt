@@ -5,10 +5,10 @@ use Rattle.std.specs.Io.KnownBytes.{prepend_known}
 use Rattle.sip_verdict.specs.declared.log_error.LogError.{LogError}
 use Rattle.sip_verdict.specs.declared.log_error.LogError.TheVariants.{Fault, Io, Memory}
 use Rattle.sip_verdict.specs.declared.log_reason.LogReason.{LogReason}
-use Rattle.sip_verdict.specs.Source.{Reads}
+use Rattle.sip_verdict.specs.inner.Reads.{Reads}
 use Rattle.sip_verdict.specs.Next.{Next, stops}
-use Rattle.sip_verdict.specs.Told.{Says}
-use Rattle.sip_verdict.proofs.ToldLemmas.{told, known}
+use Rattle.sip_verdict.specs.inner.Answers.{Says}
+use Rattle.sip_verdict.proofs.AnswersLemmas.{told, known}
 
 module _ {B : Type 0} {held held2 : List ℕ} {left left2 : Option (List ℕ)} {before mid : Bool} (reads : Reads held held2 left left2 before mid)
     (P : List ℕ → Next B → Type 0) where

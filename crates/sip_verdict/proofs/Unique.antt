@@ -1,10 +1,10 @@
--- There is at most one verdict on a list of entries.
-use Rattle.std.proofs.Common.{◌≡◌, ◌⊎◌, inl, inr, ◌+◌, ℕ, List, [], ◌∷◌, ◌++◌, length, Some, None, All, Contains, refl, sym, ap, ◌∙◌, subst, arith, append_assoc, length-append}
+-- There is at most one verdict on an entry behind others.
+use Rattle.std.proofs.Common.{◌≡◌, ◌⊎◌, inl, inr, ◌+◌, ℕ, List, [], ◌∷◌, ◌++◌, length, Some, None, All, Contains, refl, sym, ap, ◌∙◌, subst, arith, length-append}
 use Rattle.std.proofs.lemmas.List.Elements.{All-contains, Contains-append_right}
 use Rattle.sip_verdict.specs.declared.verdict.Verdict.{Verdict}
 use Rattle.sip_verdict.specs.declared.verdict.Verdict.TheVariants.{Legal, Malformed, Breach, Undecided, LogFault}
-use Rattle.sip_verdict.specs.Keyed.{Said, Machines}
-use Rattle.sip_verdict.specs.Verdicts.{IsFirst, IsFine, IsTrouble, IsGood, IsFirstTrouble}
+use Rattle.sip_verdict.specs.Keyed.{Observation, Machines}
+use Rattle.sip_verdict.specs.Verdicts.{IsFirst, IsFine, IsTrouble, IsGood}
 use Rattle.sip_verdict.proofs.Splitting.{split_compare}
 
 -- what stands in the middle of a list is in it
@@ -35,7 +35,7 @@ first_not_run P keys n a h = a.holds (All-middle P a.before a.rest a.key (subst 
 
 module _ {K : Type 0} (m : Machines K) where
   -- an entry that is in no trouble has no verdict
-  pub fine_no_trouble : (front : List (Said K)) (e : Said K) (v : Verdict) → IsFine m front e → IsTrouble m front e v → ⊥
+  pub fine_no_trouble : (front : List (Observation K)) (e : Observation K) (v : Verdict) → IsFine m front e → IsTrouble m front e v → ⊥
   fine_no_trouble front e (Legal n t) f h = h
   fine_no_trouble front e (Malformed n fault) f h = let a : None ≡ Some fault = sym f.formed ∙ h.1 in cc
   fine_no_trouble front e (Breach n t) f h = first_not_run _ _ t h.2 f.runs
@@ -43,7 +43,7 @@ module _ {K : Type 0} (m : Machines K) where
   fine_no_trouble front e (LogFault n reason) f h = h
 
   -- an entry has one verdict
-  pub trouble_is_one : (front : List (Said K)) (e : Said K) (v w : Verdict) → IsTrouble m front e v → IsTrouble m front e w → v ≡ w
+  pub trouble_is_one : (front : List (Observation K)) (e : Observation K) (v w : Verdict) → IsTrouble m front e v → IsTrouble m front e w → v ≡ w
   trouble_is_one front e (Malformed n f) (Malformed k g) a b = let s : Some f ≡ Some g = sym a.1 ∙ b.1 in let s' : n ≡ k = a.0 ∙ sym b.0 in cc
   trouble_is_one front e (Malformed n f) (Breach k t) a b = let s : Some f ≡ None = sym a.1 ∙ b.1 in cc
   trouble_is_one front e (Malformed n f) (Undecided k t) a b = let s : Some f ≡ None = sym a.1 ∙ b.1 in cc
@@ -58,42 +58,17 @@ module _ {K : Type 0} (m : Machines K) where
   trouble_is_one front e v (Legal n t) a b = absurd b
   trouble_is_one front e v (LogFault n r) a b = absurd b
 
-  -- where an entry is in trouble, not all are good
-  pub trouble_not_good : (es : List (Said K)) (v : Verdict) → IsFirstTrouble m es v → IsGood m es → ⊥
-  trouble_not_good es v t good = fine_no_trouble t.front t.entry v (good t.front t.entry t.rest t.is) t.trouble
-
-  -- the first entry in trouble has one verdict
-  pub first_trouble_is_one : (es : List (Said K)) (v w : Verdict) → IsFirstTrouble m es v → IsFirstTrouble m es w → v ≡ w
-  first_trouble_is_one es v w a b =
-      go (split_compare a.front a.rest b.front b.rest a.entry b.entry (sym a.is ∙ b.is))
-    where
-      go : ((a.front ≡ b.front) × (a.entry ≡ b.entry)) ⊎ (((zs : List (Said K)) × (b.front ≡ a.front ++ a.entry ∷ zs)) ⊎ ((zs : List (Said K)) × (a.front ≡ b.front ++ b.entry ∷ zs))) → v ≡ w
-      go (inl h) = trouble_is_one b.front b.entry v w (subst (λ e. IsTrouble m b.front e v) h.1 (subst (λ f. IsTrouble m f a.entry v) h.0 a.trouble)) b.trouble
-      go (inr (inl h)) = absurd (fine_no_trouble a.front a.entry v (b.good a.front a.entry h.0 h.1) a.trouble)
-      go (inr (inr h)) = absurd (fine_no_trouble b.front b.entry w (a.good b.front b.entry h.0 h.1) b.trouble)
-
   -- no entry is in no trouble
   pub good-nil : IsGood m []
   good-nil [] e rest is = cc
   good-nil (f ∷ front) e rest is = cc
 
   -- one more entry that is in no trouble
-  pub good-push : (es : List (Said K)) (e : Said K) → IsGood m es → IsFine m es e → IsGood m (es ++ e ∷ [])
+  pub good-push : (es : List (Observation K)) (e : Observation K) → IsGood m es → IsFine m es e → IsGood m (es ++ e ∷ [])
   good-push es e good fine front f rest is =
       go (split_compare es [] front rest e f is)
     where
-      go : ((es ≡ front) × (e ≡ f)) ⊎ (((zs : List (Said K)) × (front ≡ es ++ e ∷ zs)) ⊎ ((zs : List (Said K)) × (es ≡ front ++ f ∷ zs))) → IsFine m front f
+      go : ((es ≡ front) × (e ≡ f)) ⊎ (((zs : List (Observation K)) × (front ≡ es ++ e ∷ zs)) ⊎ ((zs : List (Observation K)) × (es ≡ front ++ f ∷ zs))) → IsFine m front f
       go (inl h) = subst (λ x. IsFine m front x) h.1 (subst (λ x. IsFine m x e) h.0 fine)
       go (inr (inl h)) = absurd (omega (arith, simp length-append at (ap length is), simp length-append at (ap length h.1)))
       go (inr (inr h)) = good front f h.0 h.1
-
-  -- the first entry in trouble stays it, whatever follows
-  pub trouble-append : (es rest : List (Said K)) (v : Verdict) → IsFirstTrouble m es v → IsFirstTrouble m (es ++ rest) v
-  trouble-append es rest v t = record {
-    front = t.front;
-    entry = t.entry;
-    rest = t.rest ++ rest;
-    is = ap (λ z. z ++ rest) t.is ∙ append_assoc t.front (t.entry ∷ t.rest) rest;
-    good = t.good;
-    trouble = t.trouble;
-  }

@@ -2,7 +2,8 @@ use Rattle.std.specs.Prelude.{◌≡◌, ◌≢◌, ◌⊎◌, ◌<◌, ◌≤�
 use Rattle.sip_machine.specs.declared.event.Action.{Action}
 use Rattle.sip_machine.specs.declared.event.Action.TheVariants.{Mark}
 use Rattle.sip_verdict.specs.declared.log_reason.LogReason.TheVariants as reasons
-use Rattle.sip_verdict.specs.Line.{line_feed, longest_line, Head, message, mark, HeadLine, IsWithinLimits, moment_of, FrontLine}
+use Rattle.sip_verdict.specs.Line.{longest_line, Head, message, mark, HeadLine, IsWithinLimits, moment_of, FrontLine}
+use Rattle.sip_text.specs.Bytes.{line_feed}
 use Rattle.sip_verdict.specs.Next.{Next, ends, gives, stops, Unless}
 
 -- What comes next behind the entries that were read: an entry, the end, or the first of seven cases in which it cannot be read.

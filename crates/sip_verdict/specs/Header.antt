@@ -1,7 +1,7 @@
 use Rattle.std.specs.Prelude.{◌≡◌, ◌⊎◌, ◌++◌, ℕ, List, [], ◌∷◌, codes}
 use Rattle.sip_machine.specs.Times.{Times, AreTimes}
 use Rattle.sip_verdict.specs.declared.log_reason.LogReason.TheVariants as reasons
-use Rattle.sip_verdict.specs.Line.{line_feed, space}
+use Rattle.sip_text.specs.Bytes.{line_feed, space}
 use Rattle.sip_verdict.specs.Next.{Next, gives, stops}
 use Rattle.sip_verdict.specs.Number.{IsNumber}
 

@@ -1,4 +1,5 @@
 use Rattle.std.specs.Prelude.{◌≡◌, ◌≢◌, ◌<◌, ◌≤◌, ◌++◌, ℕ, List, ◌∷◌, length, slice_index}
+use Rattle.sip_text.specs.Bytes.{line_feed, space}
 use Rattle.sip_machine.specs.declared.event.Action.{Action}
 use Rattle.sip_machine.specs.declared.event.Action.TheVariants.{Sent, Received, Failed, Mark}
 use Rattle.sip_machine.specs.Times.{last_moment}
@@ -7,14 +8,6 @@ use Rattle.sip_verdict.specs.declared.line.Head.TheVariants as code
 use Rattle.sip_verdict.specs.Number.{IsNumber, cut}
 
 -- The line at which an entry begins.
-
--- LF in ASCII
-abbrev pub line_feed : ℕ
-line_feed = 10
-
--- SP in ASCII
-abbrev pub space : ℕ
-space = 32
 
 -- the letters S, R, F and M in ASCII
 abbrev pub letter : Action → ℕ

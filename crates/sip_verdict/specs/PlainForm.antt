@@ -1,5 +1,5 @@
 -- The plain form: the only messages that are read so far.
-use Rattle.std.specs.Prelude.{◌≡◌, ◌≢◌, ◌≤◌, ℕ, Option, Some, None, List, [], ◌∷◌, ◌++◌, length, All, IsTrue, codes, decimal}
+use Rattle.std.specs.Prelude.{◌≡◌, ◌≢◌, ◌≤◌, ℕ, List, [], ◌∷◌, ◌++◌, length, All, IsTrue, codes, decimal}
 use Rattle.std.specs.Char.{is_ascii_uppercase, is_ascii_alphanumeric}
 use Rattle.std.specs.List.{flat_map}
 use Rattle.sip_machine.specs.declared.event.Action.{Action}
@@ -7,20 +7,7 @@ use Rattle.sip_machine.specs.declared.event.Action.TheVariants.{Sent, Received, 
 use Rattle.sip_machine.specs.declared.event.Kind.{Kind}
 use Rattle.sip_machine.specs.declared.event.Kind.TheVariants.{Request, Response}
 use Rattle.sip_verdict.specs.declared.plain_form.PlainMessage.{PlainMessage}
-use Rattle.sip_verdict.specs.Line.{line_feed}
-
--- found, none and only at once: without an answer no value fits the text, and the answer's fits it and is the only one
-abbrev pub IsOnlyValue : {A X : Type 0} → (List ℕ → X → Type 0) → (A → X) → List ℕ → Option A → Type 0
-IsOnlyValue {X = X} Fits view text None = (x : X) → ¬ (Fits text x)
-IsOnlyValue {X = X} Fits view text (Some a) = Fits text (view a) × ((x : X) → Fits text x → x ≡ view a)
-
--- b'\r'
-abbrev pub carriage_return : ℕ
-carriage_return = 13
-
--- CRLF, RFC 3261 section 7: the end of each line
-abbrev pub crlf : List ℕ
-crlf = carriage_return ∷ line_feed ∷ []
+use Rattle.sip_text.specs.Bytes.{crlf}
 
 -- generic-message without a body, RFC 3261 section 7: a start line and fields, each ended by CRLF, then an empty line
 abbrev pub message : List (List ℕ) → List ℕ

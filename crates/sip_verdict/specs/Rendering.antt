@@ -1,21 +1,12 @@
 -- The text of a verdict: one line, without its end.
 use Rattle.std.specs.Prelude.{ℕ, List, ◌++◌, codes, decimal}
-use Rattle.sip_verdict.specs.declared.fault as fault
-use Rattle.sip_verdict.specs.declared.fault.Unit.TheVariants.{Head, Line, Body}
-use Rattle.sip_verdict.specs.declared.fault.Reason.{Reason}
-use Rattle.sip_verdict.specs.declared.fault.Reason.TheVariants.{NotYet}
+use Rattle.sip_message.specs.declared.fault as fault
+use Rattle.sip_message.specs.declared.fault.Unit.TheVariants.{Head, Line, Body}
+use Rattle.sip_message.specs.Reason.{reason_number, reason_name}
 use Rattle.sip_verdict.specs.declared.log_reason.LogReason.{LogReason}
 use Rattle.sip_verdict.specs.declared.log_reason.LogReason.TheVariants.{Header, EntryLine, Truncated, Order, Limit}
 use Rattle.sip_verdict.specs.declared.verdict.Verdict.{Verdict}
 use Rattle.sip_verdict.specs.declared.verdict.Verdict.TheVariants.{Legal, Malformed, Breach, Undecided, LogFault}
-
--- the number of a message's fault
-abbrev pub reason_number : Reason → ℕ
-reason_number NotYet = 13
-
--- its name
-abbrev pub reason_name : Reason → List ℕ
-reason_name NotYet = codes "NotYet"
 
 -- the number of a log's fault
 abbrev pub log_reason_number : LogReason → ℕ

@@ -3,9 +3,9 @@ ghost use Rattle.std.specs.Prelude.{◌≡◌, ◌+◌, ◌<◌, ◌≤◌, IfOk
 ghost use Rattle.sip_machine.specs.Times.{last_moment};
 ghost use Rattle.sip_verdict.specs.Line.{IsWithinLimits, cut_head, head_of, moment_of};
 ghost use Rattle.sip_verdict.specs.Line as log;
-ghost use Rattle.sip_verdict.specs.Window.{unread};
+ghost use Rattle.sip_verdict.specs.inner.Window.{unread};
 ghost use Rattle.sip_verdict.specs.Entry.{AtMessage, AtBody, AtHead, AtLine, ComesNext, most_entries};
-ghost use Rattle.sip_verdict.specs.Told.{Says, Continues, entry_next, next_of};
+ghost use Rattle.sip_verdict.specs.inner.Answers.{Says, Continues, entry_next, next_of};
 
 use crate::line::{Head, read_head};
 use crate::log_error::LogError;
@@ -132,7 +132,7 @@ fn read_body<R: Source>(
     }
 }
 
-/// Reads a message of `len` bytes and the line feed behind it. Its bytes are copied once, out of the window.
+/// Reads a message of `len` bytes and the line feed behind it.
 fn read_message<R: Source>(
     alloc: Global,
     window: &mut Window,

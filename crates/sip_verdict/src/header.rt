@@ -4,8 +4,8 @@ ghost use Rattle.sip_machine.specs.Times.{Times, AreTimes};
 ghost use Rattle.sip_verdict.specs.Header.{NumberAfter, TimesLine, ComesFirst, ComesSecond};
 ghost use Rattle.sip_verdict.specs.Next.{gives};
 ghost use Rattle.sip_verdict.specs.Number.{cut};
-ghost use Rattle.sip_verdict.specs.Told.{Says};
-ghost use Rattle.sip_verdict.specs.Window.{unread};
+ghost use Rattle.sip_verdict.specs.inner.Answers.{Says};
+ghost use Rattle.sip_verdict.specs.inner.Window.{unread};
 
 use crate::log_error::LogError;
 use crate::log_reason::LogReason;

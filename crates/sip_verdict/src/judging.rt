@@ -1,14 +1,15 @@
 //! Judges a log from its first byte to its verdict.
 ghost use Rattle.std.specs.Prelude.{◌≡◌, ◌+◌, [], ℕ, List, true, false, Option, IfSome, IfOk, OnOk, IsErrOf};
-ghost use Rattle.sip_verdict.specs.Window.{unread};
+ghost use Rattle.sip_verdict.specs.inner.Window.{unread};
 ghost use Rattle.sip_verdict.specs.VerdictOf.{IsVerdictOf};
-ghost use Rattle.sip_verdict.specs.Judging.{Stops, IsJudgedFrom};
+ghost use Rattle.sip_verdict.specs.PlainReading.{plain_reading};
+ghost use Rattle.sip_verdict.specs.inner.Judging.{ComesTo, IsJudgedFrom};
 
 use crate::entry::next_entry;
 use crate::header::read_header;
 use crate::judge_error::JudgeError;
 use crate::log_error::LogError;
-use crate::source::Source;
+use crate::source::{FromRead, Source};
 use crate::standing::Standing;
 use crate::verdict::Verdict;
 use crate::window::Window;
@@ -18,9 +19,9 @@ use std::hash::BuildHasher;
 /// The verdict on the log of the reader's bytes: whether transactions that keep RFC 3261 section 17 can have sent and
 /// received its messages at their moments, and if not, after which entry the first transaction has no run.
 ///
-/// `JudgeError::Io` is answered only if the reader failed in this call, and `JudgeError::Memory` where a growth was refused.
-/// The reader is then used up to a place that is not said. The hasher is for the keys of the transactions, which stand in a
-/// plain list so far.
+/// `JudgeError::Io` is answered only if the reader failed in this call. That `JudgeError::Memory` is answered only where a
+/// growth was refused is tested and not proved. After an error the reader is used up to a place that is not said. The hasher
+/// is for the keys of the transactions, which stand in a plain list so far.
 pub fn judge<R: Source, H: BuildHasher + Drop>(
     alloc: Global,
     reader: &mut R,
@@ -39,9 +40,20 @@ pub fn judge<R: Source, H: BuildHasher + Drop>(
     }
 }
 
+/// The verdict on the log of these bytes, with the errors of `judge`.
+pub fn judge_bytes<H: BuildHasher + Drop>(
+    alloc: Global,
+    bytes: &[u8],
+    hasher: H,
+) -> Result<Verdict, JudgeError>
+    ensures { IfOk result (IsVerdictOf bytes.now) }
+{
+    judge(alloc, &mut FromRead::new(bytes), hasher)
+}
+
 /// What a log that cannot be read on comes to: a fault is the verdict.
 fn stopped(error: LogError, entry: u32) -> Result<Verdict, JudgeError>
-    ensures { Stops entry error result }
+    ensures { ComesTo entry error result }
 {
     match error {
         LogError::Fault(reason) => Ok(Verdict::LogFault { entry, reason }),
@@ -59,7 +71,7 @@ fn judge_entries<R: Source>(
 ) -> Result<Verdict, JudgeError>
     requires book { standing.book ≡ [] }
     requires transactions { standing.transactions.items ≡ [] }
-    ensures verdict { IfOk result (λ verdict. IfSome (unread window.old (R.left reader.old)) (λ rest. IsJudgedFrom standing.machine rest verdict)) }
+    ensures verdict { IfOk result (λ verdict. IfSome (unread window.old (R.left reader.old)) (λ rest. IsJudgedFrom plain_reading standing.machine rest verdict)) }
     ensures ok { OnOk result (R.has_failed reader.new ≡ R.has_failed reader.old) }
     ensures io { IsErrOf result JudgeError.Io → R.has_failed reader.new ≡ true }
 {

@@ -1,8 +1,8 @@
-//! The verdict on a log of SIP messages: which entry, if any, no transactions of RFC 3261 can have produced.
+//! The verdict on a log of SIP messages: whether transactions of RFC 3261 can have produced it, and if not, after which entry
+//! one of them has no run.
 #![tactic(auto)]
 
 mod entry;
-mod fault;
 mod header;
 mod judge_error;
 mod judging;
@@ -17,18 +17,15 @@ mod plain_form;
 mod rendering;
 mod source;
 mod standing;
-mod state_set;
 mod transaction;
 mod verdict;
 mod window;
 
-pub use fault::{Fault, Reason, Unit};
 pub use judge_error::JudgeError;
-pub use judging::judge;
-pub use laws::{
-    a_legal_log_has_runs, an_input_has_one_verdict, by_waiting_and_stepping, in_one_wait_or_two,
-};
+pub use judging::{judge, judge_bytes};
+pub use laws::{a_legal_log_has_runs, an_input_has_one_verdict};
 pub use log_reason::LogReason;
 pub use rendering::render;
+pub use sip_message::{Fault, Reason, Unit};
 pub use source::{Broken, FromRead, Source};
 pub use verdict::Verdict;

@@ -3,10 +3,10 @@ ghost use Rattle.std.specs.Prelude.{◌≡◌, ◌++◌, IfOk, OnOk, codes, deci
 ghost use Rattle.sip_verdict.specs.Rendering.{rendered, rendered_unit};
 ghost use Rattle.sip_verdict.specs.declared.verdict.Verdict.TheVariants.{Malformed, LogFault};
 
-use crate::fault::{Fault, Unit};
 use crate::log_reason::LogReason;
 use crate::verdict::Verdict;
 use itoa::Buffer;
+use sip_message::{Fault, Unit};
 use std::alloc::{AllocError, Global};
 
 /// The text of a verdict, one line without its end: `legal entries E transactions T`, `malformed E UNIT NO REASON`,
@@ -105,7 +105,7 @@ fn push_with_number(text: &mut String, word: &str, number: u64) -> Result<(), Al
 #[cfg(test)]
 mod tests {
     use super::*;
-    use crate::fault::Reason;
+    use sip_message::Reason;
     use std::test::Fail;
 
     #[test]

@@ -8,22 +8,22 @@ ghost use Rattle.sip_machine.specs.Heard.{heard, FitsBook};
 ghost use Rattle.sip_machine.specs.Rules.{Knows};
 ghost use Rattle.sip_machine.specs.PlainClient.{plain_names};
 ghost use Rattle.sip_verdict.specs.Key.{PlainKey, key_of};
-ghost use Rattle.sip_verdict.specs.Keyed.{Said};
+ghost use Rattle.sip_verdict.specs.Keyed.{Observation};
 ghost use Rattle.sip_verdict.specs.PlainForm.{parts_of};
-ghost use Rattle.sip_verdict.specs.Saying.{heard_as, said_message, IsSaid};
-ghost use Rattle.sip_verdict.specs.Passing.{said_noted};
-ghost use Rattle.sip_verdict.specs.Standing.{IsTouched, Stands, StandsBefore, MayTake, IsJudged};
-ghost use Rattle.sip_verdict.specs.Told.{item};
+ghost use Rattle.sip_verdict.specs.PlainReading.{plain_machines, plain_reading, heard_as, message_observation};
+ghost use Rattle.sip_verdict.specs.inner.Tracking.{IsTouched, IsJudged};
+ghost use Rattle.sip_verdict.specs.inner.PlainTracking.{plain_keeping, PlainTracks, PlainTracksBefore, MayTake, new_transaction, observation_of};
+ghost use Rattle.sip_verdict.specs.inner.Answers.{item};
 
 use crate::entry::Entry;
-use crate::fault::{Fault, Reason, Unit};
 use crate::key::Key;
-use crate::passing::{Noted, Outcome, pass_all};
+use crate::passing::{MessageEvent, Outcome, pass_all};
 use crate::plain_form::{PlainMessage, read_plain};
-use crate::state_set::StateSet;
 use crate::transaction::Transaction;
 use crate::verdict::Verdict;
 use sip_machine::{Action, Book, Event, Params, PlainClient};
+use sip_message::{Fault, Reason, Unit};
+use sip_states::StateSet;
 use std::alloc::{AllocError, Global};
 
 /// The messages and the transactions of a log so far. The transactions stand in a plain list in the order of their first
@@ -54,7 +54,7 @@ fn touch(
     transactions: &mut Vec<Transaction>,
     message: &PlainMessage,
 ) -> Result<(), AllocError>
-    ensures { OnOk result (IsTouched machine (key_of (parts_of message.now)) transactions.old.items transactions.new.items) }
+    ensures { OnOk result (IsTouched (plain_keeping [] machine) (new_transaction machine (key_of (parts_of message.now))) transactions.old.items transactions.new.items) }
 {
     if has_key(transactions.as_slice(), message) {
         return Ok(());
@@ -107,8 +107,8 @@ impl Standing {
         ensures fits { IfOk result (λ event. FitsBook self.new.book event × (event.moment ≡ entry.now.moment)) }
         ensures heard { IfOk result (λ event. heard self.new.book event ≡ heard_as (item entry.now) message.now.kind) }
         ensures may { OnOk result (MayTake self.new.book self.new.transactions.items (entry.now.number + 1) entry.now.moment) }
-        ensures stands { OnOk result ((es : List (Said PlainKey)) → Stands self.old.book self.old.machine es self.old.transactions.items
-            → StandsBefore self.new.book self.old.machine es (said_message (item entry.now) (parts_of message.now)) self.new.transactions.items) }
+        ensures tracks { OnOk result ((es : List (Observation PlainKey)) → PlainTracks self.old.book self.old.machine es self.old.transactions.items
+            → PlainTracksBefore self.new.book self.old.machine es (message_observation (item entry.now) (parts_of message.now)) self.new.transactions.items) }
     {
         let number = self.book.add(entry.number, entry.bytes.as_slice())?;
         touch(alloc, self.machine, &mut self.transactions, message)?;
@@ -120,18 +120,23 @@ impl Standing {
         &mut self,
         number: u32,
         moment: u64,
-        noted: Option<&Noted>,
+        message: Option<&MessageEvent>,
     ) -> Result<Option<Verdict>, AllocError>
-        requires fits { ForSome noted (λ n. FitsBook self.old.book n.now.event × (n.now.event.moment ≡ moment)) }
+        requires fits { ForSome message (λ n. FitsBook self.old.book n.now.event × (n.now.event.moment ≡ moment)) }
         requires may { MayTake self.old.book self.old.transactions.items (number + 1) moment }
         ensures machine { OnOk result (self.new.machine ≡ self.old.machine) }
         ensures may { IfOk result (λ verdict. IfNone verdict (MayTake self.new.book self.new.transactions.items (number + 1) moment)) }
-        ensures judged { IfOk result (λ verdict. (es : List (Said PlainKey)) →
-            let e = said_noted self.old.book moment (option_copied noted.entry) in
-            StandsBefore self.old.book self.old.machine es e self.old.transactions.items → number ≡ length es + 1
-            → IsJudged self.new.book self.old.machine (es ++ e ∷ []) self.new.transactions.items verdict) }
+        ensures judged { IfOk result (λ verdict. (es : List (Observation PlainKey)) →
+            let e = observation_of self.old.book moment (option_copied message.entry) in
+            PlainTracksBefore self.old.book self.old.machine es e self.old.transactions.items → number ≡ length es + 1
+            → IsJudged (plain_machines self.old.machine) (plain_keeping self.new.book self.old.machine) es e self.new.transactions.items verdict) }
     {
-        let outcome = pass_all(self.transactions.as_mut_slice(), &self.book, moment, noted)?;
+        let outcome = pass_all(
+            self.transactions.as_mut_slice(),
+            &self.book,
+            moment,
+            message,
+        )?;
         Ok(match outcome {
             Outcome::Fine => None,
             Outcome::NoRun(transaction) => Some(Verdict::Breach {
@@ -155,9 +160,9 @@ impl Standing {
         requires may { MayTake self.old.book self.old.transactions.items entry.now.number entry.now.moment }
         ensures machine { OnOk result (self.new.machine ≡ self.old.machine) }
         ensures may { IfOk result (λ verdict. IfNone verdict (MayTake self.new.book self.new.transactions.items (entry.now.number + 1) entry.now.moment)) }
-        ensures judged { IfOk result (λ verdict. (es : List (Said PlainKey)) → Stands self.old.book self.old.machine es self.old.transactions.items
+        ensures judged { IfOk result (λ verdict. (es : List (Observation PlainKey)) → PlainTracks self.old.book self.old.machine es self.old.transactions.items
             → entry.now.number ≡ length es + 1
-            → (e : Said PlainKey) × IsSaid (item entry.now) e × IsJudged self.new.book self.old.machine (es ++ e ∷ []) self.new.transactions.items verdict) }
+            → (e : Observation PlainKey) × plain_reading.Observes es (item entry.now) e × IsJudged (plain_machines self.old.machine) (plain_keeping self.new.book self.old.machine) es e self.new.transactions.items verdict) }
     {
         let message = match entry.action {
             Action::Mark => return self.pass(entry.number, entry.moment, None),
@@ -170,6 +175,10 @@ impl Standing {
             }));
         };
         let event = self.note(alloc, entry, &message)?;
-        self.pass(entry.number, entry.moment, Some(&Noted { message, event }))
+        self.pass(
+            entry.number,
+            entry.moment,
+            Some(&MessageEvent { message, event }),
+        )
     }
 }

@@ -2,8 +2,8 @@
 ghost use Rattle.std.specs.Prelude.{◌≡◌, ◌+◌, ◌<◌, ◌≤◌, ◌⊎◌, ℕ, true, false, None, [], length, take, drop, IfOk, IfSome, OnOk, OnErr, vec_len};
 ghost use Rattle.std.specs.Io.KnownBytes.{IsAtEnd};
 ghost use Rattle.memchr.specs.Find.{IsFirstByte, is_byte};
-ghost use Rattle.sip_verdict.specs.Line.{line_feed};
-ghost use Rattle.sip_verdict.specs.Source.{Reads};
+ghost use Rattle.sip_text.specs.Bytes.{line_feed};
+ghost use Rattle.sip_verdict.specs.inner.Reads.{Reads};
 
 use crate::source::{Broken, Source};
 use memchr::memchr;
@@ -24,7 +24,7 @@ pub(crate) struct Window {
 }
 
 impl Window {
-    ghost use Rattle.sip_verdict.specs.Window.{items, window_size};
+    ghost use Rattle.sip_verdict.specs.inner.Window.{items, window_size};
 
     /// An empty window.
     pub(crate) fn new(alloc: Global) -> Result<Window, AllocError>
@@ -123,7 +123,6 @@ impl Window {
     }
 
     /// The length of the line at the front, where its line feed is among the next `most` bytes.
-    /// Reads only as far as that takes.
     pub(crate) fn line_len<R: Source>(
         &mut self,
         source: &mut R,

@@ -4,12 +4,12 @@
 //! undecided, 4 where it cannot read, write or get memory, and 5 where it does not understand its words.
 #![tactic(auto)]
 
-ghost use Rattle.std.specs.Prelude.{◌≡◌, ◌≢◌};
+ghost use Rattle.std.specs.Prelude.{◌≡◌, ◌≢◌, IfOk};
 ghost use Rattle.std.specs.IoError.{error_kind};
 ghost use Rattle.std.specs.declared.io.ErrorKind.TheVariants.{OutOfMemory};
 ghost use Rattle.siptrace.specs.declared.Failure.TheVariants.{Memory, Read};
 ghost use Rattle.siptrace.specs.Failures.{failure_of, status_without};
-ghost use Rattle.siptrace.specs.Status.{status_of};
+ghost use Rattle.siptrace.specs.Status.{status_of, IsStatus};
 
 use sip_verdict::{FromRead, JudgeError, Verdict, judge, render};
 use std::alloc::AllocError;
@@ -84,8 +84,10 @@ fn read_failure(error: io::Error) -> Failure
     }
 }
 
-/// Judges the standard input and prints the verdict.
-fn run(rt: &HostRuntime) -> Result<u8, Failure> {
+/// Judges the standard input and prints the verdict. Its status is that of a verdict.
+fn run(rt: &HostRuntime) -> Result<u8, Failure>
+    ensures { IfOk result IsStatus }
+{
     let words = env::args(rt).map_err(read_failure)?;
     if words.count() > 1 {
         return Err(Failure::Words);

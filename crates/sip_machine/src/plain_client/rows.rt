@@ -3,8 +3,9 @@ ghost use Rattle.std.specs.Prelude.{◌≡◌, ◌≤◌, ◌↔◌, IsTrue};
 ghost use Rattle.sip_machine.specs.Times.{last_moment};
 ghost use Rattle.sip_machine.specs.Texts.{Texts, Keeps};
 ghost use Rattle.sip_machine.specs.Heard.{FitsBook, heard};
+ghost use Rattle.sip_machine.specs.Message.{kind_of};
 ghost use Rattle.sip_machine.specs.Rules.{Knows};
-ghost use Rattle.sip_machine.specs.Single.{AnswersOne};
+ghost use Rattle.sip_machine.specs.inner.Single.{AnswersOne};
 ghost use Rattle.sip_machine.specs.PlainClient.{Repeats, Sends, Hears, Steps, PlainTake, waiting_seen, plain_seen, plain_names, WaitingInRange, PlainInRange};
 
 use crate::book::Book;
@@ -38,7 +39,7 @@ fn steps(params: &Params, book: &Book, state: &PlainState, event: &Event) -> Opt
     requires known { Knows plain_names book.now state.now }
     requires in_range { PlainInRange state.now }
     ensures { AnswersOne plain_names PlainInRange plain_seen book.now
-        (Steps params.now (plain_seen book.now state.now) event.now.action event.now.kind
+        (Steps params.now (plain_seen book.now state.now) event.now.action (kind_of event.now.kind)
         (heard book.now event.now)) result }
 {
     match (event.action(), event.kind()) {

@@ -1,7 +1,7 @@
 use Rattle.std.proofs.Common.{◌<◌, ◌≤◌, length, Ok, Err, None, arith}
 use Rattle.sip_verdict.specs.Entry.{AtLine, ComesNext, most_entries}
-use Rattle.sip_verdict.specs.Told.{entry_next}
-use Rattle.sip_verdict.specs.Window.{items}
+use Rattle.sip_verdict.specs.inner.Answers.{entry_next}
+use Rattle.sip_verdict.specs.inner.Window.{items}
 use Rattle.sip_verdict.proofs.SaysLemmas.{Says-step}
 use Rattle.sip_verdict.proofs.FrontLemmas.{ComesNext-entry}
 use Rattle.sip_verdict.proofs.entry.next_entry.Goals as goal

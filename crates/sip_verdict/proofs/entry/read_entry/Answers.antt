@@ -1,11 +1,11 @@
 use Rattle.std.proofs.Common.{◌≡◌, ◌+◌, ◌<◌, ◌≤◌, inl, inr, [], length, drop, arith, ap}
 use Rattle.sip_verdict.specs.declared.log_reason.LogReason.TheVariants as reasons
 use Rattle.sip_verdict.specs.Entry.{AtLine, AtHead}
-use Rattle.sip_verdict.specs.Told.{entry_next}
-use Rattle.sip_verdict.specs.Window.{items}
+use Rattle.sip_verdict.specs.inner.Answers.{entry_next}
+use Rattle.sip_verdict.specs.inner.Window.{items}
 use Rattle.sip_verdict.proofs.SaysLemmas.{Says-fault, Says-step}
 use Rattle.sip_verdict.proofs.FrontLemmas.{AtLine-truncated, AtLine-long, AtLine-other, AtLine-head}
-use Rattle.sip_verdict.proofs.ToldLemmas.{none_left}
+use Rattle.sip_verdict.proofs.AnswersLemmas.{none_left}
 use Rattle.sip_verdict.proofs.entry.read_entry.Goals as goal
 
 pub returns-then-as_slice-lt-LONGEST_LINE-clause-says : goal.returns-then-as_slice-lt-LONGEST_LINE-clause-says

@@ -2,7 +2,7 @@ use Rattle.std.proofs.Common.{◌<◌, ◌+◌, List, ℕ, length, take, drop, g
 use Rattle.sip_verdict.specs.declared.log_reason.LogReason.TheVariants as reasons
 use Rattle.sip_verdict.specs.Next.{gives}
 use Rattle.sip_verdict.specs.Entry.{AtMessage}
-use Rattle.sip_verdict.specs.Window.{items}
+use Rattle.sip_verdict.specs.inner.Window.{items}
 use Rattle.sip_verdict.proofs.SaysLemmas.{Says-value, Says-fault}
 use Rattle.sip_verdict.proofs.MessageLemmas.{AtMessage-open, AtMessage-gives}
 use Rattle.sip_verdict.proofs.entry.read_message.Goals as goal

@@ -2,7 +2,7 @@ use Rattle.std.proofs.Common.{◌++◌, List, ℕ, take, drop, None, Some, sym, 
 use Rattle.std.proofs.lemmas.List.{take_rest, take-append-drop}
 use Rattle.std.proofs.lemmas.Bool.Decides.{Decides-eqb}
 use Rattle.std.proofs.lemmas.Slice.Eq.{strip_prefix_is}
-use Rattle.sip_verdict.specs.Line.{space}
+use Rattle.sip_text.specs.Bytes.{space}
 use Rattle.sip_verdict.proofs.SplitLemmas.{part-found}
 use Rattle.sip_verdict.proofs.HeaderLemmas.{NumberAfter-part, NumberAfter-of}
 use Rattle.sip_verdict.proofs.header.number_after.Goals as goal

@@ -5,7 +5,7 @@ use mathlib.Core.Bool.{true≢false}
 use Rattle.sip_verdict.specs.declared.log_reason.LogReason.TheVariants as reasons
 use Rattle.sip_verdict.specs.Header.{ComesFirst, ComesSecond}
 use Rattle.sip_verdict.specs.Next.{gives}
-use Rattle.sip_verdict.specs.Window.{items}
+use Rattle.sip_verdict.specs.inner.Window.{items}
 use Rattle.sip_verdict.proofs.SaysLemmas.{Says-step, Says-fault}
 use Rattle.sip_verdict.proofs.HeaderLemmas.{title, ComesFirst-other, ComesFirst-second}
 use Rattle.sip_verdict.proofs.header.read_header.Goals as goal

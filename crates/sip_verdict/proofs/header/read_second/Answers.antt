@@ -2,9 +2,9 @@ use Rattle.std.proofs.Common.{◌+◌, inl, inr, drop}
 use Rattle.sip_verdict.specs.declared.log_reason.LogReason.TheVariants as reasons
 use Rattle.sip_verdict.specs.Header.{ComesSecond}
 use Rattle.sip_verdict.specs.Next.{gives}
-use Rattle.sip_verdict.specs.Window.{items}
+use Rattle.sip_verdict.specs.inner.Window.{items}
 use Rattle.sip_verdict.proofs.SaysLemmas.{Says-value, Says-fault}
-use Rattle.sip_verdict.proofs.ToldLemmas.{none_left}
+use Rattle.sip_verdict.proofs.AnswersLemmas.{none_left}
 use Rattle.sip_verdict.proofs.HeaderLemmas.{ComesSecond-none, ComesSecond-other, ComesSecond-times}
 use Rattle.sip_verdict.proofs.header.read_second.Goals as goal
 

@@ -1,7 +1,8 @@
 use Rattle.std.proofs.Common.{◌+◌, ◌∙◌, refl, sym, subst, arith}
-use Rattle.sip_verdict.specs.Standing.{MayTake}
-use Rattle.sip_verdict.proofs.StandingLemmas.{may_later}
-use Rattle.sip_verdict.proofs.JudgingLemmas.{judged_start, may_start, judged_legal, judged_stopped, judged_trouble, judged_more}
+use Rattle.sip_verdict.specs.PlainReading.{plain_reading}
+use Rattle.sip_verdict.specs.inner.PlainTracking.{plain_keeping, MayTake}
+use Rattle.sip_verdict.proofs.PlainTrackingLemmas.{may_start, may_later}
+use Rattle.sip_verdict.proofs.JudgingLemmas.{judged_start, judged_legal, judged_stopped, judged_trouble, judged_more}
 use Rattle.sip_verdict.proofs.judging.judge_entries.Goals as goal
 
 pub loop-entry-init : goal.loop-entry-init
@@ -10,17 +11,17 @@ loop-entry-init g c = record {
   times = refl;
   fine = refl;
   may = may_start c.args.standing.book c.args.standing.transactions.items c.requires.book c.requires.transactions;
-  judged = judged_start _ c.args.standing.book c.args.standing.machine c.args.standing.transactions.items c.requires.book c.requires.transactions;
+  judged = judged_start plain_reading c.args.standing.machine (plain_keeping c.args.standing.book c.args.standing.machine) _ c.args.standing.transactions.items c.requires.transactions;
 }
 
 pub returns-in-Ok-None-clause-verdict : goal.returns-in-Ok-None-clause-verdict
 returns-in-Ok-None-clause-verdict g c =
-    judged_legal _ _ _ _ _ c.loop-entry.count c.loop-entry.last c.loop-entry.invariant.judged c.transactions.result _ c.transactions.ensures
+    judged_legal plain_reading _ _ _ _ _ c.loop-entry.count c.loop-entry.last c.loop-entry.invariant.judged c.transactions.result _ c.transactions.ensures
     (rw c.in-Ok-None.field-0-is at c.in-Ok-None.ensures.says).1
 
 pub returns-in-Err-clause-verdict : goal.returns-in-Err-clause-verdict
 returns-in-Err-clause-verdict g c =
-    judged_stopped _ _ _ _ _ c.loop-entry.count c.loop-entry.last c.loop-entry.invariant.judged _ _ c.in-Err.error c.stopped.result c.stopped.ensures c.in-Err.ensures.says
+    judged_stopped plain_reading _ _ _ _ _ c.loop-entry.count c.loop-entry.last c.loop-entry.invariant.judged _ _ c.in-Err.error c.stopped.result c.stopped.ensures c.in-Err.ensures.says
 
 pub entry-requires-clause-may : goal.entry-requires-clause-may
 entry-requires-clause-may g c =
@@ -33,8 +34,8 @@ pub returns-in-Some-clause-verdict : goal.returns-in-Some-clause-verdict
 returns-in-Some-clause-verdict g c =
     let continues = rw c.in-Ok-Some.field-0-is at c.in-Ok-Some.ensures.entry in
     let says = rw c.in-Ok-Some.field-0-is at c.in-Ok-Some.ensures.says in
-    judged_trouble _ _ _ _ c.entry.new.self.book c.args.standing.machine _ c.entry.new.self.transactions.items c.loop-entry.count c.loop-entry.last c.loop-entry.invariant.judged
-    c.in-Ok-Some.entry says.1 continues c.loop-entry.standing.machine c.loop-entry.invariant.times c.in-Some.verdict (rw c.in-Some.is at c.in_ok-verdict.ensures.judged)
+    judged_trouble plain_reading _ _ _ _ _ c.loop-entry.count c.loop-entry.last c.loop-entry.invariant.judged (plain_keeping c.entry.new.self.book c.args.standing.machine) _ c.entry.new.self.transactions.items
+    c.in-Ok-Some.entry says.1 continues c.in-Some.verdict (rw (c.in-Some.is, c.loop-entry.invariant.times) at c.in_ok-verdict.ensures.judged)
 
 pub loop-entry-preserved : goal.loop-entry-preserved
 loop-entry-preserved g c =
@@ -46,6 +47,6 @@ loop-entry-preserved g c =
       times = c.in_ok-verdict.ensures.machine ∙ c.loop-entry.invariant.times;
       fine = says.0 ∙ c.loop-entry.invariant.fine;
       may = rw c.in_default.is at c.in_ok-verdict.ensures.may;
-      judged = judged_more _ _ _ _ c.entry.new.self.book c.args.standing.machine _ c.entry.new.self.transactions.items c.loop-entry.count c.loop-entry.last c.loop-entry.invariant.judged
-          c.in-Ok-Some.entry says.1 continues c.loop-entry.standing.machine c.loop-entry.invariant.times (rw c.in_default.is at c.in_ok-verdict.ensures.judged);
+      judged = judged_more plain_reading _ _ _ _ _ c.loop-entry.count c.loop-entry.last c.loop-entry.invariant.judged (plain_keeping c.entry.new.self.book c.args.standing.machine) _ c.entry.new.self.transactions.items
+          c.in-Ok-Some.entry says.1 continues (rw (c.in_default.is, c.loop-entry.invariant.times) at c.in_ok-verdict.ensures.judged);
     }

@@ -1,6 +1,7 @@
 use Rattle.std.proofs.Common.{◌≡◌, get_or, ap, arith}
 use Rattle.std.proofs.lemmas.List.{take_rest}
-use Rattle.sip_verdict.specs.Line.{space, message, mark}
+use Rattle.sip_verdict.specs.Line.{message, mark}
+use Rattle.sip_text.specs.Bytes.{space}
 use Rattle.sip_verdict.specs.declared.line.Head.TheVariants as code
 use Rattle.sip_verdict.proofs.LineLemmas.{HeadLine-mark, HeadLine-message, HeadLine-none}
 use Rattle.sip_verdict.proofs.line.read_head.Goals as goal

@@ -1,5 +1,5 @@
 use Rattle.std.proofs.Common.{◌+◌}
-use Rattle.sip_verdict.specs.Line.{space}
+use Rattle.sip_text.specs.Bytes.{space}
 use Rattle.std.proofs.lemmas.List.{take_rest}
 use Rattle.sip_verdict.proofs.SplitLemmas.{first-cut, first-none, Lacks-cut}
 use Rattle.sip_verdict.proofs.LineLemmas.{Numbers-parts, Numbers-of}

@@ -1,7 +1,7 @@
 use Rattle.std.proofs.Common.{◌++◌, sym, ap, ◌∙◌, true≢false}
 use Rattle.std.proofs.lemmas.Bool.Decides.{Decides-eqb}
 use Rattle.std.proofs.lemmas.Slice.Eq.{slice_eq-Decides}
-use Rattle.sip_verdict.specs.PlainPieces.{AreFields, fronts, end_of_message, behind_branch}
+use Rattle.sip_verdict.specs.inner.PlainPieces.{AreFields, fronts, end_of_message, behind_branch}
 use Rattle.sip_verdict.proofs.PrefixLemmas.{both}
 use Rattle.sip_verdict.proofs.PlainLemmas.{only-none, fields-branch, fields-method, fields-found, fields-rest}
 use Rattle.sip_verdict.proofs.plain_form.read_fields.Goals as goal

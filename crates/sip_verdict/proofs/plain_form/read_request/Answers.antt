@@ -3,7 +3,7 @@ use Rattle.std.specs.Prelude.{None, Some}
 use Rattle.std.proofs.lemmas.Bool.Decides.{Decides-eqb}
 use Rattle.std.proofs.lemmas.Slice.Eq.{strip_prefix_is, slice_eq-Decides}
 use Rattle.sip_verdict.specs.PlainForm.{IsRequest, parts_of}
-use Rattle.sip_verdict.specs.PlainPieces.{request_front, behind_branch}
+use Rattle.sip_verdict.specs.inner.PlainPieces.{request_front, behind_branch}
 use Rattle.sip_verdict.proofs.PlainLemmas.{only-none, behind, request-method, request-rest, request-fields, request-found, same-parts}
 use Rattle.sip_verdict.proofs.plain_form.read_request.Goals as goal
 

@@ -4,7 +4,7 @@ use Rattle.std.proofs.lemmas.Bool.Decides.{Decides-eqb}
 use Rattle.std.proofs.lemmas.Slice.Eq.{strip_prefix_is}
 use Rattle.sip_machine.specs.declared.event.Kind.TheVariants.{Response}
 use Rattle.sip_verdict.specs.PlainForm.{IsResponse, parts_of}
-use Rattle.sip_verdict.specs.PlainPieces.{response_front, behind_branch}
+use Rattle.sip_verdict.specs.inner.PlainPieces.{response_front, behind_branch}
 use Rattle.sip_verdict.proofs.PlainLemmas.{only-none, behind, response-code, response-rest, response-fields, response-found, same-parts}
 use Rattle.sip_verdict.proofs.plain_form.read_response.Goals as goal
 

@@ -1,7 +1,7 @@
 use Rattle.std.specs.Prelude.{None, Some, ◌++◌}
 use Rattle.std.proofs.lemmas.Bool.Decides.{Decides-eqb}
 use Rattle.std.proofs.lemmas.Slice.Eq.{strip_prefix_is}
-use Rattle.sip_verdict.specs.PlainPieces.{AreFixedFields, rest_of, from_and_to, call_id_and_cseq}
+use Rattle.sip_verdict.specs.inner.PlainPieces.{AreFixedFields, rest_of, from_and_to, call_id_and_cseq}
 use Rattle.sip_verdict.proofs.PlainLemmas.{only-none, behind, fixed-last}
 use Rattle.sip_verdict.proofs.plain_form.skip_fields.Goals as goal
 

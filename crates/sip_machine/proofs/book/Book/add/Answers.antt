@@ -1,5 +1,5 @@
 use Rattle.std.proofs.Common.{◌≡◌, ◌∷◌, [], ◌++◌, map, ap, rules}
-use Rattle.sip_machine.specs.TextLaws.{texts-grow, IsBook-grow, Keeps-added, text_of-added}
+use Rattle.sip_machine.proofs.TextLaws.{texts-grow, IsBook-grow, Keeps-added, text_of-added}
 use Rattle.sip_machine.proofs.book.Book.add.Goals as goal
 
 -- the book after the message was pushed

@@ -1,7 +1,7 @@
 use Rattle.std.proofs.Common.{◌≢◌, ◌∙◌, sym, map}
 use Rattle.std.proofs.lemmas.List.{take_all}
 use Rattle.std.proofs.lemmas.List.Elements.{All-more, All-map}
-use Rattle.sip_machine.specs.TextLaws.{text_of-kept, Keeps-none}
+use Rattle.sip_machine.proofs.TextLaws.{text_of-kept, Keeps-none}
 use Rattle.sip_machine.proofs.book.Book.bytes.Goals as goal
 
 pub returns-then-kept-number : goal.returns-then-kept-number

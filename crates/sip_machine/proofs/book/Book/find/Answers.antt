@@ -3,7 +3,7 @@ use Rattle.std.proofs.lemmas.Bool.Decides.{Decides-eqb, not_from_Decides}
 use Rattle.std.proofs.lemmas.Slice.Eq.{slice_eq-Decides}
 use Rattle.std.proofs.lemmas.List.{take_all}
 use Rattle.std.proofs.lemmas.List.Elements.{All-more, All-map}
-use Rattle.sip_machine.specs.TextLaws.{text_of-kept, text_of-none}
+use Rattle.sip_machine.proofs.TextLaws.{text_of-kept, text_of-none}
 use Rattle.sip_machine.proofs.book.Book.find.Goals as goal
 
 pub returns-then-eq : goal.returns-then-eq

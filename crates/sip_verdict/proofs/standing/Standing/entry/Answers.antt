@@ -1,10 +1,11 @@
 use Rattle.std.proofs.Common.{inr, None, Some, [], ◌∷◌, refl, ap, subst}
-use Rattle.sip_verdict.specs.Told.{item}
+use Rattle.sip_verdict.specs.inner.Answers.{item}
 use Rattle.sip_verdict.specs.PlainForm.{PlainParts, PlainText, parts_of}
 use Rattle.sip_verdict.specs.Key.{key_of}
-use Rattle.sip_verdict.specs.Passing.{said_noted}
-use Rattle.sip_verdict.specs.Saying.{said_fault, not_yet}
-use Rattle.sip_verdict.proofs.StandingLemmas.{may_more, mark_judged, message_judged, said_by, judged_malformed}
+use Rattle.sip_verdict.specs.PlainReading.{fault_observation}
+use Rattle.sip_verdict.specs.inner.PlainTracking.{observation_of}
+use Rattle.sip_verdict.proofs.PlainReadingLemmas.{observed_by}
+use Rattle.sip_verdict.proofs.PlainTrackingLemmas.{may_more, mark_judged, message_judged}
 use Rattle.sip_verdict.proofs.standing.Standing.entry.Goals as goal
 
 pub pass-requires-clause-may : goal.pass-requires-clause-may
@@ -18,15 +19,11 @@ returns-in-Mark-clause-judged c =
 pub returns-in_default-message : goal.returns-in_default-message
 returns-in_default-message c =
     let i = item c.args.entry.now in
-    let none = subst (λ text. (p : PlainParts) → PlainText i.action text p → ⊥) c.as_slice.ensures.value c.in_default-message.ensures in
+    let none = subst (λ text. (p : PlainParts) → ¬ (PlainText i.action text p)) c.as_slice.ensures.value c.in_default-message.ensures in
     record {
       machine = refl;
       may = tt;
-      judged = λ es stands counts. (
-        said_fault i,
-        said_by i.action i (said_fault i) c.in_default.not-Mark (inr (none, refl)),
-        judged_malformed c.args.self.now.machine es c.args.self.now.book (said_fault i) c.args.self.now.transactions.items c.args.entry.now.number not_yet stands counts refl,
-      );
+      judged = λ es tracks counts. (fault_observation i, observed_by i.action i (fault_observation i) c.in_default.not-Mark (inr (none, refl)), (counts, refl));
     }
 
 pub returns-clause-judged : goal.returns-clause-judged
@@ -36,9 +33,9 @@ returns-clause-judged c =
     let m = c.note.new.self in
     let parts = parts_of c.in-Some.message in
     message_judged c.pass-2.result s.book c.pass-2.new.self.book s.machine s.transactions.items c.pass-2.new.self.transactions.items i c.args.entry.now.number
-    m.book m.transactions.items parts (said_noted m.book i.moment (Some (record { message = c.in-Some.message; event = c.in_ok-event.event })))
+    m.book m.transactions.items parts (observation_of m.book i.moment (Some (record { message = c.in-Some.message; event = c.in_ok-event.event })))
     c.in_default.not-Mark
     (subst (λ text. PlainText i.action text parts) c.as_slice.ensures.value c.in-Some.ensures.0)
-    (ap (λ h. record { fault = None; heard = h; keys = key_of parts ∷ [] }) c.in_ok-event.ensures.heard)
-    c.in_ok-event.ensures.stands
+    (ap (λ h. record { fault = None; event = h; keys = key_of parts ∷ [] }) c.in_ok-event.ensures.heard)
+    c.in_ok-event.ensures.tracks
     (rw c.in_ok-event.ensures.machine at c.pass-2.ensures.judged)

@@ -1,6 +1,6 @@
 use Rattle.std.proofs.Common.{◌-◌, length}
-use Rattle.sip_verdict.specs.Source.{Reads}
-use Rattle.sip_verdict.specs.Window.{items}
+use Rattle.sip_verdict.specs.inner.Reads.{Reads}
+use Rattle.sip_verdict.specs.inner.Window.{items}
 use Rattle.sip_verdict.proofs.window.Window.hold.Given as goal
 
 abbrev pub invariant-loop-self : goal.invariant-loop-self

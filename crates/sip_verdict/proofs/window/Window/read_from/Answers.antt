@@ -1,7 +1,7 @@
 use Rattle.std.proofs.Common.{◌≡◌, ◌+◌, ◌≤◌, ◌-◌, ◌<◌, ◌++◌, List, ℕ, length, take, slice_range, ap, ◌∙◌, arith, rules}
 use Rattle.std.proofs.lemmas.List.{append-nil, with_items_is, places, length-drop}
 use borrow.Rule.Slice.PartMut.{put_mid}
-use Rattle.sip_verdict.specs.Window.{items}
+use Rattle.sip_verdict.specs.inner.Window.{items}
 use Rattle.sip_verdict.proofs.WindowLemmas.{grown}
 use Rattle.sip_verdict.proofs.window.Window.read_from.Goals as goal
 

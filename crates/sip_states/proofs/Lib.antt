@@ -1,0 +1,12 @@
+pub mod Advancing
+pub mod EachOnce
+pub mod Few
+pub mod Following
+pub mod Listed
+pub mod Reaching
+pub mod RunLemmas
+pub mod StandForLemmas
+pub mod Stepping
+pub mod Taking
+pub mod Twice
+pub mod Waiting

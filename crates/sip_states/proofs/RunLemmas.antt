@@ -1,0 +1,159 @@
+use Rattle.std.proofs.Common.{◌≡◌, ◌≤◌, ◌↔◌, ℕ, List, [], ◌∷◌, ◌++◌, map, refl, ap, subst, ◌∙◌}
+use Rattle.sip_machine.specs.Heard.{Heard}
+use Rattle.sip_machine.specs.Rules.{Rules}
+use Rattle.sip_states.specs.Runs.{Step, Hides, Takes, moment_of_step, Does, Goes, Reaches, taken, Wait, Gives, Run, After}
+
+-- Runs one step at a time: a run is a run to its last event and a wait from there.
+
+-- hidden steps take no event
+pub taken-hides : (ends : List ℕ) → taken (map Hides ends) ≡ []
+taken-hides [] = refl
+taken-hides (t ∷ ends) = taken-hides ends
+
+-- steps that take no event are hidden
+pub none_taken : (steps : List Step) → taken steps ≡ [] → (ends : List ℕ) × (steps ≡ map Hides ends)
+none_taken [] e = ([], refl)
+none_taken (Hides t ∷ steps) e = let (ends, is) = none_taken steps e in (t ∷ ends, ap (λ s. Hides t ∷ s) is)
+none_taken (Takes f ∷ steps) e = absurd (cc)
+
+-- what two lists of steps take is what the first takes and then the second
+pub taken-append : (front rest : List Step) → taken (front ++ rest) ≡ taken front ++ taken rest
+taken-append [] rest = refl
+taken-append (Hides t ∷ front) rest = taken-append front rest
+taken-append (Takes f ∷ front) rest = ap (λ s. f ∷ s) (taken-append front rest)
+
+-- steps split at the one that takes the last event
+pub record SplitAt (steps : List Step) (fs : List Heard) (f : Heard) : Type 0 where
+  pub front : List Step
+  pub ends : List ℕ
+  pub is : steps ≡ front ++ Takes f ∷ map Hides ends
+  pub takes : taken front ≡ fs
+
+-- the first of two steps is the last event's
+here : (steps : List Step) (g f : Heard) → g ≡ f → (ends : List ℕ) → steps ≡ map Hides ends → SplitAt (Takes g ∷ steps) [] f
+here steps g f first ends is = record { front = []; ends = ends; is = rw (first, is); takes = refl }
+
+-- or the last event's is a later one
+later : (steps : List Step) (g k : Heard) (fs : List Heard) (f : Heard) → g ≡ k → SplitAt steps fs f → SplitAt (Takes g ∷ steps) (k ∷ fs) f
+later steps g k fs f first s = record { front = Takes g ∷ s.front; ends = s.ends; is = ap (λ more. Takes g ∷ more) s.is; takes = rw (first, s.takes) }
+
+-- steps that take events take the last one somewhere, and end after it
+pub split_last : (steps : List Step) (fs : List Heard) (f : Heard) → taken steps ≡ fs ++ f ∷ [] → SplitAt steps fs f
+split_last [] [] f e = absurd (cc)
+split_last [] (g ∷ fs) f e = absurd (cc)
+split_last (Hides t ∷ steps) fs f e =
+    let s = split_last steps fs f e in record { front = Hides t ∷ s.front; ends = s.ends; is = ap (λ rest. Hides t ∷ rest) s.is; takes = s.takes }
+split_last (Takes g ∷ steps) [] f e = let none = none_taken steps (cc) in here steps g f (cc) none.0 none.1
+split_last (Takes g ∷ steps) (k ∷ fs) f e = later steps g k fs f (cc) (split_last steps fs f (cc))
+
+module _ {X : Type 0} (r : Rules X) where
+  -- steps to one in the middle, and the steps from there
+  pub record Passes (x : X) (h : ℕ) (front : List Step) (step : Step) (rest : List Step) (y : X) (m : ℕ) : Type 0 where
+    pub middle : X
+    pub goes : Goes r x h (front ++ step ∷ []) middle (moment_of_step step)
+    pub then : Goes r middle (moment_of_step step) rest y m
+
+  -- steps go through the state after each of them
+  pub Goes-split : (x : X) (h : ℕ) (front : List Step) (step : Step) (rest : List Step) (y : X) (m : ℕ) → Goes r x h (front ++ step ∷ rest) y m → Passes x h front step rest y m
+  Goes-split x h [] step rest y m (z, low, does, goes) = record { middle = z; goes = (z, low, does, (refl, refl)); then = goes }
+  Goes-split x h (s ∷ front) step rest y m (z, low, does, goes) =
+      let p = Goes-split z (moment_of_step s) front step rest y m goes in record { middle = p.middle; goes = (z, low, does, p.goes); then = p.then }
+
+  -- steps to a state and steps from there are steps
+  pub Goes-join : (x : X) (h : ℕ) (front : List Step) (step : Step) (rest : List Step) (y : X) (m : ℕ) → Passes x h front step rest y m → Goes r x h (front ++ step ∷ rest) y m
+  Goes-join x h [] step rest y m p =
+      let (z, low, does, last) = p.goes in (z, low, does, subst (λ v. Goes r v (moment_of_step step) rest y m) last.0 p.then)
+  Goes-join x h (s ∷ front) step rest y m p =
+      let (z, low, does, goes) = p.goes in
+      (z, low, does, Goes-join z (moment_of_step s) front step rest y m (record { middle = p.middle; goes = goes; then = p.then }))
+
+  -- the last of several steps
+  pub record Lasts (x : X) (h : ℕ) (front : List Step) (step : Step) (y : X) : Type 0 where
+    pub before : X
+    pub at : ℕ
+    pub goes : Goes r x h front before at
+    pub low : at ≤ moment_of_step step
+    pub does : Does r before step y
+
+  -- steps are those before the last and the last
+  pub Goes-last : (x : X) (h : ℕ) (front : List Step) (step : Step) (y : X) → Goes r x h (front ++ step ∷ []) y (moment_of_step step) → Lasts x h front step y
+  Goes-last x h [] step y (z, low, does, last) = record { before = x; at = h; goes = (refl, refl); low = low; does = rw last.0 does }
+  Goes-last x h (s ∷ front) step y (z, low, does, goes) =
+      let l = Goes-last z (moment_of_step s) front step y goes in record { before = l.before; at = l.at; goes = (z, low, does, l.goes); low = l.low; does = l.does }
+
+  -- steps and one more are steps
+  pub Goes-push : (x : X) (h : ℕ) (front : List Step) (step : Step) (y : X) → Lasts x h front step y → Goes r x h (front ++ step ∷ []) y (moment_of_step step)
+  Goes-push x h [] step y l =
+      (y, subst (λ n. n ≤ moment_of_step step) l.goes.1 l.low, subst (λ v. Does r v step y) l.goes.0 l.does, (refl, refl))
+  Goes-push x h (s ∷ front) step y l =
+      let (z, low, does, goes) = l.goes in
+      (z, low, does, Goes-push z (moment_of_step s) front step y (record { before = l.before; at = l.at; goes = goes; low = l.low; does = l.does }))
+
+  -- a run to the last event, and the wait after it
+  wait_of_run : (fs : List Heard) (f : Heard) (m : ℕ) (y : X) (run : Run r (fs ++ f ∷ []) m y) → SplitAt run.steps fs f → Wait r (After r fs f) f.moment m y
+  wait_of_run fs f m y run s =
+      let p = Goes-split r.first 0 s.front (Takes f) (map Hides s.ends) y run.stands.last (subst (λ steps. Goes r r.first 0 steps y run.stands.last) s.is run.stands.goes) in
+      record {
+        start = p.middle;
+        begins = record { steps = s.front; goes = p.goes; takes = s.takes };
+        ends = s.ends;
+        stands = record { last = run.stands.last; goes = p.then; reached = run.stands.reached; waits = run.stands.waits };
+      }
+
+  -- a wait after the last event of a run is a run
+  run_of_wait : (fs : List Heard) (f : Heard) (m : ℕ) (y : X) → Wait r (After r fs f) f.moment m y → Run r (fs ++ f ∷ []) m y
+  run_of_wait fs f m y w =
+      record {
+        steps = w.begins.steps ++ Takes f ∷ map Hides w.ends;
+        stands = record {
+          last = w.stands.last;
+          goes = Goes-join r.first 0 w.begins.steps (Takes f) (map Hides w.ends) y w.stands.last (record { middle = w.start; goes = w.begins.goes; then = w.stands.goes });
+          reached = w.stands.reached;
+          waits = w.stands.waits;
+        };
+        takes = taken-append w.begins.steps (Takes f ∷ map Hides w.ends) ∙ ap (λ s. s ++ f ∷ taken (map Hides w.ends)) w.begins.takes ∙ ap (λ s. fs ++ f ∷ s) (taken-hides w.ends);
+      }
+
+  -- a run over events and one more is a wait from a last state of that one
+  pub Run-wait : (fs : List Heard) (f : Heard) (m : ℕ) (y : X) → Run r (fs ++ f ∷ []) m y ↔ Wait r (After r fs f) f.moment m y
+  Run-wait fs f m y = (λ run. wait_of_run fs f m y run (split_last run.steps fs f run.takes), run_of_wait fs f m y)
+
+  -- a run over no event is a wait from the first state
+  pub Run-wait_first : (m : ℕ) (y : X) → Run r [] m y ↔ Wait r (λ x. x ≡ r.first) 0 m y
+  Run-wait_first m y = (
+    λ run. let none = none_taken run.steps run.takes in
+        record { start = r.first; begins = refl; ends = none.0; stands = subst (λ steps. Reaches r r.first 0 steps y m) none.1 run.stands },
+    λ w. record { steps = map Hides w.ends; stands = subst (λ x. Reaches r x 0 (map Hides w.ends) y m) w.begins w.stands; takes = taken-hides w.ends },
+  )
+
+  -- the last states after one more event are what it gives from where the runs stand at its moment
+  pub After-run : (events : List Heard) (e : Heard) (y : X) → After r events e y ↔ Gives r (Run r events e.moment) e y
+  After-run events e y = (
+    λ after. let l = Goes-last r.first 0 after.steps (Takes e) y after.goes in
+        record {
+          before = l.before;
+          among = record { steps = after.steps; stands = record { last = l.at; goes = l.goes; reached = l.low; waits = l.does.0 }; takes = after.takes };
+          takes = l.does.1;
+        },
+    λ g. record {
+      steps = g.among.steps;
+      goes = let stands = g.among.stands in
+          Goes-push r.first 0 g.among.steps (Takes e) y
+          (record { before = g.before; at = stands.last; goes = stands.goes; low = stands.reached; does = (stands.waits, g.takes) });
+      takes = g.among.takes;
+    },
+  )
+
+  -- the last states after a first event are what it gives from where one waits in the first state
+  pub After-first : (e : Heard) (y : X) → After r [] e y ↔ Gives r (Wait r (λ x. x ≡ r.first) 0 e.moment) e y
+  After-first e y = (
+    λ after. let g = (After-run [] e y).0 after in record { before = g.before; among = (Run-wait_first e.moment g.before).0 g.among; takes = g.takes },
+    λ g. (After-run [] e y).1 (record { before = g.before; among = (Run-wait_first e.moment g.before).1 g.among; takes = g.takes }),
+  )
+
+  -- and those after one more are what it gives from where one waits in the last states before
+  pub After-next : (events : List Heard) (e f : Heard) (y : X) → After r (events ++ e ∷ []) f y ↔ Gives r (Wait r (After r events e) e.moment f.moment) f y
+  After-next events e f y = (
+    λ after. let g = (After-run (events ++ e ∷ []) f y).0 after in record { before = g.before; among = (Run-wait events e f.moment g.before).0 g.among; takes = g.takes },
+    λ g. (After-run (events ++ e ∷ []) f y).1 (record { before = g.before; among = (Run-wait events e f.moment g.before).1 g.among; takes = g.takes }),
+  )

@@ -1,0 +1,146 @@
+use Rattle.std.proofs.Common.{◌≡◌, ◌≢◌, ◌↔◌, ◌≤◌, ◌⊎◌, inl, inr, ℕ, Option, List, [], ◌∷◌, ◌++◌, All, AllPairs, Contains, map, get_or}
+use Rattle.std.proofs.lemmas.List.{map-append}
+use Rattle.std.proofs.lemmas.List.Elements.{All-nil, All-append, All-contains, Contains-get_or, Contains-append_left, Contains-append_right, Contains-append_cases, Contains-push, Contains-push_cases}
+use Rattle.sip_machine.specs.Texts.{Texts, IsBook}
+use Rattle.sip_machine.specs.Heard.{Heard}
+use Rattle.sip_machine.specs.Rules.{Rules, Waits, Knows, StandFor}
+use Rattle.sip_states.specs.inner.Ways.{SomeCanEnd, Covers, GivesFrom, GivesAfter}
+use Rattle.sip_states.proofs.Listed.{Contains-none, Contains-map, Contains-from_map}
+use Rattle.sip_states.proofs.Waiting.{Wait-stay, Wait-end, Wait-cases}
+use Rattle.sip_states.proofs.Following.{Follows, seen_ends, ends_seen, distinct_seen}
+
+-- How the code takes an event from a list of states.
+
+module _ {X S : Type 0} (names : S → List ℕ) (InRange : S → Type 0) (seen : Texts → S → X) (texts : Texts) where
+  -- states cover a set told otherwise
+  pub Covers-iff : (P Q : X → Type 0) → ((x : X) → P x ↔ Q x) → (xs : List S) → Covers names InRange seen texts P xs → Covers names InRange seen texts Q xs
+  Covers-iff P Q same xs c =
+      record { members = λ x. (λ h. (same x).0 ((c.members x).0 h), λ q. (c.members x).1 ((same x).1 q)); known = c.known; in_range = c.in_range }
+
+  -- two lists of states cover what either covers
+  pub Covers-append : (P Q : X → Type 0) (xs ys zs : List S) → Covers names InRange seen texts P xs → StandFor names InRange seen texts Q ys → zs ≡ xs ++ ys →
+      Covers names InRange seen texts (λ x. P x ⊎ Q x) zs
+  Covers-append P Q xs ys zs c s is =
+      record {
+        members = λ x. rw (is, map-append (seen texts) xs ys) (
+          λ h. elim (Contains-append_cases (map (seen texts) xs) (map (seen texts) ys) x h) [ inl first ↦ inl ((c.members x).0 first) | inr later ↦ inr ((s.members x).0 later) ],
+          λ h. elim h [
+            | inl p ↦ Contains-append_left (map (seen texts) xs) (map (seen texts) ys) x ((c.members x).1 p)
+            | inr q ↦ Contains-append_right (map (seen texts) xs) (map (seen texts) ys) x ((s.members x).1 q)
+          ],
+        );
+        known = rw is (All-append (Knows names texts) xs ys c.known s.known);
+        in_range = rw is (All-append InRange xs ys c.in_range s.in_range);
+      }
+
+  module _ (r : Rules X) (e : Heard) where
+    -- no states give none
+    pub gives_none : Covers names InRange seen texts (GivesFrom seen texts r [] e) []
+    gives_none =
+        record {
+          members = λ x. (λ h. absurd (Contains-none x h), λ g. absurd (Contains-none g.before g.among.0));
+          known = All-nil (Knows names texts);
+          in_range = All-nil InRange;
+        }
+
+    -- what one more state stands for comes last
+    seen_push : (xs : List S) (s : S) (z : X) → Contains (map (seen texts) (xs ++ s ∷ [])) z → Contains (map (seen texts) xs) z ⊎ (seen texts s ≡ z)
+    seen_push xs s z h = Contains-push_cases (map (seen texts) xs) (seen texts s) z (rw map-append at h)
+
+    -- what some states give, one more gives too
+    gives_still : (xs : List S) (s : S) (y : X) → GivesFrom seen texts r xs e y → GivesFrom seen texts r (xs ++ s ∷ []) e y
+    gives_still xs s y g =
+        record { before = g.before; among = (rw map-append (Contains-append_left (map (seen texts) xs) (seen texts s ∷ []) g.before g.among.0), g.among.1); takes = g.takes }
+
+    -- one more state that can wait gives what its step gives
+    gives_push : (xs : List S) (s : S) → Waits r (seen texts s) e.moment → (y : X) → (GivesFrom seen texts r xs e y ⊎ r.Take (seen texts s) e y) ↔ GivesFrom seen texts r (xs ++ s ∷ []) e y
+    gives_push xs s waits y = (
+      λ h. elim h [
+        | inl g ↦ gives_still xs s y g
+        | inr takes ↦ record { before = seen texts s; among = (rw map-append (Contains-push (map (seen texts) xs) (seen texts s)), waits); takes = takes }
+      ],
+      λ g. elim (seen_push xs s g.before g.among.0) [
+        | inl old ↦ inl (record { before = g.before; among = (old, g.among.1); takes = g.takes })
+        | inr same ↦ inr (rw same g.takes)
+      ],
+    )
+
+    -- so its successors come to those found
+    pub gives_more : (xs : List S) (s : S) (found added new : List S) → Waits r (seen texts s) e.moment → Covers names InRange seen texts (GivesFrom seen texts r xs e) found →
+        StandFor names InRange seen texts (r.Take (seen texts s) e) added → new ≡ found ++ added → Covers names InRange seen texts (GivesFrom seen texts r (xs ++ s ∷ []) e) new
+    gives_more xs s found added new waits c stands is =
+        Covers-iff (λ y. GivesFrom seen texts r xs e y ⊎ r.Take (seen texts s) e y) (GivesFrom seen texts r (xs ++ s ∷ []) e) (gives_push xs s waits) new
+        (Covers-append (GivesFrom seen texts r xs e) (r.Take (seen texts s) e) found added new c stands is)
+
+    -- one that cannot gives none
+    pub gives_same : (xs : List S) (s : S) (found : List S) → (Waits r (seen texts s) e.moment → ⊥) → Covers names InRange seen texts (GivesFrom seen texts r xs e) found →
+        Covers names InRange seen texts (GivesFrom seen texts r (xs ++ s ∷ []) e) found
+    gives_same xs s found over c =
+        Covers-iff (GivesFrom seen texts r xs e) (GivesFrom seen texts r (xs ++ s ∷ []) e)
+        (λ y. (
+          gives_still xs s y,
+          λ g. elim (seen_push xs s g.before g.among.0) [
+            | inl old ↦ record { before = g.before; among = (old, g.among.1); takes = g.takes }
+            | inr same ↦ absurd (over (rw same g.among.1))
+          ],
+        )) found c
+
+module _ {X S : Type 0} (names : S → List ℕ) (InRange : S → Type 0) (seen : Texts → S → X) (r : Rules X) (ended : S) (window : S → Option (ℕ × Option ℕ)) (until : S → Option ℕ)
+    (follows : Follows names seen r ended window until) (texts : Texts) (xs : List S) (h : ℕ) (e : Heard) (low : h ≤ e.moment) where
+  -- a state that can wait is one in which one can stand
+  stayed_gives : (y : X) → GivesFrom seen texts r xs e y → GivesAfter seen texts r xs h e y
+  stayed_gives y g =
+      record {
+        before = g.before;
+        among = Wait-stay r (Contains (map (seen texts) xs)) h e.moment g.before (record { among = g.among.0; reached = low; waits = g.among.1 });
+        takes = g.takes;
+      }
+
+  -- one can stand in those that can wait, and where one can end in the ended one
+  after_gives : (y : X) → GivesAfter seen texts r xs h e y → GivesFrom seen texts r xs e y ⊎ (SomeCanEnd window until h e.moment xs × r.Take (seen texts ended) e y)
+  after_gives y g =
+      elim ((Wait-cases r follows.lawful (Contains (map (seen texts) xs)) h e.moment g.before).0 g.among) [
+        | inl s ↦ inl (record { before = g.before; among = (s.among, s.waits); takes = g.takes })
+        | inr ends ↦ inr (ends_seen names InRange seen r ended window until follows texts xs h e.moment g.before ends, rw (follows.ended_is texts, ← ends.hides.gives) g.takes)
+      ]
+
+  -- where none can end, one stands in those that can wait alone
+  pub gives_stayed : (SomeCanEnd window until h e.moment xs → ⊥) → (found : List S) → Covers names InRange seen texts (GivesFrom seen texts r xs e) found →
+      Covers names InRange seen texts (GivesAfter seen texts r xs h e) found
+  gives_stayed none found c =
+      Covers-iff names InRange seen texts (GivesFrom seen texts r xs e) (GivesAfter seen texts r xs h e)
+      (λ y. (stayed_gives y, λ g. elim (after_gives y g) [ inl from ↦ from | inr ends ↦ absurd (none ends.0) ])) found c
+
+  -- where one can, the successors of the ended one come to those found
+  pub gives_ended : SomeCanEnd window until h e.moment xs → (found added new : List S) → Covers names InRange seen texts (GivesFrom seen texts r xs e) found →
+      StandFor names InRange seen texts (r.Take (seen texts ended) e) added → new ≡ found ++ added → Covers names InRange seen texts (GivesAfter seen texts r xs h e) new
+  gives_ended some found added new c stands is =
+      Covers-iff names InRange seen texts (λ y. GivesFrom seen texts r xs e y ⊎ r.Take (seen texts ended) e y) (GivesAfter seen texts r xs h e)
+      (λ y. (
+        λ ways. elim ways [
+          | inl from ↦ stayed_gives y from
+          | inr takes ↦ record {
+            before = seen texts ended;
+            among = rw (follows.ended_is texts) (Wait-end r follows.lawful (Contains (map (seen texts) xs)) h e.moment r.ended (seen_ends names InRange seen r ended window until follows texts xs h e.moment some));
+            takes = takes;
+          }
+        ],
+        λ g. elim (after_gives y g) [ inl from ↦ inl from | inr ends ↦ inr ends.1 ],
+      )) new
+      (Covers-append names InRange seen texts (GivesFrom seen texts r xs e) (r.Take (seen texts ended) e) found added new c stands is)
+
+  -- states that cover a set stand for it once each is there once
+  pub covers_stand : IsBook texts → (P : X → Type 0) (found new : List S) → Covers names InRange seen texts P found → ((x : S) → Contains new x ↔ Contains found x) →
+      AllPairs (λ x y. x ≢ y) new → StandFor names InRange seen texts P new
+  covers_stand book P found new c same apart =
+      let known : All (Knows names texts) new =
+      λ k d low. All-contains (Knows names texts) found (get_or new k d) c.known ((same (get_or new k d)).0 (Contains-get_or new k d low)) in
+      record {
+        members = λ x. (
+          λ k. let (s, member, is) = Contains-from_map (seen texts) new x k in (c.members x).0 (rw (← is) (Contains-map (seen texts) found s ((same s).0 member))),
+          λ p. let (s, member, is) = Contains-from_map (seen texts) found x ((c.members x).1 p) in rw (← is) (Contains-map (seen texts) new s ((same s).1 member)),
+        );
+        distinct = distinct_seen names InRange seen r ended window until follows texts book new known apart;
+        known = known;
+        in_range = λ k d low. All-contains InRange found (get_or new k d) c.in_range ((same (get_or new k d)).0 (Contains-get_or new k d low));
+      }

@@ -1,0 +1,97 @@
+use Rattle.std.proofs.Common.{◌≡◌, ◌≤◌, ◌↔◌, ◌⊎◌, inl, inr, ℕ, Option, Some, None, List, [], ◌∷◌, map, refl, sym, subst, arith}
+use Rattle.sip_machine.specs.Limits.{IsWithin, IsOpenAt}
+use Rattle.sip_machine.specs.Heard.{Heard}
+use Rattle.sip_machine.specs.Rules.{Rules, IsLawful, Waits, Hide}
+use Rattle.sip_states.specs.Runs.{Hides, Reaches, Wait, Gives}
+
+-- Waits: since the ended state has no end, at most one hidden step matters.
+
+-- y is in S and stays from h to m
+pub record StaysFrom {X : Type 0} (r : Rules X) (S : X → Type 0) (h m : ℕ) (y : X) : Type 0 where
+  pub among : S y
+  pub reached : h ≤ m
+  pub waits : Waits r y m
+
+-- y is the end of a state of S at a moment from h to m
+pub record EndsFrom {X : Type 0} (r : Rules X) (S : X → Type 0) (h m : ℕ) (y : X) : Type 0 where
+  pub start : X
+  pub among : S start
+  pub at : ℕ
+  pub after : h ≤ at
+  pub before : at ≤ m
+  pub hides : Hide r start at y
+
+-- what is within a limit is within it at an earlier moment
+pub IsWithin-earlier : (m n : ℕ) (limit : Option ℕ) → m ≤ n → IsWithin n limit → IsWithin m limit
+IsWithin-earlier m n None low h = tt
+IsWithin-earlier m n (Some last) low h = omega arith
+
+-- every moment is within no limit
+pub IsWithin-none : (m : ℕ) (limit : Option ℕ) → limit ≡ None → IsWithin m limit
+IsWithin-none m limit e = rw e tt
+
+-- no moment is in no window
+pub IsOpenAt-none : (m : ℕ) (window : Option (ℕ × Option ℕ)) → window ≡ None → IsOpenAt m window → ⊥
+IsOpenAt-none m window e h = rw e at h
+
+module _ {X : Type 0} (r : Rules X) where
+  -- waiting in a state is a wait
+  pub Wait-stay : (S : X → Type 0) (h m : ℕ) (y : X) → StaysFrom r S h m y → Wait r S h m y
+  Wait-stay S h m y stays =
+      record { start = y; begins = stays.among; ends = []; stands = record { last = h; goes = (refl, refl); reached = stays.reached; waits = stays.waits } }
+
+  -- the same from a wait's start on, from states of which the same holds
+  pub Wait-iff : (S T : X → Type 0) → ((x : X) → S x ↔ T x) → (h m : ℕ) (y : X) → Wait r S h m y ↔ Wait r T h m y
+  Wait-iff S T same h m y = (
+    λ w. record { start = w.start; begins = (same w.start).0 w.begins; ends = w.ends; stands = w.stands },
+    λ w. record { start = w.start; begins = (same w.start).1 w.begins; ends = w.ends; stands = w.stands },
+  )
+
+  -- an event gives the same from the same states
+  pub Gives-iff : (S T : X → Type 0) → ((x : X) → S x ↔ T x) → (e : Heard) (y : X) → Gives r S e y ↔ Gives r T e y
+  Gives-iff S T same e y = (
+    λ g. record { before = g.before; among = (same g.before).0 g.among; takes = g.takes },
+    λ g. record { before = g.before; among = (same g.before).1 g.among; takes = g.takes },
+  )
+
+module _ {X : Type 0} (r : Rules X) (lawful : IsLawful r) where
+  -- an end is a wait
+  pub Wait-end : (S : X → Type 0) (h m : ℕ) (y : X) → EndsFrom r S h m y → Wait r S h m y
+  Wait-end S h m y ended =
+      record {
+        start = ended.start;
+        begins = ended.among;
+        ends = ended.at ∷ [];
+        stands = record {
+          last = ended.at;
+          goes = (y, ended.after, ended.hides, (refl, refl));
+          reached = ended.before;
+          waits = IsWithin-none m (r.until y) (rw ended.hides.gives lawful.ended_stays);
+        };
+      }
+
+  -- the ended state does not end again
+  pub ends_once : (x : X) (h k : ℕ) (y z : X) → Hide r x h y → Hide r y k z → ⊥
+  ends_once x h k y z first second = IsOpenAt-none k (r.window y) (rw first.gives lawful.ended_has_no_end) second.opened
+
+  -- hidden steps are none or one
+  hidden : (S : X → Type 0) (h m : ℕ) (y : X) (x : X) → S x → (ends : List ℕ) → Reaches r x h (map Hides ends) y m → StaysFrom r S h m y ⊎ EndsFrom r S h m y
+  hidden S h m y x among [] stands =
+      inl (record { among = subst S (sym stands.goes.0) among; reached = let e = stands.goes.1 in let k = stands.reached in omega arith; waits = stands.waits })
+  hidden S h m y x among (t ∷ []) stands =
+      let (z, low, hides, rest) = stands.goes in
+      inr
+      (record {
+        start = x;
+        among = among;
+        at = t;
+        after = low;
+        before = let e = rest.1 in let k = stands.reached in omega arith;
+        hides = rw rest.0 hides;
+      })
+  hidden S h m y x among (t ∷ u ∷ ts) stands =
+      let (z, low, first, more) = stands.goes in let (v, _, second, _) = more in absurd (ends_once x t u z v first second)
+
+  -- a wait stays in its first state, or ends it once
+  pub Wait-cases : (S : X → Type 0) (h m : ℕ) (y : X) → Wait r S h m y ↔ (StaysFrom r S h m y ⊎ EndsFrom r S h m y)
+  Wait-cases S h m y = (λ w. hidden S h m y w.start w.begins w.ends w.stands, λ c. elim c [ inl s ↦ Wait-stay r S h m y s | inr e ↦ Wait-end S h m y e ])

@@ -1,0 +1,3 @@
+pub mod Toy
+pub mod ToyLaws
+pub mod Ways

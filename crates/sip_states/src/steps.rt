@@ -1,0 +1,39 @@
+//! What an event gives from states.
+ghost use Rattle.std.specs.Prelude.{◌≡◌, ◌≤◌, [], All, OnOk};
+ghost use Rattle.sip_machine.specs.Heard.{FitsBook, heard};
+ghost use Rattle.sip_machine.specs.Rules.{Knows};
+ghost use Rattle.sip_states.specs.inner.Ways.{Covers, GivesAfter};
+
+use crate::ends::{is_within, some_can_end};
+use sip_machine::{Book, Event, Machine};
+use std::alloc::AllocError;
+
+/// Finds the states that the event gives from those in which one can stand at its moment, after
+/// standing in one of `states` at `from`; some may be found more than once.
+pub(crate) fn find_given<M: Machine>(
+    machine: &M,
+    book: &Book,
+    states: &[M::State],
+    from: u64,
+    event: &Event,
+    found: &mut Vec<M::State>,
+) -> Result<(), AllocError>
+    requires order { from ≤ event.now.moment }
+    requires fits { FitsBook book.now event.now }
+    requires known { All (Knows M.names book.now) states.now }
+    requires in_range { All M.in_range states.now }
+    requires none { found.old.items ≡ [] }
+    ensures { OnOk result (Covers M.names M.in_range M.seen book.now
+        (GivesAfter M.seen book.now (M.rules machine.now) states.now from (heard book.now event.now)) found.new.items) }
+{
+    let to = event.moment();
+    for state in states {
+        if is_within(to, machine.until(state)) {
+            machine.successors(book, state, event, found)?;
+        }
+    }
+    if some_can_end(machine, states, from, to) {
+        machine.successors(book, &machine.ended(), event, found)?;
+    }
+    Ok(())
+}

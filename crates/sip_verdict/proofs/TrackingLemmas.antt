@@ -1,0 +1,86 @@
+-- What is kept of transactions before and after an entry passes.
+use Rattle.std.proofs.Common.{◌≡◌, inl, inr, ℕ, ◌+◌, false, None, List, [], ◌∷◌, ◌++◌, All, Contains, map, length, refl, sym, ap, ◌∙◌, subst}
+use Rattle.std.specs.Prelude.{fold}
+use Rattle.std.specs.List.{list_any}
+use Rattle.std.proofs.lemmas.List.{map-append}
+use Rattle.std.proofs.lemmas.List.Elements.{All-nil, All-map, All-weaker, All-push}
+use Rattle.sip_verdict.specs.declared.verdict.Verdict.TheVariants.{Breach, Undecided}
+use Rattle.sip_verdict.specs.Keyed.{Observation, Machines, with_key, keys_of, HasRun}
+use Rattle.sip_verdict.specs.Verdicts.{IsFirst, IsTooWide, IsGood, IsTrouble}
+use Rattle.sip_verdict.specs.inner.Tracking.{Keeping, IsReady, Tracks, TracksBefore, GoesOn, IsTouched}
+use Rattle.sip_verdict.proofs.Keys.{IsExact, cond_true, cond_false, keys_of-push, new_key, contains-among, not_among}
+use Rattle.sip_verdict.proofs.Unique.{good-nil, good-push}
+
+module _ {K T : Type 0} (m : Machines K) (k : Keeping K T) where
+  -- no transaction is kept of no entry
+  pub tracks_none : Tracks m k [] []
+  tracks_none = record { keys = refl; ready = All-nil (IsReady m k []); good = good-nil m }
+
+  module _ (es : List (Observation K)) (e : Observation K) where
+    -- an entry that concerns no key passes the transactions that are there
+    pub before_none : (ts : List T) → e.keys ≡ [] → Tracks m k es ts → TracksBefore m k es e ts
+    before_none ts none s = record {
+      keys = s.keys ∙ sym (keys_of-push m es e ∙ ap (fold (with_key m.same) (keys_of m es)) none);
+      ready = s.ready;
+      good = s.good;
+    }
+
+    module _ (exact : IsExact m) (fresh : T) (starts : k.Leads fresh []) (own : e.keys ≡ k.key fresh ∷ []) (old new : List T)
+        (keys : map k.key old ≡ keys_of m es) (ready : All (IsReady m k es) old) (good : IsGood m es) where
+      -- the keys of the entries and of this one
+      keys_with : keys_of m (es ++ e ∷ []) ≡ with_key m.same (keys_of m es) (k.key fresh)
+      keys_with = keys_of-push m es e ∙ ap (fold (with_key m.same) (keys_of m es)) own
+
+      -- the transactions of an entry with one key, which was touched
+      pub before_touched : IsTouched k fresh old new → TracksBefore m k es e new
+      before_touched (inl h) = record {
+        keys = ap (map k.key) h.0 ∙ keys ∙ sym (keys_with ∙ known);
+        ready = subst (All (IsReady m k es)) (sym h.0) ready;
+        good = good;
+      }
+        where
+          known : with_key m.same (keys_of m es) (k.key fresh) ≡ keys_of m es
+          known = cond_true (list_any (m.same (k.key fresh)) (keys_of m es)) (keys_of m es) (keys_of m es ++ k.key fresh ∷ [])
+              (contains-among m exact (k.key fresh) (keys_of m es) (subst (λ ks. Contains ks (k.key fresh)) keys h.1))
+      before_touched (inr h) = record {
+        keys = ap (map k.key) h.1 ∙ map-append k.key old (fresh ∷ []) ∙ ap (λ ks. ks ++ k.key fresh ∷ []) keys ∙ sym (keys_with ∙ unknown);
+        ready = subst (All (IsReady m k es)) (sym h.1) (All-push (IsReady m k es) old fresh ready (subst (k.Leads fresh) (sym (new_key m exact (k.key fresh) es none)) starts));
+        good = good;
+      }
+        where
+          none : list_any (m.same (k.key fresh)) (keys_of m es) ≡ false
+          none = not_among m exact (k.key fresh) (keys_of m es) (λ there. h.0 (subst (λ ks. Contains ks (k.key fresh)) (sym keys) there))
+
+          unknown : with_key m.same (keys_of m es) (k.key fresh) ≡ keys_of m es ++ k.key fresh ∷ []
+          unknown = cond_false (list_any (m.same (k.key fresh)) (keys_of m es)) (keys_of m es) (keys_of m es ++ k.key fresh ∷ []) none
+
+    module _ (k2 : Keeping K T) (old new : List T) (before : TracksBefore m k2 es e old) (same : map k.key new ≡ map k2.key old) where
+      -- every transaction goes on: the entries are tracked
+      pub judged_fine : e.fault ≡ None → All (GoesOn m k es e) new → Tracks m k (es ++ e ∷ []) new
+      judged_fine formed goes = record {
+        keys = same ∙ before.keys;
+        ready = All-weaker (GoesOn m k es e) (IsReady m k (es ++ e ∷ [])) (λ t g. g.ready) new goes;
+        good = good-push m es e before.good (record {
+          formed = formed;
+          runs = subst (All (λ key. HasRun m key (es ++ e ∷ []))) (same ∙ before.keys)
+              (All-map (λ key. HasRun m key (es ++ e ∷ [])) k.key new (All-weaker (GoesOn m k es e) (λ t. HasRun m (k.key t) (es ++ e ∷ [])) (λ t g. g.runs) new goes));
+          narrow = subst (All (λ key. ¬ IsTooWide m es e key)) (same ∙ before.keys)
+              (All-map (λ key. ¬ IsTooWide m es e key) k.key new (All-weaker (GoesOn m k es e) (λ t. ¬ IsTooWide m es e (k.key t)) (λ t g. g.narrow) new goes));
+        });
+      }
+
+      -- one has no run: a breach
+      pub judged_breach : (number transaction : ℕ) → number ≡ length es + 1 → e.fault ≡ None → IsFirst (λ key. ¬ HasRun m key (es ++ e ∷ [])) (map k.key new) transaction
+          → IsTrouble m es e (Breach number transaction)
+      judged_breach number transaction counts formed first =
+          (counts, formed, subst (λ keys. IsFirst (λ key. ¬ HasRun m key (es ++ e ∷ [])) keys transaction) (same ∙ before.keys) first)
+
+      -- one is too wide, and each has a run: undecided
+      pub judged_undecided : (number transaction : ℕ) → number ≡ length es + 1 → e.fault ≡ None
+          → All (λ key. HasRun m key (es ++ e ∷ [])) (map k.key new) → IsFirst (IsTooWide m es e) (map k.key new) transaction → IsTrouble m es e (Undecided number transaction)
+      judged_undecided number transaction counts formed runs first = (
+        counts,
+        formed,
+        subst (All (λ key. HasRun m key (es ++ e ∷ []))) (same ∙ before.keys) runs,
+        subst (λ keys. IsFirst (IsTooWide m es e) keys transaction) (same ∙ before.keys) first,
+      )

@@ -1,0 +1,59 @@
+use Rattle.std.specs.Prelude.{◌≡◌, ◌+◌, ◌⊎◌, [], ◌∷◌, ◌++◌, ℕ, None, List, length, All}
+use Rattle.sip_machine.specs.Times.{Times}
+use Rattle.sip_verdict.specs.declared.log_reason.LogReason.TheVariants.{Header}
+use Rattle.sip_verdict.specs.declared.verdict.Verdict.{Verdict}
+use Rattle.sip_verdict.specs.declared.verdict.Verdict.TheVariants.{Legal, LogFault}
+use Rattle.sip_verdict.specs.Entry.{Item}
+use Rattle.sip_verdict.specs.Log.{LogEnd, Clean, Stops, Faulty, Holds, IsLogOf}
+use Rattle.sip_verdict.specs.Keyed.{Observation, Machines, keys_of}
+use Rattle.sip_verdict.specs.Verdicts.{AllRun, IsGood, IsTrouble}
+
+-- The verdict of an input of any bytes, whatever its messages are.
+
+-- how a log is read: the machines of its keys with these times, and what is observed of an entry behind others
+pub record Reading (K : Type 0) : Type 1 where
+  pub machines : Times → Machines K
+  pub Observes : List (Observation K) → Item → Observation K → Type 0
+
+-- what is observed of the entries, one behind another, behind these
+abbrev pub AreObserved : {K : Type 0} → Reading K → List (Observation K) → List Item → List (Observation K) → Type 0
+AreObserved r before [] [] = Unit {0}
+AreObserved r before [] (e ∷ es) = ⊥
+AreObserved r before (item ∷ items) [] = ⊥
+AreObserved r before (item ∷ items) (e ∷ es) = r.Observes before item e × AreObserved r (before ++ e ∷ []) items es
+
+-- the log of the input has these times, begins with entries of which this is observed, none of them in trouble, and goes on and ends so
+pub record BeginsWell {K : Type 0} (r : Reading K) (input : List ℕ) (times : Times) (es : List (Observation K)) (rest : List Item) (end : LogEnd) : Type 0 where
+  pub items : List Item
+  pub log : IsLogOf input (Holds times (items ++ rest) end)
+  pub observed : AreObserved r [] items es
+  pub good : IsGood (r.machines times) es
+
+-- the verdict behind entries in no trouble: that of the next one, which is in trouble; that the log is legal; or that the next one cannot be read
+abbrev pub IsVerdictAfter : {K : Type 0} → Reading K → Times → List (Observation K) → List Item → LogEnd → Verdict → Type 0
+IsVerdictAfter {K} r times es (item ∷ rest) end v = (e : Observation K) × r.Observes es item e × IsTrouble (r.machines times) es e v
+IsVerdictAfter r times es [] Clean v = v ≡ Legal (length es) (length (keys_of (r.machines times) es))
+IsVerdictAfter r times es [] (Stops reason) v = v ≡ LogFault (length es + 1) reason
+
+-- the verdict of an input with a header
+pub record IsVerdictOfEntries {K : Type 0} (r : Reading K) (input : List ℕ) (v : Verdict) : Type 0 where
+  pub times : Times
+  pub es : List (Observation K)
+  pub rest : List Item
+  pub end : LogEnd
+  pub begins : BeginsWell r input times es rest end
+  pub next : IsVerdictAfter r times es rest end v
+
+-- the verdict of an input: that of its header, or of its entries
+abbrev pub IsVerdictBy : {K : Type 0} → Reading K → List ℕ → Verdict → Type 0
+IsVerdictBy r input v = (IsLogOf input Faulty × (v ≡ LogFault 0 Header)) ⊎ IsVerdictOfEntries r input v
+
+-- the log of an input is read whole and has this many entries and keys; no entry has a fault, and each key has a run over them
+pub record HasRuns {K : Type 0} (r : Reading K) (input : List ℕ) (entries transactions : ℕ) : Type 0 where
+  pub times : Times
+  pub es : List (Observation K)
+  pub whole : BeginsWell r input times es [] Clean
+  pub entries_are : length es ≡ entries
+  pub transactions_are : length (keys_of (r.machines times) es) ≡ transactions
+  pub formed : All (λ e. e.fault ≡ None) es
+  pub runs : AllRun (r.machines times) es

@@ -1,0 +1,67 @@
+use Rattle.std.specs.Prelude.{◌≡◌, ◌≤◌, ◌⊎◌, ◌++◌, [], ◌∷◌, ℕ, Option, Some, None, List, All, Contains, map}
+use Rattle.sip_machine.specs.Heard.{Heard}
+use Rattle.sip_verdict.specs.declared.verdict.Verdict.{Verdict}
+use Rattle.sip_verdict.specs.declared.passing.Fate.{Fate}
+use Rattle.sip_verdict.specs.declared.passing.Fate.TheVariants.{Runs, NoRun, TooWide}
+use Rattle.sip_verdict.specs.declared.passing.Outcome.{Outcome}
+use Rattle.sip_verdict.specs.declared.passing.Outcome.TheVariants as all
+use Rattle.sip_verdict.specs.Keyed.{Observation, Machines, keys_of, events_of, HasRun}
+use Rattle.sip_verdict.specs.Verdicts.{IsFirst, IsTooWide, IsGood, IsTrouble}
+
+-- How what is kept of transactions follows the entries of a log, for any keys, machines and sets.
+
+-- the key of what is kept, and whether it leads to where the runs of its key over the events stand
+pub record Keeping (K T : Type 0) : Type 1 where
+  pub key : T → K
+  pub Leads : T → List Heard → Type 0
+
+-- it leads to the runs of its key over the entries
+abbrev pub IsReady : {K T : Type 0} → Machines K → Keeping K T → List (Observation K) → T → Type 0
+IsReady m k es t = k.Leads t (events_of m (k.key t) es)
+
+-- the transactions are those of the entries, and lead to their runs over these; no entry is in trouble
+pub record Tracks {K T : Type 0} (m : Machines K) (k : Keeping K T) (es : List (Observation K)) (ts : List T) : Type 0 where
+  pub keys : map k.key ts ≡ keys_of m es
+  pub ready : All (IsReady m k es) ts
+  pub good : IsGood m es
+
+-- the transactions are those of the entries and of one more, which they did not pass yet
+pub record TracksBefore {K T : Type 0} (m : Machines K) (k : Keeping K T) (es : List (Observation K)) (e : Observation K) (ts : List T) : Type 0 where
+  pub keys : map k.key ts ≡ keys_of m (es ++ e ∷ [])
+  pub ready : All (IsReady m k es) ts
+  pub good : IsGood m es
+
+-- what is judged of an entry behind others: it is in no trouble, or this is its verdict
+abbrev pub IsJudged : {K T : Type 0} → Machines K → Keeping K T → List (Observation K) → Observation K → List T → Option Verdict → Type 0
+IsJudged m k es e ts None = Tracks m k (es ++ e ∷ []) ts
+IsJudged m k es e ts (Some verdict) = IsTrouble m es e verdict
+
+-- the key has a run over the entries and one more, is not too wide, and its transaction leads on
+pub record GoesOn {K T : Type 0} (m : Machines K) (k : Keeping K T) (es : List (Observation K)) (e : Observation K) (t : T) : Type 0 where
+  pub runs : HasRun m (k.key t) (es ++ e ∷ [])
+  pub narrow : ¬ IsTooWide m es e (k.key t)
+  pub ready : IsReady m k (es ++ e ∷ []) t
+
+-- what one more entry leaves of the runs of one transaction
+abbrev pub IsPassed : {K T : Type 0} → Machines K → Keeping K T → List (Observation K) → Observation K → T → Fate → Type 0
+IsPassed m k es e t Runs = GoesOn m k es e t
+IsPassed m k es e t NoRun = ¬ HasRun m (k.key t) (es ++ e ∷ [])
+IsPassed m k es e t TooWide = HasRun m (k.key t) (es ++ e ∷ []) × IsTooWide m es e (k.key t)
+
+-- what it leaves of those of all, with the number of the first transaction in trouble
+abbrev pub IsOutcome : {K T : Type 0} → Machines K → Keeping K T → List (Observation K) → Observation K → List T → Outcome → Type 0
+IsOutcome m k es e ts all.Fine = All (GoesOn m k es e) ts
+IsOutcome m k es e ts (all.NoRun number) = IsFirst (λ key. ¬ HasRun m key (es ++ e ∷ [])) (map k.key ts) number
+IsOutcome m k es e ts (all.TooWide number) =
+    All (λ key. HasRun m key (es ++ e ∷ [])) (map k.key ts) × IsFirst (IsTooWide m es e) (map k.key ts) number
+
+-- the number of an outcome is that of a transaction
+abbrev pub IsNumbered : ℕ → Outcome → Type 0
+IsNumbered count all.Fine = Unit {0}
+IsNumbered count (all.NoRun number) = number ≤ count
+IsNumbered count (all.TooWide number) = number ≤ count
+
+-- one of the transactions has the key, or this one comes last, which has it
+abbrev pub IsTouched : {K T : Type 0} → Keeping K T → T → List T → List T → Type 0
+IsTouched k fresh old new =
+    ((new ≡ old) × Contains (map k.key old) (k.key fresh)) ⊎ (¬ Contains (map k.key old) (k.key fresh) × (new ≡ old ++ fresh ∷ []))

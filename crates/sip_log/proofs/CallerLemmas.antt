@@ -1,0 +1,210 @@
+-- What a caller of `next` knows of the whole input, call after call.
+use Rattle.std.proofs.Common.{◌≡◌, ◌≢◌, ◌⊎◌, inl, inr, ◌<◌, ◌≤◌, ◌+◌, ℕ, suc, Bool, List, [], ◌∷◌, ◌++◌, length, Option, Some, None, IfSome, IsSome, Result, Ok, Err, refl, subst, sym, ap, ◌∙◌, arith, append_assoc}
+use Rattle.std.specs.Prelude.{flat_map}
+use Rattle.std.proofs.lemmas.List.{append-nil, length_push}
+use Rattle.sip_machine.specs.Times.{Times, AreTimes}
+use Rattle.sip_log.specs.declared.entry.Entry.{Entry}
+use Rattle.sip_log.specs.declared.log_error.LogError.{LogError}
+use Rattle.sip_log.specs.LogFault.{LogFault}
+use Rattle.sip_log.specs.LogFault as faults
+use Rattle.sip_log.specs.Next.{Next, ends, gives, stops}
+use Rattle.sip_log.specs.Spelling.{Item, header_text, entry_text}
+use Rattle.sip_log.specs.Log.{IsEntry, most_entries, ComesNext, InOrder, last_of, LogEnd, Clean, Stops, next_at, NoHeader, IsLog, Log, Faulty, Holds, IsLogOf}
+use Rattle.sip_log.specs.Told.{FailsAs, item, next_of}
+use Rattle.sip_log.specs.Reading.{Stage, fresh, entries, ended, failed, Reading, Moves, ComesFirst, Comes, Steps, NextsAt, Nexts}
+use Rattle.sip_log.proofs.ReadingLemmas.{FailsAs-map}
+
+-- the spelling of a header and of these entries stands at the front of an input, and this rest behind it
+pub record Begins (input : List ℕ) (p : Times) (items : List Item) (rest : List ℕ) : Type 0 where
+  pub times : AreTimes p
+  pub spelled : input ≡ header_text p ++ (flat_map entry_text items ++ rest)
+  pub few : length items ≤ most_entries
+  pub order : InOrder 0 items
+
+-- these times and entries were read of an input, where its bytes are known, and so much is left
+abbrev pub HasRead : Option (List ℕ) → Option Times → List Item → Option (List ℕ) → Type 0
+HasRead start None items left = ⊥
+HasRead start (Some p) items left = IfSome start (λ input. (rest : List ℕ) × (left ≡ Some rest) × Begins input p items rest)
+
+-- what is known of a reader that was made for an input: nothing was read yet, or these entries were
+abbrev pub StandsAt : Stage → Option (List ℕ) → List Item → Reading → Type 0
+StandsAt fresh start items now = (items ≡ []) × (now.left ≡ start) × (now.times ≡ None) × (now.count ≡ 0) × (now.last ≡ 0)
+StandsAt entries start items now = HasRead start now.times items now.left × (now.count ≡ length items) × (now.last ≡ last_of 0 items)
+StandsAt ended start items now = Unit {0}
+StandsAt failed start items now = Unit {0}
+
+abbrev pub Stands : Option (List ℕ) → List Item → Reading → Type 0
+Stands start items now = StandsAt now.stage start items now
+
+InOrder-push : (last : ℕ) (items : List Item) (e : Item) → InOrder last items → last_of last items ≤ e.moment → IsEntry e → InOrder last (items ++ e ∷ [])
+InOrder-push last [] e order late entry = (late, entry, tt)
+InOrder-push last (x ∷ xs) e order late entry = (order.0, order.1, InOrder-push x.moment xs e order.2 late entry)
+
+last_of-push : (last : ℕ) (items : List Item) (e : Item) → last_of last (items ++ e ∷ []) ≡ e.moment
+last_of-push last [] e = refl
+last_of-push last (x ∷ xs) e = last_of-push x.moment xs e
+
+texts-push : (items : List Item) (e : Item) (behind : List ℕ) → flat_map entry_text items ++ (entry_text e ++ behind) ≡ flat_map entry_text (items ++ e ∷ []) ++ behind
+texts-push [] e behind = ap (λ (t : List ℕ). t ++ behind) (sym (append-nil (entry_text e)))
+texts-push (x ∷ xs) e behind =
+    append_assoc (entry_text x) (flat_map entry_text xs) (entry_text e ++ behind)
+    ∙ ap (λ (t : List ℕ). entry_text x ++ t) (texts-push xs e behind)
+    ∙ sym (append_assoc (entry_text x) (flat_map entry_text (xs ++ e ∷ [])) behind)
+
+module _ (input : List ℕ) (p : Times) (items : List Item) (rest : List ℕ) (is : Begins input p items rest) where
+  -- one more entry
+  pub Begins-push : (e : Item) (behind : List ℕ) → ComesNext (length items) (last_of 0 items) rest (gives e behind) → Begins input p (items ++ e ∷ []) behind
+  Begins-push e behind next = record {
+    times = is.times;
+    spelled = is.spelled ∙ ap (λ (t : List ℕ). header_text p ++ (flat_map entry_text items ++ t)) next.0 ∙ ap (λ (t : List ℕ). header_text p ++ t) (texts-push items e behind);
+    few = omega (arith, length_push items e, next.1);
+    order = InOrder-push 0 items e is.order next.2 next.3;
+  }
+
+  -- and then the end
+  pub Begins-ends : (end : LogEnd) → ComesNext (length items) (last_of 0 items) rest (next_at end) → IsLog input p items end
+  Begins-ends end next = record { times = is.times; rest = rest; spelled = is.spelled; few = is.few; order = is.order; next = next }
+
+-- a header, and nothing behind it yet
+pub Begins-header : (input : List ℕ) (p : Times) (behind : List ℕ) → AreTimes p → input ≡ header_text p ++ behind → Begins input p [] behind
+Begins-header input p behind times is = record { times = times; spelled = is; few = omega arith; order = tt }
+
+-- neither the end was told nor an error
+abbrev pub GoesOn : Reading → Type 0
+GoesOn now = (now.stage ≡ fresh) ⊎ (now.stage ≡ entries)
+
+-- What each answer of `next` adds.
+
+module _ (start : Option (List ℕ)) (items : List Item) (old new : Reading) where
+  -- the times of the header stay
+  same-times : (t : Option Times) → HasRead start t items old.left → IfSome t (λ p. new.times ≡ Some p) → new.times ≡ t
+  same-times None has kept = absurd has
+  same-times (Some p) has kept = kept
+
+  -- an entry was given
+  module _ (e : Entry) where
+    closed : Moves old.count old.last new (Ok (Some e)) → HasRead start new.times (items ++ item e ∷ []) new.left → old.count ≡ length items → Stands start (items ++ item e ∷ []) new
+    closed moves has counts =
+        subst (λ s. StandsAt s start (items ++ item e ∷ []) new) (sym moves.0)
+        (has, moves.2 ∙ moves.1.number_is ∙ ap (λ n. n + 1) counts ∙ sym (length_push items (item e)), moves.3 ∙ sym (last_of-push 0 items (item e)))
+
+    gave-first : (t : Option Times) (s : Option (List ℕ)) → items ≡ [] → IsSome t → IfSome s (λ xs. (ys : List ℕ) × (new.left ≡ Some ys) × ComesFirst t xs (gives (item e) ys)) → HasRead s t (items ++ item e ∷ []) new.left
+    gave-first None s none some says = cc
+    gave-first (Some p) None none some says = tt
+    gave-first (Some p) (Some xs) none some (ys, left, (behind, times, spelled, next)) =
+        (ys, left, subst (λ is. Begins xs p (is ++ item e ∷ []) ys) (sym none) (Begins-push xs p [] behind (Begins-header xs p behind times spelled) (item e) ys next))
+
+    gave-next : (t : Option Times) (s : Option (List ℕ)) → old.count ≡ length items → old.last ≡ last_of 0 items → HasRead s t items old.left
+        → IfSome old.left (λ xs. (ys : List ℕ) × (new.left ≡ Some ys) × ComesNext old.count old.last xs (gives (item e) ys)) → HasRead s t (items ++ item e ∷ []) new.left
+    gave-next None s counts moment has says = absurd has
+    gave-next (Some p) None counts moment has says = tt
+    gave-next (Some p) (Some input) counts moment (rest, left, begins) says =
+        let n = subst (λ o. IfSome o (λ xs. (ys : List ℕ) × (new.left ≡ Some ys) × ComesNext old.count old.last xs (gives (item e) ys))) left says in
+        let next = subst (λ c. ComesNext c (last_of 0 items) rest (gives (item e) n.0)) counts (subst (λ m. ComesNext old.count m rest (gives (item e) n.0)) moment n.2) in
+        (n.0, n.1, Begins-push input p items rest begins (item e) n.0 next)
+
+    gave-at : (s : Stage) → old.stage ≡ s → StandsAt s start items old → NextsAt s old new (Ok (Some e)) → Stands start (items ++ item e ∷ []) new
+    gave-at fresh at h steps =
+        let says = subst (λ s. IfSome old.left (λ xs. (ys : List ℕ) × (new.left ≡ Some ys) × Comes s old new.times xs (gives (item e) ys))) at steps.says.1 in
+        closed steps.moves (gave-first new.times start h.0 steps.times (subst (λ o. IfSome o (λ xs. (ys : List ℕ) × (new.left ≡ Some ys) × ComesFirst new.times xs (gives (item e) ys))) h.1 says))
+        (h.3 ∙ sym (ap length h.0))
+    gave-at entries at h steps =
+        let says = subst (λ s. IfSome old.left (λ xs. (ys : List ℕ) × (new.left ≡ Some ys) × Comes s old new.times xs (gives (item e) ys))) at steps.says.1 in
+        let same = same-times old.times h.0 steps.kept in
+        closed steps.moves (gave-next new.times start h.1 h.2 (subst (λ t. HasRead start t items old.left) (sym same) h.0) says) h.1
+    gave-at ended at h again = cc
+    gave-at failed at h again = cc
+
+    pub Stands-gives : Stands start items old → Nexts old new (Ok (Some e)) → Stands start (items ++ item e ∷ []) new
+    Stands-gives stands nexts = gave-at old.stage refl stands nexts
+
+  -- the end: these are all entries of the log
+  ended-first : (t : Option Times) (s : Option (List ℕ)) → items ≡ [] → IsSome t → IfSome s (λ xs. (ys : List ℕ) × (new.left ≡ Some ys) × ComesFirst t xs ends) → IfSome s (λ input. IfSome t (λ p. IsLog input p items Clean))
+  ended-first None s none some says = cc
+  ended-first (Some p) None none some says = tt
+  ended-first (Some p) (Some xs) none some (ys, left, (behind, times, spelled, next)) =
+      subst (λ is. IsLog xs p is Clean) (sym none) (Begins-ends xs p [] behind (Begins-header xs p behind times spelled) Clean next)
+
+  ended-next : (t : Option Times) (s : Option (List ℕ)) → HasRead s t items old.left → IfSome old.left (λ xs. (ys : List ℕ) × (new.left ≡ Some ys) × (xs ≡ [])) → IfSome s (λ input. IfSome t (λ p. IsLog input p items Clean))
+  ended-next None s has says = absurd has
+  ended-next (Some p) None has says = tt
+  ended-next (Some p) (Some input) (rest, left, begins) says =
+      let n = subst (λ o. IfSome o (λ xs. (ys : List ℕ) × (new.left ≡ Some ys) × (xs ≡ []))) left says in
+      Begins-ends input p items rest begins Clean n.2
+
+  ended-at : (s : Stage) → old.stage ≡ s → GoesOn old → StandsAt s start items old → NextsAt s old new (Ok None) → IfSome start (λ input. IfSome new.times (λ p. IsLog input p items Clean))
+  ended-at fresh at on h steps =
+      let says = subst (λ s. IfSome old.left (λ xs. (ys : List ℕ) × (new.left ≡ Some ys) × Comes s old new.times xs ends)) at steps.says.1 in
+      ended-first new.times start h.0 steps.times (subst (λ o. IfSome o (λ xs. (ys : List ℕ) × (new.left ≡ Some ys) × ComesFirst new.times xs ends)) h.1 says)
+  ended-at entries at on h steps =
+      let says = subst (λ s. IfSome old.left (λ xs. (ys : List ℕ) × (new.left ≡ Some ys) × Comes s old new.times xs ends)) at steps.says.1 in
+      let same = same-times old.times h.0 steps.kept in
+      ended-next new.times start (subst (λ t. HasRead start t items old.left) (sym same) h.0) says
+  ended-at ended at on h again = absurd (elim on as (λ _. ⊥) [ inl is ↦ cc | inr is ↦ cc ])
+  ended-at failed at on h again = absurd (elim on as (λ _. ⊥) [ inl is ↦ cc | inr is ↦ cc ])
+
+  pub Stands-ends : GoesOn old → Stands start items old → Nexts old new (Ok None) → IfSome start (λ input. IfSome new.times (λ p. IsLog input p items Clean))
+  Stands-ends on stands nexts = ended-at old.stage refl on stands nexts
+
+  -- where the log cannot be read on: at its header, or behind these entries
+  abbrev pub StopsAt : List ℕ → Option Times → LogFault → Type 0
+  StopsAt input None fault = NoHeader input × (fault ≡ faults.Header)
+  StopsAt input (Some p) fault = IsLog input p items (Stops fault)
+
+  stops-first : (t : Option Times) (s : Option (List ℕ)) (fault : LogFault) → items ≡ [] → IfSome s (λ xs. ComesFirst t xs (stops fault)) → IfSome s (λ input. StopsAt input t fault)
+  stops-first t None fault none says = tt
+  stops-first None (Some xs) fault none (no_header, same) = (no_header, ap of same)
+    where
+      of : Next Item → LogFault
+      of (stops f) = f
+      of (gives e behind) = fault
+      of ends = fault
+  stops-first (Some p) (Some xs) fault none (behind, times, spelled, next) =
+      subst (λ is. IsLog xs p is (Stops fault)) (sym none) (Begins-ends xs p [] behind (Begins-header xs p behind times spelled) (Stops fault) next)
+
+  stops-next : (t : Option Times) (s : Option (List ℕ)) (fault : LogFault) → old.count ≡ length items → old.last ≡ last_of 0 items → HasRead s t items old.left → IfSome old.left (λ xs. ComesNext old.count old.last xs (stops fault)) → IfSome s (λ input. StopsAt input t fault)
+  stops-next None s fault counts moment has says = absurd has
+  stops-next (Some p) None fault counts moment has says = tt
+  stops-next (Some p) (Some input) fault counts moment (rest, left, begins) says =
+      let n = subst (λ o. IfSome o (λ xs. ComesNext old.count old.last xs (stops fault))) left says in
+      Begins-ends input p items rest begins (Stops fault) (subst (λ c. ComesNext c (last_of 0 items) rest (stops fault)) counts (subst (λ m. ComesNext old.count m rest (stops fault)) moment n))
+
+  stops-at : (s : Stage) (e : LogError) → old.stage ≡ s → GoesOn old → StandsAt s start items old → NextsAt s old new (Err e)
+      → FailsAs old.has_failed new.has_failed (λ fault. IfSome start (λ input. StopsAt input new.times fault)) e
+  stops-at fresh e at on h steps =
+      FailsAs-map old.has_failed new.has_failed _ _ e
+      (λ fault says. stops-first new.times start fault h.0 (subst (λ o. IfSome o (λ xs. ComesFirst new.times xs (stops fault))) h.1 (subst (λ s. IfSome old.left (λ xs. Comes s old new.times xs (stops fault))) at says))) steps.says
+  stops-at entries e at on h steps =
+      let same = same-times old.times h.0 steps.kept in
+      FailsAs-map old.has_failed new.has_failed _ _ e
+      (λ fault says. stops-next new.times start fault h.1 h.2 (subst (λ t. HasRead start t items old.left) (sym same) h.0) (subst (λ s. IfSome old.left (λ xs. Comes s old new.times xs (stops fault))) at says)) steps.says
+  stops-at ended e at on h again = absurd (elim on as (λ _. ⊥) [ inl is ↦ cc | inr is ↦ cc ])
+  stops-at failed e at on h again = absurd (elim on as (λ _. ⊥) [ inl is ↦ cc | inr is ↦ cc ])
+
+  pub Stands-stops : (e : LogError) → GoesOn old → Stands start items old → Nexts old new (Err e) → FailsAs old.has_failed new.has_failed (λ fault. IfSome start (λ input. StopsAt input new.times fault)) e
+  Stands-stops e on stands nexts = stops-at old.stage e refl on stands nexts
+
+  -- no read failed where an answer was given
+  fine-at : (s : Stage) (r : Option Entry) → NextsAt s old new (Ok r) → new.has_failed ≡ old.has_failed
+  fine-at fresh r steps = steps.says.0
+  fine-at entries r steps = steps.says.0
+  fine-at ended r again = ap (λ (x : Reading). x.has_failed) again.1
+  fine-at failed r again = cc
+
+  pub Nexts-fine : (r : Option Entry) → Nexts old new (Ok r) → new.has_failed ≡ old.has_failed
+  Nexts-fine r nexts = fine-at old.stage r nexts
+
+  -- behind an entry the reader reads on, and counts
+  pub record Counted (e : Entry) : Type 0 where
+    pub on : new.stage ≡ entries
+    pub up : new.count ≡ old.count + 1
+    pub few : old.count < most_entries
+
+  counted-at : (s : Stage) (e : Entry) → NextsAt s old new (Ok (Some e)) → Counted e
+  counted-at fresh e steps = record { on = steps.moves.0; up = steps.moves.2 ∙ steps.moves.1.number_is; few = steps.moves.4 }
+  counted-at entries e steps = record { on = steps.moves.0; up = steps.moves.2 ∙ steps.moves.1.number_is; few = steps.moves.4 }
+  counted-at ended e again = cc
+  counted-at failed e again = cc
+
+  pub Nexts-counted : (e : Entry) → Nexts old new (Ok (Some e)) → Counted e
+  Nexts-counted e nexts = counted-at old.stage e nexts

@@ -1,0 +1,33 @@
+-- What is known of the bytes that are held and of those left in a source is known of the input.
+use Rattle.std.proofs.Common.{◌≡◌, ℕ, Bool, List, ◌++◌, Option, Some, None, [], refl, subst, sym, ap, ◌∙◌, append_assoc}
+use Rattle.std.specs.Option.{IfSome}
+use Rattle.std.specs.Io.KnownBytes.{IsAtEnd, prepend_known}
+use Rattle.sip_log.specs.declared.window.Window.{Window}
+use Rattle.sip_log.specs.inner.Reads.{Reads}
+use Rattle.sip_log.specs.inner.Window.{items, unread}
+
+-- a fact on what is held and whatever is left is a fact on the input
+pub told : {held held2 : List ℕ} {left left2 : Option (List ℕ)} {failed failed2 : Bool} → Reads held held2 left left2 failed failed2
+    → (P : List ℕ → Type 0) → ((ys : List ℕ) → left2 ≡ Some ys → P (held2 ++ ys)) → IfSome (prepend_known held left) P
+told {left = None} reads P fact = tt
+told {left = Some xs} {left2 = None} reads P fact = absurd reads.left_is
+told {held = held} {held2 = held2} {left = Some xs} {left2 = Some ys} reads P fact =
+    let same : held2 ++ ys ≡ held ++ xs =
+    ap (λ (t : List ℕ). t ++ ys) reads.held_is ∙ append_assoc held reads.came ys ∙ ap (λ (t : List ℕ). held ++ t) (sym reads.left_is) in
+    subst P same (fact ys refl)
+
+-- the other way: a fact on the input where the bytes left are known
+pub known : (held : List ℕ) (left : Option (List ℕ)) (ys : List ℕ) (P : List ℕ → Type 0) → left ≡ Some ys → IfSome (prepend_known held left) P → P (held ++ ys)
+known held left ys P is fact = subst (λ l. IfSome (prepend_known held l) P) is fact
+
+-- nothing is left at the end
+pub none_left : (left : Option (List ℕ)) (ys : List ℕ) → left ≡ Some ys → IsAtEnd left → ys ≡ []
+none_left left ys is end = subst IsAtEnd is end
+
+prepend_known-nil : (left : Option (List ℕ)) → prepend_known [] left ≡ left
+prepend_known-nil None = refl
+prepend_known-nil (Some xs) = refl
+
+-- a window that holds nothing leaves what is left in the source
+pub unread-fresh : (w : Window) (left : Option (List ℕ)) → items w ≡ [] → unread w left ≡ left
+unread-fresh w left none = ap (λ (bs : List ℕ). prepend_known bs left) none ∙ prepend_known-nil left

@@ -1,0 +1,5 @@
+use Rattle.sip_log.proofs.Logs.{log_is_one}
+use Rattle.sip_log.proofs.laws.an_input_has_one_log.Goals as goal
+
+pub returns : goal.returns
+returns c = log_is_one

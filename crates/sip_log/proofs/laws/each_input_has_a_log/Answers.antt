@@ -1,0 +1,5 @@
+use Rattle.sip_log.proofs.Logs.{log_is_some}
+use Rattle.sip_log.proofs.laws.each_input_has_a_log.Goals as goal
+
+pub returns : goal.returns
+returns c = log_is_some

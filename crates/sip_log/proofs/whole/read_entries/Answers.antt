@@ -1,0 +1,27 @@
+use Rattle.std.proofs.Common.{◌≡◌, ◌+◌, ◌≤◌, ◌++◌, ◌∷◌, [], Some, inr, List, map, subst, sym, ap, ◌∙◌, arith}
+use Rattle.std.proofs.lemmas.List.{map-append}
+use Rattle.sip_log.specs.Spelling.{Item}
+use Rattle.sip_log.specs.Log.{most_entries}
+use Rattle.sip_log.specs.Told.{item}
+use Rattle.sip_log.specs.Reading.{Reading, reading, Nexts}
+use Rattle.sip_log.proofs.CallerLemmas.{Stands, Stands-gives, Stands-ends, Nexts-counted, Nexts-fine}
+use Rattle.sip_log.proofs.whole.read_entries.Goals as goal
+
+pub loop-entry-preserved : goal.loop-entry-preserved
+loop-entry-preserved g c =
+    let l = c.loop-entry in
+    let start = g.R.Source.left c.args.source.now in
+    let old : Reading = reading l.progress (g.R.Source.left l.source) (g.R.Source.has_failed l.source) in
+    let new : Reading = reading c.next.new.self (g.R.Source.left c.next.new.source) (g.R.Source.has_failed c.next.new.source) in
+    let entry = c.in-Ok-Some.entry in
+    let items : List Item = map item l.entries.items in
+    let nexts = rw c.in-Ok-Some.field-0-is at c.in-Ok-Some.ensures in
+    let counted = Nexts-counted start items old new entry nexts in
+    let kept = c.in_ok-keep-in-Ok-Some.ensures in
+    let more : map item c.keep.new.entries.items ≡ items ++ item entry ∷ [] = ap (map item) kept ∙ map-append item l.entries.items (entry ∷ []) in
+    record {
+      on = inr counted.on;
+      stands = subst (λ is. Stands start is new) (sym more) (Stands-gives start items old new entry l.invariant.stands nexts);
+      fine = Nexts-fine start items old new (Some entry) nexts ∙ l.invariant.fine;
+      few = omega (arith, counted.up, counted.few);
+    }

@@ -1,0 +1,9 @@
+pub mod Log
+pub mod LogFault
+pub mod Next
+pub mod Reading
+pub mod Source
+pub mod Spelling
+pub mod Told
+pub mod Writing
+pub mod inner

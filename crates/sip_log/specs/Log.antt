@@ -1,0 +1,108 @@
+use Rattle.std.specs.Prelude.{◌≡◌, ◌≢◌, ◌⊎◌, ◌<◌, ◌≤◌, ◌++◌, ℕ, List, [], ◌∷◌, length, slice_index, flat_map}
+use Rattle.sip_machine.specs.Times.{Times, AreTimes, last_moment}
+use Rattle.sip_machine.specs.declared.event.Action.{Action}
+use Rattle.sip_machine.specs.declared.event.Action.TheVariants.{Mark}
+use Rattle.sip_log.specs.LogFault.{LogFault, EntryLine, Truncated, Order, Limit}
+use Rattle.sip_log.specs.Next.{Next, ends, gives, stops}
+use Rattle.sip_log.specs.Spelling.{line_feed, Item, header_text, line_text, entry_text}
+
+-- The log of an input.
+
+-- moments are at most 9,999,999,999,999, and a message has 1 to 65,535 bytes
+abbrev pub IsWithinLimits : Action → ℕ → ℕ → Type 0
+IsWithinLimits action moment len = (moment ≤ last_moment) × (action ≢ Mark → (1 ≤ len) × (len ≤ 65535))
+
+-- an entry keeps the limits, and a mark has no message
+abbrev pub IsEntry : Item → Type 0
+IsEntry e = IsWithinLimits e.action e.moment (length e.text) × (e.action ≡ Mark → e.text ≡ [])
+
+-- the most entries of a log
+abbrev pub most_entries : ℕ
+most_entries = 1000000
+
+-- Why no entry stands at the front of what is left: the first of seven cases that holds.
+
+-- the first of two cases: this one, with its fault, or it does not hold, and the later one does
+abbrev pub First : Type 0 → LogFault → LogFault → Type 0 → Type 0
+First Case its fault Later = (Case × (fault ≡ its)) ⊎ (¬ Case × Later)
+
+-- cases 6 and 7: the input ends before the message and its LF are whole; the byte behind the message is not LF
+abbrev pub AtBody : Action → ℕ → List ℕ → LogFault → Type 0
+AtBody action len behind fault =
+    (action ≢ Mark) × First (length behind ≤ len) Truncated fault ((slice_index behind len ≢ line_feed) × (fault ≡ EntryLine))
+
+-- cases 4 and 5: moment or length is outside the limits; the moment is below that of the entry before
+abbrev pub AtNumbers : ℕ → Action → ℕ → ℕ → List ℕ → LogFault → Type 0
+AtNumbers last action moment len behind fault =
+    First (¬ IsWithinLimits action moment len) Limit fault (First (moment < last) Order fault (AtBody action len behind fault))
+
+-- case 3: the line is not of the form
+abbrev pub AtLine : ℕ → List ℕ → List ℕ → LogFault → Type 0
+AtLine last line behind fault =
+    (((action : Action) (moment len : ℕ) → line ≢ line_text action moment len) × (fault ≡ EntryLine))
+    ⊎ ((action : Action) × (moment : ℕ) × (len : ℕ) × (line ≡ line_text action moment len) × AtNumbers last action moment len behind fault)
+
+-- the line at the front, with what is behind its LF, which is among the first 32 bytes
+pub record FrontLine (rest line behind : List ℕ) : Type 0 where
+  pub whole : rest ≡ line ++ line_feed ∷ behind
+  pub first : (k : ℕ) → k < length line → slice_index line k ≢ line_feed
+  pub short : length line < 32
+
+-- case 2: no LF is among the first 32 bytes; the input ends before the 32nd, or it does not
+abbrev pub AtFront : ℕ → List ℕ → LogFault → Type 0
+AtFront last rest fault =
+    (((line behind : List ℕ) → ¬ (FrontLine rest line behind)) × First (length rest < 32) Truncated fault (fault ≡ EntryLine))
+    ⊎ ((line : List ℕ) × (behind : List ℕ) × FrontLine rest line behind × AtLine last line behind fault)
+
+-- case 1: the entry would be one more than the most
+abbrev pub Cannot : ℕ → ℕ → List ℕ → LogFault → Type 0
+Cannot count last rest fault = (rest ≢ []) × First (most_entries ≤ count) Limit fault (AtFront last rest fault)
+
+-- behind so many entries, the last at this moment: what comes next in the rest of an input
+abbrev pub ComesNext : ℕ → ℕ → List ℕ → Next Item → Type 0
+ComesNext count last rest ends = rest ≡ []
+ComesNext count last rest (gives e behind) = (rest ≡ entry_text e ++ behind) × (count < most_entries) × (last ≤ e.moment) × IsEntry e
+ComesNext count last rest (stops fault) = Cannot count last rest fault
+
+-- each of the entries keeps the limits, and none is before this moment or the entry before it
+abbrev pub InOrder : ℕ → List Item → Type 0
+InOrder last [] = Unit {0}
+InOrder last (e ∷ es) = (last ≤ e.moment) × IsEntry e × InOrder e.moment es
+
+-- the moment of the last entry
+abbrev pub last_of : ℕ → List Item → ℕ
+last_of last [] = last
+last_of last (e ∷ es) = last_of e.moment es
+
+-- how the entries of a log end: with the input, or where no entry can be read
+pub data LogEnd : Type 0 where
+  Clean : LogEnd
+  Stops : LogFault → LogEnd
+
+-- what comes next at such an end
+abbrev pub next_at : LogEnd → Next Item
+next_at Clean = ends
+next_at (Stops fault) = stops fault
+
+-- the spellings of a header and of these entries stand in a row at the front of an input, they keep limits and order, and then it ends so
+pub record IsLog (input : List ℕ) (p : Times) (items : List Item) (end : LogEnd) : Type 0 where
+  pub times : AreTimes p
+  pub rest : List ℕ
+  pub spelled : input ≡ header_text p ++ (flat_map entry_text items ++ rest)
+  pub few : length items ≤ most_entries
+  pub order : InOrder 0 items
+  pub next : ComesNext (length items) (last_of 0 items) rest (next_at end)
+
+-- no header stands at the front of an input
+abbrev pub NoHeader : List ℕ → Type 0
+NoHeader input = (p : Times) (behind : List ℕ) → AreTimes p → input ≢ header_text p ++ behind
+
+-- a log: one with a faulty header, or times, entries and how they end
+pub data Log : Type 0 where
+  Faulty : Log
+  Holds : Times → List Item → LogEnd → Log
+
+-- the log of an input
+abbrev pub IsLogOf : List ℕ → Log → Type 0
+IsLogOf input Faulty = NoHeader input
+IsLogOf input (Holds p items end) = IsLog input p items end

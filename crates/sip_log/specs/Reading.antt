@@ -1,0 +1,83 @@
+use Rattle.std.specs.Prelude.{◌≡◌, ◌+◌, ◌<◌, ◌≤◌, ◌++◌, ℕ, Bool, List, length, Option, Some, None, Result, Ok, Err, IfSome, IsSome, OnOk}
+use Rattle.std.specs.Io.KnownBytes.{prepend_known}
+use Rattle.sip_machine.specs.Times.{Times, AreTimes, last_moment}
+use Rattle.sip_log.specs.declared.entry.Entry.{Entry}
+use Rattle.sip_log.specs.declared.log_error.LogError.{LogError}
+use Rattle.sip_log.specs.declared.log_error.LogError.TheVariants as errors
+use Rattle.sip_log.specs.LogFault.{Header}
+use Rattle.sip_log.specs.Next.{Next, stops}
+use Rattle.sip_log.specs.Spelling.{Item, header_text}
+use Rattle.sip_log.specs.Log.{most_entries, NoHeader, ComesNext}
+use Rattle.sip_log.specs.Told.{Says, next_of}
+
+-- How a log is read, call by call.
+
+-- nothing was read yet; entries are read; the end was told; an error was
+pub data Stage : Type 0 where
+  fresh : Stage
+  entries : Stage
+  ended : Stage
+  failed : Stage
+
+-- how far a log was read: the bytes held back, the times of its header, how many entries it gave, and the moment of the last
+pub record Place : Type 0 where
+  pub stage : Stage
+  pub held : List ℕ
+  pub times : Option Times
+  pub count : ℕ
+  pub last : ℕ
+
+-- the same beside a source: what is left to read, where it is known, and whether a read has failed
+pub record Reading : Type 0 where
+  pub stage : Stage
+  pub left : Option (List ℕ)
+  pub times : Option Times
+  pub count : ℕ
+  pub last : ℕ
+  pub has_failed : Bool
+
+-- a place beside what its source has left
+abbrev pub reading : Place → Option (List ℕ) → Bool → Reading
+reading p left has_failed = record { stage = p.stage; left = prepend_known p.held left; times = p.times; count = p.count; last = p.last; has_failed = has_failed }
+
+-- the entry has the next number, is not before the last one, and is within the limits
+pub record Continues (number last : ℕ) (e : Entry) : Type 0 where
+  pub number_is : e.number ≡ number
+  pub order : last ≤ e.moment
+  pub moment_high : e.moment ≤ last_moment
+  pub length_high : length e.bytes.items ≤ 65535
+
+-- what an answer behind so many entries, the last at this moment, says that needs no bytes: the number, the order, and how it goes on
+abbrev pub Moves : ℕ → ℕ → Reading → Result (Option Entry) LogError → Type 0
+Moves count last new (Ok (Some e)) = (new.stage ≡ entries) × Continues (count + 1) last e × (new.count ≡ e.number) × (new.last ≡ e.moment) × (count < most_entries)
+Moves count last new (Ok None) = (new.stage ≡ ended) × (new.count ≡ count) × (new.last ≡ last)
+Moves count last new (Err e) = (new.stage ≡ failed) × (new.count ≡ count) × (new.last ≡ last)
+
+-- what comes first in an input, where these times were read of it: the fault of its header, or the header and what comes next behind it
+abbrev pub ComesFirst : Option Times → List ℕ → Next Item → Type 0
+ComesFirst None xs next = NoHeader xs × (next ≡ stops Header)
+ComesFirst (Some p) xs next = (behind : List ℕ) × AreTimes p × (xs ≡ header_text p ++ behind) × ComesNext 0 0 behind next
+
+-- what comes in the rest of an input
+abbrev pub Comes : Stage → Reading → Option Times → List ℕ → Next Item → Type 0
+Comes fresh old times xs next = ComesFirst times xs next
+Comes entries old times xs next = ComesNext old.count old.last xs next
+Comes ended old times xs next = ⊥
+Comes failed old times xs next = ⊥
+
+-- one call that reads: what comes in the rest of the input, and what is left behind it
+pub record Steps (old new : Reading) (r : Result (Option Entry) LogError) : Type 0 where
+  pub moves : Moves old.count old.last new r
+  pub times : OnOk r (IsSome new.times)
+  pub kept : IfSome old.times (λ p. new.times ≡ Some p)
+  pub says : Says old.left new.left old.has_failed new.has_failed (Comes old.stage old new.times) next_of r
+
+abbrev pub NextsAt : Stage → Reading → Reading → Result (Option Entry) LogError → Type 0
+NextsAt fresh old new r = Steps old new r
+NextsAt entries old new r = Steps old new r
+NextsAt ended old new r = (r ≡ Ok None) × (new ≡ old)
+NextsAt failed old new r = (r ≡ Err errors.Failed) × (new ≡ old)
+
+-- one call: it reads, unless the end was told or an error was, which it tells again
+abbrev pub Nexts : Reading → Reading → Result (Option Entry) LogError → Type 0
+Nexts old new r = NextsAt old.stage old new r

@@ -1,0 +1,39 @@
+use Rattle.std.specs.Prelude.{◌≡◌, ℕ, Bool, true, List, Option, Some, None, Result, Ok, Err, IfSome}
+use Rattle.sip_log.specs.declared.entry.Entry.{Entry}
+use Rattle.sip_log.specs.declared.log_error.LogError.{LogError}
+use Rattle.sip_log.specs.declared.log_error.LogError.TheVariants as errors
+use Rattle.sip_log.specs.LogFault as faults
+use Rattle.sip_log.specs.LogFault.{LogFault}
+use Rattle.sip_log.specs.Next.{Next, ends, gives, stops}
+use Rattle.sip_log.specs.Spelling.{Item}
+
+-- What an answer tells of the input.
+
+-- an error: a fault is one of the input, where no read failed; Io comes only with a failed read; of Memory nothing is said
+abbrev pub FailsAs : Bool → Bool → (LogFault → Type 0) → LogError → Type 0
+FailsAs before after P errors.Header = (after ≡ before) × P faults.Header
+FailsAs before after P errors.EntryLine = (after ≡ before) × P faults.EntryLine
+FailsAs before after P errors.Truncated = (after ≡ before) × P faults.Truncated
+FailsAs before after P errors.Order = (after ≡ before) × P faults.Order
+FailsAs before after P errors.Limit = (after ≡ before) × P faults.Limit
+FailsAs before after P errors.Io = after ≡ true
+FailsAs before after P errors.Memory = Unit {0}
+FailsAs before after P errors.Failed = ⊥
+
+-- a value with what is left tells what comes in the input by P, and an error the fault; nothing where the bytes are not known
+abbrev pub Says : {A B : Type 0} → Option (List ℕ) → Option (List ℕ) → Bool → Bool → (List ℕ → Next B → Type 0) → (A → List ℕ → Next B) → Result A LogError → Type 0
+Says old new before after P seen (Ok a) = (after ≡ before) × IfSome old (λ xs. (ys : List ℕ) × (new ≡ Some ys) × P xs (seen a ys))
+Says old new before after P seen (Err e) = FailsAs before after (λ fault. IfSome old (λ xs. P xs (stops fault))) e
+
+-- the entry of a log that the code's entry is
+abbrev pub item : Entry → Item
+item e = record { action = e.action; moment = e.moment; text = e.bytes.items }
+
+-- an entry with what is behind it
+abbrev pub entry_next : Entry → List ℕ → Next Item
+entry_next e behind = gives (item e) behind
+
+-- the end, or an entry with what is behind it
+abbrev pub next_of : Option Entry → List ℕ → Next Item
+next_of None behind = ends
+next_of (Some e) behind = entry_next e behind

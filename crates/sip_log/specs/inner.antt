@@ -1,0 +1,10 @@
+pub mod Entry
+pub mod Follow
+pub mod Header
+pub mod Line
+pub mod Number
+pub mod Place
+pub mod Puts
+pub mod Reads
+pub mod Unless
+pub mod Window

@@ -1,0 +1,165 @@
+//! The entries of a log, one after another.
+ghost use Rattle.std.specs.Prelude.{◌≡◌, ◌+◌, ◌<◌, ◌≤◌, IfOk, IfSome, OnSome};
+ghost use Rattle.sip_machine.specs.Times.{last_moment};
+ghost use Rattle.sip_log.specs.inner.Line.{KeepsLimits, cut_head, head_of, moment_of};
+ghost use Rattle.sip_log.specs.inner.Window.{unread};
+ghost use Rattle.sip_log.specs.inner.Entry.{AtMessage, AtBody, AtHead, AtLine, ComesNext};
+ghost use Rattle.sip_log.specs.Log.{most_entries};
+ghost use Rattle.sip_log.specs.Told.{Says, entry_next, next_of};
+ghost use Rattle.sip_log.specs.Reading.{Continues};
+ghost use Rattle.sip_log.specs.inner.Line as log;
+
+use crate::line::{Head, read_head};
+use crate::log_error::LogError;
+use crate::source::Source;
+use crate::window::Window;
+use sip_machine::Action;
+use std::alloc::Global;
+
+/// The most bytes of an entry's line with its line feed.
+const LONGEST_LINE: usize = 32;
+
+/// The most entries of a log.
+const MOST_ENTRIES: u32 = 1_000_000;
+
+/// An entry: what was done at a moment, in milliseconds, and with which message. A mark has no message.
+#[derive(Drop)]
+pub struct Entry {
+    pub number: u32,
+    pub moment: u64,
+    pub action: Action,
+    pub bytes: Vec<u8>,
+}
+
+/// Reads the entry behind `count` others, the last of which is at the moment `last`. None at the end of the log.
+pub(crate) fn next_entry<R: Source>(
+    alloc: Global,
+    window: &mut Window,
+    source: &mut R,
+    count: u32,
+    last: u64,
+) -> Result<Option<Entry>, LogError>
+    requires { count ≤ most_entries }
+    ensures few { IfOk result (λ e. OnSome e (count < most_entries)) }
+    ensures entry { IfOk result (λ e. IfSome e (Continues (count + 1) last)) }
+    ensures says { Says (unread window.old (R.left source.old)) (unread window.new (R.left source.new))
+        (R.has_failed source.old) (R.has_failed source.new) (ComesNext count last) next_of result }
+{
+    if !window.hold(source, 1)? {
+        return Ok(None);
+    }
+    if count >= MOST_ENTRIES {
+        return Err(LogError::Limit);
+    }
+    match read_entry(alloc, window, source, count + 1, last) {
+        Ok(entry) => Ok(Some(entry)),
+        Err(error) => Err(error),
+    }
+}
+
+/// Reads an entry by its line.
+fn read_entry<R: Source>(
+    alloc: Global,
+    window: &mut Window,
+    source: &mut R,
+    number: u32,
+    last: u64,
+) -> Result<Entry, LogError>
+    ensures entry { IfOk result (Continues number last) }
+    ensures says { Says (unread window.old (R.left source.old)) (unread window.new (R.left source.new))
+        (R.has_failed source.old) (R.has_failed source.new) (AtLine last) entry_next result }
+{
+    let Some(len) = window.line_len(source, LONGEST_LINE)? else {
+        if window.as_slice().len() < LONGEST_LINE {
+            return Err(LogError::Truncated);
+        }
+        return Err(LogError::EntryLine);
+    };
+    let Some(head) = read_head(&window.as_slice()[..len]) else {
+        return Err(LogError::EntryLine);
+    };
+    window.consume(len + 1);
+    after_line(alloc, window, source, number, last, head)
+}
+
+/// Reads what is behind an entry's line, if the line keeps the limits and the order.
+fn after_line<R: Source>(
+    alloc: Global,
+    window: &mut Window,
+    source: &mut R,
+    number: u32,
+    last: u64,
+    head: Head,
+) -> Result<Entry, LogError>
+    ensures entry { IfOk result (Continues number last) }
+    ensures says { (h : log.Head) → head ≡ cut_head h → Says (unread window.old (R.left source.old)) (unread window.new (R.left source.new))
+        (R.has_failed source.old) (R.has_failed source.new) (AtHead last h) entry_next result }
+{
+    if !head.is_within_limits() {
+        return Err(LogError::Limit);
+    }
+    if head.moment() < last {
+        return Err(LogError::Order);
+    }
+    read_body(alloc, window, source, number, head)
+}
+
+/// Reads what an entry has behind its line: a message, or nothing.
+fn read_body<R: Source>(
+    alloc: Global,
+    window: &mut Window,
+    source: &mut R,
+    number: u32,
+    head: Head,
+) -> Result<Entry, LogError>
+    requires { KeepsLimits (head_of head) }
+    ensures entry { IfOk result (Continues number (moment_of (head_of head))) }
+    ensures says { Says (unread window.old (R.left source.old)) (unread window.new (R.left source.new))
+        (R.has_failed source.old) (R.has_failed source.new) (AtBody (head_of head)) entry_next result }
+{
+    match head {
+        Head::Message(action, moment, len) => {
+            read_message(alloc, window, source, number, action, moment, len)
+        }
+        Head::Mark(moment) => Ok(Entry {
+            number,
+            moment,
+            action: Action::Mark,
+            bytes: Vec::new(alloc),
+        }),
+    }
+}
+
+/// Reads a message of `len` bytes and the line feed behind it. Its bytes are copied once, out of the window.
+fn read_message<R: Source>(
+    alloc: Global,
+    window: &mut Window,
+    source: &mut R,
+    number: u32,
+    action: Action,
+    moment: u64,
+    len: u64,
+) -> Result<Entry, LogError>
+    requires moment { moment ≤ last_moment }
+    requires len { len ≤ 65535 }
+    ensures entry { IfOk result (Continues number moment) }
+    ensures says { Says (unread window.old (R.left source.old)) (unread window.new (R.left source.new))
+        (R.has_failed source.old) (R.has_failed source.new) (AtMessage action moment len) entry_next result }
+{
+    let len = len as usize;
+    if !window.hold(source, len + 1)? {
+        return Err(LogError::Truncated);
+    }
+    let held = window.as_slice();
+    if held[len] != b'\n' {
+        return Err(LogError::EntryLine);
+    }
+    let bytes = held[..len].to_vec(alloc)?;
+    window.consume(len + 1);
+    Ok(Entry {
+        number,
+        moment,
+        action,
+        bytes,
+    })
+}

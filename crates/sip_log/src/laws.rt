@@ -1,0 +1,34 @@
+//! Laws of the format. The functions do nothing: their contracts are the laws.
+ghost use Rattle.std.specs.Prelude.{◌≡◌, ◌<◌, ◌≤◌, ◌++◌, ℕ, List, length, flat_map};
+ghost use Rattle.sip_machine.specs.Times.{Times, AreTimes};
+ghost use Rattle.sip_log.specs.Next.{Next, gives};
+ghost use Rattle.sip_log.specs.Spelling.{Item, header_text, entry_text};
+ghost use Rattle.sip_log.specs.Log.{IsEntry, IsWithinLimits, most_entries, ComesNext, InOrder, Clean, Log, Holds, IsLogOf};
+
+/// Each input has a log.
+pub fn each_input_has_a_log()
+    ensures { (input : List ℕ) → (log : Log) × IsLogOf input log }
+{}
+
+/// And only one.
+pub fn an_input_has_one_log()
+    ensures { (input : List ℕ) (one other : Log) → IsLogOf input one → IsLogOf input other → one ≡ other }
+{}
+
+/// A header and entries, written one after another, are the log of what was written.
+pub fn what_is_written_is_read()
+    ensures { (p : Times) (items : List Item) → AreTimes p → length items ≤ most_entries → InOrder 0 items →
+        IsLogOf (header_text p ++ flat_map entry_text items) (Holds p items Clean) }
+{}
+
+/// Behind any entries, an entry that is written there is what comes next, whatever stands behind it.
+pub fn an_entry_is_read_as_it_was_written()
+    ensures { (count last : ℕ) (e : Item) (behind : List ℕ) (next : Next Item) → count < most_entries → last ≤ e.moment → IsEntry e →
+        ComesNext count last (entry_text e ++ behind) next → next ≡ gives e behind }
+{}
+
+/// An entry that was read is written back as the bytes that were read, and within the limits.
+pub fn an_entry_is_written_as_it_was_read()
+    ensures { (count last : ℕ) (rest : List ℕ) (e : Item) (behind : List ℕ) → ComesNext count last rest (gives e behind) →
+        (rest ≡ entry_text e ++ behind) × IsWithinLimits e.action e.moment (length e.text) }
+{}

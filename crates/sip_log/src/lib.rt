@@ -1,0 +1,35 @@
+//! A log of SIP messages with their moments: its format, read and written in pieces of any size.
+#![tactic(auto)]
+
+mod broken;
+mod entry;
+mod header;
+mod laws;
+mod line;
+mod log_error;
+mod number;
+mod progress;
+mod reader;
+mod sink;
+mod source;
+#[cfg(test)]
+mod tests;
+mod whole;
+mod window;
+mod write_error;
+mod writing;
+
+pub use broken::Broken;
+pub use entry::Entry;
+pub use laws::{
+    an_entry_is_read_as_it_was_written, an_entry_is_written_as_it_was_read, an_input_has_one_log,
+    each_input_has_a_log, what_is_written_is_read,
+};
+pub use log_error::LogError;
+pub use progress::Progress;
+pub use reader::LogReader;
+pub use sink::{Sink, ToWrite};
+pub use source::{FromRead, Source};
+pub use whole::read_entries;
+pub use write_error::WriteError;
+pub use writing::{write_entry, write_header};

@@ -1,0 +1,109 @@
+//! The line at which an entry begins.
+ghost use Rattle.std.specs.Prelude.{◌≡◌, ◌≢◌, ◌↔◌, ℕ, MatchOption, IsTrue};
+ghost use Rattle.sip_machine.specs.declared.event.Action.{Action};
+ghost use Rattle.sip_machine.specs.declared.event.Action.TheVariants.{Mark};
+ghost use Rattle.sip_log.specs.inner.Number.{cut};
+ghost use Rattle.sip_log.specs.Spelling.{letter};
+ghost use Rattle.sip_log.specs.Log.{IsWithinLimits};
+ghost use Rattle.sip_log.specs.inner.Line.{Numbers, HeadLine, cut_head, head_of, moment_of, KeepsLimits};
+ghost use Rattle.sip_log.specs.inner.Line as log;
+
+use crate::number::number;
+use memchr::memchr;
+use sip_machine::Action;
+
+/// The last moment that a log can name, in milliseconds.
+const LAST_MOMENT: u64 = 9_999_999_999_999;
+
+/// The most bytes of a message.
+const LONGEST_MESSAGE: u64 = 65_535;
+
+/// What an entry's line tells: of a message its moment and its length, of a mark its moment.
+#[derive(Clone, Copy)]
+pub(crate) enum Head {
+    Message(Action, u64, u64),
+    Mark(u64),
+}
+
+impl Head {
+    /// The moment, in milliseconds.
+    pub(crate) fn moment(self) -> u64
+        ensures { result ≡ moment_of (head_of self) }
+    {
+        match self {
+            Head::Message(_, moment, _) | Head::Mark(moment) => moment,
+        }
+    }
+
+    /// Whether the moment and the length are within the limits.
+    pub(crate) fn is_within_limits(self) -> bool
+        ensures { IsTrue result ↔ KeepsLimits (head_of self) }
+    {
+        match self {
+            Head::Message(_, moment, len) => moment <= LAST_MOMENT
+                && (1..=LONGEST_MESSAGE).contains(&len),
+            Head::Mark(moment) => moment <= LAST_MOMENT,
+        }
+    }
+}
+
+/// Whether a moment and, but for a mark, the length of a message are within the limits.
+pub(crate) fn is_within_limits(action: Action, moment: u64, len: u64) -> bool
+    ensures { IsTrue result ↔ IsWithinLimits action moment len }
+{
+    moment <= LAST_MOMENT && (action == Action::Mark || (1..=LONGEST_MESSAGE).contains(&len))
+}
+
+/// The letter of an entry.
+pub(crate) fn letter_of(action: Action) -> u8
+    ensures { result ≡ letter action }
+{
+    match action {
+        Action::Sent => b'S',
+        Action::Received => b'R',
+        Action::Failed => b'F',
+        Action::Mark => b'M',
+    }
+}
+
+/// What was done with a message, by the letter of its entry.
+fn action_of(byte: u8) -> Option<Action>
+    ensures { MatchOption result ((a : Action) → a ≢ Mark → byte ≢ letter a) (λ a. (a ≢ Mark) × (byte ≡ letter a)) }
+{
+    match byte {
+        b'S' => Some(Action::Sent),
+        b'R' => Some(Action::Received),
+        b'F' => Some(Action::Failed),
+        _ => None,
+    }
+}
+
+/// Reads a moment, a blank and a length.
+fn read_numbers(text: &[u8]) -> Option<(u64, u64)>
+    ensures { MatchOption result
+        ((moment len : ℕ) → ¬ (Numbers text.now moment len))
+        (λ r. (moment : ℕ) × (len : ℕ) × Numbers text.now moment len × (r.0 ≡ cut moment) × (r.1 ≡ cut len)) }
+{
+    let blank = memchr(b' ', text)?;
+    let moment = number(&text[..blank])?;
+    let len = number(&text[blank + 1..])?;
+    Some((moment, len))
+}
+
+/// Reads an entry's line, without its line feed. Its numbers are kept as `number` keeps them.
+pub(crate) fn read_head(line: &[u8]) -> Option<Head>
+    ensures { MatchOption result
+        ((h : log.Head) → ¬ (HeadLine line.now h))
+        (λ r. (h : log.Head) × HeadLine line.now h × (r ≡ cut_head h)) }
+{
+    let [byte, b' ', text @ ..] = line else {
+        return None;
+    };
+    if *byte == b'M' {
+        let moment = number(text)?;
+        return Some(Head::Mark(moment));
+    }
+    let action = action_of(*byte)?;
+    let (moment, len) = read_numbers(text)?;
+    Some(Head::Message(action, moment, len))
+}

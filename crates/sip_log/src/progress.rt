@@ -1,0 +1,128 @@
+//! How far a log was read.
+ghost use Rattle.std.specs.Prelude.{◌≡◌, ℕ, List, [], None, IsSome};
+ghost use Rattle.sip_log.specs.Reading.{Stage, fresh, failed, Place, reading, Moves, Nexts};
+ghost use Rattle.sip_log.specs.Told.{Says, next_of};
+ghost use Rattle.sip_log.specs.inner.Entry.{ComesNext};
+
+use crate::entry::{Entry, next_entry};
+use crate::header::read_header;
+use crate::log_error::LogError;
+use crate::source::Source;
+use crate::window::Window;
+use sip_machine::Params;
+use std::alloc::Global;
+use std::marker::Model;
+use std::mem;
+
+/// What is read next, if anything is.
+#[derive(Drop)]
+enum Stage {
+    Fresh,
+    Entries(Window),
+    Ended,
+    Failed,
+}
+
+/// How far a log was read from a source that someone else holds.
+#[derive(Drop)]
+pub struct Progress {
+    alloc: Global,
+    stage: Stage,
+    params: Option<Params>,
+    count: u32,
+    last: u64,
+}
+
+impl Model for Progress {
+    ghost use Rattle.std.specs.Prelude.{◌≤◌};
+    ghost use Rattle.sip_log.specs.Reading.{Place};
+
+    ghost Value = { Place };
+
+    ghost use Rattle.sip_log.specs.inner.Place.{stage_of, held_at, FitsStage};
+    ghost use Rattle.sip_log.specs.Log.{most_entries};
+
+    ghost view = { λ p. record { stage = stage_of p.stage; held = held_at p.stage; times = p.params; count = p.count; last = p.last } };
+
+    ghost invariant = { λ p. (p.count ≤ most_entries) × FitsStage p.stage p.params p.count p.last };
+}
+
+impl Progress {
+    ghost use Rattle.sip_log.specs.inner.Window.{unread};
+
+    /// Nothing was read. Takes no memory.
+    pub fn new(alloc: Global) -> Progress
+        ensures { result ≡ record { stage = fresh; held = []; times = None; count = 0; last = 0 } }
+    {
+        Progress {
+            alloc,
+            stage: Stage::Fresh,
+            params: None,
+            count: 0,
+            last: 0,
+        }
+    }
+
+    /// The times of the log's header, once it was read.
+    pub fn params(&self) -> Option<Params>
+        ensures { result ≡ self.now.times }
+    {
+        self.params
+    }
+
+    /// Reads the next entry, and before the first one the header. None at the end of the log, and then again.
+    ///
+    /// `LogError::Io` is answered only if the source failed in this call. After an error every later call answers
+    /// `LogError::Failed`. The source must be the same one in each call.
+    pub fn next<R: Source>(&mut self, source: &mut R) -> Result<Option<Entry>, LogError>
+        ensures { Nexts (reading self.old (R.left source.old) (R.has_failed source.old))
+            (reading self.new (R.left source.new) (R.has_failed source.new)) result }
+    {
+        match mem::replace(&mut self.stage, Stage::Failed) {
+            Stage::Fresh => {
+                let mut window = Window::new(self.alloc)?;
+                match read_header(&mut window, source) {
+                    Ok(params) => {
+                        self.params = Some(params);
+                        self.entry(window, source)
+                    }
+                    Err(error) => Err(error),
+                }
+            }
+            Stage::Entries(window) => self.entry(window, source),
+            Stage::Ended => {
+                self.stage = Stage::Ended;
+                Ok(None)
+            }
+            Stage::Failed => Err(LogError::Failed),
+        }
+    }
+
+    /// Reads the next entry.
+    fn entry<R: Source>(
+        &mut self,
+        mut window: Window,
+        source: &mut R,
+    ) -> Result<Option<Entry>, LogError>
+        requires stage { self.old.stage ≡ failed }
+        requires times { IsSome self.old.times }
+        ensures moves { Moves self.old.count self.old.last (reading self.new (R.left source.new) (R.has_failed source.new)) result }
+        ensures times { self.new.times ≡ self.old.times }
+        ensures says { Says (unread window (R.left source.old)) (reading self.new (R.left source.new) (R.has_failed source.new)).left
+            (R.has_failed source.old) (R.has_failed source.new) (ComesNext self.old.count self.old.last) next_of result }
+    {
+        match next_entry(self.alloc, &mut window, source, self.count, self.last) {
+            Ok(Some(entry)) => {
+                self.count = entry.number;
+                self.last = entry.moment;
+                self.stage = Stage::Entries(window);
+                Ok(Some(entry))
+            }
+            Ok(None) => {
+                self.stage = Stage::Ended;
+                Ok(None)
+            }
+            Err(error) => Err(error),
+        }
+    }
+}

@@ -1,0 +1,55 @@
+//! Reads a log, entry by entry.
+ghost use Rattle.std.specs.Prelude.{◌≡◌, None};
+ghost use Rattle.sip_log.specs.Reading.{fresh, Reading, reading, Nexts};
+
+use crate::entry::Entry;
+use crate::log_error::LogError;
+use crate::progress::Progress;
+use crate::source::Source;
+use sip_machine::Params;
+use std::alloc::Global;
+use std::marker::Model;
+
+/// Reads a log, entry by entry, from a source that hands out its bytes in pieces of any size.
+#[derive(Drop)]
+pub struct LogReader<R: Source> {
+    source: R,
+    progress: Progress,
+}
+
+impl<R: Source> Model for LogReader<R> {
+    ghost use Rattle.sip_log.specs.Reading.{Reading, reading};
+
+    ghost Value = { Reading };
+
+    ghost view = { λ r. reading r.progress (R.left r.source) (R.has_failed r.source) };
+}
+
+impl<R: Source> LogReader<R> {
+    /// Reads nothing yet, and takes no memory.
+    pub fn new(alloc: Global, source: R) -> LogReader<R>
+        ensures { result ≡ record { stage = fresh; left = R.left source; times = None; count = 0; last = 0; has_failed = R.has_failed source } }
+    {
+        LogReader {
+            source,
+            progress: Progress::new(alloc),
+        }
+    }
+
+    /// The times of the log's header, once it was read, also after an error.
+    pub fn params(&self) -> Option<Params>
+        ensures { result ≡ self.now.times }
+    {
+        self.progress.params()
+    }
+
+    /// Reads the next entry, and before the first one the header. None at the end of the log, and then again.
+    ///
+    /// `LogError::Io` is answered only if the source failed in this call. After an error every later call answers
+    /// `LogError::Failed`; nothing is read again.
+    pub fn next(&mut self) -> Result<Option<Entry>, LogError>
+        ensures { Nexts self.old self.new result }
+    {
+        self.progress.next(&mut self.source)
+    }
+}

@@ -1,0 +1,80 @@
+//! Where a log's bytes go.
+ghost use Rattle.std.specs.Prelude.{◌≡◌, ℕ, Bool, true, false, List, Option, OnOk, OnErr};
+ghost use Rattle.std.specs.Io.KnownBytes.{Appends};
+
+use crate::broken::Broken;
+use std::io::Write;
+
+/// What takes the bytes of a log.
+pub trait Sink {
+    // The bytes that it has taken, where they are known. Each implementation says so itself.
+    ghost written: { Self → Option (List ℕ) };
+
+    // Whether a call has failed.
+    ghost has_failed: { Self → Bool };
+
+    /// Takes all of the bytes.
+    fn put(&mut self, bytes: &[u8]) -> Result<(), Broken>
+        ensures appends { OnOk result (Appends (written self.old) (written self.new) bytes.now) }
+        ensures ok { OnOk result (has_failed self.new ≡ has_failed self.old) }
+        ensures err { OnErr result (has_failed self.new ≡ true) };
+
+    /// Whether a call has failed.
+    fn has_failed(&self) -> bool
+        ensures { result ≡ has_failed self.now };
+}
+
+/// A sink through a reference to it.
+impl<S: Sink> Sink for &mut S {
+    ghost written = { λ s. S.written s.now };
+
+    ghost has_failed = { λ s. S.has_failed s.now };
+
+    fn put(&mut self, bytes: &[u8]) -> Result<(), Broken> {
+        (**self).put(bytes)
+    }
+
+    fn has_failed(&self) -> bool {
+        (**self).has_failed()
+    }
+}
+
+/// A sink over a writer of std. A write that was interrupted is tried again; any other error is a failure.
+#[derive(Drop)]
+pub struct ToWrite<W> {
+    writer: W,
+    failed: bool,
+}
+
+impl<W: Write> ToWrite<W> {
+    /// A sink that writes behind what the writer holds.
+    pub fn new(writer: W) -> ToWrite<W>
+        ensures written { ⟦<ToWrite<W> as Sink>⟧.written result ≡ W.contents writer }
+        ensures fine { ⟦<ToWrite<W> as Sink>⟧.has_failed result ≡ false }
+    {
+        ToWrite {
+            writer,
+            failed: false,
+        }
+    }
+}
+
+impl<W: Write> Sink for ToWrite<W> {
+    ghost written = { λ s. W.contents s.writer };
+
+    ghost has_failed = { λ s. s.failed };
+
+    fn put(&mut self, bytes: &[u8]) -> Result<(), Broken> {
+        match self.writer.write_all(bytes) {
+            Ok(()) => Ok(()),
+            Err(_) => {
+                self.failed = true;
+                Err(Broken)
+            }
+        }
+    }
+
+    fn has_failed(&self) -> bool {
+        self.failed
+    }
+}

@@ -1,0 +1,100 @@
+//! Where a log's bytes come from.
+ghost use Rattle.std.specs.Prelude.{◌≡◌, ◌≢◌, ℕ, Bool, true, false, List, Option, OnOk, OnErr, IfErr};
+ghost use Rattle.std.specs.IoError.{error_kind};
+ghost use Rattle.std.specs.declared.io.ErrorKind.TheVariants.{Interrupted};
+ghost use Rattle.sip_log.specs.Source.{Fills};
+
+use crate::broken::Broken;
+use std::io;
+use std::io::Read;
+
+#[cfg(test)]
+mod tests;
+
+/// What hands out the bytes of a log, in pieces of any size.
+pub trait Source {
+    // The bytes that it will hand out from here on, where they are known. Each implementation says so itself.
+    ghost left: { Self → Option (List ℕ) };
+
+    // Whether a call has failed.
+    ghost has_failed: { Self → Bool };
+
+    /// Puts the next bytes into the front of `buf`, and answers how many; 0 only at the end, or where `buf` is empty.
+    fn fill(&mut self, buf: &mut [u8]) -> Result<usize, Broken>
+        ensures bytes { Fills (left self.old) (left self.new) result buf.new }
+        ensures ok { OnOk result (has_failed self.new ≡ has_failed self.old) }
+        ensures err { OnErr result (has_failed self.new ≡ true) };
+
+    /// Whether a call has failed.
+    fn has_failed(&self) -> bool
+        ensures { result ≡ has_failed self.now };
+}
+
+/// A source through a reference to it.
+impl<S: Source> Source for &mut S {
+    ghost left = { λ s. S.left s.now };
+
+    ghost has_failed = { λ s. S.has_failed s.now };
+
+    fn fill(&mut self, buf: &mut [u8]) -> Result<usize, Broken> {
+        (**self).fill(buf)
+    }
+
+    fn has_failed(&self) -> bool {
+        (**self).has_failed()
+    }
+}
+
+/// A source over a reader of std. A read that was interrupted is tried again; any other error is a failure.
+#[derive(Drop)]
+pub struct FromRead<R> {
+    reader: R,
+    failed: bool,
+}
+
+impl<R: Read> FromRead<R> {
+    /// A source of the bytes that the reader has left.
+    pub fn new(reader: R) -> FromRead<R>
+        ensures left { ⟦<FromRead<R> as Source>⟧.left result ≡ R.remaining reader }
+        ensures fine { ⟦<FromRead<R> as Source>⟧.has_failed result ≡ false }
+    {
+        FromRead {
+            reader,
+            failed: false,
+        }
+    }
+}
+
+/// Reads once, and again where the read was interrupted.
+fn read_on<R: Read>(reader: &mut R, buf: &mut [u8]) -> io::Result<usize>
+    ensures bytes { Fills (R.remaining reader.old) (R.remaining reader.new) result buf.new }
+    ensures retried { IfErr result (λ e. error_kind e ≢ Interrupted) }
+{
+    for _ in 0..u64::MAX {
+        match reader.read(buf) {
+            Err(e) if e.kind() == io::ErrorKind::Interrupted => {}
+            result => return result,
+        }
+    }
+    Err(io::Error::from(io::ErrorKind::TimedOut))
+}
+
+impl<R: Read> Source for FromRead<R> {
+    ghost left = { λ s. R.remaining s.reader };
+
+    ghost has_failed = { λ s. s.failed };
+
+    fn fill(&mut self, buf: &mut [u8]) -> Result<usize, Broken> {
+        match read_on(&mut self.reader, buf) {
+            Ok(count) => Ok(count),
+            Err(_) => {
+                self.failed = true;
+                Err(Broken)
+            }
+        }
+    }
+
+    fn has_failed(&self) -> bool {
+        self.failed
+    }
+}

@@ -1,0 +1,69 @@
+use super::*;
+
+/// Gives one byte at each call, after its first calls have failed.
+#[derive(Drop)]
+struct OneByOne {
+    failures: u8,
+    kind: io::ErrorKind,
+}
+
+impl Read for OneByOne {
+    fn read(&mut self, buf: &mut [u8]) -> io::Result<usize> {
+        if self.failures > 0 {
+            self.failures -= 1;
+            return Err(io::Error::from(self.kind));
+        }
+        if buf.is_empty() {
+            return Ok(0);
+        }
+        buf[0] = b'M';
+        Ok(1)
+    }
+}
+
+#[test]
+fn tries_an_interrupted_read_again(rt: HostRuntime) {
+    let mut source = FromRead::new(OneByOne {
+        failures: 2,
+        kind: io::ErrorKind::Interrupted,
+    });
+    let mut buf = [0; 4];
+    assert_eq!(rt; source.fill(&mut buf).ok(), Some(1));
+    assert!(rt; !source.has_failed());
+}
+
+#[test]
+fn tells_any_other_error(rt: HostRuntime) {
+    let mut source = FromRead::new(OneByOne {
+        failures: 1,
+        kind: io::ErrorKind::TimedOut,
+    });
+    let mut buf = [0; 4];
+    assert!(rt; source.fill(&mut buf).is_err());
+    assert!(rt; source.has_failed());
+}
+
+/// How many bytes come through the bound.
+fn fill_through<S: Source + Drop>(mut source: S, buf: &mut [u8]) -> Option<usize> {
+    source.fill(buf).ok()
+}
+
+#[test]
+fn fills_buffers_of_every_length(rt: HostRuntime) {
+    let bytes = [b'x'; 300];
+    let mut buf = [0; 256];
+    for len in 0..=256 {
+        let mut whole = FromRead::new(bytes.as_slice());
+        assert_eq!(rt; fill_through(&mut whole, &mut buf[..len]), Some(len));
+        assert_eq!(rt;
+            fill_through(&mut whole, &mut buf),
+            Some(256.min(300 - len))
+        );
+        assert!(rt; !whole.has_failed());
+        let mut single = FromRead::new(OneByOne {
+            failures: 0,
+            kind: io::ErrorKind::Other,
+        });
+        assert_eq!(rt; single.fill(&mut buf[..len]).ok(), Some(len.min(1)));
+    }
+}

@@ -1,0 +1,315 @@
+//! Rows of the format, read in pieces of any size and written again.
+mod devices;
+
+use crate::{
+    Broken, FromRead, LogError, LogReader, Sink, Source, ToWrite, WriteError, read_entries,
+    write_entry, write_header,
+};
+use devices::{Pieces, Room};
+use sip_machine::{Action, Params};
+use std::alloc::{AllocError, Global};
+use std::test::Fail;
+
+const HEADER: &[u8] = b"sip-trace 1\nt1 500 t2 4000 t4 5000 tolerance 50\n";
+
+/// Calls enough to read any log of these tests to its end.
+const CALLS: usize = 64;
+
+/// Reads to the end: how many entries, and why no more. A further call tells it again.
+fn read<R: Source + Drop>(alloc: Global, source: R) -> Option<(u32, Option<LogError>)> {
+    let mut reader = LogReader::new(alloc, source);
+    let mut count = 0;
+    for _ in 0..CALLS {
+        match reader.next() {
+            Ok(Some(entry)) => count = entry.number,
+            Ok(None) => {
+                return match reader.next() {
+                    Ok(None) => Some((count, None)),
+                    _ => None,
+                };
+            }
+            Err(error) => {
+                return match reader.next() {
+                    Err(LogError::Failed) => Some((count, Some(error))),
+                    _ => None,
+                };
+            }
+        }
+    }
+    None
+}
+
+/// Reads bytes whole, in single bytes, and in two pieces cut at each place; None where the answers differ.
+fn read_cut(alloc: Global, bytes: &[u8]) -> Option<(u32, Option<LogError>)> {
+    let whole = read(alloc, FromRead::new(bytes))?;
+    if read(alloc, Pieces::single(bytes)) != Some(whole) {
+        return None;
+    }
+    for place in 0..=bytes.len() {
+        if read(alloc, Pieces::cut_at(bytes, place)) != Some(whole) {
+            return None;
+        }
+    }
+    Some(whole)
+}
+
+/// A row: bytes, how many entries they have, and why no more.
+type Row = (&'static [u8], u32, Option<LogError>);
+
+/// The first of the rows, each behind these bytes, that is read otherwise.
+fn first_other(alloc: Global, front: &[u8], rows: &[Row]) -> Result<Option<usize>, AllocError> {
+    for (index, (row, count, error)) in rows.iter().enumerate() {
+        let mut bytes = Vec::from_slice(alloc, front)?;
+        bytes.extend_from_slice(row)?;
+        if read_cut(alloc, &bytes) != Some((*count, *error)) {
+            return Ok(Some(index));
+        }
+    }
+    Ok(None)
+}
+
+#[test]
+fn entries_in_any_pieces(rt: HostRuntime) -> Result<(), Fail> {
+    let rows: [Row; 4] = [
+        (b"", 0, None),
+        (b"S 0 5\nhello\nM 0\n", 2, None),
+        (b"R 7 1\n\n\nF 7 2\n\n\n\n", 2, None),
+        (b"M 9999999999999\nM 9999999999999\n", 2, None),
+    ];
+    assert_eq!(rt; first_other(rt.alloc(), HEADER, &rows)?, None);
+    Ok(())
+}
+
+#[test]
+fn faults_of_a_line_in_any_pieces(rt: HostRuntime) -> Result<(), Fail> {
+    let rows: [Row; 5] = [
+        (
+            b"1111111111111111111111111111111",
+            0,
+            Some(LogError::Truncated),
+        ),
+        (
+            b"11111111111111111111111111111111",
+            0,
+            Some(LogError::EntryLine),
+        ),
+        (
+            b"M 000000000000000000000000000001\n",
+            0,
+            Some(LogError::EntryLine),
+        ),
+        (b"S 0 5\nhelloX", 0, Some(LogError::EntryLine)),
+        (b"S 0 5\nhell", 0, Some(LogError::Truncated)),
+    ];
+    assert_eq!(rt; first_other(rt.alloc(), HEADER, &rows)?, None);
+    Ok(())
+}
+
+#[test]
+fn faults_of_a_message_in_any_pieces(rt: HostRuntime) -> Result<(), Fail> {
+    let rows: [Row; 5] = [
+        (b"S 0 5\nhello", 0, Some(LogError::Truncated)),
+        (b"S 0 0\n", 0, Some(LogError::Limit)),
+        (b"S 0 65536\n", 0, Some(LogError::Limit)),
+        (b"M 0 \n", 0, Some(LogError::EntryLine)),
+        (b"M 0 1\n", 0, Some(LogError::EntryLine)),
+    ];
+    assert_eq!(rt; first_other(rt.alloc(), HEADER, &rows)?, None);
+    Ok(())
+}
+
+#[test]
+fn faults_of_numbers_in_any_pieces(rt: HostRuntime) -> Result<(), Fail> {
+    let rows: [Row; 8] = [
+        (b"M 10000000000000\n", 0, Some(LogError::Limit)),
+        (b"s 0 5\n", 0, Some(LogError::EntryLine)),
+        (b"S 0  5\nhello\n", 0, Some(LogError::EntryLine)),
+        (b"S 10000000000000 199\n", 0, Some(LogError::Limit)),
+        (b"S 99999999999999999999999 99\n", 0, Some(LogError::Limit)),
+        (b"S 00 199\n", 0, Some(LogError::EntryLine)),
+        (b"M 5\nM 4\n", 1, Some(LogError::Order)),
+        (b"M 5\nS 4 9\n", 1, Some(LogError::Order)),
+    ];
+    assert_eq!(rt; first_other(rt.alloc(), HEADER, &rows)?, None);
+    Ok(())
+}
+
+#[test]
+fn headers_in_any_pieces(rt: HostRuntime) -> Result<(), Fail> {
+    let rows: [Row; 13] = [
+        (HEADER, 0, None),
+        (
+            b"sip-trace 1\nt1 10000 t2 60000 t4 60000 tolerance 10000\n",
+            0,
+            None,
+        ),
+        (b"sip-trace 1\nt1 1 t2 1 t4 1 tolerance 0\n", 0, None),
+        (b"", 0, Some(LogError::Header)),
+        (b"sip-trace 1", 0, Some(LogError::Header)),
+        (
+            b"sip-trace 2\nt1 500 t2 4000 t4 5000 tolerance 50\n",
+            0,
+            Some(LogError::Header),
+        ),
+        (
+            b"sip-trace 1\nt1 500 t2 4000 t4 5000 tolerance 50",
+            0,
+            Some(LogError::Header),
+        ),
+        (
+            b"sip-trace 1\nt1 500 t2 4000 t4 5000 tolerance 50\r\n",
+            0,
+            Some(LogError::Header),
+        ),
+        (
+            b"sip-trace 1\nt1 500 t2 4000 t4 5000\n",
+            0,
+            Some(LogError::Header),
+        ),
+        (
+            b"sip-trace 1\nt1 0500 t2 4000 t4 5000 tolerance 50\n",
+            0,
+            Some(LogError::Header),
+        ),
+        (
+            b"sip-trace 1\nt1 0 t2 4000 t4 5000 tolerance 50\n",
+            0,
+            Some(LogError::Header),
+        ),
+        (
+            b"sip-trace 1\nt1 500 t2 4000 t4 5000 tolerance 10001\n",
+            0,
+            Some(LogError::Header),
+        ),
+        (
+            b"sip-trace 1\nt1 500  t2 4000 t4 5000 tolerance 50\n",
+            0,
+            Some(LogError::Header),
+        ),
+    ];
+    assert_eq!(rt; first_other(rt.alloc(), b"", &rows)?, None);
+    Ok(())
+}
+
+/// A source that fails at its nth call: `Io` and then `Failed`, and no fault of the log, whatever was read before.
+#[test]
+fn a_source_that_fails(rt: HostRuntime) -> Result<(), Fail> {
+    let mut bytes = Vec::from_slice(rt.alloc(), HEADER)?;
+    bytes.extend_from_slice(b"S 0 5\nhello\nM 6000\n")?;
+    // The last call finds the end.
+    for calls in 0..=bytes.len() {
+        let answer = read(rt.alloc(), Pieces::failing(&bytes, calls)).ok_or("told otherwise")?;
+        assert_eq!(rt; answer.1, Some(LogError::Io), "after {calls}");
+    }
+    assert_eq!(rt;
+        read(rt.alloc(), Pieces::failing(&bytes, bytes.len() + 1)),
+        Some((2, None))
+    );
+    Ok(())
+}
+
+/// The largest message, the last moment, and what stays known after an error.
+#[test]
+fn what_an_entry_tells(rt: HostRuntime) -> Result<(), Fail> {
+    let mut message = Vec::new(rt.alloc());
+    message.resize(65_535, b'\n')?;
+    let mut bytes = Vec::from_slice(rt.alloc(), HEADER)?;
+    bytes.extend_from_slice(b"R 9999999999999 65535\n")?;
+    bytes.extend_from_slice(&message)?;
+    bytes.extend_from_slice(b"\nx")?;
+    let mut reader = LogReader::new(rt.alloc(), FromRead::new(bytes.as_slice()));
+    assert!(rt; reader.params().is_none());
+    let entry = reader.next().ok().flatten().ok_or("no entry")?;
+    assert_eq!(rt;
+        (entry.number, entry.moment, entry.action),
+        (1, 9_999_999_999_999, Action::Received)
+    );
+    assert!(rt; entry.bytes.as_slice() == message.as_slice());
+    assert!(rt; matches!(reader.next(), Err(LogError::Truncated)));
+    assert_eq!(rt; reader.params().map(|params| params.tolerance()), Some(50));
+    Ok(())
+}
+
+/// Writes a header and three entries.
+fn write<W: Sink>(writer: &mut W, params: &Params) -> Result<(), WriteError> {
+    write_header(writer, params)?;
+    write_entry(writer, Action::Sent, 0, b"hello")?;
+    write_entry(writer, Action::Failed, 7, b"\n")?;
+    write_entry(writer, Action::Received, 9_999_999_999_999, b"hi")?;
+    write_entry(writer, Action::Mark, 9_999_999_999_999, b"plays no part")
+}
+
+const WRITTEN: &[u8] =
+    b"sip-trace 1\nt1 500 t2 4000 t4 5000 tolerance 50\nS 0 5\nhello\nF 7 1\n\n\nR 9999999999999 2\nhi\nM 9999999999999\n";
+
+#[test]
+fn what_is_written(rt: HostRuntime) -> Result<(), Fail> {
+    let params = Params::new(500, 4_000, 5_000, 50).ok_or("refused")?;
+    let mut text = Vec::new(rt.alloc());
+    let mut sink = ToWrite::new(&mut text);
+    assert_eq!(rt; write(&mut sink, &params), Ok(()));
+    assert!(rt; text.as_slice() == WRITTEN);
+    assert_eq!(rt; read_cut(rt.alloc(), WRITTEN), Some((4, None)));
+    let entries = read_entries(rt.alloc(), &mut FromRead::new(WRITTEN));
+    assert_eq!(rt; entries.ok().map(|entries| entries.len()), Some(4));
+    Ok(())
+}
+
+/// With any growth refused, the log is read whole, or want of memory is told.
+#[test]
+fn reads_or_tells_want_of_memory(rt: HostRuntime) {
+    let answer = read(rt.alloc(), FromRead::new(WRITTEN));
+    assert!(rt; matches!(answer, Some((4, None)) | Some((_, Some(LogError::Memory)))));
+}
+
+#[test]
+fn what_is_not_written(rt: HostRuntime) -> Result<(), Fail> {
+    let mut long = Vec::new(rt.alloc());
+    long.resize(65_536, b'x')?;
+    let rows: [(Action, u64, &[u8], Result<(), WriteError>); 6] = [
+        (Action::Sent, 0, b"", Err(WriteError::Limit)),
+        (Action::Received, 0, &long, Err(WriteError::Limit)),
+        (
+            Action::Failed,
+            10_000_000_000_000,
+            b"x",
+            Err(WriteError::Limit),
+        ),
+        (
+            Action::Mark,
+            10_000_000_000_000,
+            b"",
+            Err(WriteError::Limit),
+        ),
+        (Action::Mark, 0, &long, Ok(())),
+        (Action::Sent, 0, &long[1..], Ok(())),
+    ];
+    for (action, moment, bytes, want) in rows {
+        let mut room = Room::of(1_000);
+        assert_eq!(rt;
+            write_entry(&mut room, action, moment, bytes),
+            want,
+            "{action:?} {moment}"
+        );
+        assert_eq!(rt; room.taken() == 0, want.is_err(), "{action:?} {moment}");
+    }
+    Ok(())
+}
+
+/// A sink that fails at its nth call.
+#[test]
+fn a_sink_that_fails(rt: HostRuntime) -> Result<(), Fail> {
+    let params = Params::new(500, 4_000, 5_000, 50).ok_or("refused")?;
+    let mut room = Room::of(1_000);
+    assert_eq!(rt; write(&mut room, &params), Ok(()));
+    for calls in 0..room.taken() {
+        let mut room = Room::of(calls);
+        assert_eq!(rt;
+            write(&mut room, &params),
+            Err(WriteError::Io),
+            "after {calls}"
+        );
+        assert!(rt; room.has_failed());
+    }
+    Ok(())
+}

@@ -1,0 +1,121 @@
+//! Devices of the tests.
+ghost use Rattle.std.specs.Prelude.{None, Some};
+
+use crate::{Broken, Sink, Source};
+
+/// Hands out bytes in pieces: the first of one size, and each other of a second one.
+#[derive(Drop)]
+pub(crate) struct Pieces<'a> {
+    bytes: &'a [u8],
+    first: usize,
+    others: usize,
+    /// The calls that are answered before one fails; none fails where there is no number.
+    calls: Option<usize>,
+    failed: bool,
+}
+
+impl<'a> Pieces<'a> {
+    /// The bytes before a place in one piece, and those behind it in another.
+    pub(crate) fn cut_at(bytes: &'a [u8], place: usize) -> Pieces<'a> {
+        Pieces {
+            bytes,
+            first: place,
+            others: bytes.len(),
+            calls: None,
+            failed: false,
+        }
+    }
+
+    /// Single bytes.
+    pub(crate) fn single(bytes: &'a [u8]) -> Pieces<'a> {
+        Pieces {
+            bytes,
+            first: 1,
+            others: 1,
+            calls: None,
+            failed: false,
+        }
+    }
+
+    /// Single bytes, and the call behind so many fails.
+    pub(crate) fn failing(bytes: &'a [u8], calls: usize) -> Pieces<'a> {
+        Pieces {
+            bytes,
+            first: 1,
+            others: 1,
+            calls: Some(calls),
+            failed: false,
+        }
+    }
+}
+
+impl<'a> Source for Pieces<'a> {
+    ghost left = { λ s. Some s.bytes.now };
+
+    ghost has_failed = { λ s. s.failed };
+
+    fn fill(&mut self, buf: &mut [u8]) -> Result<usize, Broken> {
+        match self.calls {
+            Some(0) => {
+                self.failed = true;
+                return Err(Broken);
+            }
+            Some(calls) => self.calls = Some(calls - 1),
+            None => {}
+        }
+        // A piece of no bytes would be the end.
+        let size = self.first.max(1);
+        let count = size.min(self.bytes.len()).min(buf.len());
+        self.first = self.others;
+        let (piece, rest) = self.bytes.split_at(count);
+        buf[..count].copy_from_slice(piece);
+        self.bytes = rest;
+        Ok(count)
+    }
+
+    fn has_failed(&self) -> bool {
+        self.failed
+    }
+}
+
+/// Takes so many pieces, keeps none of them, and then fails.
+#[derive(Drop)]
+pub(crate) struct Room {
+    calls: usize,
+    taken: usize,
+    failed: bool,
+}
+
+impl Room {
+    pub(crate) fn of(calls: usize) -> Room {
+        Room {
+            calls,
+            taken: 0,
+            failed: false,
+        }
+    }
+
+    /// How many pieces were taken.
+    pub(crate) fn taken(&self) -> usize {
+        self.taken
+    }
+}
+
+impl Sink for Room {
+    ghost written = { λ _. None };
+
+    ghost has_failed = { λ s. s.failed };
+
+    fn put(&mut self, _bytes: &[u8]) -> Result<(), Broken> {
+        if self.taken >= self.calls {
+            self.failed = true;
+            return Err(Broken);
+        }
+        self.taken += 1;
+        Ok(())
+    }
+
+    fn has_failed(&self) -> bool {
+        self.failed
+    }
+}

@@ -1,0 +1,25 @@
+//! Why a log could not be written.
+ghost use Rattle.std.specs.Prelude.{◌≡◌};
+ghost use Rattle.sip_log.specs.declared.write_error.WriteError.TheVariants.{Io};
+
+use crate::broken::Broken;
+use thiserror::Error;
+
+/// Why a header or an entry could not be written.
+#[derive(Clone, Copy, Debug, PartialEq, Eq, Error)]
+pub enum WriteError {
+    /// The moment or the length is outside the limits of a log; nothing was written.
+    #[error("outside the limits")]
+    Limit,
+    /// The sink failed; how much was written is not said.
+    #[error("cannot write")]
+    Io,
+}
+
+impl From<Broken> for WriteError {
+    ghost from_gives = { λ _ e. e ≡ Io };
+
+    fn from(_broken: Broken) -> WriteError {
+        WriteError::Io
+    }
+}

@@ -1,0 +1,96 @@
+//! Writes a log: its header, and then its entries.
+ghost use Rattle.std.specs.Prelude.{◌≡◌, ◌++◌, ◌∷◌, [], ℕ, List, length, decimal, codes, true, OnOk, OnErr};
+ghost use Rattle.std.specs.Io.KnownBytes.{Appends};
+ghost use Rattle.sip_log.specs.Spelling.{header_text, entry_text, times_text, line_text, length_text, body_text, letter, line_feed};
+ghost use Rattle.sip_log.specs.Log.{IsWithinLimits};
+ghost use Rattle.sip_log.specs.Writing.{Writes, WritesWithin};
+ghost use Rattle.sip_log.specs.inner.Puts.{Puts};
+
+use crate::broken::Broken;
+use crate::line::{is_within_limits, letter_of};
+use crate::sink::Sink;
+use crate::write_error::WriteError;
+use itoa::Buffer;
+use sip_machine::{Action, Params};
+
+/// Writes the header of a log: the format, and the times of the element. Takes no memory.
+pub fn write_header<W: Sink>(writer: &mut W, params: &Params) -> Result<(), WriteError>
+    ensures { Writes (W.written writer.old) (W.written writer.new) (W.has_failed writer.old) (W.has_failed writer.new)
+        (header_text params.now) result }
+{
+    writer.put(b"sip-trace 1\n")?;
+    put_named(writer, b"t1 ", params.t1())?;
+    put_named(writer, b" t2 ", params.t2())?;
+    put_named(writer, b" t4 ", params.t4())?;
+    put_named(writer, b" tolerance ", params.tolerance())?;
+    writer.put(b"\n")?;
+    Ok(())
+}
+
+/// Writes an entry: what was done at a moment, in milliseconds, and the message. With a mark the bytes play no part.
+/// Takes no memory.
+///
+/// `WriteError::Limit` is answered where the moment is above 9,999,999,999,999, or a message has no byte or more than
+/// 65,535; nothing is written then.
+pub fn write_entry<W: Sink>(
+    writer: &mut W,
+    action: Action,
+    moment: u64,
+    bytes: &[u8],
+) -> Result<(), WriteError>
+    ensures { WritesWithin (IsWithinLimits action moment (length bytes.now)) writer.old writer.new
+        (Writes (W.written writer.old) (W.written writer.new) (W.has_failed writer.old) (W.has_failed writer.new)
+        (entry_text (record { action = action; moment = moment; text = bytes.now })) result) result }
+{
+    if !is_within_limits(action, moment, bytes.len() as u64) {
+        return Err(WriteError::Limit);
+    }
+    put_line(writer, action, moment, bytes.len() as u64)?;
+    put_body(writer, action, bytes)?;
+    Ok(())
+}
+
+/// Writes the line of an entry and its line feed.
+fn put_line<W: Sink>(writer: &mut W, action: Action, moment: u64, len: u64) -> Result<(), Broken>
+    ensures { Puts (W.written writer.old) (W.written writer.new) (W.has_failed writer.old) (W.has_failed writer.new)
+        (line_text action moment len ++ line_feed ∷ []) result }
+{
+    writer.put(&[letter_of(action)])?;
+    put_named(writer, b" ", moment)?;
+    put_length(writer, action, len)?;
+    writer.put(b"\n")
+}
+
+/// Writes the length of a message behind the moment; nothing for a mark.
+fn put_length<W: Sink>(writer: &mut W, action: Action, len: u64) -> Result<(), Broken>
+    ensures { Puts (W.written writer.old) (W.written writer.new) (W.has_failed writer.old) (W.has_failed writer.new)
+        (length_text action len) result }
+{
+    match action {
+        Action::Sent | Action::Received | Action::Failed => put_named(writer, b" ", len),
+        Action::Mark => Ok(()),
+    }
+}
+
+/// Writes a message and its line feed; nothing for a mark.
+fn put_body<W: Sink>(writer: &mut W, action: Action, bytes: &[u8]) -> Result<(), Broken>
+    ensures { Puts (W.written writer.old) (W.written writer.new) (W.has_failed writer.old) (W.has_failed writer.new)
+        (body_text action bytes.now) result }
+{
+    match action {
+        Action::Sent | Action::Received | Action::Failed => {
+            writer.put(bytes)?;
+            writer.put(b"\n")
+        }
+        Action::Mark => Ok(()),
+    }
+}
+
+/// Writes a name and the number behind it.
+fn put_named<W: Sink>(writer: &mut W, name: &[u8], number: u64) -> Result<(), Broken>
+    ensures { Puts (W.written writer.old) (W.written writer.new) (W.has_failed writer.old) (W.has_failed writer.new)
+        (name.now ++ decimal number) result }
+{
+    writer.put(name)?;
+    writer.put(Buffer::new().format(number).as_bytes())
+}

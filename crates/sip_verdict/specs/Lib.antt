@@ -1,16 +1,10 @@
-pub mod Entry
-pub mod Header
 pub mod Key
 pub mod Keyed
-pub mod Line
-pub mod Log
-pub mod Next
-pub mod Number
+pub mod LogReason
 pub mod PlainForm
 pub mod PlainReading
 pub mod Reading
 pub mod Rendering
-pub mod Source
 pub mod VerdictOf
 pub mod Verdicts
 pub mod inner

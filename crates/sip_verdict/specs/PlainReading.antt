@@ -7,10 +7,10 @@ use Rattle.sip_machine.specs.Times.{Times}
 use Rattle.sip_machine.specs.Heard.{Heard}
 use Rattle.sip_machine.specs.Message.{kind_of}
 use Rattle.sip_machine.specs.PlainClient.{PlainPhase, plain_rules}
+use Rattle.sip_log.specs.Spelling.{Item}
 use Rattle.sip_message.specs.declared.fault.Fault.{Fault}
 use Rattle.sip_message.specs.declared.fault.Unit.TheVariants.{Head}
 use Rattle.sip_message.specs.declared.fault.Reason.TheVariants.{NotYet}
-use Rattle.sip_verdict.specs.Entry.{Item}
 use Rattle.sip_verdict.specs.PlainForm.{PlainParts, PlainText}
 use Rattle.sip_verdict.specs.Key.{PlainKey, key_of, same_key}
 use Rattle.sip_verdict.specs.Keyed.{Observation, Machines}

@@ -1,9 +1,6 @@
-pub mod Answers
 pub mod Judging
 pub mod Leads
 pub mod PlainPieces
 pub mod PlainTracking
-pub mod Reads
 pub mod Stepping
 pub mod Tracking
-pub mod Window

@@ -2,24 +2,17 @@
 //! one of them has no run.
 #![tactic(auto)]
 
-mod entry;
-mod header;
 mod judge_error;
 mod judging;
 mod key;
 mod laws;
-mod line;
-mod log_error;
 mod log_reason;
-mod number;
 mod passing;
 mod plain_form;
 mod rendering;
-mod source;
 mod standing;
 mod transaction;
 mod verdict;
-mod window;
 
 pub use judge_error::JudgeError;
 pub use judging::{judge, judge_bytes};
@@ -27,5 +20,4 @@ pub use laws::{a_legal_log_has_runs, an_input_has_one_verdict};
 pub use log_reason::LogReason;
 pub use rendering::render;
 pub use sip_message::{Fault, Reason, Unit};
-pub use source::{Broken, FromRead, Source};
 pub use verdict::Verdict;

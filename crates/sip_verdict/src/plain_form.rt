@@ -5,8 +5,7 @@ ghost use Rattle.std.specs.List.{prefix_len};
 ghost use Rattle.std.specs.Char.{is_ascii_uppercase, is_ascii_alphanumeric};
 ghost use Rattle.sip_text.specs.Text.{IsOnlyValue};
 ghost use Rattle.sip_verdict.specs.PlainForm.{IsRequest, IsResponse, IsPlainMethod, IsBranchEnd, PlainText, parts_of};
-ghost use Rattle.sip_verdict.specs.Number.{digit_zero};
-ghost use Rattle.sip_verdict.specs.inner.PlainPieces.{StartsWithMethod, StartsWithBranchEnd, StartsWithCode, AreCodeDigits, AreFixedFields, AreFields, fronts, rest_of, code_and_rest, digit_nine};
+ghost use Rattle.sip_verdict.specs.inner.PlainPieces.{StartsWithMethod, StartsWithBranchEnd, StartsWithCode, AreCodeDigits, AreFixedFields, AreFields, fronts, rest_of, code_and_rest, digit_zero, digit_nine};
 
 use sip_machine::{Action, Kind};
 

@@ -11,7 +11,8 @@ ghost use Rattle.siptrace.specs.declared.Failure.TheVariants.{Memory, Read};
 ghost use Rattle.siptrace.specs.Failures.{failure_of, status_without};
 ghost use Rattle.siptrace.specs.Status.{status_of, IsStatus};
 
-use sip_verdict::{FromRead, JudgeError, Verdict, judge, render};
+use sip_log::FromRead;
+use sip_verdict::{JudgeError, Verdict, judge, render};
 use std::alloc::AllocError;
 use std::hash::RandomState;
 use std::process::ExitCode;

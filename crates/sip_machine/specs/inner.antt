@@ -1,2 +1,4 @@
 pub mod PlainLaws
 pub mod Single
+pub mod Outbox
+pub mod Start

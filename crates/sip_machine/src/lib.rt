@@ -5,13 +5,16 @@ mod book;
 mod event;
 pub mod laws;
 mod machine;
+mod outbox;
 mod params;
 mod plain_client;
+mod provisional;
 #[cfg(test)]
 mod tests;
 
 pub use book::Book;
-pub use event::{Action, Event, Kind};
+pub use event::{Action, Event, Kind, Method};
 pub use machine::Machine;
+pub use outbox::{Debt, Outbox};
 pub use params::Params;
 pub use plain_client::{PlainClient, PlainState, PlainWaiting};

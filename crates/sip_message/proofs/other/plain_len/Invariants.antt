@@ -1,7 +1,10 @@
-use Rattle.std.proofs.Common.{◌≡◌, ℕ, ◌<◌, true, get_or}
-use Rattle.sip_message.specs.inner.ValueFronts.{is_plain_byte}
-use Rattle.sip_message.proofs.values.plain_len.Given as goal
+use Rattle.std.proofs.Common.{◌-◌, ◌≤◌, length}
+use Rattle.sip_message.specs.inner.ValueFronts.{ArePlain}
+use Rattle.sip_message.proofs.other.plain_len.Given as goal
 
--- each byte so far passes
+-- the bytes so far are plain
 abbrev pub invariant-loop-at : goal.invariant-loop-at
-invariant-loop-at l = (k : ℕ) → k < l.at → is_plain_byte (get_or l.text k 0) ≡ true
+invariant-loop-at l = (l.at ≤ length l.text) × ArePlain l.text 0 l.at
+
+abbrev pub decreases-loop-at : goal.decreases-loop-at
+decreases-loop-at l = length l.text - l.at

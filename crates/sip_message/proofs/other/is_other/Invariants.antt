@@ -1,7 +1,7 @@
 use Rattle.std.proofs.Common.{◌≤◌, ◌-◌, length}
 use Rattle.sip_text.specs.Text.{Many, HasFront}
 use Rattle.sip_message.proofs.OtherLemmas.{OtherItem}
-use Rattle.sip_message.proofs.values.is_other.Given as goal
+use Rattle.sip_message.proofs.other.is_other.Given as goal
 
 -- the front so far is pieces
 abbrev pub invariant-folds : goal.invariant-folds

@@ -6,13 +6,24 @@ use sip_message::{Message, ReadError, write};
 use std::process::Abort;
 use std::test::Fail;
 
+/// A request with seventeen fields, for which reading takes memory twice.
+const SEVENTEEN: &[u8] = b"OPTIONS sip:example.com SIP/2.0\r\n\
+    v: SIP/2.0/UDP a.example.com\r\n\
+    f: <sip:bob@example.com>;tag=1\r\n\
+    t: sip:bob@example.com\r\n\
+    i: c2@a\r\n\
+    CSeq: 1 OPTIONS\r\n\
+    l: 0\r\n\
+    a:\r\na:\r\na:\r\na:\r\na:\r\na:\r\na:\r\na:\r\na:\r\na:\r\na:\r\n\
+    \r\n";
+
 /// Reads the message, and a second time where memory was refused.
 fn read_again(rt: &(impl Abort + AllocGlobal)) -> Result<(), Fail> {
-    let Err(error) = Message::read(rt.alloc(), FOLDED) else {
+    let Err(error) = Message::read(rt.alloc(), SEVENTEEN) else {
         return Ok(());
     };
     assert_eq!(rt; error, ReadError::Memory);
-    assert!(rt; Message::read(rt.alloc(), FOLDED).is_ok());
+    assert!(rt; Message::read(rt.alloc(), SEVENTEEN).is_ok());
     Err(error.into())
 }
 

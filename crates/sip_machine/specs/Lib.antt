@@ -10,3 +10,4 @@ pub mod Debts
 pub mod Owes
 pub mod inner
 pub mod PlainClient
+pub mod PlainServer

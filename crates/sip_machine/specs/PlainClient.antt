@@ -7,7 +7,7 @@ use Rattle.sip_machine.specs.declared.plain_client.PlainWaiting.{PlainWaiting}
 use Rattle.sip_machine.specs.declared.plain_client.PlainState.{PlainState}
 use Rattle.sip_machine.specs.declared.plain_client.PlainState.TheVariants as code
 use Rattle.sip_machine.specs.Times.{Times, last_moment}
-use Rattle.sip_machine.specs.Limits.{open_at, close_at, IsWithin}
+use Rattle.sip_machine.specs.Limits.{open_at, close_at, window_at, IsWithin}
 use Rattle.sip_machine.specs.Texts.{Texts, text_of}
 use Rattle.sip_machine.specs.Heard.{Heard}
 use Rattle.sip_machine.specs.Message.{IsProvisional, IsFinal}
@@ -77,9 +77,9 @@ Steps p x Mark kind e y = ⊥
 -- when a machine may end: timers F and K
 abbrev pub plain_window : Times → PlainPhase → Option (ℕ × Option ℕ)
 plain_window p Idle = None
-plain_window p (Trying w) = Some (open_at p w.start (timer_f p), Some (close_at p w.start (timer_f p)))
-plain_window p (Proceeding w) = Some (open_at p w.start (timer_f p), Some (close_at p w.start (timer_f p)))
-plain_window p (Completed reliable set) = Some (open_at p set (timer_k p reliable), Some (close_at p set (timer_k p reliable)))
+plain_window p (Trying w) = window_at p w.start (timer_f p)
+plain_window p (Proceeding w) = window_at p w.start (timer_f p)
+plain_window p (Completed reliable set) = window_at p set (timer_k p reliable)
 plain_window p Ended = None
 
 -- the last moment of a request that waits: timer F fires by then, and over an unreliable transport timer E too

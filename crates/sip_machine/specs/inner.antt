@@ -1,4 +1,9 @@
 pub mod PlainLaws
 pub mod Single
+pub mod Both
+pub mod DebtLaws
+pub mod OwesLaws
+pub mod PlainServerAt
+pub mod PlainServerLaws
 pub mod Outbox
 pub mod Start

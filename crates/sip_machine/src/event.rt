@@ -1,10 +1,10 @@
 //! What happened at a moment: a message that was sent, received, or refused by the transport.
-ghost use Rattle.std.specs.Prelude.{◌≡◌, ◌≢◌, ◌≤◌, false};
+ghost use Rattle.std.specs.Prelude.{◌≡◌, ◌≢◌, ◌≤◌, ◌↔◌, IsTrue, false};
 ghost use Rattle.sip_message.specs.Message.{is_stream};
 ghost use Rattle.sip_message.specs.ValueParts.{start_parts};
 ghost use Rattle.sip_machine.specs.declared.event.Action.TheVariants.{Mark};
 ghost use Rattle.sip_machine.specs.Times.{last_moment};
-ghost use Rattle.sip_machine.specs.Message.{method_named, kind_of};
+ghost use Rattle.sip_machine.specs.Message.{method_named, kind_of, IsProvisional, IsFinal};
 
 use sip_message::{Message, StartLine};
 use std::marker::Model;
@@ -63,6 +63,20 @@ impl Kind {
             StartLine::Status { code, .. } => Kind::Response(code),
         }
     }
+}
+
+/// Whether the code is that of a provisional response (RFC 3261, section 7.2).
+pub(crate) fn is_provisional(code: u16) -> bool
+    ensures { IsTrue result ↔ IsProvisional code }
+{
+    (100..=199).contains(&code)
+}
+
+/// Whether the code is that of a final response (RFC 3261, section 7.2).
+pub(crate) fn is_final(code: u16) -> bool
+    ensures { IsTrue result ↔ IsFinal code }
+{
+    (200..=699).contains(&code)
 }
 
 /// A message that was sent, received or refused at a moment, by its number in a `Book`.

@@ -4,11 +4,14 @@
 mod book;
 mod event;
 pub mod laws;
+mod limit;
 mod machine;
 mod outbox;
 mod params;
 mod plain_client;
+mod plain_server;
 mod provisional;
+mod push;
 #[cfg(test)]
 mod tests;
 
@@ -18,3 +21,4 @@ pub use machine::Machine;
 pub use outbox::{Debt, Outbox};
 pub use params::Params;
 pub use plain_client::{PlainClient, PlainState, PlainWaiting};
+pub use plain_server::{PlainServer, PlainServerState};

@@ -2,6 +2,9 @@
 ghost use Rattle.std.specs.Prelude.{◌≡◌, false};
 ghost use Rattle.sip_machine.specs.PlainClient.{PlainInRange};
 
+mod event;
+mod plain_server;
+
 use crate::{
     Action, Book, Event, Kind, Machine, Method, Params, PlainClient, PlainState, PlainWaiting,
 };

@@ -1,4 +1,4 @@
-use Rattle.std.specs.Prelude.{◌≡◌, ◌≤◌, ◌↔◌, ℕ, Bool, true, false, Option, Some, List, [], ◌∷◌, ◌++◌, All, filter, map, min}
+use Rattle.std.specs.Prelude.{◌≡◌, ◌≤◌, ◌↔◌, ℕ, Bool, true, false, Option, Some, option_to_list, List, [], ◌∷◌, ◌++◌, All, filter, map, min}
 use Rattle.std.specs.List.{fold, list_any}
 use Rattle.std.proofs.Common.{refl, sym, ◌∙◌, ap, ap₂, subst, arith, cond}
 use Rattle.std.proofs.lemmas.List.{map-append}
@@ -117,15 +117,13 @@ IsWithin-earliest t (m ∷ ms) = (
   λ all. fold-min_above t m ms (All-head (λ m. t ≤ m) m ms all) (All-tail (λ m. t ≤ m) m ms all),
 )
 
--- the earliest of a moment and others
-pub earliest-cons : (m : ℕ) (ms : List ℕ) (least : ℕ) → earliest ms ≡ Some least → earliest (m ∷ ms) ≡ Some (min m least)
-earliest-cons m [] least e = cc
-earliest-cons m (n ∷ ms) least e = ap Some (fold-min m n ms ∙ ap (min m) (inner e))
-  where
-    inner : {a b : ℕ} → ◌≡◌ {A = Option ℕ} (Some a) (Some b) → a ≡ b
-    inner e = cc
+-- the least of the lesser of two moments and others
+fold-min : (a b : ℕ) (ms : List ℕ) → fold min (min a b) ms ≡ min a (fold min b ms)
+fold-min a b [] = refl
+fold-min a b (m ∷ ms) =
+    let assoc : min (min a b) m ≡ min a (min b m) = omega arith in ap (λ c. fold min c ms) assoc ∙ fold-min a (min b m) ms
 
-    fold-min : (a b : ℕ) (ms : List ℕ) → fold min (min a b) ms ≡ min a (fold min b ms)
-    fold-min a b [] = refl
-    fold-min a b (m ∷ ms) =
-        let assoc : min (min a b) m ≡ min a (min b m) = omega arith in ap (λ c. fold min c ms) assoc ∙ fold-min a (min b m) ms
+-- the earliest of a moment and others is the earlier one of it and of their earliest
+pub earliest-option : (m : ℕ) (ms : List ℕ) → earliest (m ∷ option_to_list (earliest ms)) ≡ earliest (m ∷ ms)
+earliest-option m [] = refl
+earliest-option m (n ∷ ms) = ap Some (sym (fold-min m n ms))

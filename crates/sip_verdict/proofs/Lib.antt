@@ -12,6 +12,7 @@ pub mod PlainReadingLemmas
 pub mod PlainTrackingLemmas
 pub mod PlainUnique
 pub mod PrefixLemmas
+pub mod ShowingLemmas
 pub mod Splitting
 pub mod Stepped
 pub mod TrackingLemmas

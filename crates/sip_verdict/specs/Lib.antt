@@ -5,6 +5,7 @@ pub mod PlainForm
 pub mod PlainReading
 pub mod Reading
 pub mod Rendering
+pub mod Showing
 pub mod VerdictOf
 pub mod Verdicts
 pub mod inner

@@ -66,15 +66,15 @@ fn stops_at_a_fault(rt: HostRuntime) -> Result<(), Fail> {
 f: <sip:bob@example.com>;tag=1\r\nt: sip:bob@example.com\r\ni: c2@a\r\nCSeq: 1 OPTIONS\r\nl: 0\r\n\r\n";
     let log = format!(in rt.alloc(); "{HEADER}S 0 180\n{bare}\nM 0\n")?;
     let (text, answer) = shown(rt.alloc(), log.as_str().as_bytes())?;
-    assert!(rt; text.as_slice() == b"malformed 1 head 2 BareLineEnd\n");
+    assert!(rt; text.as_slice() == b"malformed 1 head 2 BareLineEnd\n".as_slice());
     assert!(rt; matches!(answer, Shown::Malformed { entry: 1, .. }));
     let log = format!(in rt.alloc(); "{HEADER}M 5\nM 4\n")?;
     let (text, answer) = shown(rt.alloc(), log.as_str().as_bytes())?;
-    assert!(rt; text.as_slice() == b"1 M 5\nlog fault 2 23 Order\n");
+    assert!(rt; text.as_slice() == b"1 M 5\nlog fault 2 23 Order\n".as_slice());
     let reason = LogReason::Order;
     assert_eq!(rt; answer, Shown::LogFault { entry: 2, reason });
     let (text, _) = shown(rt.alloc(), b"")?;
-    assert!(rt; text.as_slice() == b"log fault 0 20 Header\n");
+    assert!(rt; text.as_slice() == b"log fault 0 20 Header\n".as_slice());
     Ok(())
 }
 

@@ -1,5 +1,5 @@
-use Rattle.std.specs.Prelude.{◌≡◌, ◌<◌, ◌^◌, not}
-use Rattle.std.proofs.Common.{sym, ap, ◌∙◌}
+use Rattle.std.specs.Prelude.{◌≡◌, ◌<◌, ◌^◌}
+use Rattle.std.proofs.Common.{ap, ◌∙◌}
 use Rattle.sip_machine.specs.Heard.{heard}
 use Rattle.sip_machine.specs.Limits.{close_at}
 use Rattle.sip_machine.proofs.PlainServerSteps.{Receives-idle, Receives-proceeding, Receives-completed}

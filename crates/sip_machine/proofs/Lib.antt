@@ -1,5 +1,7 @@
 pub mod PlainSteps
 pub mod PlainServerSteps
+pub mod InviteServerEnds
+pub mod InviteServerSteps
 pub mod RuleLaws
 pub mod SingleLemmas
 pub mod BothLemmas

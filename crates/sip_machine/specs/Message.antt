@@ -22,3 +22,11 @@ IsProvisional code = (100 ≤ code) × (code ≤ 199)
 -- a final response, section 7.2: 2xx to 6xx
 abbrev pub IsFinal : ℕ → Type 0
 IsFinal code = (200 ≤ code) × (code ≤ 699)
+
+-- a success, section 7.2: 2xx
+abbrev pub IsSuccess : ℕ → Type 0
+IsSuccess code = (200 ≤ code) × (code ≤ 299)
+
+-- any other final response, section 7.2: 3xx to 6xx
+abbrev pub IsUnsuccessful : ℕ → Type 0
+IsUnsuccessful code = (300 ≤ code) × (code ≤ 699)

@@ -5,5 +5,7 @@ pub mod DebtLaws
 pub mod OwesLaws
 pub mod PlainServerAt
 pub mod PlainServerLaws
+pub mod InviteServerAt
+pub mod InviteServerLaws
 pub mod Outbox
 pub mod Start

@@ -4,7 +4,7 @@ ghost use Rattle.sip_message.specs.Message.{is_stream};
 ghost use Rattle.sip_message.specs.ValueParts.{start_parts};
 ghost use Rattle.sip_machine.specs.declared.event.Action.TheVariants.{Mark};
 ghost use Rattle.sip_machine.specs.Times.{last_moment};
-ghost use Rattle.sip_machine.specs.Message.{method_named, kind_of, IsProvisional, IsFinal};
+ghost use Rattle.sip_machine.specs.Message.{method_named, kind_of, IsProvisional, IsFinal, IsSuccess, IsUnsuccessful};
 
 use sip_message::{Message, StartLine};
 use std::marker::Model;
@@ -77,6 +77,20 @@ pub(crate) fn is_final(code: u16) -> bool
     ensures { IsTrue result ↔ IsFinal code }
 {
     (200..=699).contains(&code)
+}
+
+/// Whether the code is that of a 2xx (RFC 3261, section 7.2).
+pub(crate) fn is_success(code: u16) -> bool
+    ensures { IsTrue result ↔ IsSuccess code }
+{
+    (200..=299).contains(&code)
+}
+
+/// Whether the code is that of any other final response (RFC 3261, section 7.2).
+pub(crate) fn is_unsuccessful(code: u16) -> bool
+    ensures { IsTrue result ↔ IsUnsuccessful code }
+{
+    (300..=699).contains(&code)
 }
 
 /// A message that was sent, received or refused at a moment, by its number in a `Book`.

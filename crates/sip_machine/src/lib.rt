@@ -3,6 +3,7 @@
 
 mod book;
 mod event;
+mod invite_server;
 pub mod laws;
 mod limit;
 mod machine;
@@ -17,6 +18,7 @@ mod tests;
 
 pub use book::Book;
 pub use event::{Action, Event, Kind, Method};
+pub use invite_server::{InviteServer, InviteServerState};
 pub use machine::Machine;
 pub use outbox::{Debt, Outbox};
 pub use params::Params;

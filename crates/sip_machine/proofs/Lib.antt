@@ -1,5 +1,6 @@
 pub mod PlainSteps
 pub mod PlainServerSteps
+pub mod InviteClientSteps
 pub mod InviteServerEnds
 pub mod InviteServerSteps
 pub mod RuleLaws
@@ -8,3 +9,4 @@ pub mod BothLemmas
 pub mod TextLaws
 pub mod OutboxLemmas
 pub mod ProvisionalLemmas
+pub mod AckLemmas

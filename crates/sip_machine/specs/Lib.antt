@@ -11,4 +11,5 @@ pub mod Owes
 pub mod inner
 pub mod PlainClient
 pub mod PlainServer
+pub mod InviteClient
 pub mod InviteServer

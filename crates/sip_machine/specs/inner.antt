@@ -5,6 +5,9 @@ pub mod DebtLaws
 pub mod OwesLaws
 pub mod PlainServerAt
 pub mod PlainServerLaws
+pub mod InviteClientAt
+pub mod InviteClientLaws
+pub mod Acks
 pub mod InviteServerAt
 pub mod InviteServerLaws
 pub mod Outbox

@@ -3,6 +3,7 @@
 
 mod book;
 mod event;
+mod invite_client;
 mod invite_server;
 pub mod laws;
 mod limit;
@@ -18,6 +19,7 @@ mod tests;
 
 pub use book::Book;
 pub use event::{Action, Event, Kind, Method};
+pub use invite_client::{InviteClient, InviteClientState, InviteWaiting};
 pub use invite_server::{InviteServer, InviteServerState};
 pub use machine::Machine;
 pub use outbox::{Debt, Outbox};

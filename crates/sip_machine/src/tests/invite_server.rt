@@ -433,11 +433,7 @@ fn ends(rt: HostRuntime) -> Result<(), Fail> {
         (&[first], None, Some(250)),
         (&[first, ringing(5)], None, None),
         (&[first, ringing(5), invite(10)], None, Some(60)),
-        (
-            &[first, ok(10)],
-            Some((31_960, Some(32_060))),
-            Some(32_060),
-        ),
+        (&[first, ok(10)], Some((31_960, Some(32_060))), Some(32_060)),
         (&[first, busy(10)], Some((31_960, Some(32_060))), Some(560)),
         (
             &[first, ringing(5), invite(10), busy(20)],

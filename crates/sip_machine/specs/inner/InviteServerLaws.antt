@@ -1,4 +1,4 @@
-use Rattle.std.specs.Prelude.{◌≡◌, ◌≤◌, ◌⊎◌, ◌++◌, ◌*◌, ℕ, Bool, true, false, Option, Some, None, List, [], ◌∷◌, All, Contains, if◌then◌else◌, min}
+use Rattle.std.specs.Prelude.{◌≡◌, ◌≤◌, ◌++◌, ◌*◌, ℕ, Bool, true, false, Option, Some, None, List, [], ◌∷◌, All, Contains, if◌then◌else◌, min}
 use Rattle.std.specs.Cmp.Lexicographic.{pointwise}
 use Rattle.std.specs.Option.{option_eq}
 use Rattle.std.proofs.Common.{refl, sym, ◌∙◌, ap, ap₂, subst, inl, inr, arith, eqb, true≢false}
@@ -16,14 +16,14 @@ use Rattle.sip_machine.specs.declared.invite_server.InviteServerState.TheVariant
 use Rattle.sip_machine.specs.contracts.outbox.DebtPartialEq.TheImpl as debt_eq
 use Rattle.sip_machine.specs.contracts.invite_server.InviteServerStatePartialEq.TheImpl as derived
 use Rattle.sip_machine.specs.Times.{Times}
-use Rattle.sip_machine.specs.Limits.{open_at, close_at, IsWithin}
+use Rattle.sip_machine.specs.Limits.{close_at, IsWithin}
 use Rattle.sip_machine.specs.Texts.{Texts, IsBook, Keeps, text_of}
 use Rattle.sip_machine.specs.Heard.{Heard}
 use Rattle.sip_machine.specs.Rules.{IsLawful, Knows}
-use Rattle.sip_machine.specs.Debts.{Owed, must_owe, may_owe, unexpired, softened, earliest, unless_owed, must_deadlines}
+use Rattle.sip_machine.specs.Debts.{Owed, unexpired, earliest}
 use Rattle.sip_machine.specs.Owes.{owes_seen, owes_names}
 use Rattle.sip_machine.specs.inner.OwesLaws.{owes_exact, owes_apart, owes_seen_by_names, must_deadlines-seen, is_some-deadlines, AreDue, AreDue-unexpired, AreDue-must, AreDue-may, AreDue-paid, AreDue-softened, IsWithin-owed}
-use Rattle.sip_machine.specs.InviteServer.{InviteServerPhase, Idle, Proceeding, Accepted, Completed, Confirmed, Invited, Acknowledged, Receives, Sends, Repays, Emits, Steps, owed_by, with_owes, timers, timer_window, first_response, timer_h, timer_i, timer_l, invite_server_until, invite_server_window, invite_server_rules, last_seen, invite_server_seen, invite_server_names}
+use Rattle.sip_machine.specs.InviteServer.{InviteServerPhase, Idle, Proceeding, Accepted, Completed, Confirmed, Invited, Acknowledged, Receives, Sends, Repays, Emits, Steps, owed_by, with_owes, timers, first_response, timer_h, timer_i, timer_l, invite_server_until, invite_server_window, invite_server_rules, last_seen, invite_server_seen, invite_server_names}
 
 -- equal last responses are the same one
 last_exact : (a b : Option ℕ) → option_eq eqb a b ≡ true → a ≡ b

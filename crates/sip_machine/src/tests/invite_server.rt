@@ -184,9 +184,12 @@ fn run(
     let mut states = Vec::new(alloc);
     states.push(server.first())?;
     for &(moment, action, number, kind) in entries {
-        if moment > 9_999_999_999_999 || action == Action::Mark || book.bytes(number).is_none() {
+        if moment > 9_999_999_999_999 || action == Action::Mark {
             return Err("not an entry".into());
         }
+        let Some(_) = book.bytes(number) else {
+            return Err("not kept".into());
+        };
         let event = Event::plain(moment, action, number, kind);
         states = step(alloc, server, book, &states, &event)?;
     }
@@ -430,11 +433,7 @@ fn ends(rt: HostRuntime) -> Result<(), Fail> {
         (&[first], None, Some(250)),
         (&[first, ringing(5)], None, None),
         (&[first, ringing(5), invite(10)], None, Some(60)),
-        (
-            &[first, ok(10)],
-            Some((31_960, Some(32_060))),
-            Some(32_060),
-        ),
+        (&[first, ok(10)], Some((31_960, Some(32_060))), Some(32_060)),
         (&[first, busy(10)], Some((31_960, Some(32_060))), Some(560)),
         (
             &[first, ringing(5), invite(10), busy(20)],

@@ -12,8 +12,7 @@ pub loop-state-preserved : goal.loop-state-preserved
 loop-state-preserved c =
     let ok = c.in_ok-successors.ensures.ok in
     let next = c.loop-state.next.items in
-    rw ok.1
-    (
+    rw ok.1 (
       All-append (Knows invite_server_names c.args.book.now) next ok.0 c.loop-state.invariant.0 ok.2.known,
       All-append InviteServerInRange next ok.0 c.loop-state.invariant.1 ok.2.in_range,
     )

@@ -1,8 +1,10 @@
 pub mod PlainSteps
 pub mod PlainServerSteps
+pub mod InviteClientSteps
 pub mod RuleLaws
 pub mod SingleLemmas
 pub mod BothLemmas
 pub mod TextLaws
 pub mod OutboxLemmas
 pub mod ProvisionalLemmas
+pub mod AckLemmas

@@ -11,3 +11,4 @@ pub mod Owes
 pub mod inner
 pub mod PlainClient
 pub mod PlainServer
+pub mod InviteClient

@@ -5,5 +5,8 @@ pub mod DebtLaws
 pub mod OwesLaws
 pub mod PlainServerAt
 pub mod PlainServerLaws
+pub mod InviteClientAt
+pub mod InviteClientLaws
+pub mod Acks
 pub mod Outbox
 pub mod Start

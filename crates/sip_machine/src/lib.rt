@@ -3,6 +3,7 @@
 
 mod book;
 mod event;
+mod invite_client;
 pub mod laws;
 mod limit;
 mod machine;
@@ -17,6 +18,7 @@ mod tests;
 
 pub use book::Book;
 pub use event::{Action, Event, Kind, Method};
+pub use invite_client::{InviteClient, InviteClientState, InviteWaiting};
 pub use machine::Machine;
 pub use outbox::{Debt, Outbox};
 pub use params::Params;

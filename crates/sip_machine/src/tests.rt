@@ -3,6 +3,7 @@ ghost use Rattle.std.specs.Prelude.{◌≡◌, false};
 ghost use Rattle.sip_machine.specs.PlainClient.{PlainInRange};
 
 mod event;
+mod invite_client;
 mod plain_server;
 
 use crate::{

@@ -1,10 +1,10 @@
-use Rattle.std.specs.Prelude.{◌≡◌, ◌≢◌, ◌↔◌, ◌<◌, ◌⊎◌, ℕ, Option, Some, None, List, [], ◌∷◌, ◌++◌, option_to_list}
-use Rattle.std.proofs.Common.{inl, inr, refl, sym, ◌∙◌, arith}
+use Rattle.std.specs.Prelude.{◌≡◌, ◌≢◌, ◌↔◌, ◌⊎◌, ℕ, Option, Some, None, List, [], ◌∷◌}
+use Rattle.std.proofs.Common.{inl, inr, refl, sym, arith}
 use Rattle.std.proofs.lemmas.List.Elements.{All-nil, All-cons, Contains-push, Contains-push_cases}
 use Rattle.std.proofs.lemmas.List.Kept.{AllPairs-cons}
 use Rattle.sip_machine.specs.Texts.{Texts}
 use Rattle.sip_machine.specs.Rules.{Knows, OrStays, StandFor}
-use Rattle.sip_machine.specs.inner.Single.{IsTheOne, AnswersOne}
+use Rattle.sip_machine.specs.inner.Single.{AnswersOne}
 use Rattle.sip_machine.specs.inner.Both.{AnswersBoth}
 use Rattle.sip_machine.proofs.TextLaws.{Contains-nil}
 use Rattle.sip_machine.proofs.SingleLemmas.{StandFor-none, StandFor-one}

@@ -1,4 +1,4 @@
-use Rattle.std.specs.Prelude.{◌≡◌, ◌≤◌, ◌<◌, ◌^◌, ◌↔◌, ◌⊎◌, ℕ, Bool, true, false, not, IsTrue, Option, Some, None, List, [], ◌∷◌, ◌++◌, All, filter, map, length, option_to_list}
+use Rattle.std.specs.Prelude.{◌≡◌, ◌≤◌, ◌<◌, ◌^◌, ◌↔◌, ℕ, Bool, true, false, not, IsTrue, Option, Some, None, List, [], ◌∷◌, ◌++◌, All, filter, map, length, option_to_list}
 use Rattle.std.proofs.Common.{refl, sym, ◌∙◌, ap, subst, inl, inr, arith, true≢false, length-append}
 use Rattle.std.proofs.lemmas.List.{map-append}
 use Rattle.std.proofs.lemmas.List.Elements.{All-head, All-tail, All-nil, All-cons, All-map, All-push, All-filter}
@@ -17,8 +17,8 @@ use Rattle.sip_machine.specs.Heard.{Heard}
 use Rattle.sip_machine.specs.Message.{IsProvisional, IsFinal}
 use Rattle.sip_machine.specs.Provisional.{Is100}
 use Rattle.sip_machine.specs.Rules.{Knows, OrStays}
-use Rattle.sip_machine.specs.Debts.{Owed, IsWithoutFirst, Pays, unexpired, softened}
-use Rattle.sip_machine.specs.Owes.{owed_seen, owes_seen, owes_names, OwesInRange}
+use Rattle.sip_machine.specs.Debts.{IsWithoutFirst, unexpired, softened}
+use Rattle.sip_machine.specs.Owes.{owed_seen, owes_seen, owes_names}
 use Rattle.sip_machine.specs.inner.Single.{IsTheOne}
 use Rattle.sip_machine.specs.inner.Both.{AnswersBoth}
 use Rattle.sip_machine.specs.inner.Outbox.{counts_at, softened_debt, is_payable}

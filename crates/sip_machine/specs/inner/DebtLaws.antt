@@ -1,4 +1,4 @@
-use Rattle.std.specs.Prelude.{◌≡◌, ◌≤◌, ◌↔◌, ℕ, Bool, true, false, Option, Some, option_to_list, List, [], ◌∷◌, ◌++◌, All, filter, map, min}
+use Rattle.std.specs.Prelude.{◌≡◌, ◌≤◌, ◌↔◌, ℕ, Bool, true, false, Some, option_to_list, List, [], ◌∷◌, ◌++◌, All, filter, map, min}
 use Rattle.std.specs.List.{fold, list_any}
 use Rattle.std.proofs.Common.{refl, sym, ◌∙◌, ap, ap₂, subst, arith, cond}
 use Rattle.std.proofs.lemmas.List.{map-append}

@@ -1,4 +1,4 @@
-use Rattle.std.specs.Prelude.{◌≡◌, ◌≤◌, ◌⊎◌, ◌++◌, ℕ, Bool, true, List, [], ◌∷◌, All, Contains, if◌then◌else◌, map, filter, is_some}
+use Rattle.std.specs.Prelude.{◌≡◌, ◌≤◌, ℕ, true, List, [], ◌∷◌, All, Contains}
 use Rattle.std.specs.Cmp.Lexicographic.{pointwise}
 use Rattle.std.proofs.Common.{refl, sym, ◌∙◌, ap, ap₂, subst, inl, inr, arith}
 use Rattle.std.proofs.lemmas.Bool.Decides.{nat_tests}
@@ -7,7 +7,6 @@ use Rattle.sip_machine.specs.declared.event.Action.{Action}
 use Rattle.sip_machine.specs.declared.event.Action.TheVariants.{Sent, Received, Failed, Mark}
 use Rattle.sip_machine.specs.declared.event.Kind.{Kind}
 use Rattle.sip_machine.specs.declared.event.Kind.TheVariants.{Request, Response}
-use Rattle.sip_machine.specs.declared.outbox.Debt.{Debt}
 use Rattle.sip_machine.specs.declared.plain_server.PlainServerState.{PlainServerState}
 use Rattle.sip_machine.specs.declared.plain_server.PlainServerState.TheVariants as code
 use Rattle.sip_machine.specs.contracts.outbox.DebtPartialEq.TheImpl as debt_eq
@@ -17,9 +16,8 @@ use Rattle.sip_machine.specs.Limits.{close_at, IsWithin}
 use Rattle.sip_machine.specs.Texts.{Texts, IsBook, Keeps, text_of}
 use Rattle.sip_machine.specs.Heard.{Heard}
 use Rattle.sip_machine.specs.Rules.{IsLawful, Knows}
-use Rattle.sip_machine.specs.Debts.{Owed, must_owe, may_owe, unexpired, softened, earliest, unless_owed, must_deadlines}
+use Rattle.sip_machine.specs.Debts.{Owed, unexpired, earliest}
 use Rattle.sip_machine.specs.Owes.{owes_seen, owes_names}
-use Rattle.sip_machine.specs.inner.Outbox.{debt_deadlines}
 use Rattle.sip_machine.specs.inner.OwesLaws.{owes_exact, owes_apart, owes_seen_by_names, must_deadlines-seen, is_some-deadlines, AreDue, AreDue-unexpired, AreDue-must, AreDue-may, AreDue-paid, AreDue-softened, IsWithin-owed}
 use Rattle.sip_machine.specs.PlainServer.{PlainServerPhase, Idle, Trying, Proceeding, Completed, Receives, Sends, Repays, Emits, Steps, owed_by, with_owes, timers, timer_j, plain_server_until, plain_server_window, plain_server_rules, plain_server_seen, plain_server_names}
 

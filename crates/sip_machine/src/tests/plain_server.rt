@@ -99,7 +99,7 @@ fn are_owed(debts: &[Debt], want: Owes) -> bool {
 }
 
 /// A state that is wanted, over an unreliable transport.
-#[derive(Clone, Copy, Debug)]
+#[derive(Clone, Copy)]
 enum Want {
     Idle,
     Trying,
@@ -170,9 +170,12 @@ fn run(
     let mut states = Vec::new(alloc);
     states.push(server.first())?;
     for &(moment, action, number, kind) in entries {
-        if moment > 9_999_999_999_999 || action == Action::Mark || book.bytes(number).is_none() {
+        if moment > 9_999_999_999_999 || action == Action::Mark {
             return Err("not an entry".into());
         }
+        let Some(_) = book.bytes(number) else {
+            return Err("not kept".into());
+        };
         let event = Event::plain(moment, action, number, kind);
         states = step(alloc, server, book, &states, &event)?;
     }

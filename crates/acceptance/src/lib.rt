@@ -6,4 +6,8 @@ mod logged;
 #[cfg(test)]
 mod pieces;
 #[cfg(test)]
+mod room;
+#[cfg(test)]
+mod shows;
+#[cfg(test)]
 mod tests;

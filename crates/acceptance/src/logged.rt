@@ -136,3 +136,13 @@ pub(crate) fn log_of(alloc: Global, logged: &[Logged<'_>]) -> Result<String, All
     }
     Ok(text)
 }
+
+/// The log of a REGISTER that is sent, sent again and answered.
+pub(crate) fn stored_run(alloc: Global) -> Result<String, AllocError> {
+    let logged = [
+        sent(&[0, 500], "REGISTER").on("r1"),
+        answered(&[700], 200, "REGISTER").on("r1"),
+        Logged::Mark(6_000),
+    ];
+    log_of(alloc, &logged)
+}

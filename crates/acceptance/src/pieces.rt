@@ -1,7 +1,7 @@
 //! A source that hands out its bytes in pieces, and may fail.
 ghost use Rattle.std.specs.Prelude.{◌≡◌, false, Some};
 
-use sip_verdict::{Broken, Source};
+use sip_log::{Broken, Source};
 
 /// Hands out the bytes in pieces: the first of one size, and each other of a second one.
 #[derive(Drop)]

@@ -2,11 +2,12 @@
 //! T1 is 500, T2 4000, T4 5000, the tolerance 50 ms, the transport UDP, and the branch 1 where no other is named.
 ghost use Rattle.std.specs.Prelude.{◌≡◌, false};
 
-use crate::logged::{HEADER, Logged, answered, failed, log_of, push, received, sent};
+use crate::logged::{HEADER, Logged, answered, failed, log_of, push, received, sent, stored_run};
 use crate::pieces::Pieces;
 use Logged::{Mark, Text};
-use sip_verdict::{JudgeError, Source, judge, judge_bytes, render};
-use std::alloc::{AllocError, Global};
+use sip_log::Source;
+use sip_verdict::{JudgeError, judge, judge_bytes, render};
+use std::alloc::Global;
 use std::hash::{BuildHasherDefault, FoldHasher};
 use std::process::Abort;
 use std::test::Fail;
@@ -46,16 +47,6 @@ fn judge_rows(rt: &(impl Abort + AllocGlobal), rows: &[Row<'_>]) -> Result<(), F
         assert_eq!(rt; text.as_str(), want, "{logged:?}");
     }
     Ok(())
-}
-
-/// The log of a REGISTER that is sent, sent again and answered.
-fn stored_run(alloc: Global) -> Result<String, AllocError> {
-    let logged = [
-        sent(&[0, 500], "REGISTER").on("r1"),
-        answered(&[700], 200, "REGISTER").on("r1"),
-        Mark(6_000),
-    ];
-    log_of(alloc, &logged)
 }
 
 #[test]

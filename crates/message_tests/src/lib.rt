@@ -6,6 +6,10 @@ mod answer;
 #[cfg(test)]
 mod changed;
 #[cfg(test)]
+mod folded;
+#[cfg(test)]
+mod growths;
+#[cfg(test)]
 mod ipv6;
 #[cfg(test)]
 mod rows;

@@ -1,5 +1,6 @@
 use crate::answer::{Answer, Row, answer_to};
 use crate::changed::changed;
+use crate::folded::{FOLDED, UNFOLDED};
 use crate::ipv6::IPV6;
 use crate::rows::{ADDRESSES, BODIES, Change, LINES, NAMES, NUMBERS, STARTS, VIAS};
 use crate::torture::TORTURE;
@@ -7,28 +8,6 @@ use sip_message::{Message, ReadError, Reason, write};
 use std::alloc::{AllocError, Global};
 use std::process::Abort;
 use std::test::Fail;
-
-/// An OPTIONS request with folds, compact names and blanks wherever they may stand.
-const FOLDED: &[u8] = b"OPTIONS sip:example.com SIP/2.0\r\n\
-    v: SIP / 2.0 / UDP\r\n\
-    \x20a.example.com\r\n\
-    \t;branch = z9hG4bKr2\r\n\
-    f: <sip:bob@example.com>;tag=1\r\n\
-    t: sip:bob@example.com\r\n\
-    i: c2@a\r\n\
-    CSeq: 1 OPTIONS\r\n\
-    l: 0\r\n\
-    \r\n";
-
-/// Its canonical form.
-const UNFOLDED: &[u8] = b"OPTIONS sip:example.com SIP/2.0\r\n\
-    Via: SIP / 2.0 / UDP a.example.com ;branch = z9hG4bKr2\r\n\
-    From: <sip:bob@example.com>;tag=1\r\n\
-    To: sip:bob@example.com\r\n\
-    Call-ID: c2@a\r\n\
-    CSeq: 1 OPTIONS\r\n\
-    Content-Length: 0\r\n\
-    \r\n";
 
 /// The canonical form of the bytes, or their first fault.
 fn canonical(alloc: Global, bytes: &[u8]) -> Result<Vec<u8>, ReadError> {

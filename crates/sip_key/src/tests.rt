@@ -1,6 +1,6 @@
 //! Keys and ACKs worked out by hand from RFC 3261.
 use crate::{Direction, Key, KeyError, Role, cancelled_key, is_ack_of, key_of};
-use sip_message::Message;
+use sip_message::{Message, ReadError};
 use std::alloc::{AllocError, Global};
 use std::test::Fail;
 
@@ -209,7 +209,10 @@ const KEYS: [(Direction, &str, &str, &str, Result<Option<Parts>, KeyError>); 20]
 
 /// The message of this text.
 fn read(alloc: Global, text: &str) -> Result<Message<'_>, Fail> {
-    Message::read(alloc, text.as_bytes()).map_err(|_| Fail::from("no message"))
+    Message::read(alloc, text.as_bytes()).map_err(|error| match error {
+        ReadError::Memory => Fail::from("Memory"),
+        ReadError::Fault(_) => Fail::from("no message"),
+    })
 }
 
 fn has_parts(key: &Option<Key>, parts: Option<Parts>) -> bool {
@@ -287,6 +290,53 @@ fn a_sent_cancel_has_a_second_key(rt: HostRuntime) -> Result<(), Fail> {
         let message = read(rt.alloc(), &text)?;
         let key = cancelled_key(rt.alloc(), &message, direction)?;
         assert!(rt; has_parts(&key, parts), "{text}");
+    }
+    Ok(())
+}
+
+/// A CANCEL, which way it goes, its key, and the key that it cancels.
+const CANCELS: [(Direction, Parts, Option<Parts>); 2] = [
+    (
+        Direction::Received,
+        (Role::Server, "z9hg4bk1", "a.example.com:5060", "CANCEL"),
+        None,
+    ),
+    (
+        Direction::Sent,
+        (Role::Client, "z9hg4bk1", "", "CANCEL"),
+        Some((Role::Client, "z9hg4bk1", "", "INVITE")),
+    ),
+];
+
+/// Where a growth is refused in a call, it answers want of memory and nothing else, and the same call with
+/// memory is then right; the test ends with `Memory` (`tests/growths sip_key asks_again_for_memory`).
+#[test]
+fn asks_again_for_memory(rt: HostRuntime) -> Result<(), Fail> {
+    let alloc = rt.alloc();
+    let text = Text {
+        start: "CANCEL sip:b SIP/2.0",
+        cseq: "1 CANCEL",
+        ..INVITE
+    };
+    let text = text.bytes(alloc)?;
+    let message = read(alloc, &text)?;
+    let mut lacked = false;
+    for (direction, own, cancelled) in CANCELS {
+        let mut key = key_of(alloc, &message, direction);
+        if matches!(key, Err(KeyError::Memory)) {
+            lacked = true;
+            key = key_of(alloc, &message, direction);
+        }
+        assert!(rt; key.is_ok_and(|key| has_parts(&key, Some(own))));
+        let mut key = cancelled_key(alloc, &message, direction);
+        if key.is_err() {
+            lacked = true;
+            key = cancelled_key(alloc, &message, direction);
+        }
+        assert!(rt; key.is_ok_and(|key| has_parts(&key, cancelled)));
+    }
+    if lacked {
+        return Err("Memory".into());
     }
     Ok(())
 }

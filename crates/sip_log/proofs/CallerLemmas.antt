@@ -1,7 +1,8 @@
 -- What a caller of `next` knows of the whole input, call after call.
-use Rattle.std.proofs.Common.{◌≡◌, ◌≢◌, ◌⊎◌, inl, inr, ◌<◌, ◌≤◌, ◌+◌, ℕ, suc, Bool, List, [], ◌∷◌, ◌++◌, length, Option, Some, None, IfSome, IsSome, Result, Ok, Err, refl, subst, sym, ap, ◌∙◌, arith, append_assoc}
+use Rattle.std.proofs.Common.{◌≡◌, ◌⊎◌, inl, inr, ◌<◌, ◌≤◌, ◌+◌, ℕ, Bool, List, [], ◌∷◌, ◌++◌, length, Option, Some, None, IfSome, IsSome, Result, Ok, Err, refl, subst, sym, ap, ◌∙◌, arith, append_assoc}
 use Rattle.std.specs.Prelude.{flat_map}
-use Rattle.std.proofs.lemmas.List.{append-nil, length_push}
+use Rattle.std.specs.Io.KnownBytes.{prepend_known}
+use Rattle.std.proofs.lemmas.List.{append-nil, length_push, length-append}
 use Rattle.sip_machine.specs.Times.{Times, AreTimes}
 use Rattle.sip_log.specs.declared.entry.Entry.{Entry}
 use Rattle.sip_log.specs.declared.log_error.LogError.{LogError}
@@ -9,10 +10,12 @@ use Rattle.sip_log.specs.LogFault.{LogFault}
 use Rattle.sip_log.specs.LogFault as faults
 use Rattle.sip_log.specs.Next.{Next, ends, gives, stops}
 use Rattle.sip_log.specs.Spelling.{Item, header_text, entry_text}
-use Rattle.sip_log.specs.Log.{IsEntry, most_entries, ComesNext, InOrder, last_of, LogEnd, Clean, Stops, next_at, NoHeader, IsLog, Log, Faulty, Holds, IsLogOf}
-use Rattle.sip_log.specs.Told.{FailsAs, item, next_of}
-use Rattle.sip_log.specs.Reading.{Stage, fresh, entries, ended, failed, Reading, Moves, ComesFirst, Comes, Steps, NextsAt, Nexts}
+use Rattle.sip_log.specs.Log.{IsEntry, most_entries, ComesNext, InOrder, last_of, LogEnd, Clean, Stops, next_at, NoHeader, IsLog}
+use Rattle.sip_log.specs.Told.{FailsAs, item}
+use Rattle.sip_log.specs.Reading.{Stage, fresh, entries, ended, failed, Reading, Moves, Place, reading, Continues, ComesFirst, Comes, Heads, Opens, NextsAt, Nexts}
 use Rattle.sip_log.proofs.ReadingLemmas.{FailsAs-map}
+use Rattle.sip_log.proofs.LogExists.{Follow-some}
+use Rattle.sip_log.proofs.Logs.{follow-spelled}
 
 -- the spelling of a header and of these entries stands at the front of an input, and this rest behind it
 pub record Begins (input : List ℕ) (p : Times) (items : List Item) (rest : List ℕ) : Type 0 where
@@ -68,6 +71,80 @@ module _ (input : List ℕ) (p : Times) (items : List Item) (rest : List ℕ) (i
 -- a header, and nothing behind it yet
 pub Begins-header : (input : List ℕ) (p : Times) (behind : List ℕ) → AreTimes p → input ≡ header_text p ++ behind → Begins input p [] behind
 Begins-header input p behind times is = record { times = times; spelled = is; few = omega arith; order = tt }
+
+flat_map-append : (xs ys : List Item) → flat_map entry_text (xs ++ ys) ≡ flat_map entry_text xs ++ flat_map entry_text ys
+flat_map-append [] ys = refl
+flat_map-append (x ∷ xs) ys = ap (λ (t : List ℕ). entry_text x ++ t) (flat_map-append xs ys) ∙ sym (append_assoc (entry_text x) (flat_map entry_text xs) (flat_map entry_text ys))
+
+InOrder-append : (last : ℕ) (xs ys : List Item) → InOrder last xs → InOrder (last_of last xs) ys → InOrder last (xs ++ ys)
+InOrder-append last [] ys order more = more
+InOrder-append last (x ∷ xs) ys order more = (order.0, order.1, InOrder-append x.moment xs ys order.2 more)
+
+last_of-append : (last : ℕ) (xs ys : List Item) → last_of last (xs ++ ys) ≡ last_of (last_of last xs) ys
+last_of-append last [] ys = refl
+last_of-append last (x ∷ xs) ys = last_of-append x.moment xs ys
+
+-- the entries that were read are at the front of a log of the input
+Begins-log : (input : List ℕ) (p : Times) (items : List Item) (rest : List ℕ) → Begins input p items rest → (more : List Item) × (end : LogEnd) × IsLog input p (items ++ more) end
+Begins-log input p items rest is =
+    let (more, end, follow) = Follow-some (length items) (last_of 0 items) rest in
+    let spelled = follow-spelled (length items) (last_of 0 items) rest more end is.few follow in
+    let long : length items + length more ≡ length (items ++ more) = sym (length-append items more) in
+    let texts : flat_map entry_text items ++ rest ≡ flat_map entry_text (items ++ more) ++ spelled.left =
+    ap (λ (t : List ℕ). flat_map entry_text items ++ t) spelled.whole ∙ sym (append_assoc (flat_map entry_text items) (flat_map entry_text more) spelled.left)
+    ∙ ap (λ (t : List ℕ). t ++ spelled.left) (sym (flat_map-append items more)) in (
+      more,
+      end,
+      record {
+        times = is.times;
+        rest = spelled.left;
+        spelled = is.spelled ∙ ap (λ (t : List ℕ). header_text p ++ t) texts;
+        few = omega (arith, spelled.few, long);
+        order = InOrder-append 0 items more is.order spelled.order;
+        next = subst (λ n. ComesNext n (last_of 0 (items ++ more)) spelled.left (next_at end)) long
+            (subst (λ m. ComesNext (length items + length more) m spelled.left (next_at end)) (sym (last_of-append 0 items more)) spelled.next);
+      },
+    )
+
+-- and so they are for a reader that reads on
+pub Stands-log : (start : Option (List ℕ)) (items : List Item) (now : Reading) → now.stage ≡ entries → Stands start items now
+    → IfSome start (λ input. IfSome now.times (λ p. (more : List Item) × (end : LogEnd) × IsLog input p (items ++ more) end))
+Stands-log start items now on stands = go now.times start (subst (λ s. StandsAt s start items now) on stands).0
+  where
+    go : (t : Option Times) (s : Option (List ℕ)) → HasRead s t items now.left → IfSome s (λ input. IfSome t (λ p. (more : List Item) × (end : LogEnd) × IsLog input p (items ++ more) end))
+    go None s has = absurd has
+    go (Some p) None has = tt
+    go (Some p) (Some input) (rest, left, begins) = Begins-log input p items rest begins
+
+-- A header that was read by itself.
+
+module _ (start left : Option (List ℕ)) (before after : Bool) where
+  -- where the reader stands behind it
+  pub record Opened (p : Times) (place : Place) : Type 0 where
+    pub on : place.stage ≡ entries
+    pub times : place.times ≡ Some p
+    pub count : place.count ≡ 0
+    pub last : place.last ≡ 0
+    pub fine : after ≡ before
+    pub stands : Stands start [] (reading place left after)
+
+  pub Opens-stands : (p : Times) (place : Place) → Opens start left before after (Ok (p, place)) → Opened p place
+  Opens-stands p place (is, says) =
+      let on = ap (λ (x : Place). x.stage) is in
+      let times = ap (λ (x : Place). x.times) is in
+      record {
+        on = on;
+        times = times;
+        count = ap (λ (x : Place). x.count) is;
+        last = ap (λ (x : Place). x.last) is;
+        fine = says.0;
+        stands = subst (λ s. StandsAt s start [] (reading place left after)) (sym on)
+            (subst (λ t. HasRead start t [] (reading place left after).left) (sym times) (has start says.1), ap (λ (x : Place). x.count) is, ap (λ (x : Place). x.last) is);
+      }
+    where
+      has : (s : Option (List ℕ)) → IfSome s (λ xs. (ys : List ℕ) × (prepend_known place.held left ≡ Some ys) × Heads xs (gives p ys)) → HasRead s (Some p) [] (prepend_known place.held left)
+      has None says = tt
+      has (Some xs) (ys, left_is, (times, spelled)) = (ys, left_is, Begins-header xs p ys times spelled)
 
 -- neither the end was told nor an error
 abbrev pub GoesOn : Reading → Type 0
@@ -199,12 +276,22 @@ module _ (start : Option (List ℕ)) (items : List Item) (old new : Reading) whe
     pub on : new.stage ≡ entries
     pub up : new.count ≡ old.count + 1
     pub few : old.count < most_entries
+    pub last : new.last ≡ e.moment
+    pub continues : Continues (old.count + 1) old.last e
+
+  counted : (e : Entry) → Moves old.count old.last new (Ok (Some e)) → Counted e
+  counted e moves = record { on = moves.0; up = moves.2 ∙ moves.1.number_is; few = moves.4; last = moves.3; continues = moves.1 }
 
   counted-at : (s : Stage) (e : Entry) → NextsAt s old new (Ok (Some e)) → Counted e
-  counted-at fresh e steps = record { on = steps.moves.0; up = steps.moves.2 ∙ steps.moves.1.number_is; few = steps.moves.4 }
-  counted-at entries e steps = record { on = steps.moves.0; up = steps.moves.2 ∙ steps.moves.1.number_is; few = steps.moves.4 }
+  counted-at fresh e steps = counted e steps.moves
+  counted-at entries e steps = counted e steps.moves
   counted-at ended e again = cc
   counted-at failed e again = cc
 
   pub Nexts-counted : (e : Entry) → Nexts old new (Ok (Some e)) → Counted e
   Nexts-counted e nexts = counted-at old.stage e nexts
+
+-- the times of the header stay while entries are read
+pub Nexts-times : (old new : Reading) (r : Result (Option Entry) LogError) (p : Times) → old.stage ≡ entries → old.times ≡ Some p → Nexts old new r → new.times ≡ Some p
+Nexts-times old new r p on times nexts =
+    subst (λ t. IfSome t (λ q. new.times ≡ Some q)) times (subst (λ s. NextsAt s old new r) on nexts).kept

@@ -11,7 +11,7 @@ use Rattle.sip_log.specs.Next.{Next, ends, gives, stops}
 use Rattle.sip_log.specs.Spelling.{Item, header_text}
 use Rattle.sip_log.specs.Log.{ComesNext}
 use Rattle.sip_log.specs.Told.{FailsAs, Says, next_of}
-use Rattle.sip_log.specs.Reading.{fresh, entries, failed, Place, reading, Moves, ComesFirst, Comes, Nexts, NextsAt}
+use Rattle.sip_log.specs.Reading.{fresh, entries, failed, Place, reading, Moves, ComesFirst, Comes, Heads, Nexts, NextsAt}
 use Rattle.sip_log.specs.declared.window.Window.{Window}
 use Rattle.sip_log.specs.inner.Window.{items, unread}
 use Rattle.sip_log.specs.inner.Header as read
@@ -19,7 +19,7 @@ use Rattle.sip_log.specs.inner.Entry as entry
 use Rattle.sip_log.proofs.SpellingLemmas.{header-spelled, header-read}
 use Rattle.sip_log.proofs.NextLemmas.{next-told}
 
-IfSome-map : {A : Type 0} (o : Option A) (P Q : A → Type 0) → ((x : A) → P x → Q x) → IfSome o P → IfSome o Q
+pub IfSome-map : {A : Type 0} (o : Option A) (P Q : A → Type 0) → ((x : A) → P x → Q x) → IfSome o P → IfSome o Q
 IfSome-map None P Q f h = tt
 IfSome-map (Some x) P Q f h = f x h
 
@@ -64,6 +64,24 @@ header-gives input p behind next (inl (q, rest, is, same)) comes =
     let parts = header-spelled input q rest is in
     (behind, subst AreTimes (sym times) parts.0, parts.1 ∙ (λ i. header_text (sym times i) ++ sym after i), comes)
 header-gives input p behind next (inr (none, same)) comes = cc
+
+-- what a header says, in other words
+pub heads : (input : List ℕ) (next : Next Times) → read.ComesFirst input next → Heads input next
+heads input ends (inl (p, behind, is, same)) = cc
+heads input ends (inr (none, same)) = cc
+heads input (gives p behind) (inl (q, rest, is, same)) =
+    let times : p ≡ q = cc in
+    let after : behind ≡ rest = cc in
+    let parts = header-spelled input q rest is in
+    (subst AreTimes (sym times) parts.0, parts.1 ∙ (λ i. header_text (sym times i) ++ sym after i))
+heads input (gives p behind) (inr (none, same)) = cc
+heads input (stops fault) (inl (p, behind, is, same)) = cc
+heads input (stops fault) (inr (none, same)) = ((λ p behind within is. none p behind (header-read input p behind within is)), ap of same)
+  where
+    of : Next Times → LogFault
+    of (stops f) = f
+    of (gives p behind) = faults.Header
+    of ends = faults.Header
 
 -- a header was read, and an answer on what is behind it
 Says-headed : (old mid new : Option (List ℕ)) (before between after : Bool) (p : Times) (r : Result (Option Entry) LogError)

@@ -5,7 +5,7 @@ use Rattle.sip_log.specs.declared.entry.Entry.{Entry}
 use Rattle.sip_log.specs.declared.log_error.LogError.{LogError}
 use Rattle.sip_log.specs.declared.log_error.LogError.TheVariants as errors
 use Rattle.sip_log.specs.LogFault.{Header}
-use Rattle.sip_log.specs.Next.{Next, stops}
+use Rattle.sip_log.specs.Next.{Next, ends, gives, stops}
 use Rattle.sip_log.specs.Spelling.{Item, header_text}
 use Rattle.sip_log.specs.Log.{most_entries, NoHeader, ComesNext}
 use Rattle.sip_log.specs.Told.{Says, next_of}
@@ -77,6 +77,19 @@ NextsAt fresh old new r = Steps old new r
 NextsAt entries old new r = Steps old new r
 NextsAt ended old new r = (r ≡ Ok None) × (new ≡ old)
 NextsAt failed old new r = (r ≡ Err errors.Failed) × (new ≡ old)
+
+-- what stands first in an input: a header with what is behind it, or the fault that there is none
+abbrev pub Heads : List ℕ → Next Times → Type 0
+Heads xs ends = ⊥
+Heads xs (gives p behind) = AreTimes p × (xs ≡ header_text p ++ behind)
+Heads xs (stops fault) = NoHeader xs × (fault ≡ Header)
+
+-- a header that is read by itself: no entry was, and what is left stands behind it; or why there is none
+abbrev pub Opens : Option (List ℕ) → Option (List ℕ) → Bool → Bool → Result (Times × Place) LogError → Type 0
+Opens old left before after (Ok (p, place)) =
+    (place ≡ record { stage = entries; held = place.held; times = Some p; count = 0; last = 0 })
+    × Says {A = Times} old (prepend_known place.held left) before after Heads gives (Ok p)
+Opens old left before after (Err e) = Says {A = Times} old left before after Heads gives (Err e)
 
 -- one call: it reads, unless the end was told or an error was, which it tells again
 abbrev pub Nexts : Reading → Reading → Result (Option Entry) LogError → Type 0

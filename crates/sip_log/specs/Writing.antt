@@ -3,6 +3,11 @@ use Rattle.std.specs.Io.KnownBytes.{Appends}
 use Rattle.sip_log.specs.declared.write_error.WriteError.{WriteError}
 use Rattle.sip_log.specs.declared.write_error.WriteError.TheVariants.{Limit, Io}
 
+-- at Ok this text was appended, and no put failed; an error comes only with a put that failed
+abbrev pub Puts : {E : Type 0} → Option (List ℕ) → Option (List ℕ) → Bool → Bool → List ℕ → Result (Unit {0}) E → Type 0
+Puts old new before after text (Ok done) = Appends old new text × (after ≡ before)
+Puts old new before after text (Err e) = after ≡ true
+
 -- a write: at Ok this text was appended, and no put failed; Io comes only with a put that failed
 abbrev pub Writes : Option (List ℕ) → Option (List ℕ) → Bool → Bool → List ℕ → Result (Unit {0}) WriteError → Type 0
 Writes old new before after text (Ok done) = Appends old new text × (after ≡ before)

@@ -4,7 +4,6 @@ pub mod Header
 pub mod Line
 pub mod Number
 pub mod Place
-pub mod Puts
 pub mod Reads
 pub mod Unless
 pub mod Window

@@ -32,4 +32,4 @@ pub use sink::{Sink, ToWrite};
 pub use source::{FromRead, Source};
 pub use whole::read_entries;
 pub use write_error::WriteError;
-pub use writing::{write_entry, write_header};
+pub use writing::{put_entry, write_entry, write_header};

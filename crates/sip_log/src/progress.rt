@@ -1,6 +1,6 @@
 //! How far a log was read.
 ghost use Rattle.std.specs.Prelude.{◌≡◌, ℕ, List, [], None, IsSome};
-ghost use Rattle.sip_log.specs.Reading.{Stage, fresh, failed, Place, reading, Moves, Nexts};
+ghost use Rattle.sip_log.specs.Reading.{Stage, fresh, failed, Place, reading, Moves, Opens, Nexts};
 ghost use Rattle.sip_log.specs.Told.{Says, next_of};
 ghost use Rattle.sip_log.specs.inner.Entry.{ComesNext};
 
@@ -60,6 +60,28 @@ impl Progress {
             params: None,
             count: 0,
             last: 0,
+        }
+    }
+
+    /// Reads the header, and no entry yet. Answers its times, and how far the log was read.
+    ///
+    /// `LogError::Io` is answered only if the source failed in this call.
+    pub fn open<R: Source>(alloc: Global, source: &mut R) -> Result<(Params, Progress), LogError>
+        ensures { Opens (R.left source.old) (R.left source.new) (R.has_failed source.old) (R.has_failed source.new) result }
+    {
+        let mut window = Window::new(alloc)?;
+        match read_header(&mut window, source) {
+            Ok(params) => {
+                let progress = Progress {
+                    alloc,
+                    stage: Stage::Entries(window),
+                    params: Some(params),
+                    count: 0,
+                    last: 0,
+                };
+                Ok((params, progress))
+            }
+            Err(error) => Err(error),
         }
     }
 

@@ -3,8 +3,7 @@ ghost use Rattle.std.specs.Prelude.{◌≡◌, ◌++◌, ◌∷◌, [], ℕ, Lis
 ghost use Rattle.std.specs.Io.KnownBytes.{Appends};
 ghost use Rattle.sip_log.specs.Spelling.{header_text, entry_text, times_text, line_text, length_text, body_text, letter, line_feed};
 ghost use Rattle.sip_log.specs.Log.{IsWithinLimits};
-ghost use Rattle.sip_log.specs.Writing.{Writes, WritesWithin};
-ghost use Rattle.sip_log.specs.inner.Puts.{Puts};
+ghost use Rattle.sip_log.specs.Writing.{Puts, Writes, WritesWithin};
 
 use crate::broken::Broken;
 use crate::line::{is_within_limits, letter_of};
@@ -45,9 +44,23 @@ pub fn write_entry<W: Sink>(
     if !is_within_limits(action, moment, bytes.len() as u64) {
         return Err(WriteError::Limit);
     }
-    put_line(writer, action, moment, bytes.len() as u64)?;
-    put_body(writer, action, bytes)?;
+    put_entry(writer, action, moment, bytes)?;
     Ok(())
+}
+
+/// Writes the spelling of an entry, whether or not it is within the limits. With a mark the bytes play no part.
+/// Takes no memory.
+pub fn put_entry<W: Sink>(
+    writer: &mut W,
+    action: Action,
+    moment: u64,
+    bytes: &[u8],
+) -> Result<(), Broken>
+    ensures { Puts (W.written writer.old) (W.written writer.new) (W.has_failed writer.old) (W.has_failed writer.new)
+        (entry_text (record { action = action; moment = moment; text = bytes.now })) result }
+{
+    put_line(writer, action, moment, bytes.len() as u64)?;
+    put_body(writer, action, bytes)
 }
 
 /// Writes the line of an entry and its line feed.

@@ -1,4 +1,12 @@
 pub mod PlainSteps
+pub mod PlainServerSteps
+pub mod InviteClientSteps
+pub mod InviteServerEnds
+pub mod InviteServerSteps
 pub mod RuleLaws
 pub mod SingleLemmas
+pub mod BothLemmas
 pub mod TextLaws
+pub mod OutboxLemmas
+pub mod ProvisionalLemmas
+pub mod AckLemmas

@@ -1,7 +1,7 @@
 use Rattle.std.specs.Prelude.{◌≤◌, ℕ, Bool, List}
 use Rattle.sip_machine.specs.declared.event.Action.{Action}
+use Rattle.sip_machine.specs.declared.event.Kind.{Kind}
 use Rattle.sip_machine.specs.Times.{last_moment}
-use Rattle.sip_machine.specs.Message.{MessageKind, kind_of}
 use Rattle.sip_machine.specs.NumberedEvent.{NumberedEvent}
 use Rattle.sip_machine.specs.Texts.{Texts, Keeps, text_of}
 
@@ -10,13 +10,13 @@ pub record Heard : Type 0 where
   pub moment : ℕ
   pub action : Action
   pub text : List ℕ
-  pub kind : MessageKind
+  pub kind : Kind
   pub reliable : Bool
 
 -- the event of the code beside the texts of a book
 abbrev pub heard : Texts → NumberedEvent → Heard
 heard texts e =
-    record { moment = e.moment; action = e.action; text = text_of texts e.number; kind = kind_of e.kind; reliable = e.reliable }
+    record { moment = e.moment; action = e.action; text = text_of texts e.number; kind = e.kind; reliable = e.reliable }
 
 -- the book keeps the message of the event, and its moment is within the limits
 pub record FitsBook (texts : Texts) (e : NumberedEvent) : Type 0 where

@@ -5,5 +5,11 @@ pub mod Message
 pub mod NumberedEvent
 pub mod Heard
 pub mod Rules
+pub mod Provisional
+pub mod Debts
+pub mod Owes
 pub mod inner
 pub mod PlainClient
+pub mod PlainServer
+pub mod InviteClient
+pub mod InviteServer

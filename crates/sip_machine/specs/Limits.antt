@@ -9,6 +9,10 @@ open_at p s d = s + (d - p.tolerance)
 abbrev pub close_at : Times → ℕ → ℕ → ℕ
 close_at p s d = s + d + p.tolerance
 
+-- the window of a timer that was set at s for d
+abbrev pub window_at : Times → ℕ → ℕ → Option (ℕ × Option ℕ)
+window_at p s d = Some (open_at p s d, Some (close_at p s d))
+
 -- m is not past the limit, if there is one
 abbrev pub IsWithin : ℕ → Option ℕ → Type 0
 IsWithin m None = Unit {0}

@@ -1,14 +1,16 @@
 use Rattle.std.specs.Prelude.{◌≡◌, ◌≤◌, ◌<◌, ◌*◌, ◌^◌, ◌⊎◌, ℕ, Bool, false, Option, Some, None, List, [], ◌∷◌, if◌then◌else◌, min}
 use Rattle.sip_machine.specs.declared.event.Action.{Action}
 use Rattle.sip_machine.specs.declared.event.Action.TheVariants.{Sent, Received, Failed, Mark}
+use Rattle.sip_machine.specs.declared.event.Kind.{Kind}
+use Rattle.sip_machine.specs.declared.event.Kind.TheVariants.{Request, Response}
 use Rattle.sip_machine.specs.declared.plain_client.PlainWaiting.{PlainWaiting}
 use Rattle.sip_machine.specs.declared.plain_client.PlainState.{PlainState}
 use Rattle.sip_machine.specs.declared.plain_client.PlainState.TheVariants as code
 use Rattle.sip_machine.specs.Times.{Times, last_moment}
-use Rattle.sip_machine.specs.Limits.{open_at, close_at, IsWithin}
+use Rattle.sip_machine.specs.Limits.{open_at, close_at, window_at, IsWithin}
 use Rattle.sip_machine.specs.Texts.{Texts, text_of}
 use Rattle.sip_machine.specs.Heard.{Heard}
-use Rattle.sip_machine.specs.Message.{MessageKind, Request, Response}
+use Rattle.sip_machine.specs.Message.{IsProvisional, IsFinal}
 use Rattle.sip_machine.specs.Rules.{Rules}
 
 -- The non-INVITE client transaction, RFC 3261 section 17.1.2 and its figure 6.
@@ -28,14 +30,6 @@ pub data PlainPhase : Type 0 where
   Proceeding : Waiting → PlainPhase
   Completed : Bool → ℕ → PlainPhase
   Ended : PlainPhase
-
--- a provisional response, section 7.2: 1xx
-abbrev pub IsProvisional : ℕ → Type 0
-IsProvisional code = (100 ≤ code) × (code ≤ 199)
-
--- a final response, section 7.2: 2xx to 6xx
-abbrev pub IsFinal : ℕ → Type 0
-IsFinal code = (200 ≤ code) × (code ≤ 699)
 
 -- timer F, section 17.1.2.2: 64*T1 from the first request on
 abbrev pub timer_f : Times → ℕ
@@ -70,7 +64,7 @@ Hears Ended code t y = ⊥
 
 -- a visible step, by what was sent or received: a refused request ends the machine where a sent one would have a row;
 -- a received message without a row changes nothing, and a sent one without a row has no step
-abbrev pub Steps : Times → PlainPhase → Action → MessageKind → Heard → PlainPhase → Type 0
+abbrev pub Steps : Times → PlainPhase → Action → Kind → Heard → PlainPhase → Type 0
 Steps p x Sent (Request method) e y = Sends p x e y
 Steps p x Sent (Response code) e y = ⊥
 Steps p x Failed (Request method) e y = ((z : PlainPhase) × Sends p x e z) × (y ≡ Ended)
@@ -83,9 +77,9 @@ Steps p x Mark kind e y = ⊥
 -- when a machine may end: timers F and K
 abbrev pub plain_window : Times → PlainPhase → Option (ℕ × Option ℕ)
 plain_window p Idle = None
-plain_window p (Trying w) = Some (open_at p w.start (timer_f p), Some (close_at p w.start (timer_f p)))
-plain_window p (Proceeding w) = Some (open_at p w.start (timer_f p), Some (close_at p w.start (timer_f p)))
-plain_window p (Completed reliable set) = Some (open_at p set (timer_k p reliable), Some (close_at p set (timer_k p reliable)))
+plain_window p (Trying w) = window_at p w.start (timer_f p)
+plain_window p (Proceeding w) = window_at p w.start (timer_f p)
+plain_window p (Completed reliable set) = window_at p set (timer_k p reliable)
 plain_window p Ended = None
 
 -- the last moment of a request that waits: timer F fires by then, and over an unreliable transport timer E too

@@ -1,4 +1,4 @@
-use Rattle.std.specs.Prelude.{◌≡◌, ◌≢◌, ◌↔◌, ℕ, Option, None, List, All, Contains, AllPairs, map}
+use Rattle.std.specs.Prelude.{◌≡◌, ◌≢◌, ◌↔◌, ◌⊎◌, ℕ, Option, None, List, All, Contains, AllPairs, map}
 use Rattle.sip_machine.specs.Limits.{IsWithin, IsOpenAt}
 use Rattle.sip_machine.specs.Texts.{Texts, Keeps}
 use Rattle.sip_machine.specs.Heard.{Heard}
@@ -10,6 +10,10 @@ pub record Rules (X : Type 0) : Type 1 where
   pub Take : X → Heard → X → Type 0
   pub window : X → Option (ℕ × Option ℕ)
   pub until : X → Option ℕ
+
+-- a received message leads where P says, and where it has no row it changes nothing
+abbrev pub OrStays : {X : Type 0} → (X → Type 0) → X → X → Type 0
+OrStays {X} P x y = P y ⊎ (((z : X) → ¬ (P z)) × (y ≡ x))
 
 -- x may stay until h
 abbrev pub Waits : {X : Type 0} → Rules X → X → ℕ → Type 0

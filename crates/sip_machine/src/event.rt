@@ -1,8 +1,12 @@
 //! What happened at a moment: a message that was sent, received, or refused by the transport.
-ghost use Rattle.std.specs.Prelude.{◌≡◌, ◌≢◌, ◌≤◌, false};
+ghost use Rattle.std.specs.Prelude.{◌≡◌, ◌≢◌, ◌≤◌, ◌↔◌, IsTrue, false};
+ghost use Rattle.sip_message.specs.Message.{is_stream};
+ghost use Rattle.sip_message.specs.ValueParts.{start_parts};
 ghost use Rattle.sip_machine.specs.declared.event.Action.TheVariants.{Mark};
 ghost use Rattle.sip_machine.specs.Times.{last_moment};
+ghost use Rattle.sip_machine.specs.Message.{method_named, kind_of, IsProvisional, IsFinal, IsSuccess, IsUnsuccessful};
 
+use sip_message::{Message, StartLine};
 use std::marker::Model;
 
 /// What an entry of a log says of its message. A mark has none: it tells that a moment was reached.
@@ -15,11 +19,78 @@ pub enum Action {
     Mark,
 }
 
-/// What a machine asks of a message: whether it is a request, and a response's code, 100 to 699.
+/// The methods of requests that machines tell apart (RFC 3261, sections 9, 13 and 17.1.1.3).
+#[derive(Clone, Copy, Debug, PartialEq, Eq)]
+pub enum Method {
+    Invite,
+    Ack,
+    Cancel,
+    /// Any other.
+    Other,
+}
+
+impl Method {
+    /// The method of this name, which is compared with case (RFC 3261, section 7.1).
+    fn named(name: &[u8]) -> Method
+        ensures { result ≡ method_named name.now }
+    {
+        if name == b"INVITE".as_slice() {
+            Method::Invite
+        } else if name == b"ACK".as_slice() {
+            Method::Ack
+        } else if name == b"CANCEL".as_slice() {
+            Method::Cancel
+        } else {
+            Method::Other
+        }
+    }
+}
+
+/// What a machine asks of a message: a request's method, or a response's code, 100 to 699.
 #[derive(Clone, Copy, Debug, PartialEq, Eq)]
 pub enum Kind {
-    Request,
+    Request(Method),
     Response(u16),
+}
+
+impl Kind {
+    /// The kind of a message with this start line.
+    fn of(start: StartLine<'_>) -> Kind
+        ensures { result ≡ kind_of (start_parts start.entry) }
+    {
+        match start {
+            StartLine::Request { method, .. } => Kind::Request(Method::named(method)),
+            StartLine::Status { code, .. } => Kind::Response(code),
+        }
+    }
+}
+
+/// Whether the code is that of a provisional response (RFC 3261, section 7.2).
+pub(crate) fn is_provisional(code: u16) -> bool
+    ensures { IsTrue result ↔ IsProvisional code }
+{
+    (100..=199).contains(&code)
+}
+
+/// Whether the code is that of a final response (RFC 3261, section 7.2).
+pub(crate) fn is_final(code: u16) -> bool
+    ensures { IsTrue result ↔ IsFinal code }
+{
+    (200..=699).contains(&code)
+}
+
+/// Whether the code is that of a 2xx (RFC 3261, section 7.2).
+pub(crate) fn is_success(code: u16) -> bool
+    ensures { IsTrue result ↔ IsSuccess code }
+{
+    (200..=299).contains(&code)
+}
+
+/// Whether the code is that of any other final response (RFC 3261, section 7.2).
+pub(crate) fn is_unsuccessful(code: u16) -> bool
+    ensures { IsTrue result ↔ IsUnsuccessful code }
+{
+    (300..=699).contains(&code)
 }
 
 /// A message that was sent, received or refused at a moment, by its number in a `Book`.
@@ -63,6 +134,27 @@ impl Event {
         }
     }
 
+    /// The event of a message, at a moment in milliseconds. Its transport is that of the top Via.
+    pub fn of(moment: u64, action: Action, number: u32, message: &Message<'_>) -> Event
+        requires action { action ≢ Mark }
+        requires limit { moment ≤ last_moment }
+        ensures { result ≡ record {
+          moment = moment;
+          action = action;
+          number = number;
+          kind = kind_of message.now.message.start;
+          reliable = is_stream message.now.parts.via.1.transport;
+        } }
+    {
+        Event {
+            moment,
+            action,
+            number,
+            kind: Kind::of(message.start()),
+            reliable: message.is_reliable(),
+        }
+    }
+
     /// The moment, in milliseconds.
     pub fn moment(&self) -> u64
         ensures { result ≡ self.now.moment }
@@ -84,6 +176,7 @@ impl Event {
         self.number
     }
 
+    /// What the machine asks of the message.
     pub(crate) fn kind(&self) -> Kind
         ensures { result ≡ self.now.kind }
     {

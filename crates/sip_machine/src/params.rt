@@ -1,7 +1,7 @@
 //! The times of an element: its timers T1, T2 and T4, and how far from them it may be.
-ghost use Rattle.std.specs.Prelude.{◌≡◌, ◌≤◌, ◌<◌, ◌^◌, MatchOption};
+ghost use Rattle.std.specs.Prelude.{◌≡◌, ◌≤◌, ◌<◌, ◌^◌, MatchOption, Some};
 ghost use Rattle.sip_machine.specs.Times.{Times, AreTimes, last_moment};
-ghost use Rattle.sip_machine.specs.Limits.{open_at, close_at};
+ghost use Rattle.sip_machine.specs.Limits.{open_at, close_at, window_at};
 
 use std::marker::Model;
 
@@ -98,5 +98,23 @@ impl Params {
         ensures { result ≡ close_at self.now set duration }
     {
         set + duration + self.tolerance
+    }
+
+    /// From when, and until when, a timer that was set then for so long may fire.
+    pub(crate) fn window(&self, set: u64, duration: u64) -> (u64, Option<u64>)
+        requires set { set ≤ last_moment }
+        requires duration { duration < 2 ^ 50 }
+        ensures { Some result ≡ window_at self.now set duration }
+    {
+        (self.opens(set, duration), Some(self.closes(set, duration)))
+    }
+
+    /// The last moment at which what is due at once may be done.
+    pub(crate) fn deadline(&self, moment: u64) -> u64
+        requires { moment ≤ last_moment }
+        ensures value { result ≡ close_at self.now moment 0 }
+        ensures small { result < 2 ^ 50 }
+    {
+        moment + self.tolerance
     }
 }

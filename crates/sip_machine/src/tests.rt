@@ -2,7 +2,14 @@
 ghost use Rattle.std.specs.Prelude.{◌≡◌, false};
 ghost use Rattle.sip_machine.specs.PlainClient.{PlainInRange};
 
-use crate::{Action, Book, Event, Kind, Machine, Params, PlainClient, PlainState, PlainWaiting};
+mod event;
+mod invite_client;
+mod invite_server;
+mod plain_server;
+
+use crate::{
+    Action, Book, Event, Kind, Machine, Method, Params, PlainClient, PlainState, PlainWaiting,
+};
 use std::alloc::Global;
 use std::test::Fail;
 
@@ -14,11 +21,16 @@ const REQUEST: u32 = 1;
 const OTHER: u32 = 2;
 
 fn sent(moment: u64) -> Entry {
-    (moment, Action::Sent, REQUEST, Kind::Request)
+    (moment, Action::Sent, REQUEST, Kind::Request(Method::Other))
 }
 
 fn failed(moment: u64) -> Entry {
-    (moment, Action::Failed, REQUEST, Kind::Request)
+    (
+        moment,
+        Action::Failed,
+        REQUEST,
+        Kind::Request(Method::Other),
+    )
 }
 
 fn received(moment: u64, code: u16) -> Entry {
@@ -111,7 +123,13 @@ fn steps(rt: HostRuntime) -> Result<(), Fail> {
         (&[sent(0), sent(450)], trying(450, 1_000)),
         (&[sent(0), sent(550)], trying(550, 1_000)),
         (&[sent(0), sent(551)], None),
-        (&[sent(0), (500, Action::Sent, OTHER, Kind::Request)], None),
+        (
+            &[
+                sent(0),
+                (500, Action::Sent, OTHER, Kind::Request(Method::Other)),
+            ],
+            None,
+        ),
         (
             &[sent(0), sent(500), sent(1_500), sent(3_500)],
             trying(3_500, 4_000),

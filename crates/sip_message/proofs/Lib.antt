@@ -45,6 +45,7 @@ pub mod NumberLemmas
 pub mod PrefixLemmas
 pub mod CallIdLemmas
 pub mod OtherLemmas
+pub mod LaneLemmas
 pub mod TrimLemmas
 pub mod WordLemmas
 pub mod UriOneLemmas

@@ -77,11 +77,14 @@ pub fn read_field(n: usize, line: &[u8]) -> Result<Field<'_>, Fault>
     Ok(Field { name, value })
 }
 
+// For how many fields there is room at first. Most messages have no more.
+const ROOM: usize = 16;
+
 /// The fields that the lines are, or the first fault of the lines.
 pub(crate) fn read_fields(alloc: Global, text: &[u8]) -> Result<Vec<Field<'_>>, ReadError>
     ensures { (lines : List (List ℕ)) → AreLines text.now lines → Settles (FieldsOf 1 lines) fields_parts result }
 {
-    let mut fields = Vec::new(alloc);
+    let mut fields = Vec::with_capacity(alloc, ROOM)?;
     let mut rest = text;
     'lines: while let Some((line, more)) = cut_line(rest) {
         let field = read_field(fields.len() + 1, line)?;

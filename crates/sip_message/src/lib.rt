@@ -9,6 +9,7 @@ mod field;
 pub mod laws;
 mod message;
 mod name;
+mod other;
 mod params;
 mod row;
 mod stages;

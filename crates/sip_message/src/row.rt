@@ -12,7 +12,8 @@ ghost use Rattle.sip_message.specs.Views.{name_parts};
 
 use crate::address::read_address;
 use crate::name::{Known, Name};
-use crate::values::{is_call_id, is_length, is_other, read_cseq};
+use crate::other::is_other;
+use crate::values::{is_call_id, is_length, read_cseq};
 use crate::via::are_vias;
 use sip_text::skip_lws;
 

@@ -1,12 +1,10 @@
-//! The values of the other fields: numbers, CSeq, Call-ID, and those that are not looked into.
+//! The values of the other fields that are known: numbers, CSeq and Call-ID.
 ghost use Rattle.std.specs.Prelude.{◌≡◌, ◌≤◌, ◌<◌, ◌↔◌, IsTrue, MatchOption, length};
 ghost use Rattle.std.specs.List.{list_all, prefix_len};
 ghost use Rattle.std.specs.Char.{is_ascii_digit};
 ghost use Rattle.std.specs.Str.Parse.{digits_value};
 ghost use Rattle.sip_text.specs.Text.{IsOnlyValue};
-ghost use Rattle.sip_message.specs.Values.{Digits, Word, CallIdText, OtherText, is_word_byte};
-ghost use Rattle.sip_text.specs.Blanks.{begins_with_fold};
-ghost use Rattle.sip_message.specs.inner.ValueFronts.{is_plain_byte};
+ghost use Rattle.sip_message.specs.Values.{Digits, Word, CallIdText, is_word_byte};
 ghost use Rattle.sip_message.specs.Reading.{CSeqValue};
 ghost use Rattle.sip_message.specs.ValueParts.{cseq_parts};
 
@@ -147,47 +145,4 @@ fn is_word_byte(byte: u8) -> bool
                 | b'\\'
                 | b'"'
         )
-}
-
-/// Whether the text is a value that the reader doesn't look into.
-pub(crate) fn is_other(text: &[u8]) -> bool
-    ensures { IsTrue result ↔ OtherText text.now }
-{
-    let mut at = 0;
-    'folds: loop {
-        at += plain_len(&text[at..]);
-        if !begins_with_fold(&text[at..]) {
-            return at == text.len();
-        }
-        at += 3;
-    }
-}
-
-// The length of the front that has no fold: bytes of a value, and blanks.
-fn plain_len(text: &[u8]) -> usize
-    ensures run { result ≡ prefix_len is_plain_byte text.now }
-    ensures within { result ≤ length text.now }
-{
-    for (at, byte) in text.iter().enumerate() {
-        if !is_plain(*byte) {
-            return at;
-        }
-    }
-    text.len()
-}
-
-// A byte of a value, or a blank.
-#[inline]
-fn is_plain(byte: u8) -> bool
-    ensures { result ≡ is_plain_byte byte }
-{
-    matches!(byte, b'!'..=b'~' | 0x80..=0xff | b' ' | b'\t')
-}
-
-// Whether the text begins with a CRLF and a blank.
-#[inline]
-fn begins_with_fold(text: &[u8]) -> bool
-    ensures { result ≡ begins_with_fold text.now }
-{
-    matches!(text, [b'\r', b'\n', b' ' | b'\t', ..])
 }

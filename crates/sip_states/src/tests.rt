@@ -5,7 +5,7 @@ mod toy;
 
 use crate::tests::toy::Toy;
 use crate::{StateSet, TakeError};
-use sip_machine::{Action, Book, Event, Kind, Params, PlainClient};
+use sip_machine::{Action, Book, Event, Kind, Method, Params, PlainClient};
 use std::alloc::Global;
 use std::test::Fail;
 
@@ -18,9 +18,9 @@ fn waits_for_the_repeat(rt: HostRuntime) -> Result<(), Fail> {
     let request = book.add(1, b"OPTIONS")?;
     let params = Params::new(500, 4_000, 5_000, 50).ok_or("refused")?;
     let mut set = StateSet::start(alloc, PlainClient::new(params))?;
-    let first = Event::plain(0, Action::Sent, request, Kind::Request);
+    let first = Event::plain(0, Action::Sent, request, Kind::Request(Method::Other));
     assert_eq!(rt; set.take(&book, &first), Ok(()));
-    let repeat = Event::plain(500, Action::Sent, request, Kind::Request);
+    let repeat = Event::plain(500, Action::Sent, request, Kind::Request(Method::Other));
     assert_eq!(rt; set.take(&book, &repeat), Ok(()));
     set.advance(1_550)?;
     assert!(rt; !set.is_empty());
@@ -41,9 +41,9 @@ fn busy(alloc: Global, ends: bool) -> Result<StateSet<Toy>, Fail>
     let mut book = Book::new(alloc);
     let number = book.add(1, b"")?;
     let mut set = StateSet::start(alloc, Toy { ends })?;
-    let early = Event::plain(EARLY, Action::Sent, number, Kind::Request);
+    let early = Event::plain(EARLY, Action::Sent, number, Kind::Request(Method::Other));
     set.take(&book, &early).ok().ok_or("not taken")?;
-    let late = Event::plain(LATE, Action::Sent, number, Kind::Request);
+    let late = Event::plain(LATE, Action::Sent, number, Kind::Request(Method::Other));
     set.take(&book, &late).ok().ok_or("not taken")?;
     Ok(set)
 }
@@ -83,11 +83,11 @@ fn follows_1_024_states(rt: HostRuntime) -> Result<(), Fail> {
     let number = book.add(1, b"")?;
     let mut set = StateSet::start(alloc, Toy { ends: true })?;
     for moment in 1..1_025 {
-        let event = Event::plain(moment, Action::Sent, number, Kind::Request);
+        let event = Event::plain(moment, Action::Sent, number, Kind::Request(Method::Other));
         assert_eq!(rt; set.take(&book, &event), Ok(()));
     }
     assert_eq!(rt; set.states().len(), 1_024);
-    let event = Event::plain(1_025, Action::Sent, number, Kind::Request);
+    let event = Event::plain(1_025, Action::Sent, number, Kind::Request(Method::Other));
     assert_eq!(rt; set.take(&book, &event), Err(TakeError::TooMany));
     assert_eq!(rt; set.states().len(), 1_024);
     Ok(())

@@ -3,8 +3,8 @@ use Rattle.std.proofs.Common.{◌≡◌, ◌⊎◌, inl, inr, ℕ, None, List, [
 use Rattle.std.proofs.lemmas.List.Elements.{All-nil, All-cons}
 use Rattle.sip_machine.specs.Times.{Times}
 use Rattle.sip_verdict.specs.declared.verdict.Verdict.TheVariants.{Legal}
-use Rattle.sip_verdict.specs.Log.{LogEnd, Clean, Stops}
-use Rattle.sip_verdict.specs.Entry.{Item}
+use Rattle.sip_log.specs.Log.{LogEnd, Clean, Stops}
+use Rattle.sip_log.specs.Spelling.{Item}
 use Rattle.sip_verdict.specs.Keyed.{Observation, Machines, HasRun}
 use Rattle.sip_verdict.specs.Verdicts.{AllRun, IsGood}
 use Rattle.sip_verdict.specs.Reading.{Reading, BeginsWell, IsVerdictAfter, IsVerdictBy, HasRuns}

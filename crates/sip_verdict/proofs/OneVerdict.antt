@@ -3,13 +3,13 @@ use Rattle.std.proofs.Common.{◌≡◌, ◌⊎◌, inl, inr, ℕ, List, [], ◌
 use Rattle.std.proofs.lemmas.List.{append-nil, append_cancel_left}
 use Rattle.sip_machine.specs.Times.{Times}
 use Rattle.sip_verdict.specs.declared.verdict.Verdict.{Verdict}
-use Rattle.sip_verdict.specs.Entry.{Item}
-use Rattle.sip_verdict.specs.Log.{LogEnd, Clean, Stops, Faulty, Holds, IsLogOf}
+use Rattle.sip_log.specs.Spelling.{Item}
+use Rattle.sip_log.specs.Log.{LogEnd, Clean, Stops, Faulty, Holds, IsLogOf}
 use Rattle.sip_verdict.specs.Keyed.{Observation}
 use Rattle.sip_verdict.specs.Verdicts.{IsGood, IsTrouble}
 use Rattle.sip_verdict.specs.Reading.{Reading, AreObserved, IsVerdictAfter, IsVerdictOfEntries, IsVerdictBy}
-use Rattle.sip_verdict.proofs.LogLaws.{log_is_one}
-use Rattle.sip_verdict.proofs.Fronts.{fronts_compare}
+use Rattle.sip_log.proofs.Logs.{log_is_one}
+use Rattle.sip_verdict.proofs.Splitting.{fronts_compare}
 use Rattle.sip_verdict.proofs.Unique.{fine_no_trouble, trouble_is_one}
 
 -- an input has one log with a header
@@ -18,7 +18,7 @@ one_log input p q xs ys end fin a b = let e = log_is_one input (Holds p xs end) 
 
 -- a log has no header or holds entries
 not_both : (input : List ℕ) (p : Times) (items : List Item) (end : LogEnd) → IsLogOf input Faulty → IsLogOf input (Holds p items end) → ⊥
-not_both input p items end none is = none p is.0 is.1
+not_both input p items end none is = none p _ is.times is.spelled
 
 module _ {K : Type 0} (r : Reading K) (one : (es : List (Observation K)) (item : Item) (e f : Observation K) → r.Observes es item e → r.Observes es item f → e ≡ f) where
   -- more is observed of more entries

@@ -4,6 +4,7 @@ use Rattle.std.specs.Prelude.{◌≢◌, Option, None, Some, MatchOption, codes,
 use Rattle.std.proofs.lemmas.List.{append_assoc, append_cancel_left}
 use Rattle.std.proofs.lemmas.Fmt.{decimal_step, decimal_digit}
 use Rattle.std.specs.Borrow.{Bor}
+use Rattle.sip_machine.specs.declared.event.Method.TheVariants.{Other}
 use Rattle.sip_machine.specs.declared.event.Kind.TheVariants.{Request, Response}
 use Rattle.sip_text.specs.Text.{IsOnlyValue}
 use Rattle.sip_text.specs.Bytes.{crlf}
@@ -169,7 +170,7 @@ request-fields text rest p is whole = record { branch = is.parts.branch; method 
 
 -- what was read one behind another is the request
 pub request-found : (text m b n r1 r2 : List ℕ) → StartsWithMethod text (m, r1) → r1 ≡ request_front ++ r2 → AreFields [] r2 (b, n) → n ≡ m
-    → IsRequest text (record { method = m; branch = b; kind = Request })
+    → IsRequest text (record { method = m; branch = b; kind = Request Other })
 request-found text m b n r1 r2 method front fields same =
     let whole : r2 ≡ b ++ behind_branch [] m = fields.whole ∙ ap (λ x. b ++ behind_branch [] x) same in
     record {
@@ -177,7 +178,7 @@ request-found text m b n r1 r2 method front fields same =
       kind = refl;
       spelled =
           method.whole ∙ ap (λ r. m ++ r) (front ∙ ap (λ r. request_front ++ r) whole)
-          ∙ sym (request-pieces (record { method = m; branch = b; kind = Request }));
+          ∙ sym (request-pieces (record { method = m; branch = b; kind = Request Other }));
     }
 
 -- what is behind the version of a response starts with its code

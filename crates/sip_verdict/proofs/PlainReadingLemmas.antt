@@ -3,7 +3,7 @@ use Rattle.std.proofs.Common.{◌≡◌, inl, inr, Bool, true, false, ◌||◌, 
 use Rattle.sip_machine.specs.Times.{Times}
 use Rattle.sip_machine.specs.declared.event.Action.{Action}
 use Rattle.sip_machine.specs.declared.event.Action.TheVariants.{Sent, Received, Failed, Mark}
-use Rattle.sip_verdict.specs.Entry.{Item}
+use Rattle.sip_log.specs.Spelling.{Item}
 use Rattle.sip_verdict.specs.Key.{PlainKey, same_key}
 use Rattle.sip_verdict.specs.Keyed.{Observation}
 use Rattle.sip_verdict.specs.PlainReading.{plain_machines, plain_reading, message_observation, ObservesMessage, ObservesBy}

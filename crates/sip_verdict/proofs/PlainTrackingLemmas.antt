@@ -20,7 +20,7 @@ use Rattle.sip_verdict.specs.declared.passing.MessageEvent.{MessageEvent}
 use Rattle.sip_states.specs.Held.{Held}
 use Rattle.sip_verdict.specs.Key.{PlainKey}
 use Rattle.sip_verdict.specs.Keyed.{Observation, concerns, events_of}
-use Rattle.sip_verdict.specs.Entry.{Item}
+use Rattle.sip_log.specs.Spelling.{Item}
 use Rattle.sip_verdict.specs.PlainForm.{PlainParts, PlainText}
 use Rattle.sip_verdict.specs.PlainReading.{plain_machines, plain_reading, mark_observation, message_observation, ObservesBy}
 use Rattle.sip_verdict.specs.inner.Stepping.{LeadsTo, IsStepped}

@@ -5,6 +5,7 @@ use Rattle.std.specs.List.{flat_map}
 use Rattle.sip_machine.specs.declared.event.Action.{Action}
 use Rattle.sip_machine.specs.declared.event.Action.TheVariants.{Sent, Received, Failed, Mark}
 use Rattle.sip_machine.specs.declared.event.Kind.{Kind}
+use Rattle.sip_machine.specs.declared.event.Method.TheVariants.{Other}
 use Rattle.sip_machine.specs.declared.event.Kind.TheVariants.{Request, Response}
 use Rattle.sip_verdict.specs.declared.plain_form.PlainMessage.{PlainMessage}
 use Rattle.sip_text.specs.Bytes.{crlf}
@@ -68,7 +69,7 @@ IsStatusCode code = (100 ≤ code) × (code ≤ 699)
 -- the text is the request with these parts
 pub record IsRequest (text : List ℕ) (p : PlainParts) : Type 0 where
   pub parts : ArePlain p
-  pub kind : p.kind ≡ Request
+  pub kind : p.kind ≡ Request Other
   pub spelled : text ≡ request_text p
 
 -- the text is a response with these parts

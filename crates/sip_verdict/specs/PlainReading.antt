@@ -2,15 +2,15 @@ use Rattle.std.specs.Prelude.{◌≡◌, ◌⊎◌, ℕ, false, Some, None, [], 
 use Rattle.sip_machine.specs.declared.event.Action.{Action}
 use Rattle.sip_machine.specs.declared.event.Action.TheVariants.{Sent, Received, Failed, Mark}
 use Rattle.sip_machine.specs.declared.event.Kind.{Kind}
+use Rattle.sip_machine.specs.declared.event.Method.TheVariants.{Other}
 use Rattle.sip_machine.specs.declared.event.Kind.TheVariants.{Request}
 use Rattle.sip_machine.specs.Times.{Times}
 use Rattle.sip_machine.specs.Heard.{Heard}
-use Rattle.sip_machine.specs.Message.{kind_of}
 use Rattle.sip_machine.specs.PlainClient.{PlainPhase, plain_rules}
+use Rattle.sip_log.specs.Spelling.{Item}
 use Rattle.sip_message.specs.declared.fault.Fault.{Fault}
 use Rattle.sip_message.specs.declared.fault.Unit.TheVariants.{Head}
 use Rattle.sip_message.specs.declared.fault.Reason.TheVariants.{NotYet}
-use Rattle.sip_verdict.specs.Entry.{Item}
 use Rattle.sip_verdict.specs.PlainForm.{PlainParts, PlainText}
 use Rattle.sip_verdict.specs.Key.{PlainKey, key_of, same_key}
 use Rattle.sip_verdict.specs.Keyed.{Observation, Machines}
@@ -24,11 +24,11 @@ plain_machines p = record { same = same_key; State = λ key. PlainPhase; rules =
 
 -- an entry with its message as a machine hears it, over an unreliable transport
 abbrev pub heard_as : Item → Kind → Heard
-heard_as item kind = record { moment = item.moment; action = item.action; text = item.text; kind = kind_of kind; reliable = false }
+heard_as item kind = record { moment = item.moment; action = item.action; text = item.text; kind = kind; reliable = false }
 
 -- a mark tells its moment and concerns no key
 abbrev pub mark_observation : ℕ → Observation PlainKey
-mark_observation moment = record { fault = None; event = record { moment = moment; action = Mark; text = []; kind = kind_of Request; reliable = false }; keys = [] }
+mark_observation moment = record { fault = None; event = record { moment = moment; action = Mark; text = []; kind = Request Other; reliable = false }; keys = [] }
 
 -- a message of the plain form concerns the client key of its branch and method, RFC 3261 section 17.1.3
 abbrev pub message_observation : Item → PlainParts → Observation PlainKey
@@ -40,7 +40,7 @@ not_yet = record { unit = Head; reason = NotYet }
 
 -- a message that is not of the plain form has this fault
 abbrev pub fault_observation : Item → Observation PlainKey
-fault_observation item = record { fault = Some not_yet; event = heard_as item Request; keys = [] }
+fault_observation item = record { fault = Some not_yet; event = heard_as item (Request Other); keys = [] }
 
 -- what is observed of an entry with a message: what the only form that is read so far says, else the fault
 abbrev pub ObservesMessage : Item → Observation PlainKey → Type 0

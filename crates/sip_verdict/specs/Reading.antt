@@ -1,10 +1,11 @@
 use Rattle.std.specs.Prelude.{◌≡◌, ◌+◌, ◌⊎◌, [], ◌∷◌, ◌++◌, ℕ, None, List, length, All}
 use Rattle.sip_machine.specs.Times.{Times}
+use Rattle.sip_log.specs.Spelling.{Item}
+use Rattle.sip_log.specs.Log.{LogEnd, Clean, Stops, Faulty, Holds, IsLogOf}
 use Rattle.sip_verdict.specs.declared.log_reason.LogReason.TheVariants.{Header}
 use Rattle.sip_verdict.specs.declared.verdict.Verdict.{Verdict}
 use Rattle.sip_verdict.specs.declared.verdict.Verdict.TheVariants.{Legal, LogFault}
-use Rattle.sip_verdict.specs.Entry.{Item}
-use Rattle.sip_verdict.specs.Log.{LogEnd, Clean, Stops, Faulty, Holds, IsLogOf}
+use Rattle.sip_verdict.specs.LogReason.{reason_of}
 use Rattle.sip_verdict.specs.Keyed.{Observation, Machines, keys_of}
 use Rattle.sip_verdict.specs.Verdicts.{AllRun, IsGood, IsTrouble}
 
@@ -33,7 +34,7 @@ pub record BeginsWell {K : Type 0} (r : Reading K) (input : List ℕ) (times : T
 abbrev pub IsVerdictAfter : {K : Type 0} → Reading K → Times → List (Observation K) → List Item → LogEnd → Verdict → Type 0
 IsVerdictAfter {K} r times es (item ∷ rest) end v = (e : Observation K) × r.Observes es item e × IsTrouble (r.machines times) es e v
 IsVerdictAfter r times es [] Clean v = v ≡ Legal (length es) (length (keys_of (r.machines times) es))
-IsVerdictAfter r times es [] (Stops reason) v = v ≡ LogFault (length es + 1) reason
+IsVerdictAfter r times es [] (Stops fault) v = v ≡ LogFault (length es + 1) (reason_of fault)
 
 -- the verdict of an input with a header
 pub record IsVerdictOfEntries {K : Type 0} (r : Reading K) (input : List ℕ) (v : Verdict) : Type 0 where

@@ -1,9 +1,7 @@
-pub mod Answers
 pub mod Judging
 pub mod Leads
 pub mod PlainPieces
 pub mod PlainTracking
-pub mod Reads
+pub mod Showing
 pub mod Stepping
 pub mod Tracking
-pub mod Window

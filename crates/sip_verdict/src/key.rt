@@ -52,7 +52,7 @@ impl Key {
 #[cfg(test)]
 mod tests {
     use super::*;
-    use sip_machine::Kind;
+    use sip_machine::{Kind, Method};
     use std::test::Fail;
 
     #[test]
@@ -60,14 +60,14 @@ mod tests {
         let message = PlainMessage {
             method: b"REGISTER",
             branch: b"aB1",
-            kind: Kind::Request,
+            kind: Kind::Request(Method::Other),
         };
         let key = Key::of(rt.alloc(), &message)?;
         for (method, branch, kind, same) in [
-            ("REGISTER", "aB1", Kind::Request, true),
+            ("REGISTER", "aB1", Kind::Request(Method::Other), true),
             ("REGISTER", "Ab1", Kind::Response(200), true),
-            ("OPTIONS", "aB1", Kind::Request, false),
-            ("REGISTER", "aB", Kind::Request, false),
+            ("OPTIONS", "aB1", Kind::Request(Method::Other), false),
+            ("REGISTER", "aB", Kind::Request(Method::Other), false),
         ] {
             let other = PlainMessage {
                 method: method.as_bytes(),

@@ -2,30 +2,28 @@
 //! one of them has no run.
 #![tactic(auto)]
 
-mod entry;
-mod header;
 mod judge_error;
 mod judging;
 mod key;
 mod laws;
-mod line;
-mod log_error;
 mod log_reason;
-mod number;
 mod passing;
 mod plain_form;
 mod rendering;
-mod source;
+mod show_error;
+mod showing;
+mod shown;
 mod standing;
 mod transaction;
 mod verdict;
-mod window;
 
 pub use judge_error::JudgeError;
 pub use judging::{judge, judge_bytes};
 pub use laws::{a_legal_log_has_runs, an_input_has_one_verdict};
 pub use log_reason::LogReason;
 pub use rendering::render;
+pub use show_error::ShowError;
+pub use showing::show;
+pub use shown::Shown;
 pub use sip_message::{Fault, Reason, Unit};
-pub use source::{Broken, FromRead, Source};
 pub use verdict::Verdict;

@@ -1,6 +1,10 @@
 //! Why a log cannot be read on.
 ghost use Rattle.std.specs.Prelude.{◌≡◌};
 ghost use Rattle.sip_verdict.specs.Rendering.{log_reason_number, log_reason_name};
+ghost use Rattle.sip_verdict.specs.inner.Judging.{told_as};
+
+use crate::judge_error::JudgeError;
+use sip_log::LogError;
 
 /// Why an entry of a log, or its header, cannot be read.
 #[derive(Clone, Copy, Debug, PartialEq, Eq)]
@@ -42,5 +46,20 @@ impl LogReason {
             LogReason::Order => "Order",
             LogReason::Limit => "Limit",
         }
+    }
+}
+
+/// The reason by which a verdict names a log's fault. Any other error is one of judging.
+pub(crate) fn reason_of(error: LogError) -> Result<LogReason, JudgeError>
+    ensures { result ≡ told_as error }
+{
+    match error {
+        LogError::Header => Ok(LogReason::Header),
+        LogError::EntryLine => Ok(LogReason::EntryLine),
+        LogError::Truncated => Ok(LogReason::Truncated),
+        LogError::Order => Ok(LogReason::Order),
+        LogError::Limit => Ok(LogReason::Limit),
+        LogError::Io | LogError::Failed => Err(JudgeError::Io),
+        LogError::Memory => Err(JudgeError::Memory),
     }
 }

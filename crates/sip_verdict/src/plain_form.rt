@@ -5,10 +5,9 @@ ghost use Rattle.std.specs.List.{prefix_len};
 ghost use Rattle.std.specs.Char.{is_ascii_uppercase, is_ascii_alphanumeric};
 ghost use Rattle.sip_text.specs.Text.{IsOnlyValue};
 ghost use Rattle.sip_verdict.specs.PlainForm.{IsRequest, IsResponse, IsPlainMethod, IsBranchEnd, PlainText, parts_of};
-ghost use Rattle.sip_verdict.specs.Number.{digit_zero};
-ghost use Rattle.sip_verdict.specs.inner.PlainPieces.{StartsWithMethod, StartsWithBranchEnd, StartsWithCode, AreCodeDigits, AreFixedFields, AreFields, fronts, rest_of, code_and_rest, digit_nine};
+ghost use Rattle.sip_verdict.specs.inner.PlainPieces.{StartsWithMethod, StartsWithBranchEnd, StartsWithCode, AreCodeDigits, AreFixedFields, AreFields, fronts, rest_of, code_and_rest, digit_zero, digit_nine};
 
-use sip_machine::{Action, Kind};
+use sip_machine::{Action, Kind, Method};
 
 /// What is read of a message: the method, the end of the branch behind the cookie, and the kind.
 #[derive(Clone, Copy, Debug)]
@@ -63,7 +62,7 @@ fn read_request(bytes: &[u8]) -> Option<PlainMessage<'_>>
         Some(PlainMessage {
             method,
             branch,
-            kind: Kind::Request,
+            kind: Kind::Request(Method::Other),
         })
     } else {
         None
@@ -218,8 +217,8 @@ mod tests {
     fn reads_the_templates(rt: HostRuntime) -> Result<(), Fail> {
         assert_eq!(rt; (REGISTER.len(), ANSWER.len()), (199, 190));
         for (action, bytes, kind) in [
-            (Action::Sent, REGISTER, Kind::Request),
-            (Action::Failed, REGISTER, Kind::Request),
+            (Action::Sent, REGISTER, Kind::Request(Method::Other)),
+            (Action::Failed, REGISTER, Kind::Request(Method::Other)),
             (Action::Received, ANSWER, Kind::Response(200)),
         ] {
             let message = read_plain(action, bytes).ok_or("plain")?;

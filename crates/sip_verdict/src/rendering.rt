@@ -1,9 +1,11 @@
 //! The text of a verdict.
 ghost use Rattle.std.specs.Prelude.{◌≡◌, ◌++◌, IfOk, OnOk, codes, decimal, string_bytes};
 ghost use Rattle.sip_verdict.specs.Rendering.{rendered, rendered_unit};
+ghost use Rattle.sip_verdict.specs.Showing.{last_text};
 ghost use Rattle.sip_verdict.specs.declared.verdict.Verdict.TheVariants.{Malformed, LogFault};
 
 use crate::log_reason::LogReason;
+use crate::shown::Shown;
 use crate::verdict::Verdict;
 use itoa::Buffer;
 use sip_message::{Fault, Unit};
@@ -33,6 +35,21 @@ pub fn render(alloc: Global, verdict: &Verdict) -> Result<String, AllocError>
             two_numbers(alloc, "undecided ", entry, " transaction ", transaction)
         }
         Verdict::LogFault { entry, reason } => log_fault(alloc, entry, reason),
+    }
+}
+
+/// The last line of a log that is shown, without its end: `end N`, or the verdict on the entry that cannot be shown.
+pub(crate) fn last_line(alloc: Global, shown: &Shown) -> Result<String, AllocError>
+    ensures { IfOk result (λ text. string_bytes text ≡ last_text shown.now) }
+{
+    match *shown {
+        Shown::End { entries } => {
+            let mut text = String::new(alloc);
+            push_with_number(&mut text, "end ", entries.into())?;
+            Ok(text)
+        }
+        Shown::Malformed { entry, fault } => malformed(alloc, entry, fault),
+        Shown::LogFault { entry, reason } => log_fault(alloc, entry, reason),
     }
 }
 

@@ -13,14 +13,14 @@ ghost use Rattle.sip_verdict.specs.PlainForm.{parts_of};
 ghost use Rattle.sip_verdict.specs.PlainReading.{plain_machines, plain_reading, heard_as, message_observation};
 ghost use Rattle.sip_verdict.specs.inner.Tracking.{IsTouched, IsJudged};
 ghost use Rattle.sip_verdict.specs.inner.PlainTracking.{plain_keeping, PlainTracks, PlainTracksBefore, MayTake, new_transaction, observation_of};
-ghost use Rattle.sip_verdict.specs.inner.Answers.{item};
+ghost use Rattle.sip_log.specs.Told.{item};
 
-use crate::entry::Entry;
 use crate::key::Key;
 use crate::passing::{MessageEvent, Outcome, pass_all};
 use crate::plain_form::{PlainMessage, read_plain};
 use crate::transaction::Transaction;
 use crate::verdict::Verdict;
+use sip_log::Entry;
 use sip_machine::{Action, Book, Event, Params, PlainClient};
 use sip_message::{Fault, Reason, Unit};
 use sip_states::StateSet;

@@ -1,15 +1,31 @@
-use Rattle.std.specs.Prelude.{◌≡◌, ℕ}
+use Rattle.std.specs.Prelude.{◌≡◌, ◌⊎◌, ℕ}
 use Rattle.sip_verdict.specs.declared.verdict.Verdict.{Verdict}
-use Rattle.sip_verdict.specs.declared.verdict.Verdict.TheVariants.{Legal, Malformed, Breach, Undecided, LogFault}
+use Rattle.sip_verdict.specs.declared.verdict.Verdict.TheVariants as verdicts
+use Rattle.sip_verdict.specs.declared.shown.Shown.{Shown}
+use Rattle.sip_verdict.specs.declared.shown.Shown.TheVariants.{End, Malformed, LogFault}
 
 -- the status of the program by its verdict
 abbrev pub status_of : Verdict → ℕ
-status_of (Legal entries transactions) = 0
-status_of (Malformed entry fault) = 1
-status_of (Breach entry transaction) = 1
-status_of (LogFault entry reason) = 2
-status_of (Undecided entry transaction) = 3
+status_of (verdicts.Legal entries transactions) = 0
+status_of (verdicts.Malformed entry fault) = 1
+status_of (verdicts.Breach entry transaction) = 1
+status_of (verdicts.LogFault entry reason) = 2
+status_of (verdicts.Undecided entry transaction) = 3
+
+-- the status of the program by how a log that it shows ends
+abbrev pub status_of_shown : Shown → ℕ
+status_of_shown (End entries) = 0
+status_of_shown (Malformed entry fault) = 1
+status_of_shown (LogFault entry reason) = 2
 
 -- the status of some verdict
+abbrev pub IsStatusOfVerdict : ℕ → Type 0
+IsStatusOfVerdict status = (verdict : Verdict) × (status ≡ status_of verdict)
+
+-- the status of some log that was shown
+abbrev pub IsStatusOfShown : ℕ → Type 0
+IsStatusOfShown status = (shown : Shown) × (status ≡ status_of_shown shown)
+
+-- the status of some verdict, or of some log that was shown
 abbrev pub IsStatus : ℕ → Type 0
-IsStatus status = (verdict : Verdict) × (status ≡ status_of verdict)
+IsStatus status = IsStatusOfVerdict status ⊎ IsStatusOfShown status

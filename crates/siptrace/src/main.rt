@@ -1,102 +1,85 @@
-//! `siptrace`: judges the log on its standard input, and prints the verdict.
+//! `siptrace`: judges the log on its standard input or in a file and prints the verdict, or shows a log with each message in its
+//! canonical form.
 //!
-//! It ends with 0 for a legal log, 1 for a malformed message or a breach, 2 for a log that cannot be read, 3 where it is
-//! undecided, 4 where it cannot read, write or get memory, and 5 where it does not understand its words.
+//! It ends with 0 for a legal log or one that was shown whole, 1 for a malformed message or a breach, 2 for a log that cannot be
+//! read, 3 where it is undecided, 4 where it cannot read, write or get memory, and 5 where it does not understand its words.
 #![tactic(auto)]
 
-ghost use Rattle.std.specs.Prelude.{◌≡◌, ◌≢◌, IfOk};
-ghost use Rattle.std.specs.IoError.{error_kind};
-ghost use Rattle.std.specs.declared.io.ErrorKind.TheVariants.{OutOfMemory};
-ghost use Rattle.siptrace.specs.declared.Failure.TheVariants.{Memory, Read};
-ghost use Rattle.siptrace.specs.Failures.{failure_of, status_without};
-ghost use Rattle.siptrace.specs.Status.{status_of, IsStatus};
+ghost use Rattle.std.specs.Prelude.{IfOk};
+ghost use Rattle.siptrace.specs.Status.{IsStatus, IsStatusOfVerdict, IsStatusOfShown};
 
-use sip_verdict::{FromRead, JudgeError, Verdict, judge, render};
-use std::alloc::AllocError;
+mod asked;
+mod failure;
+mod status;
+
+use asked::{Asked, asked_by};
+use failure::{Failure, read_failure, status_without};
+use sip_log::{FromRead, ToWrite};
+use sip_verdict::{judge, render, show};
+use status::{status_of, status_of_shown};
+use std::env;
+use std::fs::File;
 use std::hash::RandomState;
+use std::io::{BufWriter, Read, Write};
 use std::process::ExitCode;
-use std::{env, io};
-use thiserror::Error;
 
-/// Why there is no verdict to print.
-#[derive(Debug, Drop, Error)]
-enum Failure {
-    #[error("cannot read")]
-    Read,
-    #[error("cannot write")]
-    Write,
-    #[error("out of memory")]
-    Memory,
-    #[error("no words yet")]
-    Words,
-}
+/// How many bytes are written at once, but for the last.
+const BUFFER: usize = 65_536;
 
-impl From<AllocError> for Failure {
-    ghost from_gives = { λ _ failure. failure ≡ Memory };
-
-    fn from(_: AllocError) -> Failure {
-        Failure::Memory
-    }
-}
-
-impl From<JudgeError> for Failure {
-    ghost from_gives = { λ error failure. failure ≡ failure_of error };
-
-    fn from(error: JudgeError) -> Failure {
-        match error {
-            JudgeError::Io => Failure::Read,
-            JudgeError::Memory => Failure::Memory,
-        }
-    }
-}
-
-/// The status that a verdict ends the program with.
-fn status_of(verdict: &Verdict) -> u8
-    ensures { result ≡ status_of verdict.now }
-{
-    match verdict {
-        Verdict::Legal { .. } => 0,
-        Verdict::Malformed { .. } | Verdict::Breach { .. } => 1,
-        Verdict::LogFault { .. } => 2,
-        Verdict::Undecided { .. } => 3,
-    }
-}
-
-/// The status that the program ends with where there is no verdict.
-fn status_without(failure: &Failure) -> u8
-    ensures { result ≡ status_without failure.now }
-{
-    match failure {
-        Failure::Read | Failure::Write | Failure::Memory => 4,
-        Failure::Words => 5,
-    }
-}
-
-/// What could not be had from the system.
-fn read_failure(error: io::Error) -> Failure
-    ensures memory { error_kind error ≡ OutOfMemory → result ≡ Memory }
-    ensures read { error_kind error ≢ OutOfMemory → result ≡ Read }
-{
-    if error.kind() == io::ErrorKind::OutOfMemory {
-        Failure::Memory
-    } else {
-        Failure::Read
-    }
-}
-
-/// Judges the standard input and prints the verdict. Its status is that of a verdict.
-fn run(rt: &HostRuntime) -> Result<u8, Failure>
-    ensures { IfOk result IsStatus }
-{
+/// The words behind the program's name.
+fn words(rt: &HostRuntime) -> Result<Vec<String>, Failure> {
     let words = env::args(rt).map_err(read_failure)?;
-    if words.count() > 1 {
-        return Err(Failure::Words);
-    }
-    let seed = RandomState::new(rt).map_err(read_failure)?;
-    let verdict = judge(rt.alloc(), &mut FromRead::new(rt.stdin()), seed)?;
+    Ok(words.skip(1).collect(rt.alloc())?)
+}
+
+/// A file to read.
+fn open(rt: &HostRuntime, path: &str) -> Result<File, Failure> {
+    File::open(rt, path).map_err(read_failure)
+}
+
+/// Judges a log and prints the verdict. The status is that of a verdict.
+fn check<R: Read + Drop>(rt: &HostRuntime, seed: RandomState, reader: R) -> Result<u8, Failure>
+    ensures { IfOk result IsStatusOfVerdict }
+{
+    let verdict = judge(rt.alloc(), &mut FromRead::new(reader), seed)?;
     let text = render(rt.alloc(), &verdict)?;
     println!(rt; "{text}").map_err(|_| Failure::Write)?;
     Ok(status_of(&verdict))
+}
+
+/// Shows a log on the standard output. The status is that of how it ends.
+fn show_log(rt: &HostRuntime, file: File) -> Result<u8, Failure>
+    ensures { IfOk result IsStatusOfShown }
+{
+    let mut writer = BufWriter::with_capacity(rt.alloc(), BUFFER, rt.stdout()).map_err(
+        read_failure,
+    )?;
+    let shown = show(
+        rt.alloc(),
+        &mut FromRead::new(file),
+        &mut ToWrite::new(&mut writer),
+    )?;
+    writer.flush().map_err(|_| Failure::Write)?;
+    Ok(status_of_shown(&shown))
+}
+
+/// Does what the words ask for. The status is that of a verdict, or that of how a log that is shown ends.
+fn run(rt: &HostRuntime) -> Result<u8, Failure>
+    ensures { IfOk result IsStatus }
+{
+    let words = words(rt)?;
+    match asked_by(words.as_slice()) {
+        Some(Asked::Input) => {
+            let seed = RandomState::new(rt).map_err(read_failure)?;
+            check(rt, seed, rt.stdin())
+        }
+        Some(Asked::Check(path)) => {
+            let seed = RandomState::new(rt).map_err(read_failure)?;
+            check(rt, seed, open(rt, path)?)
+        }
+        Some(Asked::Show(path)) => show_log(rt, open(rt, path)?),
+        None => Err(Failure::Usage),
+    }
 }
 
 fn main(rt: HostRuntime) -> ExitCode {

@@ -4,6 +4,8 @@ use Rattle.std.proofs.lemmas.Bool.Decides.{nat_tests}
 use Rattle.std.proofs.lemmas.List.Elements.{All-head, Contains-push}
 use Rattle.sip_machine.specs.declared.event.Action.{Action}
 use Rattle.sip_machine.specs.declared.event.Action.TheVariants.{Sent, Received, Failed, Mark}
+use Rattle.sip_machine.specs.declared.event.Kind.{Kind}
+use Rattle.sip_machine.specs.declared.event.Kind.TheVariants.{Request, Response}
 use Rattle.sip_machine.specs.declared.plain_client.PlainWaiting.{PlainWaiting}
 use Rattle.sip_machine.specs.declared.plain_client.PlainState.{PlainState}
 use Rattle.sip_machine.specs.declared.plain_client.PlainState.TheVariants as code
@@ -13,7 +15,6 @@ use Rattle.sip_machine.specs.Times.{Times}
 use Rattle.sip_machine.specs.Limits.{close_at, IsWithin}
 use Rattle.sip_machine.specs.Texts.{Texts, IsBook, Keeps, text_of}
 use Rattle.sip_machine.specs.Heard.{Heard}
-use Rattle.sip_machine.specs.Message.{MessageKind, Request, Response}
 use Rattle.sip_machine.specs.Rules.{IsLawful, Knows}
 use Rattle.sip_machine.specs.PlainClient.{Waiting, PlainPhase, Idle, Trying, Proceeding, Completed, Ended, Sends, Hears, Steps, timer_f, waiting_until, plain_until, plain_window, plain_rules, waiting_seen, plain_seen, plain_names}
 
@@ -173,7 +174,7 @@ hears_fresh p (Completed reliable set) code t y within h = absurd h
 hears_fresh p Ended code t y within h = absurd h
 
 -- a visible step gives a phase that can wait at its own moment
-steps_fresh : (p : Times) (x : PlainPhase) (a : Action) (k : MessageKind) (e : Heard) (y : PlainPhase) →
+steps_fresh : (p : Times) (x : PlainPhase) (a : Action) (k : Kind) (e : Heard) (y : PlainPhase) →
     IsWithin e.moment (plain_until p x) → Steps p x a k e y →
     IsWithin e.moment (plain_until p y)
 steps_fresh p x Sent (Request method) e y within h = sends_fresh p x e y within h

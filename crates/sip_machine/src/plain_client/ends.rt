@@ -1,7 +1,5 @@
 //! When the non-INVITE client may end, and how long a state may be waited in: timers E, F and K.
-ghost use Rattle.std.specs.Prelude.{◌≡◌, ◌≤◌, ◌<◌, ◌^◌};
-ghost use Rattle.sip_machine.specs.Times.{last_moment};
-ghost use Rattle.sip_machine.specs.Limits.{open_at, close_at};
+ghost use Rattle.std.specs.Prelude.{◌≡◌, ◌≤◌};
 ghost use Rattle.sip_machine.specs.Texts.{Texts};
 ghost use Rattle.sip_machine.specs.PlainClient.{timer_f, timer_k, waiting_until, waiting_seen, plain_window, plain_until, plain_seen, WaitingInRange, PlainInRange};
 
@@ -15,10 +13,10 @@ pub(crate) fn window(params: &Params, state: &PlainState) -> Option<(u64, Option
 {
     match state {
         PlainState::Idle => None,
-        PlainState::Trying(waiting) => Some(around(params, waiting.start, timer_f(params))),
-        PlainState::Proceeding(waiting) => Some(around(params, waiting.start, timer_f(params))),
+        PlainState::Trying(waiting) => Some(params.window(waiting.start, timer_f(params))),
+        PlainState::Proceeding(waiting) => Some(params.window(waiting.start, timer_f(params))),
         PlainState::Completed { reliable, set } => {
-            Some(around(params, *set, timer_k(params, *reliable)))
+            Some(params.window(*set, timer_k(params, *reliable)))
         }
         PlainState::Ended => None,
     }
@@ -52,18 +50,6 @@ fn waiting_until(params: &Params, waiting: &PlainWaiting) -> u64
     } else {
         given_up.min(params.closes(waiting.set, waiting.interval))
     }
-}
-
-/// The window of a timer that was set then for so long.
-fn around(params: &Params, set: u64, duration: u64) -> (u64, Option<u64>)
-    requires set { set ≤ last_moment }
-    requires duration { duration < 2 ^ 50 }
-    ensures { result ≡ (open_at params.now set duration, Some (close_at params.now set duration)) }
-{
-    (
-        params.opens(set, duration),
-        Some(params.closes(set, duration)),
-    )
 }
 
 /// Timer F: how long a request waits for its final response.

@@ -3,7 +3,6 @@ ghost use Rattle.std.specs.Prelude.{◌≡◌, ◌≤◌, ◌↔◌, IsTrue};
 ghost use Rattle.sip_machine.specs.Times.{last_moment};
 ghost use Rattle.sip_machine.specs.Texts.{Texts, Keeps};
 ghost use Rattle.sip_machine.specs.Heard.{FitsBook, heard};
-ghost use Rattle.sip_machine.specs.Message.{kind_of};
 ghost use Rattle.sip_machine.specs.Rules.{Knows};
 ghost use Rattle.sip_machine.specs.inner.Single.{AnswersOne};
 ghost use Rattle.sip_machine.specs.PlainClient.{Repeats, Sends, Hears, Steps, PlainTake, waiting_seen, plain_seen, plain_names, WaitingInRange, PlainInRange};
@@ -39,15 +38,15 @@ fn steps(params: &Params, book: &Book, state: &PlainState, event: &Event) -> Opt
     requires known { Knows plain_names book.now state.now }
     requires in_range { PlainInRange state.now }
     ensures { AnswersOne plain_names PlainInRange plain_seen book.now
-        (Steps params.now (plain_seen book.now state.now) event.now.action (kind_of event.now.kind)
+        (Steps params.now (plain_seen book.now state.now) event.now.action event.now.kind
         (heard book.now event.now)) result }
 {
     match (event.action(), event.kind()) {
-        (Action::Sent, Kind::Request) => sends(params, book, state, event),
-        (Action::Failed, Kind::Request) => {
+        (Action::Sent, Kind::Request(_)) => sends(params, book, state, event),
+        (Action::Failed, Kind::Request(_)) => {
             sends(params, book, state, event).and(Some(PlainState::Ended))
         }
-        (Action::Received, Kind::Request) => Some(*state),
+        (Action::Received, Kind::Request(_)) => Some(*state),
         (Action::Received, Kind::Response(code)) => {
             Some(hears(state, code, event.moment()).unwrap_or(*state))
         }

@@ -3,7 +3,6 @@ use Rattle.std.specs.Prelude.{◌≡◌, ◌≤◌, ℕ, List, ◌++◌, codes, 
 use Rattle.std.specs.Borrow.{Bor}
 use Rattle.std.specs.Char.{is_ascii_uppercase, is_ascii_alphanumeric}
 use Rattle.std.specs.List.{prefix_len}
-use Rattle.sip_verdict.specs.Number.{digit_zero}
 use Rattle.sip_text.specs.Bytes.{crlf}
 use Rattle.sip_verdict.specs.PlainForm.{IsPlainMethod, IsBranchEnd, IsStatusCode}
 
@@ -35,6 +34,10 @@ pub record StartsWithBranchEnd (text : List ℕ) (p : List ℕ × List ℕ) : Ty
 pub record StartsWithCode (text : List ℕ) (p : ℕ × List ℕ) : Type 0 where
   pub code : IsStatusCode p.0
   pub whole : text ≡ decimal p.0 ++ p.1
+
+-- b'0'
+abbrev pub digit_zero : ℕ
+digit_zero = 48
 
 -- b'1'
 abbrev pub digit_one : ℕ

@@ -1,10 +1,9 @@
-use Rattle.std.proofs.Common.{◌≡◌, ◌+◌, ◌≤◌, ◌++◌, ◌∷◌, [], Some, inr, List, map, subst, sym, ap, ◌∙◌, arith}
+use Rattle.std.proofs.Common.{◌≡◌, ◌++◌, ◌∷◌, [], Some, inr, List, map, subst, sym, ap, ◌∙◌, arith}
 use Rattle.std.proofs.lemmas.List.{map-append}
 use Rattle.sip_log.specs.Spelling.{Item}
-use Rattle.sip_log.specs.Log.{most_entries}
 use Rattle.sip_log.specs.Told.{item}
-use Rattle.sip_log.specs.Reading.{Reading, reading, Nexts}
-use Rattle.sip_log.proofs.CallerLemmas.{Stands, Stands-gives, Stands-ends, Nexts-counted, Nexts-fine}
+use Rattle.sip_log.specs.Reading.{Reading, reading}
+use Rattle.sip_log.proofs.CallerLemmas.{Stands, Stands-gives, Nexts-counted, Nexts-fine}
 use Rattle.sip_log.proofs.whole.read_entries.Goals as goal
 
 pub loop-entry-preserved : goal.loop-entry-preserved

@@ -1,4 +1,4 @@
-use Rattle.std.proofs.Common.{◌≡◌, ◌+◌, ◌-◌, ◌≤◌, map}
+use Rattle.std.proofs.Common.{◌≡◌, ◌-◌, ◌≤◌, map}
 use Rattle.sip_log.specs.Log.{most_entries}
 use Rattle.sip_log.specs.Told.{item}
 use Rattle.sip_log.specs.Reading.{reading}

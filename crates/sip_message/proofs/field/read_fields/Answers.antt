@@ -13,7 +13,7 @@ returns-in_err-field c lines are =
     let line = c.in-Some.line.now in
     let fields = fields_parts c.lines.fields in
     let field = subst (λ r. FieldOf (c.len.result + 1) line (outcome_of field_parts r)) c.in_err-field.was c.read_field.ensures in
-    settles-fault (FieldsOf 1 lines) fields_parts c.from_residual.result fault c.from_residual.ensures.0 c.from_residual.ensures.1
+    settles-fault (FieldsOf 1 lines) fields_parts c.from_residual-in_err-field.result fault c.from_residual-in_err-field.ensures.0 c.from_residual-in_err-field.ensures.1
     (so_far-stops lines c.lines.rest.now line c.in-Some.more.now fields fault (c.lines.invariant lines are) c.in-Some.ensures
     (subst (λ n. FieldOf n line (stops fault)) (omega (arith, c.len.ensures, length-map c.lines.fields.items field_parts)) field))
 

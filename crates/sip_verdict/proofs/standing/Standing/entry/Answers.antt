@@ -1,5 +1,5 @@
 use Rattle.std.proofs.Common.{inr, None, Some, [], ◌∷◌, refl, ap, subst}
-use Rattle.sip_verdict.specs.inner.Answers.{item}
+use Rattle.sip_log.specs.Told.{item}
 use Rattle.sip_verdict.specs.PlainForm.{PlainParts, PlainText, parts_of}
 use Rattle.sip_verdict.specs.Key.{key_of}
 use Rattle.sip_verdict.specs.PlainReading.{fault_observation}

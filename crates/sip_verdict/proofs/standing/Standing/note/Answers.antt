@@ -2,7 +2,7 @@ use Rattle.std.proofs.Common.{inl, inr, refl}
 use Rattle.sip_verdict.specs.PlainForm.{parts_of}
 use Rattle.sip_verdict.specs.Key.{key_of}
 use Rattle.sip_verdict.specs.PlainReading.{message_observation}
-use Rattle.sip_verdict.specs.inner.Answers.{item}
+use Rattle.sip_log.specs.Told.{item}
 use Rattle.sip_verdict.proofs.PlainTrackingLemmas.{may_noted, before_noted}
 use Rattle.sip_verdict.proofs.standing.Standing.note.Goals as goal
 

@@ -1,0 +1,46 @@
+//! A sink that has room for some pieces.
+ghost use Rattle.std.specs.Prelude.{None};
+
+use sip_log::{Broken, Sink};
+
+/// Takes so many pieces, keeps none of them, and then fails.
+#[derive(Drop)]
+pub(crate) struct Room {
+    calls: usize,
+    taken: usize,
+    failed: bool,
+}
+
+impl Room {
+    pub(crate) fn of(calls: usize) -> Room {
+        Room {
+            calls,
+            taken: 0,
+            failed: false,
+        }
+    }
+
+    /// How many pieces were taken.
+    pub(crate) fn taken(&self) -> usize {
+        self.taken
+    }
+}
+
+impl Sink for Room {
+    ghost written = { λ _. None };
+
+    ghost has_failed = { λ s. s.failed };
+
+    fn put(&mut self, _bytes: &[u8]) -> Result<(), Broken> {
+        if self.taken >= self.calls {
+            self.failed = true;
+            return Err(Broken);
+        }
+        self.taken += 1;
+        Ok(())
+    }
+
+    fn has_failed(&self) -> bool {
+        self.failed
+    }
+}

@@ -1,0 +1,48 @@
+//! A refused growth. `tests/growths` refuses each in turn: the test then fails with want of memory, once it
+//! has seen that the call left all as it was, and that the same call succeeds with memory.
+
+use crate::folded::{FOLDED, UNFOLDED};
+use sip_message::{Message, ReadError, write};
+use std::process::Abort;
+use std::test::Fail;
+
+/// A request with seventeen fields, for which reading takes memory twice.
+const SEVENTEEN: &[u8] = b"OPTIONS sip:example.com SIP/2.0\r\n\
+    v: SIP/2.0/UDP a.example.com\r\n\
+    f: <sip:bob@example.com>;tag=1\r\n\
+    t: sip:bob@example.com\r\n\
+    i: c2@a\r\n\
+    CSeq: 1 OPTIONS\r\n\
+    l: 0\r\n\
+    a:\r\na:\r\na:\r\na:\r\na:\r\na:\r\na:\r\na:\r\na:\r\na:\r\na:\r\n\
+    \r\n";
+
+/// Reads the message, and a second time where memory was refused.
+fn read_again(rt: &(impl Abort + AllocGlobal)) -> Result<(), Fail> {
+    let Err(error) = Message::read(rt.alloc(), SEVENTEEN) else {
+        return Ok(());
+    };
+    assert_eq!(rt; error, ReadError::Memory);
+    assert!(rt; Message::read(rt.alloc(), SEVENTEEN).is_ok());
+    Err(error.into())
+}
+
+/// Writes the message behind other bytes, and a second time where memory was refused.
+fn write_again(rt: &(impl Abort + AllocGlobal)) -> Result<(), Fail> {
+    let front = b"front";
+    let message = Message::read(rt.alloc(), FOLDED)?;
+    let mut out = front.to_vec(rt.alloc())?;
+    let written = write(&message, &mut out);
+    if written.is_err() {
+        assert!(rt; out.as_slice() == front.as_slice());
+        write(&message, &mut out)?;
+    }
+    assert!(rt; out.starts_with(front) && &out[front.len()..] == UNFOLDED);
+    Ok(written?)
+}
+
+#[test]
+fn goes_on_after_a_refused_growth(rt: HostRuntime) -> Result<(), Fail> {
+    read_again(&rt)?;
+    write_again(&rt)
+}

@@ -1,0 +1,20 @@
+use Rattle.std.specs.Prelude.{◌≡◌, true, false, is_some}
+use Rattle.std.specs.List.{list_any}
+use Rattle.std.proofs.Common.{refl, sym, ◌∙◌, ap}
+use Rattle.sip_machine.specs.Owes.{owes_seen}
+use Rattle.sip_machine.specs.inner.OwesLaws.{is_some-deadlines}
+use Rattle.sip_machine.proofs.invite_client.ends.window.Goals as goal
+
+pub returns-then-is_some : goal.returns-then-is_some
+returns-then-is_some c =
+    λ texts.
+    let owed : list_any (λ o. o.must) (owes_seen texts c.in-Completed.owes) ≡ true
+    = sym (is_some-deadlines texts c.in-Completed.owes) ∙ ap is_some (sym c.earliest_must.ensures) ∙ sym c.is_some.ensures ∙ c.if-is_some.true in
+    rw (c.in-Completed.is, owed) refl
+
+pub returns-else-is_some : goal.returns-else-is_some
+returns-else-is_some c =
+    λ texts.
+    let owed : list_any (λ o. o.must) (owes_seen texts c.in-Completed.owes) ≡ false
+    = sym (is_some-deadlines texts c.in-Completed.owes) ∙ ap is_some (sym c.earliest_must.ensures) ∙ sym c.is_some.ensures ∙ c.if-is_some.false in
+    rw (c.in-Completed.is, owed) c.completed_window.ensures

@@ -1,0 +1,22 @@
+use Rattle.std.specs.Prelude.{ℕ, ◌<◌, ◌^◌, List, All, map}
+use Rattle.sip_machine.specs.declared.outbox.Debt.{Debt}
+use Rattle.sip_machine.specs.Texts.{Texts, text_of}
+use Rattle.sip_machine.specs.Debts.{Owed}
+
+-- A machine's debts of the code, whose messages are numbers of a book.
+
+-- the debt beside the texts of a book
+abbrev pub owed_seen : Texts → Debt → Owed
+owed_seen texts debt = record { message = text_of texts debt.message; deadline = debt.deadline; must = debt.must }
+
+-- what the debts stand for
+abbrev pub owes_seen : Texts → List Debt → List Owed
+owes_seen texts debts = map (owed_seen texts) debts
+
+-- the numbers of their messages
+abbrev pub owes_names : List Debt → List ℕ
+owes_names debts = map (λ debt. debt.message) debts
+
+-- their deadlines are below 2^50
+abbrev pub OwesInRange : List Debt → Type 0
+OwesInRange debts = All (λ debt. debt.deadline < 2 ^ 50) debts

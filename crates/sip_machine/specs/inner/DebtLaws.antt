@@ -1,0 +1,129 @@
+use Rattle.std.specs.Prelude.{◌≡◌, ◌≤◌, ◌↔◌, ℕ, Bool, true, false, Some, option_to_list, List, [], ◌∷◌, ◌++◌, All, filter, map, min}
+use Rattle.std.specs.List.{fold, list_any}
+use Rattle.std.proofs.Common.{refl, sym, ◌∙◌, ap, ap₂, subst, arith, cond}
+use Rattle.std.proofs.lemmas.List.{map-append}
+use Rattle.std.proofs.lemmas.List.Elements.{All-head, All-tail, All-nil, All-cons, All-map, All-append, All-weaker}
+use Rattle.sip_machine.specs.Limits.{IsWithin}
+use Rattle.sip_machine.specs.Debts.{IsWithoutFirst, earliest}
+
+-- Lists without their first element of a kind, and the least of moments.
+
+-- a test after a map
+map-cond : {X Y : Type 0} (f : X → Y) (b : Bool) (x : X) (xs : List X) → cond b (f x ∷ map f xs) (map f xs) ≡ map f (cond b (x ∷ xs) xs)
+map-cond f true x xs = refl
+map-cond f false x xs = refl
+
+-- what passes a test among values is what stands for them
+pub filter-map : {X Y : Type 0} (f : X → Y) (p : Y → Bool) (xs : List X) → filter p (map f xs) ≡ map f (filter (λ x. p (f x)) xs)
+filter-map f p [] = refl
+filter-map f p (x ∷ xs) =
+    ap (λ ys. cond (p (f x)) (f x ∷ ys) ys) (filter-map f p xs) ∙ map-cond f (p (f x)) x (filter (λ x. p (f x)) xs)
+
+-- an element passes a test if some element does
+pub list_any-map : {X Y : Type 0} (f : X → Y) (p : Y → Bool) (xs : List X) → list_any p (map f xs) ≡ list_any (λ x. p (f x)) xs
+list_any-map f p [] = refl
+list_any-map f p (x ∷ xs) = rw (list_any-map f p xs) refl
+
+-- two lists without their first element of a kind are the same
+same_without : {X : Type 0} (P : X → Type 0) (before before' : List X) (first first' : X) (after after' : List X) →
+    before ++ first ∷ after ≡ before' ++ first' ∷ after' → P first → P first' →
+    All (λ x. ¬ (P x)) before → All (λ x. ¬ (P x)) before' → before ++ after ≡ before' ++ after'
+same_without P [] [] first first' after after' e p p' none none' = cc
+same_without P [] (x ∷ before') first first' after after' e p p' none none' =
+    let here : first ≡ x = cc in absurd (All-head (λ x. ¬ (P x)) x before' none' (subst P here p))
+same_without P (x ∷ before) [] first first' after after' e p p' none none' =
+    let here : first' ≡ x = cc in absurd (All-head (λ x. ¬ (P x)) x before none (subst P here p'))
+same_without P (x ∷ before) (x' ∷ before') first first' after after' e p p' none none' =
+    let here : x ≡ x' = cc in
+    let more : before ++ first ∷ after ≡ before' ++ first' ∷ after' = cc in
+    ap₂ (λ y ys. y ∷ ys) here (same_without P before before' first first' after after' more p p'
+    (All-tail (λ x. ¬ (P x)) x before none) (All-tail (λ x. ¬ (P x)) x' before' none'))
+
+pub IsWithoutFirst-same : {X : Type 0} (P : X → Type 0) (xs ys zs : List X) → IsWithoutFirst P xs ys → IsWithoutFirst P xs zs → ys ≡ zs
+IsWithoutFirst-same P xs ys zs a b =
+    a.rest ∙ same_without P a.before b.before a.first b.first a.after b.after (sym a.whole ∙ b.whole) a.holds b.holds a.none_before b.none_before ∙ sym b.rest
+
+-- one half of a list whose elements all have it
+pub All-front : {X : Type 0} (P : X → Type 0) (xs ys : List X) → All P (xs ++ ys) → All P xs
+All-front P [] ys all = All-nil P
+All-front P (x ∷ xs) ys all = All-cons P x xs (All-head P x (xs ++ ys) all) (All-front P xs ys (All-tail P x (xs ++ ys) all))
+
+-- and the other
+pub All-back : {X : Type 0} (P : X → Type 0) (xs ys : List X) → All P (xs ++ ys) → All P ys
+All-back P [] ys all = all
+All-back P (x ∷ xs) ys all = All-back P xs ys (All-tail P x (xs ++ ys) all)
+
+-- what two facts say of each element
+both : {X : Type 0} (P Q R : X → Type 0) → ((x : X) → P x → Q x → R x) → (xs : List X) → All P xs → All Q xs → All R xs
+both P Q R f xs p q = λ k d low. f _ (p k d low) (q k d low)
+
+-- a list without its first element of a kind stands for one
+pub IsWithoutFirst-map : {X Y : Type 0} (f : X → Y) (Q : X → Type 0) (P : Y → Type 0) (xs ys : List X) →
+    All (λ x. Q x ↔ P (f x)) xs → IsWithoutFirst Q xs ys → IsWithoutFirst P (map f xs) (map f ys)
+IsWithoutFirst-map {X} f Q P xs ys same a =
+    let halves : All (λ x. Q x ↔ P (f x)) (a.before ++ a.first ∷ a.after) = subst (All (λ x. Q x ↔ P (f x))) a.whole same in
+    let here = All-head (λ x. Q x ↔ P (f x)) a.first a.after (All-back (λ x. Q x ↔ P (f x)) a.before (a.first ∷ a.after) halves) in
+    let front = All-front (λ x. Q x ↔ P (f x)) a.before (a.first ∷ a.after) halves in
+    record {
+      before = map f a.before;
+      first = f a.first;
+      after = map f a.after;
+      whole = ap (map f) a.whole ∙ map-append f a.before (a.first ∷ a.after);
+      holds = here.0 a.holds;
+      none_before = All-map (λ y. ¬ (P y)) f a.before
+          (both (λ x. ¬ (Q x)) (λ x. Q x ↔ P (f x)) (λ x. ¬ (P (f x))) (λ x none iff p. none (iff.1 p)) a.before a.none_before front);
+      rest = ap (map f) a.rest ∙ map-append f a.before a.after;
+    }
+
+-- where no element is of the kind, there is no list without one
+pub IsWithoutFirst-none : {X : Type 0} (P : X → Type 0) (xs ys : List X) → All (λ x. ¬ (P x)) xs → IsWithoutFirst P xs ys → ⊥
+IsWithoutFirst-none P xs ys none a =
+    let halves : All (λ x. ¬ (P x)) (a.before ++ a.first ∷ a.after) = subst (All (λ x. ¬ (P x))) a.whole none in
+    All-head (λ x. ¬ (P x)) a.first a.after (All-back (λ x. ¬ (P x)) a.before (a.first ∷ a.after) halves) a.holds
+
+-- what all elements have, those of the list without one have
+pub All-without : {X : Type 0} (P Q : X → Type 0) (xs ys : List X) → IsWithoutFirst P xs ys → All Q xs → All Q ys
+All-without P Q xs ys a all =
+    let halves : All Q (a.before ++ a.first ∷ a.after) = subst (All Q) a.whole all in
+    subst (All Q) (sym a.rest) (All-append Q a.before a.after (All-front Q a.before (a.first ∷ a.after) halves)
+    (All-tail Q a.first a.after (All-back Q a.before (a.first ∷ a.after) halves)))
+
+-- the least of a moment and others is up to each
+fold-min_first : (a : ℕ) (ms : List ℕ) → fold min a ms ≤ a
+fold-min_first a [] = omega arith
+fold-min_first a (m ∷ ms) = let low = fold-min_first (min a m) ms in omega (arith, low)
+
+fold-min_all : (a : ℕ) (ms : List ℕ) → All (λ m. fold min a ms ≤ m) ms
+fold-min_all a [] = All-nil (λ m. a ≤ m)
+fold-min_all a (m ∷ ms) =
+    let low = fold-min_first (min a m) ms in
+    All-cons (λ n. fold min (min a m) ms ≤ n) m ms (omega (arith, low)) (fold-min_all (min a m) ms)
+
+-- a moment up to all of them is up to the least
+fold-min_above : (t a : ℕ) (ms : List ℕ) → t ≤ a → All (λ m. t ≤ m) ms → t ≤ fold min a ms
+fold-min_above t a [] low all = low
+fold-min_above t a (m ∷ ms) low all =
+    let here = All-head (λ m. t ≤ m) m ms all in
+    fold-min_above t (min a m) ms (omega (arith, low, here)) (All-tail (λ m. t ≤ m) m ms all)
+
+-- a moment is within the earliest of others exactly if it is past none of them
+pub IsWithin-earliest : (t : ℕ) (ms : List ℕ) → IsWithin t (earliest ms) ↔ All (λ m. t ≤ m) ms
+IsWithin-earliest t [] = (λ _. All-nil (λ m. t ≤ m), λ _. tt)
+IsWithin-earliest t (m ∷ ms) = (
+  λ within.
+      let low = fold-min_first m ms in
+      All-cons (λ m. t ≤ m) m ms (omega (arith, within, low))
+      (All-weaker (λ n. fold min m ms ≤ n) (λ n. t ≤ n) (λ n least. omega (arith, within, least)) ms (fold-min_all m ms)),
+  λ all. fold-min_above t m ms (All-head (λ m. t ≤ m) m ms all) (All-tail (λ m. t ≤ m) m ms all),
+)
+
+-- the least of the lesser of two moments and others
+fold-min : (a b : ℕ) (ms : List ℕ) → fold min (min a b) ms ≡ min a (fold min b ms)
+fold-min a b [] = refl
+fold-min a b (m ∷ ms) =
+    let assoc : min (min a b) m ≡ min a (min b m) = omega arith in ap (λ c. fold min c ms) assoc ∙ fold-min a (min b m) ms
+
+-- the earliest of a moment and others is the earlier one of it and of their earliest
+pub earliest-option : (m : ℕ) (ms : List ℕ) → earliest (m ∷ option_to_list (earliest ms)) ≡ earliest (m ∷ ms)
+earliest-option m [] = refl
+earliest-option m (n ∷ ms) = ap Some (sym (fold-min m n ms))

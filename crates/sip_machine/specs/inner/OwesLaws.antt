@@ -1,0 +1,203 @@
+use Rattle.std.specs.Prelude.{◌≡◌, ◌≤◌, ◌↔◌, ◌&&◌, ◌||◌, ℕ, Bool, true, false, is_some, IsTrue, List, [], ◌∷◌, ◌++◌, All, Contains, filter, map, nat_le}
+use Rattle.std.specs.List.{list_any}
+use Rattle.std.specs.Cmp.Lexicographic.{pointwise}
+use Rattle.std.proofs.Common.{refl, sym, ap, ap₂, subst, arith, cond, true≢false}
+use Rattle.std.proofs.lemmas.Bool.Decides.{nat_tests}
+use Rattle.std.proofs.lemmas.List.Elements.{All-head, All-tail, All-nil, All-cons, All-filter, All-map, All-push, All-append, All-weaker, Contains-append_right}
+use Rattle.sip_machine.specs.declared.outbox.Debt.{Debt}
+use Rattle.sip_machine.specs.contracts.outbox.DebtPartialEq.TheImpl as debt_eq
+use Rattle.sip_machine.specs.Times.{Times}
+use Rattle.sip_machine.specs.Limits.{IsWithin}
+use Rattle.sip_machine.specs.Texts.{Texts, IsBook, Keeps, text_of}
+use Rattle.sip_machine.specs.Debts.{Owed, must_owe, may_owe, unexpired, softened, IsWithoutFirst, Pays, must_deadlines, earliest}
+use Rattle.sip_machine.specs.Owes.{owed_seen, owes_seen, owes_names}
+use Rattle.sip_machine.specs.inner.Outbox.{counts_at, softened_debt, is_payable, debt_deadlines}
+use Rattle.sip_machine.specs.inner.DebtLaws.{filter-map, IsWithoutFirst-map, IsWithoutFirst-same, IsWithoutFirst-none, All-front, All-back, All-without, IsWithin-earliest}
+
+-- Laws of what a machine owes: of the debts of the code, of what they stand for, and of moments up to their deadlines.
+
+-- where both hold, each does
+both_true : (a b : Bool) → (a && b) ≡ true → (a ≡ true) × (b ≡ true)
+both_true true b e = (refl, e)
+both_true false b e = absurd (true≢false (sym e))
+
+-- debts with the same data are the same one
+debt_same : (c d : Debt) → c.message ≡ d.message → c.deadline ≡ d.deadline → c.must ≡ d.must → c ≡ d
+debt_same c d message deadline must =
+    let e : record { message = c.message; deadline = c.deadline; must = c.must } ≡ d = rw (message, deadline, must) in e
+
+-- equal debts of the code are the same one
+debt_exact : (c d : Debt) → debt_eq.ghosts.eq c d ≡ true → c ≡ d
+debt_exact c d e = debt_same c d (grind (arith, nat_tests)) (grind (arith, nat_tests)) (grind (arith, nat_tests))
+
+-- equal lists of debts are the same one
+pub owes_exact : (xs ys : List Debt) → pointwise debt_eq.ghosts.eq xs ys ≡ true → xs ≡ ys
+owes_exact [] [] e = refl
+owes_exact [] (y ∷ ys) e = absurd (true≢false (sym e))
+owes_exact (x ∷ xs) [] e = absurd (true≢false (sym e))
+owes_exact (x ∷ xs) (y ∷ ys) e =
+    let each = both_true (debt_eq.ghosts.eq x y) (pointwise debt_eq.ghosts.eq xs ys) e in
+    ap₂ (λ z zs. z ∷ zs) (debt_exact x y each.0) (owes_exact xs ys each.1)
+
+-- debts that stand for the same beside one book are the same
+pub owes_apart : (texts : Texts) (xs ys : List Debt) → IsBook texts → All (Keeps texts) (owes_names xs) →
+    All (Keeps texts) (owes_names ys) → owes_seen texts xs ≡ owes_seen texts ys → xs ≡ ys
+owes_apart texts [] [] book x_known y_known e = refl
+owes_apart texts [] (y ∷ ys) book x_known y_known e = cc
+owes_apart texts (x ∷ xs) [] book x_known y_known e = cc
+owes_apart texts (x ∷ xs) (y ∷ ys) book x_known y_known e =
+    let here : owed_seen texts x ≡ owed_seen texts y = cc in
+    let rest : owes_seen texts xs ≡ owes_seen texts ys = cc in
+    let x_kept = All-head (Keeps texts) x.message (owes_names xs) x_known in
+    let y_kept = All-head (Keeps texts) y.message (owes_names ys) y_known in
+    let same = debt_same x y (book.apart x.message y.message x_kept y_kept (ap (λ o. o.message) here)) (ap (λ o. o.deadline) here) (ap (λ o. o.must) here) in
+    ap₂ (λ z zs. z ∷ zs) same (owes_apart texts xs ys book (All-tail (Keeps texts) x.message (owes_names xs) x_known)
+    (All-tail (Keeps texts) y.message (owes_names ys) y_known) rest)
+
+-- debts stand for the same beside books that agree on their messages
+pub owes_seen_by_names : (a b : Texts) (xs : List Debt) →
+    ((n : ℕ) → Contains (owes_names xs) n → text_of a n ≡ text_of b n) → owes_seen a xs ≡ owes_seen b xs
+owes_seen_by_names a b [] agree = refl
+owes_seen_by_names a b (x ∷ xs) agree =
+    let here : text_of a x.message ≡ text_of b x.message = agree x.message (0, omega arith, refl) in
+    ap₂ (λ z zs. z ∷ zs) (ap (λ (text : List ℕ). record { message = text; deadline = x.deadline; must = x.must }) here)
+    (owes_seen_by_names a b xs (λ n has. agree n (Contains-append_right (x.message ∷ []) (owes_names xs) n has)))
+
+-- the deadlines of what has to be sent are those of the debts
+cond-deadlines : (b : Bool) (o : Owed) (d : Debt) (os : List Owed) (ds : List Debt) → o.deadline ≡ d.deadline →
+    map (λ o. o.deadline) os ≡ map (λ d. d.deadline) ds →
+    map (λ o. o.deadline) (cond b (o ∷ os) os) ≡ map (λ d. d.deadline) (cond b (d ∷ ds) ds)
+cond-deadlines true o d os ds same more = ap₂ (λ m ms. m ∷ ms) same more
+cond-deadlines false o d os ds same more = more
+
+pub must_deadlines-seen : (texts : Texts) (ds : List Debt) → must_deadlines (owes_seen texts ds) ≡ debt_deadlines ds
+must_deadlines-seen texts [] = refl
+must_deadlines-seen texts (d ∷ ds) =
+    cond-deadlines d.must (owed_seen texts d) d (filter (λ o. o.must) (owes_seen texts ds)) (filter (λ d. d.must) ds) refl (must_deadlines-seen texts ds)
+
+-- something has to be sent exactly if there is an earliest such deadline
+is_some-cond : (b c : Bool) (d : Debt) (ds : List Debt) → is_some (earliest (map (λ d. d.deadline) ds)) ≡ c →
+    is_some (earliest (map (λ d. d.deadline) (cond b (d ∷ ds) ds))) ≡ (b || c)
+is_some-cond true c d ds e = refl
+is_some-cond false c d ds e = e
+
+pub is_some-deadlines : (texts : Texts) (ds : List Debt) → is_some (earliest (debt_deadlines ds)) ≡ list_any (λ o. o.must) (owes_seen texts ds)
+is_some-deadlines texts [] = refl
+is_some-deadlines texts (d ∷ ds) =
+    is_some-cond d.must (list_any (λ o. o.must) (owes_seen texts ds)) d (filter (λ d. d.must) ds) (is_some-deadlines texts ds)
+
+-- what is unexpired, and softened, beside the texts of a book
+pub unexpired-seen : (t : ℕ) (texts : Texts) (ds : List Debt) → unexpired t (owes_seen texts ds) ≡ owes_seen texts (filter (counts_at t) ds)
+unexpired-seen t texts ds = filter-map (owed_seen texts) (λ owed. owed.must || nat_le t owed.deadline) ds
+
+pub softened-seen : (texts : Texts) (ds : List Debt) → softened (owes_seen texts ds) ≡ owes_seen texts (map softened_debt ds)
+softened-seen texts [] = refl
+softened-seen texts (d ∷ ds) = ap (λ os. record { message = text_of texts d.message; deadline = d.deadline; must = false } ∷ os) (softened-seen texts ds)
+
+-- what has to be sent at t or later
+abbrev pub AreDue : ℕ → List Owed → Type 0
+AreDue t owes = All (λ owed. owed.must ≡ true → t ≤ owed.deadline) owes
+
+due-front : (t : ℕ) (b : Bool) (o : Owed) (os : List Owed) → All (λ m. t ≤ m) (map (λ o. o.deadline) (cond b (o ∷ os) os)) →
+    (b ≡ true → t ≤ o.deadline) × All (λ m. t ≤ m) (map (λ o. o.deadline) os)
+due-front t true o os all =
+    (λ _. All-head (λ m. t ≤ m) o.deadline (map (λ o. o.deadline) os) all, All-tail (λ m. t ≤ m) o.deadline (map (λ o. o.deadline) os) all)
+due-front t false o os all = (λ e. absurd (true≢false (sym e)), all)
+
+due-more : (t : ℕ) (b : Bool) (o : Owed) (os : List Owed) → (b ≡ true → t ≤ o.deadline) → All (λ m. t ≤ m) (map (λ o. o.deadline) os) →
+    All (λ m. t ≤ m) (map (λ o. o.deadline) (cond b (o ∷ os) os))
+due-more t true o os here more = All-cons (λ m. t ≤ m) o.deadline (map (λ o. o.deadline) os) (here refl) more
+due-more t false o os here more = more
+
+-- a moment is past no deadline of what has to be sent exactly if what has to be sent is due at it or later
+pub AreDue-deadlines : (t : ℕ) (owes : List Owed) → All (λ m. t ≤ m) (must_deadlines owes) ↔ AreDue t owes
+AreDue-deadlines t [] = (λ _. All-nil (λ owed. owed.must ≡ true → t ≤ owed.deadline), λ _. All-nil (λ m. t ≤ m))
+AreDue-deadlines t (o ∷ os) =
+    let more = AreDue-deadlines t os in (
+      λ all.
+          let front = due-front t o.must o (filter (λ o. o.must) os) all in
+          All-cons (λ owed. owed.must ≡ true → t ≤ owed.deadline) o os front.0 (more.0 front.1),
+      λ due.
+          due-more t o.must o (filter (λ o. o.must) os) (All-head (λ owed. owed.must ≡ true → t ≤ owed.deadline) o os due)
+          (more.1 (All-tail (λ owed. owed.must ≡ true → t ≤ owed.deadline) o os due)),
+    )
+
+-- what is due stays so without what has expired,
+pub AreDue-unexpired : (t : ℕ) (owes : List Owed) → AreDue t owes → AreDue t (unexpired t owes)
+AreDue-unexpired t owes due =
+    All-filter (λ owed. owed.must || nat_le t owed.deadline) (λ owed. owed.must ≡ true → t ≤ owed.deadline) owes due
+
+-- with what is owed from now on,
+pub AreDue-must : (p : Times) (t : ℕ) (message : List ℕ) (owes : List Owed) → AreDue t owes → AreDue t (owes ++ must_owe p t message ∷ [])
+AreDue-must p t message owes due =
+    All-push (λ owed. owed.must ≡ true → t ≤ owed.deadline) owes (must_owe p t message) due (λ _. omega arith)
+
+pub AreDue-may : (p : Times) (t : ℕ) (message : List ℕ) (owes : List Owed) → AreDue t owes → AreDue t (owes ++ may_owe p t message ∷ [])
+AreDue-may p t message owes due =
+    All-push (λ owed. owed.must ≡ true → t ≤ owed.deadline) owes (may_owe p t message) due (λ _. omega arith)
+
+-- without what is paid,
+pub AreDue-paid : (Satisfies : List ℕ → Type 0) (t : ℕ) (owes left : List Owed) → Pays Satisfies t owes left → AreDue t owes → AreDue t left
+AreDue-paid Satisfies t owes left pays due =
+    All-without (λ owed. Satisfies owed.message × (t ≤ owed.deadline)) (λ owed. owed.must ≡ true → t ≤ owed.deadline) owes left pays due
+
+-- and always where nothing has to be sent
+pub AreDue-softened : (t : ℕ) (owes : List Owed) → AreDue t (softened owes)
+AreDue-softened t owes =
+    All-map (λ owed. owed.must ≡ true → t ≤ owed.deadline) (λ owed. record { message = owed.message; deadline = owed.deadline; must = false })
+    owes (λ k d low e. absurd (true≢false (sym e)))
+
+-- a moment is within a limit exactly if it is past no timer and no deadline of what has to be sent
+pub IsWithin-owed : (t : ℕ) (timers : List ℕ) (owes : List Owed) →
+    IsWithin t (earliest (timers ++ must_deadlines owes)) ↔ (All (λ m. t ≤ m) timers × AreDue t owes)
+IsWithin-owed t timers owes =
+    let all = IsWithin-earliest t (timers ++ must_deadlines owes) in
+    let due = AreDue-deadlines t owes in (
+      λ within. (All-front (λ m. t ≤ m) timers (must_deadlines owes) (all.0 within), due.0 (All-back (λ m. t ≤ m) timers (must_deadlines owes) (all.0 within))),
+      λ h. all.1 (All-append (λ m. t ≤ m) timers (must_deadlines owes) h.0 (due.1 h.1)),
+    )
+
+-- a debt that a number pays stands for one that the bytes pay
+payable-seen : (texts : Texts) (n t : ℕ) → IsBook texts → Keeps texts n → (d : Debt) → Keeps texts d.message →
+    IsTrue (is_payable n t d) ↔ ((text_of texts d.message ≡ text_of texts n) × (t ≤ d.deadline))
+payable-seen texts n t book kept d d_kept = (
+  λ payable.
+      let message : d.message ≡ n = grind (arith, nat_tests) in
+      let in_time : t ≤ d.deadline = grind (arith, nat_tests) in
+      (ap (text_of texts) message, in_time),
+  λ pays.
+      let message : d.message ≡ n = book.apart d.message n d_kept kept pays.0 in
+      let in_time = pays.1 in
+      grind (arith, nat_tests),
+)
+
+-- the messages of debts that are kept
+pub All-names : (P : ℕ → Type 0) (ds : List Debt) → All P (owes_names ds) → All (λ d. P d.message) ds
+All-names P [] all = All-nil (λ d. P d.message)
+All-names P (d ∷ ds) all =
+    All-cons (λ d. P d.message) d ds (All-head P d.message (owes_names ds) all) (All-names P ds (All-tail P d.message (owes_names ds) all))
+
+payables-seen : (texts : Texts) (n t : ℕ) (ds : List Debt) → IsBook texts → Keeps texts n → All (Keeps texts) (owes_names ds) →
+    All (λ d. IsTrue (is_payable n t d) ↔ ((text_of texts d.message ≡ text_of texts n) × (t ≤ d.deadline))) ds
+payables-seen texts n t ds book kept known =
+    All-weaker (λ d. Keeps texts d.message) (λ d. IsTrue (is_payable n t d) ↔ ((text_of texts d.message ≡ text_of texts n) × (t ≤ d.deadline)))
+    (payable-seen texts n t book kept) ds (All-names (Keeps texts) ds known)
+
+-- what a send pays, by its number
+pub Pays-seen : (texts : Texts) (n t : ℕ) (ds left : List Debt) → IsBook texts → Keeps texts n → All (Keeps texts) (owes_names ds) →
+    IsWithoutFirst (λ d. IsTrue (is_payable n t d)) ds left → (ys : List Owed) →
+    Pays (λ message. message ≡ text_of texts n) t (owes_seen texts ds) ys ↔ (ys ≡ owes_seen texts left)
+Pays-seen texts n t ds left book kept known paid ys =
+    let P = λ (owed : Owed). (owed.message ≡ text_of texts n) × (t ≤ owed.deadline) in
+    let seen = IsWithoutFirst-map (owed_seen texts) (λ d. IsTrue (is_payable n t d)) P ds left (payables-seen texts n t ds book kept known) paid in (
+      λ pays. IsWithoutFirst-same P (owes_seen texts ds) ys (owes_seen texts left) pays seen,
+      λ e. subst (IsWithoutFirst P (owes_seen texts ds)) (sym e) seen,
+    )
+
+-- a send that pays no debt, by its number
+pub Pays-none : (texts : Texts) (n t : ℕ) (ds : List Debt) → IsBook texts → Keeps texts n → All (Keeps texts) (owes_names ds) →
+    All (λ d. ¬ (IsTrue (is_payable n t d))) ds → (ys : List Owed) → Pays (λ message. message ≡ text_of texts n) t (owes_seen texts ds) ys → ⊥
+Pays-none texts n t ds book kept known none ys =
+    IsWithoutFirst-none (λ owed. (owed.message ≡ text_of texts n) × (t ≤ owed.deadline)) (owes_seen texts ds) ys
+    (All-map (λ owed. ¬ ((owed.message ≡ text_of texts n) × (t ≤ owed.deadline))) (owed_seen texts) ds
+    (λ k d low pays. none k d low ((payables-seen texts n t ds book kept known k d low).1 pays)))

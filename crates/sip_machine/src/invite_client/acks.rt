@@ -1,0 +1,101 @@
+//! Which response an ACK is for: the INVITE, the ACK and the responses of the `Book`, read anew.
+ghost use Rattle.std.specs.Prelude.{◌≡◌, ◌↔◌, IfOk, IsTrue, All};
+ghost use Rattle.sip_machine.specs.Texts.{Keeps, text_of};
+ghost use Rattle.sip_machine.specs.Owes.{owes_names};
+ghost use Rattle.sip_machine.specs.inner.Acks.{Acks, AcksDebt, PaysDebt, FindsFirst};
+
+use crate::book::Book;
+use crate::event::Event;
+use crate::outbox::Debt;
+use sip_key::is_ack_of;
+use sip_message::{Message, ReadError};
+use std::alloc::{AllocError, Global};
+
+/// The index of the first debt whose message is a response to the INVITE that the event's message is
+/// the ACK for (RFC 3261, section 17.1.1.3), and whose deadline has not passed; None if there is none.
+pub(crate) fn first_acked(
+    alloc: Global,
+    book: &Book,
+    invite: u32,
+    debts: &[Debt],
+    event: &Event,
+) -> Result<Option<usize>, AllocError>
+    requires ack { Keeps book.now event.now.number }
+    requires invite { Keeps book.now invite }
+    requires debts { All (Keeps book.now) (owes_names debts.now) }
+    ensures { IfOk result (FindsFirst (PaysDebt book.now (text_of book.now event.now.number) (text_of book.now invite) event.now.moment) debts.now) }
+{
+    let ack = match Message::read(alloc, kept(book, event.number())) {
+        Ok(ack) => ack,
+        Err(ReadError::Memory) => return Err(AllocError),
+        Err(ReadError::Fault(_)) => return Ok(None),
+    };
+    let invite = match Message::read(alloc, kept(book, invite)) {
+        Ok(invite) => invite,
+        Err(ReadError::Memory) => return Err(AllocError),
+        Err(ReadError::Fault(_)) => return Ok(None),
+    };
+    first_of(alloc, book, &ack, &invite, debts, event.moment())
+}
+
+/// The same, of messages that were read.
+fn first_of(
+    alloc: Global,
+    book: &Book,
+    ack: &Message<'_>,
+    invite: &Message<'_>,
+    debts: &[Debt],
+    moment: u64,
+) -> Result<Option<usize>, AllocError>
+    requires { All (Keeps book.now) (owes_names debts.now) }
+    ensures { IfOk result (FindsFirst (AcksDebt book.now ack.now invite.now moment) debts.now) }
+{
+    for (index, debt) in debts.iter().enumerate() {
+        if pays(alloc, book, ack, invite, *debt, moment)? {
+            return Ok(Some(index));
+        }
+    }
+    Ok(None)
+}
+
+/// Whether the debt's message is a response to the INVITE that the ACK is for, and its deadline has not passed.
+fn pays(
+    alloc: Global,
+    book: &Book,
+    ack: &Message<'_>,
+    invite: &Message<'_>,
+    debt: Debt,
+    moment: u64,
+) -> Result<bool, AllocError>
+    requires { Keeps book.now debt.message }
+    ensures { IfOk result (λ is. IsTrue is ↔ AcksDebt book.now ack.now invite.now moment debt) }
+{
+    if debt.deadline < moment {
+        return Ok(false);
+    }
+    acks(alloc, ack, invite, kept(book, debt.message))
+}
+
+/// Whether the bytes spell a response to the INVITE that the ACK is for.
+fn acks(
+    alloc: Global,
+    ack: &Message<'_>,
+    invite: &Message<'_>,
+    response: &[u8],
+) -> Result<bool, AllocError>
+    ensures { IfOk result (λ is. IsTrue is ↔ Acks ack.now invite.now response.now) }
+{
+    match Message::read(alloc, response) {
+        Ok(response) => Ok(is_ack_of(ack, invite, &response)),
+        Err(ReadError::Memory) => Err(AllocError),
+        Err(ReadError::Fault(_)) => Ok(false),
+    }
+}
+
+/// The bytes of a kept message.
+fn kept(book: &Book, number: u32) -> &[u8]
+    requires { Keeps book.now number }
+    ensures { result.now ≡ text_of book.now number }
+{
+    book.bytes(number).unwrap()
+}

@@ -1,0 +1,10 @@
+use Rattle.std.proofs.Common.{◌-◌, ◌≤◌, length}
+use Rattle.sip_message.specs.inner.ValueFronts.{ArePlain}
+use Rattle.sip_message.proofs.other.blocks_len.Given as goal
+
+-- the blocks so far are plain
+abbrev pub invariant-loop-at : goal.invariant-loop-at
+invariant-loop-at l = (l.at ≤ length l.text) × ArePlain l.text 0 l.at
+
+abbrev pub decreases-loop-at : goal.decreases-loop-at
+decreases-loop-at l = length l.text - l.at

@@ -1,0 +1,25 @@
+use Rattle.std.proofs.Common.{◌+◌, sym, ◌∙◌}
+use Rattle.std.proofs.lemmas.List.{take_rest}
+use Rattle.sip_text.specs.Text.{Many}
+use Rattle.sip_text.proofs.ManyLemmas.{front-within}
+use Rattle.sip_message.proofs.OtherLemmas.{OtherItem, other-run, other-fold, other-end, stops-run}
+use Rattle.sip_message.proofs.other.is_other.Goals as goal
+
+pub returns-then-not-begins_with_fold : goal.returns-then-not-begins_with_fold
+returns-then-not-begins_with_fold c =
+    let text = c.args.text.now in
+    let at = c.folds.at in
+    let k = c.plain_len-at.result in
+    let rest_is = take_rest text at in
+    let more_is = take_rest text (at + k) in
+    other-end text _ (at + k) (other-run text _ at k c.folds.invariant.front rest_is c.plain_len-at.ensures.run) more_is
+    (stops-run text _ _ at k rest_is more_is c.plain_len-at.ensures.run) (sym c.begins_with_fold.ensures ∙ c.if-not-begins_with_fold.true)
+
+pub folds-preserved : goal.folds-preserved
+folds-preserved c =
+    let text = c.args.text.now in
+    let at = c.folds.at in
+    let k = c.plain_len-at.result in
+    let front = other-fold text _ (at + k) (other-run text _ at k c.folds.invariant.front (take_rest text at) c.plain_len-at.ensures.run) (take_rest text (at + k))
+    (sym c.begins_with_fold.ensures ∙ c.if-not-begins_with_fold.false) in
+    record { within = front-within (Many OtherItem) text (at + k + 3) front; front = front }

@@ -1,0 +1,11 @@
+use Rattle.std.proofs.Common.{◌≤◌, ◌-◌, length}
+use Rattle.sip_text.specs.Text.{Many, HasFront}
+use Rattle.sip_message.proofs.OtherLemmas.{OtherItem}
+use Rattle.sip_message.proofs.other.is_other.Given as goal
+
+-- the front so far is pieces
+abbrev pub invariant-folds : goal.invariant-folds
+invariant-folds l = record { within : l.at ≤ length l.text; front : HasFront (Many OtherItem) l.text l.at }
+
+abbrev pub decreases-folds : goal.decreases-folds
+decreases-folds l = length l.text - l.at

@@ -1,7 +1,0 @@
-use Rattle.std.proofs.Common.{◌≡◌, ℕ, ◌<◌, true, get_or}
-use Rattle.sip_message.specs.inner.ValueFronts.{is_plain_byte}
-use Rattle.sip_message.proofs.values.plain_len.Given as goal
-
--- each byte so far passes
-abbrev pub invariant-loop-at : goal.invariant-loop-at
-invariant-loop-at l = (k : ℕ) → k < l.at → is_plain_byte (get_or l.text k 0) ≡ true

@@ -1,0 +1,76 @@
+//! Values that the reader doesn't look into.
+ghost use Rattle.std.specs.Prelude.{◌≡◌, ◌+◌, ◌≤◌, ◌↔◌, IsTrue, length};
+ghost use Rattle.std.specs.List.{prefix_len};
+ghost use Rattle.sip_text.specs.Blanks.{begins_with_fold};
+ghost use Rattle.sip_message.specs.Values.{OtherText};
+ghost use Rattle.sip_message.specs.inner.ValueFronts.{is_plain_byte, ArePlain};
+
+use std::simd::prelude::*;
+
+// How many bytes are looked at at once.
+const BLOCK: usize = 16;
+
+/// Whether the text is a value that the reader doesn't look into.
+pub(crate) fn is_other(text: &[u8]) -> bool
+    ensures { IsTrue result ↔ OtherText text.now }
+{
+    let mut at = 0;
+    'folds: loop {
+        at += plain_len(&text[at..]);
+        if !begins_with_fold(&text[at..]) {
+            return at == text.len();
+        }
+        at += 3;
+    }
+}
+
+// The length of the front that has no fold: bytes of a value, and blanks.
+fn plain_len(text: &[u8]) -> usize
+    ensures run { result ≡ prefix_len is_plain_byte text.now }
+    ensures within { result ≤ length text.now }
+{
+    let mut at = blocks_len(text);
+    while at < text.len() && is_plain(text[at]) {
+        at += 1;
+    }
+    at
+}
+
+// The length of a front of whole blocks of such bytes.
+fn blocks_len(text: &[u8]) -> usize
+    ensures plain { ArePlain text.now 0 result }
+    ensures within { result ≤ length text.now }
+{
+    let mut at = 0;
+    while text.len() - at >= BLOCK && is_plain_block(text, at) {
+        at += BLOCK;
+    }
+    at
+}
+
+// Whether the bytes of the block at this place are such bytes.
+#[inline]
+fn is_plain_block(text: &[u8], at: usize) -> bool
+    requires { at + BLOCK ≤ length text.now }
+    ensures { IsTrue result → ArePlain text.now at (at + BLOCK) }
+{
+    let block = u8x16::from_slice(&text[at..]);
+    let is_control = block.simd_lt(u8x16::splat(b' ')) & block.simd_ne(u8x16::splat(b'\t'));
+    (is_control | block.simd_eq(u8x16::splat(0x7f))).to_bitmask() == 0
+}
+
+// A byte of a value, or a blank.
+#[inline]
+fn is_plain(byte: u8) -> bool
+    ensures { result ≡ is_plain_byte byte }
+{
+    matches!(byte, b'!'..=b'~' | 0x80..=0xff | b' ' | b'\t')
+}
+
+// Whether the text begins with a CRLF and a blank.
+#[inline]
+fn begins_with_fold(text: &[u8]) -> bool
+    ensures { result ≡ begins_with_fold text.now }
+{
+    matches!(text, [b'\r', b'\n', b' ' | b'\t', ..])
+}

@@ -1,0 +1,94 @@
+use Rattle.std.proofs.Common.{◌+◌, ◌∙◌, ◌++◌, ◌∷◌, [], Some, refl, sym, subst, arith}
+use Rattle.std.specs.Io.KnownBytes.{Appends}
+use Rattle.sip_log.specs.Spelling.{line_feed}
+use Rattle.sip_log.specs.Reading as log
+use Rattle.sip_log.specs.Reading.{reading}
+use Rattle.sip_log.proofs.CallerLemmas.{Opens-stands, Nexts-counted, Nexts-fine}
+use Rattle.sip_verdict.specs.declared.shown.Shown.TheVariants.{End, Malformed, LogFault}
+use Rattle.sip_verdict.specs.Showing.{last_text}
+use Rattle.sip_verdict.proofs.JudgingLemmas.{told-fault}
+use Rattle.sip_verdict.proofs.ShowingLemmas.{Answers, finished, showed_start, showed_end, showed_stops, showed_more, showed_fault}
+use Rattle.sip_verdict.proofs.showing.show.Goals as goal
+
+pub loop-entry-init : goal.loop-entry-init
+loop-entry-init g c =
+    let start = g.R.Source.left c.args.reader.now in
+    let left = g.R.Source.left c.open.new.source in
+    let before = g.R.Source.has_failed c.args.reader.now in
+    let after = g.R.Source.has_failed c.open.new.source in
+    let progress = c.in-Ok.progress in
+    let opened = Opens-stands start left before after c.in-Ok.field-0-0 progress c.in-Ok.ensures in
+    record {
+      count = sym opened.count;
+      few = omega (arith, opened.count);
+      read = opened.fine;
+      written = refl;
+      showed = showed_start start (reading progress left after) c.in-Ok.field-0-0 (g.W.Sink.written c.args.writer.now) opened.on opened.times opened.stands;
+    }
+
+pub returns-in-Ok-None-clause-shown : goal.returns-in-Ok-None-clause-shown
+returns-in-Ok-None-clause-shown g c =
+    let l = c.loop-entry in
+    let start = g.R.Source.left c.args.reader.now in
+    let old : log.Reading = reading l.progress (g.R.Source.left l.reader) (g.R.Source.has_failed l.reader) in
+    let new : log.Reading = reading c.next.new.self (g.R.Source.left c.next.new.source) (g.R.Source.has_failed c.next.new.source) in
+    let first = g.W.Sink.written c.args.writer.now in
+    let before = g.W.Sink.written l.writer in
+    let after = g.W.Sink.written c.finish-in-Ok-None.new.writer in
+    let nexts = rw c.in-Ok-None.field-0-is at c.in-Ok-None.ensures in
+    finished c.finish-in-Ok-None.result (End l.count) (Answers start first after) (Appends before after (last_text (End l.count) ++ line_feed ∷ []))
+    c.finish-in-Ok-None.ensures.same c.finish-in-Ok-None.ensures.text
+    (λ last. showed_end start old first before l.invariant.showed new after l.count l.invariant.count nexts last)
+
+pub returns-in-Err-next-clause-shown : goal.returns-in-Err-next-clause-shown
+returns-in-Err-next-clause-shown g c =
+    let l = c.loop-entry in
+    let start = g.R.Source.left c.args.reader.now in
+    let old : log.Reading = reading l.progress (g.R.Source.left l.reader) (g.R.Source.has_failed l.reader) in
+    let new : log.Reading = reading c.next.new.self (g.R.Source.left c.next.new.source) (g.R.Source.has_failed c.next.new.source) in
+    let first = g.W.Sink.written c.args.writer.now in
+    let before = g.W.Sink.written l.writer in
+    let after = g.W.Sink.written c.finish-in-Err-next.new.writer in
+    let reason = c.in_ok-reason-in-Err-next.reason in
+    finished c.finish-in-Err-next.result (LogFault (l.count + 1) reason) (Answers start first after) (Appends before after (last_text (LogFault (l.count + 1) reason) ++ line_feed ∷ []))
+    c.finish-in-Err-next.ensures.same c.finish-in-Err-next.ensures.text
+    (told-fault old.has_failed new.has_failed
+    (λ reason. Appends before after (last_text (LogFault (l.count + 1) reason) ++ line_feed ∷ []) → Answers start first after (LogFault (l.count + 1) reason))
+    c.in-Err-next.error reason c.in_ok-reason-in-Err-next.ensures
+    (showed_stops start old first before l.invariant.showed new after l.count l.invariant.count c.in-Err-next.error c.in-Err-next.ensures)).1
+
+pub returns-in-Some-clause-shown : goal.returns-in-Some-clause-shown
+returns-in-Some-clause-shown g c =
+    let l = c.loop-entry in
+    let start = g.R.Source.left c.args.reader.now in
+    let old : log.Reading = reading l.progress (g.R.Source.left l.reader) (g.R.Source.has_failed l.reader) in
+    let new : log.Reading = reading c.next.new.self (g.R.Source.left c.next.new.source) (g.R.Source.has_failed c.next.new.source) in
+    let first = g.W.Sink.written c.args.writer.now in
+    let before = g.W.Sink.written l.writer in
+    let after = g.W.Sink.written c.finish-in-Some.new.writer in
+    let e = c.in-Ok-Some.entry in
+    let fault = c.in-Some.fault in
+    let nexts = rw c.in-Ok-Some.field-0-is at c.in-Ok-Some.ensures in
+    let shows = rw c.in-Some.is at c.in_ok-fault.ensures in
+    finished c.finish-in-Some.result (Malformed e.number fault) (Answers start first after) (Appends (g.W.Sink.written c.show_entry.new.writer) after (last_text (Malformed e.number fault) ++ line_feed ∷ []))
+    c.finish-in-Some.ensures.same c.finish-in-Some.ensures.text
+    (λ last. showed_fault start old first before l.invariant.showed new e nexts after fault shows.0 shows.1
+    (subst (λ w. Appends w after (last_text (Malformed e.number fault) ++ line_feed ∷ [])) shows.2 last))
+
+pub loop-entry-preserved : goal.loop-entry-preserved
+loop-entry-preserved g c =
+    let l = c.loop-entry in
+    let start = g.R.Source.left c.args.reader.now in
+    let old : log.Reading = reading l.progress (g.R.Source.left l.reader) (g.R.Source.has_failed l.reader) in
+    let new : log.Reading = reading c.next.new.self (g.R.Source.left c.next.new.source) (g.R.Source.has_failed c.next.new.source) in
+    let e = c.in-Ok-Some.entry in
+    let nexts = rw c.in-Ok-Some.field-0-is at c.in-Ok-Some.ensures in
+    let shows = rw c.in_default.is at c.in_ok-fault.ensures in
+    let counted = Nexts-counted start l.invariant.showed.items old new e nexts in
+    record {
+      count = counted.continues.number_is ∙ sym counted.up;
+      few = omega (arith, counted.up, counted.few);
+      read = Nexts-fine start l.invariant.showed.items old new (Some e) nexts ∙ l.invariant.read;
+      written = shows.3 ∙ l.invariant.written;
+      showed = showed_more start old (g.W.Sink.written c.args.writer.now) (g.W.Sink.written l.writer) l.invariant.showed new e nexts (g.W.Sink.written c.show_entry.new.writer) shows.0 shows.1 shows.2;
+    }

@@ -1,0 +1,18 @@
+use Rattle.std.proofs.Common.{◌≡◌, ◌-◌, ◌≤◌}
+use Rattle.sip_log.specs.Log.{most_entries}
+use Rattle.sip_log.specs.Reading.{reading}
+use Rattle.sip_verdict.proofs.ShowingLemmas.{Showed}
+use Rattle.sip_verdict.proofs.showing.show.Given as goal
+
+abbrev pub invariant-loop-entry : goal.invariant-loop-entry
+invariant-loop-entry g l =
+    record {
+      count : l.count ≡ l.progress.count;
+      few : l.progress.count ≤ most_entries;
+      read : g.R.Source.has_failed l.reader ≡ g.R.Source.has_failed l.fn.reader;
+      written : g.W.Sink.has_failed l.writer ≡ g.W.Sink.has_failed l.fn.writer;
+      showed : Showed (g.R.Source.left l.fn.reader) (reading l.progress (g.R.Source.left l.reader) (g.R.Source.has_failed l.reader)) (g.W.Sink.written l.fn.writer) (g.W.Sink.written l.writer);
+    }
+
+abbrev pub decreases-loop-entry : goal.decreases-loop-entry
+decreases-loop-entry g l = most_entries - l.progress.count

@@ -1,0 +1,68 @@
+use Rattle.std.specs.Prelude.{◌≡◌, ◌≢◌, ◌+◌, ◌⊎◌, ◌++◌, [], ◌∷◌, ℕ, List, Some, length, codes, decimal}
+use Rattle.sip_machine.specs.Times.{Times}
+use Rattle.sip_machine.specs.declared.event.Action.{Action}
+use Rattle.sip_machine.specs.declared.event.Action.TheVariants.{Sent, Received, Failed, Mark}
+use Rattle.sip_log.specs.Spelling.{line_feed, space, Item, entry_text}
+use Rattle.sip_log.specs.Log.{LogEnd, Clean, Stops, Faulty, Holds, IsLogOf}
+use Rattle.sip_message.specs.declared.fault.Fault.{Fault}
+use Rattle.sip_message.specs.Message.{Message, Spells}
+use Rattle.sip_message.specs.Faults.{FaultOf}
+use Rattle.sip_message.specs.Canon.{canon}
+use Rattle.sip_verdict.specs.declared.log_reason.LogReason.TheVariants as reasons
+use Rattle.sip_verdict.specs.declared.verdict.Verdict.TheVariants as verdicts
+use Rattle.sip_verdict.specs.declared.shown.Shown.{Shown}
+use Rattle.sip_verdict.specs.declared.shown.Shown.TheVariants.{End, Malformed, LogFault}
+use Rattle.sip_verdict.specs.LogReason.{reason_of}
+use Rattle.sip_verdict.specs.Rendering.{rendered}
+
+-- What is shown of an input: its entries, one after another, each with its message in the canonical form.
+
+-- the canonical form of the message that bytes spell
+abbrev pub IsCanon : List ℕ → List ℕ → Type 0
+IsCanon bytes text = (m : Message) × Spells bytes m × (text ≡ canon m)
+
+-- what stands for an entry's message: its canonical form, and nothing for a mark
+abbrev pub IsCanonOf : Action → List ℕ → List ℕ → Type 0
+IsCanonOf Sent bytes text = IsCanon bytes text
+IsCanonOf Received bytes text = IsCanon bytes text
+IsCanonOf Failed bytes text = IsCanon bytes text
+IsCanonOf Mark bytes text = text ≡ []
+
+-- an entry with this number: the number, SP, and its spelling with the canonical form in place of its message
+abbrev pub shown_entry : ℕ → Item → List ℕ → List ℕ
+shown_entry number e text = decimal number ++ space ∷ entry_text (record { action = e.action; moment = e.moment; text = text })
+
+-- this text is shown of the entries behind so many others
+abbrev pub AreShown : ℕ → List Item → List ℕ → Type 0
+AreShown count [] text = text ≡ []
+AreShown count (e ∷ es) text =
+    (form : List ℕ) × (more : List ℕ) × IsCanonOf e.action e.text form × AreShown (count + 1) es more × (text ≡ shown_entry (count + 1) e form ++ more)
+
+-- the last line
+abbrev pub last_text : Shown → List ℕ
+last_text (End entries) = codes "end " ++ decimal entries
+last_text (Malformed entry fault) = rendered (verdicts.Malformed entry fault)
+last_text (LogFault entry reason) = rendered (verdicts.LogFault entry reason)
+
+-- how it ends behind so many entries: with the fault of the next one's message, or with the log
+abbrev pub EndsAs : ℕ → List Item → LogEnd → Shown → Type 0
+EndsAs count (e ∷ rest) end shown = (fault : Fault) × (e.action ≢ Mark) × FaultOf e.text (Some fault) × (shown ≡ Malformed (count + 1) fault)
+EndsAs count [] Clean shown = shown ≡ End count
+EndsAs count [] (Stops fault) shown = shown ≡ LogFault (count + 1) (reason_of fault)
+
+-- what is shown of an input with a header
+pub record ShowsEntries (input text : List ℕ) (shown : Shown) : Type 0 where
+  pub times : Times
+  pub items : List Item
+  pub rest : List Item
+  pub end : LogEnd
+  pub log : IsLogOf input (Holds times (items ++ rest) end)
+  pub front : List ℕ
+  pub entries : AreShown 0 items front
+  pub ends : EndsAs (length items) rest end shown
+  pub whole : text ≡ front ++ (last_text shown ++ line_feed ∷ [])
+
+-- what is shown of an input, and how it ends
+abbrev pub IsShownOf : List ℕ → List ℕ → Shown → Type 0
+IsShownOf input text shown =
+    (IsLogOf input Faulty × (shown ≡ LogFault 0 reasons.Header) × (text ≡ last_text shown ++ line_feed ∷ [])) ⊎ ShowsEntries input text shown

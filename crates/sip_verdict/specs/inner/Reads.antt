@@ -1,9 +1,0 @@
-use Rattle.std.specs.Prelude.{◌≡◌, ◌++◌, ℕ, Bool, List, Option}
-use Rattle.std.specs.Io.KnownBytes.{Consumes}
-
--- bytes came from a source, and stand behind those that were held; no read failed
-pub record Reads (held held2 : List ℕ) (left left2 : Option (List ℕ)) (failed failed2 : Bool) : Type 0 where
-  pub came : List ℕ
-  pub held_is : held2 ≡ held ++ came
-  pub left_is : Consumes left left2 came
-  pub fine : failed2 ≡ failed

@@ -1,0 +1,38 @@
+use Rattle.std.specs.Prelude.{◌≡◌, ◌≢◌, ℕ, Bool, true, List, Option, Some, None, Result, Ok, Err}
+use Rattle.std.specs.Io.KnownBytes.{Appends}
+use Rattle.sip_machine.specs.declared.event.Action.{Action}
+use Rattle.sip_machine.specs.declared.event.Action.TheVariants.{Mark}
+use Rattle.sip_log.specs.Spelling.{Item}
+use Rattle.sip_message.specs.declared.fault.Fault.{Fault}
+use Rattle.sip_message.specs.declared.fault.ReadError.{ReadError}
+use Rattle.sip_message.specs.declared.fault.ReadError.TheVariants as message
+use Rattle.sip_message.specs.Faults.{FaultOf}
+use Rattle.sip_verdict.specs.declared.judge_error.JudgeError.{JudgeError}
+use Rattle.sip_verdict.specs.declared.judge_error.JudgeError.TheVariants as judging
+use Rattle.sip_verdict.specs.declared.show_error.ShowError.{ShowError}
+use Rattle.sip_verdict.specs.declared.show_error.ShowError.TheVariants.{Read, Write, Memory}
+use Rattle.sip_verdict.specs.Showing.{IsCanonOf, shown_entry}
+
+-- How a log is shown, piece by piece.
+
+-- what a log that could not be read is told as
+abbrev pub unshown : JudgeError → ShowError
+unshown judging.Io = Read
+unshown judging.Memory = Memory
+
+-- why a message has no canonical form: its fault; of memory nothing is said
+abbrev pub IsFaulty : List ℕ → ReadError → Type 0
+IsFaulty bytes (message.Fault fault) = FaultOf bytes (Some fault)
+IsFaulty bytes message.Memory = Unit {0}
+
+-- and why an entry has none: a mark always has one
+abbrev pub HasNoForm : Action → List ℕ → ReadError → Type 0
+HasNoForm action bytes error = (action ≢ Mark) × IsFaulty bytes error
+
+-- an entry was written as it is shown; or its message has a fault, and nothing was written
+abbrev pub ShowsEntry : ℕ → Item → Option (List ℕ) → Option (List ℕ) → Bool → Bool → Result (Option Fault) ShowError → Type 0
+ShowsEntry number e old new before after (Ok None) = (form : List ℕ) × IsCanonOf e.action e.text form × Appends old new (shown_entry number e form) × (after ≡ before)
+ShowsEntry number e old new before after (Ok (Some fault)) = (e.action ≢ Mark) × FaultOf e.text (Some fault) × (new ≡ old) × (after ≡ before)
+ShowsEntry number e old new before after (Err Read) = ⊥
+ShowsEntry number e old new before after (Err Write) = after ≡ true
+ShowsEntry number e old new before after (Err Memory) = Unit {0}

@@ -1,0 +1,50 @@
+//! Why a log could not be shown.
+ghost use Rattle.std.specs.Prelude.{◌≡◌};
+ghost use Rattle.sip_verdict.specs.declared.show_error.ShowError.TheVariants.{Write, Memory};
+ghost use Rattle.sip_verdict.specs.inner.Showing.{unshown};
+
+use crate::judge_error::JudgeError;
+use sip_log::Broken;
+use std::alloc::AllocError;
+use thiserror::Error;
+
+/// Why a log could not be shown.
+#[derive(Debug, Drop, PartialEq, Eq, Error)]
+pub enum ShowError {
+    /// The reader failed.
+    #[error("cannot read")]
+    Read,
+    /// The writer failed; how much was written is not said.
+    #[error("cannot write")]
+    Write,
+    /// A growth was refused.
+    #[error("out of memory")]
+    Memory,
+}
+
+impl From<JudgeError> for ShowError {
+    ghost from_gives = { λ error e. e ≡ unshown error };
+
+    fn from(error: JudgeError) -> ShowError {
+        match error {
+            JudgeError::Io => ShowError::Read,
+            JudgeError::Memory => ShowError::Memory,
+        }
+    }
+}
+
+impl From<Broken> for ShowError {
+    ghost from_gives = { λ _ e. e ≡ Write };
+
+    fn from(_: Broken) -> ShowError {
+        ShowError::Write
+    }
+}
+
+impl From<AllocError> for ShowError {
+    ghost from_gives = { λ _ e. e ≡ Memory };
+
+    fn from(_: AllocError) -> ShowError {
+        ShowError::Memory
+    }
+}

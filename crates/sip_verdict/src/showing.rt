@@ -1,0 +1,118 @@
+//! Shows a log: its entries, one after another, each with its message in the canonical form.
+ghost use Rattle.std.specs.Prelude.{◌≡◌, ◌++◌, ◌∷◌, [], ℕ, List, true, OnOk, IfOk, IfErr, IfSome, IsErrOf};
+ghost use Rattle.std.specs.Io.KnownBytes.{Appends};
+ghost use Rattle.sip_log.specs.Spelling.{line_feed};
+ghost use Rattle.sip_log.specs.Told.{item};
+ghost use Rattle.sip_verdict.specs.declared.show_error.ShowError.TheVariants.{Read, Write};
+ghost use Rattle.sip_verdict.specs.Showing.{IsCanon, IsCanonOf, last_text, IsShownOf};
+ghost use Rattle.sip_verdict.specs.inner.Showing.{IsFaulty, HasNoForm, ShowsEntry};
+
+use crate::log_reason::reason_of;
+use crate::rendering::last_line;
+use crate::show_error::ShowError;
+use crate::shown::Shown;
+use itoa::Buffer;
+use sip_log::{Broken, Entry, Progress, Sink, Source, put_entry};
+use sip_machine::Action;
+use sip_message::{Fault, Message, ReadError, write};
+use std::alloc::Global;
+
+/// Writes each entry of the reader's log with its number, and with its message in the canonical form, and then a last line:
+/// `end N`, or the verdict on the first entry that cannot be read or whose message has a fault. It judges no transaction.
+///
+/// `ShowError::Read` is answered only if the reader failed in this call, and `ShowError::Write` only if the writer did. It
+/// writes as it reads, and holds no more than one entry at a time.
+pub fn show<R: Source, W: Sink>(
+    alloc: Global,
+    reader: &mut R,
+    writer: &mut W,
+) -> Result<Shown, ShowError>
+    ensures shown { IfOk result (λ shown. IfSome (R.left reader.old) (λ input. (text : List ℕ) × IsShownOf input text shown × Appends (W.written writer.old) (W.written writer.new) text)) }
+    ensures fine { OnOk result ((R.has_failed reader.new ≡ R.has_failed reader.old) × (W.has_failed writer.new ≡ W.has_failed writer.old)) }
+    ensures read { IsErrOf result Read → R.has_failed reader.new ≡ true }
+    ensures write { IsErrOf result Write → W.has_failed writer.new ≡ true }
+{
+    let mut progress = match Progress::open(alloc, reader) {
+        Ok((_, progress)) => progress,
+        Err(error) => {
+            let reason = reason_of(error)?;
+            return finish(alloc, writer, Shown::LogFault { entry: 0, reason });
+        }
+    };
+    let mut count = 0;
+    loop {
+        let entry = match progress.next(reader) {
+            Ok(Some(entry)) => entry,
+            Ok(None) => return finish(alloc, writer, Shown::End { entries: count }),
+            Err(error) => {
+                let reason = reason_of(error)?;
+                let entry = count + 1;
+                return finish(alloc, writer, Shown::LogFault { entry, reason });
+            }
+        };
+        let number = entry.number;
+        if let Some(fault) = show_entry(alloc, writer, &entry)? {
+            let entry = number;
+            return finish(alloc, writer, Shown::Malformed { entry, fault });
+        }
+        count = number;
+    }
+}
+
+/// Writes an entry with its number, or answers the fault of its message.
+fn show_entry<W: Sink>(
+    alloc: Global,
+    writer: &mut W,
+    entry: &Entry,
+) -> Result<Option<Fault>, ShowError>
+    ensures { ShowsEntry entry.now.number (item entry.now) (W.written writer.old) (W.written writer.new) (W.has_failed writer.old) (W.has_failed writer.new) result }
+{
+    let form = match form_of(alloc, entry.action, entry.bytes.as_slice()) {
+        Ok(form) => form,
+        Err(ReadError::Fault(fault)) => return Ok(Some(fault)),
+        Err(ReadError::Memory) => return Err(ShowError::Memory),
+    };
+    writer.put(Buffer::new().format(entry.number).as_bytes())?;
+    writer.put(b" ")?;
+    put_entry(writer, entry.action, entry.moment, form.as_slice())?;
+    Ok(None)
+}
+
+/// What stands for an entry's message: its canonical form, and nothing for a mark.
+fn form_of(alloc: Global, action: Action, bytes: &[u8]) -> Result<Vec<u8>, ReadError>
+    ensures form { IfOk result (λ form. IsCanonOf action bytes.now form.items) }
+    ensures fault { IfErr result (HasNoForm action bytes.now) }
+{
+    match action {
+        Action::Sent | Action::Received | Action::Failed => canonical(alloc, bytes),
+        Action::Mark => Ok(Vec::new(alloc)),
+    }
+}
+
+/// The canonical form of a message.
+fn canonical(alloc: Global, bytes: &[u8]) -> Result<Vec<u8>, ReadError>
+    ensures form { IfOk result (λ form. IsCanon bytes.now form.items) }
+    ensures fault { IfErr result (IsFaulty bytes.now) }
+{
+    let message = match Message::read(alloc, bytes) {
+        Ok(message) => message,
+        Err(error) => return Err(error),
+    };
+    let mut form = Vec::new(alloc);
+    write(&message, &mut form)?;
+    Ok(form)
+}
+
+/// Writes the last line.
+fn finish<W: Sink>(alloc: Global, writer: &mut W, shown: Shown) -> Result<Shown, ShowError>
+    ensures same { IfOk result (λ answer. answer ≡ shown) }
+    ensures text { OnOk result (Appends (W.written writer.old) (W.written writer.new) (last_text shown ++ line_feed ∷ [])) }
+    ensures fine { OnOk result (W.has_failed writer.new ≡ W.has_failed writer.old) }
+    ensures read { IsErrOf result Read → ⊥ }
+    ensures write { IsErrOf result Write → W.has_failed writer.new ≡ true }
+{
+    let text = last_line(alloc, &shown)?;
+    writer.put(text.as_str().as_bytes())?;
+    writer.put(b"\n")?;
+    Ok(shown)
+}

@@ -1,0 +1,14 @@
+//! What was shown of a log.
+use crate::log_reason::LogReason;
+use sip_message::Fault;
+
+/// How a log that is shown ends. Entries are numbered from 1; a fault of the header is at entry 0.
+#[derive(Clone, Copy, Debug, PartialEq, Eq)]
+pub enum Shown {
+    /// It was shown whole.
+    End { entries: u32 },
+    /// The message of the entry has a fault.
+    Malformed { entry: u32, fault: Fault },
+    /// The entry cannot be read.
+    LogFault { entry: u32, reason: LogReason },
+}

@@ -1,0 +1,81 @@
+//! Why the program ends without its answer.
+ghost use Rattle.std.specs.Prelude.{◌≡◌, ◌≢◌};
+ghost use Rattle.std.specs.IoError.{error_kind};
+ghost use Rattle.std.specs.declared.io.ErrorKind.TheVariants.{OutOfMemory};
+ghost use Rattle.siptrace.specs.declared.failure.Failure.TheVariants.{Memory, Read};
+ghost use Rattle.siptrace.specs.Failures.{failure_of, failure_to_show, status_without};
+
+use sip_verdict::{JudgeError, ShowError};
+use std::alloc::AllocError;
+use std::io;
+use thiserror::Error;
+
+/// Why the program ends without its answer.
+#[derive(Debug, Drop, Error)]
+pub enum Failure {
+    /// What was asked for, or the log, cannot be read.
+    #[error("cannot read")]
+    Read,
+    /// The answer cannot be written.
+    #[error("cannot write")]
+    Write,
+    /// A growth was refused.
+    #[error("out of memory")]
+    Memory,
+    /// The words ask for nothing that it can do.
+    #[error("usage: siptrace [check FILE | show FILE | states FILE ENTRY]")]
+    Usage,
+}
+
+impl From<AllocError> for Failure {
+    ghost from_gives = { λ _ failure. failure ≡ Memory };
+
+    fn from(_: AllocError) -> Failure {
+        Failure::Memory
+    }
+}
+
+impl From<JudgeError> for Failure {
+    ghost from_gives = { λ error failure. failure ≡ failure_of error };
+
+    fn from(error: JudgeError) -> Failure {
+        match error {
+            JudgeError::Io => Failure::Read,
+            JudgeError::Memory => Failure::Memory,
+        }
+    }
+}
+
+impl From<ShowError> for Failure {
+    ghost from_gives = { λ error failure. failure ≡ failure_to_show error };
+
+    fn from(error: ShowError) -> Failure {
+        match error {
+            ShowError::Read => Failure::Read,
+            ShowError::Write => Failure::Write,
+            ShowError::Memory => Failure::Memory,
+        }
+    }
+}
+
+/// The status that the program ends with where it has no answer.
+pub fn status_without(failure: &Failure) -> u8
+    ensures { result ≡ status_without failure.now }
+{
+    match failure {
+        Failure::Read | Failure::Write | Failure::Memory => 4,
+        Failure::Usage => 5,
+    }
+}
+
+/// What could not be had from the system.
+pub fn read_failure(error: io::Error) -> Failure
+    ensures memory { error_kind error ≡ OutOfMemory → result ≡ Memory }
+    ensures read { error_kind error ≢ OutOfMemory → result ≡ Read }
+{
+    if error.kind() == io::ErrorKind::OutOfMemory {
+        Failure::Memory
+    } else {
+        Failure::Read
+    }
+}

@@ -141,86 +141,37 @@ fn keep(
     Ok(())
 }
 
-/// A book that keeps the messages over a transport.
-fn messages(alloc: Global, transport: &str) -> Result<Book, Fail> {
-    let invite = "INVITE sip:example.com SIP/2.0";
-    let ack = "ACK sip:example.com SIP/2.0";
-    let mut book = Book::new(alloc);
-    keep(alloc, &mut book, INVITE, invite, transport, "", "INVITE")?;
-    keep(
-        alloc,
-        &mut book,
+/// Each message by its number: how it begins, its tag of To, and the method of its CSeq.
+const MESSAGES: [(u32, &str, &str, &str); 11] = [
+    (INVITE, "INVITE sip:example.com SIP/2.0", "", "INVITE"),
+    (
         OTHER_INVITE,
-        invite,
-        transport,
+        "INVITE sip:example.com SIP/2.0",
         ";tag=9",
         "INVITE",
-    )?;
-    keep(
-        alloc,
-        &mut book,
-        TRYING,
-        "SIP/2.0 100 Reply",
-        transport,
-        "",
-        "INVITE",
-    )?;
-    keep(
-        alloc,
-        &mut book,
-        RINGING,
-        "SIP/2.0 180 Reply",
-        transport,
-        ";tag=2",
-        "INVITE",
-    )?;
-    keep(
-        alloc,
-        &mut book,
-        OK,
-        "SIP/2.0 200 Reply",
-        transport,
-        ";tag=2",
-        "INVITE",
-    )?;
-    keep(
-        alloc,
-        &mut book,
-        BUSY,
-        "SIP/2.0 486 Reply",
-        transport,
-        ";tag=2",
-        "INVITE",
-    )?;
-    keep(
-        alloc,
-        &mut book,
-        GONE,
-        "SIP/2.0 480 Reply",
-        transport,
-        ";tag=3",
-        "INVITE",
-    )?;
-    keep(alloc, &mut book, ACK, ack, transport, ";tag=2", "ACK")?;
-    keep(alloc, &mut book, OTHER_ACK, ack, transport, ";tag=3", "ACK")?;
-    keep(
-        alloc,
-        &mut book,
-        CANCEL,
-        "CANCEL sip:example.com SIP/2.0",
-        transport,
-        "",
-        "CANCEL",
-    )?;
-    keep(
-        alloc,
-        &mut book,
-        OPTIONS,
-        "OPTIONS sip:example.com SIP/2.0",
-        transport,
-        "",
-        "OPTIONS",
-    )?;
+    ),
+    (TRYING, "SIP/2.0 100 Reply", "", "INVITE"),
+    (RINGING, "SIP/2.0 180 Reply", ";tag=2", "INVITE"),
+    (OK, "SIP/2.0 200 Reply", ";tag=2", "INVITE"),
+    (BUSY, "SIP/2.0 486 Reply", ";tag=2", "INVITE"),
+    (GONE, "SIP/2.0 480 Reply", ";tag=3", "INVITE"),
+    (ACK, "ACK sip:example.com SIP/2.0", ";tag=2", "ACK"),
+    (OTHER_ACK, "ACK sip:example.com SIP/2.0", ";tag=3", "ACK"),
+    (CANCEL, "CANCEL sip:example.com SIP/2.0", "", "CANCEL"),
+    (OPTIONS, "OPTIONS sip:example.com SIP/2.0", "", "OPTIONS"),
+];
+
+/// A book that keeps the messages over a transport.
+fn messages(alloc: Global, transport: &str) -> Result<Book, Fail> {
+    let mut book = Book::new(alloc);
+    let mut last = 0;
+    for (number, start, tag, method) in MESSAGES {
+        if number <= last {
+            return Err("out of order".into());
+        }
+        keep(alloc, &mut book, number, start, transport, tag, method)?;
+        last = number;
+    }
     Ok(book)
 }
 
@@ -369,17 +320,26 @@ fn proceeding(rt: HostRuntime) -> Result<(), Fail> {
 
 const BUSY_NOW: Entry = (1_000, Action::Received, BUSY);
 
+/// What BUSY_NOW makes it owe.
+const OWED: Want = Want::Completed(
+    1_000,
+    Some(Debt {
+        message: BUSY,
+        deadline: 1_050,
+        must: true,
+    }),
+);
+
 #[test]
 fn completed(rt: HostRuntime) -> Result<(), Fail> {
-    let owed = Want::Completed(1_000, Some(must(BUSY, 1_050)));
     let paid = Want::Completed(1_000, None);
-    let rows: [(&[Entry], Want); 14] = [
+    let rows: [(&[Entry], Want); 9] = [
         (
             &[FIRST, received(550, BUSY)],
             Want::Completed(550, Some(must(BUSY, 600))),
         ),
         (&[FIRST, received(551, BUSY)], Want::Nothing),
-        (&[FIRST, WAITS, BUSY_NOW], owed),
+        (&[FIRST, WAITS, BUSY_NOW], OWED),
         (&[FIRST, WAITS, BUSY_NOW, sent(1_010, ACK)], paid),
         (&[FIRST, WAITS, BUSY_NOW, sent(1_050, ACK)], paid),
         (&[FIRST, WAITS, BUSY_NOW, sent(1_051, ACK)], Want::Nothing),
@@ -392,8 +352,18 @@ fn completed(rt: HostRuntime) -> Result<(), Fail> {
             &[FIRST, WAITS, BUSY_NOW, failed(1_010, OTHER_ACK)],
             Want::Nothing,
         ),
-        (&[FIRST, WAITS, BUSY_NOW, received(1_010, OK)], owed),
-        (&[FIRST, WAITS, BUSY_NOW, sent(1_010, CANCEL)], owed),
+    ];
+    for (entries, want) in rows {
+        assert!(rt; leads(rt.alloc(), "UDP", entries, want)?, "{entries:?}");
+    }
+    Ok(())
+}
+
+#[test]
+fn owes_each_response(rt: HostRuntime) -> Result<(), Fail> {
+    let rows: [(&[Entry], Want); 5] = [
+        (&[FIRST, WAITS, BUSY_NOW, received(1_010, OK)], OWED),
+        (&[FIRST, WAITS, BUSY_NOW, sent(1_010, CANCEL)], OWED),
         (
             &[
                 FIRST,
@@ -402,7 +372,7 @@ fn completed(rt: HostRuntime) -> Result<(), Fail> {
                 received(1_020, GONE),
                 sent(1_030, OTHER_ACK),
             ],
-            owed,
+            OWED,
         ),
         (
             &[
@@ -519,9 +489,8 @@ fn ends(rt: HostRuntime) -> Result<(), Fail> {
         (&[failed(0, INVITE)], (None, None)),
     ];
     for (entries, want) in rows {
-        assert_eq!(rt;
-            ends_after(alloc, 500, "UDP", entries)?,
-            want,
+        assert!(rt;
+            ends_after(alloc, 500, "UDP", entries)? == want,
             "{entries:?}"
         );
     }
@@ -541,9 +510,8 @@ fn ends_by_transport_and_times(rt: HostRuntime) -> Result<(), Fail> {
         ),
     ];
     for (entries, want) in rows {
-        assert_eq!(rt;
-            ends_after(alloc, 500, "TCP", entries)?,
-            want,
+        assert!(rt;
+            ends_after(alloc, 500, "TCP", entries)? == want,
             "{entries:?}"
         );
     }
@@ -553,9 +521,8 @@ fn ends_by_transport_and_times(rt: HostRuntime) -> Result<(), Fail> {
         ("TCP", 500, (Some((32_050, Some(32_150))), Some(32_150))),
         ("UDP", 1_000, (Some((64_050, Some(64_150))), Some(64_150))),
     ] {
-        assert_eq!(rt;
-            ends_after(alloc, t1, transport, &accepted)?,
-            want,
+        assert!(rt;
+            ends_after(alloc, t1, transport, &accepted)? == want,
             "{transport} {t1}"
         );
     }

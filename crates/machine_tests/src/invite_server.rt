@@ -451,7 +451,7 @@ fn ends(rt: HostRuntime) -> Result<(), Fail> {
         let [only] = states.as_slice() else {
             return Err("not one state".into());
         };
-        assert_eq!(rt; ends_of(&server, only), (window, until), "{entries:?}");
+        assert!(rt; ends_of(&server, only) == (window, until), "{entries:?}");
     }
     assert!(rt; is_wanted(&server.ended(), Want::Idle));
     Ok(())
@@ -468,18 +468,12 @@ fn ends_over_tcp(rt: HostRuntime) -> Result<(), Fail> {
         interval: 500,
         owes: Outbox::new(rt.alloc()),
     };
-    assert_eq!(rt;
-        ends_of(&server, &completed),
-        (Some((32_650, Some(32_750))), Some(32_750))
-    );
+    assert!(rt; ends_of(&server, &completed) == (Some((32_650, Some(32_750))), Some(32_750)));
     let confirmed = InviteServerState::Confirmed {
         reliable: true,
         set: 700,
         owes: Outbox::new(rt.alloc()),
     };
-    assert_eq!(rt;
-        ends_of(&server, &confirmed),
-        (Some((700, Some(750))), Some(750))
-    );
+    assert!(rt; ends_of(&server, &confirmed) == (Some((700, Some(750))), Some(750)));
     Ok(())
 }

@@ -1,17 +1,18 @@
 -- The log of an input: there is one, and only one.
 use Rattle.std.proofs.Common.{◌≡◌, inl, inr, ◌≤◌, ◌+◌, ℕ, suc, List, [], ◌∷◌, ◌++◌, length, refl, subst, sym, ap, ◌∙◌, arith, append_assoc}
 use Rattle.std.specs.Prelude.{flat_map}
-use Rattle.std.proofs.lemmas.List.{append-nil}
+use Rattle.std.proofs.lemmas.List.{append-nil, append_cancel_left}
 use Rattle.sip_machine.specs.Times.{Times, AreTimes}
 use Rattle.sip_log.specs.Next.{Next, gives}
 use Rattle.sip_log.specs.Spelling.{Item, header_text, entry_text}
 use Rattle.sip_log.specs.Log.{most_entries, ComesNext, InOrder, last_of, LogEnd, Clean, next_at, IsLog, Log, Faulty, Holds, IsLogOf}
+use Rattle.sip_log.specs.Turn.{ComeInTurn}
 use Rattle.sip_log.specs.inner.Follow.{Follow}
 use Rattle.sip_log.specs.inner.Header as read
 use Rattle.sip_log.proofs.SpellingLemmas.{header-spelled, header-read}
 use Rattle.sip_log.proofs.NextLemmas.{next-told}
 use Rattle.sip_log.proofs.NextRead.{next-read}
-use Rattle.sip_log.proofs.LogLaws.{Header-one, ComesNext-one, Follow-one}
+use Rattle.sip_log.proofs.LogLaws.{Header-one, ComesNext-one, next_at-not_gives, Follow-one}
 use Rattle.sip_log.proofs.LogExists.{header-or-not, Follow-some}
 
 -- one thing comes next
@@ -112,3 +113,27 @@ log-written p items times few order = record {
   order = order;
   next = refl;
 }
+
+-- entries that come in turn are the first of those that follow
+turn-front : (count last : ℕ) (rest : List ℕ) (items : List Item) (end : LogEnd) (read : List Item) (left : List ℕ) → Follow count last rest items end
+    → ComeInTurn count last rest read left → (more : List Item) × (items ≡ read ++ more)
+turn-front count last rest items end [] left follow turn = (items, refl)
+turn-front count last rest [] end (e ∷ es) left follow (behind, next, turn) =
+    absurd (next_at-not_gives end e behind (ComesNext-one count last rest (next_at end) (gives e behind) follow (next-read count last rest (gives e behind) next)))
+turn-front count last rest (e2 ∷ items) end (e ∷ es) left follow (behind, next, turn) =
+    let same = ComesNext-one count last rest (gives e2 follow.0) (gives e behind) follow.1 (next-read count last rest (gives e behind) next) in
+    let first : e2 ≡ e = cc in
+    let at : follow.0 ≡ behind = cc in
+    let more = turn-front (count + 1) e.moment behind items end es left (coe 0 1 (i. Follow (count + 1) ((first i).moment) (at i) items end) follow.2) turn in
+    (more.0, λ i. first i ∷ more.1 i)
+
+-- and of those of the log
+pub log-front : (input : List ℕ) (p : Times) (items : List Item) (end : LogEnd) → IsLogOf input (Holds p items end) →
+    (behind left : List ℕ) (read : List Item) → input ≡ header_text p ++ behind → ComeInTurn 0 0 behind read left →
+    (more : List Item) × (items ≡ read ++ more)
+log-front input p items end is behind left read whole turn =
+    let rest = flat_map entry_text items ++ is.rest in
+    let same : rest ≡ behind = append_cancel_left (header_text p) rest behind (sym is.spelled ∙ whole) in
+    let follow : Follow 0 0 rest items end =
+    follow-read 0 0 items is.rest end (omega (arith, is.few)) is.order (subst (λ n. ComesNext n (last_of 0 items) is.rest (next_at end)) (from_zero (length items)) is.next) in
+    turn-front 0 0 behind items end read left (subst (λ t. Follow 0 0 t items end) same follow) turn

@@ -5,5 +5,6 @@ pub mod Reading
 pub mod Source
 pub mod Spelling
 pub mod Told
+pub mod Turn
 pub mod Writing
 pub mod inner

@@ -3,7 +3,8 @@ ghost use Rattle.std.specs.Prelude.{◌≡◌, ◌<◌, ◌≤◌, ◌++◌, ℕ
 ghost use Rattle.sip_machine.specs.Times.{Times, AreTimes};
 ghost use Rattle.sip_log.specs.Next.{Next, gives};
 ghost use Rattle.sip_log.specs.Spelling.{Item, header_text, entry_text};
-ghost use Rattle.sip_log.specs.Log.{IsEntry, IsWithinLimits, most_entries, ComesNext, InOrder, Clean, Log, Holds, IsLogOf};
+ghost use Rattle.sip_log.specs.Turn.{ComeInTurn};
+ghost use Rattle.sip_log.specs.Log.{IsEntry, IsWithinLimits, most_entries, ComesNext, InOrder, LogEnd, Clean, Log, Holds, IsLogOf};
 
 /// Each input has a log.
 pub fn each_input_has_a_log()
@@ -31,4 +32,11 @@ pub fn an_entry_is_read_as_it_was_written()
 pub fn an_entry_is_written_as_it_was_read()
     ensures { (count last : ℕ) (rest : List ℕ) (e : Item) (behind : List ℕ) → ComesNext count last rest (gives e behind) →
         (rest ≡ entry_text e ++ behind) × IsWithinLimits e.action e.moment (length e.text) }
+{}
+
+/// Entries that were read in turn behind the header are a front of the log's, whatever is left to read.
+pub fn entries_read_in_turn_are_a_front_of_the_log()
+    ensures { (input : List ℕ) (p : Times) (items : List Item) (end : LogEnd) → IsLogOf input (Holds p items end) →
+        (behind left : List ℕ) (read : List Item) → input ≡ header_text p ++ behind → ComeInTurn 0 0 behind read left →
+        (more : List Item) × (items ≡ read ++ more) }
 {}

@@ -163,28 +163,28 @@ impl Event {
     }
 
     /// What was done with the message.
-    pub(crate) fn action(&self) -> Action
+    pub fn action(&self) -> Action
         ensures { result ≡ self.now.action }
     {
         self.action
     }
 
     /// The number of the message in a `Book`.
-    pub(crate) fn number(&self) -> u32
+    pub fn number(&self) -> u32
         ensures { result ≡ self.now.number }
     {
         self.number
     }
 
     /// What the machine asks of the message.
-    pub(crate) fn kind(&self) -> Kind
+    pub fn kind(&self) -> Kind
         ensures { result ≡ self.now.kind }
     {
         self.kind
     }
 
     /// Whether the transport delivers what it takes.
-    pub(crate) fn reliable(&self) -> bool
+    pub fn reliable(&self) -> bool
         ensures { result ≡ self.now.reliable }
     {
         self.reliable

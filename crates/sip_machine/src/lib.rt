@@ -14,8 +14,6 @@ mod plain_client;
 mod plain_server;
 mod provisional;
 mod push;
-#[cfg(test)]
-mod tests;
 
 pub use book::Book;
 pub use event::{Action, Event, Kind, Method};

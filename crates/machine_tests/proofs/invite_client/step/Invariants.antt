@@ -1,0 +1,7 @@
+use Rattle.std.specs.Prelude.{All}
+use Rattle.sip_machine.specs.InviteClient.{invite_client_names, InviteClientInRange}
+use Rattle.sip_machine.specs.Rules.{Knows}
+use Rattle.machine_tests.proofs.invite_client.step.Given as goal
+
+abbrev pub invariant-loop-state : goal.invariant-loop-state
+invariant-loop-state l = All (Knows invite_client_names l.book) l.next.items × All InviteClientInRange l.next.items

@@ -1,0 +1,79 @@
+//! Events of whole messages.
+
+use sip_machine::{Action, Event, Kind, Method};
+use sip_message::Message;
+use std::alloc::Global;
+use std::test::Fail;
+
+/// The kind of a message that begins so and comes over a transport, and whether that is reliable.
+fn kind_of(
+    alloc: Global,
+    start: &str,
+    transport: &str,
+    method: &str,
+) -> Result<(Kind, bool), Fail> {
+    let text = format!(in alloc;
+        "{start}\r\nv: SIP/2.0/{transport} a;branch=z9hG4bK1\r\nf: <sip:a>;tag=1\r\nt: <sip:b>\r\n\
+        i: c\r\nCSeq: 1 {method}\r\nl: 0\r\n\r\n"
+    )?;
+    let Ok(message) = Message::read(alloc, text.as_bytes()) else {
+        return Err("not a message".into());
+    };
+    let event = Event::of(700, Action::Sent, 3, &message);
+    if event.moment() != 700 || event.action() != Action::Sent || event.number() != 3 {
+        return Err("another event".into());
+    }
+    Ok((event.kind(), event.reliable()))
+}
+
+#[test]
+fn tells_messages(rt: HostRuntime) -> Result<(), Fail> {
+    for (start, transport, method, kind, reliable) in [
+        (
+            "INVITE sip:b SIP/2.0",
+            "UDP",
+            "INVITE",
+            Kind::Request(Method::Invite),
+            false,
+        ),
+        (
+            "ACK sip:b SIP/2.0",
+            "TCP",
+            "ACK",
+            Kind::Request(Method::Ack),
+            true,
+        ),
+        (
+            "CANCEL sip:b SIP/2.0",
+            "tls",
+            "CANCEL",
+            Kind::Request(Method::Cancel),
+            true,
+        ),
+        (
+            "invite sip:b SIP/2.0",
+            "SCTP",
+            "invite",
+            Kind::Request(Method::Other),
+            false,
+        ),
+        (
+            "OPTIONS sip:b SIP/2.0",
+            "udp",
+            "OPTIONS",
+            Kind::Request(Method::Other),
+            false,
+        ),
+        (
+            "SIP/2.0 486 Busy Here",
+            "TLS",
+            "INVITE",
+            Kind::Response(486),
+            true,
+        ),
+    ] {
+        let told = kind_of(rt.alloc(), start, transport, method)?;
+        assert!(rt; told == (kind, reliable), "{start}");
+    }
+    Ok(())
+}

@@ -1,0 +1,15 @@
+//! Tests of `sip_machine`: where each machine leads and when it ends, row by row.
+#![tactic(auto)]
+
+#[cfg(test)]
+mod event;
+#[cfg(test)]
+mod invite_client;
+#[cfg(test)]
+mod invite_server;
+#[cfg(test)]
+mod plain_client;
+#[cfg(test)]
+mod plain_server;
+#[cfg(test)]
+mod tests;

@@ -1,0 +1,180 @@
+//! The non-INVITE client, with moments worked out by hand for T1 500, T2 4000, T4 5000 and a tolerance of 50.
+ghost use Rattle.std.specs.Prelude.{◌≡◌, false};
+ghost use Rattle.sip_machine.specs.PlainClient.{PlainInRange};
+
+use sip_machine::{
+    Action, Book, Event, Kind, Machine, Method, Params, PlainClient, PlainState, PlainWaiting,
+};
+use std::alloc::Global;
+use std::test::Fail;
+
+/// An entry: its moment, what was done, the number of its message, and its kind.
+type Entry = (u64, Action, u32, Kind);
+
+const REQUEST: u32 = 1;
+
+const OTHER: u32 = 2;
+
+fn sent(moment: u64) -> Entry {
+    (moment, Action::Sent, REQUEST, Kind::Request(Method::Other))
+}
+
+fn failed(moment: u64) -> Entry {
+    (
+        moment,
+        Action::Failed,
+        REQUEST,
+        Kind::Request(Method::Other),
+    )
+}
+
+fn received(moment: u64, code: u16) -> Entry {
+    (moment, Action::Received, OTHER, Kind::Response(code))
+}
+
+/// The request of moment 0 that waits, with timer E set then for so long.
+fn waiting(set: u64, interval: u64) -> PlainWaiting
+    ensures { result ≡ record { reliable = false; request = 1; start = 0; set = set; interval = interval } }
+{
+    PlainWaiting {
+        reliable: false,
+        request: REQUEST,
+        start: 0,
+        set,
+        interval,
+    }
+}
+
+fn client() -> Result<PlainClient, Fail> {
+    let params = Params::new(500, 4_000, 5_000, 50).ok_or("refused")?;
+    Ok(PlainClient::new(params))
+}
+
+/// The state after the entries, None where one of them has no step.
+fn state_after(alloc: Global, entries: &[Entry]) -> Result<Option<PlainState>, Fail> {
+    let mut book = Book::new(alloc);
+    book.add(REQUEST, b"OPTIONS")?;
+    book.add(OTHER, b"SIP/2.0")?;
+    run(alloc, &client()?, &book, entries)
+}
+
+fn run(
+    alloc: Global,
+    client: &PlainClient,
+    book: &Book,
+    entries: &[Entry],
+) -> Result<Option<PlainState>, Fail> {
+    let mut state = client.first();
+    for &(moment, action, number, kind) in entries {
+        if moment > 9_999_999_999_999 || action == Action::Mark || book.bytes(number).is_none() {
+            return Err("not an entry".into());
+        }
+        let event = Event::plain(moment, action, number, kind);
+        let mut next = Vec::new(alloc);
+        client.successors(book, &state, &event, &mut next)?;
+        let [only] = next.as_slice() else {
+            return Ok(None);
+        };
+        state = *only;
+    }
+    Ok(Some(state))
+}
+
+#[test]
+fn before_the_final_response(rt: HostRuntime) -> Result<(), Fail> {
+    let trying = |set, interval| Some(PlainState::Trying(waiting(set, interval)));
+    let proceeding = |set, interval| Some(PlainState::Proceeding(waiting(set, interval)));
+    let rows: [(&[Entry], Option<PlainState>); 13] = [
+        (&[], Some(PlainState::Idle)),
+        (&[sent(0)], trying(0, 500)),
+        (&[sent(0), sent(449)], None),
+        (&[sent(0), sent(450)], trying(450, 1_000)),
+        (&[sent(0), sent(550)], trying(550, 1_000)),
+        (&[sent(0), sent(551)], None),
+        (
+            &[
+                sent(0),
+                (500, Action::Sent, OTHER, Kind::Request(Method::Other)),
+            ],
+            None,
+        ),
+        (
+            &[sent(0), sent(500), sent(1_500), sent(3_500)],
+            trying(3_500, 4_000),
+        ),
+        (
+            &[sent(0), sent(500), sent(1_500), sent(3_500), sent(7_500)],
+            trying(7_500, 4_000),
+        ),
+        (&[sent(0), received(100, 100)], proceeding(0, 500)),
+        (
+            &[sent(0), received(100, 100), received(200, 199)],
+            proceeding(0, 500),
+        ),
+        (&[sent(0), received(100, 100), sent(449)], None),
+        (
+            &[sent(0), received(100, 100), sent(450)],
+            proceeding(450, 4_000),
+        ),
+    ];
+    for (entries, want) in rows {
+        assert!(rt; state_after(rt.alloc(), entries)? == want, "{entries:?}");
+    }
+    Ok(())
+}
+
+#[test]
+fn final_responses_and_failures(rt: HostRuntime) -> Result<(), Fail> {
+    let completed = |set| Some(PlainState::Completed {
+        reliable: false,
+        set,
+    });
+    let rows: [(&[Entry], Option<PlainState>); 8] = [
+        (&[sent(0), received(550, 200)], completed(550)),
+        (&[sent(0), received(551, 200)], None),
+        (
+            &[sent(0), received(100, 200), received(5_150, 699)],
+            completed(100),
+        ),
+        (&[sent(0), received(100, 200), sent(500)], None),
+        (&[failed(0)], Some(PlainState::Ended)),
+        (&[sent(0), failed(500)], Some(PlainState::Ended)),
+        (&[sent(0), failed(449)], None),
+        (&[received(100, 200)], Some(PlainState::Idle)),
+    ];
+    for (entries, want) in rows {
+        assert!(rt; state_after(rt.alloc(), entries)? == want, "{entries:?}");
+    }
+    Ok(())
+}
+
+/// When the state may end, and its last moment.
+fn ends_of(client: &PlainClient, state: PlainState) -> (Option<(u64, Option<u64>)>, Option<u64>)
+    requires { PlainInRange state }
+{
+    (client.end_window(&state), client.until(&state))
+}
+
+#[test]
+fn ends(rt: HostRuntime) -> Result<(), Fail> {
+    let client = client()?;
+    assert!(rt; ends_of(&client, PlainState::Idle) == (None, None));
+    // Timer E fires by 550, timer F from 31950 to 32050.
+    let timer_f = Some((31_950, Some(32_050)));
+    let trying = PlainState::Trying(waiting(0, 500));
+    assert!(rt; ends_of(&client, trying) == (timer_f, Some(550)));
+    let proceeding = PlainState::Proceeding(waiting(31_500, 4_000));
+    assert!(rt; ends_of(&client, proceeding) == (timer_f, Some(32_050)));
+    let completed = PlainState::Completed {
+        reliable: false,
+        set: 700,
+    };
+    assert!(rt; ends_of(&client, completed) == (Some((5_650, Some(5_750))), Some(5_750)));
+    let completed = PlainState::Completed {
+        reliable: true,
+        set: 700,
+    };
+    assert!(rt; ends_of(&client, completed) == (Some((700, Some(750))), Some(750)));
+    assert!(rt; ends_of(&client, client.ended()) == (None, None));
+    Ok(())
+}

@@ -1,0 +1,420 @@
+//! The non-INVITE server, with moments worked out by hand for T1 500 and a tolerance of 50.
+ghost use Rattle.std.specs.Prelude.{All, IfOk};
+ghost use Rattle.sip_machine.specs.Heard.{FitsBook};
+ghost use Rattle.sip_machine.specs.Rules.{Knows};
+ghost use Rattle.sip_machine.specs.PlainServer.{plain_server_names, PlainServerInRange};
+
+use sip_machine::{
+    Action, Book, Debt, Event, Kind, Machine, Method, Outbox, Params, PlainServer, PlainServerState,
+};
+use std::alloc::Global;
+use std::test::Fail;
+
+/// An entry: its moment, what was done, the number of its message, and its kind.
+type Entry = (u64, Action, u32, Kind);
+
+const REQUEST: u32 = 1;
+
+const RINGING: u32 = 2;
+
+const TRYING: u32 = 3;
+
+const FINAL: u32 = 4;
+
+const PROGRESS: u32 = 5;
+
+const NO_MESSAGE: u32 = 6;
+
+const TRYING_BYTES: &[u8] = b"SIP/2.0 100 Trying\r\n\
+    Via: SIP/2.0/UDP a.example.com;branch=z9hG4bK1\r\n\
+    From: <sip:bob@example.com>;tag=1\r\n\
+    To: <sip:bob@example.com>\r\n\
+    Call-ID: c1@a\r\n\
+    CSeq: 1 OPTIONS\r\n\
+    Content-Length: 0\r\n\
+    \r\n";
+
+const PROGRESS_BYTES: &[u8] = b"SIP/2.0 101 Trying\r\n\
+    Via: SIP/2.0/UDP a.example.com;branch=z9hG4bK1\r\n\
+    From: <sip:bob@example.com>;tag=1\r\n\
+    To: <sip:bob@example.com>\r\n\
+    Call-ID: c1@a\r\n\
+    CSeq: 1 OPTIONS\r\n\
+    Content-Length: 0\r\n\
+    \r\n";
+
+fn received(moment: u64) -> Entry {
+    (
+        moment,
+        Action::Received,
+        REQUEST,
+        Kind::Request(Method::Other),
+    )
+}
+
+fn sent(moment: u64, number: u32, code: u16) -> Entry {
+    (moment, Action::Sent, number, Kind::Response(code))
+}
+
+fn failed(moment: u64, number: u32, code: u16) -> Entry {
+    (moment, Action::Failed, number, Kind::Response(code))
+}
+
+fn must(message: u32, deadline: u64) -> Debt {
+    Debt {
+        message,
+        deadline,
+        must: true,
+    }
+}
+
+fn may(message: u32, deadline: u64) -> Debt {
+    Debt {
+        message,
+        deadline,
+        must: false,
+    }
+}
+
+/// Up to two debts that are wanted.
+type Owes = [Option<Debt>; 2];
+
+const NOTHING: Owes = [None, None];
+
+fn one(debt: Debt) -> Owes {
+    [Some(debt), None]
+}
+
+fn two(first: Debt, second: Debt) -> Owes {
+    [Some(first), Some(second)]
+}
+
+fn are_owed(debts: &[Debt], want: Owes) -> bool {
+    match debts {
+        [] => want == NOTHING,
+        [only] => want == one(*only),
+        [first, second] => want == two(*first, *second),
+        _ => false,
+    }
+}
+
+/// A state that is wanted, over an unreliable transport.
+#[derive(Clone, Copy)]
+enum Want {
+    Idle,
+    Trying,
+    Proceeding(u32, Owes),
+    Completed(u32, u64, Owes),
+}
+
+fn is_wanted(state: &PlainServerState, want: Want) -> bool {
+    match (state, want) {
+        (PlainServerState::Idle, Want::Idle) => true,
+        (PlainServerState::Trying { reliable }, Want::Trying) => !*reliable,
+        (
+            PlainServerState::Proceeding {
+                reliable,
+                last,
+                owes,
+            },
+            Want::Proceeding(number, debts),
+        ) => !*reliable && *last == number && are_owed(owes.debts(), debts),
+        (
+            PlainServerState::Completed {
+                reliable,
+                response,
+                set,
+                owes,
+            },
+            Want::Completed(number, moment, debts),
+        ) => !*reliable && *response == number && *set == moment && are_owed(owes.debts(), debts),
+        _ => false,
+    }
+}
+
+fn are_wanted(states: &[PlainServerState], wants: &[Want]) -> bool {
+    states.len() == wants.len()
+        && states
+            .iter()
+            .zip(wants)
+            .all(|(state, want)| is_wanted(state, *want))
+}
+
+fn server() -> Result<PlainServer, Fail> {
+    let params = Params::new(500, 4_000, 5_000, 50).ok_or("refused")?;
+    Ok(PlainServer::new(params))
+}
+
+/// The states after the entries, of all steps.
+fn states_after(alloc: Global, entries: &[Entry]) -> Result<Vec<PlainServerState>, Fail>
+    ensures { IfOk result (λ states. All PlainServerInRange states.items) }
+{
+    let mut book = Book::new(alloc);
+    book.add(REQUEST, b"OPTIONS")?;
+    book.add(RINGING, b"SIP/2.0 180")?;
+    book.add(TRYING, TRYING_BYTES)?;
+    book.add(FINAL, b"SIP/2.0 200")?;
+    book.add(PROGRESS, PROGRESS_BYTES)?;
+    book.add(NO_MESSAGE, b"SIP/2.0 100 Trying")?;
+    run(alloc, &server()?, &book, entries)
+}
+
+fn run(
+    alloc: Global,
+    server: &PlainServer,
+    book: &Book,
+    entries: &[Entry],
+) -> Result<Vec<PlainServerState>, Fail>
+    ensures { IfOk result (λ states. All PlainServerInRange states.items) }
+{
+    let mut states = Vec::new(alloc);
+    states.push(server.first())?;
+    for &(moment, action, number, kind) in entries {
+        if moment > 9_999_999_999_999 || action == Action::Mark {
+            return Err("not an entry".into());
+        }
+        let Some(_) = book.bytes(number) else {
+            return Err("not kept".into());
+        };
+        let event = Event::plain(moment, action, number, kind);
+        states = step(alloc, server, book, &states, &event)?;
+    }
+    Ok(states)
+}
+
+/// The states that the event gives.
+fn step(
+    alloc: Global,
+    server: &PlainServer,
+    book: &Book,
+    states: &[PlainServerState],
+    event: &Event,
+) -> Result<Vec<PlainServerState>, Fail>
+    requires fits { FitsBook book.now event.now }
+    requires known { All (Knows plain_server_names book.now) states.now }
+    requires in_range { All PlainServerInRange states.now }
+    ensures known { IfOk result (λ next. All (Knows plain_server_names book.now) next.items) }
+    ensures in_range { IfOk result (λ next. All PlainServerInRange next.items) }
+{
+    let mut next = Vec::new(alloc);
+    for state in states {
+        server.successors(book, state, event, &mut next)?;
+    }
+    Ok(next)
+}
+
+/// Where the entries lead.
+fn leads(alloc: Global, entries: &[Entry], wants: &[Want]) -> Result<bool, Fail> {
+    let states = states_after(alloc, entries)?;
+    Ok(are_wanted(&states, wants))
+}
+
+#[test]
+fn before_the_final_response(rt: HostRuntime) -> Result<(), Fail> {
+    let first = received(0);
+    let ringing = sent(5, RINGING, 180);
+    let owed = must(RINGING, 60);
+    let rows: [(&[Entry], &[Want]); 14] = [
+        (&[], &[Want::Idle]),
+        (&[sent(0, FINAL, 200)], &[]),
+        (&[first], &[Want::Trying]),
+        (&[first, received(10)], &[Want::Trying]),
+        (&[first, ringing], &[Want::Proceeding(RINGING, NOTHING)]),
+        (
+            &[first, ringing, received(10)],
+            &[Want::Proceeding(RINGING, one(owed))],
+        ),
+        (
+            &[first, ringing, received(10), sent(50, RINGING, 180)],
+            &[
+                Want::Proceeding(RINGING, one(owed)),
+                Want::Proceeding(RINGING, NOTHING),
+            ],
+        ),
+        (
+            &[first, ringing, received(10), failed(60, RINGING, 180)],
+            &[
+                Want::Proceeding(RINGING, one(owed)),
+                Want::Proceeding(RINGING, NOTHING),
+            ],
+        ),
+        (&[first, ringing, received(10), sent(61, RINGING, 180)], &[]),
+        (
+            &[first, ringing, received(10), sent(20, PROGRESS, 101)],
+            &[Want::Proceeding(PROGRESS, one(owed))],
+        ),
+        (
+            &[
+                first,
+                ringing,
+                received(10),
+                received(20),
+                sent(30, RINGING, 180),
+            ],
+            &[
+                Want::Proceeding(RINGING, two(owed, must(RINGING, 70))),
+                Want::Proceeding(RINGING, one(must(RINGING, 70))),
+            ],
+        ),
+        (
+            &[first, sent(5, PROGRESS, 101), received(10)],
+            &[Want::Proceeding(PROGRESS, one(must(PROGRESS, 60)))],
+        ),
+        (
+            &[first, sent(5, NO_MESSAGE, 100), received(10)],
+            &[Want::Proceeding(NO_MESSAGE, one(must(NO_MESSAGE, 60)))],
+        ),
+        (
+            &[
+                first,
+                ringing,
+                (20, Action::Received, FINAL, Kind::Response(200)),
+            ],
+            &[Want::Proceeding(RINGING, NOTHING)],
+        ),
+    ];
+    for (entries, wants) in rows {
+        assert!(rt; leads(rt.alloc(), entries, wants)?, "{entries:?}");
+    }
+    Ok(())
+}
+
+#[test]
+fn a_100_need_not_be_repeated(rt: HostRuntime) -> Result<(), Fail> {
+    let first = received(0);
+    let trying = sent(5, TRYING, 100);
+    let rows: [(&[Entry], &[Want]); 4] = [
+        (
+            &[first, trying, received(10)],
+            &[Want::Proceeding(TRYING, one(may(TRYING, 60)))],
+        ),
+        (
+            &[first, trying, received(10), received(60)],
+            &[Want::Proceeding(TRYING, two(may(TRYING, 60), may(TRYING, 110)))],
+        ),
+        (
+            &[first, trying, received(10), received(61)],
+            &[Want::Proceeding(TRYING, one(may(TRYING, 111)))],
+        ),
+        (
+            &[first, trying, received(10), sent(61, TRYING, 100)],
+            &[Want::Proceeding(TRYING, NOTHING)],
+        ),
+    ];
+    for (entries, wants) in rows {
+        assert!(rt; leads(rt.alloc(), entries, wants)?, "{entries:?}");
+    }
+    Ok(())
+}
+
+#[test]
+fn after_the_final_response(rt: HostRuntime) -> Result<(), Fail> {
+    let first = received(0);
+    let ringing = sent(5, RINGING, 180);
+    let last = sent(10, FINAL, 200);
+    let soft = may(RINGING, 60);
+    let rows: [(&[Entry], &[Want]); 12] = [
+        (&[first, last], &[Want::Completed(FINAL, 10, NOTHING)]),
+        (
+            &[first, failed(10, FINAL, 699)],
+            &[Want::Completed(FINAL, 10, NOTHING)],
+        ),
+        (&[first, last, sent(20, FINAL, 200)], &[]),
+        (
+            &[first, last, received(500)],
+            &[Want::Completed(FINAL, 10, one(must(FINAL, 550)))],
+        ),
+        (
+            &[first, last, received(500), sent(550, FINAL, 200)],
+            &[Want::Completed(FINAL, 10, NOTHING)],
+        ),
+        (&[first, last, received(500), sent(551, FINAL, 200)], &[]),
+        (&[first, last, received(500), sent(550, RINGING, 180)], &[]),
+        (
+            &[first, last, received(32_060)],
+            &[Want::Completed(FINAL, 10, one(must(FINAL, 32_110)))],
+        ),
+        (&[first, last, received(32_061)], &[]),
+        (
+            &[first, ringing, received(10), sent(20, FINAL, 200)],
+            &[Want::Completed(FINAL, 20, one(soft))],
+        ),
+        (
+            &[
+                first,
+                ringing,
+                received(10),
+                sent(20, FINAL, 200),
+                sent(60, RINGING, 180),
+            ],
+            &[Want::Completed(FINAL, 20, NOTHING)],
+        ),
+        (
+            &[
+                first,
+                ringing,
+                received(10),
+                sent(20, FINAL, 200),
+                sent(61, RINGING, 180),
+            ],
+            &[],
+        ),
+    ];
+    for (entries, wants) in rows {
+        assert!(rt; leads(rt.alloc(), entries, wants)?, "{entries:?}");
+    }
+    Ok(())
+}
+
+/// When the state may end, and its last moment.
+fn ends_of(
+    server: &PlainServer,
+    state: &PlainServerState,
+) -> (Option<(u64, Option<u64>)>, Option<u64>)
+    requires { PlainServerInRange state.now }
+{
+    (server.end_window(state), server.until(state))
+}
+
+#[test]
+fn ends(rt: HostRuntime) -> Result<(), Fail> {
+    let server = server()?;
+    let first = received(0);
+    let ringing = sent(5, RINGING, 180);
+    let rows: [(&[Entry], Option<(u64, Option<u64>)>, Option<u64>); 7] = [
+        (&[], None, None),
+        (&[first], None, None),
+        (&[first, ringing], None, None),
+        (&[first, ringing, received(10)], None, Some(60)),
+        (
+            &[first, sent(10, FINAL, 200)],
+            Some((31_960, Some(32_060))),
+            Some(32_060),
+        ),
+        (
+            &[first, sent(10, FINAL, 200), received(500)],
+            None,
+            Some(550),
+        ),
+        (
+            &[first, ringing, received(10), sent(20, FINAL, 200)],
+            Some((31_970, Some(32_070))),
+            Some(32_070),
+        ),
+    ];
+    for (entries, window, until) in rows {
+        let states = states_after(rt.alloc(), entries)?;
+        let [only] = states.as_slice() else {
+            return Err("not one state".into());
+        };
+        assert!(rt; ends_of(&server, only) == (window, until), "{entries:?}");
+    }
+    let over_tcp = PlainServerState::Completed {
+        reliable: true,
+        response: FINAL,
+        set: 700,
+        owes: Outbox::new(rt.alloc()),
+    };
+    assert!(rt; ends_of(&server, &over_tcp) == (Some((700, Some(750))), Some(750)));
+    Ok(())
+}

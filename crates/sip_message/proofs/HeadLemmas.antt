@@ -1,19 +1,16 @@
 -- The head ends where the empty line is found, and its lines' ends are whole.
-use Rattle.std.proofs.Common.{◌≡◌, ℕ, zero, suc, ◌+◌, ◌<◌, ◌≤◌, ◌⊎◌, ◌↔◌, Bool, true, false, nat_lt, nat_eq, not, ◌||◌, ◌&&◌, cond, Some, None, List, [], ◌∷◌, ◌++◌, length, take, drop, get_or, refl, sym, ap, ◌∙◌, subst, inl, inr, arith}
+use Rattle.std.proofs.Common.{◌≡◌, ℕ, zero, suc, ◌+◌, ◌<◌, ◌≤◌, ◌⊎◌, Bool, true, false, nat_lt, nat_eq, not, ◌||◌, ◌&&◌, List, [], ◌∷◌, ◌++◌, length, take, drop, get_or, refl, sym, ap, ap₂, ◌∙◌, subst, inl, inr, arith}
 use Rattle.std.specs.List.{concat, flat_map}
-use Rattle.std.proofs.lemmas.Bool.{both_ways, eqb-true, ltb-true, ltb-false}
-use Rattle.std.proofs.lemmas.Option.{none-some}
-use Rattle.std.proofs.lemmas.List.{append-nil, length-append, length-drop, get_or-drop, get_or-append-add, get_or_append_left, take-append-drop, drop_more, length-take-le}
+use Rattle.std.proofs.lemmas.Bool.{both_ways, and_parts, not-true, eqb-true, eq-eqb, ltb-true, ltb-false}
+use Rattle.std.proofs.lemmas.List.{length-append, length-drop, get_or-drop, get_or-append-add, get_or_append_left, take-append-drop, length-take-le}
 use Rattle.std.proofs.Math.Seq.{drop-append-add, take-append-add, take-length}
 use Rattle.memchr.specs.Find.{OccursAt, Nowhere, NoneBefore, Passes, is_byte2}
 use Rattle.sip_text.specs.Bytes.{crlf, carriage_return, line_feed}
 use Rattle.sip_text.specs.Text.{One, Exactly, ◌or◌}
-use Rattle.sip_text.specs.Cut.{past}
 use Rattle.sip_text.proofs.ManyLemmas.{many-nil, many-cons}
-use Rattle.sip_text.proofs.CutLemmas.{past-some}
 use Rattle.sip_message.specs.Lines.{IsHead, is_inner_byte, HasNoBareEnd, IsLines, with_end}
-use Rattle.sip_message.specs.inner.Lines.{AreLines}
-use Rattle.sip_message.specs.inner.Fronts.{past_end, LineFront}
+use Rattle.sip_message.specs.inner.Lines.{AreLines, IsPaired, ArePaired, BeginsWithFeed}
+use Rattle.sip_message.specs.inner.Fronts.{LineFront}
 use Rattle.sip_message.specs.Faults.{IsCut}
 use Rattle.sip_message.proofs.SplitLemmas.{All}
 use Rattle.sip_message.proofs.FrontLemmas.{ReadAs, NotRead}
@@ -98,14 +95,13 @@ inner-byte b none = at (nat_eq b carriage_return) (nat_eq b line_feed) none
 inner-take : (t : List ℕ) (n k : ℕ) → k ≤ length t → k ≤ n → Nowhere (Passes (is_byte2 carriage_return line_feed) t) 0 k → All is_inner_byte (take k t)
 inner-take t n k within low none = all-take is_inner_byte t k within (λ j below. inner-byte (get_or t j 0) (none j (omega arith) below))
 
+-- where neither is found, each byte is neither
+pub inner-none : (t : List ℕ) → Nowhere (Passes (is_byte2 carriage_return line_feed) t) 0 (length t) → All is_inner_byte t
+inner-none t none = subst (All is_inner_byte) (take-length t) (inner-take t (length t) (length t) (omega arith) (omega arith) none)
+
 -- CRLF or a byte between ends
 abbrev CleanPiece : List ℕ → Type 0
 CleanPiece = Exactly crlf or One is_inner_byte
-
--- bytes between ends
-clean-inner : (u v : List ℕ) → All is_inner_byte u → HasNoBareEnd v → HasNoBareEnd (u ++ v)
-clean-inner [] v all clean = clean
-clean-inner (b ∷ u) v all clean = many-cons CleanPiece (b ∷ []) (u ++ v) (inr (b, all.0, refl)) (clean-inner u v all.1 clean)
 
 -- the first piece
 clean-first : (b : ℕ) (t : List ℕ) → HasNoBareEnd (b ∷ t) → ((is_inner_byte b ≡ true) × HasNoBareEnd t) ⊎ ((v : List ℕ) × (b ∷ t ≡ crlf ++ v) × HasNoBareEnd v)
@@ -117,79 +113,109 @@ clean-first b t (u ∷ us, (inr (c, inner, is), all), whole) =
     let tail : t ≡ concat us = cc in
     inl (ap is_inner_byte (sym head) ∙ inner, (us, all, tail))
 
--- what is behind bytes between ends
-clean-rest : (u v : List ℕ) → All is_inner_byte u → HasNoBareEnd (u ++ v) → HasNoBareEnd v
-clean-rest [] v all clean = clean
-clean-rest (b ∷ u) v all clean = at (clean-first b (u ++ v) clean) (clean-rest u v all.1)
+-- behind each byte stands a LF exactly if it is a CR, where a stands before the text
+abbrev Paired : ℕ → List ℕ → Type 0
+Paired a [] = nat_eq a carriage_return ≡ false
+Paired a (b ∷ t) = (nat_eq a carriage_return ≡ nat_eq b line_feed) × Paired b t
+
+-- one place on, behind one byte more
+pair-on : (a : ℕ) (t : List ℕ) (k : ℕ) → IsPaired t k → IsPaired (a ∷ t) (suc k)
+pair-on a t k paired =
+    let next : suc (k + 1) ≡ suc k + 1 = omega arith in
+    subst (λ j. nat_eq (get_or (a ∷ t) (suc k) 0) carriage_return ≡ nat_eq (get_or (a ∷ t) j 0) line_feed) next paired
+
+pair-back : (a : ℕ) (t : List ℕ) (k : ℕ) → IsPaired (a ∷ t) (suc k) → IsPaired t k
+pair-back a t k paired =
+    let next : suc k + 1 ≡ suc (k + 1) = omega arith in
+    subst (λ j. nat_eq (get_or (a ∷ t) (suc k) 0) carriage_return ≡ nat_eq (get_or (a ∷ t) j 0) line_feed) next paired
+
+-- place by place
+paired-each : (a : ℕ) (t : List ℕ) → ((k : ℕ) → k ≤ length t → IsPaired (a ∷ t) k) → Paired a t
+paired-each a [] each = each 0 (omega arith)
+paired-each a (b ∷ t) each = (each 0 (omega arith), paired-each b t (λ k within. pair-back a (b ∷ t) k (each (suc k) (omega (arith, within)))))
+
+each-paired : (a : ℕ) (t : List ℕ) → Paired a t → (k : ℕ) → k ≤ length t → IsPaired (a ∷ t) k
+each-paired a [] paired zero within = paired
+each-paired a [] paired (suc k) within = absurd (omega (arith, within))
+each-paired a (b ∷ t) paired zero within = paired.0
+each-paired a (b ∷ t) paired (suc k) within = pair-on a (b ∷ t) k (each-paired b t paired.1 k (omega (arith, within)))
+
+-- a byte between ends is neither CR nor LF
+inner-parts : (b : ℕ) → is_inner_byte b ≡ true → (nat_eq b carriage_return ≡ false) × (nat_eq b line_feed ≡ false)
+inner-parts b inner =
+    let both = and_parts (not (nat_eq b carriage_return)) (not (nat_eq b line_feed)) inner in
+    (not-true _ (both.0), not-true _ (both.1))
+
+parts-inner : (b : ℕ) → nat_eq b carriage_return ≡ false → nat_eq b line_feed ≡ false → is_inner_byte b ≡ true
+parts-inner b no_end no_feed = ap₂ (λ x y. not x && not y) no_end no_feed
+
+-- a text without a bare end is so, behind a byte that is no CR
+clean-paired : (a : ℕ) (t : List ℕ) → nat_eq a carriage_return ≡ false → HasNoBareEnd t → Paired a t
+clean-paired a [] no_end clean = no_end
+clean-paired a (b ∷ []) no_end clean = at (clean-first b [] clean)
   where
-    at : ((is_inner_byte b ≡ true) × HasNoBareEnd (u ++ v)) ⊎ ((w : List ℕ) × (b ∷ (u ++ v) ≡ crlf ++ w) × HasNoBareEnd w) → (HasNoBareEnd (u ++ v) → HasNoBareEnd v) → HasNoBareEnd v
-    at (inl (inner, clean)) later = later clean
-    at (inr (w, same, clean)) later =
-        let head : b ≡ carriage_return = cc in
-        absurd (both_ways (is_inner_byte b) (ap is_inner_byte head) all.0)
-
--- behind a CRLF
-clean-crlf : (v : List ℕ) → HasNoBareEnd (crlf ++ v) → HasNoBareEnd v
-clean-crlf v clean = at (clean-first carriage_return (line_feed ∷ v) clean)
+    at : ((is_inner_byte b ≡ true) × HasNoBareEnd []) ⊎ ((v : List ℕ) × (b ∷ [] ≡ crlf ++ v) × HasNoBareEnd v) → Paired a (b ∷ [])
+    at (inl (inner, _)) = (no_end ∙ sym (inner-parts b inner).1, (inner-parts b inner).0)
+    at (inr (v, same, _)) = absurd (omega (arith, ap length same))
+clean-paired a (b ∷ c ∷ t) no_end clean = at (clean-first b (c ∷ t) clean) (clean-paired b (c ∷ t)) (clean-paired c t)
   where
-    at : ((is_inner_byte carriage_return ≡ true) × HasNoBareEnd (line_feed ∷ v)) ⊎ ((w : List ℕ) × (crlf ++ v ≡ crlf ++ w) × HasNoBareEnd w) → HasNoBareEnd v
-    at (inl (inner, clean)) = absurd (both_ways false refl inner)
-    at (inr (w, same, clean)) =
-        let both : carriage_return ∷ line_feed ∷ v ≡ carriage_return ∷ line_feed ∷ w = same in
-        let rest : w ≡ v = cc in
-        subst HasNoBareEnd rest clean
+    at : ((is_inner_byte b ≡ true) × HasNoBareEnd (c ∷ t)) ⊎ ((v : List ℕ) × (b ∷ c ∷ t ≡ crlf ++ v) × HasNoBareEnd v)
+        → (nat_eq b carriage_return ≡ false → HasNoBareEnd (c ∷ t) → Paired b (c ∷ t))
+        → (nat_eq c carriage_return ≡ false → HasNoBareEnd t → Paired c t) → Paired a (b ∷ c ∷ t)
+    at (inl (inner, rest)) one two = (no_end ∙ sym (inner-parts b inner).1, one (inner-parts b inner).0 rest)
+    at (inr (v, same, rest)) one two =
+        let both : b ∷ c ∷ t ≡ carriage_return ∷ line_feed ∷ v = same in
+        let b_is : b ≡ carriage_return = cc in
+        let c_is : c ≡ line_feed = cc in
+        let t_is : t ≡ v = cc in
+        let next : nat_eq b carriage_return ≡ nat_eq c line_feed =
+        ap (λ x. nat_eq x carriage_return) b_is ∙ sym (ap (λ x. nat_eq x line_feed) c_is) in (
+          no_end ∙ sym (ap (λ x. nat_eq x line_feed) b_is),
+          (next, two (ap (λ x. nat_eq x carriage_return) c_is) (subst HasNoBareEnd (sym t_is) rest)),
+        )
 
--- past CRLF at the front
-past_end-some : (t more : List ℕ) → past_end t ≡ Some more → t ≡ crlf ++ more
-past_end-some [] more is = absurd (none-some more is)
-past_end-some (a ∷ t) more is = at (nat_eq a carriage_return) refl is
+-- and the other way round
+paired-clean : (a : ℕ) (t : List ℕ) → nat_eq a carriage_return ≡ false → Paired a t → HasNoBareEnd t
+paired-clean a [] no_end paired = many-nil CleanPiece
+paired-clean a (b ∷ []) no_end paired =
+    many-cons CleanPiece (b ∷ []) [] (inr (b, parts-inner b paired.1 (sym paired.0 ∙ no_end), refl)) (many-nil CleanPiece)
+paired-clean a (b ∷ c ∷ t) no_end paired = at (nat_eq b carriage_return) refl (paired-clean b (c ∷ t)) (paired-clean c t)
   where
-    at : (x : Bool) → nat_eq a carriage_return ≡ x → cond x (past line_feed t) None ≡ Some more → a ∷ t ≡ crlf ++ more
-    at false eq is = absurd (none-some more is)
-    at true eq is = ap (λ b. b ∷ t) (eqb-true a carriage_return eq) ∙ ap (λ x. carriage_return ∷ x) (past-some line_feed t more is)
+    at : (end : Bool) → nat_eq b carriage_return ≡ end
+        → (nat_eq b carriage_return ≡ false → Paired b (c ∷ t) → HasNoBareEnd (c ∷ t))
+        → (nat_eq c carriage_return ≡ false → Paired c t → HasNoBareEnd t) → HasNoBareEnd (b ∷ c ∷ t)
+    at false is one two =
+        many-cons CleanPiece (b ∷ []) (c ∷ t) (inr (b, parts-inner b is (sym paired.0 ∙ no_end), refl)) (one is paired.1)
+    at true is one two =
+        let b_is : b ≡ carriage_return = eqb-true b carriage_return is in
+        let c_is : c ≡ line_feed = eqb-true c line_feed (sym paired.1.0 ∙ is) in
+        subst HasNoBareEnd (sym (ap (λ x. x ∷ c ∷ t) b_is ∙ ap (λ x. carriage_return ∷ x ∷ t) c_is))
+        (many-cons CleanPiece crlf t (inl refl) (two (ap (λ x. nat_eq x carriage_return) c_is) paired.1.1))
 
-past_end-crlf : (v : List ℕ) → past_end (crlf ++ v) ≡ Some v
-past_end-crlf v = refl
+-- at each place of a text without a bare end it is so
+pub clean-each : (t : List ℕ) → HasNoBareEnd t → (k : ℕ) → k < length t → IsPaired t k
+clean-each [] clean k below = absurd (omega (arith, below))
+clean-each (b ∷ t) clean k below = each-paired b t (clean-paired 0 (b ∷ t) refl clean).1 k (omega (arith, below))
 
--- nothing is bare in the rest of a text, as in the text itself
-pub inner-none : (t : List ℕ) → Nowhere (Passes (is_byte2 carriage_return line_feed) t) 0 (length t) → All is_inner_byte t
-inner-none t none = subst (All is_inner_byte) (take-length t) (inner-take t (length t) (length t) (omega arith) (omega arith) none)
+-- what is not so
+pub is_not : (b : Bool) → (b ≡ true → ⊥) → not b ≡ true
+is_not true none = absurd (none refl)
+is_not false none = refl
 
-pub clean-none : (t : List ℕ) → Nowhere (Passes (is_byte2 carriage_return line_feed) t) 0 (length t) → HasNoBareEnd t
-clean-none t none = subst HasNoBareEnd (append-nil t) (clean-inner t [] (inner-none t none) (many-nil CleanPiece))
+-- and it begins with no LF
+pub clean-opens : (t : List ℕ) → HasNoBareEnd t → BeginsWithFeed t → ⊥
+clean-opens [] clean feed = absurd (omega (arith, feed))
+clean-opens (b ∷ t) clean feed = both_ways (nat_eq b line_feed) (sym (clean-paired 0 (b ∷ t) refl clean).0) (eq-eqb b line_feed feed)
 
-pub clean-past : (t more : List ℕ) (k : ℕ) → NoneBefore (Passes (is_byte2 carriage_return line_feed) t) 0 (length t) k → past_end (drop k t) ≡ Some more → HasNoBareEnd more ↔ HasNoBareEnd t
-clean-past t more k first past = (to, from)
+-- by these two a text has none
+pub each-clean : (t : List ℕ) → ArePaired t 0 (length t) → (BeginsWithFeed t → ⊥) → HasNoBareEnd t
+each-clean [] each opens = many-nil CleanPiece
+each-clean (b ∷ t) each opens =
+    paired-clean 0 (b ∷ t) refl (at (nat_eq b line_feed) refl, paired-each b t (λ k within. each k (omega arith) (omega (arith, within))))
   where
-    inner : All is_inner_byte (take k t)
-    inner = inner-take t k k (omega (arith, first.high)) (omega arith) first.before
-
-    whole : take k t ++ (crlf ++ more) ≡ t
-    whole = ap (λ x. take k t ++ x) (sym (past_end-some (drop k t) more past)) ∙ take-append-drop k t
-
-    to : HasNoBareEnd more → HasNoBareEnd t
-    to clean = subst HasNoBareEnd whole (clean-inner (take k t) (crlf ++ more) inner (many-cons CleanPiece crlf more (inl refl) clean))
-
-    from : HasNoBareEnd t → HasNoBareEnd more
-    from clean = clean-crlf more (clean-rest (take k t) (crlf ++ more) inner (subst HasNoBareEnd (sym whole) clean))
-
-pub clean-bare : (t : List ℕ) (k : ℕ) → NoneBefore (Passes (is_byte2 carriage_return line_feed) t) 0 (length t) k → Passes (is_byte2 carriage_return line_feed) t k → past_end (drop k t) ≡ None → HasNoBareEnd t → ⊥
-clean-bare t k first passes past clean = at (clean-first (get_or t k 0) (drop (k + 1) t) (subst HasNoBareEnd rest (clean-rest (take k t) (drop k t) inner (subst HasNoBareEnd (sym (take-append-drop k t)) clean))))
-  where
-    inner : All is_inner_byte (take k t)
-    inner = inner-take t k k (omega (arith, first.high)) (omega arith) first.before
-
-    rest : drop k t ≡ get_or t k 0 ∷ drop (k + 1) t
-    rest = drop_more t k 0 first.high
-
-    at : ((is_inner_byte (get_or t k 0) ≡ true) × HasNoBareEnd (drop (k + 1) t)) ⊎ ((w : List ℕ) × (get_or t k 0 ∷ drop (k + 1) t ≡ crlf ++ w) × HasNoBareEnd w) → ⊥
-    at (inr (w, same, _)) = none-some w (sym past ∙ ap past_end (rest ∙ same))
-    at (inl (good, _)) = go (nat_eq (get_or t k 0) carriage_return) (nat_eq (get_or t k 0) line_feed) passes good
-      where
-        go : (x y : Bool) → (x || y) ≡ true → (not x && not y) ≡ true → ⊥
-        go true y one two = both_ways false refl two
-        go false true one two = both_ways false refl two
-        go false false one two = both_ways false refl one
+    at : (feed : Bool) → nat_eq b line_feed ≡ feed → false ≡ nat_eq b line_feed
+    at true is = absurd (opens (eqb-true b line_feed is))
+    at false is = sym is
 
 -- the first line of lines, and the text of the others
 lines-front : (head first : List ℕ) (others : List (List ℕ)) → IsLines head first others → LineFront head (first, flat_map with_end others)

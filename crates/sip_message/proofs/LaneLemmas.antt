@@ -1,9 +1,10 @@
 -- From the empty mask of one load to the bytes that pass a test.
-use Rattle.std.proofs.Common.{◌≡◌, ℕ, ◌+◌, ◌-◌, ◌%◌, ◌^◌, ◌<◌, ◌≤◌, eqb, Bool, true, false, not, ◌||◌, List, [], ◌∷◌, map, length, get_or, Fits, w8, refl, sym, ap, ap₂, ◌∙◌, subst, arith}
-use Rattle.std.proofs.lemmas.Bool.{agree_below, agree_below_at, not-true, eqb-true}
-use Rattle.std.proofs.lemmas.Simd.{map-map, mask_l-mod, length-chunk, get_or-chunk, leading_from_mask_l}
-use Rattle.std.proofs.lemmas.List.{length-map}
+use Rattle.std.proofs.Common.{◌≡◌, ℕ, ◌+◌, ◌-◌, ◌%◌, ◌^◌, ◌<◌, ◌≤◌, eqb, Bool, true, false, not, cond, ◌||◌, List, [], ◌∷◌, map, length, get_or, Fits, w8, refl, sym, ap, ap₂, ◌∙◌, subst, arith}
+use Rattle.std.proofs.lemmas.Bool.{both_ways, agree_below, agree_below_at, not-true, eqb-true}
+use Rattle.std.proofs.lemmas.Simd.{map-map, mask_l-mod, length-chunk, length-zip2, get_or-chunk, get_or-zip2, leading_from_mask_l}
+use Rattle.std.proofs.lemmas.List.{length-map, get_or-map}
 use Rattle.std.proofs.lemmas.List.Sums.{prefix_len_passes}
+use lib.Bits.{bit_xor}
 use lib.Lanes.{chunk, zip2, mask_l, top}
 
 zip2-map : (h : ℕ → ℕ → ℕ) (f g : ℕ → ℕ) (xs : List ℕ) → zip2 h (map f xs) (map g xs) ≡ map (λ x. h (f x) (g x)) xs
@@ -27,3 +28,29 @@ all_pass q d i n z room few fits none f lanes all k from to =
     let at = get_or-chunk i n d (k - i) 0 (omega arith) ∙ ap (λ j. get_or d j 0) back in
     let clear = subst (λ x. top 7 (f x) ≡ false) at (not-true _ (prefix_len_passes (λ x. not (top 7 (f x))) v (k - i) 0 (omega arith))) in
     sym (ap (λ b. b || q (get_or d k 0)) clear) ∙ agree_below_at (λ x. top 7 (f x) || q x) (λ _. true) 256 (get_or d k 0) all (fits k).fits
+
+-- no lane is set
+none_set : (z : List ℕ) (n : ℕ) → length z ≡ n → n ≤ 64 → eqb (mask_l (map (top 7) z) % 2 ^ 64) 0 ≡ true → (k : ℕ) → k < n → top 7 (get_or z k 0) ≡ false
+none_set z n long few none k below =
+    let whole = leading_from_mask_l (top 7) z (sym (mask_l-mod (map (top 7) z) 64 (omega (arith, length-map z (top 7), long, few))) ∙ eqb-true _ 0 none) in
+    not-true _ (prefix_len_passes (λ x. not (top 7 x)) z k 0 (omega (arith, whole, long, below)))
+
+-- no lane of an operation on two loads is set
+pub two_clear : (d : List ℕ) (i j n : ℕ) (o : ℕ → ℕ → ℕ) (f g : ℕ → ℕ) (a b : List ℕ) → i + n ≤ length d → j + n ≤ length d → n ≤ 64 → a ≡ map f (chunk i n d) → b ≡ map g (chunk j n d)
+    → eqb (mask_l (map (top 7) (zip2 o a b)) % 2 ^ 64) 0 ≡ true → (k : ℕ) → k < n → top 7 (o (f (get_or d (i + k) 0)) (g (get_or d (j + k) 0))) ≡ false
+two_clear d i j n o f g a b room_i room_j few a_is b_is none k below =
+    let long_a : length a ≡ n = ap length a_is ∙ length-map (chunk i n d) f ∙ length-chunk i n d room_i in
+    let long_b : length b ≡ n = ap length b_is ∙ length-map (chunk j n d) g ∙ length-chunk j n d room_j in
+    let long : length (zip2 o a b) ≡ n = length-zip2 o a b (long_a ∙ sym long_b) ∙ long_a in
+    let first : get_or a k 0 ≡ f (get_or d (i + k) 0) =
+    ap (λ l. get_or l k 0) a_is ∙ get_or-map f (chunk i n d) k 0 0 (omega (arith, length-chunk i n d room_i, below)) ∙ ap f (get_or-chunk i n d k 0 below) in
+    let second : get_or b k 0 ≡ g (get_or d (j + k) 0) =
+    ap (λ l. get_or l k 0) b_is ∙ get_or-map g (chunk j n d) k 0 0 (omega (arith, length-chunk j n d room_j, below)) ∙ ap g (get_or-chunk j n d k 0 below) in
+    subst (λ x. top 7 x ≡ false) (get_or-zip2 o a b k 0 0 0 (omega (arith, long_a, below)) (omega (arith, long_b, below)) ∙ ap₂ o first second) (none_set (zip2 o a b) n long few none k below)
+
+-- two comparisons whose lanes do not differ agree
+pub lanes_agree : (x y : Bool) → top 7 (bit_xor (cond x 255 0) (cond y 255 0)) ≡ false → x ≡ y
+lanes_agree true true none = refl
+lanes_agree false false none = refl
+lanes_agree true false none = absurd (both_ways true none refl)
+lanes_agree false true none = absurd (both_ways true none refl)

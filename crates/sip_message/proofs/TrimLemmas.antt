@@ -1,16 +1,18 @@
 -- A value is cut off its blanks at both ends.
-use Rattle.std.proofs.Common.{◌≡◌, ℕ, zero, suc, ◌-◌, ◌<◌, ◌≤◌, Bool, true, false, nat_eq, List, [], ◌∷◌, ◌++◌, Option, Some, None, is_some, length, take, drop, get_or, refl, sym, ap, ◌∙◌, subst, inl, inr, arith}
+use Rattle.std.proofs.Common.{◌≡◌, ℕ, zero, suc, ◌-◌, ◌<◌, ◌≤◌, Bool, true, false, not, ◌&&◌, nat_lt, nat_eq, List, [], ◌∷◌, ◌++◌, Option, Some, None, is_some, length, take, drop, get_or, refl, sym, ap, ◌∙◌, subst, inl, inr, arith}
 use Rattle.std.specs.Bool.{Decides}
 use Rattle.std.specs.List.{prefix_len}
-use Rattle.std.proofs.lemmas.Bool.{both_ways, eqb-true, eq-eqb}
+use Rattle.std.proofs.lemmas.Bool.{both_ways, and_parts, not-true, eqb-true, eq-eqb}
 use Rattle.std.proofs.lemmas.List.{append-nil, append_cancel_left, take-append-drop}
+use Rattle.sip_text.specs.Bytes.{space}
 use Rattle.sip_text.specs.Text.{Many, IsLongestFront, IsOnlyValue}
 use Rattle.sip_text.specs.Grammar.{Blanks, Sws}
 use Rattle.sip_text.specs.Blanks.{Blank}
-use Rattle.sip_text.proofs.ManyLemmas.{many-nil, many-append, front-whole}
+use Rattle.sip_text.proofs.ManyLemmas.{many-nil, many-one, many-append, front-whole}
 use Rattle.sip_text.proofs.BlanksLemmas.{units-blanks, blanks-units}
 use Rattle.sip_message.specs.Unfold.{is_blank, OpensSolid, EndsSolid}
 use Rattle.sip_message.specs.Field.{ValueText}
+use Rattle.sip_message.specs.inner.ValueFronts.{is_solid}
 use Rattle.sip_message.proofs.SplitLemmas.{All, Stops, all_both, all_right, same_front}
 use Rattle.sip_message.proofs.EachLemmas.{each-sws}
 use Rattle.sip_message.proofs.FieldLemmas.{same_solid}
@@ -133,3 +135,28 @@ value-trimmed text front value back w is of = at w of.opens of.ends (of.whole.4 
 pub read-decides : {A X : Type 0} (R : List ℕ → X → Type 0) (parts : A → X) (text : List ℕ) (r : Option A) (b : Bool) → IsOnlyValue R parts text r → b ≡ is_some r → Decides b ((x : X) × R text x)
 read-decides R parts text None b none is = (λ yes_b. absurd (both_ways b is yes_b), λ x. absurd (none x.0 x.1))
 read-decides R parts text (Some a) b only is = (λ _. (parts a, only.0), λ _. is)
+
+-- a last byte that is solid
+ends-solid : (b : ℕ) (u : List ℕ) → is_blank (get_or (b ∷ u) (length u) 0) ≡ false → EndsSolid (b ∷ u)
+ends-solid b [] solid = solid
+ends-solid b (c ∷ u) solid = ends-solid c u solid
+
+-- a value behind one SP
+pub one-space : (value : List ℕ) → is_solid value ≡ true → ValueText (space ∷ value) value
+one-space [] solid = absurd (both_ways false refl solid)
+one-space (b ∷ value) solid =
+    let last : ℕ = length (b ∷ value) - 1 in
+    let both = and_parts (nat_lt 0 (length (b ∷ value)) && not (is_blank b)) (not (is_blank (get_or (b ∷ value) last 0))) solid in
+    let opens : is_blank b ≡ false = not-true (is_blank b) (and_parts (nat_lt 0 (length (b ∷ value))) (not (is_blank b)) (both.0)).1 in
+    let end : last ≡ length value = omega arith in
+    record {
+      opens = opens;
+      ends = ends-solid b value (subst (λ i. is_blank (get_or (b ∷ value) i 0) ≡ false) end (not-true _ (both.1)));
+      whole = (
+        space ∷ [],
+        b ∷ value,
+        blanks-units (space ∷ []) (many-one Blank (space ∷ []) ([], space ∷ [], inl refl, (space, refl, refl), refl)),
+        (b ∷ value, [], refl, inl refl, sym (append-nil (b ∷ value))),
+        refl,
+      );
+    }

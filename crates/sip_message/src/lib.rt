@@ -4,6 +4,7 @@
 mod address;
 mod canon;
 mod cursor;
+mod ends;
 mod fault;
 mod field;
 pub mod laws;

@@ -8,9 +8,10 @@ ghost use Rattle.sip_message.specs.ValueParts.{start_parts, address_parts, cseq_
 ghost use Rattle.sip_message.specs.ViaParts.{element};
 
 use crate::address::{Address, read_address};
+use crate::ends::is_clean;
 use crate::fault::{Fault, ReadError, Reason, Unit};
 use crate::field::{Field, read_fields};
-use crate::stages::{cut_first, cut_head, find_named, is_clean, is_stream, read_body};
+use crate::stages::{cut_first, cut_head, find_named, is_stream, read_body};
 use crate::start_line::{StartLine, read_start};
 use crate::values::{CSeq, read_cseq};
 use crate::via::{Via, read_via};

@@ -36,7 +36,8 @@ fn plain_len(text: &[u8]) -> usize
     at
 }
 
-// The length of a front of whole blocks of such bytes.
+// The length of a front of such bytes, looked at in blocks. The last block may begin within the one
+// before it.
 fn blocks_len(text: &[u8]) -> usize
     ensures plain { ArePlain text.now 0 result }
     ensures within { result ≤ length text.now }
@@ -44,6 +45,10 @@ fn blocks_len(text: &[u8]) -> usize
     let mut at = 0;
     while text.len() - at >= BLOCK && is_plain_block(text, at) {
         at += BLOCK;
+    }
+    let len = text.len();
+    if len - at < BLOCK && len >= BLOCK && is_plain_block(text, len - BLOCK) {
+        return len;
     }
     at
 }

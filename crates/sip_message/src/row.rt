@@ -8,9 +8,11 @@ ghost use Rattle.sip_message.specs.Address.{AddressParts, AddressText};
 ghost use Rattle.sip_message.specs.Values.{CSeqText};
 ghost use Rattle.sip_message.specs.Field.{ValueText, Row};
 ghost use Rattle.sip_message.specs.inner.Fronts.{text_parts};
+ghost use Rattle.sip_message.specs.inner.ValueFronts.{is_solid};
 ghost use Rattle.sip_message.specs.Views.{name_parts};
 
 use crate::address::read_address;
+use crate::cursor::past;
 use crate::name::{Known, Name};
 use crate::other::is_other;
 use crate::values::{is_call_id, is_length, read_cseq};
@@ -20,6 +22,24 @@ use sip_text::skip_lws;
 /// The value in what follows the colon of a field line: the text without the longest blank runs at
 /// its two ends. It is None where what stands there is no blank run.
 pub(crate) fn trim(text: &[u8]) -> Option<&[u8]>
+    ensures { IsOnlyValue ValueText text_parts text.now result }
+{
+    match past(text, b' ') {
+        Some(value) if is_solid(value) => Some(value),
+        _ => trim_blanks(text),
+    }
+}
+
+// Whether the text is not empty, and neither begins nor ends with a byte of a blank run.
+#[inline]
+fn is_solid(text: &[u8]) -> bool
+    ensures { result ≡ is_solid text.now }
+{
+    !text.is_empty() && !is_blank(text[0]) && !is_blank(text[text.len() - 1])
+}
+
+// The same for any text.
+fn trim_blanks(text: &[u8]) -> Option<&[u8]>
     ensures { IsOnlyValue ValueText text_parts text.now result }
 {
     let front = blank_len(text);

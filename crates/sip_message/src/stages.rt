@@ -1,7 +1,7 @@
 //! The stages of reading.
-ghost use Rattle.std.specs.Prelude.{◌≡◌, ◌↔◌, option_copied, ℕ, List, IsTrue, IfOk};
+ghost use Rattle.std.specs.Prelude.{◌≡◌, ◌↔◌, ℕ, List, IsTrue, IfOk};
 ghost use Rattle.sip_text.specs.Text.{IsOnlyValue};
-ghost use Rattle.sip_message.specs.Lines.{HasNoBareEnd, IsLines};
+ghost use Rattle.sip_message.specs.Lines.{IsLines};
 ghost use Rattle.sip_message.specs.inner.Lines.{AreLines};
 ghost use Rattle.std.specs.List.{AllByRecursion};
 ghost use Rattle.sip_message.specs.declared.name.Known.TheVariants as known_name;
@@ -11,7 +11,7 @@ ghost use Rattle.sip_message.specs.Message.{content_length, is_stream, IsStream,
 ghost use Rattle.sip_message.specs.Faults.{IsCut, Present, NotTwice, Once, NamesOf, BodyOf};
 ghost use Rattle.sip_message.specs.inner.Finds.{found_parts, nothing_parts};
 ghost use Rattle.sip_message.specs.Reading.{IsValueOf};
-ghost use Rattle.sip_message.specs.inner.Fronts.{pair_parts, text_parts, past_end};
+ghost use Rattle.sip_message.specs.inner.Fronts.{pair_parts, text_parts};
 ghost use Rattle.sip_message.specs.Views.{slice_fields};
 ghost use Rattle.sip_message.specs.inner.Settles.{outcome_of};
 ghost use Rattle.sip_message.specs.ValueParts.{start_parts};
@@ -24,7 +24,7 @@ use crate::name::Known;
 use crate::start_line::StartLine;
 use crate::values::{number_at_most, read_cseq};
 use crate::via::read_via;
-use memchr::{memchr2, memmem};
+use memchr::memmem;
 use sip_text::same_text;
 
 /// Where the named fields stand.
@@ -45,30 +45,6 @@ pub(crate) fn cut_head(bytes: &[u8]) -> Option<(&[u8], &[u8])>
 {
     let at = memmem::find(bytes, b"\r\n\r\n")?;
     Some((&bytes[..at + 2], &bytes[at + 4..]))
-}
-
-// No CR without LF, and no LF without CR.
-pub(crate) fn is_clean(head: &[u8]) -> bool
-    ensures { IsTrue result ↔ HasNoBareEnd head.now }
-{
-    let mut rest = head;
-    'ends: while let Some(at) = memchr2(b'\r', b'\n', rest) {
-        match past_end(&rest[at..]) {
-            Some(more) => rest = more,
-            None => return false,
-        }
-    }
-    true
-}
-
-// The text past the CRLF at its front, if it begins with one.
-fn past_end(text: &[u8]) -> Option<&[u8]>
-    ensures { option_copied result ≡ past_end text.now }
-{
-    match text {
-        [b'\r', b'\n', rest @ ..] => Some(rest),
-        _ => None,
-    }
 }
 
 // The first line, and the text of the others.

@@ -1,6 +1,7 @@
 -- What follows the scheme of a SIP URI is cut into its parts in one way.
-use Rattle.std.proofs.Common.{◌≡◌, ℕ, Bool, false, nat_eq, List, [], ◌∷◌, ◌++◌, Option, None, Some, IsNone, IfSome, is_some, length, drop, ◌≤◌, arith, refl, sym, ap, ◌∙◌, subst}
-use Rattle.std.proofs.lemmas.Bool.{false≢true}
+use Rattle.std.proofs.Common.{◌≡◌, ℕ, Bool, true, false, nat_eq, List, [], ◌∷◌, ◌++◌, Option, None, Some, IsNone, IfSome, is_some, length, drop, ◌≤◌, arith, refl, sym, ap, ◌∙◌, subst}
+use Rattle.std.specs.List.{list_all}
+use Rattle.std.proofs.lemmas.Bool.{false≢true, both_ways, and_parts, eq-eqb}
 use Rattle.std.proofs.lemmas.List.{append-nil, append_assoc, length-append}
 use Rattle.std.specs.Char.{is_ascii_digit}
 use Rattle.sip_text.specs.Bytes.{ampersand, equals, colon, semicolon, question, at_sign, is_user_unreserved, is_password_unreserved, is_param_unreserved, is_hnv_unreserved}
@@ -178,6 +179,36 @@ cuts-agree text cut p is fits whole =
 pub before-within : (mark : ℕ) (text front : List ℕ) → front ≡ before mark text → length front ≤ length text
 before-within mark text front is =
     omega (arith, ap length is, ap length (cut-whole mark text), length-append (before mark text) (led mark (behind mark text)))
+
+-- bytes of a class without the mark
+lacks-all : (mark : ℕ) (test : ℕ → Bool) (u : List ℕ) → test mark ≡ false → list_all test u ≡ true → Lacks mark u
+lacks-all mark test [] fails all = tt
+lacks-all mark test (b ∷ u) fails all =
+    let both = and_parts (test b) (list_all test u) all in
+    ((lack-one mark test fails (b ∷ []) (b, both.0, refl)).0, lacks-all mark test u fails both.1)
+
+-- a text with the mark in it does not lack it
+not-lacks : (mark : ℕ) (u v : List ℕ) → Lacks mark (u ++ mark ∷ v) → ⊥
+not-lacks mark [] v lacks = both_ways (nat_eq mark mark) lacks.0 (eq-eqb mark mark refl)
+not-lacks mark (b ∷ u) v lacks = not-lacks mark u v lacks.1
+
+-- behind the userinfo stands a host alone, where no byte there ends one
+pub host-cut : (test : ℕ → Bool) (text : List ℕ) (user password : Option (List ℕ)) (rest : List ℕ) → test question ≡ false → test semicolon ≡ false → test colon ≡ false → IsInfoCut text user password rest → list_all test rest ≡ true → IsSipCut text (record { user = user; password = password; host = rest; port = None; params = []; headers = None })
+host-cut test text user password rest no_question no_semicolon no_colon info all =
+    let headers = uncut question rest (lacks-all question test rest no_question all) in
+    let params = uncut semicolon rest (lacks-all semicolon test rest no_semicolon all) in
+    let whole : before semicolon (before question rest) ≡ rest = ap (before semicolon) (headers.0) ∙ params.0 in
+    record {
+      rest = rest;
+      userinfo = info;
+      headers = sym (headers.1);
+      params = sym (ap (λ t. led semicolon (behind semicolon t)) (headers.0) ∙ ap (led semicolon) (params.1));
+      port = (
+        sym whole,
+        λ u v is_port split. not-lacks colon u v (subst (Lacks colon) (sym whole ∙ split) (lacks-all colon test rest no_colon all)),
+      );
+    }
+
 
 -- the reader's cuts, one behind the other, are those of a SIP URI
 pub sip-cut : (text : List ℕ) (cut : CutParts) (rest front hostport : List ℕ) → IsInfoCut text cut.user cut.password rest → front ≡ before question rest → cut.headers ≡ behind question rest → hostport ≡ before semicolon front → IsPortCut hostport cut.host cut.port → cut.params ≡ drop (length hostport) front → IsSipCut text cut

@@ -7,5 +7,5 @@ ghost use Rattle.sip_text.specs.Case.{SameText};
 pub fn same_text(a: &[u8], b: &[u8]) -> bool
     ensures { IsTrue result ↔ SameText a.now b.now }
 {
-    a.eq_ignore_ascii_case(b)
+    a == b || a.eq_ignore_ascii_case(b)
 }

@@ -51,10 +51,12 @@ pub fn read_uri(text: &[u8]) -> Option<Uri<'_>>
     let (scheme, rest) = cut(text, b':');
     let rest = rest?;
     if same_text(scheme, b"sip") {
-        read_sip(false, rest)
-    } else if same_text(scheme, b"sips") {
-        read_sip(true, rest)
-    } else if is_scheme(scheme) && is_some_chars(Class::Uric, rest) {
+        return read_sip(false, rest);
+    }
+    if same_text(scheme, b"sips") {
+        return read_sip(true, rest);
+    }
+    if is_scheme(scheme) && is_some_chars(Class::Uric, rest) {
         Some(Uri::Other { scheme, rest })
     } else {
         None
@@ -101,11 +103,21 @@ fn read_sip(secure: bool, text: &[u8]) -> Option<Uri<'_>>
 }
 
 // Cuts what follows the scheme of a SIP URI, each time at the first byte that the part before it
-// cannot hold.
+// cannot hold. Where no such byte stands behind the userinfo, all of it is the host.
 fn cut_sip(text: &[u8]) -> Cuts<'_>
     ensures { IsSipCut text.now (cut_parts result) }
 {
     let (user, password, rest) = cut_userinfo(text);
+    if all_in(Class::Token, rest) {
+        return Cuts {
+            user,
+            password,
+            host: rest,
+            port: None,
+            params: &[],
+            headers: None,
+        };
+    }
     let (front, headers) = cut(rest, b'?');
     let (hostport, _) = cut(front, b';');
     let params = &front[hostport.len()..];

@@ -1,11 +1,10 @@
 -- What stands at the front of a text, with what is left behind it.
-use Rattle.std.specs.Prelude.{◌≡◌, ℕ, ◌-◌, ◌&&◌, ◌==◌, not, nat_lt, slice_index, length, Bool, List, [], ◌∷◌, ◌++◌, false, Option, None, if◌then◌else◌}
+use Rattle.std.specs.Prelude.{◌≡◌, ℕ, ◌-◌, ◌&&◌, ◌==◌, not, nat_lt, slice_index, length, Bool, List, [], ◌∷◌, ◌++◌, false, if◌then◌else◌}
 use Rattle.std.specs.Borrow.{Bor}
-use Rattle.sip_text.specs.Bytes.{carriage_return, line_feed, is_wsp, is_token_byte}
+use Rattle.sip_text.specs.Bytes.{carriage_return, is_wsp, is_token_byte}
 use Rattle.sip_text.specs.Text.{Exactly, ◌then◌}
 use Rattle.sip_text.specs.Grammar.{Token, Sws, Blanks}
 use Rattle.sip_text.specs.Blanks.{blank_len}
-use Rattle.sip_text.specs.Cut.{past}
 use Rattle.sip_message.specs.Lines.{BeginsBlank, IsFolded, with_end}
 use Rattle.sip_message.specs.Params.{slash, Mark}
 
@@ -86,11 +85,6 @@ begins_wsp (byte ∷ text) = is_wsp byte
 -- the LF between the two texts ends a line
 abbrev pub is_line : List ℕ → List ℕ → Bool
 is_line front rest = ends_cr front && not (begins_wsp rest)
-
--- the text past the CRLF at its front, if it begins with one
-abbrev pub past_end : List ℕ → Option (List ℕ)
-past_end [] = None
-past_end (byte ∷ text) = if byte == carriage_return then past line_feed text else None
 
 -- the text past the SP and HTAB at its front
 abbrev pub past_wsp : List ℕ → List ℕ

@@ -22,14 +22,14 @@ pub returns-then-same_text-2 : goal.returns-then-same_text-2
 returns-then-same_text-2 c =
     let cut = scheme-at c.args.text.now c.cut.result.0.now c.cut.result.1 c.in_ok-rest.rest c.cut.ensures.front c.cut.ensures.rest c.in_ok-rest.was in
     read-sip true c.args.text.now c.cut.result.0.now c.in_ok-rest.rest.now c.read_sip-then-same_text-2.result cut
-    (c.same_text-else-same_text.ensures.0 c.if-same_text-2.true) c.read_sip-then-same_text-2.ensures
+    (c.same_text-2.ensures.0 c.if-same_text-2.true) c.read_sip-then-same_text-2.ensures
 
 pub returns-then-is_some_chars : goal.returns-then-is_some_chars
 returns-then-is_some_chars c =
     let cut = scheme-at c.args.text.now c.cut.result.0.now c.cut.result.1 c.in_ok-rest.rest c.cut.ensures.front c.cut.ensures.rest c.in_ok-rest.was in
     let neither = not-sip c.cut.result.0.now
     (λ same. both_ways c.same_text.result c.if-same_text.false (c.same_text.ensures.1 same))
-    (λ same. both_ways c.same_text-else-same_text.result c.if-same_text-2.false (c.same_text-else-same_text.ensures.1 same)) in
+    (λ same. both_ways c.same_text-2.result c.if-same_text-2.false (c.same_text-2.ensures.1 same)) in
     let uric = decides-uric c.in_ok-rest.rest.now c.is_some_chars.result c.is_some_chars.ensures in (
       other-fits c.args.text.now c.cut.result.0.now c.in_ok-rest.rest.now cut neither
           (c.is_scheme.ensures.0 c.if-is_scheme.true) (uric.0 c.if-is_some_chars.true),
@@ -41,7 +41,7 @@ returns-else-is_scheme c = λ x is.
     let cut = scheme-at c.args.text.now c.cut.result.0.now c.cut.result.1 c.in_ok-rest.rest c.cut.ensures.front c.cut.ensures.rest c.in_ok-rest.was in
     let neither = not-sip c.cut.result.0.now
     (λ same. both_ways c.same_text.result c.if-same_text.false (c.same_text.ensures.1 same))
-    (λ same. both_ways c.same_text-else-same_text.result c.if-same_text-2.false (c.same_text-else-same_text.ensures.1 same)) in
+    (λ same. both_ways c.same_text-2.result c.if-same_text-2.false (c.same_text-2.ensures.1 same)) in
     let fits = other-only c.args.text.now c.cut.result.0.now c.in_ok-rest.rest.now x cut neither is in
     elim c.else-is_scheme.branch [
       | else-is_scheme-via-then-is_scheme+else-is_some_chars w ↦

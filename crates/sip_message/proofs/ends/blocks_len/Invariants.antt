@@ -1,0 +1,10 @@
+use Rattle.std.proofs.Common.{◌-◌, ◌≤◌, length}
+use Rattle.sip_message.specs.inner.Lines.{ArePaired}
+use Rattle.sip_message.proofs.ends.blocks_len.Given as goal
+
+-- so it is in the blocks so far
+abbrev pub invariant-loop-at : goal.invariant-loop-at
+invariant-loop-at l = (l.at ≤ length l.text) × ArePaired l.text 0 l.at
+
+abbrev pub decreases-loop-at : goal.decreases-loop-at
+decreases-loop-at l = length l.text - l.at

@@ -1,0 +1,62 @@
+//! The ends of the lines of the head.
+ghost use Rattle.std.specs.Prelude.{◌+◌, ◌≤◌, ◌<◌, ◌↔◌, IsTrue, length};
+ghost use Rattle.sip_message.specs.Lines.{HasNoBareEnd};
+ghost use Rattle.sip_message.specs.inner.Lines.{ArePaired, BeginsWithFeed, IsPaired};
+
+use std::simd::prelude::*;
+
+// How many bytes are looked at at once.
+const BLOCK: usize = 16;
+
+/// No CR without LF, and no LF without CR.
+pub(crate) fn is_clean(head: &[u8]) -> bool
+    ensures { IsTrue result ↔ HasNoBareEnd head.now }
+{
+    for at in blocks_len(head)..head.len() {
+        if !is_paired(head, at) {
+            return false;
+        }
+    }
+    !begins_with_feed(head)
+}
+
+// The length of a front of whole blocks in which a LF stands behind each CR, and behind no other
+// byte.
+fn blocks_len(text: &[u8]) -> usize
+    ensures paired { ArePaired text.now 0 result }
+    ensures within { result ≤ length text.now }
+{
+    let mut at = 0;
+    while text.len() - at > BLOCK && is_paired_block(text, at) {
+        at += BLOCK;
+    }
+    at
+}
+
+// Whether it is so behind each byte of the block at this place.
+#[inline]
+fn is_paired_block(text: &[u8], at: usize) -> bool
+    requires { at + BLOCK < length text.now }
+    ensures { IsTrue result → ArePaired text.now at (at + BLOCK) }
+{
+    let ends = u8x16::from_slice(&text[at..]).simd_eq(u8x16::splat(b'\r'));
+    let feeds = u8x16::from_slice(&text[at + 1..]).simd_eq(u8x16::splat(b'\n'));
+    (ends ^ feeds).to_bitmask() == 0
+}
+
+// Whether it is so behind this byte.
+#[inline]
+fn is_paired(text: &[u8], at: usize) -> bool
+    requires { at < length text.now }
+    ensures { IsTrue result ↔ IsPaired text.now at }
+{
+    let is_fed = at + 1 < text.len() && text[at + 1] == b'\n';
+    (text[at] == b'\r') == is_fed
+}
+
+// Whether the text begins with a LF.
+fn begins_with_feed(text: &[u8]) -> bool
+    ensures { IsTrue result ↔ BeginsWithFeed text.now }
+{
+    !text.is_empty() && text[0] == b'\n'
+}

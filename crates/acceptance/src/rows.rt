@@ -78,6 +78,15 @@ fn judges_invites_that_are_answered(rt: HostRuntime) -> Result<(), Fail> {
                 "legal entries 3 transactions 2",
             ),
             ("S 0 INVITE; R 100 200; S 110 ACK", "breach 3 transaction 1"),
+            // Over a reliable transport timer D is 0, and so the last moment of an ACK is that of the first.
+            (
+                "S 0 INVITE /TCP; R 0,40 486 /TCP; S 50,50 ACK /TCP",
+                "legal entries 5 transactions 1",
+            ),
+            (
+                "S 0 INVITE /TCP; R 0,40 486 /TCP; S 50,51 ACK /TCP",
+                "breach 5 transaction 1",
+            ),
             // A refused ACK ends the transaction.
             (
                 "S 0 INVITE; R 100 486; F 110 ACK; M 200",

@@ -5,7 +5,7 @@ use crate::verdicts::{judge_rows, verdict_of, verdict_on};
 use std::alloc::{AllocError, Global};
 use std::test::Fail;
 
-/// An OPTIONS of so many bytes, or a few more.
+/// An OPTIONS of so many bytes, and four more.
 fn long_message(alloc: Global, len: usize) -> Result<String, AllocError> {
     let mut text = String::with_capacity(alloc, 65_536)?;
     text.push_str(
@@ -13,7 +13,7 @@ fn long_message(alloc: Global, len: usize) -> Result<String, AllocError> {
         From: <sip:bob@example.com>;tag=1\r\nTo: <sip:bob@example.com>\r\nCall-ID: c1@a\r\nCSeq: 1 OPTIONS\r\n\
         Content-Length: 0\r\nSubject: ",
     )?;
-    while text.len() < len {
+    for _ in text.len()..len {
         text.push('x')?;
     }
     text.push_str("\r\n\r\n")?;

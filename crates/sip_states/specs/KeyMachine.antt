@@ -1,5 +1,5 @@
 -- The machine of each key (RFC 3261 section 17).
-use Rattle.std.specs.Prelude.{ℕ, Bool, true, false, List, codes, bytes_eq}
+use Rattle.std.specs.Prelude.{Bool, true, false, codes, bytes_eq}
 use Rattle.sip_key.specs.declared.role.Role.{Role}
 use Rattle.sip_key.specs.declared.role.Role.TheVariants.{Client, Server}
 use Rattle.sip_key.specs.Key.{KeyParts}

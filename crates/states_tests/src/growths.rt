@@ -1,0 +1,89 @@
+//! A refused growth. `tests/growths` refuses each in turn: the test then fails with want of memory, once it
+//! has seen that the call left all as it was, and that the same call succeeds with memory.
+ghost use Rattle.std.specs.Prelude.{◌≤◌, All, OnOk};
+ghost use Rattle.sip_machine.specs.Rules.{Knows};
+ghost use Rattle.sip_machine.specs.InviteServer.{invite_server_names};
+
+use crate::keys::key;
+use crate::played::{Entry, book, busy, invite, ringing, take};
+use sip_machine::{Book, InviteServer, Params};
+use sip_states::{StateSet, Tables, TakeError};
+use std::alloc::Global;
+use std::hash::{BuildHasherDefault, FoldHasher};
+use std::process::Abort;
+use std::test::Fail;
+
+/// Takes the entry, and a second time where memory was refused. The twin has the same states.
+fn take_again(
+    rt: &impl Abort,
+    set: &mut StateSet<InviteServer>,
+    twin: &mut StateSet<InviteServer>,
+    book: &Book,
+    entry: Entry,
+) -> Result<(), Fail>
+    requires order { set.old.moment ≤ entry.0 }
+    requires order_of_twin { twin.old.moment ≤ entry.0 }
+    requires known { All (Knows invite_server_names book.now) set.old.states }
+    requires known_of_twin { All (Knows invite_server_names book.now) twin.old.states }
+    ensures order { OnOk result (set.new.moment ≤ entry.0) }
+    ensures order_of_twin { OnOk result (twin.new.moment ≤ entry.0) }
+    ensures known { OnOk result (All (Knows invite_server_names book.now) set.new.states) }
+    ensures known_of_twin { OnOk result (All (Knows invite_server_names book.now) twin.new.states) }
+{
+    let taken = take(set, book, entry)?;
+    if taken.is_err() {
+        assert_eq!(rt; taken, Err(TakeError::Memory));
+        assert!(rt; set.states() == twin.states());
+        take(set, book, entry)??;
+    }
+    take(twin, book, entry)??;
+    assert!(rt; set.states() == twin.states());
+    Ok(taken?)
+}
+
+#[test]
+fn a_set_goes_on_after_a_refused_growth(rt: HostRuntime) -> Result<(), Fail> {
+    let alloc = rt.alloc();
+    let book = book(alloc)?;
+    let params = Params::new(500, 4_000, 5_000, 50).ok_or("refused")?;
+    let mut set = StateSet::start(alloc, InviteServer::new(params))?;
+    let mut twin = StateSet::start(alloc, InviteServer::new(params))?;
+    for moment in 0..10 {
+        let entry = match moment {
+            0 | 2 | 3 => invite(moment),
+            8 => busy(moment),
+            _ => ringing(moment),
+        };
+        take_again(&rt, &mut set, &mut twin, &book, entry)?;
+    }
+    Ok(())
+}
+
+/// Touches the key, and a second time where memory was refused.
+fn touch_again(
+    rt: &(impl Abort + AllocGlobal),
+    tables: &mut Tables<BuildHasherDefault<FoldHasher>>,
+    number: u32,
+) -> Result<(), Fail> {
+    let before = tables.len();
+    if before >= 2_000_000 {
+        return Err("full".into());
+    }
+    let touched = tables.touch(key(rt.alloc(), number)?);
+    if touched.is_err() {
+        assert_eq!(rt; tables.len(), before);
+        assert_eq!(rt; tables.touch(key(rt.alloc(), number)?)?, number);
+    }
+    assert_eq!(rt; touched?, number);
+    Ok(())
+}
+
+#[test]
+fn tables_go_on_after_a_refused_growth(rt: HostRuntime) -> Result<(), Fail> {
+    let params = Params::new(500, 4_000, 5_000, 50).ok_or("refused")?;
+    let mut tables = Tables::new(rt.alloc(), params, BuildHasherDefault::<FoldHasher>::new());
+    for number in 1..6 {
+        touch_again(&rt, &mut tables, number)?;
+    }
+    Ok(())
+}

@@ -1,0 +1,15 @@
+//! Tests of `sip_states` with the machines of SIP: which states sets have, and which keys tables have.
+#![tactic(auto)]
+
+#[cfg(test)]
+mod growths;
+#[cfg(test)]
+mod keys;
+#[cfg(test)]
+mod played;
+#[cfg(test)]
+mod rows;
+#[cfg(test)]
+mod tables;
+#[cfg(test)]
+mod width;

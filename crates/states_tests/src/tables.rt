@@ -1,0 +1,87 @@
+//! Tables at two hashers, one of which finds all keys alike.
+ghost use Rattle.std.specs.Prelude.{◌≡◌, ◌<◌, ◌+◌, length};
+ghost use Rattle.sip_states.specs.Tables.{IsGiven};
+
+use crate::keys::key;
+use sip_machine::Params;
+use sip_states::{AnySet, Tables};
+use std::alloc::Global;
+use std::hash::{BuildHasher, BuildHasherDefault, FoldHasher, Hasher};
+use std::process::Abort;
+use std::test::Fail;
+
+/// Hashes everything to 0.
+#[derive(Drop)]
+struct Zero;
+
+impl Hasher for Zero {
+    ghost write = { λ s _. s };
+
+    ghost finish = { λ _. 0 };
+
+    fn finish(&self) -> u64 {
+        0
+    }
+
+    fn write(&mut self, _bytes: &[u8]) {}
+}
+
+#[derive(Drop)]
+struct AllZero;
+
+impl BuildHasher for AllZero {
+    type Hasher = Zero;
+
+    ghost build_hasher = { λ _. record {} };
+
+    fn build_hasher(&self) -> Zero {
+        Zero
+    }
+}
+
+/// The number of the key, and whether its set is of its machine.
+fn number_of<H: BuildHasher + Drop>(
+    alloc: Global,
+    tables: &mut Tables<H>,
+    number: u32,
+) -> Result<(u32, bool), Fail> {
+    if tables.len() >= 2_000_000 {
+        return Err("full".into());
+    }
+    let given = tables.touch(key(alloc, number)?)?;
+    let is_own = match tables.set(given) {
+        AnySet::InviteClient(_) => number % 4 == 0,
+        AnySet::PlainClient(_) => number % 4 == 1,
+        AnySet::InviteServer(_) => number % 4 == 2,
+        AnySet::PlainServer(_) => number % 4 == 3,
+    };
+    Ok((given, is_own))
+}
+
+/// 200 keys have numbers from 1 on, and each has its own when it comes again.
+fn numbers_200_keys<H: BuildHasher + Drop>(
+    rt: &(impl Abort + AllocGlobal),
+    hasher: H,
+) -> Result<(), Fail> {
+    let params = Params::new(500, 4_000, 5_000, 50).ok_or("refused")?;
+    let mut tables = Tables::new(rt.alloc(), params, hasher);
+    for number in 1..201 {
+        assert_eq!(rt; number_of(rt.alloc(), &mut tables, number)?, (number, true));
+        assert_eq!(rt; tables.len(), number);
+    }
+    for number in 1..201 {
+        assert_eq!(rt; number_of(rt.alloc(), &mut tables, number)?, (number, true));
+        assert_eq!(rt; tables.len(), 200);
+    }
+    Ok(())
+}
+
+#[test]
+fn numbers_keys_by_a_hash(rt: HostRuntime) -> Result<(), Fail> {
+    numbers_200_keys(&rt, BuildHasherDefault::<FoldHasher>::new())
+}
+
+#[test]
+fn numbers_keys_that_hash_alike(rt: HostRuntime) -> Result<(), Fail> {
+    numbers_200_keys(&rt, AllZero)
+}

@@ -1,3 +1,4 @@
 pub mod Runs
+pub mod KeyMachine
 pub mod Held
 pub mod inner

@@ -1,5 +1,5 @@
 -- One thing is observed of an entry.
-use Rattle.std.proofs.Common.{◌≡◌, ℕ, true, false, Some, None, List, ◌++◌, sym, ap, ◌∙◌}
+use Rattle.std.proofs.Common.{◌≡◌, ℕ, true, false, Option, Some, None, MatchOption, List, ◌++◌, sym, ap, ◌∙◌}
 use Rattle.std.specs.Prelude.{option_to_list}
 use Rattle.sip_message.specs.declared.fault.Fault.{Fault}
 use Rattle.sip_message.specs.Reading as message
@@ -11,12 +11,10 @@ use Rattle.sip_key.specs.declared.role.Direction.{Direction}
 use Rattle.sip_key.specs.Key.{KeyParts}
 use Rattle.sip_key.specs.inner.KeyLaws.{same_key-decides}
 use Rattle.sip_key.specs.Concerns.{Concerns, lacks_cookie, own_key, cancelled_key}
-use Rattle.sip_machine.specs.declared.event.Action.{Action}
-use Rattle.sip_machine.specs.declared.event.Action.TheVariants.{Sent, Received, Failed, Mark}
 use Rattle.sip_machine.specs.Times.{Times}
 use Rattle.sip_log.specs.Spelling.{Item}
 use Rattle.sip_verdict.specs.Keyed.{Observation}
-use Rattle.sip_verdict.specs.MessageReading.{key_machines, fault_observation, message_observation, ObservesMessage, has_fault, has_no_cookie, is_heard, ObservesBy, message_reading}
+use Rattle.sip_verdict.specs.MessageReading.{key_machines, fault_observation, message_observation, ObservesMessage, has_fault, has_no_cookie, is_heard, direction_of, mark_observation, message_reading}
 use Rattle.sip_verdict.proofs.Keys.{IsExact}
 
 -- keys are compared exactly
@@ -53,13 +51,12 @@ message_one direction item e f (is_heard r keys reads fine concerns is) (has_no_
 message_one direction item e f (is_heard r keys reads fine concerns is) (is_heard s more reads2 fine2 concerns2 is2) =
     is ∙ heard_once item direction r s keys more (same_reading item.text r s reads reads2) concerns concerns2 ∙ sym is2
 
--- and of an entry
-by_action_one : (action : Action) (item : Item) (e f : Observation KeyParts) → ObservesBy action item e → ObservesBy action item f → e ≡ f
-by_action_one Sent item e f a b = message_one _ item e f a b
-by_action_one Received item e f a b = message_one _ item e f a b
-by_action_one Failed item e f a b = message_one _ item e f a b
-by_action_one Mark item e f a b = a ∙ sym b
+-- one thing is observed of an entry, with a message that went this way or with none
+going_one : (direction : Option Direction) (item : Item) (e f : Observation KeyParts) → MatchOption direction (e ≡ mark_observation item.moment) (λ d. ObservesMessage d item e)
+    → MatchOption direction (f ≡ mark_observation item.moment) (λ d. ObservesMessage d item f) → e ≡ f
+going_one None item e f a b = a ∙ sym b
+going_one (Some direction) item e f a b = message_one direction item e f a b
 
 -- one thing is observed of an entry
 pub observes_one : (es : List (Observation KeyParts)) (item : Item) (e f : Observation KeyParts) → message_reading.Observes es item e → message_reading.Observes es item f → e ≡ f
-observes_one es item e f a b = by_action_one item.action item e f a b
+observes_one es item e f a b = going_one (direction_of item.action) item e f a b

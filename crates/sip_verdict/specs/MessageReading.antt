@@ -1,5 +1,5 @@
 -- How a log of SIP messages is read: which of them have a fault, and which transactions the others concern.
-use Rattle.std.specs.Prelude.{◌≡◌, ℕ, true, false, None, Some, List, []}
+use Rattle.std.specs.Prelude.{◌≡◌, ℕ, true, false, Option, None, Some, MatchOption, List, []}
 use Rattle.sip_message.specs.declared.fault.Fault.{Fault}
 use Rattle.sip_message.specs.declared.fault.Unit.TheVariants.{Head}
 use Rattle.sip_message.specs.declared.fault.Reason.TheVariants.{NoCookie}
@@ -26,6 +26,13 @@ use Rattle.sip_verdict.specs.Reading.{Reading}
 -- keys are equal by their parts, and each has the machine of its role and method, RFC 3261 section 17
 abbrev pub key_machines : Times → Machines KeyParts
 key_machines p = record { same = same_key; State = λ key. PhaseOf (machine_of_key key); rules = λ key. rules_of p (machine_of_key key) }
+
+-- which way the message of an entry went: one whose send was refused was on its way out, and a mark has none
+abbrev pub direction_of : Action → Option Direction
+direction_of Sent = Some way.Sent
+direction_of Received = Some way.Received
+direction_of Failed = Some way.Sent
+direction_of Mark = None
 
 -- a mark tells its moment and concerns no key
 abbrev pub mark_observation : ℕ → Observation KeyParts
@@ -61,13 +68,9 @@ pub data ObservesMessage (direction : Direction) (item : Item) (e : Observation 
   -- else its event and its keys, sections 17.1.3, 17.2.3 and 9.1
   is_heard : (r : message.Reading) (keys : List KeyParts) → Reads item.text r → lacks_cookie r direction ≡ false → Concerns r direction keys → e ≡ message_observation item r keys → ObservesMessage direction item e
 
--- what is observed of an entry, by its letter; a message whose send was refused was on its way out
-abbrev pub ObservesBy : Action → Item → Observation KeyParts → Type 0
-ObservesBy Sent item e = ObservesMessage way.Sent item e
-ObservesBy Received item e = ObservesMessage way.Received item e
-ObservesBy Failed item e = ObservesMessage way.Sent item e
-ObservesBy Mark item e = e ≡ mark_observation item.moment
-
--- how a log of messages is read; what is observed of an entry does not depend on those before it
+-- how a log of messages is read: an entry without a message is a mark; what is observed of an entry does not depend on those before it
 abbrev pub message_reading : Reading KeyParts
-message_reading = record { machines = key_machines; Observes = λ before item e. ObservesBy item.action item e }
+message_reading = record {
+  machines = key_machines;
+  Observes = λ before item e. MatchOption (direction_of item.action) (e ≡ mark_observation item.moment) (λ direction. ObservesMessage direction item e);
+}

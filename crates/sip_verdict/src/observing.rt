@@ -5,7 +5,7 @@ ghost use Rattle.sip_machine.specs.Texts.{Keeps};
 ghost use Rattle.sip_key.specs.Key.{KeyParts};
 ghost use Rattle.sip_log.specs.Told.{item};
 ghost use Rattle.sip_verdict.specs.Keyed.{Observation};
-ghost use Rattle.sip_verdict.specs.MessageReading.{message_reading};
+ghost use Rattle.sip_verdict.specs.MessageReading.{direction_of, message_reading};
 ghost use Rattle.sip_verdict.specs.inner.Observing.{observation_of, IsKept, IsHeard};
 
 use sip_key::{Direction, Key, KeyError, cancelled_key, key_of};
@@ -36,6 +36,17 @@ const NO_COOKIE: Fault = Fault {
     reason: Reason::NoCookie,
 };
 
+/// Which way the message of an entry went. A mark has none.
+fn direction_of(action: Action) -> Option<Direction>
+    ensures { result ≡ direction_of action }
+{
+    match action {
+        Action::Sent | Action::Failed => Some(Direction::Sent),
+        Action::Received => Some(Direction::Received),
+        Action::Mark => None,
+    }
+}
+
 /// Reads the message of an entry, and keeps it in the book if it has no fault. The book is as before on an error.
 pub(crate) fn observe(alloc: Global, book: &mut Book, entry: &Entry) -> Result<Told, AllocError>
     requires limit { entry.now.moment ≤ last_moment }
@@ -45,10 +56,8 @@ pub(crate) fn observe(alloc: Global, book: &mut Book, entry: &Entry) -> Result<T
     ensures kept { IfOk result (IsKept book.old book.new entry.now) }
     ensures err { OnErr result (book.new ≡ book.old) }
 {
-    let direction = match entry.action {
-        Action::Sent | Action::Failed => Direction::Sent,
-        Action::Received => Direction::Received,
-        Action::Mark => return Ok(Told::Mark),
+    let Some(direction) = direction_of(entry.action) else {
+        return Ok(Told::Mark);
     };
     let message = match Message::read(alloc, entry.bytes.as_slice()) {
         Ok(message) => message,

@@ -1,4 +1,8 @@
 pub mod Runs
-pub mod KeyMachine
 pub mod Held
 pub mod inner
+pub mod KeyMachine
+pub mod Meaning
+pub mod AnySet
+pub mod Tables
+pub mod TablesLends

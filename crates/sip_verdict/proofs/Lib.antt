@@ -1,4 +1,5 @@
 pub mod Hearing
+pub mod JudgeTables
 pub mod JudgingLemmas
 pub mod Keys
 pub mod Leading

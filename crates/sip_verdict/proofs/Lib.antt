@@ -13,5 +13,6 @@ pub mod PassingAll
 pub mod ShowingLemmas
 pub mod Splitting
 pub mod Stepped
+pub mod TablesPassing
 pub mod TrackingLemmas
 pub mod Unique

@@ -14,5 +14,6 @@ pub mod ShowingLemmas
 pub mod Splitting
 pub mod Stepped
 pub mod TablesPassing
+pub mod TablesTouching
 pub mod TrackingLemmas
 pub mod Unique

@@ -1,3 +1,5 @@
+pub mod AnyHearing
+pub mod ByMachine
 pub mod Hearing
 pub mod JudgeTables
 pub mod JudgingLemmas
@@ -13,5 +15,7 @@ pub mod PassingAll
 pub mod ShowingLemmas
 pub mod Splitting
 pub mod Stepped
+pub mod TablesPassing
+pub mod TablesTouching
 pub mod TrackingLemmas
 pub mod Unique

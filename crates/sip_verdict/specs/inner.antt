@@ -3,4 +3,5 @@ pub mod Leads
 pub mod Observing
 pub mod Showing
 pub mod Stepping
+pub mod TablesTracking
 pub mod Tracking

@@ -7,7 +7,7 @@ ghost use Rattle.sip_machine.specs.InviteClient.{invite_client_names, InviteClie
 
 use sip_machine::{Action, Book, Debt, Event, InviteClient, InviteClientState, Machine, Params};
 use sip_message::Message;
-use std::alloc::Global;
+use std::alloc::{AllocError, Global};
 use std::test::Fail;
 
 /// An entry: its moment, what was done, and the number of its message.
@@ -119,57 +119,72 @@ fn client(t1: u64) -> Result<InviteClient, Fail> {
     Ok(InviteClient::new(params))
 }
 
-/// Keeps a message that begins so, with this tag of To and this method in CSeq, under the next number.
-fn keep(
+/// A request by its method, or a response to the INVITE by its code.
+#[derive(Clone, Copy)]
+enum Start {
+    Request(&'static str),
+    Response(u16),
+}
+
+/// The bytes of a message that begins so, with this tag of To.
+fn text_of(
     alloc: Global,
-    book: &mut Book,
-    number: u32,
-    start: &str,
+    start: Start,
     transport: &str,
-    tag: &str,
-    method: &str,
-) -> Result<(), Fail>
+    tag: Option<u8>,
+) -> Result<String, AllocError> {
+    let (line, method) = match start {
+        Start::Request(method) => (
+            format!(in alloc; "{method} sip:example.com SIP/2.0")?,
+            method,
+        ),
+        Start::Response(code) => (format!(in alloc; "SIP/2.0 {code} Reply")?, "INVITE"),
+    };
+    let tag = match tag {
+        Some(tag) => format!(in alloc; ";tag={tag}")?,
+        None => String::new(alloc),
+    };
+    format!(in alloc;
+        "{line}\r\nVia: SIP/2.0/{transport} a.example.com;branch=z9hG4bKb1\r\n\
+        From: <sip:bob@example.com>;tag=1\r\nTo: <sip:bob@example.com>{tag}\r\nCall-ID: c1@a\r\n\
+        CSeq: 1 {method}\r\nContent-Length: 0\r\n\r\n"
+    )
+}
+
+/// Keeps a message under the next number.
+fn keep(book: &mut Book, number: u32, text: &str) -> Result<(), Fail>
     requires { (n : ℕ) → Keeps book.old n → n < number }
     ensures { OnOk result ((n : ℕ) → Keeps book.new n → n ≤ number) }
 {
-    let text = format!(in alloc;
-        "{start}\r\nVia: SIP/2.0/{transport} a.example.com;branch=z9hG4bKb1\r\n\
-        From: <sip:bob@example.com>;tag=1\r\nTo: <sip:bob@example.com>{tag}\r\nCall-ID: c1@a\r\n\
-        CSeq: 1 {method}\r\nContent-Length: 0\r\n\r\n"
-    )?;
     book.add(number, text.as_bytes())?;
     Ok(())
 }
 
-/// Each message by its number: how it begins, its tag of To, and the method of its CSeq.
-const MESSAGES: [(u32, &str, &str, &str); 11] = [
-    (INVITE, "INVITE sip:example.com SIP/2.0", "", "INVITE"),
-    (
-        OTHER_INVITE,
-        "INVITE sip:example.com SIP/2.0",
-        ";tag=9",
-        "INVITE",
-    ),
-    (TRYING, "SIP/2.0 100 Reply", "", "INVITE"),
-    (RINGING, "SIP/2.0 180 Reply", ";tag=2", "INVITE"),
-    (OK, "SIP/2.0 200 Reply", ";tag=2", "INVITE"),
-    (BUSY, "SIP/2.0 486 Reply", ";tag=2", "INVITE"),
-    (GONE, "SIP/2.0 480 Reply", ";tag=3", "INVITE"),
-    (ACK, "ACK sip:example.com SIP/2.0", ";tag=2", "ACK"),
-    (OTHER_ACK, "ACK sip:example.com SIP/2.0", ";tag=3", "ACK"),
-    (CANCEL, "CANCEL sip:example.com SIP/2.0", "", "CANCEL"),
-    (OPTIONS, "OPTIONS sip:example.com SIP/2.0", "", "OPTIONS"),
+/// Each message by its number: how it begins, and its tag of To.
+const MESSAGES: [(u32, Start, Option<u8>); 11] = [
+    (INVITE, Start::Request("INVITE"), None),
+    (OTHER_INVITE, Start::Request("INVITE"), Some(9)),
+    (TRYING, Start::Response(100), None),
+    (RINGING, Start::Response(180), Some(2)),
+    (OK, Start::Response(200), Some(2)),
+    (BUSY, Start::Response(486), Some(2)),
+    (GONE, Start::Response(480), Some(3)),
+    (ACK, Start::Request("ACK"), Some(2)),
+    (OTHER_ACK, Start::Request("ACK"), Some(3)),
+    (CANCEL, Start::Request("CANCEL"), None),
+    (OPTIONS, Start::Request("OPTIONS"), None),
 ];
 
 /// A book that keeps the messages over a transport.
 fn messages(alloc: Global, transport: &str) -> Result<Book, Fail> {
     let mut book = Book::new(alloc);
     let mut last = 0;
-    for (number, start, tag, method) in MESSAGES {
+    for (number, start, tag) in MESSAGES {
         if number <= last {
             return Err("out of order".into());
         }
-        keep(alloc, &mut book, number, start, transport, tag, method)?;
+        let text = text_of(alloc, start, transport, tag)?;
+        keep(&mut book, number, text.as_str())?;
         last = number;
     }
     Ok(book)

@@ -1,4 +1,5 @@
 pub mod Advancing
+pub mod AnyLemmas
 pub mod EachOnce
 pub mod Few
 pub mod Following
@@ -7,6 +8,7 @@ pub mod Reaching
 pub mod RunLemmas
 pub mod StandForLemmas
 pub mod Stepping
+pub mod TablesLemmas
 pub mod Taking
 pub mod Twice
 pub mod Waiting

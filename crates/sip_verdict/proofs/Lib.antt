@@ -14,6 +14,7 @@ pub mod OneVerdict
 pub mod PassingAll
 pub mod ShowingLemmas
 pub mod Splitting
+pub mod StandingLemmas
 pub mod Stepped
 pub mod TablesPassing
 pub mod TablesTouching

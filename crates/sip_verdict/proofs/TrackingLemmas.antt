@@ -12,9 +12,9 @@ use Rattle.sip_verdict.proofs.Keys.{IsExact, cond_true, cond_false, keys_of-push
 use Rattle.sip_verdict.proofs.Unique.{good-nil, good-push}
 
 -- the transactions have these keys, among which are those of the entries, and lead to the runs over the entries
-pub record AreKept {K T : Type 0} (m : Machines K) (k : Keeping K T) (es : List (Observation K)) (keys : List K) (ts : List T) : Type 0 where
-  pub keys : map k.key ts ≡ keys
-  pub among : (key : K) → list_any (m.same key) keys ≡ false → list_any (m.same key) (keys_of m es) ≡ false
+pub record AreKept {K T : Type 0} (m : Machines K) (k : Keeping K T) (es : List (Observation K)) (ks : List K) (ts : List T) : Type 0 where
+  pub keys : map k.key ts ≡ ks
+  pub among : (key : K) → list_any (m.same key) ks ≡ false → list_any (m.same key) (keys_of m es) ≡ false
   pub ready : All (IsReady m k es) ts
 
 module _ {K T : Type 0} (m : Machines K) (k : Keeping K T) (es : List (Observation K)) where

@@ -6,7 +6,7 @@ use crate::judge_error::JudgeError;
 use crate::log_reason::reason_of;
 use crate::standing::Standing;
 use crate::verdict::Verdict;
-use sip_log::{FromRead, Progress, Source};
+use sip_log::{Progress, Source};
 use std::alloc::Global;
 use std::hash::BuildHasher;
 
@@ -59,13 +59,15 @@ pub fn judge<R: Source, H: BuildHasher + Drop>(
     }
 }
 
-/// The verdict on the log of these bytes, with the errors of `judge`.
+/// The verdict on the log of these bytes, or `JudgeError::Memory`.
 pub fn judge_bytes<H: BuildHasher + Drop>(
     alloc: Global,
     bytes: &[u8],
     hasher: H,
 ) -> Result<Verdict, JudgeError>
-    ensures { IfOk result (IsVerdictOf bytes.now) }
+    ensures verdict { IfOk result (IsVerdictOf bytes.now) }
+    ensures io { IsErrOf result JudgeError.Io → ⊥ }
 {
-    judge(alloc, &mut FromRead::new(bytes), hasher)
+    let mut left = bytes;
+    judge(alloc, &mut left, hasher)
 }

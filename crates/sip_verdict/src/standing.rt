@@ -92,7 +92,7 @@ impl<H: BuildHasher> Standing<H> {
         ensures judged { IfOk result (λ verdict. (es : List (Observation KeyParts)) (e : Observation KeyParts) → e.fault ≡ None
             → AreTold self.old.book self.old.tables.keys moment (option_copied hearing.entry) e
             → TablesTrackBefore self.old.book es e self.old.tables → number ≡ length es + 1
-            → IsJudged (key_machines self.old.tables.times) (key_keeping self.old.book self.old.tables.times) es e (transactions_of self.new.tables) verdict) }
+            → IsJudged (key_machines self.old.tables.times) (key_keeping self.new.book self.old.tables.times) es e (transactions_of self.new.tables) verdict) }
     {
         let outcome = pass_all(&mut self.tables, &self.book, moment, hearing)?;
         Ok(match outcome {

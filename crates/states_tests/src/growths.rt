@@ -1,6 +1,6 @@
 //! A refused growth. `tests/growths` refuses each in turn: the test then fails with want of memory, once it
 //! has seen that the call left all as it was, and that the same call succeeds with memory.
-ghost use Rattle.std.specs.Prelude.{◌≤◌, All, OnOk};
+ghost use Rattle.std.specs.Prelude.{◌≡◌, ◌≤◌, All, OnOk};
 ghost use Rattle.sip_machine.specs.Rules.{Knows};
 ghost use Rattle.sip_machine.specs.InviteServer.{invite_server_names};
 
@@ -30,15 +30,45 @@ fn take_again(
     ensures known { OnOk result (All (Knows invite_server_names book.now) set.new.states) }
     ensures known_of_twin { OnOk result (All (Knows invite_server_names book.now) twin.new.states) }
 {
-    let taken = take(set, book, entry)?;
-    if taken.is_err() {
-        assert_eq!(rt; taken, Err(TakeError::Memory));
+    if let Err(error) = take(set, book, entry)? {
+        assert_eq!(rt; error, TakeError::Memory);
         assert!(rt; set.states() == twin.states());
         take(set, book, entry)??;
+        take(twin, book, entry)??;
+        assert!(rt; set.states() == twin.states());
+        return Err(error.into());
     }
     take(twin, book, entry)??;
-    assert!(rt; set.states() == twin.states());
-    Ok(taken?)
+    Ok(())
+}
+
+/// An INVITE, a 180, two repeats, sends of the 180, and a 486.
+fn entry_at(moment: u64) -> Entry
+    ensures { result.0 ≡ moment }
+{
+    match moment {
+        0 | 2 | 3 => invite(moment),
+        8 => busy(moment),
+        _ => ringing(moment),
+    }
+}
+
+/// Takes each of the entries so.
+fn take_all_again(
+    rt: &impl Abort,
+    set: &mut StateSet<InviteServer>,
+    twin: &mut StateSet<InviteServer>,
+    book: &Book,
+) -> Result<(), Fail>
+    requires start { set.old.moment ≡ 0 }
+    requires start_of_twin { twin.old.moment ≡ 0 }
+    requires known { All (Knows invite_server_names book.now) set.old.states }
+    requires known_of_twin { All (Knows invite_server_names book.now) twin.old.states }
+{
+    for moment in 0..10 {
+        take_again(rt, set, twin, book, entry_at(moment))?;
+    }
+    Ok(())
 }
 
 #[test]
@@ -48,15 +78,7 @@ fn a_set_goes_on_after_a_refused_growth(rt: HostRuntime) -> Result<(), Fail> {
     let params = Params::new(500, 4_000, 5_000, 50).ok_or("refused")?;
     let mut set = StateSet::start(alloc, InviteServer::new(params))?;
     let mut twin = StateSet::start(alloc, InviteServer::new(params))?;
-    for moment in 0..10 {
-        let entry = match moment {
-            0 | 2 | 3 => invite(moment),
-            8 => busy(moment),
-            _ => ringing(moment),
-        };
-        take_again(&rt, &mut set, &mut twin, &book, entry)?;
-    }
-    Ok(())
+    take_all_again(&rt, &mut set, &mut twin, &book)
 }
 
 /// Touches the key, and a second time where memory was refused.

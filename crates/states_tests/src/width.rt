@@ -1,8 +1,10 @@
 //! How many states of an INVITE server are followed.
-ghost use Rattle.std.specs.Prelude.{◌≡◌};
+ghost use Rattle.std.specs.Prelude.{◌≡◌, ◌≤◌, All, OnOk};
+ghost use Rattle.sip_machine.specs.Rules.{Knows};
+ghost use Rattle.sip_machine.specs.InviteServer.{invite_server_names};
 
 use crate::played::{Entry, book, invite, progress, ringing, take};
-use sip_machine::{InviteServer, Params};
+use sip_machine::{Book, InviteServer, Params};
 use sip_states::{StateSet, TakeError};
 use std::test::Fail;
 
@@ -18,6 +20,35 @@ fn entry_at(moment: u64) -> Entry
     }
 }
 
+/// Lets the set take the entries before the sends of the 183.
+fn take_before_sends(set: &mut StateSet<InviteServer>, book: &Book) -> Result<(), Fail>
+    requires start { set.old.moment ≡ 0 }
+    requires known { All (Knows invite_server_names book.now) set.old.states }
+    ensures order { OnOk result (set.new.moment ≤ 123) }
+    ensures known { OnOk result (All (Knows invite_server_names book.now) set.new.states) }
+{
+    for moment in 0..123 {
+        take(set, book, entry_at(moment))??;
+    }
+    Ok(())
+}
+
+/// Lets the set take the next 23 entries, and tells whether each gives 41 states more.
+fn widens(set: &mut StateSet<InviteServer>, book: &Book) -> Result<bool, Fail>
+    requires order { set.old.moment ≤ 123 }
+    requires known { All (Knows invite_server_names book.now) set.old.states }
+    ensures order { OnOk result (set.new.moment ≤ 146) }
+    ensures known { OnOk result (All (Knows invite_server_names book.now) set.new.states) }
+{
+    for sends in 0..23 {
+        take(set, book, entry_at(123 + sends))??;
+        if set.states().len() as u64 != 41 * (sends + 2) {
+            return Ok(false);
+        }
+    }
+    Ok(true)
+}
+
 /// With a tolerance of ten seconds each repeat stays owed. A 180 may pay for one of the first 40 repeats
 /// or not, and so may a 183 for one of the others. So there are 41 states for each number of paid 183s.
 #[test]
@@ -26,14 +57,9 @@ fn follows_984_states_and_not_1_025(rt: HostRuntime) -> Result<(), Fail> {
     let book = book(alloc)?;
     let params = Params::new(500, 4_000, 5_000, 10_000).ok_or("refused")?;
     let mut set = StateSet::start(alloc, InviteServer::new(params))?;
-    for moment in 0..123 {
-        take(&mut set, &book, entry_at(moment))??;
-    }
+    take_before_sends(&mut set, &book)?;
     assert_eq!(rt; set.states().len(), 41);
-    for moment in 123..146 {
-        take(&mut set, &book, entry_at(moment))??;
-        assert_eq!(rt; set.states().len() as u64, 41 * (moment - 121), "{moment}");
-    }
+    assert!(rt; widens(&mut set, &book)?);
     assert_eq!(rt; set.states().len(), 984);
     assert_eq!(rt; take(&mut set, &book, entry_at(146))?, Err(TakeError::TooMany));
     assert_eq!(rt; set.states().len(), 984);

@@ -1,0 +1,7 @@
+use Rattle.std.proofs.Common.{◌≤◌, All}
+use Rattle.sip_machine.specs.Rules.{Knows}
+use Rattle.sip_machine.specs.InviteServer.{invite_server_names}
+use Rattle.states_tests.proofs.width.take_before_sends.Given as goal
+
+abbrev pub invariant-loop-moment : goal.invariant-loop-moment
+invariant-loop-moment l = (l.set.moment ≤ l.moment) × All (Knows invite_server_names l.book) l.set.states

@@ -1,0 +1,7 @@
+pub mod Fields
+pub mod InviteClient
+pub mod PlainClient
+pub mod InviteServer
+pub mod PlainServer
+pub mod Lines
+pub mod inner

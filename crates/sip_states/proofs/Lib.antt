@@ -1,4 +1,6 @@
 pub mod Advancing
+pub mod AnyFacts
+pub mod AnyLemmas
 pub mod EachOnce
 pub mod Few
 pub mod Following
@@ -7,6 +9,7 @@ pub mod Reaching
 pub mod RunLemmas
 pub mod StandForLemmas
 pub mod Stepping
+pub mod TablesLemmas
 pub mod Taking
 pub mod Twice
 pub mod Waiting

@@ -1,0 +1,26 @@
+use Rattle.std.proofs.Common.{◌≡◌, ◌≤◌, ◌+◌, ℕ, Result, Ok, Err, OnOk, length}
+use Rattle.sip_machine.specs.NumberedEvent.{NumberedEvent}
+use Rattle.sip_machine.specs.Texts.{Texts, IsBook}
+use Rattle.sip_machine.specs.Rules.{StandFor}
+use Rattle.sip_states.specs.Runs.{widest}
+use Rattle.sip_states.specs.Held.{Held}
+use Rattle.sip_states.specs.Meaning.{Meaning, IsKnown, Waiting, Given, HasWaited, HasTaken}
+
+module _ {X M S T E : Type 0} (m : Meaning X M S) (old new : Held M S) where
+  -- the clauses of `StateSet::advance`, as one
+  pub HasWaited-on_ok : (moment : ℕ) (r : Result T E)
+      → OnOk r ((new.machine ≡ old.machine) × (new.moment ≡ moment))
+      → OnOk r ((texts : Texts) → IsBook texts → IsKnown m texts old → StandFor m.names m.in_range m.seen texts (Waiting m texts old moment) new.states)
+      → OnOk r (length new.states ≤ length old.states + 1)
+      → OnOk r (HasWaited m moment old new)
+  HasWaited-on_ok moment (Ok x) at states one_more = record { machine = at.0; at = at.1; states = states; one_more = one_more }
+  HasWaited-on_ok moment (Err e) at states one_more = tt
+
+  -- those of `StateSet::take`
+  pub HasTaken-on_ok : (texts : Texts) (e : NumberedEvent) (r : Result T E)
+      → OnOk r ((new.machine ≡ old.machine) × (new.moment ≡ e.moment))
+      → OnOk r (StandFor m.names m.in_range m.seen texts (Given m texts old e) new.states)
+      → OnOk r (length new.states ≤ widest)
+      → OnOk r (HasTaken m texts e old new)
+  HasTaken-on_ok texts e (Ok x) at states few = record { machine = at.0; at = at.1; states = states; few = few }
+  HasTaken-on_ok texts e (Err _) at states few = tt

@@ -1,0 +1,53 @@
+use Rattle.std.proofs.Common.{◌≡◌, ◌≢◌, ◌<◌, ◌+◌, ◌-◌, ℕ, zero, suc, Bool, true, false, cond, List, [], ◌∷◌, ◌++◌, Option, Some, None, is_some, position, slice_get, slice_set, All, get_or, refl, sym, ap, subst, ◌∙◌, true≢false, arith}
+use Rattle.std.proofs.lemmas.List.Quantifiers.{position-Some}
+use Rattle.std.proofs.lemmas.Option.{slice_get-get_or}
+use Rattle.std.specs.Map.{keys_of, values_of, lookup}
+use Rattle.indexmap.specs.Layout.{set_value_at}
+use Rattle.sip_key.specs.Key.{KeyParts, same_key}
+use Rattle.sip_key.specs.inner.KeyLaws.{same_key-decides}
+
+-- Lists of keys with their sets.
+
+some-is-none : {X : Type 0} (x : X) → Some x ≡ None → ⊥
+some-is-none x e = cc
+
+-- the index of a key that is there leads to it
+pub slice_get-position : (keys : List KeyParts) (key : KeyParts) (i : ℕ) → position (same_key key) keys ≡ Some i → slice_get keys i ≡ Some key
+slice_get-position keys key i at =
+    let found = position-Some (same_key key) keys i key at in
+    slice_get-get_or keys i key found.0 ∙ ap Some (sym ((same_key-decides key (get_or keys i key)).0 found.1))
+
+-- and its number is one more
+pub number-found : (keys : List KeyParts) (key : KeyParts) (i : ℕ) → position (same_key key) keys ≡ Some i → (0 < i + 1) × (slice_get keys (i + 1 - 1) ≡ Some key)
+number-found keys key i at =
+    let back : i ≡ i + 1 - 1 = omega arith in
+    (omega arith, subst (λ n. slice_get keys n ≡ Some key) back (slice_get-position keys key i at))
+
+-- no key is one that is not found
+pub All-absent : {X : Type 0} (es : List (KeyParts × X)) (key : KeyParts) → lookup (same_key key) es ≡ None → All (λ k. k ≢ key) (keys_of es)
+All-absent [] key none = λ k d l. absurd (omega (arith, l))
+All-absent {X} (e ∷ es) key none = at (same_key key e.0) refl (All-absent es key)
+  where
+    at : (b : Bool) → same_key key e.0 ≡ b → (lookup (same_key key) es ≡ None → All (λ k. k ≢ key) (keys_of es)) → All (λ k. k ≢ key) (e.0 ∷ keys_of es)
+    at true p rest k d l = absurd (some-is-none e.1 (subst (λ b. cond b (Some e.1) (lookup (same_key key) es) ≡ None) p none))
+    at false p rest zero d l = λ same. true≢false (sym ((same_key-decides key e.0).1 (sym same)) ∙ p)
+    at false p rest (suc k) d l = rest (subst (λ b. cond b (Some e.1) (lookup (same_key key) es) ≡ None) p none) k d (omega (arith, l))
+
+-- a write by index, seen in the values
+pub values_of-set_value_at : {K X : Type 0} (es : List (K × X)) (i : ℕ) (w : X) → values_of (set_value_at es i w) ≡ slice_set (values_of es) i w
+values_of-set_value_at [] i w = refl
+values_of-set_value_at (e ∷ es) zero w = refl
+values_of-set_value_at (e ∷ es) (suc i) w = ap (λ l. e.1 ∷ l) (values_of-set_value_at es i w)
+
+-- the keys and the values with one more pair
+pub keys_of-append : {K X : Type 0} (es : List (K × X)) (k : K) (x : X) → keys_of (es ++ (k, x) ∷ []) ≡ keys_of es ++ k ∷ []
+keys_of-append [] k x = refl
+keys_of-append (e ∷ es) k x = ap (λ l. e.0 ∷ l) (keys_of-append es k x)
+
+pub values_of-append : {K X : Type 0} (es : List (K × X)) (k : K) (x : X) → values_of (es ++ (k, x) ∷ []) ≡ values_of es ++ x ∷ []
+values_of-append [] k x = refl
+values_of-append (e ∷ es) k x = ap (λ l. e.1 ∷ l) (values_of-append es k x)
+
+pub none-from-is_some : {X : Type 0} (o : Option X) → false ≡ is_some o → o ≡ None
+none-from-is_some None e = refl
+none-from-is_some (Some x) e = absurd (true≢false (sym e))

@@ -1,0 +1,54 @@
+-- What a set of states of a machine means, and what its calls do.
+use Rattle.std.specs.Prelude.{◌≡◌, ◌≤◌, ◌+◌, ℕ, Option, List, All, Contains, length, map}
+use Rattle.sip_machine.specs.Texts.{Texts, IsBook}
+use Rattle.sip_machine.specs.NumberedEvent.{NumberedEvent}
+use Rattle.sip_machine.specs.Heard.{heard}
+use Rattle.sip_machine.specs.Rules.{Rules, Knows, StandFor}
+use Rattle.sip_states.specs.Runs.{Wait, Gives, IsAgenda, widest}
+use Rattle.sip_states.specs.Held.{Held, IsKept}
+
+-- what a machine M with states S of the code means: the messages that a state names, what it stands for, which moments it may have, the rules,
+-- the last moment of a state, and the ended state
+pub record Meaning (X M S : Type 0) : Type 1 where
+  pub names : S → List ℕ
+  pub seen : Texts → S → X
+  pub in_range : S → Type 0
+  pub rules : M → Rules X
+  pub until : M → S → Option ℕ
+  pub ended : M → S
+
+module _ {X M S : Type 0} (m : Meaning X M S) where
+  -- what every set keeps
+  abbrev pub IsKeptBy : Held M S → Type 0
+  IsKeptBy s = IsKept m.in_range m.until m.ended s
+
+  -- the book has all that the set's states name
+  abbrev pub IsKnown : Texts → Held M S → Type 0
+  IsKnown texts s = All (Knows m.names texts) s.states
+
+  -- where one can stand who stood in the set and waits until the moment
+  abbrev pub Waiting : Texts → Held M S → ℕ → X → Type 0
+  Waiting texts s moment = Wait (m.rules s.machine) (Contains (map (m.seen texts) s.states)) s.moment moment
+
+  -- where one can stand after the event
+  abbrev pub Given : Texts → Held M S → NumberedEvent → X → Type 0
+  Given texts s e = Gives (m.rules s.machine) (Waiting texts s e.moment) (heard texts e)
+
+  -- the set, once it has waited until the moment
+  pub record HasWaited (moment : ℕ) (old new : Held M S) : Type 0 where
+    pub machine : new.machine ≡ old.machine
+    pub at : new.moment ≡ moment
+    pub states : (texts : Texts) → IsBook texts → IsKnown texts old →
+        StandFor m.names m.in_range m.seen texts (Waiting texts old moment) new.states
+    pub one_more : length new.states ≤ length old.states + 1
+
+  -- the set, once it has taken the event
+  pub record HasTaken (texts : Texts) (e : NumberedEvent) (old new : Held M S) : Type 0 where
+    pub machine : new.machine ≡ old.machine
+    pub at : new.moment ≡ e.moment
+    pub states : StandFor m.names m.in_range m.seen texts (Given texts old e) new.states
+    pub few : length new.states ≤ widest
+
+  -- a wait in the set can last until exactly the moments within the limit
+  abbrev pub HasAgenda : Option ℕ → Held M S → Type 0
+  HasAgenda limit s = (texts : Texts) → IsAgenda (m.rules s.machine) (Contains (map (m.seen texts) s.states)) s.moment limit

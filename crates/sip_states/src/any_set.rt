@@ -1,0 +1,115 @@
+//! The states of one transaction, whichever machine it has.
+ghost use Rattle.std.specs.Prelude.{◌≡◌, ◌↔◌, ◌≤◌, IfOk, IsErrOf, IsTrue, OnErr, OnOk};
+ghost use Rattle.sip_machine.specs.Heard.{FitsBook};
+ghost use Rattle.sip_states.specs.AnySet.{moment_of, start_of, IsEmpty, IsKeptSet, IsKnownSet, Waits, Takes, IsTooWide, IsAgendaOf};
+
+use crate::state_set::{StateSet, TakeError};
+use sip_key::{Key, Role};
+use sip_machine::{Book, Event, InviteClient, InviteServer, Params, PlainClient, PlainServer};
+use std::alloc::{AllocError, Global};
+
+/// The states in which the runs of one of the four machines of RFC 3261 section 17 can stand.
+#[derive(Drop)]
+pub enum AnySet {
+    /// Section 17.1.1.
+    InviteClient(StateSet<InviteClient>),
+    /// Section 17.1.2.
+    PlainClient(StateSet<PlainClient>),
+    /// Section 17.2.1.
+    InviteServer(StateSet<InviteServer>),
+    /// Section 17.2.2.
+    PlainServer(StateSet<PlainServer>),
+}
+
+impl AnySet {
+    /// The set that the key starts with: its role and its method, INVITE or another, tell the machine.
+    pub(crate) fn start(alloc: Global, params: Params, key: &Key) -> Result<Self, AllocError>
+        ensures { IfOk result (λ set. set ≡ start_of params key.now) }
+    {
+        let is_invite = key.method() == b"INVITE".as_slice();
+        let set = match (key.role(), is_invite) {
+            (Role::Client, true) => {
+                AnySet::InviteClient(StateSet::start(alloc, InviteClient::new(params))?)
+            }
+            (Role::Client, false) => {
+                AnySet::PlainClient(StateSet::start(alloc, PlainClient::new(params))?)
+            }
+            (Role::Server, true) => {
+                AnySet::InviteServer(StateSet::start(alloc, InviteServer::new(params))?)
+            }
+            (Role::Server, false) => {
+                AnySet::PlainServer(StateSet::start(alloc, PlainServer::new(params))?)
+            }
+        };
+        Ok(set)
+    }
+
+    /// Lets the set wait until the moment, in milliseconds. On an error it is as before.
+    pub fn advance(&mut self, moment: u64) -> Result<(), AllocError>
+        requires { moment_of self.old ≤ moment }
+        ensures ok { OnOk result (Waits moment self.old self.new) }
+        ensures err { OnErr result (self.new ≡ self.old) }
+    {
+        match self {
+            AnySet::InviteClient(set) => set.advance(moment),
+            AnySet::PlainClient(set) => set.advance(moment),
+            AnySet::InviteServer(set) => set.advance(moment),
+            AnySet::PlainServer(set) => set.advance(moment),
+        }
+    }
+
+    /// Takes the event. On an error the set is as before.
+    pub fn take(&mut self, book: &Book, event: &Event) -> Result<(), TakeError>
+        requires order { moment_of self.old ≤ event.now.moment }
+        requires fits { FitsBook book.now event.now }
+        requires known { IsKnownSet book.now self.old }
+        ensures ok { OnOk result (Takes book.now event.now self.old self.new) }
+        ensures too_many { IsErrOf result TakeError.TooMany → IsTooWide book.now event.now self.old }
+        ensures err { OnErr result (self.new ≡ self.old) }
+    {
+        match self {
+            AnySet::InviteClient(set) => set.take(book, event),
+            AnySet::PlainClient(set) => set.take(book, event),
+            AnySet::InviteServer(set) => set.take(book, event),
+            AnySet::PlainServer(set) => set.take(book, event),
+        }
+    }
+
+    /// Each state is there once and in range, each can wait at the moment, and there are at most
+    /// 1,024 beside the ended one.
+    pub fn known(&self)
+        ensures { IsKeptSet self.now }
+    {
+        match self {
+            AnySet::InviteClient(set) => set.known(),
+            AnySet::PlainClient(set) => set.known(),
+            AnySet::InviteServer(set) => set.known(),
+            AnySet::PlainServer(set) => set.known(),
+        }
+    }
+
+    /// The last moment to which some run can wait, in milliseconds; None if there is none.
+    pub fn last_moment(&self) -> Option<u64>
+        requires { ¬ IsEmpty self.now }
+        ensures { IsAgendaOf result self.now }
+    {
+        match self {
+            AnySet::InviteClient(set) => set.last_moment(),
+            AnySet::PlainClient(set) => set.last_moment(),
+            AnySet::InviteServer(set) => set.last_moment(),
+            AnySet::PlainServer(set) => set.last_moment(),
+        }
+    }
+
+    /// Whether no run is left.
+    pub fn is_empty(&self) -> bool
+        ensures { IsTrue result ↔ IsEmpty self.now }
+    {
+        match self {
+            AnySet::InviteClient(set) => set.is_empty(),
+            AnySet::PlainClient(set) => set.is_empty(),
+            AnySet::InviteServer(set) => set.is_empty(),
+            AnySet::PlainServer(set) => set.is_empty(),
+        }
+    }
+}

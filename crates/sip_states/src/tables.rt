@@ -1,0 +1,102 @@
+//! The states of every transaction, by key.
+ghost use Rattle.std.specs.Prelude.{◌≡◌, ◌≢◌, ◌<◌, ◌-◌, [], AllPairs, length, slice_get, IfOk, OnErr, Some};
+ghost use Rattle.std.specs.Borrow.{sem};
+ghost use Rattle.sip_states.specs.Tables.{IsGiven, Touches, most_keys};
+
+use crate::any_set::AnySet;
+use indexmap::IndexMap;
+use sip_key::Key;
+use sip_machine::Params;
+use std::alloc::{AllocError, Global};
+use std::hash::BuildHasher;
+use std::marker::Model;
+
+/// The set of each key. Keys are numbered from 1 in order of first appearance.
+#[derive(Drop)]
+pub struct Tables<H: BuildHasher> {
+    params: Params,
+    sets: IndexMap<Key, AnySet, H>,
+}
+
+impl<H: BuildHasher> Model for Tables<H> {
+    ghost use Rattle.std.specs.Prelude.{◌≤◌};
+    ghost use Rattle.indexmap.specs.IndexMap.{keys, values, index_map_len};
+    ghost use Rattle.sip_states.specs.Tables.{Tabled, most_keys};
+
+    ghost Value = { Tabled };
+
+    ghost view = { λ t. record { times = t.params; keys = keys t.sets; sets = values t.sets } };
+
+    ghost invariant = { λ t. index_map_len t.sets ≤ most_keys };
+}
+
+impl<H: BuildHasher> Tables<H> {
+    ghost use Rattle.sip_states.specs.TablesLends.{LendsSet};
+
+    /// Tables without keys, which take no memory.
+    pub fn new(alloc: Global, params: Params, hasher: H) -> Self
+        ensures { result ≡ record { times = params; keys = []; sets = [] } }
+    {
+        Tables {
+            params,
+            sets: IndexMap::with_hasher(alloc, hasher),
+        }
+    }
+
+    /// The key's number. A new key gets the next one, and the set that it starts with. On an error
+    /// nothing changes, and the key is dropped.
+    pub fn touch(&mut self, key: Key) -> Result<u32, AllocError>
+        requires { length self.old.keys < most_keys }
+        ensures ok { IfOk result (λ number. Touches key number self.old self.new) }
+        ensures given { IfOk result (IsGiven self.new) }
+        ensures err { OnErr result (self.new ≡ self.old) }
+    {
+        if let Some(index) = self.sets.get_index_of(&key) {
+            return Ok(index as u32 + 1);
+        }
+        let alloc = *self.sets.allocator();
+        let set = AnySet::start(alloc, self.params, &key)?;
+        self.sets.insert(key, set)?;
+        Ok(self.sets.len() as u32)
+    }
+
+    /// The set of the key with this number.
+    pub fn set(&self, number: u32) -> &AnySet
+        requires { IsGiven self.now number }
+        ensures { slice_get self.now.sets (number - 1) ≡ Some result.now }
+    {
+        &self.sets[number as usize - 1]
+    }
+
+    /// The set of the key with this number, to be changed.
+    pub fn set_mut(&mut self, number: u32) -> &mut AnySet
+        requires { IsGiven self.old number }
+        ensures* writes_back { sem 𝓛 (LendsSet H.row H.Hasher.row H.BuildHasher H.Hasher.Hasher self.entry number result) }
+        ensures value { slice_get self.old.sets (number - 1) ≡ Some result.now }
+    {
+        &mut self.sets[number as usize - 1]
+    }
+
+    /// The key with this number.
+    pub fn key(&self, number: u32) -> &Key
+        requires { IsGiven self.now number }
+        ensures { slice_get self.now.keys (number - 1) ≡ Some result.now }
+    {
+        let (key, _) = self.sets.get_index(number as usize - 1).unwrap();
+        key
+    }
+
+    /// How many keys there are.
+    pub fn len(&self) -> u32
+        ensures { result ≡ length self.now.keys }
+    {
+        self.sets.len() as u32
+    }
+
+    /// No key is there twice.
+    pub fn known(&self)
+        ensures { AllPairs (λ a b. a ≢ b) self.now.keys }
+    {
+        let _ = self.sets.len();
+    }
+}

@@ -4,4 +4,5 @@ pub mod PlainClient
 pub mod InviteServer
 pub mod PlainServer
 pub mod Lines
+pub mod Transaction
 pub mod inner

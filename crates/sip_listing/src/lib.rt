@@ -8,6 +8,6 @@ mod lines;
 mod plain_client;
 mod plain_server;
 mod told;
+mod transaction;
 
-pub use lines::{lines_of, push_indented};
-pub use told::Told;
+pub use transaction::push_transaction;

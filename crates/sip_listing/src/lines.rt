@@ -9,7 +9,7 @@ use std::alloc::{AllocError, Global};
 
 /// The texts of states, whose messages are told by their numbers in the book, in ascending order of their bytes.
 pub fn lines_of<T: Told>(alloc: Global, states: &[T]) -> Result<Vec<String>, AllocError>
-    ensures { IfOk result (λ lines. (texts : Texts) (number : List ℕ → ℕ) → All (λ state. Tells number texts (T.names state)) states.now →
+    ensures { IfOk result (λ lines. (number : List ℕ → ℕ) (texts : Texts) → All (λ state. Tells number texts (T.names state)) states.now →
         AreInOrder (map (λ state. T.text number (T.seen texts state)) states.now) (map string_bytes lines.items)) }
 {
     let mut lines = Vec::new(alloc);

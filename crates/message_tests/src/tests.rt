@@ -116,8 +116,8 @@ fn reads_back_what_it_writes(rt: HostRuntime) -> Result<(), Fail> {
                     "{byte} at {at}"
                 ),
                 Err(ReadError::Fault(fault)) => {
-                    let later = matches!(fault.reason, Reason::NoCookie | Reason::NotYet);
-                    assert!(rt; !later, "{byte} at {at}");
+                    let of_keys = fault.reason == Reason::NoCookie;
+                    assert!(rt; !of_keys, "{byte} at {at}");
                 }
                 Err(ReadError::Memory) => return Err(AllocError.into()),
             }

@@ -1,5 +1,5 @@
 //! Where a log's bytes come from.
-ghost use Rattle.std.specs.Prelude.{◌≡◌, ◌≢◌, ℕ, Bool, true, false, List, Option, OnOk, OnErr, IfErr};
+ghost use Rattle.std.specs.Prelude.{◌≡◌, ◌≢◌, ℕ, Bool, true, false, List, Option, Some, OnOk, OnErr, IfErr};
 ghost use Rattle.std.specs.IoError.{error_kind};
 ghost use Rattle.std.specs.declared.io.ErrorKind.TheVariants.{Interrupted};
 ghost use Rattle.sip_log.specs.Source.{Fills};
@@ -42,6 +42,26 @@ impl<S: Source> Source for &mut S {
 
     fn has_failed(&self) -> bool {
         (**self).has_failed()
+    }
+}
+
+/// A source of the bytes of a slice, of which no call fails.
+impl<'a> Source for &'a [u8] {
+    ghost left = { λ s. Some s.now };
+
+    ghost has_failed = { λ _. false };
+
+    fn fill(&mut self, buf: &mut [u8]) -> Result<usize, Broken> {
+        let bytes = *self;
+        let count = bytes.len().min(buf.len());
+        let (front, behind) = bytes.split_at(count);
+        buf[..count].copy_from_slice(front);
+        *self = behind;
+        Ok(count)
+    }
+
+    fn has_failed(&self) -> bool {
+        false
     }
 }
 

@@ -17,7 +17,6 @@ reason_number reason.NoLength = 9
 reason_number reason.ShortBody = 10
 reason_number reason.LongBody = 11
 reason_number reason.NoCookie = 12
-reason_number reason.NotYet = 13
 
 -- the name that stands behind the number
 abbrev pub reason_name : Reason → List ℕ
@@ -33,4 +32,3 @@ reason_name reason.NoLength = codes "NoLength"
 reason_name reason.ShortBody = codes "ShortBody"
 reason_name reason.LongBody = codes "LongBody"
 reason_name reason.NoCookie = codes "NoCookie"
-reason_name reason.NotYet = codes "NotYet"

@@ -42,12 +42,10 @@ pub enum Reason {
     LongBody,
     /// The top branch of a sent request lacks the cookie. Keys answer it, and `read` never does.
     NoCookie,
-    /// The message is of a form that is not judged yet. `read` never answers it.
-    NotYet,
 }
 
 impl Reason {
-    /// The number by which a verdict names it, 1 to 13.
+    /// The number by which a verdict names it, 1 to 12.
     pub fn number(self) -> u8
         ensures { result ≡ reason_number self }
     {
@@ -64,7 +62,6 @@ impl Reason {
             Reason::ShortBody => 10,
             Reason::LongBody => 11,
             Reason::NoCookie => 12,
-            Reason::NotYet => 13,
         }
     }
 
@@ -85,7 +82,6 @@ impl Reason {
             Reason::ShortBody => "ShortBody",
             Reason::LongBody => "LongBody",
             Reason::NoCookie => "NoCookie",
-            Reason::NotYet => "NotYet",
         }
     }
 }

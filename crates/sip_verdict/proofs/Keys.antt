@@ -77,7 +77,7 @@ module _ {K : Type 0} (m : Machines K) where
       go false e = refl
 
   -- what is not found among them with one key more is not among them, and is not the new one
-  among-with_key : IsExact m → (key : K) (keys : List K) (k : K) → list_any (m.same key) (with_key m.same keys k) ≡ false → (list_any (m.same key) keys ≡ false) × (m.same key k ≡ false)
+  pub among-with_key : IsExact m → (key : K) (keys : List K) (k : K) → list_any (m.same key) (with_key m.same keys k) ≡ false → (list_any (m.same key) keys ≡ false) × (m.same key k ≡ false)
   among-with_key exact key keys k h = go (list_any (m.same k) keys) refl h
     where
       old : (b : Bool) → m.same key k ≡ b → list_any (m.same k) keys ≡ true → list_any (m.same key) keys ≡ false → b ≡ false

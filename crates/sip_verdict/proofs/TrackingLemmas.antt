@@ -8,8 +8,44 @@ use Rattle.sip_verdict.specs.declared.verdict.Verdict.TheVariants.{Breach, Undec
 use Rattle.sip_verdict.specs.Keyed.{Observation, Machines, with_key, keys_of, HasRun}
 use Rattle.sip_verdict.specs.Verdicts.{IsFirst, IsTooWide, IsGood, IsTrouble}
 use Rattle.sip_verdict.specs.inner.Tracking.{Keeping, IsReady, Tracks, TracksBefore, GoesOn, IsTouched}
-use Rattle.sip_verdict.proofs.Keys.{IsExact, cond_true, cond_false, keys_of-push, new_key, contains-among, not_among}
+use Rattle.sip_verdict.proofs.Keys.{IsExact, cond_true, cond_false, keys_of-push, new_key, contains-among, not_among, among-with_key}
 use Rattle.sip_verdict.proofs.Unique.{good-nil, good-push}
+
+-- the transactions have these keys, among which are those of the entries, and lead to the runs over the entries
+pub record AreKept {K T : Type 0} (m : Machines K) (k : Keeping K T) (es : List (Observation K)) (ks : List K) (ts : List T) : Type 0 where
+  pub keys : map k.key ts ≡ ks
+  pub among : (key : K) → list_any (m.same key) ks ≡ false → list_any (m.same key) (keys_of m es) ≡ false
+  pub ready : All (IsReady m k es) ts
+
+module _ {K T : Type 0} (m : Machines K) (k : Keeping K T) (es : List (Observation K)) where
+  -- those that follow the entries
+  pub kept_tracked : (ts : List T) → Tracks m k es ts → AreKept m k es (keys_of m es) ts
+  kept_tracked ts s = record { keys = s.keys; among = λ key none. none; ready = s.ready }
+
+  -- and those with one key more, which was touched
+  module _ (exact : IsExact m) (fresh : T) (starts : k.Leads fresh []) (keys : List K) (old new : List T) (kept : AreKept m k es keys old) where
+    pub kept_touched : IsTouched k fresh old new → AreKept m k es (with_key m.same keys (k.key fresh)) new
+    kept_touched (inl h) = record {
+      keys = ap (map k.key) h.0 ∙ kept.keys ∙ sym known;
+      among = λ key none. kept.among key (subst (λ ks. list_any (m.same key) ks ≡ false) known none);
+      ready = subst (All (IsReady m k es)) (sym h.0) kept.ready;
+    }
+      where
+        known : with_key m.same keys (k.key fresh) ≡ keys
+        known = cond_true (list_any (m.same (k.key fresh)) keys) keys (keys ++ k.key fresh ∷ [])
+            (contains-among m exact (k.key fresh) keys (subst (λ ks. Contains ks (k.key fresh)) kept.keys h.1))
+    kept_touched (inr h) = record {
+      keys = ap (map k.key) h.1 ∙ map-append k.key old (fresh ∷ []) ∙ ap (λ ks. ks ++ k.key fresh ∷ []) kept.keys ∙ sym unknown;
+      among = λ key more. kept.among key (among-with_key m exact key keys (k.key fresh) more).0;
+      ready = subst (All (IsReady m k es)) (sym h.1)
+          (All-push (IsReady m k es) old fresh kept.ready (subst (k.Leads fresh) (sym (new_key m exact (k.key fresh) es (kept.among (k.key fresh) none))) starts));
+    }
+      where
+        none : list_any (m.same (k.key fresh)) keys ≡ false
+        none = not_among m exact (k.key fresh) keys (λ there. h.0 (subst (λ ks. Contains ks (k.key fresh)) (sym kept.keys) there))
+
+        unknown : with_key m.same keys (k.key fresh) ≡ keys ++ k.key fresh ∷ []
+        unknown = cond_false (list_any (m.same (k.key fresh)) keys) keys (keys ++ k.key fresh ∷ []) none
 
 module _ {K T : Type 0} (m : Machines K) (k : Keeping K T) where
   -- no transaction is kept of no entry
@@ -25,34 +61,9 @@ module _ {K T : Type 0} (m : Machines K) (k : Keeping K T) where
       good = s.good;
     }
 
-    module _ (exact : IsExact m) (fresh : T) (starts : k.Leads fresh []) (own : e.keys ≡ k.key fresh ∷ []) (old new : List T)
-        (keys : map k.key old ≡ keys_of m es) (ready : All (IsReady m k es) old) (good : IsGood m es) where
-      -- the keys of the entries and of this one
-      keys_with : keys_of m (es ++ e ∷ []) ≡ with_key m.same (keys_of m es) (k.key fresh)
-      keys_with = keys_of-push m es e ∙ ap (fold (with_key m.same) (keys_of m es)) own
-
-      -- the transactions of an entry with one key, which was touched
-      pub before_touched : IsTouched k fresh old new → TracksBefore m k es e new
-      before_touched (inl h) = record {
-        keys = ap (map k.key) h.0 ∙ keys ∙ sym (keys_with ∙ known);
-        ready = subst (All (IsReady m k es)) (sym h.0) ready;
-        good = good;
-      }
-        where
-          known : with_key m.same (keys_of m es) (k.key fresh) ≡ keys_of m es
-          known = cond_true (list_any (m.same (k.key fresh)) (keys_of m es)) (keys_of m es) (keys_of m es ++ k.key fresh ∷ [])
-              (contains-among m exact (k.key fresh) (keys_of m es) (subst (λ ks. Contains ks (k.key fresh)) keys h.1))
-      before_touched (inr h) = record {
-        keys = ap (map k.key) h.1 ∙ map-append k.key old (fresh ∷ []) ∙ ap (λ ks. ks ++ k.key fresh ∷ []) keys ∙ sym (keys_with ∙ unknown);
-        ready = subst (All (IsReady m k es)) (sym h.1) (All-push (IsReady m k es) old fresh ready (subst (k.Leads fresh) (sym (new_key m exact (k.key fresh) es none)) starts));
-        good = good;
-      }
-        where
-          none : list_any (m.same (k.key fresh)) (keys_of m es) ≡ false
-          none = not_among m exact (k.key fresh) (keys_of m es) (λ there. h.0 (subst (λ ks. Contains ks (k.key fresh)) (sym keys) there))
-
-          unknown : with_key m.same (keys_of m es) (k.key fresh) ≡ keys_of m es ++ k.key fresh ∷ []
-          unknown = cond_false (list_any (m.same (k.key fresh)) (keys_of m es)) (keys_of m es) (keys_of m es ++ k.key fresh ∷ []) none
+    -- the transactions of the entry's keys, which were touched
+    pub before_touched : (ts : List T) → AreKept m k es (fold (with_key m.same) (keys_of m es) e.keys) ts → IsGood m es → TracksBefore m k es e ts
+    before_touched ts kept good = record { keys = kept.keys ∙ sym (keys_of-push m es e); ready = kept.ready; good = good }
 
     module _ (k2 : Keeping K T) (old new : List T) (before : TracksBefore m k2 es e old) (same : map k.key new ≡ map k2.key old) where
       -- every transaction goes on: the entries are tracked

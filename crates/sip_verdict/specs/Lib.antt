@@ -1,8 +1,7 @@
-pub mod Key
 pub mod Keyed
+pub mod LegalLog
 pub mod LogReason
-pub mod PlainForm
-pub mod PlainReading
+pub mod MessageReading
 pub mod Reading
 pub mod Rendering
 pub mod Showing

@@ -1,7 +1,7 @@
 pub mod Judging
 pub mod Leads
-pub mod PlainPieces
-pub mod PlainTracking
+pub mod Observing
 pub mod Showing
 pub mod Stepping
+pub mod TablesTracking
 pub mod Tracking

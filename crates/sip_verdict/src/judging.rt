@@ -6,7 +6,7 @@ use crate::judge_error::JudgeError;
 use crate::log_reason::reason_of;
 use crate::standing::Standing;
 use crate::verdict::Verdict;
-use sip_log::{FromRead, Progress, Source};
+use sip_log::{Progress, Source};
 use std::alloc::Global;
 use std::hash::BuildHasher;
 
@@ -15,7 +15,7 @@ use std::hash::BuildHasher;
 ///
 /// `JudgeError::Io` is answered only if the reader failed in this call. That `JudgeError::Memory` is answered only where a
 /// growth was refused is tested and not proved. After an error the reader is used up to a place that is not said. The hasher
-/// is for the keys of the transactions, which stand in a plain list so far.
+/// is for the keys of the transactions; any hasher gives the same verdict.
 pub fn judge<R: Source, H: BuildHasher + Drop>(
     alloc: Global,
     reader: &mut R,
@@ -26,7 +26,6 @@ pub fn judge<R: Source, H: BuildHasher + Drop>(
     ensures ok { OnOk result (R.has_failed reader.new ≡ false) }
     ensures io { IsErrOf result JudgeError.Io → R.has_failed reader.new ≡ true }
 {
-    let _ = hasher;
     let (params, mut progress) = match Progress::open(alloc, reader) {
         Ok(opened) => opened,
         Err(error) => {
@@ -34,7 +33,7 @@ pub fn judge<R: Source, H: BuildHasher + Drop>(
             return Ok(Verdict::LogFault { entry: 0, reason });
         }
     };
-    let mut standing = Standing::new(alloc, params);
+    let mut standing = Standing::new(alloc, params, hasher);
     let mut count = 0;
     loop {
         let entry = match progress.next(reader) {
@@ -60,13 +59,15 @@ pub fn judge<R: Source, H: BuildHasher + Drop>(
     }
 }
 
-/// The verdict on the log of these bytes, with the errors of `judge`.
+/// The verdict on the log of these bytes, or `JudgeError::Memory`.
 pub fn judge_bytes<H: BuildHasher + Drop>(
     alloc: Global,
     bytes: &[u8],
     hasher: H,
 ) -> Result<Verdict, JudgeError>
-    ensures { IfOk result (IsVerdictOf bytes.now) }
+    ensures verdict { IfOk result (IsVerdictOf bytes.now) }
+    ensures io { IsErrOf result JudgeError.Io → ⊥ }
 {
-    judge(alloc, &mut FromRead::new(bytes), hasher)
+    let mut left = bytes;
+    judge(alloc, &mut left, hasher)
 }

@@ -4,17 +4,15 @@
 
 mod judge_error;
 mod judging;
-mod key;
 mod laws;
 mod log_reason;
+mod observing;
 mod passing;
-mod plain_form;
 mod rendering;
 mod show_error;
 mod showing;
 mod shown;
 mod standing;
-mod transaction;
 mod verdict;
 
 pub use judge_error::JudgeError;

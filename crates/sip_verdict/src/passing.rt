@@ -1,28 +1,37 @@
 //! What one entry leaves of the runs of the transactions.
-ghost use Rattle.std.specs.Prelude.{◌≡◌, ◌≤◌, [], ◌∷◌, ℕ, List, All, IfOk, OnOk, map, length};
+ghost use Rattle.std.specs.Prelude.{◌≡◌, ◌≤◌, ◌+◌, ℕ, List, All, IfOk, OnOk, length};
 ghost use Rattle.std.specs.Option.{ForSome, option_copied};
-ghost use Rattle.sip_machine.specs.Heard.{Heard, heard, FitsBook};
-ghost use Rattle.sip_machine.specs.Rules.{Knows};
-ghost use Rattle.sip_machine.specs.PlainClient.{plain_names};
+ghost use Rattle.sip_key.specs.Key.{KeyParts};
 ghost use Rattle.sip_machine.specs.Times.{Times};
-ghost use Rattle.sip_verdict.specs.Key.{PlainKey};
+ghost use Rattle.sip_machine.specs.Heard.{Heard, heard, FitsBook};
+ghost use Rattle.sip_states.specs.KeyMachine.{MachineKind, rules_of};
+ghost use Rattle.sip_states.specs.AnySet.{moment_of, IsKnownSet};
 ghost use Rattle.sip_verdict.specs.Keyed.{Observation};
-ghost use Rattle.sip_verdict.specs.PlainReading.{plain_machines};
-ghost use Rattle.sip_verdict.specs.inner.Stepping.{LeadsTo, IsStepped};
-ghost use Rattle.sip_verdict.specs.inner.Tracking.{IsReady, IsPassed, IsOutcome, IsNumbered};
-ghost use Rattle.sip_verdict.specs.inner.PlainTracking.{plain_keeping, observation_of};
+ghost use Rattle.sip_verdict.specs.MessageReading.{key_machines};
+ghost use Rattle.sip_verdict.specs.inner.Stepping.{IsStepped};
+ghost use Rattle.sip_verdict.specs.inner.Tracking.{IsReady, IsPassed, IsOutcome};
+ghost use Rattle.sip_verdict.specs.inner.TablesTracking.{LeadsOf, key_keeping, transactions_of, is_own, IsTold, AreTold, MayPass};
 
-use crate::plain_form::PlainMessage;
-use crate::transaction::Transaction;
-use sip_machine::{Book, Event, Machine};
-use sip_states::{StateSet, TakeError};
+use sip_machine::{Book, Event};
+use sip_states::{AnySet, Tables, TakeError};
 use std::alloc::AllocError;
+use std::hash::BuildHasher;
 
-/// A message, with what the machine of its key hears of it.
+/// An event, with the numbers of the transactions that it concerns: its own, and the one that it cancels.
 #[derive(Clone, Copy)]
-pub(crate) struct MessageEvent<'a> {
-    pub(crate) message: PlainMessage<'a>,
+pub(crate) struct Hearing {
     pub(crate) event: Event,
+    pub(crate) own: Option<u32>,
+    pub(crate) cancelled: Option<u32>,
+}
+
+impl Hearing {
+    /// Whether the event is one of the transaction with this number.
+    fn is_own(&self, number: u32) -> bool
+        ensures { result ≡ is_own self.now number }
+    {
+        self.own == Some(number) || self.cancelled == Some(number)
+    }
 }
 
 /// What an entry leaves of the runs of one transaction: some, none, or more last states than are followed.
@@ -37,23 +46,22 @@ pub(crate) enum Fate {
 #[derive(Clone, Copy)]
 pub(crate) enum Outcome {
     Fine,
-    NoRun(usize),
-    TooWide(usize),
+    NoRun(u32),
+    TooWide(u32),
 }
 
 /// Lets the set take the event of its key.
-fn hear<M: Machine>(set: &mut StateSet<M>, book: &Book, event: &Event) -> Result<Fate, AllocError>
-    requires order { set.old.moment ≤ event.now.moment }
+fn hear(set: &mut AnySet, book: &Book, event: &Event) -> Result<Fate, AllocError>
+    requires order { moment_of set.old ≤ event.now.moment }
     requires fits { FitsBook book.now event.now }
-    requires known { All (Knows M.names book.now) set.old.states }
-    ensures order { OnOk result (set.new.moment ≤ event.now.moment) }
-    ensures known { OnOk result (All (Knows M.names book.now) set.new.states) }
-    ensures stepped { IfOk result (λ fate. (machine : M) (events : List Heard) → LeadsTo M.names M.seen M.rules book.now machine set.old events
-        → IsStepped (M.rules machine) events (Some (heard book.now event.now)) event.now.moment (LeadsTo M.names M.seen M.rules book.now machine set.new) fate) }
+    requires known { IsKnownSet book.now set.old }
+    ensures order { OnOk result (moment_of set.new ≤ event.now.moment) }
+    ensures known { OnOk result (IsKnownSet book.now set.new) }
+    ensures stepped { IfOk result (λ fate. (p : Times) (machine : MachineKind) (events : List Heard) → LeadsOf book.now p machine events set.old
+        → IsStepped (rules_of p machine) events (Some (heard book.now event.now)) event.now.moment (λ es. LeadsOf book.now p machine es set.new) fate) }
 {
     match set.take(book, event) {
         Ok(()) => {
-            set.known();
             if set.is_empty() {
                 Ok(Fate::NoRun)
             } else {
@@ -66,17 +74,16 @@ fn hear<M: Machine>(set: &mut StateSet<M>, book: &Book, event: &Event) -> Result
 }
 
 /// Lets the set wait until the moment of an entry that does not concern its key.
-fn wait<M: Machine>(set: &mut StateSet<M>, book: &Book, moment: u64) -> Result<Fate, AllocError>
-    requires order { set.old.moment ≤ moment }
-    requires known { All (Knows M.names book.now) set.old.states }
-    ensures order { OnOk result (set.new.moment ≤ moment) }
-    ensures known { OnOk result (All (Knows M.names book.now) set.new.states) }
-    ensures stepped { IfOk result (λ fate. (machine : M) (events : List Heard) → LeadsTo M.names M.seen M.rules book.now machine set.old events
-        → IsStepped (M.rules machine) events None moment (LeadsTo M.names M.seen M.rules book.now machine set.new) fate) }
+fn wait(set: &mut AnySet, book: &Book, moment: u64) -> Result<Fate, AllocError>
+    requires order { moment_of set.old ≤ moment }
+    requires known { IsKnownSet book.now set.old }
+    ensures order { OnOk result (moment_of set.new ≤ moment) }
+    ensures known { OnOk result (IsKnownSet book.now set.new) }
+    ensures stepped { IfOk result (λ fate. (p : Times) (machine : MachineKind) (events : List Heard) → LeadsOf book.now p machine events set.old
+        → IsStepped (rules_of p machine) events None moment (λ es. LeadsOf book.now p machine es set.new) fate) }
 {
     book.known();
     set.advance(moment)?;
-    set.known();
     if set.is_empty() {
         Ok(Fate::NoRun)
     } else {
@@ -84,51 +91,51 @@ fn wait<M: Machine>(set: &mut StateSet<M>, book: &Book, moment: u64) -> Result<F
     }
 }
 
-/// Lets the transaction pass the entry: it takes the message if that is its own.
+/// Lets the set of the transaction with this number pass the entry: it takes the event if that is its own.
 fn pass(
-    transaction: &mut Transaction,
+    set: &mut AnySet,
+    number: u32,
     book: &Book,
     moment: u64,
-    message: Option<&MessageEvent>,
+    hearing: Option<&Hearing>,
 ) -> Result<Fate, AllocError>
-    requires order { transaction.old.set.moment ≤ moment }
-    requires fits { ForSome message (λ n. FitsBook book.now n.now.event × (n.now.event.moment ≡ moment)) }
-    requires known { All (Knows plain_names book.now) transaction.old.set.states }
-    ensures key { OnOk result (transaction.new.key ≡ transaction.old.key) }
-    ensures order { OnOk result (transaction.new.set.moment ≤ moment) }
-    ensures known { OnOk result (All (Knows plain_names book.now) transaction.new.set.states) }
-    ensures passed { IfOk result (λ fate. (p : Times) (es : List (Observation PlainKey)) → IsReady (plain_machines p) (plain_keeping book.now p) es transaction.old
-        → IsPassed (plain_machines p) (plain_keeping book.now p) es (observation_of book.now moment (option_copied message.entry)) transaction.new fate) }
+    requires order { moment_of set.old ≤ moment }
+    requires fits { ForSome hearing (λ h. FitsBook book.now h.now.event × (h.now.event.moment ≡ moment)) }
+    requires known { IsKnownSet book.now set.old }
+    ensures order { OnOk result (moment_of set.new ≤ moment) }
+    ensures known { OnOk result (IsKnownSet book.now set.new) }
+    ensures passed { IfOk result (λ fate. (p : Times) (es : List (Observation KeyParts)) (e : Observation KeyParts) (key : KeyParts)
+        → IsTold book.now moment (option_copied hearing.entry) number key e
+        → IsReady (key_machines p) (key_keeping book.now p) es (key, set.old)
+        → IsPassed (key_machines p) (key_keeping book.now p) es e (key, set.new) fate) }
 {
-    match message {
-        Some(own) if transaction.key.is_of(&own.message) => {
-            hear(&mut transaction.set, book, &own.event)
-        }
-        _ => wait(&mut transaction.set, book, moment),
+    match hearing {
+        Some(own) if own.is_own(number) => hear(set, book, &own.event),
+        _ => wait(set, book, moment),
     }
 }
 
-/// Lets every transaction pass the entry.
-pub(crate) fn pass_all(
-    transactions: &mut [Transaction],
+/// Lets the set of every transaction pass the entry.
+pub(crate) fn pass_all<H: BuildHasher>(
+    tables: &mut Tables<H>,
     book: &Book,
     moment: u64,
-    message: Option<&MessageEvent>,
+    hearing: Option<&Hearing>,
 ) -> Result<Outcome, AllocError>
-    requires order { All (λ t. t.set.moment ≤ moment) transactions.old }
-    requires fits { ForSome message (λ n. FitsBook book.now n.now.event × (n.now.event.moment ≡ moment)) }
-    requires known { All (λ t. All (Knows plain_names book.now) t.set.states) transactions.old }
-    ensures keys { OnOk result (map (λ t. t.key) transactions.new ≡ map (λ t. t.key) transactions.old) }
-    ensures order { OnOk result (All (λ t. t.set.moment ≤ moment) transactions.new) }
-    ensures known { OnOk result (All (λ t. All (Knows plain_names book.now) t.set.states) transactions.new) }
-    ensures numbered { IfOk result (IsNumbered (length transactions.old)) }
-    ensures outcome { IfOk result (λ outcome. (p : Times) (es : List (Observation PlainKey)) → All (IsReady (plain_machines p) (plain_keeping book.now p) es) transactions.old
-        → IsOutcome (plain_machines p) (plain_keeping book.now p) es (observation_of book.now moment (option_copied message.entry)) transactions.new outcome) }
+    requires fits { ForSome hearing (λ h. FitsBook book.now h.now.event × (h.now.event.moment ≡ moment)) }
+    requires may { MayPass book.now tables.old moment }
+    ensures times { OnOk result (tables.new.times ≡ tables.old.times) }
+    ensures keys { OnOk result (tables.new.keys ≡ tables.old.keys) }
+    ensures may { OnOk result (MayPass book.now tables.new moment) }
+    ensures outcome { IfOk result (λ outcome. (p : Times) (es : List (Observation KeyParts)) (e : Observation KeyParts)
+        → AreTold book.now tables.old.keys moment (option_copied hearing.entry) e
+        → All (IsReady (key_machines p) (key_keeping book.now p) es) (transactions_of tables.old)
+        → IsOutcome (key_machines p) (key_keeping book.now p) es e (transactions_of tables.new) outcome) }
 {
     let mut wide = None;
-    for n in 0..transactions.len() {
-        let transaction = &mut transactions[n];
-        match pass(transaction, book, moment, message)? {
+    for n in 0..tables.len() {
+        let set = tables.set_mut(n + 1);
+        match pass(set, n + 1, book, moment, hearing)? {
             Fate::Runs => {}
             Fate::NoRun => return Ok(Outcome::NoRun(n + 1)),
             Fate::TooWide => wide = wide.or(Some(n + 1)),

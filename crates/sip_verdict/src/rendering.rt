@@ -127,12 +127,9 @@ mod tests {
 
     #[test]
     fn writes_each_verdict(rt: HostRuntime) -> Result<(), Fail> {
-        let malformed = |unit| Verdict::Malformed {
+        let malformed = |unit, reason| Verdict::Malformed {
             entry: 1,
-            fault: Fault {
-                unit,
-                reason: Reason::NotYet,
-            },
+            fault: Fault { unit, reason },
         };
         let log_fault = |entry, reason| Verdict::LogFault { entry, reason };
         for (verdict, text) in [
@@ -150,9 +147,18 @@ mod tests {
                 },
                 "legal entries 12 transactions 1",
             ),
-            (malformed(Unit::Head), "malformed 1 head 13 NotYet"),
-            (malformed(Unit::Line(10)), "malformed 1 line 10 13 NotYet"),
-            (malformed(Unit::Body), "malformed 1 body 13 NotYet"),
+            (
+                malformed(Unit::Head, Reason::NoCookie),
+                "malformed 1 head 12 NoCookie",
+            ),
+            (
+                malformed(Unit::Line(10), Reason::Repeated),
+                "malformed 1 line 10 6 Repeated",
+            ),
+            (
+                malformed(Unit::Body, Reason::ShortBody),
+                "malformed 1 body 10 ShortBody",
+            ),
             (
                 Verdict::Breach {
                     entry: 5,

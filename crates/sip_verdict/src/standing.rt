@@ -1,118 +1,79 @@
 //! What is kept of the entries of a log that were judged.
-ghost use Rattle.std.specs.Prelude.{◌≡◌, ◌≢◌, ◌≤◌, ◌<◌, ◌+◌, ◌++◌, ◌∷◌, [], ℕ, List, All, Contains, IsTrue, IfOk, IfNone, OnOk, MatchOption, map, length, ◌↔◌, ◌^◌};
+ghost use Rattle.std.specs.Prelude.{◌≡◌, ◌≢◌, ◌≤◌, ◌<◌, ◌+◌, [], ℕ, None, List, AllPairs, IfOk, IfNone, OnOk, length};
 ghost use Rattle.std.specs.Option.{ForSome, option_copied};
-ghost use Rattle.sip_machine.specs.declared.event.Action.TheVariants.{Mark};
+ghost use Rattle.sip_key.specs.Key.{KeyParts};
 ghost use Rattle.sip_machine.specs.Times.{last_moment};
-ghost use Rattle.sip_machine.specs.Texts.{Keeps};
-ghost use Rattle.sip_machine.specs.Heard.{heard, FitsBook};
-ghost use Rattle.sip_machine.specs.Rules.{Knows};
-ghost use Rattle.sip_machine.specs.PlainClient.{plain_names};
-ghost use Rattle.sip_verdict.specs.Key.{PlainKey, key_of};
-ghost use Rattle.sip_verdict.specs.Keyed.{Observation};
-ghost use Rattle.sip_verdict.specs.PlainForm.{parts_of};
-ghost use Rattle.sip_verdict.specs.PlainReading.{plain_machines, plain_reading, heard_as, message_observation};
-ghost use Rattle.sip_verdict.specs.inner.Tracking.{IsTouched, IsJudged};
-ghost use Rattle.sip_verdict.specs.inner.PlainTracking.{plain_keeping, PlainTracks, PlainTracksBefore, MayTake, new_transaction, observation_of};
+ghost use Rattle.sip_machine.specs.Heard.{FitsBook};
+ghost use Rattle.sip_states.specs.Tables.{Tabled, most_keys};
+ghost use Rattle.sip_log.specs.Log.{most_entries};
 ghost use Rattle.sip_log.specs.Told.{item};
+ghost use Rattle.sip_verdict.specs.Keyed.{Observation};
+ghost use Rattle.sip_verdict.specs.MessageReading.{key_machines, message_reading};
+ghost use Rattle.sip_verdict.specs.inner.Tracking.{IsJudged};
+ghost use Rattle.sip_verdict.specs.inner.TablesTracking.{key_keeping, transactions_of, TablesTrack, TablesTrackBefore, AreTold, TouchesIf, MayPass, MayTake};
 
-use crate::key::Key;
-use crate::passing::{MessageEvent, Outcome, pass_all};
-use crate::plain_form::{PlainMessage, read_plain};
-use crate::transaction::Transaction;
+use crate::observing::{Told, observe};
+use crate::passing::{Hearing, Outcome, pass_all};
 use crate::verdict::Verdict;
+use sip_key::Key;
 use sip_log::Entry;
-use sip_machine::{Action, Book, Event, Params, PlainClient};
-use sip_message::{Fault, Reason, Unit};
-use sip_states::StateSet;
+use sip_machine::{Book, Params};
+use sip_states::Tables;
 use std::alloc::{AllocError, Global};
+use std::hash::BuildHasher;
 
-/// The messages and the transactions of a log so far. The transactions stand in a plain list in the order of their first
-/// messages, and each of them passes every entry; a map by the key will take its place, and an agenda of last moments.
+/// The messages of a log so far, and the transactions in the order of their first messages. Each of them passes every entry;
+/// an agenda of last moments will take its place.
 #[derive(Drop)]
-pub(crate) struct Standing {
-    machine: PlainClient,
+pub(crate) struct Standing<H: BuildHasher> {
     book: Book,
-    transactions: Vec<Transaction>,
+    tables: Tables<H>,
 }
 
-/// Whether one of the transactions has the key of the message.
-fn has_key(transactions: &[Transaction], message: &PlainMessage) -> bool
-    ensures { IsTrue result ↔ Contains (map (λ t. t.key) transactions.now) (key_of (parts_of message.now)) }
+/// The number of the key's transaction, which starts if the key is new.
+fn touch<H: BuildHasher>(tables: &mut Tables<H>, key: Option<Key>) -> Result<Option<u32>, AllocError>
+    requires { length tables.old.keys < most_keys }
+    ensures { IfOk result (λ number. TouchesIf key number tables.old tables.new) }
 {
-    for transaction in transactions {
-        if transaction.key.is_of(message) {
-            return true;
-        }
+    match key {
+        Some(key) => Ok(Some(tables.touch(key)?)),
+        None => Ok(None),
     }
-    false
 }
 
-/// Starts a transaction for the message, if its key is new.
-fn touch(
-    alloc: Global,
-    machine: PlainClient,
-    transactions: &mut Vec<Transaction>,
-    message: &PlainMessage,
-) -> Result<(), AllocError>
-    ensures { OnOk result (IsTouched (plain_keeping [] machine) (new_transaction machine (key_of (parts_of message.now))) transactions.old.items transactions.new.items) }
+/// The numbers of the transactions of both keys, the own one first.
+fn touch_both<H: BuildHasher>(
+    tables: &mut Tables<H>,
+    own: Option<Key>,
+    cancelled: Option<Key>,
+) -> Result<(Option<u32>, Option<u32>), AllocError>
+    requires { length tables.old.keys + 2 ≤ most_keys }
+    ensures touched { IfOk result (λ numbers. (between : Tabled) × TouchesIf own numbers.0 tables.old between × TouchesIf cancelled numbers.1 between tables.new) }
+    ensures apart { OnOk result (AllPairs (λ a b. a ≢ b) tables.new.keys) }
 {
-    if has_key(transactions.as_slice(), message) {
-        return Ok(());
-    }
-    let key = Key::of(alloc, message)?;
-    let set = StateSet::start(alloc, machine)?;
-    transactions.push(Transaction { key, set })?;
-    Ok(())
+    let own = touch(tables, own)?;
+    let cancelled = touch(tables, cancelled)?;
+    tables.known();
+    Ok((own, cancelled))
 }
 
-/// What is wrong with a message that is not of the plain form.
-const NOT_YET: Fault = Fault {
-    unit: Unit::Head,
-    reason: Reason::NotYet,
-};
-
-impl Standing {
+impl<H: BuildHasher> Standing<H> {
     /// Nothing was judged yet. It takes no memory.
-    pub(crate) fn new(alloc: Global, params: Params) -> Standing
-        ensures machine { result.machine ≡ params }
+    pub(crate) fn new(alloc: Global, params: Params, hasher: H) -> Standing<H>
         ensures book { result.book ≡ [] }
-        ensures transactions { result.transactions.items ≡ [] }
+        ensures tables { result.tables ≡ record { times = params; keys = []; sets = [] } }
     {
         Standing {
-            machine: PlainClient::new(params),
             book: Book::new(alloc),
-            transactions: Vec::new(alloc),
+            tables: Tables::new(alloc, params, hasher),
         }
     }
 
     /// How many transactions there are.
     pub(crate) fn transactions(&self) -> u32
-        requires { length self.now.transactions.items < 2 ^ 32 }
-        ensures { result ≡ length self.now.transactions.items }
+        ensures { result ≡ length self.now.tables.keys }
     {
-        self.transactions.len() as u32
-    }
-
-    /// Keeps the message of the entry, and starts its transaction if that is new.
-    fn note(
-        &mut self,
-        alloc: Global,
-        entry: &Entry,
-        message: &PlainMessage,
-    ) -> Result<Event, AllocError>
-        requires action { entry.now.action ≢ Mark }
-        requires limit { entry.now.moment ≤ last_moment }
-        requires may { MayTake self.old.book self.old.transactions.items entry.now.number entry.now.moment }
-        ensures machine { OnOk result (self.new.machine ≡ self.old.machine) }
-        ensures fits { IfOk result (λ event. FitsBook self.new.book event × (event.moment ≡ entry.now.moment)) }
-        ensures heard { IfOk result (λ event. heard self.new.book event ≡ heard_as (item entry.now) message.now.kind) }
-        ensures may { OnOk result (MayTake self.new.book self.new.transactions.items (entry.now.number + 1) entry.now.moment) }
-        ensures tracks { OnOk result ((es : List (Observation PlainKey)) → PlainTracks self.old.book self.old.machine es self.old.transactions.items
-            → PlainTracksBefore self.new.book self.old.machine es (message_observation (item entry.now) (parts_of message.now)) self.new.transactions.items) }
-    {
-        let number = self.book.add(entry.number, entry.bytes.as_slice())?;
-        touch(alloc, self.machine, &mut self.transactions, message)?;
-        Ok(Event::plain(entry.moment, entry.action, number, message.kind))
+        self.tables.len()
     }
 
     /// Lets every transaction pass the entry, with the verdict if one is in trouble.
@@ -120,32 +81,29 @@ impl Standing {
         &mut self,
         number: u32,
         moment: u64,
-        message: Option<&MessageEvent>,
+        hearing: Option<&Hearing>,
     ) -> Result<Option<Verdict>, AllocError>
-        requires fits { ForSome message (λ n. FitsBook self.old.book n.now.event × (n.now.event.moment ≡ moment)) }
-        requires may { MayTake self.old.book self.old.transactions.items (number + 1) moment }
-        ensures machine { OnOk result (self.new.machine ≡ self.old.machine) }
-        ensures may { IfOk result (λ verdict. IfNone verdict (MayTake self.new.book self.new.transactions.items (number + 1) moment)) }
-        ensures judged { IfOk result (λ verdict. (es : List (Observation PlainKey)) →
-            let e = observation_of self.old.book moment (option_copied message.entry) in
-            PlainTracksBefore self.old.book self.old.machine es e self.old.transactions.items → number ≡ length es + 1
-            → IsJudged (plain_machines self.old.machine) (plain_keeping self.new.book self.old.machine) es e self.new.transactions.items verdict) }
+        requires fits { ForSome hearing (λ h. FitsBook self.old.book h.now.event × (h.now.event.moment ≡ moment)) }
+        requires may { MayPass self.old.book self.old.tables moment }
+        ensures times { OnOk result (self.new.tables.times ≡ self.old.tables.times) }
+        ensures keys { OnOk result (self.new.tables.keys ≡ self.old.tables.keys) }
+        ensures book { OnOk result (self.new.book ≡ self.old.book) }
+        ensures may { OnOk result (MayPass self.new.book self.new.tables moment) }
+        ensures judged { IfOk result (λ verdict. (es : List (Observation KeyParts)) (e : Observation KeyParts) → e.fault ≡ None
+            → AreTold self.old.book self.old.tables.keys moment (option_copied hearing.entry) e
+            → TablesTrackBefore self.old.book es e self.old.tables → number ≡ length es + 1
+            → IsJudged (key_machines self.old.tables.times) (key_keeping self.new.book self.old.tables.times) es e (transactions_of self.new.tables) verdict) }
     {
-        let outcome = pass_all(
-            self.transactions.as_mut_slice(),
-            &self.book,
-            moment,
-            message,
-        )?;
+        let outcome = pass_all(&mut self.tables, &self.book, moment, hearing)?;
         Ok(match outcome {
             Outcome::Fine => None,
             Outcome::NoRun(transaction) => Some(Verdict::Breach {
                 entry: number,
-                transaction: transaction as u32,
+                transaction,
             }),
             Outcome::TooWide(transaction) => Some(Verdict::Undecided {
                 entry: number,
-                transaction: transaction as u32,
+                transaction,
             }),
         })
     }
@@ -157,28 +115,34 @@ impl Standing {
         entry: &Entry,
     ) -> Result<Option<Verdict>, AllocError>
         requires limit { entry.now.moment ≤ last_moment }
-        requires may { MayTake self.old.book self.old.transactions.items entry.now.number entry.now.moment }
-        ensures machine { OnOk result (self.new.machine ≡ self.old.machine) }
-        ensures may { IfOk result (λ verdict. IfNone verdict (MayTake self.new.book self.new.transactions.items (entry.now.number + 1) entry.now.moment)) }
-        ensures judged { IfOk result (λ verdict. (es : List (Observation PlainKey)) → PlainTracks self.old.book self.old.machine es self.old.transactions.items
+        requires count { entry.now.number ≤ most_entries }
+        requires may { MayTake self.old.book self.old.tables entry.now.number entry.now.moment }
+        ensures times { OnOk result (self.new.tables.times ≡ self.old.tables.times) }
+        ensures may { IfOk result (λ verdict. IfNone verdict (MayTake self.new.book self.new.tables (entry.now.number + 1) entry.now.moment)) }
+        ensures judged { IfOk result (λ verdict. (es : List (Observation KeyParts)) → TablesTrack self.old.book es self.old.tables
             → entry.now.number ≡ length es + 1
-            → (e : Observation PlainKey) × plain_reading.Observes es (item entry.now) e × IsJudged (plain_machines self.old.machine) (plain_keeping self.new.book self.old.machine) es e self.new.transactions.items verdict) }
+            → (e : Observation KeyParts) × message_reading.Observes es (item entry.now) e
+                × IsJudged (key_machines self.old.tables.times) (key_keeping self.new.book self.old.tables.times) es e (transactions_of self.new.tables) verdict) }
     {
-        let message = match entry.action {
-            Action::Mark => return self.pass(entry.number, entry.moment, None),
-            action => read_plain(action, entry.bytes.as_slice()),
-        };
-        let Some(message) = message else {
-            return Ok(Some(Verdict::Malformed {
+        match observe(alloc, &mut self.book, entry)? {
+            Told::Mark => self.pass(entry.number, entry.moment, None),
+            Told::Fault(fault) => Ok(Some(Verdict::Malformed {
                 entry: entry.number,
-                fault: NOT_YET,
-            }));
-        };
-        let event = self.note(alloc, entry, &message)?;
-        self.pass(
-            entry.number,
-            entry.moment,
-            Some(&MessageEvent { message, event }),
-        )
+                fault,
+            })),
+            Told::Heard {
+                event,
+                own,
+                cancelled,
+            } => {
+                let (own, cancelled) = touch_both(&mut self.tables, own, cancelled)?;
+                let hearing = Hearing {
+                    event,
+                    own,
+                    cancelled,
+                };
+                self.pass(entry.number, entry.moment, Some(&hearing))
+            }
+        }
     }
 }

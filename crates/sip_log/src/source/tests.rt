@@ -55,6 +55,7 @@ fn fills_buffers_of_every_length(rt: HostRuntime) {
     for len in 0..=256 {
         let mut whole = FromRead::new(bytes.as_slice());
         assert_eq!(rt; fill_through(&mut whole, &mut buf[..len]), Some(len));
+        assert_eq!(rt; fill_through(bytes.as_slice(), &mut buf[..len]), Some(len));
         assert_eq!(rt;
             fill_through(&mut whole, &mut buf),
             Some(256.min(300 - len))

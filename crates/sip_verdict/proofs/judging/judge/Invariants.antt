@@ -1,8 +1,8 @@
 use Rattle.std.proofs.Common.{◌≡◌, ◌+◌, ◌-◌, ◌≤◌}
 use Rattle.sip_log.specs.Log.{most_entries}
 use Rattle.sip_log.specs.Reading.{reading}
-use Rattle.sip_verdict.specs.PlainReading.{plain_reading}
-use Rattle.sip_verdict.specs.inner.PlainTracking.{plain_keeping, MayTake}
+use Rattle.sip_verdict.specs.MessageReading.{message_reading}
+use Rattle.sip_verdict.specs.inner.TablesTracking.{key_keeping, transactions_of, MayTake}
 use Rattle.sip_verdict.proofs.JudgingLemmas.{Judged}
 use Rattle.sip_verdict.proofs.judging.judge.Given as goal
 
@@ -12,9 +12,9 @@ invariant-loop-entry g l =
       count : l.count ≡ l.progress.count;
       few : l.progress.count ≤ most_entries;
       fine : g.R.Source.has_failed l.reader ≡ g.R.Source.has_failed l.fn.reader;
-      may : MayTake l.standing.book l.standing.transactions.items (l.count + 1) l.progress.last;
-      judged : Judged plain_reading l.standing.machine (plain_keeping l.standing.book l.standing.machine) (g.R.Source.left l.fn.reader)
-          (reading l.progress (g.R.Source.left l.reader) (g.R.Source.has_failed l.reader)) l.standing.transactions.items;
+      may : MayTake l.standing.book l.standing.tables (l.count + 1) l.progress.last;
+      judged : Judged message_reading l.standing.tables.times (key_keeping l.standing.book l.standing.tables.times) (g.R.Source.left l.fn.reader)
+          (reading l.progress (g.R.Source.left l.reader) (g.R.Source.has_failed l.reader)) (transactions_of l.standing.tables);
     }
 
 abbrev pub decreases-loop-entry : goal.decreases-loop-entry

@@ -1,83 +1,70 @@
-use Rattle.std.proofs.Common.{◌≤◌, [], ◌∷◌, ◌++◌, All, Some, map, take, arith, subst, ◌∙◌}
+use Rattle.std.proofs.Common.{◌≡◌, ◌≤◌, ◌<◌, [], ◌∷◌, ◌++◌, All, Some, map, length, take, arith, ap, subst}
 use Rattle.std.specs.Option.{option_copied}
 use Rattle.std.proofs.lemmas.List.{take_all}
-use Rattle.std.proofs.lemmas.List.Elements.{All-get_or, All-set}
-use Rattle.sip_machine.specs.Rules.{Knows}
-use Rattle.sip_machine.specs.PlainClient.{plain_names}
 use Rattle.sip_verdict.specs.Keyed.{HasRun}
 use Rattle.sip_verdict.specs.Verdicts.{IsFirst, IsTooWide}
-use Rattle.sip_verdict.specs.PlainReading.{plain_machines}
-use Rattle.sip_verdict.specs.inner.Tracking.{IsReady, IsPassed, GoesOn}
-use Rattle.sip_verdict.specs.inner.PlainTracking.{plain_keeping, observation_of}
-use Rattle.sip_verdict.proofs.PassingAll.{SoFar, All-same_rest, map-set, rest-set, so_far_all_run, turn_runs, turn_too_wide, turn_no_run, numbered_more, numbered_or}
+use Rattle.sip_verdict.specs.MessageReading.{key_machines}
+use Rattle.sip_verdict.specs.inner.Tracking.{IsPassed, GoesOn}
+use Rattle.sip_verdict.specs.inner.TablesTracking.{key_keeping, transactions_of}
+use Rattle.sip_verdict.proofs.PassingAll.{SoFar, so_far_all_run}
+use Rattle.sip_verdict.proofs.TablesPassing.{as_many, turn_may, turn_rest, table_runs, table_too_wide, table_no_run}
 use Rattle.sip_verdict.proofs.passing.pass_all.Goals as goal
 use Rattle.sip_verdict.proofs.passing.pass_all.Goals.{in-Runs, in-TooWide}
 
-pub pass-requires-clause-order : goal.pass-requires-clause-order
-pass-requires-clause-order c = All-get_or (λ t. t.set.moment ≤ c.args.moment) c.loop-n.transactions c.loop-n.n c.index-transactions-n.result (omega arith) c.loop-n.invariant.order
-
-pub pass-requires-clause-known : goal.pass-requires-clause-known
-pass-requires-clause-known c = All-get_or (λ t. All (Knows plain_names c.args.book.now) t.set.states) c.loop-n.transactions c.loop-n.n c.index-transactions-n.result (omega arith) c.loop-n.invariant.known
-
-pub returns-in-NoRun-clause-keys : goal.returns-in-NoRun-clause-keys
-returns-in-NoRun-clause-keys c = map-set (λ t. t.key) c.loop-n.transactions c.loop-n.n c.pass.new.transaction c.index-transactions-n.result (omega arith) c.in_ok-pass.ensures.key ∙ c.loop-n.invariant.keys
-
-pub returns-in-NoRun-clause-order : goal.returns-in-NoRun-clause-order
-returns-in-NoRun-clause-order c = All-set (λ t. t.set.moment ≤ c.args.moment) c.loop-n.transactions c.loop-n.n c.pass.new.transaction c.in_ok-pass.ensures.order c.loop-n.invariant.order
-
-pub returns-in-NoRun-clause-known : goal.returns-in-NoRun-clause-known
-returns-in-NoRun-clause-known c = All-set (λ t. All (Knows plain_names c.args.book.now) t.set.states) c.loop-n.transactions c.loop-n.n c.pass.new.transaction c.in_ok-pass.ensures.known c.loop-n.invariant.known
-
 pub returns-in-NoRun-clause-outcome : goal.returns-in-NoRun-clause-outcome
-returns-in-NoRun-clause-outcome c = λ p es ready.
-    let m = plain_machines p in
-    let k = plain_keeping c.args.book.now p in
-    let seen = observation_of c.args.book.now c.args.moment (option_copied c.args.message) in
-    let here = All-same_rest (IsReady m k es) c.loop-n.transactions c.args.transactions.now c.loop-n.n c.index-transactions-n.result c.loop-n.invariant.rest (omega arith) ready in
-    turn_no_run m k es seen c.loop-n.transactions c.pass.new.transaction c.loop-n.n (omega arith) c.loop-n.wide (c.loop-n.invariant.passed p es ready)
-    (subst (IsPassed m k es seen c.pass.new.transaction) c.in-NoRun.is (c.in_ok-pass.ensures.passed p es here))
+returns-in-NoRun-clause-outcome g c = λ p es e told ready.
+    let l = c.loop-n in
+    let low : l.n < length c.args.tables.now.keys = omega arith in
+    table_no_run c.args.book.now c.args.moment (option_copied c.args.hearing) c.args.tables.now l.tables l.n c.set_mut-set.result.now c.pass.new.set l.invariant.keys l.invariant.rest l.invariant.may
+    c.set_mut-set.ensures.value p es e told c.requires.may.long ready low l.wide (l.invariant.passed p es e told ready)
+    (λ q fs f key t r. subst (IsPassed (key_machines q) (key_keeping c.args.book.now q) fs f (key, c.pass.new.set)) c.in-NoRun.is (c.in_ok-pass.ensures.passed q fs f key t r))
 
 pub loop-n-preserved : goal.loop-n-preserved
-loop-n-preserved c = record {
-  keys = map-set (λ t. t.key) c.loop-n.transactions c.loop-n.n c.pass.new.transaction c.index-transactions-n.result (omega arith) c.in_ok-pass.ensures.key ∙ c.loop-n.invariant.keys;
-  rest = rest-set c.loop-n.transactions c.args.transactions.now c.loop-n.n c.pass.new.transaction c.loop-n.invariant.rest;
-  order = All-set (λ t. t.set.moment ≤ c.args.moment) c.loop-n.transactions c.loop-n.n c.pass.new.transaction c.in_ok-pass.ensures.order c.loop-n.invariant.order;
-  known = All-set (λ t. All (Knows plain_names c.args.book.now) t.set.states) c.loop-n.transactions c.loop-n.n c.pass.new.transaction c.in_ok-pass.ensures.known c.loop-n.invariant.known;
-  numbered = elim c.match-branch-2.branch [
-    | in-Runs w ↦ rw w.wide-is (numbered_more c.loop-n.wide c.loop-n.n c.loop-n.invariant.numbered)
-    | in-TooWide w ↦ rw (w.wide-is, w.or-wide.ensures) (numbered_or c.loop-n.wide c.loop-n.n c.loop-n.invariant.numbered)
-  ];
-  passed = λ p es ready.
-      let m = plain_machines p in
-      let k = plain_keeping c.args.book.now p in
-      let seen = observation_of c.args.book.now c.args.moment (option_copied c.args.message) in
-      let here = All-same_rest (IsReady m k es) c.loop-n.transactions c.args.transactions.now c.loop-n.n c.index-transactions-n.result c.loop-n.invariant.rest (omega arith) ready in
-      elim c.match-branch-2.branch [
+loop-n-preserved g c =
+    let l = c.loop-n in
+    let book = c.args.book.now in
+    let heard = option_copied c.args.hearing in
+    let old = c.args.tables.now in
+    let low : l.n < length old.keys = omega arith in
+    record {
+      times = l.invariant.times;
+      keys = l.invariant.keys;
+      rest = turn_rest book c.args.moment heard old l.tables l.n c.set_mut-set.result.now c.pass.new.set l.invariant.keys l.invariant.rest l.invariant.may c.set_mut-set.ensures.value;
+      may = turn_may book c.args.moment heard old l.tables l.n c.set_mut-set.result.now c.pass.new.set l.invariant.keys l.invariant.rest l.invariant.may c.set_mut-set.ensures.value
+          c.in_ok-pass.ensures.order c.in_ok-pass.ensures.known;
+      passed = λ p es e told ready. elim c.match-branch-2.branch [
         | in-Runs w ↦ rw w.wide-is
-            (turn_runs m k es seen c.loop-n.transactions c.pass.new.transaction c.loop-n.n (omega arith) c.loop-n.wide (c.loop-n.invariant.passed p es ready)
-            (subst (IsPassed m k es seen c.pass.new.transaction) w.in-Runs.is (c.in_ok-pass.ensures.passed p es here)))
+            (table_runs book c.args.moment heard old l.tables l.n c.set_mut-set.result.now c.pass.new.set l.invariant.keys l.invariant.rest l.invariant.may c.set_mut-set.ensures.value
+            p es e told c.requires.may.long ready low l.wide (l.invariant.passed p es e told ready)
+            (λ q fs f key t r. subst (IsPassed (key_machines q) (key_keeping book q) fs f (key, c.pass.new.set)) w.in-Runs.is (c.in_ok-pass.ensures.passed q fs f key t r)))
         | in-TooWide w ↦ rw (w.wide-is, w.or-wide.ensures)
-            (turn_too_wide m k es seen c.loop-n.transactions c.pass.new.transaction c.loop-n.n (omega arith) c.loop-n.wide (c.loop-n.invariant.passed p es ready)
-            (subst (IsPassed m k es seen c.pass.new.transaction) w.in-TooWide.is (c.in_ok-pass.ensures.passed p es here)))
+            (table_too_wide book c.args.moment heard old l.tables l.n c.set_mut-set.result.now c.pass.new.set l.invariant.keys l.invariant.rest l.invariant.may c.set_mut-set.ensures.value
+            p es e told c.requires.may.long ready low l.wide (l.invariant.passed p es e told ready)
+            (λ q fs f key t r. subst (IsPassed (key_machines q) (key_keeping book q) fs f (key, c.pass.new.set)) w.in-TooWide.is (c.in_ok-pass.ensures.passed q fs f key t r)))
       ];
-}
+    }
 
 pub returns-in-None-clause-outcome : goal.returns-in-None-clause-outcome
-returns-in-None-clause-outcome c = λ p es ready.
-    let m = plain_machines p in
-    let k = plain_keeping c.args.book.now p in
-    let seen = observation_of c.args.book.now c.args.moment (option_copied c.args.message) in
-    let s = subst (SoFar m k es seen (take c.loop-n.n c.loop-n.transactions)) c.in-None.is (c.loop-n.invariant.passed p es ready) in
-    subst (All (GoesOn m k es seen)) (take_all c.loop-n.n c.loop-n.transactions (omega arith)) s.widest
+returns-in-None-clause-outcome g c = λ p es e told ready.
+    let l = c.loop-n in
+    let m = key_machines p in
+    let k = key_keeping c.args.book.now p in
+    let long = as_many l.tables l.invariant.may.long in
+    let keys = ap length l.invariant.keys in
+    let whole : length (transactions_of l.tables) ≤ l.n = omega arith in
+    let s = subst (SoFar m k es e (take l.n (transactions_of l.tables))) c.in-None.is (l.invariant.passed p es e told ready) in
+    subst (All (GoesOn m k es e)) (take_all l.n (transactions_of l.tables) whole) s.widest
 
 pub returns-in-Some-clause-outcome : goal.returns-in-Some-clause-outcome
-returns-in-Some-clause-outcome c = λ p es ready.
-    let m = plain_machines p in
-    let k = plain_keeping c.args.book.now p in
-    let seen = observation_of c.args.book.now c.args.moment (option_copied c.args.message) in
-    let s = subst (SoFar m k es seen (take c.loop-n.n c.loop-n.transactions)) c.in-Some.is (c.loop-n.invariant.passed p es ready) in
-    let all = take_all c.loop-n.n c.loop-n.transactions (omega arith) in (
-      subst (λ ts. All (λ key. HasRun m key (es ++ seen ∷ [])) (map (λ t. t.key) ts)) all
-          (so_far_all_run m k es seen (take c.loop-n.n c.loop-n.transactions) (Some c.in-Some.number) s),
-      subst (λ ts. IsFirst (IsTooWide m es seen) (map (λ t. t.key) ts) c.in-Some.number) all s.widest,
+returns-in-Some-clause-outcome g c = λ p es e told ready.
+    let l = c.loop-n in
+    let m = key_machines p in
+    let k = key_keeping c.args.book.now p in
+    let long = as_many l.tables l.invariant.may.long in
+    let keys = ap length l.invariant.keys in
+    let whole : length (transactions_of l.tables) ≤ l.n = omega arith in
+    let s = subst (SoFar m k es e (take l.n (transactions_of l.tables))) c.in-Some.is (l.invariant.passed p es e told ready) in
+    let all = take_all l.n (transactions_of l.tables) whole in (
+      subst (λ ts. All (λ key. HasRun m key (es ++ e ∷ [])) (map (λ t. t.0) ts)) all (so_far_all_run m k es e (take l.n (transactions_of l.tables)) (Some c.in-Some.number) s),
+      subst (λ ts. IsFirst (IsTooWide m es e) (map (λ t. t.0) ts) c.in-Some.number) all s.widest,
     )

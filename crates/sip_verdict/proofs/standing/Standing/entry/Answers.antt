@@ -1,41 +1,51 @@
-use Rattle.std.proofs.Common.{inr, None, Some, [], ◌∷◌, refl, ap, subst}
+use Rattle.std.proofs.Common.{◌+◌, ◌≤◌, inl, length, refl, arith}
 use Rattle.sip_log.specs.Told.{item}
-use Rattle.sip_verdict.specs.PlainForm.{PlainParts, PlainText, parts_of}
-use Rattle.sip_verdict.specs.Key.{key_of}
-use Rattle.sip_verdict.specs.PlainReading.{fault_observation}
-use Rattle.sip_verdict.specs.inner.PlainTracking.{observation_of}
-use Rattle.sip_verdict.proofs.PlainReadingLemmas.{observed_by}
-use Rattle.sip_verdict.proofs.PlainTrackingLemmas.{may_more, mark_judged, message_judged}
+use Rattle.sip_verdict.specs.MessageReading.{fault_observation}
+use Rattle.sip_verdict.proofs.StandingLemmas.{grown_may, both_few, both_may, may_next, mark_judged, heard_judged}
 use Rattle.sip_verdict.proofs.standing.Standing.entry.Goals as goal
 
-pub pass-requires-clause-may : goal.pass-requires-clause-may
-pass-requires-clause-may c = may_more c.args.self.now.book c.args.self.now.transactions.items c.args.entry.now.number c.args.entry.now.moment c.requires.may
+pub pass-requires-in-Heard-clause-may : goal.pass-requires-in-Heard-clause-may
+pass-requires-in-Heard-clause-may g c =
+    let s = c.args.self.now in
+    let e = c.args.entry.now in
+    let touched = c.in_ok-own-in-Heard.ensures.touched in
+    both_may c.in-Heard.own c.in-Heard.cancelled c.in_ok-own-in-Heard.own c.in_ok-own-in-Heard.cancelled s.tables touched.0 c.touch_both.new.tables touched.1 touched.2 c.observe.new.book e.moment
+    (grown_may s.book c.observe.new.book e.number e.bytes.items (rw c.in-Heard.is at c.in_ok-observe.ensures.kept) s.tables e.moment c.requires.may.passes)
+
+pub returns-in-Mark-clause-may : goal.returns-in-Mark-clause-may
+returns-in-Mark-clause-may g c =
+    let s = c.args.self.now in
+    let e = c.args.entry.now in
+    may_next c.pass.result s.book c.observe.new.book c.pass.new.self.book s.tables s.tables c.pass.new.self.tables e.number e.moment e.bytes.items c.requires.may
+    (inl (rw c.in-Mark.is at c.in_ok-observe.ensures.kept)) (omega arith) c.pass.ensures.keys c.pass.ensures.book c.pass.ensures.may
 
 pub returns-in-Mark-clause-judged : goal.returns-in-Mark-clause-judged
-returns-in-Mark-clause-judged c =
+returns-in-Mark-clause-judged g c =
     let s = c.args.self.now in
-    mark_judged c.pass.result s.book c.pass.new.self.book s.machine s.transactions.items c.pass.new.self.transactions.items (item c.args.entry.now) c.args.entry.now.number c.in-Mark.is c.pass.ensures.judged
+    let e = c.args.entry.now in
+    mark_judged c.pass.result s.book c.observe.new.book c.pass.new.self.book e.number e.bytes.items (inl (rw c.in-Mark.is at c.in_ok-observe.ensures.kept)) (item e) e.moment e.number
+    s.tables c.pass.new.self.tables refl (rw c.in-Mark.is at c.in_ok-observe.ensures.observed) c.pass.ensures.judged
 
-pub returns-in_default-message : goal.returns-in_default-message
-returns-in_default-message c =
-    let i = item c.args.entry.now in
-    let none = subst (λ text. (p : PlainParts) → ¬ (PlainText i.action text p)) c.as_slice.ensures.value c.in_default-message.ensures in
-    record {
-      machine = refl;
-      may = tt;
-      judged = λ es tracks counts. (fault_observation i, observed_by i.action i (fault_observation i) c.in_default.not-Mark (inr (none, refl)), (counts, refl));
-    }
+pub returns-in-Fault-clause-judged : goal.returns-in-Fault-clause-judged
+returns-in-Fault-clause-judged g c = λ es tracks counts.
+    (fault_observation (item c.args.entry.now) c.in-Fault.fault, (rw c.in-Fault.is at c.in_ok-observe.ensures.observed) es, (counts, refl))
 
-pub returns-clause-judged : goal.returns-clause-judged
-returns-clause-judged c =
+pub returns-in_ok-own-in-Heard-clause-may : goal.returns-in_ok-own-in-Heard-clause-may
+returns-in_ok-own-in-Heard-clause-may g c =
     let s = c.args.self.now in
-    let i = item c.args.entry.now in
-    let m = c.note.new.self in
-    let parts = parts_of c.in-Some.message in
-    message_judged c.pass-2.result s.book c.pass-2.new.self.book s.machine s.transactions.items c.pass-2.new.self.transactions.items i c.args.entry.now.number
-    m.book m.transactions.items parts (observation_of m.book i.moment (Some (record { message = c.in-Some.message; event = c.in_ok-event.event })))
-    c.in_default.not-Mark
-    (subst (λ text. PlainText i.action text parts) c.as_slice.ensures.value c.in-Some.ensures.0)
-    (ap (λ h. record { fault = None; event = h; keys = key_of parts ∷ [] }) c.in_ok-event.ensures.heard)
-    c.in_ok-event.ensures.tracks
-    (rw c.in_ok-event.ensures.machine at c.pass-2.ensures.judged)
+    let e = c.args.entry.now in
+    let touched = c.in_ok-own-in-Heard.ensures.touched in
+    may_next c.pass-in-Heard.result s.book c.observe.new.book c.pass-in-Heard.new.self.book s.tables c.touch_both.new.tables c.pass-in-Heard.new.self.tables e.number e.moment e.bytes.items c.requires.may
+    (rw c.in-Heard.is at c.in_ok-observe.ensures.kept)
+    (both_few c.in-Heard.own c.in-Heard.cancelled c.in_ok-own-in-Heard.own c.in_ok-own-in-Heard.cancelled s.tables touched.0 c.touch_both.new.tables touched.1 touched.2)
+    c.pass-in-Heard.ensures.keys c.pass-in-Heard.ensures.book c.pass-in-Heard.ensures.may
+
+pub returns-in_ok-own-in-Heard-clause-judged : goal.returns-in_ok-own-in-Heard-clause-judged
+returns-in_ok-own-in-Heard-clause-judged g c =
+    let s = c.args.self.now in
+    let e = c.args.entry.now in
+    let touched = c.in_ok-own-in-Heard.ensures.touched in
+    heard_judged c.pass-in-Heard.result s.book c.observe.new.book c.pass-in-Heard.new.self.book e.number e.bytes.items (rw c.in-Heard.is at c.in_ok-observe.ensures.kept) (item e) e.moment e.number
+    c.in-Heard.event c.in-Heard.own c.in-Heard.cancelled c.in_ok-own-in-Heard.own c.in_ok-own-in-Heard.cancelled s.tables touched.0 c.touch_both.new.tables c.pass-in-Heard.new.self.tables
+    c.requires.may.passes.long touched.1 touched.2 c.in_ok-own-in-Heard.ensures.apart (rw c.in-Heard.is at c.in_ok-observe.ensures.heard).1
+    (rw c.in-Heard.is at c.in_ok-observe.ensures.observed) c.pass-in-Heard.ensures.judged

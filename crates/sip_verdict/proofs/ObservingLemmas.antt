@@ -1,0 +1,61 @@
+-- What the judge is told of an entry is what is observed of it.
+use Rattle.std.proofs.Common.{◌≡◌, ◌≤◌, ℕ, true, false, Option, Some, None, MatchOption, List, [], ◌++◌, refl, sym, ap, ◌∙◌, subst}
+use Rattle.std.specs.Prelude.{option_to_list}
+use Rattle.sip_message.specs.declared.fault.Fault.{Fault}
+use Rattle.sip_message.specs.Message.{is_stream}
+use Rattle.sip_message.specs.Reading as message
+use Rattle.sip_message.specs.Reads.{Reads}
+use Rattle.sip_message.specs.Faults.{FaultOf}
+use Rattle.sip_key.specs.declared.role.Direction.{Direction}
+use Rattle.sip_key.specs.Key.{KeyParts}
+use Rattle.sip_key.specs.Concerns.{own_key, cancelled_key, lacks_cookie}
+use Rattle.sip_machine.specs.declared.event.Action.{Action}
+use Rattle.sip_machine.specs.declared.event.Action.TheVariants.{Mark}
+use Rattle.sip_machine.specs.Message.{kind_of}
+use Rattle.sip_machine.specs.NumberedEvent.{NumberedEvent}
+use Rattle.sip_machine.specs.Texts.{Texts, Keeps, text_of}
+use Rattle.sip_machine.specs.Heard.{heard, FitsBook}
+use Rattle.sip_machine.specs.Times.{last_moment}
+use Rattle.sip_log.specs.Spelling.{Item}
+use Rattle.sip_verdict.specs.Keyed.{Observation}
+use Rattle.sip_verdict.specs.MessageReading.{direction_of, mark_observation, fault_observation, no_cookie, heard_message, message_observation, ObservesMessage, has_fault, has_no_cookie, is_heard, message_reading}
+
+-- what is observed of a message that went this way is observed of its entry
+pub observes : (before : List (Observation KeyParts)) (item : Item) (e : Observation KeyParts) (direction : Direction) → direction_of item.action ≡ Some direction → ObservesMessage direction item e
+    → message_reading.Observes before item e
+observes before item e direction goes seen = subst (λ d. MatchOption d (e ≡ mark_observation item.moment) (λ way. ObservesMessage way item e)) (sym goes) seen
+
+-- an entry whose message went some way is no mark
+pub going : (action : Action) (direction : Direction) → direction_of action ≡ Some direction → action ≡ Mark → ⊥
+going action direction goes mark = let e : None ≡ Some direction = sym (ap direction_of mark) ∙ goes in cc
+
+-- a fault of its bytes
+pub observes_fault : (item : Item) (direction : Direction) (text : List ℕ) (fault : Fault) → text ≡ item.text → FaultOf text (Some fault) → ObservesMessage direction item (fault_observation item fault)
+observes_fault item direction text fault same has = has_fault fault (subst (λ t. FaultOf t (Some fault)) same has) refl
+
+-- that it lacks the cookie
+pub observes_no_cookie : (item : Item) (direction : Direction) (text : List ℕ) (r : message.Reading) → text ≡ item.text → Reads text r → lacks_cookie r direction ≡ true
+    → ObservesMessage direction item (fault_observation item no_cookie)
+observes_no_cookie item direction text r same reads lacks = has_no_cookie r (subst (λ t. Reads t r) same reads) lacks refl
+
+-- the event of an entry with a message that was read, whose bytes have this number
+abbrev pub event_of : Item → message.Reading → ℕ → NumberedEvent
+event_of item r number = record { moment = item.moment; action = item.action; number = number; kind = kind_of r.message.start; reliable = is_stream r.parts.via.1.transport }
+
+-- its event and its keys
+pub observes_heard : (item : Item) (direction : Direction) (text : List ℕ) (r : message.Reading) (texts : Texts) (event : NumberedEvent) (number : ℕ) (own cancelled : Option KeyParts)
+    → text ≡ item.text → Reads text r → lacks_cookie r direction ≡ false → own ≡ own_key r direction → cancelled ≡ cancelled_key r direction
+    → event ≡ event_of item r number → text_of texts number ≡ item.text
+    → ObservesMessage direction item (record { fault = None; event = heard texts event; keys = option_to_list own ++ option_to_list cancelled })
+observes_heard item direction text r texts event number own cancelled same reads has own_is cancelled_is event_is kept =
+    is_heard r (option_to_list own ++ option_to_list cancelled) (subst (λ t. Reads t r) same reads) has
+    (ap (λ k. option_to_list k ++ option_to_list cancelled) own_is ∙ ap (λ k. option_to_list (own_key r direction) ++ option_to_list k) cancelled_is)
+    (ap (λ h. record { fault = None; event = h; keys = option_to_list own ++ option_to_list cancelled }) (ap (heard texts) event_is ∙ alike))
+  where
+    alike : heard texts (event_of item r number) ≡ heard_message item r
+    alike = ap (λ t. record { moment = item.moment; action = item.action; text = t; kind = kind_of r.message.start; reliable = is_stream r.parts.via.1.transport }) kept
+
+-- the event fits the book that keeps its message
+pub event_fits : (item : Item) (r : message.Reading) (texts : Texts) (event : NumberedEvent) (number : ℕ) → event ≡ event_of item r number → Keeps texts number → item.moment ≤ last_moment
+    → FitsBook texts event × (event.moment ≡ item.moment)
+event_fits item r texts event number is keeps limit = (subst (FitsBook texts) (sym is) (record { keeps = keeps; limit = limit }), ap (λ e. e.moment) is)

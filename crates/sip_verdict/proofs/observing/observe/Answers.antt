@@ -1,0 +1,34 @@
+use Rattle.std.proofs.Common.{inl, inr, Some, ◌≢◌, IfSome, sym, ◌∙◌, subst}
+use Rattle.sip_log.specs.Told.{item}
+use Rattle.sip_verdict.proofs.ObservingLemmas.{going, observes, observes_fault, observes_no_cookie, observes_heard, event_fits}
+use Rattle.sip_verdict.proofs.observing.observe.Goals as goal
+
+pub returns-in-Err-Fault-clause-observed : goal.returns-in-Err-Fault-clause-observed
+returns-in-Err-Fault-clause-observed c es =
+    let i = item c.args.entry.now in
+    rw c.in-Err-Fault.fault-is (observes es i _ c.in-Some.direction (sym c.direction_of.ensures ∙ c.in-Some.is)
+    (observes_fault i c.in-Some.direction c.as_slice.result.now _ c.as_slice.ensures.value (rw c.in-Err-Fault.field-0-is at c.in-Err-Fault.ensures)))
+
+pub returns-in-Err-NoCookie-clause-observed : goal.returns-in-Err-NoCookie-clause-observed
+returns-in-Err-NoCookie-clause-observed c es =
+    let i = item c.args.entry.now in
+    observes es i _ c.in-Some.direction (sym c.direction_of.ensures ∙ c.in-Some.is)
+    (observes_no_cookie i c.in-Some.direction c.as_slice.result.now c.in-Ok.message c.as_slice.ensures.value c.in-Ok.ensures (rw c.in-Err-NoCookie.field-0-is at c.in-Err-NoCookie.ensures))
+
+pub of-event-requires-clause-action : goal.of-event-requires-clause-action
+of-event-requires-clause-action c = going c.args.entry.now.action c.in-Some.direction (sym c.direction_of.ensures ∙ c.in-Some.is)
+
+pub returns-clause-observed : goal.returns-clause-observed
+returns-clause-observed c es =
+    let i = item c.args.entry.now in
+    observes es i _ c.in-Some.direction (sym c.direction_of.ensures ∙ c.in-Some.is)
+    (observes_heard i c.in-Some.direction c.as_slice.result.now c.in-Ok.message c.add.new.self c.of-event.result c.in_ok-number.number c.in-Ok-key_of.own c.in_ok-cancelled.cancelled
+    c.as_slice.ensures.value c.in-Ok.ensures c.in-Ok-key_of.ensures.1 c.in-Ok-key_of.ensures.0 c.in_ok-cancelled.ensures.key c.of-event.ensures (c.in_ok-number.ensures.ok.1 ∙ c.as_slice-2.ensures.value))
+
+pub returns-clause-heard : goal.returns-clause-heard
+returns-clause-heard c =
+    let fits = event_fits (item c.args.entry.now) c.in-Ok.message c.add.new.self c.of-event.result c.in_ok-number.number c.of-event.ensures c.in_ok-number.ensures.ok.0 c.requires.limit in
+    (fits.0, fits.1, subst (λ own. IfSome c.in_ok-cancelled.cancelled (λ key. own ≢ Some key)) (sym c.in-Ok-key_of.ensures.0) c.in_ok-cancelled.ensures.other)
+
+pub returns-clause-kept : goal.returns-clause-kept
+returns-clause-kept c = elim (rw c.as_slice-2.ensures.value at c.in_ok-number.ensures.grows) [ inl h ↦ inl h.0 | inr h ↦ inr h.0 ]

@@ -1,0 +1,76 @@
+-- How a log of SIP messages is read: which of them have a fault, and which transactions the others concern.
+use Rattle.std.specs.Prelude.{◌≡◌, ℕ, true, false, Option, None, Some, MatchOption, List, []}
+use Rattle.sip_message.specs.declared.fault.Fault.{Fault}
+use Rattle.sip_message.specs.declared.fault.Unit.TheVariants.{Head}
+use Rattle.sip_message.specs.declared.fault.Reason.TheVariants.{NoCookie}
+use Rattle.sip_message.specs.Message.{is_stream}
+use Rattle.sip_message.specs.Reading as message
+use Rattle.sip_message.specs.Reads.{Reads}
+use Rattle.sip_message.specs.Faults.{FaultOf}
+use Rattle.sip_key.specs.declared.role.Direction.{Direction}
+use Rattle.sip_key.specs.declared.role.Direction.TheVariants as way
+use Rattle.sip_key.specs.Key.{KeyParts, same_key}
+use Rattle.sip_key.specs.Concerns.{Concerns, lacks_cookie}
+use Rattle.sip_machine.specs.declared.event.Action.{Action}
+use Rattle.sip_machine.specs.declared.event.Action.TheVariants.{Sent, Received, Failed, Mark}
+use Rattle.sip_machine.specs.declared.event.Kind.TheVariants.{Request}
+use Rattle.sip_machine.specs.declared.event.Method.TheVariants.{Other}
+use Rattle.sip_machine.specs.Message.{kind_of}
+use Rattle.sip_machine.specs.Times.{Times}
+use Rattle.sip_machine.specs.Heard.{Heard}
+use Rattle.sip_states.specs.KeyMachine.{machine_of_key, PhaseOf, rules_of}
+use Rattle.sip_log.specs.Spelling.{Item}
+use Rattle.sip_verdict.specs.Keyed.{Observation, Machines}
+use Rattle.sip_verdict.specs.Reading.{Reading}
+
+-- keys are equal by their parts, and each has the machine of its role and method, RFC 3261 section 17
+abbrev pub key_machines : Times → Machines KeyParts
+key_machines p = record { same = same_key; State = λ key. PhaseOf (machine_of_key key); rules = λ key. rules_of p (machine_of_key key) }
+
+-- which way the message of an entry went: one whose send was refused was on its way out, and a mark has none
+abbrev pub direction_of : Action → Option Direction
+direction_of Sent = Some way.Sent
+direction_of Received = Some way.Received
+direction_of Failed = Some way.Sent
+direction_of Mark = None
+
+-- a mark tells its moment and concerns no key
+abbrev pub mark_observation : ℕ → Observation KeyParts
+mark_observation moment = record { fault = None; event = record { moment = moment; action = Mark; text = []; kind = Request Other; reliable = false }; keys = [] }
+
+-- nothing but its moment is seen of an entry whose message has a fault
+abbrev pub fault_observation : Item → Fault → Observation KeyParts
+fault_observation item fault = record {
+  fault = Some fault;
+  event = record { moment = item.moment; action = item.action; text = item.text; kind = Request Other; reliable = false };
+  keys = [];
+}
+
+-- an entry with its message as a machine hears it: a method or a code, sections 7.1 and 7.2, over the transport of the top Via,
+-- which is reliable if it is a stream, section 18
+abbrev pub heard_message : Item → message.Reading → Heard
+heard_message item r = record { moment = item.moment; action = item.action; text = item.text; kind = kind_of r.message.start; reliable = is_stream r.parts.via.1.transport }
+
+-- a message without a fault is heard, and concerns these keys
+abbrev pub message_observation : Item → message.Reading → List KeyParts → Observation KeyParts
+message_observation item r keys = record { fault = None; event = heard_message item r; keys = keys }
+
+-- the fault of a request that is sent without the cookie, section 8.1.1.7
+abbrev pub no_cookie : Fault
+no_cookie = record { unit = Head; reason = NoCookie }
+
+-- what is observed of an entry whose message went this way
+pub data ObservesMessage (direction : Direction) (item : Item) (e : Observation KeyParts) : Type 0 where
+  -- the first fault of its bytes, sections 7 and 25
+  has_fault : (fault : Fault) → FaultOf item.text (Some fault) → e ≡ fault_observation item fault → ObservesMessage direction item e
+  -- else, that it is sent and lacks the cookie
+  has_no_cookie : (r : message.Reading) → Reads item.text r → lacks_cookie r direction ≡ true → e ≡ fault_observation item no_cookie → ObservesMessage direction item e
+  -- else its event and its keys, sections 17.1.3, 17.2.3 and 9.1
+  is_heard : (r : message.Reading) (keys : List KeyParts) → Reads item.text r → lacks_cookie r direction ≡ false → Concerns r direction keys → e ≡ message_observation item r keys → ObservesMessage direction item e
+
+-- how a log of messages is read: an entry without a message is a mark; what is observed of an entry does not depend on those before it
+abbrev pub message_reading : Reading KeyParts
+message_reading = record {
+  machines = key_machines;
+  Observes = λ before item e. MatchOption (direction_of item.action) (e ≡ mark_observation item.moment) (λ direction. ObservesMessage direction item e);
+}

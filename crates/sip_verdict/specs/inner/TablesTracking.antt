@@ -1,0 +1,106 @@
+use Rattle.std.specs.Prelude.{◌≡◌, ◌≤◌, ◌<◌, ◌+◌, ◌||◌, ℕ, nat_eq, Bool, false, Option, Some, None, List, All, IfSome, length, slice_get}
+use Rattle.std.specs.List.{zip}
+use Rattle.std.specs.Option.{option_eq}
+use Rattle.sip_key.specs.Key.{KeyParts}
+use Rattle.sip_machine.specs.Times.{Times}
+use Rattle.sip_machine.specs.Texts.{Texts, Keeps}
+use Rattle.sip_machine.specs.Heard.{Heard, heard}
+use Rattle.sip_machine.specs.declared.invite_client.InviteClientState.{InviteClientState}
+use Rattle.sip_machine.specs.declared.plain_client.PlainState.{PlainState}
+use Rattle.sip_machine.specs.declared.invite_server.InviteServerState.{InviteServerState}
+use Rattle.sip_machine.specs.declared.plain_server.PlainServerState.{PlainServerState}
+use Rattle.sip_states.specs.Held.{Held}
+use Rattle.sip_states.specs.KeyMachine.{MachineKind, OfInviteClient, OfPlainClient, OfInviteServer, OfPlainServer, PhaseOf, machine_of_key}
+use Rattle.sip_states.specs.Meaning.{Meaning}
+use Rattle.sip_states.specs.AnySet.{invite_client_meaning, plain_client_meaning, invite_server_meaning, plain_server_meaning, moment_of, IsKnownSet}
+use Rattle.sip_states.specs.Tables.{Tabled, Touches}
+use Rattle.sip_states.specs.declared.any_set.AnySet.{AnySet}
+use Rattle.sip_states.specs.declared.any_set.AnySet.TheVariants.{InviteClient, PlainClient, InviteServer, PlainServer}
+use Rattle.sip_verdict.specs.declared.passing.Hearing.{Hearing}
+use Rattle.sip_verdict.specs.Keyed.{Observation, concerns}
+use Rattle.sip_verdict.specs.MessageReading.{key_machines}
+use Rattle.sip_verdict.specs.inner.Stepping.{LeadsTo}
+use Rattle.sip_verdict.specs.inner.Tracking.{Keeping, Tracks, TracksBefore}
+
+-- What is kept of the transactions of a log: the set of each key, by the machine of the key.
+
+-- the states of each machine as the code has them
+abbrev pub StateOf : MachineKind → Type 0
+StateOf OfInviteClient = InviteClientState
+StateOf OfPlainClient = PlainState
+StateOf OfInviteServer = InviteServerState
+StateOf OfPlainServer = PlainServerState
+
+-- what they mean
+abbrev pub meaning_of : (machine : MachineKind) → Meaning (PhaseOf machine) Times (StateOf machine)
+meaning_of OfInviteClient = invite_client_meaning
+meaning_of OfPlainClient = plain_client_meaning
+meaning_of OfInviteServer = invite_server_meaning
+meaning_of OfPlainServer = plain_server_meaning
+
+-- a set of this machine
+abbrev pub set_of : (machine : MachineKind) → Held Times (StateOf machine) → AnySet
+set_of OfInviteClient s = InviteClient s
+set_of OfPlainClient s = PlainClient s
+set_of OfInviteServer s = InviteServer s
+set_of OfPlainServer s = PlainServer s
+
+-- a set leads, with these times, to where the runs over the events stand
+abbrev pub LeadsBy : {X S : Type 0} → Meaning X Times S → Texts → Times → List Heard → Held Times S → Type 0
+LeadsBy m texts p events s = LeadsTo m.names m.seen m.rules texts p s events
+
+-- the set is one of this machine, and leads to them
+abbrev pub LeadsOf : Texts → Times → MachineKind → List Heard → AnySet → Type 0
+LeadsOf texts p machine events set = (s : Held Times (StateOf machine)) × (set ≡ set_of machine s) × LeadsBy (meaning_of machine) texts p events s
+
+-- each key has a set of its machine
+abbrev pub key_keeping : Texts → Times → Keeping KeyParts (KeyParts × AnySet)
+key_keeping texts p = record { key = λ t. t.0; Leads = λ t events. LeadsOf texts p (machine_of_key t.0) events t.1 }
+
+-- the keys of tables, each with its set
+abbrev pub transactions_of : Tabled → List (KeyParts × AnySet)
+transactions_of t = zip t.keys t.sets
+
+-- the tables follow the entries
+abbrev pub TablesTrack : Texts → List (Observation KeyParts) → Tabled → Type 0
+TablesTrack texts es t = Tracks (key_machines t.times) (key_keeping texts t.times) es (transactions_of t)
+
+-- they did not pass the last one yet
+abbrev pub TablesTrackBefore : Texts → List (Observation KeyParts) → Observation KeyParts → Tabled → Type 0
+TablesTrackBefore texts es e t = TracksBefore (key_machines t.times) (key_keeping texts t.times) es e (transactions_of t)
+
+-- whether the event is one of the transaction with this number
+abbrev pub is_own : Hearing → ℕ → Bool
+is_own h number = option_eq nat_eq h.own (Some number) || option_eq nat_eq h.cancelled (Some number)
+
+-- the same where there may be no event
+abbrev pub hears : Option Hearing → ℕ → Bool
+hears None number = false
+hears (Some h) number = is_own h number
+
+-- what is observed of an entry of this moment, as far as the key with this number goes: it hears the event, or waits
+pub record IsTold (texts : Texts) (moment : ℕ) (hearing : Option Hearing) (number : ℕ) (key : KeyParts) (e : Observation KeyParts) : Type 0 where
+  pub at : e.event.moment ≡ moment
+  pub event : IfSome hearing (λ h. e.event ≡ heard texts h.event)
+  pub concerned : (p : Times) → concerns (key_machines p) key e ≡ hears hearing number
+
+-- the entry tells this to each of the keys
+abbrev pub AreTold : Texts → List KeyParts → ℕ → Option Hearing → Observation KeyParts → Type 0
+AreTold texts keys moment hearing e = (n : ℕ) (key : KeyParts) → slice_get keys n ≡ Some key → IsTold texts moment hearing (n + 1) key e
+
+-- the key of an event, if it has one, was looked up and has this number
+abbrev pub TouchesIf : Option KeyParts → Option ℕ → Tabled → Tabled → Type 0
+TouchesIf None number old new = (number ≡ None) × (new ≡ old)
+TouchesIf (Some key) number old new = (n : ℕ) × (number ≡ Some n) × Touches key n old new
+
+-- an entry of this moment may pass: no set is later, the book keeps what they name, and each key has one
+pub record MayPass (texts : Texts) (t : Tabled) (moment : ℕ) : Type 0 where
+  pub order : All (λ set. moment_of set ≤ moment) t.sets
+  pub known : All (IsKnownSet texts) t.sets
+  pub long : length t.sets ≡ length t.keys
+
+-- an entry with this number and moment may come next: at most two keys came with each of those before it
+pub record MayTake (texts : Texts) (t : Tabled) (number moment : ℕ) : Type 0 where
+  pub passes : MayPass texts t moment
+  pub numbered : (n : ℕ) → Keeps texts n → n < number
+  pub few : length t.keys + 2 ≤ number + number

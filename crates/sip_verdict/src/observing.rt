@@ -1,0 +1,80 @@
+//! What an entry of a log says to the judge.
+ghost use Rattle.std.specs.Prelude.{◌≤◌, ◌<◌, ◌≡◌, ℕ, List, IfOk, OnErr};
+ghost use Rattle.sip_machine.specs.Times.{last_moment};
+ghost use Rattle.sip_machine.specs.Texts.{Keeps};
+ghost use Rattle.sip_key.specs.Key.{KeyParts};
+ghost use Rattle.sip_log.specs.Told.{item};
+ghost use Rattle.sip_verdict.specs.Keyed.{Observation};
+ghost use Rattle.sip_verdict.specs.MessageReading.{direction_of, message_reading};
+ghost use Rattle.sip_verdict.specs.inner.Observing.{observation_of, IsKept, IsHeard};
+
+use sip_key::{Direction, Key, KeyError, cancelled_key, key_of};
+use sip_log::Entry;
+use sip_machine::{Action, Book, Event};
+use sip_message::{Fault, Message, ReadError, Reason, Unit};
+use std::alloc::{AllocError, Global};
+
+/// What an entry says to the judge.
+#[derive(Drop)]
+pub(crate) enum Told {
+    /// A mark: its moment was reached.
+    Mark,
+    /// The message has this fault.
+    Fault(Fault),
+    /// The event of a message that is kept in the book, and the keys of the transactions that it concerns: its own, and for
+    /// a CANCEL that is sent that of the request which it cancels.
+    Heard {
+        event: Event,
+        own: Option<Key>,
+        cancelled: Option<Key>,
+    },
+}
+
+/// The fault of a request that is sent without the cookie (RFC 3261 section 8.1.1.7).
+const NO_COOKIE: Fault = Fault {
+    unit: Unit::Head,
+    reason: Reason::NoCookie,
+};
+
+/// Which way the message of an entry went. A mark has none.
+fn direction_of(action: Action) -> Option<Direction>
+    ensures { result ≡ direction_of action }
+{
+    match action {
+        Action::Sent | Action::Failed => Some(Direction::Sent),
+        Action::Received => Some(Direction::Received),
+        Action::Mark => None,
+    }
+}
+
+/// Reads the message of an entry, and keeps it in the book if it has no fault. The book is as before on an error.
+pub(crate) fn observe(alloc: Global, book: &mut Book, entry: &Entry) -> Result<Told, AllocError>
+    requires limit { entry.now.moment ≤ last_moment }
+    requires numbered { (n : ℕ) → Keeps book.old n → n < entry.now.number }
+    ensures observed { IfOk result (λ told. (es : List (Observation KeyParts)) → message_reading.Observes es (item entry.now) (observation_of book.new (item entry.now) told)) }
+    ensures heard { IfOk result (IsHeard book.new entry.now.moment) }
+    ensures kept { IfOk result (IsKept book.old book.new entry.now) }
+    ensures err { OnErr result (book.new ≡ book.old) }
+{
+    let Some(direction) = direction_of(entry.action) else {
+        return Ok(Told::Mark);
+    };
+    let message = match Message::read(alloc, entry.bytes.as_slice()) {
+        Ok(message) => message,
+        Err(ReadError::Fault(fault)) => return Ok(Told::Fault(fault)),
+        Err(ReadError::Memory) => return Err(AllocError),
+    };
+    let own = match key_of(alloc, &message, direction) {
+        Ok(own) => own,
+        Err(KeyError::NoCookie) => return Ok(Told::Fault(NO_COOKIE)),
+        Err(KeyError::Memory) => return Err(AllocError),
+    };
+    let cancelled = cancelled_key(alloc, &message, direction)?;
+    let number = book.add(entry.number, entry.bytes.as_slice())?;
+    let event = Event::of(entry.moment, entry.action, number, &message);
+    Ok(Told::Heard {
+        event,
+        own,
+        cancelled,
+    })
+}

@@ -1,0 +1,27 @@
+use Rattle.std.specs.Prelude.{◌≡◌, ◌++◌, ◌+◌, ◌<◌, ℕ, Bool, List, [], ◌∷◌, All, length, map}
+use Rattle.std.specs.List.Sorted.{IsSortedBy}
+use Rattle.std.proofs.Common.{refl, ap₂, subst, arith, append_assoc}
+use Rattle.std.proofs.lemmas.List.{get_or-map, length-map}
+use Rattle.std.proofs.lemmas.List.Elements.{All-head, All-tail}
+
+-- Lists of what stands for others.
+
+-- what ascends by f ascends as f's values
+pub IsSortedBy-map : {X Y : Type 0} (f : X → Y) (lt : Y → Y → Bool) (xs : List X) → IsSortedBy (λ x y. lt (f x) (f y)) xs → IsSortedBy lt (map f xs)
+IsSortedBy-map f lt [] sorted = λ k d low high. absurd (omega arith)
+IsSortedBy-map f lt (x ∷ xs) sorted =
+    λ k d low high.
+    let within : k + 1 < length (x ∷ xs) = subst (λ n. k + 1 < n) (length-map (x ∷ xs) f) high in
+    let before : k < length (x ∷ xs) = omega arith in
+    rw (get_or-map f (x ∷ xs) (k + 1) x d within, get_or-map f (x ∷ xs) k x d before) (sorted k x low within)
+
+-- two functions that agree on each element give one list
+pub map-agree : {X Y : Type 0} (P : X → Type 0) (f h : X → Y) → ((x : X) → P x → f x ≡ h x) → (xs : List X) → All P xs → map f xs ≡ map h xs
+map-agree P f h agree [] all = refl
+map-agree P f h agree (x ∷ xs) all = ap₂ (λ y ys. y ∷ ys) (agree x (All-head P x xs all)) (map-agree P f h agree xs (All-tail P x xs all))
+
+-- what was appended in five pieces
+pub five_appended : (old a b c d e after_a after_b after_c after_d after_e : List ℕ) → after_a ≡ old ++ a → after_b ≡ after_a ++ b →
+    after_c ≡ after_b ++ c → after_d ≡ after_c ++ d → after_e ≡ after_d ++ e → after_e ≡ old ++ (a ++ b ++ c ++ d ++ e)
+five_appended old a b c d e after_a after_b after_c after_d after_e first second third fourth fifth =
+    rw (fifth, fourth, third, second, first) (simp append_assoc refl)

@@ -1,0 +1,5 @@
+pub mod FieldLaws
+pub mod InviteClientLine
+pub mod PlainClientLine
+pub mod InviteServerLine
+pub mod PlainServerLine

@@ -1,0 +1,31 @@
+use Rattle.std.specs.Prelude.{◌≡◌, ◌++◌, ℕ, List, [], ◌∷◌}
+use Rattle.std.specs.List.{flat_map}
+use Rattle.std.proofs.Common.{refl, ap₂}
+use Rattle.std.proofs.lemmas.List.Elements.{All-head, All-tail}
+use Rattle.sip_machine.specs.declared.outbox.Debt.{Debt}
+use Rattle.sip_machine.specs.Texts.{Texts, text_of}
+use Rattle.sip_machine.specs.Owes.{owes_names, owes_seen}
+use Rattle.sip_listing.specs.Fields.{owed_field, owes_fields, Tells}
+
+-- The words of what the code names by numbers of a book.
+
+-- the debts of the code, one behind another
+abbrev pub debts_fields : List Debt → List ℕ
+debts_fields debts = flat_map (λ debt. owed_field debt.message debt.deadline debt.must) debts
+
+-- the first of the numbers is told as it is
+pub first_told : (number : List ℕ → ℕ) (texts : Texts) (name : ℕ) (names : List ℕ) → Tells number texts (name ∷ names) →
+    number (text_of texts name) ≡ name
+first_told number texts name names told = All-head (λ name. number (text_of texts name) ≡ name) name names told
+
+-- and so are the others
+pub others_told : (number : List ℕ → ℕ) (texts : Texts) (name : ℕ) (names : List ℕ) → Tells number texts (name ∷ names) → Tells number texts names
+others_told number texts name names told = All-tail (λ name. number (text_of texts name) ≡ name) name names told
+
+-- the debts are told as what they stand for
+pub debts_told : (number : List ℕ → ℕ) (texts : Texts) (debts : List Debt) →
+    Tells number texts (owes_names debts) → owes_fields number (owes_seen texts debts) ≡ debts_fields debts
+debts_told number texts [] told = refl
+debts_told number texts (debt ∷ debts) told =
+    ap₂ (λ message more. owed_field message debt.deadline debt.must ++ more) (first_told number texts debt.message (owes_names debts) told)
+    (debts_told number texts debts (others_told number texts debt.message (owes_names debts) told))

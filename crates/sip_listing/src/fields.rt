@@ -1,0 +1,67 @@
+//! The words of which the text of a state is made.
+ghost use Rattle.std.specs.Prelude.{◌≡◌, ◌++◌, OnOk, string_bytes};
+ghost use Rattle.sip_listing.specs.Fields.{field, number_field, optional_field, flag_field, owed_field};
+ghost use Rattle.sip_listing.specs.inner.FieldLaws.{debts_fields};
+
+use itoa::Buffer;
+use sip_machine::Debt;
+use std::alloc::AllocError;
+
+/// Appends a value with its name, behind a blank.
+fn push_field(line: &mut String, name: &str, value: &str) -> Result<(), AllocError>
+    ensures { OnOk result (string_bytes line.new ≡ string_bytes line.old ++ field name.now value.now) }
+{
+    line.push_str(" ")?;
+    line.push_str(name)?;
+    line.push_str("=")?;
+    line.push_str(value)
+}
+
+/// Appends a moment, an interval, or the number of a message.
+pub(crate) fn push_number(line: &mut String, name: &str, value: u64) -> Result<(), AllocError>
+    ensures { OnOk result (string_bytes line.new ≡ string_bytes line.old ++ number_field name.now value) }
+{
+    push_field(line, name, Buffer::new().format(value))
+}
+
+/// Appends one that there may not be.
+pub(crate) fn push_optional(
+    line: &mut String,
+    name: &str,
+    value: Option<u64>,
+) -> Result<(), AllocError>
+    ensures { OnOk result (string_bytes line.new ≡ string_bytes line.old ++ optional_field name.now value) }
+{
+    match value {
+        None => push_field(line, name, "none"),
+        Some(value) => push_number(line, name, value),
+    }
+}
+
+/// Appends whether it is so.
+pub(crate) fn push_flag(line: &mut String, name: &str, value: bool) -> Result<(), AllocError>
+    ensures { OnOk result (string_bytes line.new ≡ string_bytes line.old ++ flag_field name.now value) }
+{
+    push_field(line, name, if value { "yes" } else { "no" })
+}
+
+/// Appends a message that is owed, with its deadline.
+fn push_owed(line: &mut String, debt: Debt) -> Result<(), AllocError>
+    ensures { OnOk result (string_bytes line.new ≡ string_bytes line.old ++ owed_field debt.message debt.deadline debt.must) }
+{
+    push_number(line, "owes", debt.message.into())?;
+    line.push_str("/")?;
+    line.push_str(Buffer::new().format(debt.deadline))?;
+    line.push_str("/")?;
+    line.push_str(if debt.must { "must" } else { "may" })
+}
+
+/// Appends what is owed, one behind another.
+pub(crate) fn push_owes(line: &mut String, owes: &[Debt]) -> Result<(), AllocError>
+    ensures { OnOk result (string_bytes line.new ≡ string_bytes line.old ++ debts_fields owes.now) }
+{
+    for debt in owes {
+        push_owed(line, *debt)?;
+    }
+    Ok(())
+}

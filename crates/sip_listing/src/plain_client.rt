@@ -1,0 +1,53 @@
+//! The text of a state of the non-INVITE client.
+ghost use Rattle.std.specs.Prelude.{◌≡◌, ◌++◌, OnOk, string_bytes};
+ghost use Rattle.sip_listing.specs.PlainClient.{waiting_text};
+
+use crate::fields::{push_flag, push_number};
+use crate::told::Told;
+use sip_machine::{PlainState, PlainWaiting};
+use std::alloc::AllocError;
+
+impl Told for PlainState {
+    ghost use Rattle.sip_machine.specs.PlainClient.{PlainPhase, plain_seen, plain_names};
+    ghost use Rattle.sip_listing.specs.PlainClient.{plain_client_text};
+    ghost use Rattle.sip_listing.specs.inner.PlainClientLine.{plain_client_line, plain_client_told};
+
+    ghost Seen = { PlainPhase };
+
+    ghost seen = { plain_seen };
+
+    ghost names = { plain_names };
+
+    ghost text = { plain_client_text };
+
+    ghost line = { plain_client_line };
+
+    ghost told = { plain_client_told };
+
+    fn push_text(&self, out: &mut String) -> Result<(), AllocError> {
+        match self {
+            PlainState::Idle => out.push_str("idle"),
+            PlainState::Trying(waiting) => push_waiting(out, "trying", waiting),
+            PlainState::Proceeding(waiting) => push_waiting(out, "proceeding", waiting),
+            PlainState::Completed { reliable, set } => {
+                out.push_str("completed")?;
+                push_flag(out, "reliable", *reliable)?;
+                push_number(out, "set", *set)
+            }
+            PlainState::Ended => out.push_str("ended"),
+        }
+    }
+}
+
+/// Appends the text of a request that waits for its final response.
+fn push_waiting(out: &mut String, phase: &str, waiting: &PlainWaiting) -> Result<(), AllocError>
+    ensures { OnOk result (string_bytes out.new ≡ string_bytes out.old
+        ++ waiting_text phase.now waiting.now.reliable waiting.now.request waiting.now.start waiting.now.set waiting.now.interval) }
+{
+    out.push_str(phase)?;
+    push_flag(out, "reliable", waiting.reliable)?;
+    push_number(out, "request", waiting.request.into())?;
+    push_number(out, "start", waiting.start)?;
+    push_number(out, "set", waiting.set)?;
+    push_number(out, "interval", waiting.interval)
+}

@@ -2,12 +2,24 @@
 #![tactic(auto)]
 
 #[cfg(test)]
-mod logged;
+mod growths;
+#[cfg(test)]
+mod many;
+#[cfg(test)]
+mod notation;
 #[cfg(test)]
 mod pieces;
 #[cfg(test)]
+mod proxy;
+#[cfg(test)]
+mod proxy_messages;
+#[cfg(test)]
 mod room;
+#[cfg(test)]
+mod rows;
 #[cfg(test)]
 mod shows;
 #[cfg(test)]
 mod tests;
+#[cfg(test)]
+mod verdicts;

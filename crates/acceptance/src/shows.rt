@@ -1,7 +1,9 @@
 //! What is shown of logs: rows worked out by hand from the log format and from RFC 3261 section 7.
-use crate::logged::{HEADER, stored_run};
+use crate::notation::{log_of, log_with};
 use crate::pieces::Pieces;
 use crate::room::Room;
+use crate::rows::STORED;
+use crate::verdicts::verdict_on;
 use sip_log::{FromRead, ToWrite};
 use sip_verdict::{LogReason, ShowError, Shown, show};
 use std::alloc::Global;
@@ -26,7 +28,7 @@ fn shown(alloc: Global, log: &[u8]) -> Result<(Vec<u8>, Shown), ShowError> {
 
 #[test]
 fn shows_the_stored_run(rt: HostRuntime) -> Result<(), Fail> {
-    let log = stored_run(rt.alloc())?;
+    let log = log_of(rt.alloc(), STORED)?;
     let bytes = log.as_str().as_bytes();
     // Its messages are of the canonical form, so each entry stands there as in the log, behind its number.
     let mut want = Vec::new(rt.alloc());
@@ -50,25 +52,31 @@ fn shows_the_stored_run(rt: HostRuntime) -> Result<(), Fail> {
 #[test]
 fn shows_the_canonical_form(rt: HostRuntime) -> Result<(), Fail> {
     assert_eq!(rt; (FOLDED.len(), UNFOLDED.len()), (181, 202));
-    let log = format!(in rt.alloc(); "{HEADER}S 0 181\n{FOLDED}\n")?;
+    let log = log_with(rt.alloc(), "S 0 folded", &[("folded", FOLDED)])?;
+    let bytes = log.as_str().as_bytes();
     let want = format!(in rt.alloc(); "1 S 0 202\n{UNFOLDED}\nend 1\n")?;
-    let (text, answer) = shown(rt.alloc(), log.as_str().as_bytes())?;
+    let (text, answer) = shown(rt.alloc(), bytes)?;
     assert!(rt; text.as_slice() == want.as_str().as_bytes());
     assert_eq!(rt; answer, Shown::End { entries: 1 });
+    // It is judged as it is spelled.
+    let text = verdict_on(rt.alloc(), bytes)?;
+    assert_eq!(rt; text.as_str(), "legal entries 1 transactions 1");
     Ok(())
 }
 
 #[test]
 fn stops_at_a_fault(rt: HostRuntime) -> Result<(), Fail> {
     // An LF stands alone before the line of the branch.
-    let bare =
-        "OPTIONS sip:example.com SIP/2.0\r\nv: SIP / 2.0 / UDP\r\n a.example.com\n\t;branch = z9hG4bKr2\r\n\
-f: <sip:bob@example.com>;tag=1\r\nt: sip:bob@example.com\r\ni: c2@a\r\nCSeq: 1 OPTIONS\r\nl: 0\r\n\r\n";
-    let log = format!(in rt.alloc(); "{HEADER}S 0 180\n{bare}\nM 0\n")?;
-    let (text, answer) = shown(rt.alloc(), log.as_str().as_bytes())?;
+    let bare = FOLDED.replacen(rt.alloc(), "\r\n\t", "\n\t", 1)?;
+    assert_eq!(rt; bare.len(), 180);
+    let log = log_with(rt.alloc(), "S 0 bare; M 0", &[("bare", bare.as_str())])?;
+    let bytes = log.as_str().as_bytes();
+    let (text, answer) = shown(rt.alloc(), bytes)?;
     assert!(rt; text.as_slice() == b"malformed 1 head 2 BareLineEnd\n".as_slice());
     assert!(rt; matches!(answer, Shown::Malformed { entry: 1, .. }));
-    let log = format!(in rt.alloc(); "{HEADER}M 5\nM 4\n")?;
+    let text = verdict_on(rt.alloc(), bytes)?;
+    assert_eq!(rt; text.as_str(), "malformed 1 head 2 BareLineEnd");
+    let log = log_of(rt.alloc(), "M 5,4")?;
     let (text, answer) = shown(rt.alloc(), log.as_str().as_bytes())?;
     assert!(rt; text.as_slice() == b"1 M 5\nlog fault 2 23 Order\n".as_slice());
     let reason = LogReason::Order;
@@ -81,7 +89,7 @@ f: <sip:bob@example.com>;tag=1\r\nt: sip:bob@example.com\r\ni: c2@a\r\nCSeq: 1 O
 /// A source that fails at its nth call, and a sink that does.
 #[test]
 fn tells_the_side_that_failed(rt: HostRuntime) -> Result<(), Fail> {
-    let log = stored_run(rt.alloc())?;
+    let log = log_of(rt.alloc(), STORED)?;
     let bytes = log.as_str().as_bytes();
     for calls in 0..=bytes.len() {
         let mut source = Pieces::failing(bytes, calls);
@@ -96,5 +104,32 @@ fn tells_the_side_that_failed(rt: HostRuntime) -> Result<(), Fail> {
         let answer = show(rt.alloc(), &mut FromRead::new(bytes), &mut less);
         assert_eq!(rt; answer, Err(ShowError::Write), "after {calls} writes");
     }
+    Ok(())
+}
+
+/// A refused growth within `show`. `tests/growths` refuses each in turn: the answer is want of memory, and what was
+/// written until then is a front of what is written with memory.
+#[test]
+fn shows_again_after_a_refused_growth(rt: HostRuntime) -> Result<(), Fail> {
+    let log = log_with(rt.alloc(), "S 0 folded; M 5", &[("folded", FOLDED)])?;
+    let want = format!(in rt.alloc(); "1 S 0 202\n{UNFOLDED}\n2 M 5\nend 2\n")?;
+    let bytes = log.as_str().as_bytes();
+    let whole = Shown::End { entries: 2 };
+    // With room for the whole text, so that writing takes no memory.
+    let mut text = Vec::with_capacity(rt.alloc(), 1_000)?;
+    let answer = show(
+        rt.alloc(),
+        &mut FromRead::new(bytes),
+        &mut ToWrite::new(&mut text),
+    );
+    assert!(rt; want.as_str().as_bytes().starts_with(&text));
+    if answer.is_err() {
+        assert!(rt; answer == Err(ShowError::Memory));
+        let (again, told) = shown(rt.alloc(), bytes)?;
+        assert!(rt; again.as_slice() == want.as_str().as_bytes() && told == whole);
+    } else {
+        assert!(rt; text.len() == want.len());
+    }
+    assert!(rt; answer? == whole);
     Ok(())
 }

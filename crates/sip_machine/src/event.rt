@@ -1,6 +1,6 @@
 //! What happened at a moment: a message that was sent, received, or refused by the transport.
 ghost use Rattle.std.specs.Prelude.{◌≡◌, ◌≢◌, ◌≤◌, ◌↔◌, IsTrue, false};
-ghost use Rattle.sip_message.specs.Message.{is_stream};
+ghost use Rattle.sip_message.specs.Transport.{is_reliable};
 ghost use Rattle.sip_message.specs.ValueParts.{start_parts};
 ghost use Rattle.sip_machine.specs.declared.event.Action.TheVariants.{Mark};
 ghost use Rattle.sip_machine.specs.Times.{last_moment};
@@ -143,7 +143,7 @@ impl Event {
           action = action;
           number = number;
           kind = kind_of message.now.message.start;
-          reliable = is_stream message.now.parts.via.1.transport;
+          reliable = is_reliable message.now.parts.via.1.transport;
         } }
     {
         Event {

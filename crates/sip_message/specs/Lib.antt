@@ -21,3 +21,4 @@ pub mod ViaParts
 pub mod Reading
 pub mod ValueParts
 pub mod Reads
+pub mod Transport

@@ -10,11 +10,12 @@ ghost use Rattle.sip_message.specs.ViaParts.{element};
 use crate::address::{Address, read_address};
 use crate::fault::{Fault, ReadError, Reason, Unit};
 use crate::field::{Field, read_fields};
-use crate::stages::{cut_first, cut_head, find_named, is_clean, is_stream, read_body};
+use crate::stages::{cut_first, cut_head, find_named, is_clean, read_body};
 use crate::start_line::{StartLine, read_start};
 use crate::values::{CSeq, read_cseq};
 use crate::via::{Via, read_via};
 use crate::vias::{Routes, Vias};
+use sip_text::same_text;
 use std::alloc::Global;
 use std::marker::Model;
 
@@ -170,7 +171,8 @@ impl<'a> Message<'a> {
     ghost use Rattle.std.specs.Prelude.{◌↔◌};
     ghost use Rattle.sip_message.specs.declared.name.Known.TheVariants as known_name;
     ghost use Rattle.sip_message.specs.Elements.{values};
-    ghost use Rattle.sip_message.specs.Message.{is_stream, MessageText};
+    ghost use Rattle.sip_message.specs.Message.{MessageText};
+    ghost use Rattle.sip_message.specs.Transport.{is_reliable};
 
     /// The values of the Route fields, in order.
     pub fn routes(&self) -> Routes<'_, 'a>
@@ -179,11 +181,11 @@ impl<'a> Message<'a> {
         Routes::new(&self.fields)
     }
 
-    /// Whether the transport of the top Via is a stream, TCP or TLS.
+    /// Whether the transport of the top Via delivers what it takes: every one but UDP (RFC 3261, section 17).
     pub fn is_reliable(&self) -> bool
-        ensures { result ≡ is_stream self.now.parts.via.1.transport }
+        ensures { result ≡ is_reliable self.now.parts.via.1.transport }
     {
-        is_stream(self.top_via().transport)
+        !same_text(self.top_via().transport, b"UDP")
     }
 
     // The fields.

@@ -209,7 +209,7 @@ fn is_stream_via(via: &[u8]) -> bool
 }
 
 /// Whether the transport is a stream: TCP or TLS.
-pub(crate) fn is_stream(transport: &[u8]) -> bool
+fn is_stream(transport: &[u8]) -> bool
     ensures { result ≡ is_stream transport.now }
 {
     same_text(transport, b"TCP") || same_text(transport, b"TLS")

@@ -2,7 +2,7 @@
 use Rattle.std.proofs.Common.{◌≡◌, ◌≤◌, ℕ, true, false, Option, Some, None, MatchOption, List, [], ◌++◌, refl, sym, ap, ◌∙◌, subst}
 use Rattle.std.specs.Prelude.{option_to_list}
 use Rattle.sip_message.specs.declared.fault.Fault.{Fault}
-use Rattle.sip_message.specs.Message.{is_stream}
+use Rattle.sip_message.specs.Transport.{is_reliable}
 use Rattle.sip_message.specs.Reading as message
 use Rattle.sip_message.specs.Reads.{Reads}
 use Rattle.sip_message.specs.Faults.{FaultOf}
@@ -40,7 +40,7 @@ observes_no_cookie item direction text r same reads lacks = has_no_cookie r (sub
 
 -- the event of an entry with a message that was read, whose bytes have this number
 abbrev pub event_of : Item → message.Reading → ℕ → NumberedEvent
-event_of item r number = record { moment = item.moment; action = item.action; number = number; kind = kind_of r.message.start; reliable = is_stream r.parts.via.1.transport }
+event_of item r number = record { moment = item.moment; action = item.action; number = number; kind = kind_of r.message.start; reliable = is_reliable r.parts.via.1.transport }
 
 -- its event and its keys
 pub observes_heard : (item : Item) (direction : Direction) (text : List ℕ) (r : message.Reading) (texts : Texts) (event : NumberedEvent) (number : ℕ) (own cancelled : Option KeyParts)
@@ -53,7 +53,7 @@ observes_heard item direction text r texts event number own cancelled same reads
     (ap (λ h. record { fault = None; event = h; keys = option_to_list own ++ option_to_list cancelled }) (ap (heard texts) event_is ∙ alike))
   where
     alike : heard texts (event_of item r number) ≡ heard_message item r
-    alike = ap (λ t. record { moment = item.moment; action = item.action; text = t; kind = kind_of r.message.start; reliable = is_stream r.parts.via.1.transport }) kept
+    alike = ap (λ t. record { moment = item.moment; action = item.action; text = t; kind = kind_of r.message.start; reliable = is_reliable r.parts.via.1.transport }) kept
 
 -- the event fits the book that keeps its message
 pub event_fits : (item : Item) (r : message.Reading) (texts : Texts) (event : NumberedEvent) (number : ℕ) → event ≡ event_of item r number → Keeps texts number → item.moment ≤ last_moment

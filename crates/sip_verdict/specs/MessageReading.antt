@@ -3,7 +3,7 @@ use Rattle.std.specs.Prelude.{◌≡◌, ℕ, true, false, Option, None, Some, M
 use Rattle.sip_message.specs.declared.fault.Fault.{Fault}
 use Rattle.sip_message.specs.declared.fault.Unit.TheVariants.{Head}
 use Rattle.sip_message.specs.declared.fault.Reason.TheVariants.{NoCookie}
-use Rattle.sip_message.specs.Message.{is_stream}
+use Rattle.sip_message.specs.Transport.{is_reliable}
 use Rattle.sip_message.specs.Reading as message
 use Rattle.sip_message.specs.Reads.{Reads}
 use Rattle.sip_message.specs.Faults.{FaultOf}
@@ -46,10 +46,9 @@ fault_observation item fault = record {
   keys = [];
 }
 
--- an entry with its message as a machine hears it: a method or a code, sections 7.1 and 7.2, over the transport of the top Via,
--- which is reliable if it is a stream, section 18
+-- an entry with its message as a machine hears it: a method or a code, sections 7.1 and 7.2, over the transport of the top Via
 abbrev pub heard_message : Item → message.Reading → Heard
-heard_message item r = record { moment = item.moment; action = item.action; text = item.text; kind = kind_of r.message.start; reliable = is_stream r.parts.via.1.transport }
+heard_message item r = record { moment = item.moment; action = item.action; text = item.text; kind = kind_of r.message.start; reliable = is_reliable r.parts.via.1.transport }
 
 -- a message without a fault is heard, and concerns these keys
 abbrev pub message_observation : Item → message.Reading → List KeyParts → Observation KeyParts

@@ -55,7 +55,7 @@ fn tells_messages(rt: HostRuntime) -> Result<(), Fail> {
             "SCTP",
             "invite",
             Kind::Request(Method::Other),
-            false,
+            true,
         ),
         (
             "OPTIONS sip:b SIP/2.0",

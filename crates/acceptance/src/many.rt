@@ -1,0 +1,111 @@
+//! Long messages, and many entries, transactions and messages. Each test ends within seconds.
+use crate::notation::{header, log_with, push};
+use crate::pieces::Pieces;
+use crate::verdicts::{judge_rows, verdict_of, verdict_on};
+use std::alloc::{AllocError, Global};
+use std::test::Fail;
+
+/// An OPTIONS of so many bytes, and four more.
+fn long_message(alloc: Global, len: usize) -> Result<String, AllocError> {
+    let mut text = String::with_capacity(alloc, 65_536)?;
+    text.push_str(
+        "OPTIONS sip:example.com SIP/2.0\r\nVia: SIP/2.0/UDP a.example.com;branch=z9hG4bK1\r\n\
+        From: <sip:bob@example.com>;tag=1\r\nTo: <sip:bob@example.com>\r\nCall-ID: c1@a\r\nCSeq: 1 OPTIONS\r\n\
+        Content-Length: 0\r\nSubject: ",
+    )?;
+    for _ in text.len()..len {
+        text.push('x')?;
+    }
+    text.push_str("\r\n\r\n")?;
+    Ok(text)
+}
+
+#[test]
+fn judges_a_long_message(rt: HostRuntime) -> Result<(), Fail> {
+    let long = long_message(rt.alloc(), 60_000)?;
+    let log = log_with(
+        rt.alloc(),
+        "S 0,500 long; R 600 200 OPTIONS; M 6000",
+        &[("long", long.as_str())],
+    )?;
+    let bytes = log.as_str().as_bytes();
+    let text = verdict_on(rt.alloc(), bytes)?;
+    assert_eq!(rt; text.as_str(), "legal entries 4 transactions 1");
+    let text = verdict_of(rt.alloc(), &mut Pieces::single(bytes))?;
+    assert_eq!(rt;
+        text.as_str(),
+        "legal entries 4 transactions 1",
+        "in single bytes"
+    );
+    Ok(())
+}
+
+#[test]
+fn judges_the_longest_message(rt: HostRuntime) -> Result<(), Fail> {
+    let mut log = header(rt.alloc(), "50")?;
+    log.push_str("S 0 65535\n")?;
+    for _ in 0..65_535 {
+        log.push('x')?;
+    }
+    log.push_str("\n")?;
+    let text = verdict_on(rt.alloc(), log.as_str().as_bytes())?;
+    assert_eq!(rt; text.as_str(), "malformed 1 head 1 NoHeadEnd");
+    Ok(())
+}
+
+#[test]
+fn judges_a_thousand_transactions(rt: HostRuntime) -> Result<(), Fail> {
+    let mut log = header(rt.alloc(), "50")?;
+    for number in 0..1_000 {
+        let entry = format!(in rt.alloc(); "S 0 OPTIONS #{number}")?;
+        push(rt.alloc(), &mut log, entry.as_str(), &[])?;
+    }
+    let text = verdict_on(rt.alloc(), log.as_str().as_bytes())?;
+    assert_eq!(rt; text.as_str(), "legal entries 1000 transactions 1000");
+    // All of them are overdue, and the first is named.
+    log.push_str("M 551\n")?;
+    let text = verdict_on(rt.alloc(), log.as_str().as_bytes())?;
+    assert_eq!(rt; text.as_str(), "breach 1001 transaction 1");
+    Ok(())
+}
+
+#[test]
+fn judges_many_entries(rt: HostRuntime) -> Result<(), Fail> {
+    judge_rows(
+        &rt,
+        &[
+            (
+                "R 0 INVITE; S 1 180; M 1..10000",
+                "legal entries 10002 transactions 1",
+            ),
+            // Each response is another message.
+            (
+                "R 0 INVITE; S 1 180; S 2 181; S 3 182; S 4 183; S 5 184; S 6 185; S 7 186; S 8 187; S 9 188; S 10 189",
+                "legal entries 11 transactions 1",
+            ),
+            // Repeats that a 100 may answer, and repeats that the 200 must answer: the first by 51.
+            (
+                "R 0 OPTIONS; S 0 100 OPTIONS; R 1..1000 OPTIONS",
+                "legal entries 1002 transactions 1",
+            ),
+            (
+                "R 0 OPTIONS; S 0 200 OPTIONS; R 1..1000 OPTIONS",
+                "breach 54 transaction 1",
+            ),
+        ],
+    )
+}
+
+#[test]
+fn counts_a_million_entries(rt: HostRuntime) -> Result<(), Fail> {
+    let mut log = header(rt.alloc(), "50")?;
+    for _ in 0..1_000_000 {
+        log.push_str("M 0\n")?;
+    }
+    let text = verdict_on(rt.alloc(), log.as_str().as_bytes())?;
+    assert_eq!(rt; text.as_str(), "legal entries 1000000 transactions 0");
+    log.push_str("M")?;
+    let text = verdict_on(rt.alloc(), log.as_str().as_bytes())?;
+    assert_eq!(rt; text.as_str(), "log fault 1000001 24 Limit");
+    Ok(())
+}

@@ -12,8 +12,6 @@ mod progress;
 mod reader;
 mod sink;
 mod source;
-#[cfg(test)]
-mod tests;
 mod whole;
 mod window;
 mod write_error;

@@ -8,9 +8,6 @@ use crate::broken::Broken;
 use std::io;
 use std::io::Read;
 
-#[cfg(test)]
-mod tests;
-
 /// What hands out the bytes of a log, in pieces of any size.
 pub trait Source {
     // The bytes that it will hand out from here on, where they are known. Each implementation says so itself.

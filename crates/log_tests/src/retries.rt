@@ -1,4 +1,8 @@
-use super::*;
+//! Reads of std that fail, and what is tried again.
+
+use sip_log::{FromRead, Source};
+use std::io;
+use std::io::Read;
 
 /// Gives one byte at each call, after its first calls have failed.
 #[derive(Drop)]

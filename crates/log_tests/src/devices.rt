@@ -1,7 +1,7 @@
 //! Devices of the tests.
 ghost use Rattle.std.specs.Prelude.{None, Some};
 
-use crate::{Broken, Sink, Source};
+use sip_log::{Broken, Sink, Source};
 
 /// Hands out bytes in pieces: the first of one size, and each other of a second one.
 #[derive(Drop)]

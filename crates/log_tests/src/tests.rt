@@ -1,11 +1,9 @@
 //! Rows of the format, read in pieces of any size and written again.
-mod devices;
-
-use crate::{
+use crate::devices::{Pieces, Room};
+use sip_log::{
     Broken, FromRead, LogError, LogReader, Sink, Source, ToWrite, WriteError, read_entries,
     write_entry, write_header,
 };
-use devices::{Pieces, Room};
 use sip_machine::{Action, Params};
 use std::alloc::{AllocError, Global};
 use std::test::Fail;

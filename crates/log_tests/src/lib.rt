@@ -1,0 +1,9 @@
+//! Tests of `sip_log`: rows of the format, read in pieces of any size and written again.
+#![tactic(auto)]
+
+#[cfg(test)]
+mod devices;
+#[cfg(test)]
+mod retries;
+#[cfg(test)]
+mod tests;

@@ -98,30 +98,3 @@ fn tells_the_side_that_failed(rt: HostRuntime) -> Result<(), Fail> {
     }
     Ok(())
 }
-
-/// A refused growth within `show`. `tests/growths` refuses each in turn: the answer is want of memory, and what was
-/// written until then is a front of what is written with memory.
-#[test]
-fn shows_again_after_a_refused_growth(rt: HostRuntime) -> Result<(), Fail> {
-    let log = format!(in rt.alloc(); "{HEADER}S 0 181\n{FOLDED}\nM 5\n")?;
-    let want = format!(in rt.alloc(); "1 S 0 202\n{UNFOLDED}\n2 M 5\nend 2\n")?;
-    let bytes = log.as_str().as_bytes();
-    let whole = Shown::End { entries: 2 };
-    // With room for the whole text, so that writing takes no memory.
-    let mut text = Vec::with_capacity(rt.alloc(), 1_000)?;
-    let answer = show(
-        rt.alloc(),
-        &mut FromRead::new(bytes),
-        &mut ToWrite::new(&mut text),
-    );
-    assert!(rt; want.as_str().as_bytes().starts_with(&text));
-    if answer.is_err() {
-        assert!(rt; answer == Err(ShowError::Memory));
-        let (again, told) = shown(rt.alloc(), bytes)?;
-        assert!(rt; again.as_slice() == want.as_str().as_bytes() && told == whole);
-    } else {
-        assert!(rt; text.len() == want.len());
-    }
-    assert!(rt; answer? == whole);
-    Ok(())
-}

@@ -209,7 +209,6 @@ host-cut test text user password rest no_question no_semicolon no_colon info all
       );
     }
 
-
 -- the reader's cuts, one behind the other, are those of a SIP URI
 pub sip-cut : (text : List ℕ) (cut : CutParts) (rest front hostport : List ℕ) → IsInfoCut text cut.user cut.password rest → front ≡ before question rest → cut.headers ≡ behind question rest → hostport ≡ before semicolon front → IsPortCut hostport cut.host cut.port → cut.params ≡ drop (length hostport) front → IsSipCut text cut
 sip-cut text cut rest front hostport info front_is headers_is hostport_is port params_is =

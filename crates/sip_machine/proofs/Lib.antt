@@ -7,6 +7,7 @@ pub mod RuleLaws
 pub mod SingleLemmas
 pub mod BothLemmas
 pub mod TextLaws
+mod OrderLaws
 pub mod OutboxLemmas
 pub mod ProvisionalLemmas
 pub mod AckLemmas

@@ -8,6 +8,7 @@ pub mod SingleLemmas
 pub mod BothLemmas
 pub mod TextLaws
 mod OrderLaws
+mod RunLaws
 pub mod OutboxLemmas
 pub mod ProvisionalLemmas
 pub mod AckLemmas

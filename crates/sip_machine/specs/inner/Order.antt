@@ -1,13 +1,15 @@
-use Rattle.std.specs.Prelude.{◌≡◌, ◌<◌, ◌≤◌, ℕ, List, [], All, AllPairs, Contains, map, length, slice_index_or}
+use Rattle.std.specs.Prelude.{◌≡◌, ◌<◌, ◌≤◌, ◌+◌, ℕ, Bool, true, if◌then◌else◌, nat_lt, List, [], All, AllPairs, Contains, map, length, take, slice_index_or}
 use Rattle.std.specs.declared.cmp.Ordering.{Ordering}
 use Rattle.std.specs.declared.cmp.Ordering.TheVariants.{Less, Greater}
-use Rattle.std.specs.Ordering.{nat_cmp, ordering_then}
-use Rattle.std.specs.List.{AllWithin}
+use Rattle.std.specs.Ordering.{nat_cmp, ordering_then, is_le}
+use Rattle.std.specs.List.{AllWithin, HoldsAt, flat_map}
 use Rattle.std.specs.Cmp.Lexicographic.{slice_cmp}
 use Rattle.std.specs.Hash.FoldHasher.{initial, write, finish}
 use Rattle.sip_machine.specs.Texts.{Texts}
 use Rattle.sip_machine.specs.declared.book.Kept.{Kept}
 use Rattle.sip_machine.specs.declared.book.Place.{Place}
+use Rattle.sip_machine.specs.declared.book.Run.{Run}
+use Rattle.sip_machine.specs.declared.book.Gap.{Gap}
 
 -- How a book finds equal bytes.
 
@@ -45,3 +47,26 @@ pub record IsGap (texts : Texts) (key : ℕ × List ℕ) (places : List Place) (
   pub within : i ≤ length places
   pub before : AllWithin (λ place. compare (key_of texts place) key ≡ Less) places 0 i
   pub after : AllWithin (λ place. compare (key_of texts place) key ≡ Greater) places i (length places)
+
+-- the places of these runs, one run after another
+abbrev pub places_of : List Run → List Place
+places_of runs = flat_map (λ run. run.places.items) runs
+
+-- the runs hold the places in order, and none is empty
+pub record IsInRuns (texts : Texts) (runs : List Run) : Type 0 where
+  pub order : IsOrder texts (places_of runs)
+  pub filled : All (λ run. 0 < length run.places.items) runs
+
+-- the first place of the run is none after the key
+abbrev pub begins_by : Texts → ℕ × List ℕ → Run → Bool
+begins_by texts key run =
+    if nat_lt 0 (length run.places.items) then is_le (compare (key_of texts (slice_index_or run.places.items 0 (record { hash = 0; position = 0 }))) key) else true
+
+-- where a gap is among the places of all runs
+abbrev pub index_of : List Run → Gap → ℕ
+index_of runs gap = length (places_of (take gap.run runs)) + gap.place
+
+-- the gap is in one of the runs
+pub record IsInside (runs : List Run) (gap : Gap) : Type 0 where
+  pub run : gap.run < length runs
+  pub place : HoldsAt (λ run. gap.place ≤ length run.places.items) runs gap.run

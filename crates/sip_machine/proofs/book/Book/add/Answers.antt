@@ -1,4 +1,5 @@
 use Rattle.std.proofs.Common.{◌∙◌, sym}
+use Rattle.sip_machine.specs.inner.Order.{places_of, index_of}
 use Rattle.sip_machine.proofs.TextLaws.{text_of-kept, Keeps-added, text_of-added}
 use Rattle.sip_machine.proofs.OrderLaws.{bytes_at-kept, IsKept-grow, by_result}
 use Rattle.sip_machine.proofs.book.Book.add.Goals as goal
@@ -6,12 +7,15 @@ use Rattle.sip_machine.proofs.book.Book.add.Goals as goal
 pub invariant_of-self-in-Err : goal.invariant_of-self-in-Err
 invariant_of-self-in-Err c =
     let kept = c.self.inside.kept.items in
-    let places = c.self.inside.order.items in
+    let runs = c.self.inside.order.items in
     let gap = rw (c.deref.ensures.value, c.deref-2.ensures.value) at c.in-Err.ensures.gap in
     by_result c.put.result c.put.ensures.ok c.put.ensures.err
-    (IsKept-grow kept c.put.new.kept.items places c.put.new.order.items c.args.entry c.hash-hash.result c.args.bytes.now c.in-Err.gap
-    c.hash-hash.ensures c.self.invariant (rw c.self.view_is c.requires) gap)
-    (λ same. rw (same.0, same.1) c.self.invariant)
+    (λ grows.
+    let grown = IsKept-grow kept c.put.new.kept.items (places_of runs) (places_of c.put.new.runs.items) c.args.entry c.hash-hash.result c.args.bytes.now
+    (index_of runs c.in-Err.gap) c.hash-hash.ensures (c.self.invariant.0, c.self.invariant.1.order) (rw c.self.view_is c.requires) gap grows in
+    (grown.0, record { order = grown.1; filled = c.put.ensures.filled }))
+    (λ same.
+    (rw same.0 c.self.invariant.0, record { order = rw (same.0, same.1) c.self.invariant.1.order; filled = c.put.ensures.filled }))
 
 pub returns-in-Ok-clause-ok : goal.returns-in-Ok-clause-ok
 returns-in-Ok-clause-ok c =

@@ -7,6 +7,8 @@ pub mod RuleLaws
 pub mod SingleLemmas
 pub mod BothLemmas
 pub mod TextLaws
+mod OrderLaws
+mod RunLaws
 pub mod OutboxLemmas
 pub mod ProvisionalLemmas
 pub mod AckLemmas

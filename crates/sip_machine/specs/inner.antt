@@ -11,4 +11,5 @@ pub mod Acks
 pub mod InviteServerAt
 pub mod InviteServerLaws
 pub mod Outbox
+pub mod Order
 pub mod Start

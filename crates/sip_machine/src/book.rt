@@ -1,15 +1,22 @@
 //! The messages of a log, each kept once.
-ghost use Rattle.std.specs.Prelude.{◌≡◌, ◌≢◌, ◌<◌, ◌⊎◌, ◌++◌, ◌∷◌, [], ℕ, MatchOption, IfOk, OnErr};
+ghost use Rattle.std.specs.Prelude.{◌≡◌, ◌≢◌, ◌<◌, ◌≤◌, ◌⊎◌, ◌++◌, ◌∷◌, [], ℕ, length, map, MatchOption, IfOk, IfErr, OnOk, OnErr, All};
+ghost use Rattle.std.specs.List.{insert};
+ghost use Rattle.std.specs.List.Sorted.{IsSearchInRange, IsBinarySearchResult};
 ghost use Rattle.sip_machine.specs.Texts.{IsBook, Keeps, text_of};
+ghost use Rattle.sip_machine.specs.inner.Order.{texts_of, hash_of, bytes_at, key_of, compare, begins_by, places_of, index_of, IsInRuns, IsInside, IsGap};
 
 use std::alloc::{AllocError, Global};
+use std::cmp::Ordering;
+use std::hash::{FoldHasher, Hasher};
 use std::marker::Model;
 
-/// Messages by number: equal bytes have one number. They stand in a plain list, which `add` goes through;
-/// an ordered map by the bytes will take its place.
+/// Messages by number: equal bytes have one number. They stand in the order of their numbers, and beside them
+/// their places stand in the order of hash and bytes, in runs, so that few places move for a new one. So a message is found by its number, and by its bytes,
+/// with a logarithm of comparisons, whatever the log is and however the hashes fall; its bytes are kept once.
 #[derive(Drop)]
 pub struct Book {
     kept: Vec<Kept>,
+    order: Vec<Run>,
 }
 
 /// A message with the number of its first entry.
@@ -19,15 +26,38 @@ struct Kept {
     bytes: Vec<u8>,
 }
 
+/// Where a message stands among those that are kept, with the hash of its bytes.
+#[derive(Clone, Copy)]
+struct Place {
+    hash: u64,
+    position: usize,
+}
+
+/// Some of the places, in their order: at least one, at most `MOST`.
+#[derive(Drop)]
+struct Run {
+    places: Vec<Place>,
+}
+
+/// Between two places: in this run, before this place of it.
+#[derive(Clone, Copy)]
+struct Gap {
+    run: usize,
+    place: usize,
+}
+
+/// A run with so many places is halved before it takes another one.
+const MOST: usize = 512;
+
 impl Model for Book {
-    ghost use Rattle.std.specs.Prelude.{map};
     ghost use Rattle.sip_machine.specs.Texts.{Texts, IsBook};
+    ghost use Rattle.sip_machine.specs.inner.Order.{texts_of, IsInRuns};
 
     ghost Value = { Texts };
 
-    ghost view = { λ b. map (λ k. (k.number, k.bytes.items)) b.kept.items };
+    ghost view = { λ b. texts_of b.kept.items };
 
-    ghost invariant = { λ b. IsBook (map (λ k. (k.number, k.bytes.items)) b.kept.items) };
+    ghost invariant = { λ b. IsBook (texts_of b.kept.items) × IsInRuns (texts_of b.kept.items) b.order.items };
 }
 
 impl Book {
@@ -37,6 +67,7 @@ impl Book {
     {
         Book {
             kept: Vec::new(alloc),
+            order: Vec::new(alloc),
         }
     }
 
@@ -52,12 +83,10 @@ impl Book {
         ensures { MatchOption result (Keeps self.now number → ⊥)
             (λ bytes. Keeps self.now number × (bytes.now ≡ text_of self.now number)) }
     {
-        for kept in &self.kept {
-            if kept.number == number {
-                return Some(kept.bytes.as_slice());
-            }
+        match self.kept.binary_search_by_key(&number, |kept| kept.number) {
+            Ok(position) => Some(self.kept[position].bytes.as_slice()),
+            Err(_) => None,
         }
-        None
     }
 
     /// The number of the first kept message with these bytes; where there is none, they are kept
@@ -69,28 +98,147 @@ impl Book {
             ⊎ ((self.new ≡ self.old ++ (entry, bytes.now) ∷ []) × (n ≡ entry))) }
         ensures err { OnErr result (self.new ≡ self.old) }
     {
-        if let Some(number) = self.find(bytes) {
-            return Ok(number);
-        }
-        let alloc = *self.kept.allocator();
-        let bytes = bytes.to_vec(alloc)?;
-        self.kept.push(Kept {
-            number: entry,
-            bytes,
-        })?;
-        Ok(entry)
-    }
-
-    /// The number of the message with these bytes, None if it is not kept.
-    fn find(&self, bytes: &[u8]) -> Option<u32>
-        ensures { MatchOption result ((n : ℕ) → Keeps self.now n → text_of self.now n ≢ bytes.now)
-            (λ n. Keeps self.now n × (text_of self.now n ≡ bytes.now)) }
-    {
-        for kept in &self.kept {
-            if kept.bytes.as_slice() == bytes {
-                return Some(kept.number);
+        let hash = hash(bytes);
+        match find(&self.kept, &self.order, hash, bytes) {
+            Ok(position) => Ok(self.kept[position].number),
+            Err(gap) => {
+                put(&mut self.kept, &mut self.order, gap, entry, hash, bytes)?;
+                Ok(entry)
             }
         }
-        None
+    }
+}
+
+/// A hash of these bytes, which says nothing of them but that equal bytes have equal hashes.
+fn hash(bytes: &[u8]) -> u64
+    ensures { result ≡ hash_of bytes.now }
+{
+    let mut hasher = FoldHasher::default();
+    hasher.write(bytes);
+    hasher.finish()
+}
+
+/// The position of the message with these bytes; where there is none, its gap in the order.
+fn find(kept: &[Kept], runs: &[Run], hash: u64, bytes: &[u8]) -> Result<usize, Gap>
+    requires { IsInRuns (texts_of kept.now) runs.now }
+    ensures found { IfOk result (λ position. (position < length kept.now) × (bytes_at (texts_of kept.now) position ≡ bytes.now)) }
+    ensures gap { IfErr result (λ gap. IsGap (texts_of kept.now) (hash, bytes.now) (places_of runs.now) (index_of runs.now gap)) }
+    ensures inside { IfErr result (λ gap. 0 < length runs.now → IsInside runs.now gap) }
+{
+    if runs.is_empty() {
+        return Err(Gap { run: 0, place: 0 });
+    }
+    let begun = runs.partition_point(|run| begins_by(kept, run, hash, bytes));
+    let run = begun.saturating_sub(1);
+    let places = &runs[run].places;
+    match search(kept, places, hash, bytes) {
+        Ok(at) => Ok(places[at].position),
+        Err(place) => Err(Gap { run, place }),
+    }
+}
+
+/// Whether the first place of a run is none after this hash and these bytes.
+fn begins_by(kept: &[Kept], run: &Run, hash: u64, bytes: &[u8]) -> bool
+    ensures { result ≡ begins_by (texts_of kept.now) (hash, bytes.now) run.now }
+{
+    run.places.is_empty() || standing(kept, run.places[0], hash, bytes).is_le()
+}
+
+/// Keeps a message under the number of its entry, with its place in the gap; on an error all is as before.
+fn put(
+    kept: &mut Vec<Kept>,
+    runs: &mut Vec<Run>,
+    gap: Gap,
+    entry: u32,
+    hash: u64,
+    bytes: &[u8],
+) -> Result<(), AllocError>
+    requires filled { All (λ run. 0 < length run.places.items) runs.old.items }
+    requires inside { 0 < length runs.old.items → IsInside runs.old.items gap }
+    ensures ok { OnOk result ((texts_of kept.new.items ≡ texts_of kept.old.items ++ (entry, bytes.now) ∷ [])
+        × (places_of runs.new.items ≡ insert (places_of runs.old.items) (index_of runs.old.items gap)
+        (record { hash = hash; position = length kept.old.items }))) }
+    ensures err { OnErr result ((kept.new.items ≡ kept.old.items) × (places_of runs.new.items ≡ places_of runs.old.items)) }
+    ensures filled { All (λ run. 0 < length run.places.items) runs.new.items }
+{
+    let bytes = bytes.to_vec(*kept.allocator())?;
+    kept.reserve(1)?;
+    let position = kept.len();
+    insert(runs, gap, Place { hash, position })?;
+    kept.push(Kept {
+        number: entry,
+        bytes,
+    })?;
+    Ok(())
+}
+
+/// Puts a place into the gap; on an error the places are as before.
+fn insert(runs: &mut Vec<Run>, gap: Gap, place: Place) -> Result<(), AllocError>
+    requires filled { All (λ run. 0 < length run.places.items) runs.old.items }
+    requires inside { 0 < length runs.old.items → IsInside runs.old.items gap }
+    ensures ok { OnOk result (places_of runs.new.items ≡ insert (places_of runs.old.items) (index_of runs.old.items gap) place) }
+    ensures err { OnErr result (places_of runs.new.items ≡ places_of runs.old.items) }
+    ensures filled { All (λ run. 0 < length run.places.items) runs.new.items }
+{
+    if runs.is_empty() {
+        let mut places = Vec::new(*runs.allocator());
+        places.push(place)?;
+        runs.push(Run { places })?;
+        return Ok(());
+    }
+    let gap = make_room(runs, gap)?;
+    runs[gap.run].places.insert(gap.place, place)?;
+    Ok(())
+}
+
+/// Halves the run of a gap where it is full. The gap as it is then; on an error the places are as before.
+fn make_room(runs: &mut Vec<Run>, gap: Gap) -> Result<Gap, AllocError>
+    requires filled { All (λ run. 0 < length run.places.items) runs.old.items }
+    requires inside { IsInside runs.old.items gap }
+    ensures inside { IfOk result (λ next. IsInside runs.new.items next) }
+    ensures index { IfOk result (λ next. index_of runs.new.items next ≡ index_of runs.old.items gap) }
+    ensures places { places_of runs.new.items ≡ places_of runs.old.items }
+    ensures filled { All (λ run. 0 < length run.places.items) runs.new.items }
+{
+    if runs[gap.run].places.len() < MOST {
+        return Ok(gap);
+    }
+    runs.reserve(1)?;
+    let places = runs[gap.run].places.split_off(MOST / 2)?;
+    runs.insert(gap.run + 1, Run { places })?;
+    if gap.place <= MOST / 2 {
+        return Ok(gap);
+    }
+    Ok(Gap {
+        run: gap.run + 1,
+        place: gap.place - MOST / 2,
+    })
+}
+
+/// Where the message with these bytes and this hash stands among places in order, or where it would go.
+fn search(kept: &[Kept], places: &[Place], hash: u64, bytes: &[u8]) -> Result<usize, usize>
+    ensures within { IsSearchInRange result (length places.now) }
+    ensures found { IsBinarySearchResult (λ place. compare (key_of (texts_of kept.now) place) (hash, bytes.now)) places.now result }
+{
+    places.binary_search_by(|place| standing(kept, *place, hash, bytes))
+}
+
+/// How the message at a place stands to one with this hash and these bytes: by the hash, then by the bytes.
+fn standing(kept: &[Kept], place: Place, hash: u64, bytes: &[u8]) -> Ordering
+    ensures { result ≡ compare (key_of (texts_of kept.now) place) (hash, bytes.now) }
+{
+    match place.hash.cmp(&hash) {
+        Ordering::Equal => bytes_at(kept, place.position).cmp(bytes),
+        unequal => unequal,
+    }
+}
+
+/// The bytes at a position, none past the last message.
+fn bytes_at(kept: &[Kept], position: usize) -> &[u8]
+    ensures { result.now ≡ bytes_at (texts_of kept.now) position }
+{
+    match kept.get(position) {
+        Some(kept) => kept.bytes.as_slice(),
+        None => &[],
     }
 }

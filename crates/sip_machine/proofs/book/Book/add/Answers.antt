@@ -1,17 +1,29 @@
-use Rattle.std.proofs.Common.{◌≡◌, ◌∷◌, [], ◌++◌, map, ap, rules}
-use Rattle.sip_machine.proofs.TextLaws.{texts-grow, IsBook-grow, Keeps-added, text_of-added}
+use Rattle.std.proofs.Common.{◌∙◌, sym}
+use Rattle.sip_machine.specs.inner.Order.{places_of, index_of}
+use Rattle.sip_machine.proofs.TextLaws.{text_of-kept, Keeps-added, text_of-added}
+use Rattle.sip_machine.proofs.OrderLaws.{bytes_at-kept, IsKept-grow, by_result}
 use Rattle.sip_machine.proofs.book.Book.add.Goals as goal
 
--- the book after the message was pushed
-grown : (c : goal.In_ok-push) → map (λ k. (k.number, k.bytes.items)) c.push.new.self.items ≡ c.args.self.now ++ (c.args.entry, c.args.bytes.now) ∷ []
-grown c =
-    texts-grow (λ k. (k.number, k.bytes.items)) c.self.inside.kept.items c.push.new.self.items (record { number = c.args.entry; bytes = c.in_ok-bytes.bytes }) c.args.self.now c.args.entry c.args.bytes.now
-    c.in_ok-push.ensures.items c.self.view_is (ap (λ bytes. (c.args.entry, bytes)) (search rules))
+pub invariant_of-self-in-Err : goal.invariant_of-self-in-Err
+invariant_of-self-in-Err c =
+    let kept = c.self.inside.kept.items in
+    let runs = c.self.inside.order.items in
+    let gap = rw (c.deref.ensures.value, c.deref-2.ensures.value) at c.in-Err.ensures.gap in
+    by_result c.put.result c.put.ensures.ok c.put.ensures.err
+    (λ grows.
+    let grown = IsKept-grow kept c.put.new.kept.items (places_of runs) (places_of c.put.new.runs.items) c.args.entry c.hash-hash.result c.args.bytes.now
+    (index_of runs c.in-Err.gap) c.hash-hash.ensures (c.self.invariant.0, c.self.invariant.1.order) (rw c.self.view_is c.requires) gap grows in
+    (grown.0, record { order = grown.1; filled = c.put.ensures.filled }))
+    (λ same.
+    (rw same.0 c.self.invariant.0, record { order = rw (same.0, same.1) c.self.invariant.1.order; filled = c.put.ensures.filled }))
 
-pub invariant_of-self-2 : goal.invariant_of-self-2
-invariant_of-self-2 c =
-    rw (grown c) (IsBook-grow c.args.self.now c.args.entry c.args.bytes.now (rw c.self.view_is at c.self.invariant) c.requires c.in_default.ensures)
+pub returns-in-Ok-clause-ok : goal.returns-in-Ok-clause-ok
+returns-in-Ok-clause-ok c =
+    let kept = c.self.inside.kept.items in
+    let at = rw c.deref.ensures.value at c.in-Ok.ensures.found in
+    let here = text_of-kept (λ k. (k.number, k.bytes.items)) kept c.in-Ok.position c.index.result.now c.self.invariant.0.rising at.0 c.index.ensures in
+    rw (← c.self.view_is) (here.0, here.1 ∙ sym (bytes_at-kept kept c.in-Ok.position c.index.result.now at.0 c.index.ensures) ∙ at.1)
 
-pub returns-clause-ok : goal.returns-clause-ok
-returns-clause-ok c =
-    rw (grown c) (Keeps-added c.args.self.now c.args.entry c.args.bytes.now, text_of-added c.args.self.now c.args.entry c.args.bytes.now c.requires)
+pub returns-in_ok-put-in-Err-clause-ok : goal.returns-in_ok-put-in-Err-clause-ok
+returns-in_ok-put-in-Err-clause-ok c =
+    rw (c.in_ok-put-in-Err.ensures.ok.0, c.self.view_is) (Keeps-added c.args.self.now c.args.entry c.args.bytes.now, text_of-added c.args.self.now c.args.entry c.args.bytes.now c.requires)

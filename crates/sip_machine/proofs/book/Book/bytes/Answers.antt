@@ -1,24 +1,27 @@
-use Rattle.std.proofs.Common.{◌≢◌, ◌∙◌, sym, map}
-use Rattle.std.proofs.lemmas.List.{take_all}
-use Rattle.std.proofs.lemmas.List.Elements.{All-more, All-map}
+use Rattle.std.proofs.Common.{◌≢◌, ◌∙◌, sym, map, rules}
+use Rattle.std.specs.declared.cmp.Ordering.TheVariants.{Equal}
+use Rattle.std.proofs.lemmas.Cmp.{ranked}
+use Rattle.std.proofs.lemmas.List.Elements.{All-map}
+use Rattle.std.proofs.lemmas.List.Sorted.{answers_always}
 use Rattle.sip_machine.proofs.TextLaws.{text_of-kept, Keeps-none}
+use Rattle.sip_machine.proofs.OrderLaws.{numbers_searchable, no_number}
 use Rattle.sip_machine.proofs.book.Book.bytes.Goals as goal
 
-pub returns-then-kept-number : goal.returns-then-kept-number
-returns-then-kept-number c =
-    let found = text_of-kept (λ k. (k.number, k.bytes.items)) c.self.inside.kept.items c.loop-kept.kept-index c.kept-item.result c.self.invariant.rising
-    (rw c.deref-kept-items.ensures.value at c.loop-kept-test.true) (rw c.deref-kept-items.ensures.value at c.kept-item.is) in
-    let here = rw c.if-kept-number.true at found in
+pub returns-in-Ok : goal.returns-in-Ok
+returns-in-Ok c =
+    let number = c.args.number in
+    let at = c.in-Ok.ensures.position (λ k. k.number) (answers_always _ _ _ (λ f a r g called. search rules)) in
+    let same = ranked c.index.result.now.number number Equal (sym (rw (c.deref.ensures.value, ← c.index.ensures) at (at c.index.result.now))) in
+    let found = text_of-kept (λ k. (k.number, k.bytes.items)) c.self.inside.kept.items c.in-Ok.position c.index.result.now c.self.invariant.0.rising
+    (rw c.deref.ensures.value at c.in-Ok.ensures.bound) c.index.ensures in
+    let here = rw same at found in
     rw (← c.self.view_is) (here.0, c.as_slice.ensures.value ∙ sym here.1)
 
-pub loop-kept-preserved : goal.loop-kept-preserved
-loop-kept-preserved c =
-    All-more (λ k. k.number ≢ c.args.number) c.deref-kept-items.result.now c.loop-kept.kept-index c.kept-item.result c.loop-kept-test.true c.loop-kept.invariant
-    (rw (← c.kept-item.is) c.if-kept-number.false)
-
-pub returns : goal.returns
-returns c =
+pub returns-in-Err : goal.returns-in-Err
+returns-in-Err c =
     let number = c.args.number in
-    let all = rw (take_all c.loop-kept.kept-index c.deref-kept-items.result.now c.loop-kept-test.false, c.deref-kept-items.ensures.value) at c.loop-kept.invariant in
-    rw (← c.self.view_is) (Keeps-none (map (λ k. (k.number, k.bytes.items)) c.self.inside.kept.items) number
-    (All-map (λ kept. kept.0 ≢ number) (λ k. (k.number, k.bytes.items)) c.self.inside.kept.items all))
+    let kept = c.self.inside.kept.items in
+    let parted = (rw c.deref.ensures.value at (c.in-Err.ensures.position (λ k. k.number) (answers_always _ _ _ (λ f a r g called. search rules))))
+    (numbers_searchable kept number c.self.invariant.0.rising) in
+    let none = no_number kept number c.in-Err.field-0 parted in
+    rw (← c.self.view_is) (Keeps-none (map (λ k. (k.number, k.bytes.items)) kept) number (All-map (λ kept. kept.0 ≢ number) (λ k. (k.number, k.bytes.items)) kept none))

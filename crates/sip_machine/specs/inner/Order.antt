@@ -1,0 +1,72 @@
+use Rattle.std.specs.Prelude.{◌≡◌, ◌<◌, ◌≤◌, ◌+◌, ℕ, Bool, true, if◌then◌else◌, nat_lt, List, [], All, AllPairs, Contains, map, length, take, slice_index_or}
+use Rattle.std.specs.declared.cmp.Ordering.{Ordering}
+use Rattle.std.specs.declared.cmp.Ordering.TheVariants.{Less, Greater}
+use Rattle.std.specs.Ordering.{nat_cmp, ordering_then, is_le}
+use Rattle.std.specs.List.{AllWithin, HoldsAt, flat_map}
+use Rattle.std.specs.Cmp.Lexicographic.{slice_cmp}
+use Rattle.std.specs.Hash.FoldHasher.{initial, write, finish}
+use Rattle.sip_machine.specs.Texts.{Texts}
+use Rattle.sip_machine.specs.declared.book.Kept.{Kept}
+use Rattle.sip_machine.specs.declared.book.Place.{Place}
+use Rattle.sip_machine.specs.declared.book.Run.{Run}
+use Rattle.sip_machine.specs.declared.book.Gap.{Gap}
+
+-- How a book finds equal bytes.
+
+-- what the kept messages are
+abbrev pub texts_of : List Kept → Texts
+texts_of kept = map (λ k. (k.number, k.bytes.items)) kept
+
+-- the hash of these bytes
+abbrev pub hash_of : List ℕ → ℕ
+hash_of bytes = finish (write initial bytes)
+
+-- the bytes at a position, none past the last message
+abbrev pub bytes_at : Texts → ℕ → List ℕ
+bytes_at texts position = (slice_index_or texts position (0, [])).1
+
+-- what a place is ordered by: the hash, then the bytes
+abbrev pub key_of : Texts → Place → ℕ × List ℕ
+key_of texts place = (place.hash, bytes_at texts place.position)
+
+abbrev pub compare : ℕ × List ℕ → ℕ × List ℕ → Ordering
+compare a b = ordering_then (nat_cmp a.0 b.0) (slice_cmp nat_cmp a.1 b.1)
+
+-- a message stands at the place, which has the hash of its bytes
+abbrev pub IsPlace : Texts → Place → Type 0
+IsPlace texts place = (place.position < length texts) × (place.hash ≡ hash_of (bytes_at texts place.position))
+
+-- each message of the book has a place, and hashes and bytes rise
+pub record IsOrder (texts : Texts) (places : List Place) : Type 0 where
+  pub rising : AllPairs (λ a b. compare (key_of texts a) (key_of texts b) ≡ Less) places
+  pub hashed : All (IsPlace texts) places
+  pub whole : (i : ℕ) → i < length texts → Contains (map (λ place. place.position) places) i
+
+-- no message is these bytes: those before the i-th place come before them, and the others after them
+pub record IsGap (texts : Texts) (key : ℕ × List ℕ) (places : List Place) (i : ℕ) : Type 0 where
+  pub within : i ≤ length places
+  pub before : AllWithin (λ place. compare (key_of texts place) key ≡ Less) places 0 i
+  pub after : AllWithin (λ place. compare (key_of texts place) key ≡ Greater) places i (length places)
+
+-- the places of these runs, one run after another
+abbrev pub places_of : List Run → List Place
+places_of runs = flat_map (λ run. run.places.items) runs
+
+-- the runs hold the places in order, and none is empty
+pub record IsInRuns (texts : Texts) (runs : List Run) : Type 0 where
+  pub order : IsOrder texts (places_of runs)
+  pub filled : All (λ run. 0 < length run.places.items) runs
+
+-- the first place of the run is none after the key
+abbrev pub begins_by : Texts → ℕ × List ℕ → Run → Bool
+begins_by texts key run =
+    if nat_lt 0 (length run.places.items) then is_le (compare (key_of texts (slice_index_or run.places.items 0 (record { hash = 0; position = 0 }))) key) else true
+
+-- where a gap is among the places of all runs
+abbrev pub index_of : List Run → Gap → ℕ
+index_of runs gap = length (places_of (take gap.run runs)) + gap.place
+
+-- the gap is in one of the runs
+pub record IsInside (runs : List Run) (gap : Gap) : Type 0 where
+  pub run : gap.run < length runs
+  pub place : HoldsAt (λ run. gap.place ≤ length run.places.items) runs gap.run

@@ -4,8 +4,8 @@ use Rattle.sip_machine.specs.Times.{Times}
 use Rattle.sip_machine.specs.Texts.{Texts, IsBook}
 use Rattle.sip_machine.specs.NumberedEvent.{NumberedEvent}
 use Rattle.sip_machine.specs.Heard.{Heard, heard}
-use Rattle.sip_machine.specs.Rules.{Rules}
-use Rattle.sip_states.specs.Runs.{IsWide}
+use Rattle.sip_machine.specs.Rules.{Rules, StandFor}
+use Rattle.sip_states.specs.Runs.{After, IsWide}
 use Rattle.sip_states.specs.Held.{Held}
 use Rattle.sip_states.specs.KeyMachine.{MachineKind, PhaseOf, rules_of}
 use Rattle.sip_states.specs.Meaning.{Meaning, IsKnown, Given, HasWaited, HasTaken}
@@ -13,7 +13,7 @@ use Rattle.sip_states.specs.AnySet.{moment_of, IsEmpty, IsKnownSet, Waits, Takes
 use Rattle.sip_states.specs.declared.any_set.AnySet.{AnySet}
 use Rattle.sip_verdict.specs.declared.passing.Fate.TheVariants.{Runs, NoRun, TooWide}
 use Rattle.sip_verdict.specs.inner.Stepping.{RunsUntil, IsWideAfter, with_event, IsStepped}
-use Rattle.sip_verdict.specs.inner.TablesTracking.{StateOf, meaning_of, set_of, LeadsBy, LeadsOf}
+use Rattle.sip_verdict.specs.inner.TablesTracking.{StateOf, meaning_of, set_of, LeadsBy, LeadsOf, StandsOf}
 use Rattle.sip_verdict.proofs.Hearing.{heard_none, heard_some, heard_wide, waited_none, waited_some}
 use Rattle.sip_verdict.proofs.ByMachine.{rules_are, lawful_of, moment_is, some_machine, of_set, to_set, of_sets}
 
@@ -74,7 +74,7 @@ module _ (texts : Texts) (p : Times) (machine : MachineKind) (events : List Hear
 
   module _ (e : NumberedEvent) (low : moment_of old ≤ e.moment) where
     -- no state is left: no run takes the event
-    pub hears_none : Takes texts e old new → IsEmpty new → IsStepped (rules_of p machine) events (Some (heard texts e)) e.moment (λ es. LeadsOf texts p machine es new) NoRun
+    pub hears_none : Takes texts e old new → IsEmpty new → IsStepped (rules_of p machine) events (Some (heard texts e)) e.moment (λ es. LeadsOf texts p machine es new) (λ f. StandsOf texts p machine events f new) NoRun
     hears_none takes none =
         let n = after_event texts e machine leads.0 old new leads.1 takes in
         let m = meaning_of machine in
@@ -82,30 +82,31 @@ module _ (texts : Texts) (p : Times) (machine : MachineKind) (events : List Hear
         (heard_none m.names m.in_range m.seen m.rules (lawful_of machine) texts p events leads.0 n.0 leads.2 (heard texts e) (low_of e.moment low) n.2.states (none_of machine n.0 new n.1 none))
 
     -- some are left: the runs go on
-    pub hears_some : Takes texts e old new → ¬ IsEmpty new → IsStepped (rules_of p machine) events (Some (heard texts e)) e.moment (λ es. LeadsOf texts p machine es new) Runs
+    pub hears_some : Takes texts e old new → ¬ IsEmpty new → IsStepped (rules_of p machine) events (Some (heard texts e)) e.moment (λ es. LeadsOf texts p machine es new) (λ f. StandsOf texts p machine events f new) Runs
     hears_some takes some =
         let n = after_event texts e machine leads.0 old new leads.1 takes in
         let m = meaning_of machine in
         let h = heard_some m.names m.in_range m.seen m.rules (lawful_of machine) texts p events leads.0 n.0 leads.2 (heard texts e) (low_of e.moment low) n.2.states n.2.machine n.2.at
-            (some_of machine n.0 new n.1 some) n.2.few in (
+        (some_of machine n.0 new n.1 some) n.2.few in (
           subst (λ r. RunsUntil r (with_event events (Some (heard texts e))) e.moment) (rules_are p machine) h.0,
           subst (λ r. ¬ IsWideAfter r events (Some (heard texts e))) (rules_are p machine) h.1,
           (n.0, n.1, h.2),
+          (n.0, n.1, subst (λ r. StandFor m.names m.in_range m.seen texts (After r events (heard texts e)) n.0.states) (rules_are p machine) h.3),
         )
 
     -- too many come out: there is a run, and too many last states
-    pub hears_wide : IsTooWide texts e old → IsStepped (rules_of p machine) events (Some (heard texts e)) e.moment (λ es. LeadsOf texts p machine es new) TooWide
+    pub hears_wide : IsTooWide texts e old → IsStepped (rules_of p machine) events (Some (heard texts e)) e.moment (λ es. LeadsOf texts p machine es new) (λ f. StandsOf texts p machine events f new) TooWide
     hears_wide wide =
         let m = meaning_of machine in
         let h = heard_wide m.names m.in_range m.seen m.rules (lawful_of machine) texts p events leads.0 leads.0 leads.2 (heard texts e) (low_of e.moment low)
-            (of_set (λ X M S m s. IsWide (Given m texts s e)) machine leads.0 (subst (IsTooWide texts e) leads.1 wide)) in (
+        (of_set (λ X M S m s. IsWide (Given m texts s e)) machine leads.0 (subst (IsTooWide texts e) leads.1 wide)) in (
           subst (λ r. RunsUntil r (with_event events (Some (heard texts e))) e.moment) (rules_are p machine) h.0,
           subst (λ r. IsWideAfter r events (Some (heard texts e))) (rules_are p machine) h.1,
         )
 
   module _ (book : IsBook texts) (moment : ℕ) (low : moment_of old ≤ moment) (waits : Waits moment old new) where
     -- no state can wait until then: no run does
-    pub waits_none : IsEmpty new → IsStepped (rules_of p machine) events None moment (λ es. LeadsOf texts p machine es new) NoRun
+    pub waits_none : IsEmpty new → IsStepped (rules_of p machine) events None moment (λ es. LeadsOf texts p machine es new) (λ f. StandsOf texts p machine events f new) NoRun
     waits_none none =
         let n = after_wait moment machine leads.0 old new leads.1 waits in
         let m = meaning_of machine in
@@ -114,13 +115,14 @@ module _ (texts : Texts) (p : Times) (machine : MachineKind) (events : List Hear
         (none_of machine n.0 new n.1 none))
 
     -- some can: the runs go on
-    pub waits_some : ¬ IsEmpty new → IsStepped (rules_of p machine) events None moment (λ es. LeadsOf texts p machine es new) Runs
+    pub waits_some : ¬ IsEmpty new → IsStepped (rules_of p machine) events None moment (λ es. LeadsOf texts p machine es new) (λ f. StandsOf texts p machine events f new) Runs
     waits_some some =
         let n = after_wait moment machine leads.0 old new leads.1 waits in
         let m = meaning_of machine in
         let h = waited_some m.names m.in_range m.seen m.rules (lawful_of machine) texts p events leads.0 n.0 leads.2 moment (low_of moment low) (n.2.states texts book leads.2.leads.known)
-            n.2.machine n.2.at (some_of machine n.0 new n.1 some) in (
+        n.2.machine n.2.at (some_of machine n.0 new n.1 some) in (
           subst (λ r. RunsUntil r events moment) (rules_are p machine) h.0,
           λ wide. wide,
           (n.0, n.1, h.2),
+          tt,
         )

@@ -4,12 +4,12 @@ use Rattle.sip_machine.specs.Texts.{Texts}
 use Rattle.sip_machine.specs.Heard.{Heard}
 use Rattle.sip_machine.specs.Rules.{Rules, IsLawful, StandFor}
 use Rattle.sip_verdict.specs.declared.passing.Fate.TheVariants.{Runs, NoRun, TooWide}
-use Rattle.sip_states.specs.Runs.{Wait, Gives, IsWide, widest}
+use Rattle.sip_states.specs.Runs.{Wait, Gives, After, IsWide, widest}
 use Rattle.sip_states.specs.Held.{Held}
 use Rattle.sip_verdict.specs.inner.Leads.{Leads}
 use Rattle.sip_verdict.specs.inner.Stepping.{LeadsTo, IsStepped}
 use Rattle.sip_verdict.proofs.Leading.{Leads-take, Leads-advance}
-use Rattle.sip_verdict.proofs.OneMachine.{none_runs, some_runs, took_narrow, wide_runs}
+use Rattle.sip_verdict.proofs.OneMachine.{none_runs, some_runs, took_after, took_narrow, wide_runs}
 use Rattle.sip_states.proofs.Taking.{took_waits, waited_waits}
 
 module _ {M X S : Type 0} (names : S → List ℕ) (InRange : S → Type 0) (seen : Texts → S → X) (rules : M → Rules X) (lawful : (machine : M) → IsLawful (rules machine))
@@ -25,6 +25,10 @@ module _ {M X S : Type 0} (names : S → List ℕ) (InRange : S → Type 0) (see
     leads = subst (λ m. Leads names seen texts (rules machine) more m new.states) (sym at) l;
   }
 
+  -- the new set is just the last states of the runs that end with an event
+  abbrev pub Stands : Heard → Type 0
+  Stands e = StandFor names InRange seen texts (After (rules machine) events e) new.states
+
   module _ (e : Heard) (low : set.moment ≤ e.moment) (gives : StandFor names InRange seen texts (Gives (rules set.machine) (WaitFrom set.machine e.moment) e) new.states) where
     given : StandFor names InRange seen texts (Gives (rules machine) (WaitFrom machine e.moment) e) new.states
     given = subst (λ own. StandFor names InRange seen texts (Gives (rules own) (WaitFrom own e.moment) e) new.states) leads.machine_is gives
@@ -33,22 +37,28 @@ module _ {M X S : Type 0} (names : S → List ℕ) (InRange : S → Type 0) (see
     taken = Leads-take names InRange seen texts (rules machine) events set.moment set.states leads.leads e low new.states given
 
     -- no state is left: no run takes the event
-    pub heard_none : new.states ≡ [] → IsStepped (rules machine) events (Some e) e.moment (LeadsTo names seen rules texts machine new) NoRun
+    pub heard_none : new.states ≡ [] → IsStepped (rules machine) events (Some e) e.moment (LeadsTo names seen rules texts machine new) Stands NoRun
     heard_none none run = none_runs names seen texts (rules machine) (events ++ e ∷ []) e.moment new.states taken none run
 
     -- some are left, and not too many: the runs go on
     pub heard_some : new.machine ≡ set.machine → new.moment ≡ e.moment → new.states ≢ [] → length new.states ≤ widest
-        → IsStepped (rules machine) events (Some e) e.moment (LeadsTo names seen rules texts machine new) Runs
+        → IsStepped (rules machine) events (Some e) e.moment (LeadsTo names seen rules texts machine new) Stands Runs
     heard_some same at some few = (
       some_runs names seen texts (rules machine) (events ++ e ∷ []) e.moment new.states taken
           (took_waits names InRange seen texts (rules machine) (lawful machine) _ e new.states given) some,
       λ wide. took_narrow names InRange seen texts (rules machine) events set.moment set.states leads.leads e low new.states given few wide,
       led (events ++ e ∷ []) e.moment same at taken,
+      record {
+        members = took_after names InRange seen texts (rules machine) events set.moment set.states leads.leads e low new.states given;
+        distinct = given.distinct;
+        known = given.known;
+        in_range = given.in_range;
+      },
     )
 
   -- too many come out: there is a run, and too many last states
   pub heard_wide : (e : Heard) → set.moment ≤ e.moment → IsWide (Gives (rules set.machine) (WaitFrom set.machine e.moment) e)
-      → IsStepped (rules machine) events (Some e) e.moment (LeadsTo names seen rules texts machine new) TooWide
+      → IsStepped (rules machine) events (Some e) e.moment (LeadsTo names seen rules texts machine new) Stands TooWide
   heard_wide e low wide =
       wide_runs names seen texts (rules machine) (lawful machine) events set.moment set.states leads.leads e low
       (subst (λ own. IsWide (Gives (rules own) (WaitFrom own e.moment) e)) leads.machine_is wide)
@@ -61,13 +71,14 @@ module _ {M X S : Type 0} (names : S → List ℕ) (InRange : S → Type 0) (see
     advanced = Leads-advance names InRange seen texts (rules machine) (lawful machine) events set.moment set.states leads.leads moment low new.states waited
 
     -- no state can wait until then: no run does
-    pub waited_none : new.states ≡ [] → IsStepped (rules machine) events None moment (LeadsTo names seen rules texts machine new) NoRun
+    pub waited_none : new.states ≡ [] → IsStepped (rules machine) events None moment (LeadsTo names seen rules texts machine new) Stands NoRun
     waited_none none run = none_runs names seen texts (rules machine) events moment new.states advanced none run
 
     -- some can: the runs go on
-    pub waited_some : new.machine ≡ set.machine → new.moment ≡ moment → new.states ≢ [] → IsStepped (rules machine) events None moment (LeadsTo names seen rules texts machine new) Runs
+    pub waited_some : new.machine ≡ set.machine → new.moment ≡ moment → new.states ≢ [] → IsStepped (rules machine) events None moment (LeadsTo names seen rules texts machine new) Stands Runs
     waited_some same at some = (
       some_runs names seen texts (rules machine) events moment new.states advanced (waited_waits names InRange seen texts (rules machine) _ _ moment new.states waited) some,
       λ wide. wide,
       led events moment same at advanced,
+      tt,
     )

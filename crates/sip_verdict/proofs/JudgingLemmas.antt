@@ -156,7 +156,7 @@ module _ {K : Type 0} (r : Reading K) where
             items = judged.items ++ item e ∷ [];
             es = judged.es ++ h.0 ∷ [];
             observed = observed-push [] judged.items judged.es (item e) h.0 judged.observed h.1;
-            tracks = h.2;
+            tracks = h.2.0;
             long = length_push judged.items (item e) ∙ ap (λ n. n + 1) judged.long ∙ sym (length_push judged.es h.0);
             on = counted.on;
             times = Nexts-times now new (Ok (Some e)) p judged.on judged.times nexts;

@@ -7,7 +7,9 @@ pub mod Keys
 pub mod Leading
 pub mod LegalMessages
 pub mod LegalRuns
+pub mod ListingLemmas
 pub mod MessageUnique
+pub mod NumberingLemmas
 pub mod ObservingLemmas
 pub mod OneMachine
 pub mod OneVerdict

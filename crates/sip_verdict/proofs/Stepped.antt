@@ -27,11 +27,12 @@ module _ {K T : Type 0} (m : Machines K) (k : Keeping K T) (es : List (Observati
     own : events_of m (k.key t) (es ++ e ∷ []) ≡ events_of m (k.key t) es ++ e.event ∷ []
     own = events_of-concerned m (k.key t) es e concerned
 
-    pub own_passed : (fate : Fate) → IsStepped (m.rules (k.key t)) (events_of m (k.key t) es) (Some e.event) e.event.moment (k.Leads t) fate → IsPassed m k es e t fate
+    pub own_passed : (fate : Fate) → IsStepped (m.rules (k.key t)) (events_of m (k.key t) es) (Some e.event) e.event.moment (k.Leads t) (k.Stands t (events_of m (k.key t) es)) fate → IsPassed m k es e t fate
     own_passed Runs h = record {
       runs = runs_key _ own h.0;
       narrow = λ wide. h.1 wide.wide;
       ready = subst (k.Leads t) (sym own) h.2;
+      stands = λ concerned. h.3;
     }
     own_passed NoRun h = λ run. h (key_runs _ own run)
     own_passed TooWide h = (runs_key _ own h.0, record { concerned = concerned; wide = h.1 })
@@ -41,11 +42,12 @@ module _ {K T : Type 0} (m : Machines K) (k : Keeping K T) (es : List (Observati
     other : events_of m (k.key t) (es ++ e ∷ []) ≡ events_of m (k.key t) es
     other = events_of-other m (k.key t) es e unconcerned
 
-    pub other_passed : (fate : Fate) → IsStepped (m.rules (k.key t)) (events_of m (k.key t) es) None e.event.moment (k.Leads t) fate → IsPassed m k es e t fate
+    pub other_passed : (fate : Fate) → IsStepped (m.rules (k.key t)) (events_of m (k.key t) es) None e.event.moment (k.Leads t) (k.Stands t (events_of m (k.key t) es)) fate → IsPassed m k es e t fate
     other_passed Runs h = record {
       runs = runs_key _ other h.0;
       narrow = λ wide. absurd (false≢true (sym unconcerned ∙ wide.concerned));
       ready = subst (k.Leads t) (sym other) h.2;
+      stands = λ concerned. absurd (false≢true (sym unconcerned ∙ concerned));
     }
     other_passed NoRun h = λ run. h (key_runs _ other run)
     other_passed TooWide h = absurd h.1

@@ -23,7 +23,7 @@ use Rattle.sip_verdict.specs.Verdicts.{IsFirst}
 use Rattle.sip_verdict.specs.MessageReading.{key_machines}
 use Rattle.sip_verdict.specs.inner.Stepping.{IsStepped}
 use Rattle.sip_verdict.specs.inner.Tracking.{IsReady, IsPassed}
-use Rattle.sip_verdict.specs.inner.TablesTracking.{LeadsOf, key_keeping, transactions_of, is_own, hears, IsTold, AreTold, MayPass}
+use Rattle.sip_verdict.specs.inner.TablesTracking.{LeadsOf, StandsOf, key_keeping, transactions_of, is_own, hears, IsTold, AreTold, MayPass}
 use Rattle.sip_verdict.proofs.Stepped.{own_passed, other_passed}
 use Rattle.sip_verdict.proofs.PassingAll.{SoFar, get_or-same_rest, rest-set, turn_runs, turn_too_wide, turn_no_run}
 
@@ -62,25 +62,25 @@ as_many t long = sym (length-map (transactions_of t) (λ x. x.0)) ∙ ap length 
 -- a transaction that hears its own event
 pub own_pass : {E : Type 0} (r : Result Fate E) (texts : Texts) (moment number : ℕ) (h : Hearing) (old new : AnySet) → is_own h number ≡ true
     → IfOk r (λ fate. (p : Times) (machine : MachineKind) (events : List Heard) → LeadsOf texts p machine events old
-    → IsStepped (rules_of p machine) events (Some (heard texts h.event)) h.event.moment (λ es. LeadsOf texts p machine es new) fate)
+    → IsStepped (rules_of p machine) events (Some (heard texts h.event)) h.event.moment (λ es. LeadsOf texts p machine es new) (λ f. StandsOf texts p machine events f new) fate)
     → IfOk r (λ fate. (p : Times) (es : List (Observation KeyParts)) (e : Observation KeyParts) (key : KeyParts) → IsTold texts moment (Some h) number key e
     → IsReady (key_machines p) (key_keeping texts p) es (key, old) → IsPassed (key_machines p) (key_keeping texts p) es e (key, new) fate)
 own_pass r texts moment number h old new own all =
     IfOk-weaker r _ _ (λ fate stepped p es e key told ready.
     own_passed (key_machines p) (key_keeping texts p) es e (key, new) (told.concerned p ∙ own) fate
-    (subst (λ f. IsStepped (rules_of p (machine_of_key key)) (events_of (key_machines p) key es) (Some f) f.moment (λ fs. LeadsOf texts p (machine_of_key key) fs new) fate) (sym told.event)
+    (subst (λ f. IsStepped (rules_of p (machine_of_key key)) (events_of (key_machines p) key es) (Some f) f.moment (λ fs. LeadsOf texts p (machine_of_key key) fs new) (λ f. StandsOf texts p (machine_of_key key) (events_of (key_machines p) key es) f new) fate) (sym told.event)
     (stepped p (machine_of_key key) (events_of (key_machines p) key es) ready))) all
 
 -- and any other, which waits
 pub other_pass : {E : Type 0} (r : Result Fate E) (texts : Texts) (moment number : ℕ) (hearing : Option Hearing) (old new : AnySet) → hears hearing number ≡ false
     → IfOk r (λ fate. (p : Times) (machine : MachineKind) (events : List Heard) → LeadsOf texts p machine events old
-    → IsStepped (rules_of p machine) events None moment (λ es. LeadsOf texts p machine es new) fate)
+    → IsStepped (rules_of p machine) events None moment (λ es. LeadsOf texts p machine es new) (λ f. StandsOf texts p machine events f new) fate)
     → IfOk r (λ fate. (p : Times) (es : List (Observation KeyParts)) (e : Observation KeyParts) (key : KeyParts) → IsTold texts moment hearing number key e
     → IsReady (key_machines p) (key_keeping texts p) es (key, old) → IsPassed (key_machines p) (key_keeping texts p) es e (key, new) fate)
 other_pass r texts moment number hearing old new other all =
     IfOk-weaker r _ _ (λ fate stepped p es e key told ready.
     other_passed (key_machines p) (key_keeping texts p) es e (key, new) (told.concerned p ∙ other) fate
-    (subst (λ now. IsStepped (rules_of p (machine_of_key key)) (events_of (key_machines p) key es) None now (λ fs. LeadsOf texts p (machine_of_key key) fs new) fate) (sym told.at)
+    (subst (λ now. IsStepped (rules_of p (machine_of_key key)) (events_of (key_machines p) key es) None now (λ fs. LeadsOf texts p (machine_of_key key) fs new) (λ f. StandsOf texts p (machine_of_key key) (events_of (key_machines p) key es) f new) fate) (sym told.at)
     (stepped p (machine_of_key key) (events_of (key_machines p) key es) ready))) all
 
 -- the set w takes the place of another in t, which began as the old tables

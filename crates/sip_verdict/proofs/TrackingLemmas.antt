@@ -7,7 +7,7 @@ use Rattle.std.proofs.lemmas.List.Elements.{All-nil, All-map, All-weaker, All-pu
 use Rattle.sip_verdict.specs.declared.verdict.Verdict.TheVariants.{Breach, Undecided}
 use Rattle.sip_verdict.specs.Keyed.{Observation, Machines, with_key, keys_of, HasRun}
 use Rattle.sip_verdict.specs.Verdicts.{IsFirst, IsTooWide, IsGood, IsTrouble}
-use Rattle.sip_verdict.specs.inner.Tracking.{Keeping, IsReady, Tracks, TracksBefore, GoesOn, IsTouched}
+use Rattle.sip_verdict.specs.inner.Tracking.{Keeping, IsReady, IsStanding, Tracks, TracksBefore, GoesOn, IsTouched}
 use Rattle.sip_verdict.proofs.Keys.{IsExact, cond_true, cond_false, keys_of-push, new_key, contains-among, not_among, among-with_key}
 use Rattle.sip_verdict.proofs.Unique.{good-nil, good-push}
 
@@ -67,18 +67,21 @@ module _ {K T : Type 0} (m : Machines K) (k : Keeping K T) where
 
     module _ (k2 : Keeping K T) (old new : List T) (before : TracksBefore m k2 es e old) (same : map k.key new ≡ map k2.key old) where
       -- every transaction goes on: the entries are tracked
-      pub judged_fine : e.fault ≡ None → All (GoesOn m k es e) new → Tracks m k (es ++ e ∷ []) new
-      judged_fine formed goes = record {
-        keys = same ∙ before.keys;
-        ready = All-weaker (GoesOn m k es e) (IsReady m k (es ++ e ∷ [])) (λ t g. g.ready) new goes;
-        good = good-push m es e before.good (record {
-          formed = formed;
-          runs = subst (All (λ key. HasRun m key (es ++ e ∷ []))) (same ∙ before.keys)
-              (All-map (λ key. HasRun m key (es ++ e ∷ [])) k.key new (All-weaker (GoesOn m k es e) (λ t. HasRun m (k.key t) (es ++ e ∷ [])) (λ t g. g.runs) new goes));
-          narrow = subst (All (λ key. ¬ IsTooWide m es e key)) (same ∙ before.keys)
-              (All-map (λ key. ¬ IsTooWide m es e key) k.key new (All-weaker (GoesOn m k es e) (λ t. ¬ IsTooWide m es e (k.key t)) (λ t g. g.narrow) new goes));
-        });
-      }
+      pub judged_fine : e.fault ≡ None → All (GoesOn m k es e) new → Tracks m k (es ++ e ∷ []) new × All (IsStanding m k es e) new
+      judged_fine formed goes = (
+        record {
+          keys = same ∙ before.keys;
+          ready = All-weaker (GoesOn m k es e) (IsReady m k (es ++ e ∷ [])) (λ t g. g.ready) new goes;
+          good = good-push m es e before.good (record {
+            formed = formed;
+            runs = subst (All (λ key. HasRun m key (es ++ e ∷ []))) (same ∙ before.keys)
+                (All-map (λ key. HasRun m key (es ++ e ∷ [])) k.key new (All-weaker (GoesOn m k es e) (λ t. HasRun m (k.key t) (es ++ e ∷ [])) (λ t g. g.runs) new goes));
+            narrow = subst (All (λ key. ¬ IsTooWide m es e key)) (same ∙ before.keys)
+                (All-map (λ key. ¬ IsTooWide m es e key) k.key new (All-weaker (GoesOn m k es e) (λ t. ¬ IsTooWide m es e (k.key t)) (λ t g. g.narrow) new goes));
+          });
+        },
+        All-weaker (GoesOn m k es e) (IsStanding m k es e) (λ t g. g.stands) new goes,
+      )
 
       -- one has no run: a breach
       pub judged_breach : (number transaction : ℕ) → number ≡ length es + 1 → e.fault ≡ None → IsFirst (λ key. ¬ HasRun m key (es ++ e ∷ [])) (map k.key new) transaction

@@ -1,5 +1,7 @@
 pub mod Keyed
 pub mod LegalLog
+pub mod Listing
+pub mod ListingOf
 pub mod LogReason
 pub mod MessageReading
 pub mod Reading

@@ -10,7 +10,7 @@ ghost use Rattle.sip_verdict.specs.Keyed.{Observation};
 ghost use Rattle.sip_verdict.specs.MessageReading.{key_machines};
 ghost use Rattle.sip_verdict.specs.inner.Stepping.{IsStepped};
 ghost use Rattle.sip_verdict.specs.inner.Tracking.{IsReady, IsPassed, IsOutcome};
-ghost use Rattle.sip_verdict.specs.inner.TablesTracking.{LeadsOf, key_keeping, transactions_of, is_own, IsTold, AreTold, MayPass};
+ghost use Rattle.sip_verdict.specs.inner.TablesTracking.{LeadsOf, StandsOf, key_keeping, transactions_of, is_own, IsTold, AreTold, MayPass};
 
 use sip_machine::{Book, Event};
 use sip_states::{AnySet, Tables, TakeError};
@@ -58,7 +58,7 @@ fn hear(set: &mut AnySet, book: &Book, event: &Event) -> Result<Fate, AllocError
     ensures order { OnOk result (moment_of set.new ≤ event.now.moment) }
     ensures known { OnOk result (IsKnownSet book.now set.new) }
     ensures stepped { IfOk result (λ fate. (p : Times) (machine : MachineKind) (events : List Heard) → LeadsOf book.now p machine events set.old
-        → IsStepped (rules_of p machine) events (Some (heard book.now event.now)) event.now.moment (λ es. LeadsOf book.now p machine es set.new) fate) }
+        → IsStepped (rules_of p machine) events (Some (heard book.now event.now)) event.now.moment (λ es. LeadsOf book.now p machine es set.new) (λ e. StandsOf book.now p machine events e set.new) fate) }
 {
     match set.take(book, event) {
         Ok(()) => {
@@ -80,7 +80,7 @@ fn wait(set: &mut AnySet, book: &Book, moment: u64) -> Result<Fate, AllocError>
     ensures order { OnOk result (moment_of set.new ≤ moment) }
     ensures known { OnOk result (IsKnownSet book.now set.new) }
     ensures stepped { IfOk result (λ fate. (p : Times) (machine : MachineKind) (events : List Heard) → LeadsOf book.now p machine events set.old
-        → IsStepped (rules_of p machine) events None moment (λ es. LeadsOf book.now p machine es set.new) fate) }
+        → IsStepped (rules_of p machine) events None moment (λ es. LeadsOf book.now p machine es set.new) (λ e. StandsOf book.now p machine events e set.new) fate) }
 {
     book.known();
     set.advance(moment)?;

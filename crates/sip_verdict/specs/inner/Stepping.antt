@@ -1,4 +1,4 @@
-use Rattle.std.specs.Prelude.{◌≡◌, ◌++◌, [], ◌∷◌, ℕ, Option, Some, None, List, IsSomeAnd}
+use Rattle.std.specs.Prelude.{◌≡◌, ◌++◌, [], ◌∷◌, ℕ, Option, Some, None, List, IsSomeAnd, IfSome}
 use Rattle.sip_machine.specs.Texts.{Texts}
 use Rattle.sip_machine.specs.Heard.{Heard}
 use Rattle.sip_machine.specs.Rules.{Rules}
@@ -28,8 +28,10 @@ with_event events (Some e) = events ++ e ∷ []
 abbrev pub IsWideAfter : {X : Type 0} → Rules X → List Heard → Option Heard → Type 0
 IsWideAfter r events e = IsSomeAnd e (λ f. IsWide (After r events f))
 
--- what the events and one more, if there is one, leave of the runs at the moment, and to which events the set leads then
-abbrev pub IsStepped : {X : Type 0} → Rules X → List Heard → Option Heard → ℕ → (List Heard → Type 0) → Fate → Type 0
-IsStepped r events e moment Leads Runs = RunsUntil r (with_event events e) moment × ¬ IsWideAfter r events e × Leads (with_event events e)
-IsStepped r events e moment Leads NoRun = ¬ RunsUntil r (with_event events e) moment
-IsStepped r events e moment Leads TooWide = RunsUntil r (with_event events e) moment × IsWideAfter r events e
+-- what the events and one more, if there is one, leave of the runs at the moment, to which events the set leads then, and that it is just the last
+-- states of the runs that end with the one more
+abbrev pub IsStepped : {X : Type 0} → Rules X → List Heard → Option Heard → ℕ → (List Heard → Type 0) → (Heard → Type 0) → Fate → Type 0
+IsStepped r events e moment Leads Stands Runs =
+    RunsUntil r (with_event events e) moment × ¬ IsWideAfter r events e × Leads (with_event events e) × IfSome e Stands
+IsStepped r events e moment Leads Stands NoRun = ¬ RunsUntil r (with_event events e) moment
+IsStepped r events e moment Leads Stands TooWide = RunsUntil r (with_event events e) moment × IsWideAfter r events e

@@ -9,8 +9,10 @@ use Rattle.sip_machine.specs.declared.invite_client.InviteClientState.{InviteCli
 use Rattle.sip_machine.specs.declared.plain_client.PlainState.{PlainState}
 use Rattle.sip_machine.specs.declared.invite_server.InviteServerState.{InviteServerState}
 use Rattle.sip_machine.specs.declared.plain_server.PlainServerState.{PlainServerState}
+use Rattle.sip_machine.specs.Rules.{StandFor}
+use Rattle.sip_states.specs.Runs.{After}
 use Rattle.sip_states.specs.Held.{Held}
-use Rattle.sip_states.specs.KeyMachine.{MachineKind, OfInviteClient, OfPlainClient, OfInviteServer, OfPlainServer, PhaseOf, machine_of_key}
+use Rattle.sip_states.specs.KeyMachine.{MachineKind, OfInviteClient, OfPlainClient, OfInviteServer, OfPlainServer, PhaseOf, rules_of, machine_of_key}
 use Rattle.sip_states.specs.Meaning.{Meaning}
 use Rattle.sip_states.specs.AnySet.{invite_client_meaning, plain_client_meaning, invite_server_meaning, plain_server_meaning, moment_of, IsKnownSet}
 use Rattle.sip_states.specs.Tables.{Tabled, Touches}
@@ -53,9 +55,14 @@ LeadsBy m texts p events s = LeadsTo m.names m.seen m.rules texts p s events
 abbrev pub LeadsOf : Texts → Times → MachineKind → List Heard → AnySet → Type 0
 LeadsOf texts p machine events set = (s : Held Times (StateOf machine)) × (set ≡ set_of machine s) × LeadsBy (meaning_of machine) texts p events s
 
+-- the set is one of this machine, and its states are just the last states of the runs over the events and one more
+abbrev pub StandsOf : Texts → Times → MachineKind → List Heard → Heard → AnySet → Type 0
+StandsOf texts p machine events e set = (s : Held Times (StateOf machine)) × (set ≡ set_of machine s)
+    × StandFor (meaning_of machine).names (meaning_of machine).in_range (meaning_of machine).seen texts (After (rules_of p machine) events e) s.states
+
 -- each key has a set of its machine
 abbrev pub key_keeping : Texts → Times → Keeping KeyParts (KeyParts × AnySet)
-key_keeping texts p = record { key = λ t. t.0; Leads = λ t events. LeadsOf texts p (machine_of_key t.0) events t.1 }
+key_keeping texts p = record { key = λ t. t.0; Leads = λ t events. LeadsOf texts p (machine_of_key t.0) events t.1; Stands = λ t events e. StandsOf texts p (machine_of_key t.0) events e t.1 }
 
 -- the keys of tables, each with its set
 abbrev pub transactions_of : Tabled → List (KeyParts × AnySet)

@@ -1,23 +1,28 @@
-use Rattle.std.specs.Prelude.{◌≡◌, ◌≤◌, ◌⊎◌, ◌++◌, [], ◌∷◌, ℕ, Option, Some, None, List, All, Contains, map}
+use Rattle.std.specs.Prelude.{◌≡◌, ◌≤◌, ◌⊎◌, ◌++◌, [], ◌∷◌, ℕ, true, Option, Some, None, List, All, Contains, map}
 use Rattle.sip_machine.specs.Heard.{Heard}
 use Rattle.sip_verdict.specs.declared.verdict.Verdict.{Verdict}
 use Rattle.sip_verdict.specs.declared.passing.Fate.{Fate}
 use Rattle.sip_verdict.specs.declared.passing.Fate.TheVariants.{Runs, NoRun, TooWide}
 use Rattle.sip_verdict.specs.declared.passing.Outcome.{Outcome}
 use Rattle.sip_verdict.specs.declared.passing.Outcome.TheVariants as all
-use Rattle.sip_verdict.specs.Keyed.{Observation, Machines, keys_of, events_of, HasRun}
+use Rattle.sip_verdict.specs.Keyed.{Observation, Machines, concerns, keys_of, events_of, HasRun}
 use Rattle.sip_verdict.specs.Verdicts.{IsFirst, IsTooWide, IsGood, IsTrouble}
 
 -- How what is kept of transactions follows the entries of a log, for any keys, machines and sets.
 
--- the key of what is kept, and whether it leads to where the runs of its key over the events stand
+-- the key of what is kept, whether it leads to where the runs of its key over the events stand, and whether it is just where those stand that end with one more
 pub record Keeping (K T : Type 0) : Type 1 where
   pub key : T → K
   pub Leads : T → List Heard → Type 0
+  pub Stands : T → List Heard → Heard → Type 0
 
 -- it leads to the runs of its key over the entries
 abbrev pub IsReady : {K T : Type 0} → Machines K → Keeping K T → List (Observation K) → T → Type 0
 IsReady m k es t = k.Leads t (events_of m (k.key t) es)
+
+-- if the entry after these concerns its key, it is just where the runs stand that end with that entry
+abbrev pub IsStanding : {K T : Type 0} → Machines K → Keeping K T → List (Observation K) → Observation K → T → Type 0
+IsStanding m k es e t = concerns m (k.key t) e ≡ true → k.Stands t (events_of m (k.key t) es) e.event
 
 -- the transactions are those of the entries, and lead to their runs over these; no entry is in trouble
 pub record Tracks {K T : Type 0} (m : Machines K) (k : Keeping K T) (es : List (Observation K)) (ts : List T) : Type 0 where
@@ -33,7 +38,7 @@ pub record TracksBefore {K T : Type 0} (m : Machines K) (k : Keeping K T) (es : 
 
 -- what is judged of an entry behind others: it is in no trouble, or this is its verdict
 abbrev pub IsJudged : {K T : Type 0} → Machines K → Keeping K T → List (Observation K) → Observation K → List T → Option Verdict → Type 0
-IsJudged m k es e ts None = Tracks m k (es ++ e ∷ []) ts
+IsJudged m k es e ts None = Tracks m k (es ++ e ∷ []) ts × All (IsStanding m k es e) ts
 IsJudged m k es e ts (Some verdict) = IsTrouble m es e verdict
 
 -- the key has a run over the entries and one more, is not too wide, and its transaction leads on
@@ -41,6 +46,7 @@ pub record GoesOn {K T : Type 0} (m : Machines K) (k : Keeping K T) (es : List (
   pub runs : HasRun m (k.key t) (es ++ e ∷ [])
   pub narrow : ¬ IsTooWide m es e (k.key t)
   pub ready : IsReady m k (es ++ e ∷ []) t
+  pub stands : IsStanding m k es e t
 
 -- what one more entry leaves of the runs of one transaction
 abbrev pub IsPassed : {K T : Type 0} → Machines K → Keeping K T → List (Observation K) → Observation K → T → Fate → Type 0

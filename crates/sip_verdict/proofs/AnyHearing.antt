@@ -1,5 +1,5 @@
 -- What an event, or a wait, leaves of the runs of a transaction of any machine.
-use Rattle.std.proofs.Common.{◌≡◌, ◌≢◌, ◌≤◌, ℕ, Some, None, List, [], ◌++◌, ◌∷◌, refl, sym, ap, ◌∙◌, subst, arith}
+use Rattle.std.proofs.Common.{◌≡◌, ◌≢◌, ◌≤◌, ℕ, Some, None, List, [], sym, ap, ◌∙◌, subst}
 use Rattle.sip_machine.specs.Times.{Times}
 use Rattle.sip_machine.specs.Texts.{Texts, IsBook}
 use Rattle.sip_machine.specs.NumberedEvent.{NumberedEvent}
@@ -8,12 +8,12 @@ use Rattle.sip_machine.specs.Rules.{Rules}
 use Rattle.sip_states.specs.Runs.{IsWide}
 use Rattle.sip_states.specs.Held.{Held}
 use Rattle.sip_states.specs.KeyMachine.{MachineKind, PhaseOf, rules_of}
-use Rattle.sip_states.specs.Meaning.{Meaning, IsKnown, Given, HasWaited, HasTaken}
+use Rattle.sip_states.specs.Meaning.{IsKnown, Given, HasWaited, HasTaken}
 use Rattle.sip_states.specs.AnySet.{moment_of, IsEmpty, IsKnownSet, Waits, Takes, IsTooWide}
 use Rattle.sip_states.specs.declared.any_set.AnySet.{AnySet}
 use Rattle.sip_verdict.specs.declared.passing.Fate.TheVariants.{Runs, NoRun, TooWide}
 use Rattle.sip_verdict.specs.inner.Stepping.{RunsUntil, IsWideAfter, with_event, IsStepped}
-use Rattle.sip_verdict.specs.inner.TablesTracking.{StateOf, meaning_of, set_of, LeadsBy, LeadsOf}
+use Rattle.sip_verdict.specs.inner.TablesTracking.{StateOf, meaning_of, set_of, LeadsOf}
 use Rattle.sip_verdict.proofs.Hearing.{heard_none, heard_some, heard_wide, waited_none, waited_some}
 use Rattle.sip_verdict.proofs.ByMachine.{rules_are, lawful_of, moment_is, some_machine, of_set, to_set, of_sets}
 
@@ -87,7 +87,7 @@ module _ (texts : Texts) (p : Times) (machine : MachineKind) (events : List Hear
         let n = after_event texts e machine leads.0 old new leads.1 takes in
         let m = meaning_of machine in
         let h = heard_some m.names m.in_range m.seen m.rules (lawful_of machine) texts p events leads.0 n.0 leads.2 (heard texts e) (low_of e.moment low) n.2.states n.2.machine n.2.at
-            (some_of machine n.0 new n.1 some) n.2.few in (
+        (some_of machine n.0 new n.1 some) n.2.few in (
           subst (λ r. RunsUntil r (with_event events (Some (heard texts e))) e.moment) (rules_are p machine) h.0,
           subst (λ r. ¬ IsWideAfter r events (Some (heard texts e))) (rules_are p machine) h.1,
           (n.0, n.1, h.2),
@@ -98,7 +98,7 @@ module _ (texts : Texts) (p : Times) (machine : MachineKind) (events : List Hear
     hears_wide wide =
         let m = meaning_of machine in
         let h = heard_wide m.names m.in_range m.seen m.rules (lawful_of machine) texts p events leads.0 leads.0 leads.2 (heard texts e) (low_of e.moment low)
-            (of_set (λ X M S m s. IsWide (Given m texts s e)) machine leads.0 (subst (IsTooWide texts e) leads.1 wide)) in (
+        (of_set (λ X M S m s. IsWide (Given m texts s e)) machine leads.0 (subst (IsTooWide texts e) leads.1 wide)) in (
           subst (λ r. RunsUntil r (with_event events (Some (heard texts e))) e.moment) (rules_are p machine) h.0,
           subst (λ r. IsWideAfter r events (Some (heard texts e))) (rules_are p machine) h.1,
         )
@@ -119,7 +119,7 @@ module _ (texts : Texts) (p : Times) (machine : MachineKind) (events : List Hear
         let n = after_wait moment machine leads.0 old new leads.1 waits in
         let m = meaning_of machine in
         let h = waited_some m.names m.in_range m.seen m.rules (lawful_of machine) texts p events leads.0 n.0 leads.2 moment (low_of moment low) (n.2.states texts book leads.2.leads.known)
-            n.2.machine n.2.at (some_of machine n.0 new n.1 some) in (
+        n.2.machine n.2.at (some_of machine n.0 new n.1 some) in (
           subst (λ r. RunsUntil r events moment) (rules_are p machine) h.0,
           λ wide. wide,
           (n.0, n.1, h.2),

@@ -18,7 +18,6 @@ use Rattle.sip_states.specs.Tables.{Tabled}
 use Rattle.sip_states.specs.declared.any_set.AnySet.{AnySet}
 use Rattle.sip_log.specs.Spelling.{Item}
 use Rattle.sip_verdict.specs.declared.verdict.Verdict.{Verdict}
-use Rattle.sip_verdict.specs.declared.passing.Hearing.{Hearing}
 use Rattle.sip_verdict.specs.Keyed.{Observation, events_of, keys_of}
 use Rattle.sip_verdict.specs.Keyed as keyed
 use Rattle.sip_verdict.specs.MessageReading.{key_machines, message_reading, mark_observation}
@@ -107,7 +106,7 @@ module _ (own cancelled : Option KeyParts) (mine other : Option ℕ) (old betwee
       let known = keys_of m es in
       let one = kept_if texts p es known own mine old between refl long first (kept_tracked m k es (transactions_of old) s) in
       let two = kept_if texts p es (fold (keyed.with_key same_key) known (option_to_list own)) cancelled other between new (touches_times own mine old between first)
-          (touches_long own mine old between long first) second one in
+      (touches_long own mine old between long first) second one in
       before_touched m k es e (transactions_of new)
       (subst (λ ks. AreKept m k es ks (transactions_of new))
       (sym (ap (fold (keyed.with_key same_key) known) keys ∙ fold-append (keyed.with_key same_key) known (option_to_list own) (option_to_list cancelled))) two) s.good

@@ -31,7 +31,10 @@ pub(crate) struct Standing<H: BuildHasher> {
 }
 
 /// The number of the key's transaction, which starts if the key is new.
-fn touch<H: BuildHasher>(tables: &mut Tables<H>, key: Option<Key>) -> Result<Option<u32>, AllocError>
+fn touch<H: BuildHasher>(
+    tables: &mut Tables<H>,
+    key: Option<Key>,
+) -> Result<Option<u32>, AllocError>
     requires { length tables.old.keys < most_keys }
     ensures { IfOk result (λ number. TouchesIf key number tables.old tables.new) }
 {
@@ -122,7 +125,7 @@ impl<H: BuildHasher> Standing<H> {
         ensures judged { IfOk result (λ verdict. (es : List (Observation KeyParts)) → TablesTrack self.old.book es self.old.tables
             → entry.now.number ≡ length es + 1
             → (e : Observation KeyParts) × message_reading.Observes es (item entry.now) e
-                × IsJudged (key_machines self.old.tables.times) (key_keeping self.new.book self.old.tables.times) es e (transactions_of self.new.tables) verdict) }
+            × IsJudged (key_machines self.old.tables.times) (key_keeping self.new.book self.old.tables.times) es e (transactions_of self.new.tables) verdict) }
     {
         match observe(alloc, &mut self.book, entry)? {
             Told::Mark => self.pass(entry.number, entry.moment, None),

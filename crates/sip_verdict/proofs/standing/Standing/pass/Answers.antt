@@ -13,7 +13,7 @@ returns-in-Fine-clause-judged g c = λ es e formed told before counts.
     let m = key_machines s.tables.times in
     let k = key_keeping s.book s.tables.times in
     let same : map (λ t. t.0) (transactions_of new) ≡ map (λ t. t.0) (transactions_of s.tables) =
-        keys_are new c.in_ok-outcome.ensures.may.long ∙ c.in_ok-outcome.ensures.keys ∙ sym (keys_are s.tables c.requires.may.long) in
+    keys_are new c.in_ok-outcome.ensures.may.long ∙ c.in_ok-outcome.ensures.keys ∙ sym (keys_are s.tables c.requires.may.long) in
     judged_fine m k es e k (transactions_of s.tables) (transactions_of new) before same formed
     (subst (IsOutcome m k es e (transactions_of new)) c.in-Fine.is (c.in_ok-outcome.ensures.outcome s.tables.times es e told before.ready))
 
@@ -24,7 +24,7 @@ returns-in-NoRun-clause-judged g c = λ es e formed told before counts.
     let m = key_machines s.tables.times in
     let k = key_keeping s.book s.tables.times in
     let same : map (λ t. t.0) (transactions_of new) ≡ map (λ t. t.0) (transactions_of s.tables) =
-        keys_are new c.in_ok-outcome.ensures.may.long ∙ c.in_ok-outcome.ensures.keys ∙ sym (keys_are s.tables c.requires.may.long) in
+    keys_are new c.in_ok-outcome.ensures.may.long ∙ c.in_ok-outcome.ensures.keys ∙ sym (keys_are s.tables c.requires.may.long) in
     judged_breach m k es e k (transactions_of s.tables) (transactions_of new) before same c.args.number c.in-NoRun.transaction counts formed
     (subst (IsOutcome m k es e (transactions_of new)) c.in-NoRun.is (c.in_ok-outcome.ensures.outcome s.tables.times es e told before.ready))
 
@@ -35,6 +35,6 @@ returns-in-TooWide-clause-judged g c = λ es e formed told before counts.
     let m = key_machines s.tables.times in
     let k = key_keeping s.book s.tables.times in
     let same : map (λ t. t.0) (transactions_of new) ≡ map (λ t. t.0) (transactions_of s.tables) =
-        keys_are new c.in_ok-outcome.ensures.may.long ∙ c.in_ok-outcome.ensures.keys ∙ sym (keys_are s.tables c.requires.may.long) in
+    keys_are new c.in_ok-outcome.ensures.may.long ∙ c.in_ok-outcome.ensures.keys ∙ sym (keys_are s.tables c.requires.may.long) in
     let outcome = subst (IsOutcome m k es e (transactions_of new)) c.in-TooWide.is (c.in_ok-outcome.ensures.outcome s.tables.times es e told before.ready) in
     judged_undecided m k es e k (transactions_of s.tables) (transactions_of new) before same c.args.number c.in-TooWide.transaction counts formed outcome.0 outcome.1

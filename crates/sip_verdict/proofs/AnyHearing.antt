@@ -1,5 +1,5 @@
 -- What an event, or a wait, leaves of the runs of a transaction of any machine.
-use Rattle.std.proofs.Common.{◌≡◌, ◌≢◌, ◌≤◌, ℕ, Some, None, List, [], ◌++◌, ◌∷◌, refl, sym, ap, ◌∙◌, subst, arith}
+use Rattle.std.proofs.Common.{◌≡◌, ◌≢◌, ◌≤◌, ℕ, Some, None, List, [], sym, ap, ◌∙◌, subst}
 use Rattle.sip_machine.specs.Times.{Times}
 use Rattle.sip_machine.specs.Texts.{Texts, IsBook}
 use Rattle.sip_machine.specs.NumberedEvent.{NumberedEvent}
@@ -8,7 +8,7 @@ use Rattle.sip_machine.specs.Rules.{Rules, StandFor}
 use Rattle.sip_states.specs.Runs.{After, IsWide}
 use Rattle.sip_states.specs.Held.{Held}
 use Rattle.sip_states.specs.KeyMachine.{MachineKind, PhaseOf, rules_of}
-use Rattle.sip_states.specs.Meaning.{Meaning, IsKnown, Given, HasWaited, HasTaken}
+use Rattle.sip_states.specs.Meaning.{IsKnown, Given, HasWaited, HasTaken}
 use Rattle.sip_states.specs.AnySet.{moment_of, IsEmpty, IsKnownSet, Waits, Takes, IsTooWide}
 use Rattle.sip_states.specs.declared.any_set.AnySet.{AnySet}
 use Rattle.sip_verdict.specs.declared.passing.Fate.TheVariants.{Runs, NoRun, TooWide}

@@ -6,7 +6,7 @@ use Rattle.sip_key.specs.Key.{KeyParts}
 use Rattle.sip_log.specs.Spelling.{Item}
 use Rattle.sip_verdict.specs.declared.verdict.Verdict.TheVariants.{Legal}
 use Rattle.sip_verdict.specs.Keyed.{Observation}
-use Rattle.sip_verdict.specs.Reading.{AreObserved, HasRuns}
+use Rattle.sip_verdict.specs.Reading.{AreObserved}
 use Rattle.sip_verdict.specs.MessageReading.{direction_of, mark_observation, message_reading, no_cookie, ObservesMessage, has_fault, has_no_cookie, is_heard}
 use Rattle.sip_verdict.specs.LegalLog.{IsFormed, IsLegalLog}
 use Rattle.sip_verdict.specs.VerdictOf.{IsVerdictOf}

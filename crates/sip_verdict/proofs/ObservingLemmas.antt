@@ -1,5 +1,5 @@
 -- What the judge is told of an entry is what is observed of it.
-use Rattle.std.proofs.Common.{◌≡◌, ◌≤◌, ℕ, true, false, Option, Some, None, MatchOption, List, [], ◌++◌, refl, sym, ap, ◌∙◌, subst}
+use Rattle.std.proofs.Common.{◌≡◌, ◌≤◌, ℕ, true, false, Option, Some, None, MatchOption, List, ◌++◌, refl, sym, ap, ◌∙◌, subst}
 use Rattle.std.specs.Prelude.{option_to_list}
 use Rattle.sip_message.specs.declared.fault.Fault.{Fault}
 use Rattle.sip_message.specs.Transport.{is_reliable}
@@ -18,7 +18,7 @@ use Rattle.sip_machine.specs.Heard.{heard, FitsBook}
 use Rattle.sip_machine.specs.Times.{last_moment}
 use Rattle.sip_log.specs.Spelling.{Item}
 use Rattle.sip_verdict.specs.Keyed.{Observation}
-use Rattle.sip_verdict.specs.MessageReading.{direction_of, mark_observation, fault_observation, no_cookie, heard_message, message_observation, ObservesMessage, has_fault, has_no_cookie, is_heard, message_reading}
+use Rattle.sip_verdict.specs.MessageReading.{direction_of, mark_observation, fault_observation, no_cookie, heard_message, ObservesMessage, has_fault, has_no_cookie, is_heard, message_reading}
 
 -- what is observed of a message that went this way is observed of its entry
 pub observes : (before : List (Observation KeyParts)) (item : Item) (e : Observation KeyParts) (direction : Direction) → direction_of item.action ≡ Some direction → ObservesMessage direction item e

@@ -1,10 +1,10 @@
 -- Keys that an event names are looked up in the tables.
-use Rattle.std.proofs.Common.{◌≡◌, ◌≢◌, ◌≤◌, ◌<◌, ◌+◌, ◌-◌, ◌||◌, ◌⊎◌, inl, inr, ℕ, zero, suc, Bool, true, false, nat_eq, Option, Some, None, List, [], ◌∷◌, ◌++◌, All, AllPairs, Contains, IfSome, map, length, slice_get, option_to_list, refl, sym, ap, ◌∙◌, subst, arith, length-append, true≢false}
+use Rattle.std.proofs.Common.{◌≡◌, ◌≢◌, ◌≤◌, ◌<◌, ◌+◌, ◌-◌, ◌||◌, inl, inr, ℕ, zero, suc, Bool, true, false, nat_eq, Option, Some, None, List, [], ◌∷◌, ◌++◌, All, AllPairs, Contains, length, slice_get, option_to_list, refl, sym, ap, ◌∙◌, subst, arith, length-append}
 use Rattle.std.specs.Prelude.{fold}
 use Rattle.std.specs.List.{list_any, zip}
 use Rattle.std.specs.Option.{option_eq}
 use Rattle.std.specs.Cmp.{unsigned_Decides}
-use Rattle.std.proofs.lemmas.List.Elements.{All-push, All-weaker}
+use Rattle.std.proofs.lemmas.List.Elements.{All-push}
 use Rattle.std.proofs.lemmas.List.Folds.{list_any-append}
 use Rattle.std.proofs.lemmas.Option.{slice_get_within, get_or_from_slice_get}
 use Rattle.sip_key.specs.Key.{KeyParts, same_key}
@@ -22,7 +22,7 @@ use Rattle.sip_verdict.specs.Keyed.{Observation, events_of}
 use Rattle.sip_verdict.specs.Keyed as keyed
 use Rattle.sip_verdict.specs.MessageReading.{key_machines}
 use Rattle.sip_verdict.specs.inner.Tracking.{IsTouched}
-use Rattle.sip_verdict.specs.inner.TablesTracking.{meaning_of, set_of, LeadsOf, key_keeping, transactions_of, AreTold, TouchesIf, MayPass}
+use Rattle.sip_verdict.specs.inner.TablesTracking.{meaning_of, LeadsOf, key_keeping, transactions_of, AreTold, TouchesIf, MayPass}
 use Rattle.sip_verdict.proofs.Keys.{IsExact}
 use Rattle.sip_verdict.proofs.Leading.{Leads-start}
 use Rattle.sip_verdict.proofs.ByMachine.{first_of, first_is_of, first_knows, start_is, moment_is, to_set}

@@ -1,4 +1,4 @@
-use Rattle.std.proofs.Common.{◌≡◌, ◌≤◌, ◌<◌, [], ◌∷◌, ◌++◌, All, Some, map, length, take, arith, ap, subst}
+use Rattle.std.proofs.Common.{◌≤◌, ◌<◌, [], ◌∷◌, ◌++◌, All, Some, map, length, take, arith, ap, subst}
 use Rattle.std.specs.Option.{option_copied}
 use Rattle.std.proofs.lemmas.List.{take_all}
 use Rattle.sip_verdict.specs.Keyed.{HasRun}

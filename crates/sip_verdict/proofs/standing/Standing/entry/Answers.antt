@@ -1,4 +1,4 @@
-use Rattle.std.proofs.Common.{◌+◌, ◌≤◌, inl, length, refl, arith}
+use Rattle.std.proofs.Common.{inl, refl, arith}
 use Rattle.sip_log.specs.Told.{item}
 use Rattle.sip_verdict.specs.MessageReading.{fault_observation}
 use Rattle.sip_verdict.proofs.StandingLemmas.{grown_may, both_few, both_may, may_next, mark_judged, heard_judged}

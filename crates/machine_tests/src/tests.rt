@@ -1,6 +1,9 @@
 //! The limits of the times, and the list of messages.
+ghost use Rattle.std.specs.Prelude.{◌+◌, ◌<◌, ℕ, OnOk};
+ghost use Rattle.sip_machine.specs.Texts.{Keeps};
 
 use sip_machine::{Book, Params};
+use std::alloc::{AllocError, Global};
 use std::test::Fail;
 
 #[test]
@@ -36,4 +39,59 @@ fn keeps_equal_bytes_once(rt: HostRuntime) -> Result<(), Fail> {
     assert!(rt; book.bytes(5).is_none());
     assert!(rt; book.bytes(8) == Some(b"".as_slice()));
     Ok(())
+}
+
+#[test]
+fn keeps_many_messages(rt: HostRuntime) -> Result<(), Fail> {
+    let mut book = Book::new(rt.alloc());
+    assert!(rt; are_numbered(rt.alloc(), &mut book, 0, 100_000, b" SIP/2.0 200 OK")?);
+    assert!(rt; are_numbered(rt.alloc(), &mut book, 100_000, 100_000, b" SIP/2.0 200 OK")?);
+    Ok(())
+}
+
+/// The second word of these messages is the factor of `FoldHasher`, so that each hash is 0.
+#[test]
+fn keeps_messages_of_one_hash(rt: HostRuntime) -> Result<(), Fail> {
+    let end = b"    \x15\x7c\x4a\x7f\xb9\x79\x37\x9e".as_slice();
+    let mut book = Book::new(rt.alloc());
+    assert!(rt; are_numbered(rt.alloc(), &mut book, 0, 20_000, end)?);
+    assert!(rt; are_numbered(rt.alloc(), &mut book, 20_000, 20_000, end)?);
+    Ok(())
+}
+
+/// A refused add leaves the messages as they were, and made again it is right.
+#[test]
+fn keeps_its_messages_when_memory_is_refused(rt: HostRuntime) -> Result<(), Fail> {
+    let mut book = Book::new(rt.alloc());
+    if book.add(1, b"ACK").is_err() {
+        assert_eq!(rt; book.bytes(1), None);
+        assert_eq!(rt; book.add(1, b"ACK")?, 1);
+    }
+    assert_eq!(rt; book.add(2, b"BYE")?, 2);
+    assert_eq!(rt; book.bytes(1), Some(b"ACK".as_slice()));
+    assert_eq!(rt; book.bytes(2), Some(b"BYE".as_slice()));
+    Ok(())
+}
+
+/// Adds messages that differ in their first four bytes alone, under the numbers from `first` on. Whether each is
+/// numbered by its place, and found by it.
+fn are_numbered(
+    alloc: Global,
+    book: &mut Book,
+    first: u32,
+    count: u32,
+    end: &[u8],
+) -> Result<bool, AllocError>
+    requires limit { first + count < 4294967296 }
+    requires above { (n : ℕ) → Keeps book.old n → n < first }
+    ensures { OnOk result ((n : ℕ) → Keeps book.new n → n < first + count) }
+{
+    let mut right = true;
+    for place in 0..count {
+        let mut message = place.to_be_bytes().to_vec(alloc)?;
+        message.extend_from_slice(end)?;
+        right &= book.add(first + place, &message)? == place;
+        right &= book.bytes(place) == Some(message.as_slice());
+    }
+    Ok(right)
 }

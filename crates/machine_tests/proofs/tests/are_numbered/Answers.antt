@@ -1,0 +1,18 @@
+use Rattle.std.proofs.Common.{◌+◌, inl, inr, arith}
+use Rattle.sip_machine.proofs.TextLaws.{Keeps-grow_cases}
+use Rattle.machine_tests.proofs.tests.are_numbered.Goals as goal
+
+pub loop-place-init : goal.loop-place-init
+loop-place-init c n keeps = let low = c.requires.above n keeps in omega arith
+
+pub loop-place-preserved : goal.loop-place-preserved
+loop-place-preserved c n keeps = elim c.in_ok-right.ensures.grows [
+  | inl same ↦ let low = c.loop-place.invariant n (rw same.0 at keeps) in omega arith
+  | inr more ↦ elim (Keeps-grow_cases c.loop-place.book (c.args.first + c.loop-place.place) c.deref.result.now n (rw more.0 at keeps)) [
+    | inl old ↦ let low = c.loop-place.invariant n old in omega arith
+    | inr new ↦ omega arith
+  ]
+]
+
+pub returns : goal.returns
+returns c n keeps = let low = c.loop-place.invariant n keeps in omega (arith, c.loop-place-test.false)

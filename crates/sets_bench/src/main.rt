@@ -23,7 +23,10 @@ fn main(rt: HostRuntime) -> io::Result<()> {
     if env::args(&rt)?.nth(1).is_none() {
         return println!(rt; "sets_bench time: prints microseconds a take");
     }
-    println!(rt; "{:>6} {:>6} {:>14} {:>14}", "states", "debts", "us, no row", "us, may pay")?;
+    println!(rt;
+        "{:>6} {:>6} {:>14} {:>14}",
+        "states", "debts", "us, no row", "us, may pay"
+    )?;
     for shape in BY_WIDTH {
         show(&rt, shape)?;
     }
@@ -92,7 +95,9 @@ fn timed(
         hear(set, book, what)?;
     }
     let nanos = start.elapsed(clock)?.as_nanos();
-    Ok(nanos
-        .checked_div(u128::from(rounds).saturating_mul(10))
-        .unwrap_or(0))
+    Ok(
+        nanos
+            .checked_div(u128::from(rounds).saturating_mul(10))
+            .unwrap_or(0),
+    )
 }

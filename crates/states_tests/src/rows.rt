@@ -56,7 +56,10 @@ fn waits_as_timers_fire(rt: HostRuntime) -> Result<(), Fail> {
         }
         assert_eq!(rt; set.last_moment(), limit);
         assert!(rt; are_left(&mut set, last, waits)?, "{waits:?}");
-        assert!(rt; matches!(set.states(), [] | [InviteServerState::Idle]), "{waits:?}");
+        assert!(rt;
+            matches!(set.states(), [] | [InviteServerState::Idle]),
+            "{waits:?}"
+        );
     }
     Ok(())
 }

@@ -61,7 +61,10 @@ fn follows_984_states_and_not_1_025(rt: HostRuntime) -> Result<(), Fail> {
     assert_eq!(rt; set.states().len(), 41);
     assert!(rt; widens(&mut set, &book)?);
     assert_eq!(rt; set.states().len(), 984);
-    assert_eq!(rt; take(&mut set, &book, entry_at(146))?, Err(TakeError::TooMany));
+    assert_eq!(rt;
+        take(&mut set, &book, entry_at(146))?,
+        Err(TakeError::TooMany)
+    );
     assert_eq!(rt; set.states().len(), 984);
     Ok(())
 }

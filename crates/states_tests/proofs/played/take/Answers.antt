@@ -5,4 +5,4 @@ use Rattle.states_tests.proofs.played.take.Goals as goal
 pub returns-clause-known : goal.returns-clause-known
 returns-clause-known c =
     known-after invite_server_names InviteServerInRange invite_server_seen c.args.book.now _ c.args.set.now c.take.new.self c.take.result
-        c.take.ensures.states c.take.ensures.err c.requires.known
+    c.take.ensures.states c.take.ensures.err c.requires.known

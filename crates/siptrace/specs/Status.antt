@@ -1,6 +1,7 @@
-use Rattle.std.specs.Prelude.{◌≡◌, ◌⊎◌, ℕ}
+use Rattle.std.specs.Prelude.{◌≡◌, ◌⊎◌, ℕ, List}
 use Rattle.sip_verdict.specs.declared.verdict.Verdict.{Verdict}
 use Rattle.sip_verdict.specs.declared.verdict.Verdict.TheVariants as verdicts
+use Rattle.sip_verdict.specs.VerdictOf.{IsVerdictOf}
 use Rattle.sip_verdict.specs.declared.shown.Shown.{Shown}
 use Rattle.sip_verdict.specs.declared.shown.Shown.TheVariants.{End, Malformed, LogFault}
 
@@ -21,6 +22,10 @@ status_of_shown (LogFault entry reason) = 2
 -- the status of some verdict
 abbrev pub IsStatusOfVerdict : ℕ → Type 0
 IsStatusOfVerdict status = (verdict : Verdict) × (status ≡ status_of verdict)
+
+-- the status of the verdict of this input
+abbrev pub IsStatusOfInput : List ℕ → ℕ → Type 0
+IsStatusOfInput input status = (verdict : Verdict) × IsVerdictOf input verdict × (status ≡ status_of verdict)
 
 -- the status of some log that was shown
 abbrev pub IsStatusOfShown : ℕ → Type 0

@@ -5,8 +5,9 @@
 //! read, 3 where it is undecided, 4 where it cannot read, write or get memory, and 5 where it does not understand its words.
 #![tactic(auto)]
 
-ghost use Rattle.std.specs.Prelude.{IfOk};
-ghost use Rattle.siptrace.specs.Status.{IsStatus, IsStatusOfVerdict, IsStatusOfShown};
+ghost use Rattle.std.specs.Prelude.{IfOk, IfSome, IsErrOf};
+ghost use Rattle.siptrace.specs.declared.failure.Failure.TheVariants.{Usage};
+ghost use Rattle.siptrace.specs.Status.{IsStatus, IsStatusOfVerdict, IsStatusOfInput, IsStatusOfShown};
 
 mod asked;
 mod failure;
@@ -37,9 +38,11 @@ fn open(rt: &HostRuntime, path: &str) -> Result<File, Failure> {
     File::open(rt, path).map_err(read_failure)
 }
 
-/// Judges a log and prints the verdict. The status is that of a verdict.
+/// Judges a log and prints the verdict. The status is that of a verdict: of the reader's bytes, where it tells them.
 fn check<R: Read + Drop>(rt: &HostRuntime, seed: RandomState, reader: R) -> Result<u8, Failure>
-    ensures { IfOk result IsStatusOfVerdict }
+    ensures status { IfOk result IsStatusOfVerdict }
+    ensures input { IfOk result (λ status. IfSome (R.remaining reader) (λ input. IsStatusOfInput input status)) }
+    ensures words { IsErrOf result Usage → ⊥ }
 {
     let verdict = judge(rt.alloc(), &mut FromRead::new(reader), seed)?;
     let text = render(rt.alloc(), &verdict)?;
@@ -49,7 +52,8 @@ fn check<R: Read + Drop>(rt: &HostRuntime, seed: RandomState, reader: R) -> Resu
 
 /// Shows a log on the standard output. The status is that of how it ends.
 fn show_log(rt: &HostRuntime, file: File) -> Result<u8, Failure>
-    ensures { IfOk result IsStatusOfShown }
+    ensures status { IfOk result IsStatusOfShown }
+    ensures words { IsErrOf result Usage → ⊥ }
 {
     let mut writer = BufWriter::with_capacity(rt.alloc(), BUFFER, rt.stdout()).map_err(
         read_failure,

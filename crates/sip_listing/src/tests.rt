@@ -1,0 +1,222 @@
+//! Texts of states, written by hand.
+use crate::lines::lines_of;
+use crate::told::Told;
+use sip_machine::{
+    Debt, InviteClientState, InviteServerState, InviteWaiting, Outbox, PlainServerState,
+    PlainState, PlainWaiting,
+};
+use std::alloc::Global;
+use std::test::Fail;
+
+fn text_of<T: Told>(alloc: Global, state: &T) -> Result<String, Fail> {
+    let mut text = String::new(alloc);
+    state.push_text(&mut text)?;
+    Ok(text)
+}
+
+/// The message 2 that may be sent until 530, and 3 that must be sent until 540.
+fn two_debts(alloc: Global) -> Result<Outbox, Fail> {
+    let mut owes = Outbox::new(alloc);
+    owes.push(Debt {
+        message: 2,
+        deadline: 530,
+        must: false,
+    })?;
+    owes.push(Debt {
+        message: 3,
+        deadline: 540,
+        must: true,
+    })?;
+    Ok(owes)
+}
+
+fn waiting(interval: u64) -> PlainWaiting {
+    PlainWaiting {
+        reliable: false,
+        request: 1,
+        start: 10,
+        set: 510,
+        interval,
+    }
+}
+
+#[test]
+fn tells_plain_clients(rt: HostRuntime) -> Result<(), Fail> {
+    for (state, text) in [
+        (PlainState::Idle, "idle"),
+        (
+            PlainState::Trying(waiting(1_000)),
+            "trying reliable=no request=1 start=10 set=510 interval=1000",
+        ),
+        (
+            PlainState::Proceeding(waiting(4_000)),
+            "proceeding reliable=no request=1 start=10 set=510 interval=4000",
+        ),
+        (
+            PlainState::Completed {
+                reliable: true,
+                set: 700,
+            },
+            "completed reliable=yes set=700",
+        ),
+        (PlainState::Ended, "ended"),
+    ] {
+        assert_eq!(rt; text_of(rt.alloc(), &state)?.as_str(), text);
+    }
+    Ok(())
+}
+
+#[test]
+fn tells_invite_clients(rt: HostRuntime) -> Result<(), Fail> {
+    let alloc = rt.alloc();
+    for (state, text) in [
+        (InviteClientState::Idle, "idle"),
+        (
+            InviteClientState::Calling(InviteWaiting {
+                reliable: true,
+                request: 1,
+                start: 10,
+                set: 510,
+                interval: 1_000,
+            }),
+            "calling reliable=yes request=1 start=10 set=510 interval=1000",
+        ),
+        (
+            InviteClientState::Proceeding {
+                reliable: false,
+                request: 1,
+                cancel: None,
+            },
+            "proceeding reliable=no request=1 cancel=none",
+        ),
+        (
+            InviteClientState::Proceeding {
+                reliable: false,
+                request: 1,
+                cancel: Some(100),
+            },
+            "proceeding reliable=no request=1 cancel=100",
+        ),
+        (InviteClientState::Accepted { set: 200 }, "accepted set=200"),
+        (
+            InviteClientState::Completed {
+                reliable: false,
+                request: 1,
+                set: 490,
+                owes: two_debts(alloc)?,
+            },
+            "completed reliable=no request=1 set=490 owes=2/530/may owes=3/540/must",
+        ),
+        (InviteClientState::Ended, "ended"),
+    ] {
+        assert_eq!(rt; text_of(alloc, &state)?.as_str(), text);
+    }
+    Ok(())
+}
+
+#[test]
+fn tells_invite_servers(rt: HostRuntime) -> Result<(), Fail> {
+    let alloc = rt.alloc();
+    for (state, text) in [
+        (InviteServerState::Idle, "idle"),
+        (
+            InviteServerState::Proceeding {
+                reliable: false,
+                set: 5,
+                last: None,
+                owes: Outbox::new(alloc),
+            },
+            "proceeding reliable=no set=5 last=none",
+        ),
+        (
+            InviteServerState::Proceeding {
+                reliable: true,
+                set: 5,
+                last: Some(2),
+                owes: two_debts(alloc)?,
+            },
+            "proceeding reliable=yes set=5 last=2 owes=2/530/may owes=3/540/must",
+        ),
+        (
+            InviteServerState::Accepted {
+                set: 6,
+                owes: two_debts(alloc)?,
+            },
+            "accepted set=6 owes=2/530/may owes=3/540/must",
+        ),
+        (
+            InviteServerState::Completed {
+                reliable: false,
+                final_message: 2,
+                set: 0,
+                repeat: 490,
+                interval: 1_000,
+                owes: two_debts(alloc)?,
+            },
+            "completed reliable=no final=2 set=0 repeat=490 interval=1000 owes=2/530/may owes=3/540/must",
+        ),
+        (
+            InviteServerState::Confirmed {
+                reliable: false,
+                set: 7,
+                owes: Outbox::new(alloc),
+            },
+            "confirmed reliable=no set=7",
+        ),
+    ] {
+        assert_eq!(rt; text_of(alloc, &state)?.as_str(), text);
+    }
+    Ok(())
+}
+
+#[test]
+fn tells_plain_servers(rt: HostRuntime) -> Result<(), Fail> {
+    let alloc = rt.alloc();
+    for (state, text) in [
+        (PlainServerState::Idle, "idle"),
+        (
+            PlainServerState::Trying { reliable: true },
+            "trying reliable=yes",
+        ),
+        (
+            PlainServerState::Proceeding {
+                reliable: false,
+                last: 2,
+                owes: two_debts(alloc)?,
+            },
+            "proceeding reliable=no last=2 owes=2/530/may owes=3/540/must",
+        ),
+        (
+            PlainServerState::Completed {
+                reliable: false,
+                response: 2,
+                set: 10,
+                owes: Outbox::new(alloc),
+            },
+            "completed reliable=no final=2 set=10",
+        ),
+    ] {
+        assert_eq!(rt; text_of(alloc, &state)?.as_str(), text);
+    }
+    Ok(())
+}
+
+/// As bytes, 1000 comes before 500.
+#[test]
+fn sorts_lines_as_bytes(rt: HostRuntime) -> Result<(), Fail> {
+    let states = [
+        PlainState::Trying(waiting(500)),
+        PlainState::Idle,
+        PlainState::Trying(waiting(1_000)),
+    ];
+    let lines = lines_of(rt.alloc(), &states)?;
+    assert_eq!(rt; lines.len(), 3);
+    for (line, text) in lines.iter().zip([
+        "idle",
+        "trying reliable=no request=1 start=10 set=510 interval=1000",
+        "trying reliable=no request=1 start=10 set=510 interval=500",
+    ]) {
+        assert_eq!(rt; line.as_str(), text);
+    }
+    Ok(())
+}

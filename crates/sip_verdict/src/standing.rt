@@ -1,21 +1,27 @@
 //! What is kept of the entries of a log that were judged.
-ghost use Rattle.std.specs.Prelude.{◌≡◌, ◌≢◌, ◌≤◌, ◌<◌, ◌+◌, [], ℕ, None, List, AllPairs, IfOk, IfNone, OnOk, length};
+ghost use Rattle.std.specs.Prelude.{◌≡◌, ◌≢◌, ◌≤◌, ◌<◌, ◌+◌, ◌++◌, ◌∷◌, [], ℕ, None, List, AllPairs, IfOk, IfNone, OnOk, codes, length, string_bytes};
 ghost use Rattle.std.specs.Option.{ForSome, option_copied};
 ghost use Rattle.sip_key.specs.Key.{KeyParts};
 ghost use Rattle.sip_machine.specs.Times.{last_moment};
 ghost use Rattle.sip_machine.specs.Heard.{FitsBook};
-ghost use Rattle.sip_states.specs.Tables.{Tabled, most_keys};
+ghost use Rattle.sip_states.specs.Tables.{IsGiven, Tabled, most_keys};
 ghost use Rattle.sip_log.specs.Log.{most_entries};
+ghost use Rattle.sip_log.specs.Spelling.{Item};
 ghost use Rattle.sip_log.specs.Told.{item};
 ghost use Rattle.sip_verdict.specs.Keyed.{Observation};
 ghost use Rattle.sip_verdict.specs.MessageReading.{key_machines, message_reading};
+ghost use Rattle.sip_verdict.specs.Listing.{first_entry};
+ghost use Rattle.sip_verdict.specs.ListingOf.{key_words};
+ghost use Rattle.sip_verdict.specs.inner.Numbering.{AreNumbered, IsListedEntry};
 ghost use Rattle.sip_verdict.specs.inner.Tracking.{IsJudged};
 ghost use Rattle.sip_verdict.specs.inner.TablesTracking.{key_keeping, transactions_of, TablesTrack, TablesTrackBefore, AreTold, TouchesIf, MayPass, MayTake};
 
+use crate::listing::Listing;
 use crate::observing::{Told, observe};
 use crate::passing::{Hearing, Outcome, pass_all};
 use crate::verdict::Verdict;
 use sip_key::Key;
+use sip_listing::push_transaction;
 use sip_log::Entry;
 use sip_machine::{Book, Params};
 use sip_states::Tables;
@@ -148,4 +154,86 @@ impl<H: BuildHasher> Standing<H> {
             }
         }
     }
+
+    /// Judges the entry that comes next, and lists the transactions that it concerns, if it is in no trouble.
+    pub(crate) fn list(&mut self, alloc: Global, entry: &Entry) -> Result<Listing, AllocError>
+        requires limit { entry.now.moment ≤ last_moment }
+        requires count { entry.now.number ≤ most_entries }
+        requires may { MayTake self.old.book self.old.tables entry.now.number entry.now.moment }
+        ensures listed { IfOk result (λ listing. (es : List (Observation KeyParts)) (items : List Item) → TablesTrack self.old.book es self.old.tables
+            → AreNumbered items self.old.book → length items ≡ length es → entry.now.number ≡ length es + 1
+            → (e : Observation KeyParts) × message_reading.Observes es (item entry.now) e
+                × IsListedEntry (key_machines self.old.tables.times) (key_words self.old.tables.times) (first_entry (items ++ item entry.now ∷ [])) es e listing) }
+    {
+        match observe(alloc, &mut self.book, entry)? {
+            Told::Mark => match self.pass(entry.number, entry.moment, None)? {
+                Some(verdict) => Ok(Listing::Stopped(verdict)),
+                None => Ok(Listing::Text(no_transaction(alloc)?)),
+            },
+            Told::Fault(fault) => Ok(Listing::Stopped(Verdict::Malformed {
+                entry: entry.number,
+                fault,
+            })),
+            Told::Heard {
+                event,
+                own,
+                cancelled,
+            } => {
+                let (own, cancelled) = touch_both(&mut self.tables, own, cancelled)?;
+                let hearing = Hearing {
+                    event,
+                    own,
+                    cancelled,
+                };
+                match self.pass(entry.number, entry.moment, Some(&hearing))? {
+                    Some(verdict) => Ok(Listing::Stopped(verdict)),
+                    None => Ok(Listing::Text(self.text(alloc, own, cancelled)?)),
+                }
+            }
+        }
+    }
+
+    /// The transactions with these numbers, or that there is none.
+    fn text(
+        &self,
+        alloc: Global,
+        own: Option<u32>,
+        cancelled: Option<u32>,
+    ) -> Result<String, AllocError>
+        requires own { ForSome own (IsGiven self.now.tables) }
+        requires cancelled { ForSome cancelled (IsGiven self.now.tables) }
+    {
+        if own.is_none() && cancelled.is_none() {
+            return no_transaction(alloc);
+        }
+        let mut text = String::new(alloc);
+        self.push_one(alloc, &mut text, own)?;
+        self.push_one(alloc, &mut text, cancelled)?;
+        Ok(text)
+    }
+
+    /// Appends the transaction with this number, if there is one.
+    fn push_one(
+        &self,
+        alloc: Global,
+        text: &mut String,
+        number: Option<u32>,
+    ) -> Result<(), AllocError>
+        requires { ForSome number (IsGiven self.now.tables) }
+    {
+        match number {
+            Some(number) => {
+                let key = self.tables.key(number);
+                push_transaction(alloc, text, number, key, self.tables.set(number))
+            }
+            None => Ok(()),
+        }
+    }
+}
+
+/// The text of an entry that concerns no transaction.
+fn no_transaction(alloc: Global) -> Result<String, AllocError>
+    ensures { IfOk result (λ text. string_bytes text ≡ codes "no transaction\n") }
+{
+    String::from_str(alloc, "no transaction\n")
 }

@@ -52,7 +52,7 @@ pub record Judged {K T : Type 0} (r : Reading K) (p : Times) (k : Keeping K T) (
 
 module _ {K : Type 0} (r : Reading K) where
   -- one more is observed of one more
-  observed-push : (before : List (Observation K)) (xs : List Item) (es : List (Observation K)) (x : Item) (e : Observation K) → AreObserved r before xs es → r.Observes (before ++ es) x e
+  pub observed-push : (before : List (Observation K)) (xs : List Item) (es : List (Observation K)) (x : Item) (e : Observation K) → AreObserved r before xs es → r.Observes (before ++ es) x e
       → AreObserved r before (xs ++ x ∷ []) (es ++ e ∷ [])
   observed-push before [] [] x e a s = (subst (λ fs. r.Observes fs x e) (append-nil before) s, tt)
   observed-push before [] (f ∷ es) x e a s = elim a [ ]
@@ -116,7 +116,7 @@ module _ {K : Type 0} (r : Reading K) where
 
     module _ (k2 : Keeping K T) (us : List T) (e : Entry) (nexts : Nexts now new (Ok (Some e))) where
       -- the entry is the next one
-      number_is : e.number ≡ length judged.es + 1
+      pub number_is : e.number ≡ length judged.es + 1
       number_is = (Nexts-counted start judged.items now new e nexts).continues.number_is ∙ ap (λ n. n + 1) count_is
 
       -- what was judged of it

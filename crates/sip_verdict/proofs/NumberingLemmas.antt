@@ -34,18 +34,18 @@ entry_from-kept number [] more text some = absurd (some refl)
 entry_from-kept number (i ∷ items) more text some =
     chosen (carries i text) number (entry_from (number + 1) items text) (entry_from (number + 1) (items ++ more) text) (λ found. entry_from-kept (number + 1) items more text found) some
 
--- of a book that numbers the messages of entries, each keeps its number with one entry more
-module _ (items : List Item) (i : Item) (old : Texts) (a : AreNumbered items old) where
-  stays : (n : ℕ) → Keeps old n → first_entry (items ++ i ∷ []) (text_of old n) ≡ n
-  stays n keeps =
-      entry_from-kept 1 items (i ∷ []) (text_of old n) (λ none. let zero_is : n ≡ 0 = sym (a.numbered n keeps) ∙ none in absurd (let low = a.some n keeps in omega (arith, zero_is, low)))
-      ∙ a.numbered n keeps
+-- of a book that numbers the messages of entries, each keeps its number with more entries
+pub stay_numbered : (items more : List Item) (texts : Texts) → AreNumbered items texts → (n : ℕ) → Keeps texts n → first_entry (items ++ more) (text_of texts n) ≡ n
+stay_numbered items more texts a n keeps =
+    entry_from-kept 1 items more (text_of texts n) (λ none. let zero_is : n ≡ 0 = sym (a.numbered n keeps) ∙ none in absurd (let low = a.some n keeps in omega (arith, zero_is, low)))
+    ∙ a.numbered n keeps
 
+module _ (items : List Item) (i : Item) (old : Texts) (a : AreNumbered items old) where
   -- the book stays as it is
   same_book : (has_message i.action ≡ true → (n : ℕ) × Keeps old n × (text_of old n ≡ i.text)) → AreNumbered (items ++ i ∷ []) old
   same_book kept = record {
     some = a.some;
-    numbered = stays;
+    numbered = stay_numbered items (i ∷ []) old a;
     kept = All-push (λ j. has_message j.action ≡ true → (n : ℕ) × Keeps old n × (text_of old n ≡ j.text)) items i a.kept kept;
   }
 
@@ -72,7 +72,7 @@ module _ (items : List Item) (i : Item) (old : Texts) (a : AreNumbered items old
     more_book = record {
       some = λ n keeps. elim (Keeps-grow_cases old number i.text n keeps) [ inl k ↦ a.some n k | inr e ↦ omega (arith, counts, e) ];
       numbered = λ n keeps. elim (Keeps-grow_cases old number i.text n keeps) [
-        | inl k ↦ ap (first_entry (items ++ i ∷ [])) (text_of-grow old number i.text n k) ∙ stays n k
+        | inl k ↦ ap (first_entry (items ++ i ∷ [])) (text_of-grow old number i.text n k) ∙ stay_numbered items (i ∷ []) old a n k
         | inr e ↦
             ap (first_entry (items ++ i ∷ [])) (sym (ap (text_of (old ++ (number, i.text) ∷ [])) e) ∙ text_of-added old number i.text below)
             ∙ (entry_from-next 1 items i i.text (All-weaker (λ j. has_message j.action ≡ true → (n : ℕ) × Keeps old n × (text_of old n ≡ j.text)) (λ j. carries j i.text ≡ false) absent items a.kept)

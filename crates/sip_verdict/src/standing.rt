@@ -151,10 +151,10 @@ impl<H: BuildHasher> Standing<H> {
         requires limit { entry.now.moment ≤ last_moment }
         requires count { entry.now.number ≤ most_entries }
         requires may { MayTake self.old.book self.old.tables entry.now.number entry.now.moment }
-        ensures listed { IfOk result (λ listing. (es : List (Observation KeyParts)) (items : List Item) → TablesTrack self.old.book es self.old.tables
+        ensures listed { IfOk result (λ listing. (es : List (Observation KeyParts)) (items more : List Item) → TablesTrack self.old.book es self.old.tables
             → AreNumbered items self.old.book → length items ≡ length es → entry.now.number ≡ length es + 1
             → (e : Observation KeyParts) × message_reading.Observes es (item entry.now) e
-                × IsListedEntry (key_machines self.old.tables.times) (key_words self.old.tables.times) (first_entry (items ++ item entry.now ∷ [])) es e listing) }
+                × IsListedEntry (key_machines self.old.tables.times) (key_words self.old.tables.times) (first_entry ((items ++ item entry.now ∷ []) ++ more)) es e listing) }
     {
         let taken = self.take(alloc, entry)?;
         match taken.verdict {

@@ -1,6 +1,9 @@
 -- How the entries that were read tell of what is listed of one.
 use Rattle.std.proofs.Common.{◌≡◌, inl, inr, ℕ, ◌+◌, ◌<◌, ◌≤◌, Ok, Option, Some, None, IsSomeAnd, IfSome, List, [], ◌∷◌, ◌++◌, length, string_bytes, refl, sym, ap, ◌∙◌, subst, arith}
+use Rattle.sip_key.specs.Key.{KeyParts}
 use Rattle.sip_machine.specs.Times.{Times}
+use Rattle.sip_machine.specs.Texts.{Texts}
+use Rattle.sip_states.specs.Tables.{Tabled}
 use Rattle.sip_log.specs.declared.entry.Entry.{Entry}
 use Rattle.sip_log.specs.Spelling.{Item}
 use Rattle.sip_log.specs.Log.{LogEnd, IsLog}
@@ -17,13 +20,15 @@ use Rattle.sip_verdict.specs.Keyed.{Observation, Machines}
 use Rattle.sip_verdict.specs.Verdicts.{IsTrouble}
 use Rattle.sip_verdict.specs.Reading.{Reading, IsVerdictBy}
 use Rattle.sip_verdict.specs.Listing.{Words, first_entry, trouble_of, HasNoEntry, IsListingBy}
-use Rattle.sip_verdict.specs.inner.Tracking.{Keeping, Tracks}
-use Rattle.sip_verdict.specs.inner.Numbering.{IsListedEntry}
-use Rattle.sip_verdict.proofs.JudgingLemmas.{Judged, number_is, observed-push, judged_trouble}
+use Rattle.sip_verdict.specs.MessageReading.{key_machines, message_reading}
+use Rattle.sip_verdict.specs.inner.Tracking.{Keeping, Tracks, IsJudged}
+use Rattle.sip_verdict.specs.inner.TablesTracking.{key_keeping, transactions_of, TablesTrack}
+use Rattle.sip_verdict.specs.inner.Numbering.{AreNumbered, StaysNumbered, IsListedEntry}
+use Rattle.sip_verdict.proofs.JudgingLemmas.{Judged, number_is, observed-push, judged_trouble, judged_more}
 
 -- the entry in trouble is the one behind these
 trouble_at : {K : Type 0} (m : Machines K) (front : List (Observation K)) (e : Observation K) (v : Verdict) (n : ℕ) → length front + 1 ≤ n → IsTrouble m front e v → IsSomeAnd (trouble_of v) (λ k. k ≤ n)
-trouble_at m front e (Legal entries transactions) n low is = absurd is
+trouble_at m front e (Legal count transactions) n low is = absurd is
 trouble_at m front e (Malformed entry fault) n low is = omega (arith, is.0, low)
 trouble_at m front e (Breach entry transaction) n low is = omega (arith, is.0, low)
 trouble_at m front e (Undecided entry transaction) n low is = omega (arith, is.0, low)
@@ -38,7 +43,7 @@ module _ {K : Type 0} (r : Reading K) (w : (p : Times) → Words K (r.machines p
   pub listed_zero : (now : log.Reading) (p : Times) → entry ≡ 0 → now.stage ≡ entries → now.times ≡ Some p → Stands start [] now → IfSome start (λ input. IsListingBy r w input entry NoEntry)
   listed_zero now p none on times stands =
       IfSome-map start (λ input. IfSome now.times (λ q. (more : List Item) × (end : LogEnd) × IsLog input q ([] ++ more) end)) (λ input. IsListingBy r w input entry NoEntry)
-      (λ input is. (let l = subst (λ t. IfSome t (λ q. (more : List Item) × (end : LogEnd) × IsLog input q ([] ++ more) end)) times is in inl (none, p, l.0, l.1, l.2)))
+      (λ input is. (let l = subst (λ t. IfSome t (λ q. (more : List Item) × (end : LogEnd) × IsLog input q ([] ++ more) end)) times is in inl (none, (p, l.0, l.1, l.2))))
       (Stands-log start [] now on stands)
 
   -- nor one behind the last
@@ -91,3 +96,21 @@ module _ {K : Type 0} (r : Reading K) (w : (p : Times) → Words K (r.machines p
           told = h.2.1;
         })
         (Stands-log start (judged.items ++ item e ∷ []) new counted.on (Stands-gives start judged.items now new e judged.stands nexts))
+
+-- An entry in no trouble: it is read and tracked, and the book numbers its message too.
+module _ (start : Option (List ℕ)) (now new : log.Reading) (texts texts2 : Texts) (t u : Tabled) (judged : Judged message_reading t.times (key_keeping texts t.times) start now (transactions_of t)) (e : Entry)
+    (nexts : Nexts now new (Ok (Some e)))
+    (says : (es : List (Observation KeyParts)) → TablesTrack texts es t → e.number ≡ length es + 1
+    → (seen : Observation KeyParts) × message_reading.Observes es (item e) seen × IsJudged (key_machines t.times) (key_keeping texts2 t.times) es seen (transactions_of u) None) where
+  more_judged : (more : Judged message_reading t.times (key_keeping texts2 t.times) start new (transactions_of u)) × (more.items ≡ judged.items ++ item e ∷ [])
+  more_judged = judged_more message_reading t.times (key_keeping texts t.times) start now (transactions_of t) judged new (key_keeping texts2 t.times) (transactions_of u) e nexts says
+
+  more_numbered : AreNumbered (judged.items ++ item e ∷ []) texts2 → (more : Judged message_reading t.times (key_keeping texts2 t.times) start new (transactions_of u)) × AreNumbered more.items texts2
+  more_numbered numbered = (more_judged.0, subst (λ items. AreNumbered items texts2) (sym more_judged.1) numbered)
+
+  pub listed_more : AreNumbered judged.items texts → StaysNumbered (item e) e.number texts texts2 → u.times ≡ t.times
+      → (more : Judged message_reading u.times (key_keeping texts2 u.times) start new (transactions_of u)) × AreNumbered more.items texts2
+  listed_more numbered stays times =
+      let counts = number_is message_reading t.times (key_keeping texts t.times) start now (transactions_of t) judged new (key_keeping texts2 t.times) (transactions_of u) e nexts in
+      subst (λ q. (more : Judged message_reading q (key_keeping texts2 q) start new (transactions_of u)) × AreNumbered more.items texts2) (sym times)
+      (more_numbered (stays judged.items numbered (counts ∙ ap (λ n. n + 1) (sym judged.long))))

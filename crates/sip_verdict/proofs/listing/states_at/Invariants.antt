@@ -15,9 +15,8 @@ invariant-loop-next g l =
       few : l.progress.count ≤ most_entries;
       fine : g.R.Source.has_failed l.reader ≡ g.R.Source.has_failed l.fn.reader;
       may : MayTake l.standing.book l.standing.tables (l.count + 1) l.progress.last;
-      judged : Judged message_reading l.standing.tables.times (key_keeping l.standing.book l.standing.tables.times) (g.R.Source.left l.fn.reader)
-          (reading l.progress (g.R.Source.left l.reader) (g.R.Source.has_failed l.reader)) (transactions_of l.standing.tables);
-      numbered : AreNumbered judged.items l.standing.book;
+      judged : (entries : Judged message_reading l.standing.tables.times (key_keeping l.standing.book l.standing.tables.times) (g.R.Source.left l.fn.reader)
+          (reading l.progress (g.R.Source.left l.reader) (g.R.Source.has_failed l.reader)) (transactions_of l.standing.tables)) × AreNumbered entries.items l.standing.book;
     }
 
 abbrev pub decreases-loop-next : goal.decreases-loop-next

@@ -52,7 +52,7 @@ pub record Judged {K T : Type 0} (r : Reading K) (p : Times) (k : Keeping K T) (
 
 module _ {K : Type 0} (r : Reading K) where
   -- one more is observed of one more
-  observed-push : (before : List (Observation K)) (xs : List Item) (es : List (Observation K)) (x : Item) (e : Observation K) → AreObserved r before xs es → r.Observes (before ++ es) x e
+  pub observed-push : (before : List (Observation K)) (xs : List Item) (es : List (Observation K)) (x : Item) (e : Observation K) → AreObserved r before xs es → r.Observes (before ++ es) x e
       → AreObserved r before (xs ++ x ∷ []) (es ++ e ∷ [])
   observed-push before [] [] x e a s = (subst (λ fs. r.Observes fs x e) (append-nil before) s, tt)
   observed-push before [] (f ∷ es) x e a s = elim a [ ]
@@ -62,17 +62,20 @@ module _ {K : Type 0} (r : Reading K) where
 
   -- nothing was judged yet
   pub judged_start : {T : Type 0} (p : Times) (k : Keeping K T) (start : Option (List ℕ)) (now : log.Reading) (ts : List T) → ts ≡ [] → now.stage ≡ entries → now.times ≡ Some p
-      → Stands start [] now → Judged r p k start now ts
-  judged_start p k start now ts empty on times stands = subst (λ us. Judged r p k start now us) (sym empty) (record {
-    items = [];
-    es = [];
-    observed = tt;
-    tracks = tracks_none (r.machines p) k;
-    long = refl;
-    on = on;
-    times = times;
-    stands = stands;
-  })
+      → Stands start [] now → (judged : Judged r p k start now ts) × (judged.items ≡ [])
+  judged_start p k start now ts empty on times stands = subst (λ us. (judged : Judged r p k start now us) × (judged.items ≡ [])) (sym empty) (
+    record {
+      items = [];
+      es = [];
+      observed = tt;
+      tracks = tracks_none (r.machines p) k;
+      long = refl;
+      on = on;
+      times = times;
+      stands = stands;
+    },
+    refl,
+  )
 
   module _ {T : Type 0} (p : Times) (k : Keeping K T) (start : Option (List ℕ)) (now : log.Reading) (ts : List T) (judged : Judged r p k start now ts) (new : log.Reading) where
     -- so many entries were read
@@ -116,7 +119,7 @@ module _ {K : Type 0} (r : Reading K) where
 
     module _ (k2 : Keeping K T) (us : List T) (e : Entry) (nexts : Nexts now new (Ok (Some e))) where
       -- the entry is the next one
-      number_is : e.number ≡ length judged.es + 1
+      pub number_is : e.number ≡ length judged.es + 1
       number_is = (Nexts-counted start judged.items now new e nexts).continues.number_is ∙ ap (λ n. n + 1) count_is
 
       -- what was judged of it
@@ -148,17 +151,19 @@ module _ {K : Type 0} (r : Reading K) where
           })) whole
 
       -- it is in none
-      pub judged_more : Says None → Judged r p k2 start new us
+      pub judged_more : Says None → (more : Judged r p k2 start new us) × (more.items ≡ judged.items ++ item e ∷ [])
       judged_more says =
           let h = says judged.es judged.tracks number_is in
-          let counted = Nexts-counted start judged.items now new e nexts in
-          record {
-            items = judged.items ++ item e ∷ [];
-            es = judged.es ++ h.0 ∷ [];
-            observed = observed-push [] judged.items judged.es (item e) h.0 judged.observed h.1;
-            tracks = h.2.0;
-            long = length_push judged.items (item e) ∙ ap (λ n. n + 1) judged.long ∙ sym (length_push judged.es h.0);
-            on = counted.on;
-            times = Nexts-times now new (Ok (Some e)) p judged.on judged.times nexts;
-            stands = Stands-gives start judged.items now new e judged.stands nexts;
-          }
+          let counted = Nexts-counted start judged.items now new e nexts in (
+            record {
+              items = judged.items ++ item e ∷ [];
+              es = judged.es ++ h.0 ∷ [];
+              observed = observed-push [] judged.items judged.es (item e) h.0 judged.observed h.1;
+              tracks = h.2.0;
+              long = length_push judged.items (item e) ∙ ap (λ n. n + 1) judged.long ∙ sym (length_push judged.es h.0);
+              on = counted.on;
+              times = Nexts-times now new (Ok (Some e)) p judged.on judged.times nexts;
+              stands = Stands-gives start judged.items now new e judged.stands nexts;
+            },
+            refl,
+          )

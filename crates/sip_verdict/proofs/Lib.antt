@@ -1,5 +1,6 @@
 pub mod AnyHearing
 pub mod ByMachine
+pub mod EntryText
 pub mod Hearing
 pub mod JudgeTables
 pub mod JudgingLemmas
@@ -9,6 +10,7 @@ pub mod LegalMessages
 pub mod LegalRuns
 pub mod ListingLemmas
 pub mod MessageUnique
+pub mod MethodLemmas
 pub mod NumberingLemmas
 pub mod ObservingLemmas
 pub mod OneMachine
@@ -17,6 +19,7 @@ pub mod PassingAll
 pub mod ShowingLemmas
 pub mod Splitting
 pub mod StandingLemmas
+pub mod StatesLemmas
 pub mod Stepped
 pub mod TablesPassing
 pub mod TablesTouching

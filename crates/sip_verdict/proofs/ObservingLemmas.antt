@@ -10,7 +10,7 @@ use Rattle.sip_key.specs.declared.role.Direction.{Direction}
 use Rattle.sip_key.specs.Key.{KeyParts}
 use Rattle.sip_key.specs.Concerns.{own_key, cancelled_key, lacks_cookie}
 use Rattle.sip_machine.specs.declared.event.Action.{Action}
-use Rattle.sip_machine.specs.declared.event.Action.TheVariants.{Mark}
+use Rattle.sip_machine.specs.declared.event.Action.TheVariants.{Sent, Received, Failed, Mark}
 use Rattle.sip_machine.specs.Message.{kind_of}
 use Rattle.sip_machine.specs.NumberedEvent.{NumberedEvent}
 use Rattle.sip_machine.specs.Texts.{Texts, Keeps, text_of}
@@ -18,6 +18,7 @@ use Rattle.sip_machine.specs.Heard.{heard, FitsBook}
 use Rattle.sip_machine.specs.Times.{last_moment}
 use Rattle.sip_log.specs.Spelling.{Item}
 use Rattle.sip_verdict.specs.Keyed.{Observation}
+use Rattle.sip_verdict.specs.Listing.{has_message}
 use Rattle.sip_verdict.specs.MessageReading.{direction_of, mark_observation, fault_observation, no_cookie, heard_message, ObservesMessage, has_fault, has_no_cookie, is_heard, message_reading}
 
 -- what is observed of a message that went this way is observed of its entry
@@ -28,6 +29,19 @@ observes before item e direction goes seen = subst (λ d. MatchOption d (e ≡ m
 -- an entry whose message went some way is no mark
 pub going : (action : Action) (direction : Direction) → direction_of action ≡ Some direction → action ≡ Mark → ⊥
 going action direction goes mark = let e : None ≡ Some direction = sym (ap direction_of mark) ∙ goes in cc
+
+-- it has a message, and a mark has none
+pub going_says : (action : Action) (direction : Direction) → direction_of action ≡ Some direction → has_message action ≡ true
+going_says Sent direction goes = refl
+going_says Received direction goes = refl
+going_says Failed direction goes = refl
+going_says Mark direction goes = cc
+
+pub staying_says : (action : Action) → direction_of action ≡ None → has_message action ≡ false
+staying_says Sent stays = cc
+staying_says Received stays = cc
+staying_says Failed stays = cc
+staying_says Mark stays = refl
 
 -- a fault of its bytes
 pub observes_fault : (item : Item) (direction : Direction) (text : List ℕ) (fault : Fault) → text ≡ item.text → FaultOf text (Some fault) → ObservesMessage direction item (fault_observation item fault)
@@ -59,3 +73,8 @@ observes_heard item direction text r texts event number own cancelled same reads
 pub event_fits : (item : Item) (r : message.Reading) (texts : Texts) (event : NumberedEvent) (number : ℕ) → event ≡ event_of item r number → Keeps texts number → item.moment ≤ last_moment
     → FitsBook texts event × (event.moment ≡ item.moment)
 event_fits item r texts event number is keeps limit = (subst (FitsBook texts) (sym is) (record { keeps = keeps; limit = limit }), ap (λ e. e.moment) is)
+
+-- it is kept under its number
+pub event_kept : (item : Item) (r : message.Reading) (texts : Texts) (event : NumberedEvent) (number : ℕ) (bytes : List ℕ) → event ≡ event_of item r number → Keeps texts number → text_of texts number ≡ bytes
+    → Keeps texts event.number × (text_of texts event.number ≡ bytes)
+event_kept item r texts event number bytes is keeps text = let same : number ≡ event.number = sym (ap (λ e. e.number) is) in (subst (Keeps texts) same keeps, subst (λ n. text_of texts n ≡ bytes) same text)

@@ -1,7 +1,8 @@
 -- What is kept before and after an entry is judged.
-use Rattle.std.proofs.Common.{◌≡◌, ◌≢◌, ◌≤◌, ◌<◌, ◌+◌, ◌⊎◌, inl, inr, ℕ, Result, Ok, Err, IfOk, OnOk, IfNone, Option, Some, None, List, [], ◌∷◌, ◌++◌, All, AllPairs, length, option_to_list, refl, sym, ap, ◌∙◌, subst, arith}
+use Rattle.std.proofs.Common.{◌≡◌, ◌≢◌, ◌≤◌, ◌<◌, ◌+◌, ◌-◌, ◌⊎◌, inl, inr, ℕ, IfNone, Option, Some, None, List, [], ◌∷◌, ◌++◌, All, AllPairs, length, option_to_list, refl, sym, ap, ◌∙◌, subst, arith}
 use Rattle.std.specs.Prelude.{fold}
-use Rattle.std.proofs.lemmas.Result.{IfOk-weaker}
+use Rattle.std.specs.Option.{ForSome}
+use Rattle.std.proofs.lemmas.Option.{slice_get_within}
 use Rattle.std.proofs.lemmas.List.Elements.{All-weaker}
 use Rattle.std.proofs.lemmas.List.Sums.{fold-append}
 use Rattle.sip_key.specs.Key.{KeyParts, same_key}
@@ -14,7 +15,7 @@ use Rattle.sip_machine.proofs.TextLaws.{Keeps-grow, Keeps-grow_cases}
 use Rattle.sip_states.specs.KeyMachine.{machine_of_key}
 use Rattle.sip_states.specs.Meaning.{IsKnown}
 use Rattle.sip_states.specs.AnySet.{IsKnownSet}
-use Rattle.sip_states.specs.Tables.{Tabled}
+use Rattle.sip_states.specs.Tables.{Tabled, IsGiven}
 use Rattle.sip_states.specs.declared.any_set.AnySet.{AnySet}
 use Rattle.sip_log.specs.Spelling.{Item}
 use Rattle.sip_verdict.specs.declared.verdict.Verdict.{Verdict}
@@ -22,7 +23,7 @@ use Rattle.sip_verdict.specs.Keyed.{Observation, events_of, keys_of}
 use Rattle.sip_verdict.specs.Keyed as keyed
 use Rattle.sip_verdict.specs.MessageReading.{key_machines, message_reading, mark_observation}
 use Rattle.sip_verdict.specs.inner.Tracking.{IsReady, TracksBefore, IsJudged}
-use Rattle.sip_verdict.specs.inner.TablesTracking.{meaning_of, key_keeping, transactions_of, TablesTrack, TablesTrackBefore, AreTold, TouchesIf, MayPass, MayTake}
+use Rattle.sip_verdict.specs.inner.TablesTracking.{meaning_of, key_keeping, transactions_of, TablesTrack, TablesTrackBefore, AreTold, TouchesIf, HasIf, AreConcerned, MayPass, MayTake}
 use Rattle.sip_verdict.proofs.Leading.{Leads-grow}
 use Rattle.sip_verdict.proofs.ByMachine.{seen_by_names_of, some_machine, of_set, to_set}
 use Rattle.sip_verdict.proofs.TrackingLemmas.{AreKept, kept_tracked, before_none, before_touched}
@@ -112,30 +113,37 @@ module _ (own cancelled : Option KeyParts) (mine other : Option ℕ) (old betwee
       (sym (ap (fold (keyed.with_key same_key) known) keys ∙ fold-append (keyed.with_key same_key) known (option_to_list own) (option_to_list cancelled))) two) s.good
 
 -- what is left after an entry without trouble
-pub may_next : {E : Type 0} (r : Result (Option Verdict) E) (old mid last : Texts) (t u v : Tabled) (number moment : ℕ) (bytes : List ℕ) → MayTake old t number moment → IsGrown old number bytes mid
-    → length u.keys ≤ length t.keys + 2 → OnOk r (v.keys ≡ u.keys) → OnOk r (last ≡ mid) → OnOk r (MayPass last v moment) → IfOk r (λ verdict. IfNone verdict (MayTake last v (number + 1) moment))
-may_next (Ok None) old mid last t u v number moment bytes may grown few keys book passes = record {
+pub may_next : (verdict : Option Verdict) (old mid last : Texts) (t u v : Tabled) (number moment : ℕ) (bytes : List ℕ) → MayTake old t number moment → IsGrown old number bytes mid
+    → length u.keys ≤ length t.keys + 2 → v.keys ≡ u.keys → last ≡ mid → MayPass last v moment → IfNone verdict (MayTake last v (number + 1) moment)
+may_next None old mid last t u v number moment bytes may grown few keys book passes = record {
   passes = passes;
   numbered = λ n keeps. grown_numbered old mid number bytes grown may.numbered n (subst (λ texts. Keeps texts n) book keeps);
   few = omega (arith, may.few, ap length keys, few);
 }
-may_next (Ok (Some x)) old mid last t u v number moment bytes may grown few keys book passes = tt
-may_next (Err x) old mid last t u v number moment bytes may grown few keys book passes = tt
+may_next (Some x) old mid last t u v number moment bytes may grown few keys book passes = tt
 
-module _ {E : Type 0} (r : Result (Option Verdict) E) (old mid last : Texts) (number : ℕ) (bytes : List ℕ) (grown : IsGrown old number bytes mid) (i : Item) (moment count : ℕ) where
+-- a number of a key was given
+pub has_given : (key : Option KeyParts) (number : Option ℕ) (t : Tabled) → HasIf key number t.keys → ForSome number (IsGiven t)
+has_given None number t none = λ n is. (let never : None ≡ Some n = sym none ∙ is in cc)
+has_given (Some key) number t (i, is, low, at) = λ n same.
+    (let one : i ≡ n = (let both : Some i ≡ Some n = sym is ∙ same in cc) in
+    let within = slice_get_within t.keys (i - 1) key at in
+    record { low = omega (arith, one, low); high = omega (arith, one, within) })
+
+module _ (verdict : Option Verdict) (old mid last : Texts) (number : ℕ) (bytes : List ℕ) (grown : IsGrown old number bytes mid) (i : Item) (moment count : ℕ) where
   -- a mark
   pub mark_judged : (t v : Tabled) → i.moment ≡ moment → ((es : List (Observation KeyParts)) → message_reading.Observes es i (mark_observation i.moment))
-      → IfOk r (λ verdict. (es : List (Observation KeyParts)) (e : Observation KeyParts) → e.fault ≡ None → AreTold mid t.keys moment None e → TablesTrackBefore mid es e t → count ≡ length es + 1
+      → ((es : List (Observation KeyParts)) (e : Observation KeyParts) → e.fault ≡ None → AreTold mid t.keys moment None e → TablesTrackBefore mid es e t → count ≡ length es + 1
       → IsJudged (key_machines t.times) (key_keeping last t.times) es e (transactions_of v) verdict)
-      → IfOk r (λ verdict. (es : List (Observation KeyParts)) → TablesTrack old es t → count ≡ length es + 1
-      → (e : Observation KeyParts) × message_reading.Observes es i e × IsJudged (key_machines t.times) (key_keeping last t.times) es e (transactions_of v) verdict)
-  mark_judged t v at observes h = IfOk-weaker r _ _
-      (λ verdict judged es tracks counts. (
-        mark_observation i.moment,
-        observes es,
-        judged es (mark_observation i.moment) refl (told_mark mid t.keys moment (mark_observation i.moment) at refl)
-            (before_none (key_machines t.times) (key_keeping mid t.times) es (mark_observation i.moment) (transactions_of t) refl (grown_track old mid number bytes grown es t tracks)) counts,
-      )) h
+      → (es : List (Observation KeyParts)) → TablesTrack old es t → count ≡ length es + 1
+      → (e : Observation KeyParts) × message_reading.Observes es i e × IsJudged (key_machines t.times) (key_keeping last t.times) es e (transactions_of v) verdict × AreConcerned None None v.keys e.keys
+  mark_judged t v at observes judged es tracks counts = (
+    mark_observation i.moment,
+    observes es,
+    judged es (mark_observation i.moment) refl (told_mark mid t.keys moment (mark_observation i.moment) at refl)
+        (before_none (key_machines t.times) (key_keeping mid t.times) es (mark_observation i.moment) (transactions_of t) refl (grown_track old mid number bytes grown es t tracks)) counts,
+    (None, None, refl, refl, refl),
+  )
 
   -- a message that is heard
   module _ (event : NumberedEvent) (own cancelled : Option KeyParts) (mine other : Option ℕ) where
@@ -143,24 +151,37 @@ module _ {E : Type 0} (r : Result (Option Verdict) E) (old mid last : Texts) (nu
     abbrev seen : Observation KeyParts
     seen = record { fault = None; event = heard mid event; keys = option_to_list own ++ option_to_list cancelled }
 
-    pub heard_judged : (t between u v : Tabled) → length t.sets ≡ length t.keys → TouchesIf own mine t between → TouchesIf cancelled other between u → AllPairs (λ a b. a ≢ b) u.keys → event.moment ≡ moment
+    pub heard_judged : (t between u v : Tabled) → length t.sets ≡ length t.keys → TouchesIf own mine t between → TouchesIf cancelled other between u → AllPairs (λ a b. a ≢ b) u.keys → v.keys ≡ u.keys
+        → event.moment ≡ moment
         → ((es : List (Observation KeyParts)) → message_reading.Observes es i (record { fault = None; event = heard mid event; keys = option_to_list own ++ option_to_list cancelled }))
-        → IfOk r (λ verdict. (es : List (Observation KeyParts)) (e : Observation KeyParts) → e.fault ≡ None
+        → ((es : List (Observation KeyParts)) (e : Observation KeyParts) → e.fault ≡ None
         → AreTold mid u.keys moment (Some (record { event = event; own = mine; cancelled = other })) e → TablesTrackBefore mid es e u → count ≡ length es + 1
         → IsJudged (key_machines u.times) (key_keeping last u.times) es e (transactions_of v) verdict)
-        → IfOk r (λ verdict. (es : List (Observation KeyParts)) → TablesTrack old es t → count ≡ length es + 1
-        → (e : Observation KeyParts) × message_reading.Observes es i e × IsJudged (key_machines t.times) (key_keeping last t.times) es e (transactions_of v) verdict)
-    heard_judged t between u v long first second apart at observes h = IfOk-weaker r _ _
-        (λ verdict judged es tracks counts. (
-          seen,
-          observes es,
-          subst (λ p. IsJudged (key_machines p) (key_keeping last p) es seen (transactions_of v) verdict) times
-              (judged es seen refl
-              (told_event mid u.keys moment (record { event = event; own = mine; cancelled = other }) own cancelled seen apart
-              (has_still own mine cancelled other between u second (has_number own mine t between first)) (has_number cancelled other between u second) at refl refl)
-              (subst (λ p. TracksBefore (key_machines p) (key_keeping mid p) es seen (transactions_of u)) (sym times)
-              (both_track own cancelled mine other t between u first second mid es seen long refl (grown_track old mid number bytes grown es t tracks))) counts),
-        )) h
+        → (es : List (Observation KeyParts)) → TablesTrack old es t → count ≡ length es + 1
+        → (e : Observation KeyParts) × message_reading.Observes es i e × IsJudged (key_machines t.times) (key_keeping last t.times) es e (transactions_of v) verdict × AreConcerned mine other v.keys e.keys
+    heard_judged t between u v long first second apart keys at observes judged es tracks counts = (
+      seen,
+      observes es,
+      subst (λ p. IsJudged (key_machines p) (key_keeping last p) es seen (transactions_of v) verdict) times
+          (judged es seen refl (told_event mid u.keys moment (record { event = event; own = mine; cancelled = other }) own cancelled seen apart has_own has_cancelled at refl refl)
+          (subst (λ p. TracksBefore (key_machines p) (key_keeping mid p) es seen (transactions_of u)) (sym times)
+          (both_track own cancelled mine other t between u first second mid es seen long refl (grown_track old mid number bytes grown es t tracks))) counts),
+      (own, cancelled, refl, subst (HasIf own mine) (sym keys) has_own, subst (HasIf cancelled other) (sym keys) has_cancelled),
+    )
       where
         times : u.times ≡ t.times
         times = both_times own cancelled mine other t between u first second
+
+        has_own : HasIf own mine u.keys
+        has_own = has_still own mine cancelled other between u second (has_number own mine t between first)
+
+        has_cancelled : HasIf cancelled other u.keys
+        has_cancelled = has_number cancelled other between u second
+
+-- the numbers of both keys were given
+pub both_given : (own cancelled : Option KeyParts) (mine other : Option ℕ) (t between u v : Tabled) → TouchesIf own mine t between → TouchesIf cancelled other between u → v.keys ≡ u.keys
+    → ForSome mine (IsGiven v) × ForSome other (IsGiven v)
+both_given own cancelled mine other t between u v first second keys = (
+  has_given own mine v (subst (HasIf own mine) (sym keys) (has_still own mine cancelled other between u second (has_number own mine t between first))),
+  has_given cancelled other v (subst (HasIf cancelled other) (sym keys) (has_number cancelled other between u second)),
+)

@@ -38,7 +38,7 @@ pub All-place : {A : Type 0} (P : A → Type 0) (xs : List A) (n : ℕ) (x : A) 
 All-place P xs n x at all = subst P (get_or_from_slice_get xs n x x at) (all n x (slice_get_within xs n x at))
 
 -- lists side by side at a place
-zip-place : {A B : Type 0} (xs : List A) (ys : List B) (n : ℕ) (x : A) (y : B) → slice_get xs n ≡ Some x → slice_get ys n ≡ Some y → slice_get (zip xs ys) n ≡ Some (x, y)
+pub zip-place : {A B : Type 0} (xs : List A) (ys : List B) (n : ℕ) (x : A) (y : B) → slice_get xs n ≡ Some x → slice_get ys n ≡ Some y → slice_get (zip xs ys) n ≡ Some (x, y)
 zip-place [] ys n x y a b = absurd cc
 zip-place (u ∷ xs) [] n x y a b = absurd cc
 zip-place (u ∷ xs) (v ∷ ys) zero x y a b = cc

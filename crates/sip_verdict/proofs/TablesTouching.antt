@@ -22,7 +22,7 @@ use Rattle.sip_verdict.specs.Keyed.{Observation, events_of}
 use Rattle.sip_verdict.specs.Keyed as keyed
 use Rattle.sip_verdict.specs.MessageReading.{key_machines}
 use Rattle.sip_verdict.specs.inner.Tracking.{IsTouched}
-use Rattle.sip_verdict.specs.inner.TablesTracking.{meaning_of, LeadsOf, key_keeping, transactions_of, AreTold, TouchesIf, MayPass}
+use Rattle.sip_verdict.specs.inner.TablesTracking.{meaning_of, LeadsOf, key_keeping, transactions_of, AreTold, TouchesIf, HasIf, MayPass}
 use Rattle.sip_verdict.proofs.Keys.{IsExact}
 use Rattle.sip_verdict.proofs.Leading.{Leads-start}
 use Rattle.sip_verdict.proofs.ByMachine.{first_of, first_is_of, first_knows, start_is, moment_is, to_set}
@@ -122,11 +122,6 @@ module _ (texts : Texts) (p : Times) where
   kept_if es keys None number old new times long h kept = subst (λ t. AreKept (key_machines p) (key_keeping texts p) es keys (transactions_of t)) (sym h.1) kept
   kept_if es keys (Some key) number old new times long (n, is, h) kept =
       kept_touched (key_machines p) (key_keeping texts p) es (keys_exact p) (key, start_of p key) (starts key) keys (transactions_of old) (transactions_of new) kept (touched key n old new times long h)
-
--- the key, if there is one, has this number among these
-abbrev pub HasIf : Option KeyParts → Option ℕ → List KeyParts → Type 0
-HasIf None number keys = number ≡ None
-HasIf (Some key) number keys = (n : ℕ) × (number ≡ Some n) × (0 < n) × (slice_get keys (n - 1) ≡ Some key)
 
 -- an element of a list stays where it is
 slice_get-more : {A : Type 0} (xs ys : List A) (n : ℕ) (x : A) → slice_get xs n ≡ Some x → slice_get (xs ++ ys) n ≡ Some x

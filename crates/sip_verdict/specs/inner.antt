@@ -1,5 +1,6 @@
 pub mod Judging
 pub mod Leads
+pub mod Numbering
 pub mod Observing
 pub mod Showing
 pub mod Stepping

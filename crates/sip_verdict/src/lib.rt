@@ -19,7 +19,7 @@ mod verdict;
 pub use judge_error::JudgeError;
 pub use judging::{judge, judge_bytes};
 pub use laws::{a_legal_log_has_runs, an_input_has_one_verdict};
-pub use listing::Listing;
+pub use listing::{Listing, states_at};
 pub use log_reason::LogReason;
 pub use rendering::render;
 pub use show_error::ShowError;

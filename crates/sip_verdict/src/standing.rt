@@ -1,21 +1,27 @@
 //! What is kept of the entries of a log that were judged.
-ghost use Rattle.std.specs.Prelude.{◌≡◌, ◌≢◌, ◌≤◌, ◌<◌, ◌+◌, [], ℕ, None, List, AllPairs, IfOk, IfNone, OnOk, length};
+ghost use Rattle.std.specs.Prelude.{◌≡◌, ◌≢◌, ◌≤◌, ◌<◌, ◌+◌, ◌++◌, ◌∷◌, [], ℕ, None, List, AllPairs, IfOk, IfNone, OnOk, codes, length, string_bytes};
 ghost use Rattle.std.specs.Option.{ForSome, option_copied};
 ghost use Rattle.sip_key.specs.Key.{KeyParts};
 ghost use Rattle.sip_machine.specs.Times.{last_moment};
 ghost use Rattle.sip_machine.specs.Heard.{FitsBook};
-ghost use Rattle.sip_states.specs.Tables.{Tabled, most_keys};
+ghost use Rattle.sip_states.specs.Tables.{IsGiven, Tabled, most_keys};
 ghost use Rattle.sip_log.specs.Log.{most_entries};
+ghost use Rattle.sip_log.specs.Spelling.{Item};
 ghost use Rattle.sip_log.specs.Told.{item};
 ghost use Rattle.sip_verdict.specs.Keyed.{Observation};
 ghost use Rattle.sip_verdict.specs.MessageReading.{key_machines, message_reading};
+ghost use Rattle.sip_verdict.specs.Listing.{first_entry};
+ghost use Rattle.sip_verdict.specs.ListingOf.{key_words};
+ghost use Rattle.sip_verdict.specs.inner.Numbering.{AreNumbered, StaysNumbered, IsListedEntry, Appends, IsTextOf};
 ghost use Rattle.sip_verdict.specs.inner.Tracking.{IsJudged};
-ghost use Rattle.sip_verdict.specs.inner.TablesTracking.{key_keeping, transactions_of, TablesTrack, TablesTrackBefore, AreTold, TouchesIf, MayPass, MayTake};
+ghost use Rattle.sip_verdict.specs.inner.TablesTracking.{key_keeping, transactions_of, TablesTrack, TablesTrackBefore, AreTold, TouchesIf, AreConcerned, MayPass, MayTake};
 
+use crate::listing::Listing;
 use crate::observing::{Told, observe};
 use crate::passing::{Hearing, Outcome, pass_all};
 use crate::verdict::Verdict;
 use sip_key::Key;
+use sip_listing::push_transaction;
 use sip_log::Entry;
 use sip_machine::{Book, Params};
 use sip_states::Tables;
@@ -28,6 +34,15 @@ use std::hash::BuildHasher;
 pub(crate) struct Standing<H: BuildHasher> {
     book: Book,
     tables: Tables<H>,
+}
+
+/// What was judged of an entry: its verdict if it is in trouble, and the numbers of the transactions that it concerns, its
+/// own first.
+#[derive(Drop)]
+struct Taken {
+    verdict: Option<Verdict>,
+    own: Option<u32>,
+    cancelled: Option<u32>,
 }
 
 /// The number of the key's transaction, which starts if the key is new.
@@ -122,17 +137,66 @@ impl<H: BuildHasher> Standing<H> {
         requires may { MayTake self.old.book self.old.tables entry.now.number entry.now.moment }
         ensures times { OnOk result (self.new.tables.times ≡ self.old.tables.times) }
         ensures may { IfOk result (λ verdict. IfNone verdict (MayTake self.new.book self.new.tables (entry.now.number + 1) entry.now.moment)) }
+        ensures numbered { IfOk result (λ verdict. IfNone verdict (StaysNumbered (item entry.now) entry.now.number self.old.book self.new.book)) }
         ensures judged { IfOk result (λ verdict. (es : List (Observation KeyParts)) → TablesTrack self.old.book es self.old.tables
             → entry.now.number ≡ length es + 1
             → (e : Observation KeyParts) × message_reading.Observes es (item entry.now) e
             × IsJudged (key_machines self.old.tables.times) (key_keeping self.new.book self.old.tables.times) es e (transactions_of self.new.tables) verdict) }
     {
-        match observe(alloc, &mut self.book, entry)? {
-            Told::Mark => self.pass(entry.number, entry.moment, None),
-            Told::Fault(fault) => Ok(Some(Verdict::Malformed {
-                entry: entry.number,
-                fault,
-            })),
+        Ok(self.take(alloc, entry)?.verdict)
+    }
+
+    /// Judges the entry that comes next, and lists the transactions that it concerns, if it is in no trouble.
+    pub(crate) fn list(&mut self, alloc: Global, entry: &Entry) -> Result<Listing, AllocError>
+        requires limit { entry.now.moment ≤ last_moment }
+        requires count { entry.now.number ≤ most_entries }
+        requires may { MayTake self.old.book self.old.tables entry.now.number entry.now.moment }
+        ensures listed { IfOk result (λ listing. (es : List (Observation KeyParts)) (items more : List Item) → TablesTrack self.old.book es self.old.tables
+            → AreNumbered items self.old.book → length items ≡ length es → entry.now.number ≡ length es + 1
+            → (e : Observation KeyParts) × message_reading.Observes es (item entry.now) e
+                × IsListedEntry (key_machines self.old.tables.times) (key_words self.old.tables.times) (first_entry ((items ++ item entry.now ∷ []) ++ more)) es e listing) }
+    {
+        let taken = self.take(alloc, entry)?;
+        match taken.verdict {
+            Some(verdict) => Ok(Listing::Stopped(verdict)),
+            None => Ok(Listing::Text(self.text(alloc, taken.own, taken.cancelled)?)),
+        }
+    }
+
+    /// Judges the entry that comes next.
+    fn take(&mut self, alloc: Global, entry: &Entry) -> Result<Taken, AllocError>
+        requires limit { entry.now.moment ≤ last_moment }
+        requires count { entry.now.number ≤ most_entries }
+        requires may { MayTake self.old.book self.old.tables entry.now.number entry.now.moment }
+        ensures times { OnOk result (self.new.tables.times ≡ self.old.tables.times) }
+        ensures may { IfOk result (λ taken. IfNone taken.verdict (MayTake self.new.book self.new.tables (entry.now.number + 1) entry.now.moment)) }
+        ensures numbered { IfOk result (λ taken. IfNone taken.verdict (StaysNumbered (item entry.now) entry.now.number self.old.book self.new.book)) }
+        ensures given { IfOk result (λ taken. ForSome taken.own (IsGiven self.new.tables) × ForSome taken.cancelled (IsGiven self.new.tables)) }
+        ensures judged { IfOk result (λ taken. (es : List (Observation KeyParts)) → TablesTrack self.old.book es self.old.tables
+            → entry.now.number ≡ length es + 1
+            → (e : Observation KeyParts) × message_reading.Observes es (item entry.now) e
+            × IsJudged (key_machines self.old.tables.times) (key_keeping self.new.book self.old.tables.times) es e (transactions_of self.new.tables) taken.verdict
+            × AreConcerned taken.own taken.cancelled self.new.tables.keys e.keys) }
+    {
+        let told = observe(alloc, &mut self.book, entry)?;
+        self.book.known();
+        match told {
+            Told::Mark => {
+                let verdict = self.pass(entry.number, entry.moment, None)?;
+                Ok(Taken {
+                    verdict,
+                    own: None,
+                    cancelled: None,
+                })
+            }
+            Told::Fault(fault) => Ok(Taken {
+                verdict: Some(Verdict::Malformed {
+                    entry: entry.number,
+                    fault,
+                }),
+                own: None,
+                cancelled: None,
+            }),
             Told::Heard {
                 event,
                 own,
@@ -144,8 +208,61 @@ impl<H: BuildHasher> Standing<H> {
                     own,
                     cancelled,
                 };
-                self.pass(entry.number, entry.moment, Some(&hearing))
+                let verdict = self.pass(entry.number, entry.moment, Some(&hearing))?;
+                Ok(Taken {
+                    verdict,
+                    own,
+                    cancelled,
+                })
             }
         }
     }
+
+    /// The transactions with these numbers, or that there is none.
+    fn text(
+        &self,
+        alloc: Global,
+        own: Option<u32>,
+        cancelled: Option<u32>,
+    ) -> Result<String, AllocError>
+        requires own { ForSome own (IsGiven self.now.tables) }
+        requires cancelled { ForSome cancelled (IsGiven self.now.tables) }
+        ensures text { IfOk result (λ text. IsTextOf self.now.tables own cancelled (string_bytes text)) }
+        ensures apart { OnOk result (AllPairs (λ a b. a ≢ b) self.now.tables.keys) }
+    {
+        self.tables.known();
+        if own.is_none() && cancelled.is_none() {
+            return no_transaction(alloc);
+        }
+        let mut text = String::new(alloc);
+        self.push_one(alloc, &mut text, own)?;
+        self.push_one(alloc, &mut text, cancelled)?;
+        Ok(text)
+    }
+
+    /// Appends the transaction with this number, if there is one.
+    fn push_one(
+        &self,
+        alloc: Global,
+        text: &mut String,
+        number: Option<u32>,
+    ) -> Result<(), AllocError>
+        requires { ForSome number (IsGiven self.now.tables) }
+        ensures { OnOk result (Appends self.now.tables number (string_bytes text.old) (string_bytes text.new)) }
+    {
+        match number {
+            Some(number) => {
+                let key = self.tables.key(number);
+                push_transaction(alloc, text, number, key, self.tables.set(number))
+            }
+            None => Ok(()),
+        }
+    }
+}
+
+/// The text of an entry that concerns no transaction.
+fn no_transaction(alloc: Global) -> Result<String, AllocError>
+    ensures { IfOk result (λ text. string_bytes text ≡ codes "no transaction\n") }
+{
+    String::from_str(alloc, "no transaction\n")
 }

@@ -1,4 +1,4 @@
-use Rattle.std.specs.Prelude.{◌≡◌, ◌≤◌, ◌<◌, ◌+◌, ◌||◌, ℕ, nat_eq, Bool, false, Option, Some, None, List, All, IfSome, length, slice_get}
+use Rattle.std.specs.Prelude.{◌≡◌, ◌≤◌, ◌<◌, ◌+◌, ◌-◌, ◌||◌, ◌++◌, ℕ, nat_eq, Bool, false, Option, Some, None, List, All, IfSome, length, slice_get, option_to_list}
 use Rattle.std.specs.List.{zip}
 use Rattle.std.specs.Option.{option_eq}
 use Rattle.sip_key.specs.Key.{KeyParts}
@@ -99,6 +99,16 @@ AreTold texts keys moment hearing e = (n : ℕ) (key : KeyParts) → slice_get k
 abbrev pub TouchesIf : Option KeyParts → Option ℕ → Tabled → Tabled → Type 0
 TouchesIf None number old new = (number ≡ None) × (new ≡ old)
 TouchesIf (Some key) number old new = (n : ℕ) × (number ≡ Some n) × Touches key n old new
+
+-- the key, if there is one, has this number among these
+abbrev pub HasIf : Option KeyParts → Option ℕ → List KeyParts → Type 0
+HasIf None number keys = number ≡ None
+HasIf (Some key) number keys = (n : ℕ) × (number ≡ Some n) × (0 < n) × (slice_get keys (n - 1) ≡ Some key)
+
+-- the keys that an entry concerns, its own first, have these numbers among these
+abbrev pub AreConcerned : Option ℕ → Option ℕ → List KeyParts → List KeyParts → Type 0
+AreConcerned own cancelled keys concerned =
+    (mine : Option KeyParts) × (other : Option KeyParts) × (concerned ≡ option_to_list mine ++ option_to_list other) × HasIf mine own keys × HasIf other cancelled keys
 
 -- an entry of this moment may pass: no set is later, the book keeps what they name, and each key has one
 pub record MayPass (texts : Texts) (t : Tabled) (moment : ℕ) : Type 0 where

@@ -26,8 +26,8 @@ loop-entry-init g c =
       few = omega (arith, opened.count);
       fine = opened.fine;
       may = subst (MayTake standing.book standing.tables 1) (sym opened.last) (may_start standing.book standing.tables params c.new-standing.ensures.book tables);
-      judged = judged_start message_reading standing.tables.times (key_keeping standing.book standing.tables.times) start (reading progress left after) (transactions_of standing.tables)
-          (transactions_none standing.tables params tables) opened.on (opened.times ∙ ap Some (sym (ap (λ t. t.times) tables))) opened.stands;
+      judged = (judged_start message_reading standing.tables.times (key_keeping standing.book standing.tables.times) start (reading progress left after) (transactions_of standing.tables)
+          (transactions_none standing.tables params tables) opened.on (opened.times ∙ ap Some (sym (ap (λ t. t.times) tables))) opened.stands).0;
     }
 
 pub returns-in-Ok-None-clause-verdict : goal.returns-in-Ok-None-clause-verdict
@@ -98,6 +98,6 @@ loop-entry-preserved g c =
       fine = Nexts-fine start items old new (Some e) nexts ∙ l.invariant.fine;
       may = subst (MayTake s.book s.tables (e.number + 1)) (sym counted.last) (rw c.in_default.is at c.in_ok-verdict.ensures.may);
       judged = subst (λ p. Judged message_reading p (key_keeping s.book p) start new (transactions_of s.tables)) (sym c.in_ok-verdict.ensures.times)
-          (judged_more message_reading l.standing.tables.times _ start old (transactions_of l.standing.tables) l.invariant.judged new (key_keeping s.book l.standing.tables.times) (transactions_of s.tables)
-          e nexts (rw c.in_default.is at c.in_ok-verdict.ensures.judged));
+          ((judged_more message_reading l.standing.tables.times _ start old (transactions_of l.standing.tables) l.invariant.judged new (key_keeping s.book l.standing.tables.times) (transactions_of s.tables)
+          e nexts (rw c.in_default.is at c.in_ok-verdict.ensures.judged)).0);
     }

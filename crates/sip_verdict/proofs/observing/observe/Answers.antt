@@ -1,6 +1,6 @@
 use Rattle.std.proofs.Common.{inl, inr, Some, ◌≢◌, IfSome, sym, ◌∙◌, subst}
 use Rattle.sip_log.specs.Told.{item}
-use Rattle.sip_verdict.proofs.ObservingLemmas.{going, observes, observes_fault, observes_no_cookie, observes_heard, event_fits}
+use Rattle.sip_verdict.proofs.ObservingLemmas.{going, observes, observes_fault, observes_no_cookie, observes_heard, event_fits, going_says, event_kept}
 use Rattle.sip_verdict.proofs.observing.observe.Goals as goal
 
 pub returns-in-Err-Fault-clause-observed : goal.returns-in-Err-Fault-clause-observed
@@ -31,4 +31,11 @@ returns-clause-heard c =
     (fits.0, fits.1, subst (λ own. IfSome c.in_ok-cancelled.cancelled (λ key. own ≢ Some key)) (sym c.in-Ok-key_of.ensures.0) c.in_ok-cancelled.ensures.other)
 
 pub returns-clause-kept : goal.returns-clause-kept
-returns-clause-kept c = elim (rw c.as_slice-2.ensures.value at c.in_ok-number.ensures.grows) [ inl h ↦ inl h.0 | inr h ↦ inr h.0 ]
+returns-clause-kept c =
+    let i = item c.args.entry.now in
+    let kept = event_kept i c.in-Ok.message c.add.new.self c.of-event.result c.in_ok-number.number _ c.of-event.ensures c.in_ok-number.ensures.ok.0 (c.in_ok-number.ensures.ok.1 ∙ c.as_slice-2.ensures.value) in (
+      going_says i.action c.in-Some.direction (sym c.direction_of.ensures ∙ c.in-Some.is),
+      kept.0,
+      kept.1,
+      elim (rw c.as_slice-2.ensures.value at c.in_ok-number.ensures.grows) [ inl h ↦ inl h.0 | inr h ↦ inr h.0 ],
+    )

@@ -1,0 +1,143 @@
+-- The text of an entry.
+use Rattle.std.proofs.Common.{◌≡◌, ◌≢◌, ◌∙◌, ◌<◌, ◌+◌, ◌-◌, inl, inr, ℕ, zero, suc, true, Option, Some, None, MatchOption, List, [], ◌∷◌, ◌++◌, All, AllPairs, Contains, length, slice_get, option_to_list, refl, sym, ap, subst, arith, append_assoc}
+use Rattle.std.specs.Prelude.{IsAscii}
+use Rattle.std.proofs.lemmas.List.{append-nil}
+use Rattle.std.proofs.lemmas.List.Elements.{All-nil, All-cons, All-weaker, Contains-get_or, Contains-append_left, Contains-append_right, All-contains}
+use Rattle.std.proofs.lemmas.Option.{slice_get_within, get_or_from_slice_get}
+use Rattle.sip_key.specs.Key.{KeyParts, same_key}
+use Rattle.sip_key.specs.inner.KeyLaws.{same_key-decides}
+use Rattle.sip_key.specs.declared.role.Direction.{Direction}
+use Rattle.sip_machine.specs.declared.event.Action.{Action}
+use Rattle.sip_machine.specs.declared.event.Action.TheVariants.{Sent, Received, Failed, Mark}
+use Rattle.sip_machine.specs.Times.{Times}
+use Rattle.sip_machine.specs.Texts.{Texts}
+use Rattle.sip_states.specs.KeyMachine.{machine_of_key}
+use Rattle.sip_states.specs.AnySet.{IsKnownSet}
+use Rattle.sip_states.specs.Tables.{Tabled}
+use Rattle.sip_listing.specs.Transaction.{transaction_text}
+use Rattle.sip_log.specs.Spelling.{Item}
+use Rattle.sip_verdict.specs.Keyed.{Observation, concerns, events_of, keys_of}
+use Rattle.sip_verdict.specs.Verdicts.{IsFirst}
+use Rattle.sip_verdict.specs.MessageReading.{key_machines, message_reading, direction_of, mark_observation, ObservesMessage, has_fault, has_no_cookie, is_heard}
+use Rattle.sip_verdict.specs.Listing.{IsKeyText, AreKeyTexts, IsEntryText}
+use Rattle.sip_verdict.specs.ListingOf.{key_words}
+use Rattle.sip_verdict.specs.inner.Tracking.{IsJudged, IsStanding}
+use Rattle.sip_verdict.specs.inner.TablesTracking.{key_keeping, transactions_of, HasIf, AreConcerned, MayPass}
+use Rattle.sip_verdict.specs.inner.Numbering.{Appends, IsTextOf}
+use Rattle.sip_verdict.proofs.Keys.{contains-among}
+use Rattle.sip_verdict.proofs.TablesPassing.{All-place, zip-place, keys_are}
+use Rattle.sip_verdict.proofs.TablesTouching.{keys_exact}
+use Rattle.sip_verdict.proofs.MethodLemmas.{keys_ascii}
+use Rattle.sip_verdict.proofs.ListingLemmas.{TellsBook, told_set, standing_lines}
+
+-- The keys of an entry have methods that are ASCII.
+
+message_ascii : (i : Item) (e : Observation KeyParts) (d : Direction) → ObservesMessage d i e → All (λ k. IsAscii k.method) e.keys
+message_ascii i e d (has_fault fault has is) = subst (All (λ k. IsAscii k.method)) (sym (ap (λ x. x.keys) is)) (All-nil (λ k. IsAscii k.method))
+message_ascii i e d (has_no_cookie r reads lacks is) = subst (All (λ k. IsAscii k.method)) (sym (ap (λ x. x.keys) is)) (All-nil (λ k. IsAscii k.method))
+message_ascii i e d (is_heard r keys reads has concerns is) = subst (All (λ k. IsAscii k.method)) (sym (ap (λ x. x.keys) is)) (keys_ascii i.text r d keys reads concerns)
+
+ways_ascii : (i : Item) (e : Observation KeyParts) (way : Option Direction) → MatchOption way (e ≡ mark_observation i.moment) (λ d. ObservesMessage d i e) → All (λ k. IsAscii k.method) e.keys
+ways_ascii i e None is = subst (All (λ k. IsAscii k.method)) (sym (ap (λ x. x.keys) is)) (All-nil (λ k. IsAscii k.method))
+ways_ascii i e (Some d) observes = message_ascii i e d observes
+
+pub observed_ascii : (before : List (Observation KeyParts)) (i : Item) (e : Observation KeyParts) → message_reading.Observes before i e → All (λ k. IsAscii k.method) e.keys
+observed_ascii before i e observes = ways_ascii i e (direction_of i.action) observes
+
+-- Among keys that differ, the one at a place is the first that is the same.
+first_place : (keys : List KeyParts) → AllPairs (λ a b. a ≢ b) keys → (n : ℕ) (key : KeyParts) → slice_get keys n ≡ Some key → IsFirst (λ k. same_key key k ≡ true) keys (n + 1)
+first_place [] apart n key at = absurd cc
+first_place (u ∷ us) apart zero key at = record {
+  before = [];
+  key = u;
+  rest = us;
+  is = refl;
+  holds = (same_key-decides key u).1 (let e : u ≡ key = cc in sym e);
+  earlier = All-nil (λ k. same_key key k ≡ true → ⊥);
+  counts = refl;
+}
+first_place (u ∷ us) apart (suc n) key at =
+    let f = first_place us (λ m k d low within. apart (suc m) (suc k) d (omega arith) (omega arith)) n key at in
+    record {
+      before = u ∷ f.before;
+      key = f.key;
+      rest = f.rest;
+      is = ap (λ z. u ∷ z) f.is;
+      holds = f.holds;
+      earlier = All-cons (λ k. same_key key k ≡ true → ⊥) u f.before
+          (λ same. apart zero (suc n) key (omega arith) (let low = slice_get_within us n key at in omega arith) (sym ((same_key-decides key u).0 same) ∙ sym (get_or_from_slice_get us n key key at))) f.earlier;
+      counts = (let c = f.counts in omega (arith, c));
+    }
+
+module _ (number : List ℕ → ℕ) (texts : Texts) (tells : TellsBook number texts) (p : Times) (es : List (Observation KeyParts)) (e : Observation KeyParts) (t : Tabled)
+    (known : All (IsKnownSet texts) t.sets) (long : length t.sets ≡ length t.keys) (apart : AllPairs (λ a b. a ≢ b) t.keys)
+    (judged : IsJudged (key_machines p) (key_keeping texts p) es e (transactions_of t) None) where
+  -- a transaction that was appended
+  key_text : (key : KeyParts) (n : ℕ) (old new : List ℕ) → concerns (key_machines p) key e ≡ true → IsAscii key.method → 0 < n → slice_get t.keys (n - 1) ≡ Some key → Appends t (Some n) old new
+      → (text : List ℕ) × IsKeyText (key_machines p) (key_words p) number es e key text × (new ≡ old ++ text)
+  key_text key n old new concerned ascii low at (k, set, lines, key_at, set_at, lists, is) =
+      let same : k ≡ key = (let both : Some k ≡ Some key = sym key_at ∙ at in cc) in
+      let count : (n - 1) + 1 ≡ n = omega (arith, low) in
+      let stands = All-place (IsStanding (key_machines p) (key_keeping texts p) es e) (transactions_of t) (n - 1) (key, set) (zip-place t.keys t.sets (n - 1) key set at set_at) judged.1 in (
+        transaction_text n key lines,
+        record {
+          place = n;
+          placed = subst (λ ks. IsFirst (λ k. same_key key k ≡ true) ks n) (sym (keys_are t long) ∙ judged.0.keys)
+              (subst (IsFirst (λ k. same_key key k ≡ true) t.keys) count (first_place t.keys apart (n - 1) key at));
+          lines = lines;
+          states = standing_lines number texts p (machine_of_key key) (events_of (key_machines p) key es) e.event set lines (stands concerned)
+              (told_set number texts tells set (All-place (IsKnownSet texts) t.sets (n - 1) set set_at known)) lists;
+          whole = refl;
+        },
+        subst (λ x. new ≡ old ++ transaction_text n x lines) same (is (subst (λ x. IsAscii x.method) (sym same) ascii)),
+      )
+
+  -- the same where there may be none
+  one_text : (key : Option KeyParts) (n : Option ℕ) (old new : List ℕ) → All (λ k. (concerns (key_machines p) k e ≡ true) × IsAscii k.method) (option_to_list key) → HasIf key n t.keys → Appends t n old new
+      → (text : List ℕ) × AreKeyTexts (key_machines p) (key_words p) number es e (option_to_list key) text × (new ≡ old ++ text)
+  one_text None n old new good none more = ([], refl, subst (λ o. Appends t o old new) none more ∙ sym (append-nil old))
+  one_text (Some key) n old new good (i, is, low, at) more =
+      let here = All-contains (λ k. (concerns (key_machines p) k e ≡ true) × IsAscii k.method) (key ∷ []) key good (0, omega arith, refl) in
+      let one = key_text key i old new here.0 here.1 low at (subst (λ o. Appends t o old new) is more) in
+      (one.0, (one.0, [], one.1, refl, sym (append-nil one.0)), one.2)
+
+  -- texts behind others
+  more_texts : (xs ys : List KeyParts) (a b : List ℕ) → AreKeyTexts (key_machines p) (key_words p) number es e xs a → AreKeyTexts (key_machines p) (key_words p) number es e ys b
+      → AreKeyTexts (key_machines p) (key_words p) number es e (xs ++ ys) (a ++ b)
+  more_texts [] ys a b none more = subst (λ z. AreKeyTexts (key_machines p) (key_words p) number es e ys (z ++ b)) (sym none) more
+  more_texts (x ∷ xs) ys a b (first, rest, one, others, is) more =
+      (first, rest ++ b, one, more_texts xs ys rest b others more, ap (λ z. z ++ b) is ∙ append_assoc first rest b)
+
+  -- the text of the entry
+  all_texts : (mine other : Option KeyParts) (own cancelled : Option ℕ) (text : List ℕ) → All (λ k. (concerns (key_machines p) k e ≡ true) × IsAscii k.method) (option_to_list mine)
+      → All (λ k. (concerns (key_machines p) k e ≡ true) × IsAscii k.method) (option_to_list other) → HasIf mine own t.keys → HasIf other cancelled t.keys
+      → (between : List ℕ) × Appends t own [] between × Appends t cancelled between text
+      → AreKeyTexts (key_machines p) (key_words p) number es e (option_to_list mine ++ option_to_list other) text
+  all_texts mine other own cancelled text good_mine good_other has_mine has_other (between, first, second) =
+      let one = one_text mine own [] between good_mine has_mine first in
+      let two = one_text other cancelled between text good_other has_other second in
+      subst (AreKeyTexts (key_machines p) (key_words p) number es e (option_to_list mine ++ option_to_list other)) (sym (two.2 ∙ ap (λ z. z ++ two.0) one.2))
+      (more_texts (option_to_list mine) (option_to_list other) one.0 two.0 one.1 two.1)
+
+  both_texts : (mine other : Option KeyParts) (own cancelled : Option ℕ) (text : List ℕ) → All (λ k. (concerns (key_machines p) k e ≡ true) × IsAscii k.method) (option_to_list mine)
+      → All (λ k. (concerns (key_machines p) k e ≡ true) × IsAscii k.method) (option_to_list other) → HasIf mine own t.keys → HasIf other cancelled t.keys
+      → IsTextOf t own cancelled text → IsEntryText (key_machines p) (key_words p) number es e (option_to_list mine ++ option_to_list other) text
+  both_texts None None own cancelled text good_mine good_other no_mine no_other (inl is) = is.2
+  both_texts None None own cancelled text good_mine good_other no_mine no_other (inr is) = absurd (is.0 no_mine no_other)
+  both_texts None (Some b) own cancelled text good_mine good_other no_mine (n, has, low, at) (inl is) = absurd (let never : None ≡ Some n = sym is.1 ∙ has in cc)
+  both_texts None (Some b) own cancelled text good_mine good_other has_mine has_other (inr is) = all_texts None (Some b) own cancelled text good_mine good_other has_mine has_other is.1
+  both_texts (Some a) other own cancelled text good_mine good_other (n, has, low, at) has_other (inl is) = absurd (let never : None ≡ Some n = sym is.0 ∙ has in cc)
+  both_texts (Some a) other own cancelled text good_mine good_other has_mine has_other (inr is) = all_texts (Some a) other own cancelled text good_mine good_other has_mine has_other is.1
+
+  pub entry_text : (own cancelled : Option ℕ) (text : List ℕ) → All (λ k. IsAscii k.method) e.keys → AreConcerned own cancelled t.keys e.keys → IsTextOf t own cancelled text
+      → IsEntryText (key_machines p) (key_words p) number es e e.keys text
+  entry_text own cancelled text ascii (mine, other, keys, has_mine, has_other) is =
+      subst (λ ks. IsEntryText (key_machines p) (key_words p) number es e ks text) (sym keys)
+      (both_texts mine other own cancelled text
+      (λ i d low. good (Contains-append_left (option_to_list mine) (option_to_list other) _ (Contains-get_or (option_to_list mine) i d low)))
+      (λ i d low. good (Contains-append_right (option_to_list mine) (option_to_list other) _ (Contains-get_or (option_to_list other) i d low))) has_mine has_other is)
+    where
+      good : {k : KeyParts} → Contains (option_to_list mine ++ option_to_list other) k → (concerns (key_machines p) k e ≡ true) × IsAscii k.method
+      good {k} among =
+          let there = subst (λ ks. Contains ks k) (sym keys) among in
+          (contains-among (key_machines p) (keys_exact p) k e.keys there, All-contains (λ x. IsAscii x.method) e.keys k ascii there)

@@ -1,0 +1,90 @@
+-- The methods of keys are ASCII.
+use Rattle.std.proofs.Common.{◌≡◌, ◌≤◌, ◌<◌, ◌||◌, inl, inr, ℕ, Bool, true, false, Option, Some, None, List, [], ◌∷◌, ◌++◌, ◌==◌, All, cond, codes, nat_le, nat_lt, option_to_list, refl, sym, ap, subst, arith}
+use Rattle.std.specs.Prelude.{IsAscii, option_map, bytes_eq}
+use Rattle.std.specs.List.{list_all}
+use Rattle.std.specs.Int.{is_in_range}
+use Rattle.std.specs.Char.{is_ascii_alphanumeric}
+use Rattle.std.proofs.lemmas.Bool.{and_parts, or_cases, leb-true, ltb-true, eqb-true}
+use Rattle.std.proofs.lemmas.Str.Ascii.{IsAscii-from_all}
+use Rattle.std.proofs.lemmas.List.Elements.{All-nil, All-cons, All-append, All-weaker, All-from_recursion}
+use Rattle.sip_text.specs.Bytes.{is_one_of, is_token_byte}
+use Rattle.sip_text.specs.Grammar.{Token}
+use Rattle.sip_message.specs.StartLine.{StartLine, request, status, StartText}
+use Rattle.sip_message.specs.Reading.{Reading}
+use Rattle.sip_message.specs.Reads.{Reads}
+use Rattle.sip_message.proofs.SplitLemmas as each
+use Rattle.sip_message.proofs.FieldLemmas.{each-token}
+use Rattle.sip_key.specs.declared.role.Role.TheVariants.{Client}
+use Rattle.sip_key.specs.declared.role.Direction.{Direction}
+use Rattle.sip_key.specs.Key.{KeyParts}
+use Rattle.sip_key.specs.Concerns.{branch_of, role_of, sent_by_of, method_of, is_sent_cancel, own_key, cancelled_key, Concerns}
+
+-- a byte in a range is not above it
+range_low : (low high b : ℕ) → is_in_range low high b ≡ true → b ≤ high
+range_low low high b is = leb-true b high (and_parts (nat_le low b) (nat_le b high) is).1
+
+-- a byte of a token is ASCII
+alphanumeric_low : (b : ℕ) → is_ascii_alphanumeric b ≡ true → b < 128
+alphanumeric_low b is =
+    elim (or_cases (is_in_range 48 57 b || is_in_range 65 90 b) (is_in_range 97 122 b) is) [
+      | inl more ↦ elim (or_cases (is_in_range 48 57 b) (is_in_range 65 90 b) more) [
+        | inl one ↦ (let low = range_low 48 57 b one in omega (arith, low))
+        | inr one ↦ (let low = range_low 65 90 b one in omega (arith, low))
+      ]
+      | inr one ↦ (let low = range_low 97 122 b one in omega (arith, low))
+    ]
+
+one_of_low : (bytes : List ℕ) → list_all (λ c. nat_lt c 128) bytes ≡ true → (b : ℕ) → is_one_of bytes b ≡ true → b < 128
+one_of_low [] all b is = cc
+one_of_low (c ∷ cs) all b is =
+    let parts = and_parts (nat_lt c 128) (list_all (λ d. nat_lt d 128) cs) all in
+    elim (or_cases (c == b) (is_one_of cs b) is) [
+      | inl same ↦ subst (λ d. d < 128) (eqb-true c b same) (ltb-true c 128 parts.0)
+      | inr more ↦ one_of_low cs parts.1 b more
+    ]
+
+token_low : (b : ℕ) → is_token_byte b ≡ true → b < 128
+token_low b is =
+    elim (or_cases (is_ascii_alphanumeric b) (is_one_of (codes "-.!%*_+`'~") b) is) [
+      | inl word ↦ alphanumeric_low b word
+      | inr mark ↦ one_of_low (codes "-.!%*_+`'~") refl b mark
+    ]
+
+bytes_ascii : (u : List ℕ) → each.All is_token_byte u → IsAscii u
+bytes_ascii u all = IsAscii-from_all u (All-weaker (λ b. is_token_byte b ≡ true) (λ b. b < 128) token_low u (All-from_recursion (λ b. is_token_byte b ≡ true) u all))
+
+pub token_ascii : (u : List ℕ) → Token u → IsAscii u
+token_ascii u token = bytes_ascii u (each-token u token)
+
+-- what holds of both values holds of the chosen one
+either : {A : Type 0} (P : A → Type 0) (b : Bool) (x y : A) → P x → P y → P (cond b x y)
+either P true x y p q = p
+either P false x y p q = q
+
+-- the method of a key is a token
+invite_ascii : IsAscii (codes "INVITE")
+invite_ascii = bytes_ascii (codes "INVITE") (refl, (refl, (refl, (refl, (refl, (refl, tt))))))
+
+method_ascii : (line cseq : List ℕ) (start : StartLine) → StartText line start → Token cseq → IsAscii (method_of start cseq)
+method_ascii line cseq (request method uri) is token = either IsAscii (bytes_eq method (codes "ACK")) (codes "INVITE") method invite_ascii (token_ascii method is.0)
+method_ascii line cseq (status code reason) is token = token_ascii cseq token
+
+-- what holds of each key that may be made holds of the one that is
+made_key : (P : KeyParts → Type 0) (f : List ℕ → KeyParts) → ((branch : List ℕ) → P (f branch)) → (o : Option (List ℕ)) → All P (option_to_list (option_map f o))
+made_key P f h None = All-nil P
+made_key P f h (Some branch) = All-cons P (f branch) [] (h branch) (All-nil P)
+
+-- the methods of the keys that a message concerns are ASCII
+pub keys_ascii : (bytes : List ℕ) (r : Reading) (d : Direction) (keys : List KeyParts) → Reads bytes r → Concerns r d keys → All (λ k. IsAscii k.method) keys
+keys_ascii bytes r d keys reads is = subst (All (λ k. IsAscii k.method)) (sym is) (All-append (λ k. IsAscii k.method) (option_to_list (own_key r d)) (option_to_list (cancelled_key r d)) own cancelled)
+  where
+    own : All (λ k. IsAscii k.method) (option_to_list (own_key r d))
+    own = made_key (λ k. IsAscii k.method)
+        (λ branch. record { role = role_of r.message.start d; branch = branch; sent_by = sent_by_of (role_of r.message.start d) r.parts.via.1; method = method_of r.message.start r.parts.cseq.1 })
+        (λ branch. method_ascii reads.text.first r.parts.cseq.1 r.message.start reads.text.is_start reads.parts.is.cseq.2.is_method) (branch_of r)
+
+    cancelled : All (λ k. IsAscii k.method) (option_to_list (cancelled_key r d))
+    cancelled = either (λ o. All (λ k. IsAscii k.method) (option_to_list o)) (is_sent_cancel r.message.start d)
+        (option_map (λ branch. record { role = Client; branch = branch; sent_by = []; method = codes "INVITE" }) (branch_of r)) None
+        (made_key (λ k. IsAscii k.method) (λ branch. record { role = Client; branch = branch; sent_by = []; method = codes "INVITE" }) (λ branch. invite_ascii) (branch_of r))
+        (All-nil (λ k. IsAscii k.method))

@@ -1,0 +1,86 @@
+use Rattle.std.proofs.Common.{◌∙◌, ap, inl, refl, arith, None, subst, sym}
+use Rattle.sip_machine.specs.Texts.{IsBook}
+use Rattle.sip_log.specs.Told.{item}
+use Rattle.sip_verdict.specs.MessageReading.{fault_observation}
+use Rattle.sip_verdict.specs.inner.Numbering.{StaysNumbered}
+use Rattle.sip_verdict.proofs.NumberingLemmas.{numbered_mark, numbered_heard, unless_trouble}
+use Rattle.sip_verdict.proofs.StandingLemmas.{grown_may, both_few, both_may, both_given, may_next, mark_judged, heard_judged}
+use Rattle.sip_verdict.proofs.standing.Standing.take.Goals as goal
+
+pub pass-requires-in-Heard-clause-may : goal.pass-requires-in-Heard-clause-may
+pass-requires-in-Heard-clause-may g c =
+    let s = c.args.self.now in
+    let e = c.args.entry.now in
+    let touched = c.in_ok-own-in-Heard.ensures.touched in
+    both_may c.in-Heard.own c.in-Heard.cancelled c.in_ok-own-in-Heard.own c.in_ok-own-in-Heard.cancelled s.tables touched.0 c.touch_both.new.tables touched.1 touched.2 c.observe.new.book e.moment
+    (grown_may s.book c.observe.new.book e.number e.bytes.items (rw c.in-Heard.is at c.in_ok-told.ensures.kept).3 s.tables e.moment c.requires.may.passes)
+
+pub returns-in_ok-verdict-in-Mark-clause-may : goal.returns-in_ok-verdict-in-Mark-clause-may
+returns-in_ok-verdict-in-Mark-clause-may g c =
+    let s = c.args.self.now in
+    let e = c.args.entry.now in
+    let passed = c.in_ok-verdict-in-Mark in
+    may_next passed.verdict s.book c.observe.new.book c.pass.new.self.book s.tables s.tables c.pass.new.self.tables e.number e.moment e.bytes.items c.requires.may
+    (inl (rw c.in-Mark.is at c.in_ok-told.ensures.kept).1) (omega arith) passed.ensures.keys passed.ensures.book passed.ensures.may
+
+pub returns-in_ok-verdict-in-Mark-clause-numbered : goal.returns-in_ok-verdict-in-Mark-clause-numbered
+returns-in_ok-verdict-in-Mark-clause-numbered g c =
+    let s = c.args.self.now in
+    let e = c.args.entry.now in
+    let kept = rw c.in-Mark.is at c.in_ok-told.ensures.kept in
+    let new = c.pass.new.self.book in
+    unless_trouble (StaysNumbered (item e) e.number s.book new) c.in_ok-verdict-in-Mark.verdict
+    (numbered_mark (item e) e.number s.book new kept.0 (c.in_ok-verdict-in-Mark.ensures.book ∙ kept.1))
+
+pub returns-in_ok-verdict-in-Mark-clause-judged : goal.returns-in_ok-verdict-in-Mark-clause-judged
+returns-in_ok-verdict-in-Mark-clause-judged g c =
+    let s = c.args.self.now in
+    let e = c.args.entry.now in
+    mark_judged c.in_ok-verdict-in-Mark.verdict s.book c.observe.new.book c.pass.new.self.book e.number e.bytes.items (inl (rw c.in-Mark.is at c.in_ok-told.ensures.kept).1) (item e) e.moment e.number
+    s.tables c.pass.new.self.tables refl (rw c.in-Mark.is at c.in_ok-told.ensures.observed) c.in_ok-verdict-in-Mark.ensures.judged
+
+pub returns-in-Fault-clause-judged : goal.returns-in-Fault-clause-judged
+returns-in-Fault-clause-judged g c = λ es tracks counts. (
+  fault_observation (item c.args.entry.now) c.in-Fault.fault,
+  (rw c.in-Fault.is at c.in_ok-told.ensures.observed) es,
+  (counts, refl),
+  (None, None, refl, refl, refl),
+)
+
+pub returns-in_ok-verdict-in-Heard-clause-may : goal.returns-in_ok-verdict-in-Heard-clause-may
+returns-in_ok-verdict-in-Heard-clause-may g c =
+    let s = c.args.self.now in
+    let e = c.args.entry.now in
+    let touched = c.in_ok-own-in-Heard.ensures.touched in
+    let passed = c.in_ok-verdict-in-Heard in
+    may_next passed.verdict s.book c.observe.new.book c.pass-in-Heard.new.self.book s.tables c.touch_both.new.tables c.pass-in-Heard.new.self.tables e.number e.moment e.bytes.items c.requires.may
+    (rw c.in-Heard.is at c.in_ok-told.ensures.kept).3
+    (both_few c.in-Heard.own c.in-Heard.cancelled c.in_ok-own-in-Heard.own c.in_ok-own-in-Heard.cancelled s.tables touched.0 c.touch_both.new.tables touched.1 touched.2)
+    passed.ensures.keys passed.ensures.book passed.ensures.may
+
+pub returns-in_ok-verdict-in-Heard-clause-numbered : goal.returns-in_ok-verdict-in-Heard-clause-numbered
+returns-in_ok-verdict-in-Heard-clause-numbered g c =
+    let s = c.args.self.now in
+    let e = c.args.entry.now in
+    let mid = c.observe.new.book in
+    let kept = rw c.in-Heard.is at c.in_ok-told.ensures.kept in
+    let new = c.pass-in-Heard.new.self.book in
+    unless_trouble (StaysNumbered (item e) e.number s.book new) c.in_ok-verdict-in-Heard.verdict
+    (subst (StaysNumbered (item e) e.number s.book) (sym c.in_ok-verdict-in-Heard.ensures.book)
+    (numbered_heard (item e) e.number c.in-Heard.event.number s.book mid kept.0 kept.1 kept.2 c.requires.may.numbered c.known.ensures kept.3))
+
+pub returns-in_ok-verdict-in-Heard-clause-given : goal.returns-in_ok-verdict-in-Heard-clause-given
+returns-in_ok-verdict-in-Heard-clause-given g c =
+    let touched = c.in_ok-own-in-Heard.ensures.touched in
+    both_given c.in-Heard.own c.in-Heard.cancelled c.in_ok-own-in-Heard.own c.in_ok-own-in-Heard.cancelled c.args.self.now.tables touched.0 c.touch_both.new.tables c.pass-in-Heard.new.self.tables
+    touched.1 touched.2 c.in_ok-verdict-in-Heard.ensures.keys
+
+pub returns-in_ok-verdict-in-Heard-clause-judged : goal.returns-in_ok-verdict-in-Heard-clause-judged
+returns-in_ok-verdict-in-Heard-clause-judged g c =
+    let s = c.args.self.now in
+    let e = c.args.entry.now in
+    let touched = c.in_ok-own-in-Heard.ensures.touched in
+    heard_judged c.in_ok-verdict-in-Heard.verdict s.book c.observe.new.book c.pass-in-Heard.new.self.book e.number e.bytes.items (rw c.in-Heard.is at c.in_ok-told.ensures.kept).3 (item e) e.moment e.number
+    c.in-Heard.event c.in-Heard.own c.in-Heard.cancelled c.in_ok-own-in-Heard.own c.in_ok-own-in-Heard.cancelled s.tables touched.0 c.touch_both.new.tables c.pass-in-Heard.new.self.tables
+    c.requires.may.passes.long touched.1 touched.2 c.in_ok-own-in-Heard.ensures.apart c.in_ok-verdict-in-Heard.ensures.keys (rw c.in-Heard.is at c.in_ok-told.ensures.heard).1
+    (rw c.in-Heard.is at c.in_ok-told.ensures.observed) c.in_ok-verdict-in-Heard.ensures.judged

@@ -1,0 +1,42 @@
+-- The book of a log's messages, and what is listed of one entry.
+use Rattle.std.specs.Prelude.{◌≡◌, ◌<◌, ◌+◌, ◌-◌, ◌⊎◌, ◌++◌, ◌∷◌, [], ℕ, true, Option, Some, None, List, All, IsAscii, codes, length, slice_get, string_bytes}
+use Rattle.sip_key.specs.Key.{KeyParts}
+use Rattle.sip_machine.specs.Texts.{Texts, Keeps, text_of}
+use Rattle.sip_states.specs.Tables.{Tabled}
+use Rattle.sip_states.specs.declared.any_set.AnySet.{AnySet}
+use Rattle.sip_log.specs.Spelling.{Item}
+use Rattle.sip_listing.specs.Transaction.{transaction_text, Lists}
+use Rattle.sip_verdict.specs.declared.listing.Listing.{Listing}
+use Rattle.sip_verdict.specs.declared.listing.Listing.TheVariants.{Text, Stopped, NoEntry}
+use Rattle.sip_verdict.specs.Keyed.{Observation, Machines}
+use Rattle.sip_verdict.specs.Verdicts.{IsGood, IsTrouble}
+use Rattle.sip_verdict.specs.Listing.{Words, has_message, first_entry, IsEntryText}
+
+-- the book keeps the messages of these entries, each under the number of the first that has it
+pub record AreNumbered (items : List Item) (texts : Texts) : Type 0 where
+  pub some : (n : ℕ) → Keeps texts n → 0 < n
+  pub numbered : (n : ℕ) → Keeps texts n → first_entry items (text_of texts n) ≡ n
+  pub kept : All (λ i. has_message i.action ≡ true → (n : ℕ) × Keeps texts n × (text_of texts n ≡ i.text)) items
+
+-- with the next entry, which has this number, the book is as before, or keeps its message too
+abbrev pub StaysNumbered : Item → ℕ → Texts → Texts → Type 0
+StaysNumbered item number old new = (items : List Item) → AreNumbered items old → number ≡ length items + 1 → AreNumbered (items ++ item ∷ []) new
+
+-- the transaction with this number, if there is one, was appended to a text
+abbrev pub Appends : Tabled → Option ℕ → List ℕ → List ℕ → Type 0
+Appends t None old new = new ≡ old
+Appends t (Some n) old new =
+    (key : KeyParts) × (set : AnySet) × (lines : List (List ℕ)) × (slice_get t.keys (n - 1) ≡ Some key) × (slice_get t.sets (n - 1) ≡ Some set) × Lists set lines
+    × (IsAscii key.method → new ≡ old ++ transaction_text n key lines)
+
+-- the text of the transactions with these numbers, or that there is none
+abbrev pub IsTextOf : Tabled → Option ℕ → Option ℕ → List ℕ → Type 0
+IsTextOf t own cancelled text =
+    ((own ≡ None) × (cancelled ≡ None) × (text ≡ codes "no transaction\n"))
+    ⊎ (((own ≡ None) → (cancelled ≡ None) → ⊥) × ((between : List ℕ) × Appends t own [] between × Appends t cancelled between text))
+
+-- what is listed of the entry behind these: its text if it is in no trouble, else its verdict
+abbrev pub IsListedEntry : {K : Type 0} (m : Machines K) → Words K m → (List ℕ → ℕ) → List (Observation K) → Observation K → Listing → Type 0
+IsListedEntry m w number es e (Text text) = IsGood m (es ++ e ∷ []) × IsEntryText m w number es e e.keys (string_bytes text)
+IsListedEntry m w number es e (Stopped v) = IsTrouble m es e v
+IsListedEntry m w number es e NoEntry = ⊥

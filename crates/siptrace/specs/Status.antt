@@ -2,6 +2,8 @@ use Rattle.std.specs.Prelude.{◌≡◌, ◌⊎◌, ℕ, List}
 use Rattle.sip_verdict.specs.declared.verdict.Verdict.{Verdict}
 use Rattle.sip_verdict.specs.declared.verdict.Verdict.TheVariants as verdicts
 use Rattle.sip_verdict.specs.VerdictOf.{IsVerdictOf}
+use Rattle.sip_verdict.specs.declared.listing.Listing.{Listing}
+use Rattle.sip_verdict.specs.declared.listing.Listing.TheVariants.{Text, Stopped, NoEntry}
 use Rattle.sip_verdict.specs.declared.shown.Shown.{Shown}
 use Rattle.sip_verdict.specs.declared.shown.Shown.TheVariants.{End, Malformed, LogFault}
 
@@ -19,6 +21,12 @@ status_of_shown (End entries) = 0
 status_of_shown (Malformed entry fault) = 1
 status_of_shown (LogFault entry reason) = 2
 
+-- the status of the program by what it lists of an entry
+abbrev pub status_of_listing : Listing → ℕ
+status_of_listing (Text text) = 0
+status_of_listing (Stopped verdict) = status_of verdict
+status_of_listing NoEntry = 2
+
 -- the status of some verdict
 abbrev pub IsStatusOfVerdict : ℕ → Type 0
 IsStatusOfVerdict status = (verdict : Verdict) × (status ≡ status_of verdict)
@@ -31,6 +39,10 @@ IsStatusOfInput input status = (verdict : Verdict) × IsVerdictOf input verdict 
 abbrev pub IsStatusOfShown : ℕ → Type 0
 IsStatusOfShown status = (shown : Shown) × (status ≡ status_of_shown shown)
 
--- the status of some verdict, or of some log that was shown
+-- the status of something that was listed
+abbrev pub IsStatusOfListing : ℕ → Type 0
+IsStatusOfListing status = (listing : Listing) × (status ≡ status_of_listing listing)
+
+-- the status of some verdict, of some log that was shown, or of something that was listed
 abbrev pub IsStatus : ℕ → Type 0
-IsStatus status = IsStatusOfVerdict status ⊎ IsStatusOfShown status
+IsStatus status = IsStatusOfVerdict status ⊎ (IsStatusOfShown status ⊎ IsStatusOfListing status)

@@ -1,13 +1,14 @@
-//! `siptrace`: judges the log on its standard input or in a file and prints the verdict, or shows a log with each message in its
-//! canonical form.
+//! `siptrace`: judges the log on its standard input or in a file and prints the verdict, shows a log with each message in its
+//! canonical form, or lists the states of the transactions of an entry.
 //!
-//! It ends with 0 for a legal log or one that was shown whole, 1 for a malformed message or a breach, 2 for a log that cannot be
-//! read, 3 where it is undecided, 4 where it cannot read, write or get memory, and 5 where it does not understand its words.
+//! It ends with 0 for a legal log, one that was shown whole or states that are listed, 1 for a malformed message or a breach, 2
+//! for a log that cannot be read or has no such entry, 3 where it is undecided, 4 where it cannot read, write or get memory, and 5
+//! where it does not understand its words.
 #![tactic(auto)]
 
 ghost use Rattle.std.specs.Prelude.{IfOk, IfSome, IsErrOf};
 ghost use Rattle.siptrace.specs.declared.failure.Failure.TheVariants.{Usage};
-ghost use Rattle.siptrace.specs.Status.{IsStatus, IsStatusOfVerdict, IsStatusOfInput, IsStatusOfShown};
+ghost use Rattle.siptrace.specs.Status.{IsStatus, IsStatusOfVerdict, IsStatusOfInput, IsStatusOfShown, IsStatusOfListing};
 
 mod asked;
 mod failure;
@@ -16,8 +17,8 @@ mod status;
 use asked::{Asked, asked_by};
 use failure::{Failure, read_failure, status_without};
 use sip_log::{FromRead, ToWrite};
-use sip_verdict::{judge, render, show};
-use status::{status_of, status_of_shown};
+use sip_verdict::{Listing, judge, render, show, states_at};
+use status::{status_of, status_of_listing, status_of_shown};
 use std::env;
 use std::fs::File;
 use std::hash::RandomState;
@@ -67,7 +68,28 @@ fn show_log(rt: &HostRuntime, file: File) -> Result<u8, Failure>
     Ok(status_of_shown(&shown))
 }
 
-/// Does what the words ask for. The status is that of a verdict, or that of how a log that is shown ends.
+/// Lists the states of the transactions that an entry concerns. The status is that of the listing.
+fn list_states(
+    rt: &HostRuntime,
+    seed: RandomState,
+    file: File,
+    entry: u32,
+) -> Result<u8, Failure>
+    ensures { IfOk result IsStatusOfListing }
+{
+    let listing = states_at(rt.alloc(), &mut FromRead::new(file), seed, entry)?;
+    match &listing {
+        Listing::Text(text) => print!(rt; "{text}").map_err(|_| Failure::Write)?,
+        Listing::Stopped(verdict) => {
+            let text = render(rt.alloc(), verdict)?;
+            println!(rt; "{text}").map_err(|_| Failure::Write)?;
+        }
+        Listing::NoEntry => println!(rt; "no entry").map_err(|_| Failure::Write)?,
+    }
+    Ok(status_of_listing(&listing))
+}
+
+/// Does what the words ask for. The status is that of a verdict, of how a log that is shown ends, or of a listing.
 fn run(rt: &HostRuntime) -> Result<u8, Failure>
     ensures { IfOk result IsStatus }
 {
@@ -82,6 +104,10 @@ fn run(rt: &HostRuntime) -> Result<u8, Failure>
             check(rt, seed, open(rt, path)?)
         }
         Some(Asked::Show(path)) => show_log(rt, open(rt, path)?),
+        Some(Asked::States(path, entry)) => {
+            let seed = RandomState::new(rt).map_err(read_failure)?;
+            list_states(rt, seed, open(rt, path)?, entry)
+        }
         None => Err(Failure::Usage),
     }
 }

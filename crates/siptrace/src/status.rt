@@ -1,8 +1,8 @@
 //! The status that the program ends with where it has its answer.
 ghost use Rattle.std.specs.Prelude.{◌≡◌};
-ghost use Rattle.siptrace.specs.Status.{status_of, status_of_shown};
+ghost use Rattle.siptrace.specs.Status.{status_of, status_of_shown, status_of_listing};
 
-use sip_verdict::{Shown, Verdict};
+use sip_verdict::{Listing, Shown, Verdict};
 
 /// The status that a verdict ends the program with.
 pub fn status_of(verdict: &Verdict) -> u8
@@ -24,5 +24,16 @@ pub fn status_of_shown(shown: &Shown) -> u8
         Shown::End { .. } => 0,
         Shown::Malformed { .. } => 1,
         Shown::LogFault { .. } => 2,
+    }
+}
+
+/// The status that the program ends with behind what it lists of an entry.
+pub fn status_of_listing(listing: &Listing) -> u8
+    ensures { result ≡ status_of_listing listing.now }
+{
+    match listing {
+        Listing::Text(_) => 0,
+        Listing::Stopped(verdict) => status_of(verdict),
+        Listing::NoEntry => 2,
     }
 }

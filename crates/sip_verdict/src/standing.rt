@@ -154,7 +154,7 @@ impl<H: BuildHasher> Standing<H> {
         ensures listed { IfOk result (λ listing. (es : List (Observation KeyParts)) (items more : List Item) → TablesTrack self.old.book es self.old.tables
             → AreNumbered items self.old.book → length items ≡ length es → entry.now.number ≡ length es + 1
             → (e : Observation KeyParts) × message_reading.Observes es (item entry.now) e
-                × IsListedEntry (key_machines self.old.tables.times) (key_words self.old.tables.times) (first_entry ((items ++ item entry.now ∷ []) ++ more)) es e listing) }
+            × IsListedEntry (key_machines self.old.tables.times) (key_words self.old.tables.times) (first_entry ((items ++ item entry.now ∷ []) ++ more)) es e listing) }
     {
         let taken = self.take(alloc, entry)?;
         match taken.verdict {

@@ -69,12 +69,7 @@ fn show_log(rt: &HostRuntime, file: File) -> Result<u8, Failure>
 }
 
 /// Lists the states of the transactions that an entry concerns. The status is that of the listing.
-fn list_states(
-    rt: &HostRuntime,
-    seed: RandomState,
-    file: File,
-    entry: u32,
-) -> Result<u8, Failure>
+fn list_states(rt: &HostRuntime, seed: RandomState, file: File, entry: u32) -> Result<u8, Failure>
     ensures { IfOk result IsStatusOfListing }
 {
     let listing = states_at(rt.alloc(), &mut FromRead::new(file), seed, entry)?;

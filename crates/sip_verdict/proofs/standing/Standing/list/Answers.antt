@@ -6,15 +6,22 @@ use Rattle.sip_verdict.proofs.EntryText.{observed_ascii, entry_text}
 use Rattle.sip_verdict.proofs.standing.Standing.list.Goals as goal
 
 pub returns-in_ok-text-in-None : goal.returns-in_ok-text-in-None
-returns-in_ok-text-in-None g c = record { listed = λ es items more tracks numbered long counts.
-    let s = c.args.self.now in
-    let new = c.take.new.self in
-    let e = c.args.entry.now in
-    let taken = c.in_ok-taken in
-    let seen = taken.ensures.judged es tracks counts in
-    let may = rw c.in-None.is at taken.ensures.may in
-    let grown = (rw c.in-None.is at taken.ensures.numbered) items numbered (counts ∙ ap (λ n. n + 1) (sym long)) in
-    let judged = rw c.in-None.is at seen.2 in
-    (seen.0, seen.1, (judged.0.good,
-    entry_text (first_entry ((items ++ item e ∷ []) ++ more)) new.book (stay_numbered (items ++ item e ∷ []) more new.book grown) s.tables.times es seen.0 new.tables may.passes.known may.passes.long c.in_ok-text-in-None.ensures.apart judged
-    taken.taken.own taken.taken.cancelled (string_bytes c.in_ok-text-in-None.field-0) (observed_ascii es (item e) seen.0 seen.1) seen.3 c.in_ok-text-in-None.ensures.text)) }
+returns-in_ok-text-in-None g c = record {
+  listed = λ es items more tracks numbered long counts.
+      let s = c.args.self.now in
+      let new = c.take.new.self in
+      let e = c.args.entry.now in
+      let taken = c.in_ok-taken in
+      let seen = taken.ensures.judged es tracks counts in
+      let may = rw c.in-None.is at taken.ensures.may in
+      let grown = (rw c.in-None.is at taken.ensures.numbered) items numbered (counts ∙ ap (λ n. n + 1) (sym long)) in
+      let judged = rw c.in-None.is at seen.2 in (
+        seen.0,
+        seen.1,
+        (
+          judged.0.good,
+          entry_text (first_entry ((items ++ item e ∷ []) ++ more)) new.book (stay_numbered (items ++ item e ∷ []) more new.book grown) s.tables.times es seen.0 new.tables may.passes.known may.passes.long c.in_ok-text-in-None.ensures.apart judged
+              taken.taken.own taken.taken.cancelled (string_bytes c.in_ok-text-in-None.field-0) (observed_ascii es (item e) seen.0 seen.1) seen.3 c.in_ok-text-in-None.ensures.text,
+        ),
+      );
+}

@@ -122,12 +122,12 @@ fn is_wanted(state: &PlainServerState, want: Want) -> bool {
         (
             PlainServerState::Completed {
                 reliable,
-                response,
+                final_message,
                 set,
                 owes,
             },
             Want::Completed(number, moment, debts),
-        ) => !*reliable && *response == number && *set == moment && are_owed(owes.debts(), debts),
+        ) => !*reliable && *final_message == number && *set == moment && are_owed(owes.debts(), debts),
         _ => false,
     }
 }
@@ -411,7 +411,7 @@ fn ends(rt: HostRuntime) -> Result<(), Fail> {
     }
     let over_tcp = PlainServerState::Completed {
         reliable: true,
-        response: FINAL,
+        final_message: FINAL,
         set: 700,
         owes: Outbox::new(rt.alloc()),
     };

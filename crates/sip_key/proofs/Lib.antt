@@ -2,3 +2,4 @@ pub mod SentByLemmas
 pub mod SolidLemmas
 pub mod ConcernLemmas
 pub mod AckOfLemmas
+pub mod MethodLemmas

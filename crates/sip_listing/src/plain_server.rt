@@ -40,13 +40,13 @@ impl Told for PlainServerState {
             }
             PlainServerState::Completed {
                 reliable,
-                response,
+                final_message,
                 set,
                 owes,
             } => {
                 out.push_str("completed")?;
                 push_flag(out, "reliable", *reliable)?;
-                push_number(out, "final", (*response).into())?;
+                push_number(out, "final", (*final_message).into())?;
                 push_number(out, "set", *set)?;
                 push_owes(out, owes.debts())
             }

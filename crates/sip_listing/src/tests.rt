@@ -189,7 +189,7 @@ fn tells_plain_servers(rt: HostRuntime) -> Result<(), Fail> {
         (
             PlainServerState::Completed {
                 reliable: false,
-                response: 2,
+                final_message: 2,
                 set: 10,
                 owes: Outbox::new(alloc),
             },

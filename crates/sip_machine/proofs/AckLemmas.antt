@@ -1,8 +1,7 @@
 use Prim.Native.Nat.{suc}
-use Rattle.std.specs.Prelude.{◌≡◌, ◌≤◌, ◌<◌, ◌↔◌, ◌++◌, ℕ, Option, None, Some, Result, Ok, Err, IfOk, List, All, length, take, drop, remove}
-use Rattle.std.proofs.Common.{refl, sym, ◌∙◌, ap, arith, get_or, drop-cons}
+use Rattle.std.specs.Prelude.{◌<◌, ◌↔◌, ◌++◌, ℕ, Option, None, Some, Result, Ok, Err, IfOk, List, All, length, take, drop, remove}
+use Rattle.std.proofs.Common.{refl, sym, ◌∙◌, ap, get_or, drop-cons}
 use Rattle.std.proofs.lemmas.List.{take-append-drop}
-use Rattle.std.proofs.lemmas.List.Elements.{All-weaker}
 use Rattle.sip_message.specs.declared.fault.Fault.{Fault}
 use Rattle.sip_message.specs.Message.{message_of}
 use Rattle.sip_message.specs.Reading.{Reading}
@@ -15,7 +14,6 @@ use Rattle.sip_machine.specs.declared.outbox.Debt.{Debt}
 use Rattle.sip_machine.specs.Texts.{Texts, text_of}
 use Rattle.sip_machine.specs.Debts.{IsWithoutFirst}
 use Rattle.sip_machine.specs.inner.Acks.{Acks, AcksDebt, PaysDebt, FindsFirst}
-use Rattle.sip_machine.specs.inner.DebtLaws.{IsWithoutFirst-map}
 
 -- Which debts an ACK pays.
 

@@ -1,8 +1,8 @@
-use Rattle.std.specs.Prelude.{◌≡◌, ◌≤◌, ◌<◌, ◌+◌, ◌*◌, ◌^◌, ◌↔◌, ◌⊎◌, ℕ, Bool, true, false, IsTrue, Option, Some, None, List, [], ◌∷◌, ◌++◌, All, filter, map, unwrap_or}
+use Rattle.std.specs.Prelude.{◌≡◌, ◌≤◌, ◌<◌, ◌*◌, ◌^◌, ◌↔◌, ℕ, Bool, true, Option, Some, None, List, [], ◌∷◌, ◌++◌, All, filter}
 use Rattle.std.specs.Option.{option_and}
 use Rattle.std.proofs.Common.{refl, sym, ◌∙◌, ap, subst, inl, inr, arith}
 use Rattle.std.proofs.lemmas.List.{map-append}
-use Rattle.std.proofs.lemmas.List.Elements.{All-head, All-tail, All-nil, All-cons, All-map, All-push, All-filter, All-weaker}
+use Rattle.std.proofs.lemmas.List.Elements.{All-head, All-tail, All-nil, All-cons, All-map, All-push, All-filter}
 use Rattle.sip_key.specs.AckOf.{AckOf}
 use Rattle.sip_machine.specs.declared.outbox.Debt.{Debt}
 use Rattle.sip_machine.specs.declared.invite_client.InviteWaiting.{InviteWaiting}
@@ -15,10 +15,11 @@ use Rattle.sip_machine.specs.Limits.{close_at, IsWithin}
 use Rattle.sip_machine.specs.Texts.{Texts, Keeps, text_of}
 use Rattle.sip_machine.specs.NumberedEvent.{NumberedEvent}
 use Rattle.sip_machine.specs.Heard.{Heard, heard}
-use Rattle.sip_machine.specs.Message.{IsProvisional}
+use Rattle.sip_machine.specs.Retransmits.{Retransmits}
+use Rattle.sip_machine.specs.Message.{IsProvisional, IsSuccess, IsUnsuccessful}
 use Rattle.sip_machine.specs.Rules.{Knows, OrStays}
-use Rattle.sip_machine.specs.Debts.{Owed, IsWithoutFirst, Pays, unexpired, must_owe}
-use Rattle.sip_machine.specs.Owes.{owed_seen, owes_seen, owes_names, OwesInRange}
+use Rattle.sip_machine.specs.Debts.{Owed, IsWithoutFirst, unexpired}
+use Rattle.sip_machine.specs.Owes.{owed_seen, owes_seen, owes_names}
 use Rattle.sip_machine.specs.inner.Single.{IsTheOne, AnswersOne}
 use Rattle.sip_machine.specs.inner.Outbox.{counts_at}
 use Rattle.sip_machine.specs.inner.Acks.{PaysDebt}
@@ -27,7 +28,7 @@ use Rattle.sip_machine.specs.inner.OwesLaws.{unexpired-seen, All-names}
 use Rattle.sip_machine.proofs.BothLemmas.{OrStays-one, OrStays-none}
 use Rattle.sip_machine.proofs.SingleLemmas.{AnswersOne-ends}
 use Rattle.sip_machine.specs.inner.InviteClientAt.{state_at, unacked_at, IsOfClass}
-use Rattle.sip_machine.specs.InviteClient.{Waiting, InviteClientPhase, Idle, Calling, Proceeding, Accepted, Completed, Ended, Repeats, SendsInvite, SendsAck, FailsAck, Receives, Steps, InviteClientTake, invite_client_until, IsSuccess, IsRefusal, owed_by, with_owes, waiting_seen, invite_client_seen, invite_client_names, WaitingInRange, InviteClientInRange}
+use Rattle.sip_machine.specs.InviteClient.{InviteClientPhase, Accepted, Completed, SendsInvite, SendsAck, FailsAck, Receives, Steps, InviteClientTake, invite_client_until, owed_by, with_owes, invite_client_seen, invite_client_names, WaitingInRange, InviteClientInRange}
 
 -- The rows of the INVITE client, over the states of the code.
 
@@ -72,7 +73,7 @@ seen-at texts t code.Ended = refl
 
 -- the INVITE again, as timer A fires
 pub SendsInvite-again : (p : Times) (texts : Texts) (w : InviteWaiting) (n : NumberedEvent) → AreTimes p →
-    Repeats p (waiting_seen texts w) (heard texts n) → Keeps texts w.request → WaitingInRange w → n.moment ≤ last_moment →
+    Retransmits p w.reliable (text_of texts w.request) w.set w.interval (heard texts n) → Keeps texts w.request → WaitingInRange w → n.moment ≤ last_moment →
     IsTheNext texts (SendsInvite p (invite_client_seen texts (code.Calling w)) (heard texts n))
     (code.Calling (record { reliable = w.reliable; request = w.request; start = w.start; set = n.moment; interval = 2 * w.interval }))
 SendsInvite-again p texts w n times again kept fits limit =
@@ -94,7 +95,7 @@ Receives-provisional p texts w status e provisional kept =
         | inl one ↦ one.1
         | inr final ↦ elim final [
           | inl success ↦ absurd (omega (arith, provisional.1, success.0.0))
-          | inr refusal ↦ absurd (omega (arith, provisional.1, refusal.0.0))
+          | inr unsuccessful ↦ absurd (omega (arith, provisional.1, unsuccessful.0.0))
         ]
       ],
       λ is. inl (provisional, is),
@@ -116,7 +117,7 @@ Receives-success_calling p texts w status e success limit =
         | inl provisional ↦ absurd (omega (arith, provisional.0.1, success.0))
         | inr final ↦ elim final [
           | inl one ↦ one.1
-          | inr refusal ↦ absurd (omega (arith, success.1, refusal.0.0))
+          | inr unsuccessful ↦ absurd (omega (arith, success.1, unsuccessful.0.0))
         ]
       ],
       λ is. inr (inl (success, is)),
@@ -131,7 +132,7 @@ pub Receives-success_proceeding : (p : Times) (texts : Texts) (reliable : Bool) 
 Receives-success_proceeding p texts reliable request cancel status e success limit =
     let before = invite_client_seen texts (code.Proceeding reliable request cancel) in
     let rows : (y : InviteClientPhase) → Receives p before status e y ↔ (y ≡ Accepted e.moment) = λ y. (
-      λ h. elim h [ inl one ↦ one.1 | inr refusal ↦ absurd (omega (arith, success.1, refusal.0.0)) ],
+      λ h. elim h [ inl one ↦ one.1 | inr unsuccessful ↦ absurd (omega (arith, success.1, unsuccessful.0.0)) ],
       λ is. inl (success, is),
     ) in
     record { only = OrStays-one (Receives p before status e) before (Accepted e.moment) rows; known = All-nil (Keeps texts); in_range = limit }
@@ -143,22 +144,22 @@ completed_known texts request number deadline kept more =
     All-cons (Keeps texts) request (number ∷ []) kept (All-cons (Keeps texts) number [] more (All-nil (Keeps texts)))
 
 -- in calling
-pub Receives-refusal_calling : (p : Times) (texts : Texts) (w : InviteWaiting) (status : ℕ) (n : NumberedEvent) → IsRefusal status →
+pub Receives-unsuccessful_calling : (p : Times) (texts : Texts) (w : InviteWaiting) (status : ℕ) (n : NumberedEvent) → IsUnsuccessful status →
     Keeps texts w.request → Keeps texts n.number → InviteClientInRange (code.Completed w.reliable w.request n.moment (unacked_at p n ∷ [])) →
     IsTheNext texts (OrStays (Receives p (invite_client_seen texts (code.Calling w)) status (heard texts n)) (invite_client_seen texts (code.Calling w)))
     (code.Completed w.reliable w.request n.moment (unacked_at p n ∷ []))
-Receives-refusal_calling p texts w status n refusal kept more fits =
+Receives-unsuccessful_calling p texts w status n unsuccessful kept more fits =
     let before = invite_client_seen texts (code.Calling w) in
     let after = invite_client_seen texts (code.Completed w.reliable w.request n.moment (unacked_at p n ∷ [])) in
     let rows : (y : InviteClientPhase) → Receives p before status (heard texts n) y ↔ (y ≡ after) = λ y. (
       λ h. elim h [
-        | inl provisional ↦ absurd (omega (arith, provisional.0.1, refusal.0))
+        | inl provisional ↦ absurd (omega (arith, provisional.0.1, unsuccessful.0))
         | inr final ↦ elim final [
-          | inl success ↦ absurd (omega (arith, success.0.1, refusal.0))
+          | inl success ↦ absurd (omega (arith, success.0.1, unsuccessful.0))
           | inr one ↦ one.1
         ]
       ],
-      λ is. inr (inr (refusal, is)),
+      λ is. inr (inr (unsuccessful, is)),
     ) in
     record {
       only = OrStays-one (Receives p before status (heard texts n)) before after rows;
@@ -167,16 +168,16 @@ Receives-refusal_calling p texts w status n refusal kept more fits =
     }
 
 -- in proceeding
-pub Receives-refusal_proceeding : (p : Times) (texts : Texts) (reliable : Bool) (request : ℕ) (cancel : Option ℕ) (status : ℕ) (n : NumberedEvent) →
-    IsRefusal status → Keeps texts request → Keeps texts n.number → InviteClientInRange (code.Completed reliable request n.moment (unacked_at p n ∷ [])) →
+pub Receives-unsuccessful_proceeding : (p : Times) (texts : Texts) (reliable : Bool) (request : ℕ) (cancel : Option ℕ) (status : ℕ) (n : NumberedEvent) →
+    IsUnsuccessful status → Keeps texts request → Keeps texts n.number → InviteClientInRange (code.Completed reliable request n.moment (unacked_at p n ∷ [])) →
     IsTheNext texts (OrStays (Receives p (invite_client_seen texts (code.Proceeding reliable request cancel)) status (heard texts n)) (invite_client_seen texts (code.Proceeding reliable request cancel)))
     (code.Completed reliable request n.moment (unacked_at p n ∷ []))
-Receives-refusal_proceeding p texts reliable request cancel status n refusal kept more fits =
+Receives-unsuccessful_proceeding p texts reliable request cancel status n unsuccessful kept more fits =
     let before = invite_client_seen texts (code.Proceeding reliable request cancel) in
     let after = invite_client_seen texts (code.Completed reliable request n.moment (unacked_at p n ∷ [])) in
     let rows : (y : InviteClientPhase) → Receives p before status (heard texts n) y ↔ (y ≡ after) = λ y. (
-      λ h. elim h [ inl success ↦ absurd (omega (arith, success.0.1, refusal.0)) | inr one ↦ one.1 ],
-      λ is. inr (refusal, is),
+      λ h. elim h [ inl success ↦ absurd (omega (arith, success.0.1, unsuccessful.0)) | inr one ↦ one.1 ],
+      λ is. inr (unsuccessful, is),
     ) in
     record {
       only = OrStays-one (Receives p before status (heard texts n)) before after rows;
@@ -185,17 +186,17 @@ Receives-refusal_proceeding p texts reliable request cancel status n refusal kep
     }
 
 -- and each that comes after it
-pub Receives-refusal_completed : (p : Times) (texts : Texts) (reliable : Bool) (request set : ℕ) (owes : List Debt) (status : ℕ) (n : NumberedEvent) →
-    IsRefusal status → Knows invite_client_names texts (code.Completed reliable request set owes) → Keeps texts n.number →
+pub Receives-unsuccessful_completed : (p : Times) (texts : Texts) (reliable : Bool) (request set : ℕ) (owes : List Debt) (status : ℕ) (n : NumberedEvent) →
+    IsUnsuccessful status → Knows invite_client_names texts (code.Completed reliable request set owes) → Keeps texts n.number →
     InviteClientInRange (code.Completed reliable request set owes) → close_at p n.moment 0 < 2 ^ 50 →
     IsTheNext texts (OrStays (Receives p (invite_client_seen texts (code.Completed reliable request set owes)) status (heard texts n)) (invite_client_seen texts (code.Completed reliable request set owes)))
     (code.Completed reliable request set (owes ++ unacked_at p n ∷ []))
-Receives-refusal_completed p texts reliable request set owes status n refusal known more fits small =
+Receives-unsuccessful_completed p texts reliable request set owes status n unsuccessful known more fits small =
     let before = invite_client_seen texts (code.Completed reliable request set owes) in
     let after = invite_client_seen texts (code.Completed reliable request set (owes ++ unacked_at p n ∷ [])) in
     let pushed = ap (Completed reliable (text_of texts request) set) (map-append (owed_seen texts) owes (unacked_at p n ∷ [])) in
     let rows : (y : InviteClientPhase) → Receives p before status (heard texts n) y ↔ (y ≡ after) =
-    λ y. (λ h. h.1 ∙ sym pushed, λ is. (refusal, is ∙ pushed)) in
+    λ y. (λ h. h.1 ∙ sym pushed, λ is. (unsuccessful, is ∙ pushed)) in
     record {
       only = OrStays-one (Receives p before status (heard texts n)) before after rows;
       known = All-cons (Keeps texts) request (owes_names (owes ++ unacked_at p n ∷ [])) (All-head (Keeps texts) request (owes_names owes) known)
@@ -204,23 +205,23 @@ Receives-refusal_completed p texts reliable request set owes status n refusal kn
       in_range = (fits.0, All-push (λ d. d.deadline < 2 ^ 50) owes (unacked_at p n) fits.1 small);
     }
 
--- a code of another class is no refusal
-not_refusal : (k : Class) (status : ℕ) → IsOfClass status k → ¬ (k ≡ class.Refusal) → ¬ (IsRefusal status)
-not_refusal class.Provisional status of other is = omega (arith, of.1, is.0)
-not_refusal class.Success status of other is = omega (arith, of.1, is.0)
-not_refusal class.Refusal status of other is = other refl
-not_refusal class.Other status of other is = of.2 is
+-- a code of another class is no unsuccessful final response
+not_unsuccessful : (k : Class) (status : ℕ) → IsOfClass status k → ¬ (k ≡ class.Unsuccessful) → ¬ (IsUnsuccessful status)
+not_unsuccessful class.Provisional status of other is = omega (arith, of.1, is.0)
+not_unsuccessful class.Success status of other is = omega (arith, of.1, is.0)
+not_unsuccessful class.Unsuccessful status of other is = other refl
+not_unsuccessful class.Other status of other is = of.2 is
 
 -- and changes nothing in completed
 pub Receives-other_completed : (p : Times) (texts : Texts) (reliable : Bool) (request set : ℕ) (owes : List Debt) (status : ℕ) (e : Heard) (k : Class) →
-    IsOfClass status k → ¬ (k ≡ class.Refusal) → Knows invite_client_names texts (code.Completed reliable request set owes) →
+    IsOfClass status k → ¬ (k ≡ class.Unsuccessful) → Knows invite_client_names texts (code.Completed reliable request set owes) →
     InviteClientInRange (code.Completed reliable request set owes) →
     IsTheNext texts (OrStays (Receives p (invite_client_seen texts (code.Completed reliable request set owes)) status e) (invite_client_seen texts (code.Completed reliable request set owes)))
     (code.Completed reliable request set owes)
 Receives-other_completed p texts reliable request set owes status e k of other known fits =
     let before = invite_client_seen texts (code.Completed reliable request set owes) in
     record {
-      only = OrStays-none (Receives p before status e) before (λ y h. not_refusal k status of other h.0);
+      only = OrStays-none (Receives p before status e) before (λ y h. not_unsuccessful k status of other h.0);
       known = known;
       in_range = fits;
     }

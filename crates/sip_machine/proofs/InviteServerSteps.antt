@@ -14,6 +14,7 @@ use Rattle.sip_machine.specs.Times.{Times, last_moment}
 use Rattle.sip_machine.specs.Limits.{close_at, IsWithin}
 use Rattle.sip_machine.specs.Texts.{Texts, IsBook, Keeps, text_of}
 use Rattle.sip_machine.specs.Heard.{Heard}
+use Rattle.sip_machine.specs.Retransmits.{Retransmits}
 use Rattle.sip_machine.specs.Message.{IsProvisional, IsSuccess, IsUnsuccessful}
 use Rattle.sip_machine.specs.Provisional.{Is100}
 use Rattle.sip_machine.specs.Rules.{Knows, OrStays, StandFor}
@@ -25,7 +26,7 @@ use Rattle.sip_machine.specs.inner.Outbox.{counts_at, softened_debt, is_payable}
 use Rattle.sip_machine.specs.inner.DebtLaws.{All-without}
 use Rattle.sip_machine.specs.inner.OwesLaws.{unexpired-seen, softened-seen, All-names, Pays-seen, Pays-none}
 use Rattle.sip_machine.specs.inner.InviteServerAt.{debts_of, with_debts, state_at}
-use Rattle.sip_machine.specs.InviteServer.{InviteServerPhase, Idle, Proceeding, Accepted, Completed, Confirmed, Invited, Acknowledged, Receives, Sends, Retransmits, Repays, Steps, InviteServerTake, owed_by, with_owes, invite_server_until, invite_server_seen, invite_server_names, InviteServerInRange}
+use Rattle.sip_machine.specs.InviteServer.{InviteServerPhase, Idle, Proceeding, Accepted, Completed, Confirmed, Invited, Acknowledged, Receives, Sends, Repays, Steps, InviteServerTake, owed_by, with_owes, invite_server_until, invite_server_seen, invite_server_names, InviteServerInRange}
 use Rattle.sip_machine.proofs.SingleLemmas.{StandFor-one}
 use Rattle.sip_machine.proofs.BothLemmas.{OrStays-one, OrStays-none, StandFor-same}
 

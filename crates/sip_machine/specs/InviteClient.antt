@@ -1,4 +1,4 @@
-use Rattle.std.specs.Prelude.{◌≡◌, ◌≤◌, ◌<◌, ◌*◌, ◌^◌, ◌⊎◌, ℕ, Bool, true, false, Option, Some, None, List, [], ◌∷◌, ◌++◌, if◌then◌else◌}
+use Rattle.std.specs.Prelude.{◌≡◌, ◌≤◌, ◌<◌, ◌*◌, ◌^◌, ◌⊎◌, ℕ, Bool, Option, Some, None, List, [], ◌∷◌, ◌++◌, if◌then◌else◌}
 use Rattle.sip_key.specs.AckOf.{AckOf}
 use Rattle.sip_machine.specs.declared.event.Action.{Action}
 use Rattle.sip_machine.specs.declared.event.Action.TheVariants.{Sent, Received, Failed, Mark}
@@ -13,20 +13,14 @@ use Rattle.sip_machine.specs.Times.{Times, last_moment}
 use Rattle.sip_machine.specs.Limits.{open_at, close_at, window_at, IsWithin}
 use Rattle.sip_machine.specs.Texts.{Texts, text_of}
 use Rattle.sip_machine.specs.Heard.{Heard}
-use Rattle.sip_machine.specs.Message.{IsProvisional}
+use Rattle.sip_machine.specs.Retransmits.{Retransmits}
+use Rattle.sip_machine.specs.Waiting.{Waiting}
+use Rattle.sip_machine.specs.Message.{IsProvisional, IsSuccess, IsUnsuccessful}
 use Rattle.sip_machine.specs.Debts.{Owed, must_owe, unexpired, Pays, must_deadlines, earliest, unless_owed}
 use Rattle.sip_machine.specs.Owes.{owes_seen, owes_names, OwesInRange}
 use Rattle.sip_machine.specs.Rules.{Rules, OrStays}
 
 -- The INVITE client transaction, RFC 3261 section 17.1.1 and its figure 5, with the accepted state of RFC 6026 section 7.2.
-
--- an INVITE that waits for a response: when it was first sent, when timer A was set, and for how long
-pub record Waiting : Type 0 where
-  pub reliable : Bool
-  pub request : List ℕ
-  pub start : ℕ
-  pub set : ℕ
-  pub interval : ℕ
 
 -- the phases of section 17.1.1.2 and of RFC 6026, with the one before the INVITE and the one after the end
 pub data InviteClientPhase : Type 0 where
@@ -36,14 +30,6 @@ pub data InviteClientPhase : Type 0 where
   Accepted : (set : ℕ) → InviteClientPhase
   Completed : (reliable : Bool) (request : List ℕ) (set : ℕ) (owes : List Owed) → InviteClientPhase
   Ended : InviteClientPhase
-
--- a success, section 7.2: 2xx
-abbrev pub IsSuccess : ℕ → Type 0
-IsSuccess code = (200 ≤ code) × (code ≤ 299)
-
--- a final response that is none, section 7.2: 3xx to 6xx
-abbrev pub IsRefusal : ℕ → Type 0
-IsRefusal code = (300 ≤ code) × (code ≤ 699)
 
 -- timer B, section 17.1.1.2: 64*T1 from the first INVITE on
 abbrev pub timer_b : Times → ℕ
@@ -79,19 +65,14 @@ with_owes (Accepted set) owes = Accepted set
 with_owes (Completed reliable request set older) owes = Completed reliable request set owes
 with_owes Ended owes = Ended
 
--- e is the INVITE again, byte for byte, as timer A fires, which it does over an unreliable transport alone
-pub record Repeats (p : Times) (w : Waiting) (e : Heard) : Type 0 where
-  pub same : e.text ≡ w.request
-  pub unreliable : w.reliable ≡ false
-  pub fires : open_at p w.set w.interval ≤ e.moment
-
 -- the rows of a sent INVITE
 abbrev pub SendsInvite : Times → InviteClientPhase → Heard → InviteClientPhase → Type 0
 -- 17.1.1.2: timers A and B start, A at T1
 SendsInvite p Idle e y =
     y ≡ Calling (record { reliable = e.reliable; request = e.text; start = e.moment; set = e.moment; interval = p.t1 })
 -- 17.1.1.2: timer A fires, and starts again at twice its interval, without a cap
-SendsInvite p (Calling w) e y = Repeats p w e × (y ≡ Calling (record w { set = e.moment; interval = 2 * w.interval }))
+SendsInvite p (Calling w) e y =
+    Retransmits p w.reliable w.request w.set w.interval e × (y ≡ Calling (record w { set = e.moment; interval = 2 * w.interval }))
 SendsInvite p (Proceeding reliable request cancel) e y = ⊥
 SendsInvite p (Accepted set) e y = ⊥
 SendsInvite p (Completed reliable request set owes) e y = ⊥
@@ -134,14 +115,14 @@ Receives p Idle code e y = ⊥
 Receives p (Calling w) code e y =
     (IsProvisional code × (y ≡ Proceeding w.reliable w.request None))
     ⊎ (IsSuccess code × (y ≡ Accepted e.moment))
-    ⊎ (IsRefusal code × (y ≡ Completed w.reliable w.request e.moment (must_owe p e.moment e.text ∷ [])))
+    ⊎ (IsUnsuccessful code × (y ≡ Completed w.reliable w.request e.moment (must_owe p e.moment e.text ∷ [])))
 Receives p (Proceeding reliable request cancel) code e y =
     (IsSuccess code × (y ≡ Accepted e.moment))
-    ⊎ (IsRefusal code × (y ≡ Completed reliable request e.moment (must_owe p e.moment e.text ∷ [])))
+    ⊎ (IsUnsuccessful code × (y ≡ Completed reliable request e.moment (must_owe p e.moment e.text ∷ [])))
 Receives p (Accepted set) code e y = ⊥
 -- 17.1.1.2: each one that comes in again is owed an ACK, and timer D stays
 Receives p (Completed reliable request set owes) code e y =
-    IsRefusal code × (y ≡ Completed reliable request set (owes ++ must_owe p e.moment e.text ∷ []))
+    IsUnsuccessful code × (y ≡ Completed reliable request set (owes ++ must_owe p e.moment e.text ∷ []))
 Receives p Ended code e y = ⊥
 
 -- the rows of a sent request

@@ -1,4 +1,4 @@
-use Rattle.std.specs.Prelude.{◌≡◌, ◌≤◌, ◌<◌, ◌*◌, ◌^◌, ◌⊎◌, ℕ, Bool, false, Option, Some, None, List, [], ◌∷◌, ◌++◌, if◌then◌else◌, min}
+use Rattle.std.specs.Prelude.{◌≡◌, ◌≤◌, ◌<◌, ◌*◌, ◌^◌, ◌⊎◌, ℕ, Bool, Option, Some, None, List, [], ◌∷◌, ◌++◌, if◌then◌else◌, min}
 use Rattle.sip_machine.specs.declared.event.Action.{Action}
 use Rattle.sip_machine.specs.declared.event.Action.TheVariants.{Sent, Received, Failed, Mark}
 use Rattle.sip_machine.specs.declared.event.Method.{Method}
@@ -8,9 +8,10 @@ use Rattle.sip_machine.specs.declared.event.Kind.TheVariants.{Request, Response}
 use Rattle.sip_machine.specs.declared.invite_server.InviteServerState.{InviteServerState}
 use Rattle.sip_machine.specs.declared.invite_server.InviteServerState.TheVariants as code
 use Rattle.sip_machine.specs.Times.{Times, last_moment}
-use Rattle.sip_machine.specs.Limits.{open_at, close_at, window_at, IsWithin}
+use Rattle.sip_machine.specs.Limits.{close_at, window_at, IsWithin}
 use Rattle.sip_machine.specs.Texts.{Texts, text_of}
 use Rattle.sip_machine.specs.Heard.{Heard}
+use Rattle.sip_machine.specs.Retransmits.{Retransmits}
 use Rattle.sip_machine.specs.Message.{IsProvisional, IsSuccess, IsUnsuccessful}
 use Rattle.sip_machine.specs.Provisional.{Is100}
 use Rattle.sip_machine.specs.Debts.{Owed, must_owe, may_owe, unexpired, softened, Pays, must_deadlines, earliest, unless_owed}
@@ -86,12 +87,6 @@ Receives p x Invite e y = Invited p x e y
 Receives p x Ack e y = Acknowledged x e y
 Receives p x Cancel e y = ⊥
 Receives p x Other e y = ⊥
-
--- e is the final response again, byte for byte, as timer G fires, which it does over an unreliable transport alone
-pub record Retransmits (p : Times) (reliable : Bool) (final : List ℕ) (repeat : ℕ) (interval : ℕ) (e : Heard) : Type 0 where
-  pub same : e.text ≡ final
-  pub unreliable : reliable ≡ false
-  pub fires : open_at p repeat interval ≤ e.moment
 
 -- the rows of a response that is sent: in proceeding a provisional one becomes the last one, a 2xx starts timer L, any other final one
 -- timers H and G; a 2xx may be sent again; timer G starts at T1 and doubles up to T2

@@ -4,6 +4,8 @@ pub mod Texts
 pub mod Message
 pub mod NumberedEvent
 pub mod Heard
+pub mod Retransmits
+pub mod Waiting
 pub mod Rules
 pub mod Provisional
 pub mod Debts

@@ -1,4 +1,4 @@
-use Rattle.std.specs.Prelude.{◌≡◌, ◌≤◌, ◌<◌, ◌*◌, ◌^◌, ◌⊎◌, ℕ, Bool, false, Option, Some, None, List, [], ◌∷◌, if◌then◌else◌, min}
+use Rattle.std.specs.Prelude.{◌≡◌, ◌≤◌, ◌<◌, ◌*◌, ◌^◌, ◌⊎◌, ℕ, Bool, Option, Some, None, List, [], ◌∷◌, if◌then◌else◌, min}
 use Rattle.sip_machine.specs.declared.event.Action.{Action}
 use Rattle.sip_machine.specs.declared.event.Action.TheVariants.{Sent, Received, Failed, Mark}
 use Rattle.sip_machine.specs.declared.event.Kind.{Kind}
@@ -7,21 +7,15 @@ use Rattle.sip_machine.specs.declared.plain_client.PlainWaiting.{PlainWaiting}
 use Rattle.sip_machine.specs.declared.plain_client.PlainState.{PlainState}
 use Rattle.sip_machine.specs.declared.plain_client.PlainState.TheVariants as code
 use Rattle.sip_machine.specs.Times.{Times, last_moment}
-use Rattle.sip_machine.specs.Limits.{open_at, close_at, window_at, IsWithin}
+use Rattle.sip_machine.specs.Limits.{close_at, window_at, IsWithin}
 use Rattle.sip_machine.specs.Texts.{Texts, text_of}
 use Rattle.sip_machine.specs.Heard.{Heard}
+use Rattle.sip_machine.specs.Retransmits.{Retransmits}
+use Rattle.sip_machine.specs.Waiting.{Waiting}
 use Rattle.sip_machine.specs.Message.{IsProvisional, IsFinal}
-use Rattle.sip_machine.specs.Rules.{Rules}
+use Rattle.sip_machine.specs.Rules.{Rules, OrStays}
 
 -- The non-INVITE client transaction, RFC 3261 section 17.1.2 and its figure 6.
-
--- a request that waits for its final response: when it was first sent, when timer E was set, and for how long
-pub record Waiting : Type 0 where
-  pub reliable : Bool
-  pub request : List ℕ
-  pub start : ℕ
-  pub set : ℕ
-  pub interval : ℕ
 
 -- the phases of section 17.1.2.2, with the one before the request and the one after the end
 pub data PlainPhase : Type 0 where
@@ -39,18 +33,14 @@ timer_f p = 64 * p.t1
 abbrev pub timer_k : Times → Bool → ℕ
 timer_k p reliable = if reliable then 0 else p.t4
 
--- e is the request again, byte for byte, as timer E fires, which it does over an unreliable transport alone
-pub record Repeats (p : Times) (w : Waiting) (e : Heard) : Type 0 where
-  pub same : e.text ≡ w.request
-  pub unreliable : w.reliable ≡ false
-  pub fires : open_at p w.set w.interval ≤ e.moment
-
 -- the rows of a sent request: timer E starts at T1, doubles up to T2 in trying, and is T2 in proceeding
 abbrev pub Sends : Times → PlainPhase → Heard → PlainPhase → Type 0
 Sends p Idle e y =
     y ≡ Trying (record { reliable = e.reliable; request = e.text; start = e.moment; set = e.moment; interval = p.t1 })
-Sends p (Trying w) e y = Repeats p w e × (y ≡ Trying (record w { set = e.moment; interval = min (2 * w.interval) p.t2 }))
-Sends p (Proceeding w) e y = Repeats p w e × (y ≡ Proceeding (record w { set = e.moment; interval = p.t2 }))
+Sends p (Trying w) e y =
+    Retransmits p w.reliable w.request w.set w.interval e × (y ≡ Trying (record w { set = e.moment; interval = min (2 * w.interval) p.t2 }))
+Sends p (Proceeding w) e y =
+    Retransmits p w.reliable w.request w.set w.interval e × (y ≡ Proceeding (record w { set = e.moment; interval = p.t2 }))
 Sends p (Completed reliable set) e y = ⊥
 Sends p Ended e y = ⊥
 
@@ -70,8 +60,7 @@ Steps p x Sent (Response code) e y = ⊥
 Steps p x Failed (Request method) e y = ((z : PlainPhase) × Sends p x e z) × (y ≡ Ended)
 Steps p x Failed (Response code) e y = ⊥
 Steps p x Received (Request method) e y = y ≡ x
-Steps p x Received (Response code) e y =
-    Hears x code e.moment y ⊎ (((z : PlainPhase) → Hears x code e.moment z → ⊥) × (y ≡ x))
+Steps p x Received (Response code) e y = OrStays (Hears x code e.moment) x y
 Steps p x Mark kind e y = ⊥
 
 -- when a machine may end: timers F and K

@@ -34,7 +34,7 @@ pub enum PlainServerState {
     /// The final response was sent at the moment `set`, which starts timer J.
     Completed {
         reliable: bool,
-        response: u32,
+        final_message: u32,
         set: u64,
         owes: Outbox,
     },

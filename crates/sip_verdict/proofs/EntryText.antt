@@ -27,7 +27,7 @@ use Rattle.sip_verdict.specs.inner.Numbering.{Appends, IsTextOf}
 use Rattle.sip_verdict.proofs.Keys.{contains-among}
 use Rattle.sip_verdict.proofs.TablesPassing.{All-place, zip-place, keys_are}
 use Rattle.sip_verdict.proofs.TablesTouching.{keys_exact}
-use Rattle.sip_verdict.proofs.MethodLemmas.{keys_ascii}
+use Rattle.sip_key.proofs.MethodLemmas.{keys_ascii}
 use Rattle.sip_verdict.proofs.ListingLemmas.{TellsBook, told_set, standing_lines}
 
 -- The keys of an entry have methods that are ASCII.

@@ -10,7 +10,6 @@ pub mod LegalMessages
 pub mod LegalRuns
 pub mod ListingLemmas
 pub mod MessageUnique
-pub mod MethodLemmas
 pub mod NumberingLemmas
 pub mod ObservingLemmas
 pub mod OneMachine

@@ -7,8 +7,7 @@ use Rattle.sip_machine.specs.declared.invite_client.InviteClientState.TheVariant
 use Rattle.sip_machine.specs.Times.{Times}
 use Rattle.sip_machine.specs.Limits.{close_at}
 use Rattle.sip_machine.specs.NumberedEvent.{NumberedEvent}
-use Rattle.sip_machine.specs.Message.{IsProvisional}
-use Rattle.sip_machine.specs.InviteClient.{IsSuccess, IsRefusal}
+use Rattle.sip_machine.specs.Message.{IsProvisional, IsSuccess, IsUnsuccessful}
 use Rattle.sip_machine.specs.inner.Outbox.{counts_at}
 
 -- the state of the code at t, without what may be sent and has expired
@@ -28,5 +27,5 @@ unacked_at p e = record { message = e.number; deadline = close_at p e.moment 0; 
 abbrev pub IsOfClass : ℕ → Class → Type 0
 IsOfClass status class.Provisional = IsProvisional status
 IsOfClass status class.Success = IsSuccess status
-IsOfClass status class.Refusal = IsRefusal status
-IsOfClass status class.Other = ¬ (IsProvisional status) × ¬ (IsSuccess status) × ¬ (IsRefusal status)
+IsOfClass status class.Unsuccessful = IsUnsuccessful status
+IsOfClass status class.Other = ¬ (IsProvisional status) × ¬ (IsSuccess status) × ¬ (IsUnsuccessful status)

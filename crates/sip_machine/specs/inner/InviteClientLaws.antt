@@ -1,4 +1,4 @@
-use Rattle.std.specs.Prelude.{◌≡◌, ◌≤◌, ◌⊎◌, ◌*◌, ◌++◌, ℕ, Bool, true, false, Option, None, Some, List, [], ◌∷◌, All, Contains, nat_eq, if◌then◌else◌}
+use Rattle.std.specs.Prelude.{◌≡◌, ◌≤◌, ◌*◌, ◌++◌, ℕ, Bool, true, false, Option, None, Some, List, [], ◌∷◌, All, Contains, nat_eq, if◌then◌else◌}
 use Rattle.std.specs.Option.{option_eq}
 use Rattle.std.specs.Cmp.Lexicographic.{pointwise}
 use Rattle.std.proofs.Common.{refl, sym, ◌∙◌, ap, ap₂, subst, inl, inr, arith}
@@ -21,11 +21,12 @@ use Rattle.sip_machine.specs.Times.{Times}
 use Rattle.sip_machine.specs.Limits.{close_at, IsWithin}
 use Rattle.sip_machine.specs.Texts.{Texts, IsBook, Keeps, text_of}
 use Rattle.sip_machine.specs.Heard.{Heard}
-use Rattle.sip_machine.specs.Rules.{IsLawful, Knows, OrStays}
-use Rattle.sip_machine.specs.Debts.{Owed, must_owe, unexpired, earliest, unless_owed, must_deadlines}
+use Rattle.sip_machine.specs.Rules.{IsLawful, Knows}
+use Rattle.sip_machine.specs.Debts.{Owed, must_owe, unexpired, earliest}
 use Rattle.sip_machine.specs.Owes.{owes_seen, owes_names}
 use Rattle.sip_machine.specs.inner.OwesLaws.{owes_exact, owes_apart, owes_seen_by_names, must_deadlines-seen, is_some-deadlines, AreDue, AreDue-unexpired, AreDue-must, AreDue-paid, IsWithin-owed}
-use Rattle.sip_machine.specs.InviteClient.{Waiting, InviteClientPhase, Idle, Calling, Proceeding, Accepted, Completed, Ended, SendsInvite, SendsAck, Cancels, Receives, Sends, FailsAck, Fails, Steps, owed_by, with_owes, timers, timer_b, timer_m, timer_a_closes, timer_d_closes, completed_window, invite_client_until, invite_client_window, invite_client_rules, waiting_seen, invite_client_seen, invite_client_names}
+use Rattle.sip_machine.specs.Waiting.{Waiting}
+use Rattle.sip_machine.specs.InviteClient.{InviteClientPhase, Idle, Calling, Proceeding, Accepted, Completed, Ended, SendsInvite, SendsAck, Cancels, Receives, Sends, FailsAck, Fails, Steps, owed_by, with_owes, timers, timer_b, timer_m, timer_a_closes, timer_d_closes, invite_client_until, invite_client_window, invite_client_rules, waiting_seen, invite_client_seen, invite_client_names}
 
 -- waiting INVITEs with the same data are the same one
 waiting_same : (v w : InviteWaiting) → v.reliable ≡ w.reliable → v.request ≡ w.request → v.start ≡ w.start →
@@ -298,13 +299,13 @@ receives_fresh p (Calling w) code e y lasts h =
       | inl provisional ↦ rw provisional.1 (none_running e.moment, none_due e.moment)
       | inr final ↦ elim final [
         | inl success ↦ rw success.1 (accepted_lasts p e.moment)
-        | inr refusal ↦ rw refusal.1 (completed_lasts p w.reliable w.request e.moment e.text)
+        | inr unsuccessful ↦ rw unsuccessful.1 (completed_lasts p w.reliable w.request e.moment e.text)
       ]
     ]
 receives_fresh p (Proceeding reliable request cancel) code e y lasts h =
     elim h [
       | inl success ↦ rw success.1 (accepted_lasts p e.moment)
-      | inr refusal ↦ rw refusal.1 (completed_lasts p reliable request e.moment e.text)
+      | inr unsuccessful ↦ rw unsuccessful.1 (completed_lasts p reliable request e.moment e.text)
     ]
 receives_fresh p (Accepted set) code e y lasts h = absurd h
 receives_fresh p (Completed reliable request set owes) code e y lasts h =

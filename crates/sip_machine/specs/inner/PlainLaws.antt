@@ -16,7 +16,8 @@ use Rattle.sip_machine.specs.Limits.{close_at, IsWithin}
 use Rattle.sip_machine.specs.Texts.{Texts, IsBook, Keeps, text_of}
 use Rattle.sip_machine.specs.Heard.{Heard}
 use Rattle.sip_machine.specs.Rules.{IsLawful, Knows}
-use Rattle.sip_machine.specs.PlainClient.{Waiting, PlainPhase, Idle, Trying, Proceeding, Completed, Ended, Sends, Hears, Steps, timer_f, waiting_until, plain_until, plain_window, plain_rules, waiting_seen, plain_seen, plain_names}
+use Rattle.sip_machine.specs.Waiting.{Waiting}
+use Rattle.sip_machine.specs.PlainClient.{PlainPhase, Idle, Trying, Proceeding, Completed, Ended, Sends, Hears, Steps, timer_f, waiting_until, plain_until, plain_window, plain_rules, waiting_seen, plain_seen, plain_names}
 
 -- waiting requests with the same data are the same one
 waiting_same : (v w : PlainWaiting) → v.reliable ≡ w.reliable → v.request ≡ w.request → v.start ≡ w.start →

@@ -9,7 +9,7 @@ pub(crate) enum Class {
     /// 2xx.
     Success,
     /// 3xx to 6xx.
-    Refusal,
+    Unsuccessful,
     /// The code of no response.
     Other,
 }
@@ -26,7 +26,7 @@ impl Class {
         } else if code < 300 {
             Class::Success
         } else if code < 700 {
-            Class::Refusal
+            Class::Unsuccessful
         } else {
             Class::Other
         }

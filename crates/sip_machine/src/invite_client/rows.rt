@@ -2,12 +2,13 @@
 ghost use Rattle.std.specs.Prelude.{◌≡◌, ◌≤◌, ◌<◌, ◌^◌, ◌↔◌, ◌∷◌, [], IfOk, IsTrue};
 ghost use Rattle.sip_machine.specs.declared.invite_client.InviteClientState.TheVariants.{Completed};
 ghost use Rattle.sip_machine.specs.Times.{last_moment};
-ghost use Rattle.sip_machine.specs.Texts.{Texts, Keeps};
+ghost use Rattle.sip_machine.specs.Texts.{Texts, Keeps, text_of};
 ghost use Rattle.sip_machine.specs.Heard.{FitsBook, heard};
+ghost use Rattle.sip_machine.specs.Retransmits.{Retransmits};
 ghost use Rattle.sip_machine.specs.Rules.{Knows, OrStays};
 ghost use Rattle.sip_machine.specs.inner.Single.{IsTheOne, AnswersOne};
 ghost use Rattle.sip_machine.specs.inner.InviteClientAt.{state_at, unacked_at};
-ghost use Rattle.sip_machine.specs.InviteClient.{Repeats, SendsInvite, SendsAck, Cancels, Receives, Sends, FailsAck, Fails, Steps, InviteClientTake, waiting_seen, invite_client_seen, invite_client_names, WaitingInRange, InviteClientInRange};
+ghost use Rattle.sip_machine.specs.InviteClient.{SendsInvite, SendsAck, Cancels, Receives, Sends, FailsAck, Fails, Steps, InviteClientTake, invite_client_seen, invite_client_names, WaitingInRange, InviteClientInRange};
 
 use crate::book::Book;
 use crate::event::{Action, Event, Kind, Method};
@@ -188,7 +189,8 @@ fn repeats(params: &Params, book: &Book, waiting: &InviteWaiting, event: &Event)
     requires known { Keeps book.now waiting.now.request }
     requires in_range { WaitingInRange waiting.now }
     ensures { IsTrue result ↔
-        Repeats params.now (waiting_seen book.now waiting.now) (heard book.now event.now) }
+        Retransmits params.now waiting.now.reliable (text_of book.now waiting.now.request) waiting.now.set waiting.now.interval
+        (heard book.now event.now) }
 {
     book.known();
     event.number() == waiting.request
@@ -304,7 +306,13 @@ fn receives(
             Class::Success => Ok(InviteClientState::Accepted {
                 set: event.moment(),
             }),
-            Class::Refusal => completed(alloc, params, waiting.reliable, waiting.request, event),
+            Class::Unsuccessful => completed(
+                alloc,
+                params,
+                waiting.reliable,
+                waiting.request,
+                event,
+            ),
             Class::Other => Ok(InviteClientState::Calling(waiting)),
         },
         InviteClientState::Proceeding {
@@ -315,7 +323,7 @@ fn receives(
             Class::Success => Ok(InviteClientState::Accepted {
                 set: event.moment(),
             }),
-            Class::Refusal => completed(alloc, params, reliable, request, event),
+            Class::Unsuccessful => completed(alloc, params, reliable, request, event),
             Class::Provisional | Class::Other => Ok(InviteClientState::Proceeding {
                 reliable,
                 request,
@@ -328,7 +336,7 @@ fn receives(
             set,
             mut owes,
         } => {
-            if let Class::Refusal = Class::of(code) {
+            if let Class::Unsuccessful = Class::of(code) {
                 owes.push(unacked(params, event))?;
             }
             Ok(InviteClientState::Completed {

@@ -3,9 +3,10 @@ ghost use Rattle.std.specs.Prelude.{◌≤◌, ◌<◌, ◌^◌, ◌↔◌, IfOk
 ghost use Rattle.sip_machine.specs.Times.{last_moment};
 ghost use Rattle.sip_machine.specs.Texts.{Keeps, text_of};
 ghost use Rattle.sip_machine.specs.Heard.{FitsBook, heard};
+ghost use Rattle.sip_machine.specs.Retransmits.{Retransmits};
 ghost use Rattle.sip_machine.specs.Rules.{Knows};
 ghost use Rattle.sip_machine.specs.inner.Single.{AnswersOne};
-ghost use Rattle.sip_machine.specs.InviteServer.{Retransmits, Sends, Repays, invite_server_seen, invite_server_names, InviteServerInRange};
+ghost use Rattle.sip_machine.specs.InviteServer.{Sends, Repays, invite_server_seen, invite_server_names, InviteServerInRange};
 
 use crate::book::Book;
 use crate::event::{Event, is_provisional, is_success, is_unsuccessful};

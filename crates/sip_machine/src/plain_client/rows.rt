@@ -1,11 +1,12 @@
 //! The rows of the non-INVITE client: which state a message leads to.
 ghost use Rattle.std.specs.Prelude.{◌≡◌, ◌≤◌, ◌↔◌, IsTrue};
 ghost use Rattle.sip_machine.specs.Times.{last_moment};
-ghost use Rattle.sip_machine.specs.Texts.{Texts, Keeps};
+ghost use Rattle.sip_machine.specs.Texts.{Texts, Keeps, text_of};
 ghost use Rattle.sip_machine.specs.Heard.{FitsBook, heard};
+ghost use Rattle.sip_machine.specs.Retransmits.{Retransmits};
 ghost use Rattle.sip_machine.specs.Rules.{Knows};
 ghost use Rattle.sip_machine.specs.inner.Single.{AnswersOne};
-ghost use Rattle.sip_machine.specs.PlainClient.{Repeats, Sends, Hears, Steps, PlainTake, waiting_seen, plain_seen, plain_names, WaitingInRange, PlainInRange};
+ghost use Rattle.sip_machine.specs.PlainClient.{Sends, Hears, Steps, PlainTake, plain_seen, plain_names, WaitingInRange, PlainInRange};
 
 use crate::book::Book;
 use crate::event::{Action, Event, Kind};
@@ -95,7 +96,8 @@ fn repeats(params: &Params, book: &Book, waiting: &PlainWaiting, event: &Event) 
     requires known { Keeps book.now waiting.now.request }
     requires in_range { WaitingInRange waiting.now }
     ensures { IsTrue result ↔
-        Repeats params.now (waiting_seen book.now waiting.now) (heard book.now event.now) }
+        Retransmits params.now waiting.now.reliable (text_of book.now waiting.now.request) waiting.now.set waiting.now.interval
+        (heard book.now event.now) }
 {
     book.known();
     event.number() == waiting.request

@@ -63,12 +63,12 @@ fn at(state: &PlainServerState, moment: u64) -> Result<PlainServerState, AllocEr
         }),
         PlainServerState::Completed {
             reliable,
-            response,
+            final_message,
             set,
             owes,
         } => Ok(PlainServerState::Completed {
             reliable: *reliable,
-            response: *response,
+            final_message: *final_message,
             set: *set,
             owes: owes.unexpired(moment)?,
         }),
@@ -139,18 +139,18 @@ fn receives(
         }
         PlainServerState::Completed {
             reliable,
-            response,
+            final_message,
             set,
             mut owes,
         } => {
             owes.push(Debt {
-                message: response,
+                message: final_message,
                 deadline,
                 must: true,
             })?;
             Ok(PlainServerState::Completed {
                 reliable,
-                response,
+                final_message,
                 set,
                 owes,
             })
@@ -207,7 +207,7 @@ fn sends(
             } else if is_final(code) {
                 Ok(Some(PlainServerState::Completed {
                     reliable: *reliable,
-                    response: event.number(),
+                    final_message: event.number(),
                     set: event.moment(),
                     owes: Outbox::new(alloc),
                 }))
@@ -225,7 +225,7 @@ fn sends(
             } else if is_final(code) {
                 Ok(Some(PlainServerState::Completed {
                     reliable: *reliable,
-                    response: event.number(),
+                    final_message: event.number(),
                     set: event.moment(),
                     owes: owes.softened()?,
                 }))
@@ -264,14 +264,14 @@ fn repays(book: &Book, state: PlainServerState, event: &Event) -> Option<PlainSe
         }
         PlainServerState::Completed {
             reliable,
-            response,
+            final_message,
             set,
             mut owes,
         } => {
             if owes.pay(event.number(), event.moment()) {
                 Some(PlainServerState::Completed {
                     reliable,
-                    response,
+                    final_message,
                     set,
                     owes,
                 })

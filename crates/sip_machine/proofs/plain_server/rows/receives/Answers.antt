@@ -30,4 +30,4 @@ returns-in_ok-push-in-Completed c =
     let deadline : c.deadline-deadline.result ≡ close_at p e.moment 0 = c.deadline-deadline.ensures.value ∙ ap (λ t. close_at p t 0) c.moment.ensures in
     let small : close_at p e.moment 0 < 2 ^ 50 = rw deadline at c.deadline-deadline.ensures.small in
     rw (s.is, c.in_ok-push-in-Completed.ensures.ok, deadline)
-    (Receives-completed p texts s.reliable s.response s.set s.owes e (rw s.is at c.requires.known) (rw s.is at c.requires.in_range) small)
+    (Receives-completed p texts s.reliable s.final_message s.set s.owes e (rw s.is at c.requires.known) (rw s.is at c.requires.in_range) small)

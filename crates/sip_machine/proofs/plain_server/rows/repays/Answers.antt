@@ -25,7 +25,7 @@ pub returns-then-pay-2 : goal.returns-then-pay-2
 returns-then-pay-2 c =
     let texts = c.args.book.now in
     let s = c.in-Completed in
-    rw s.is (Repays-completed texts s.reliable s.response s.set c.args.event.now.number s.owes c.pay-in-Completed.new.self (heard texts c.args.event.now) c.known.ensures refl
+    rw s.is (Repays-completed texts s.reliable s.final_message s.set c.args.event.now.number s.owes c.pay-in-Completed.new.self (heard texts c.args.event.now) c.known.ensures refl
     c.requires.fits.keeps (rw s.is at c.requires.known) (rw s.is at c.requires.in_range)
     (rw (c.number-in-Completed.ensures, c.moment-in-Completed.ensures) at c.if-pay-2.ensures.paid))
 
@@ -34,5 +34,5 @@ returns-else-pay-2 c =
     let texts = c.args.book.now in
     let s = c.in-Completed in
     Repays-none texts (plain_server_seen texts c.args.state) c.args.event.now.number s.owes (heard texts c.args.event.now) c.known.ensures refl c.requires.fits.keeps
-    (rw s.is refl) (All-tail (Keeps texts) s.response (owes_names s.owes) (rw s.is at c.requires.known))
+    (rw s.is refl) (All-tail (Keeps texts) s.final_message (owes_names s.owes) (rw s.is at c.requires.known))
     (rw (c.number-in-Completed.ensures, c.moment-in-Completed.ensures) at c.if-pay-2.ensures.unpaid.1)

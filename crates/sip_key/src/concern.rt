@@ -9,7 +9,7 @@ ghost use Rattle.sip_message.specs.ViaParts.{element};
 ghost use Rattle.sip_key.specs.Concerns.{cancelled_key, method_of, own_key, role_of, sent_by_of};
 ghost use Rattle.sip_key.specs.OwnKey.{IsOwnKey};
 
-use crate::branch::{folded, has_cookie};
+use crate::branch::has_cookie;
 use crate::key::Key;
 use crate::role::{Direction, Role};
 use crate::sent_by::sent_by;
@@ -57,7 +57,7 @@ pub fn key_of(
         };
     };
     let role = role_of(start, direction);
-    let branch = folded(alloc, branch)?;
+    let branch = branch.to_ascii_lowercase(alloc)?;
     let sent_by = sent_by_of(alloc, role, via)?;
     let method = Vec::from_slice(alloc, method_of(message))?;
     Ok(Some(Key::new(role, branch, sent_by, method)))
@@ -80,9 +80,9 @@ pub fn cancelled_key(
     let Some(branch) = cookie_branch(message.top_via()) else {
         return Ok(None);
     };
-    let branch = folded(alloc, branch)?;
+    let same_branch = branch.to_ascii_lowercase(alloc)?;
     let method = Vec::from_slice(alloc, b"INVITE")?;
-    Ok(Some(Key::new(Role::Client, branch, Vec::new(alloc), method)))
+    Ok(Some(Key::new(Role::Client, same_branch, Vec::new(alloc), method)))
 }
 
 // The branch, if it has the cookie.

@@ -1,5 +1,5 @@
 //! The keys of transactions.
-ghost use Rattle.std.specs.Prelude.{◌≡◌, ◌++◌};
+ghost use Rattle.std.specs.Prelude.{◌≡◌, ◌++◌, ◌∷◌, [], length};
 ghost use Rattle.std.specs.Cmp.{decided, partial_equiv_from_equiv};
 ghost use Rattle.std.specs.Hash as fed;
 ghost use Rattle.sip_key.specs.Key.{same_key};
@@ -88,14 +88,17 @@ impl Eq for Key {
 }
 
 impl Hash for Key {
-    ghost hash_input = { λ k. ⟦<Role as Hash>⟧.hash_input k.role ++ (fed.slice fed.u8 k.branch ++ (fed.slice fed.u8 k.sent_by ++ fed.slice fed.u8 k.method)) };
+    ghost hash_input = { λ k. ⟦<Role as Hash>⟧.hash_input k.role
+        ++ (fed.usize (length k.branch) ++ (fed.usize (length k.sent_by) ++ (k.branch ∷ k.sent_by ∷ k.method ∷ []))) };
 
     ghost respects_eq = { (fed.same_Alike _ same_key-decides).fed };
 
     fn hash<H: Hasher>(&self, state: &mut H) {
         self.role.hash(state);
-        self.branch.hash(state);
-        self.sent_by.hash(state);
-        self.method.hash(state);
+        state.write_usize(self.branch.len());
+        state.write_usize(self.sent_by.len());
+        state.write(&self.branch);
+        state.write(&self.sent_by);
+        state.write(&self.method);
     }
 }

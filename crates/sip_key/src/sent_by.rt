@@ -4,7 +4,6 @@ ghost use Rattle.std.specs.Str.Parse.{digits_value};
 ghost use Rattle.sip_text.specs.Uri.{Port};
 ghost use Rattle.sip_key.specs.SentBy.{port_number, sent_by};
 
-use crate::branch::append_folded;
 use itoa::Buffer;
 use std::alloc::{AllocError, Global};
 
@@ -24,7 +23,8 @@ pub(crate) fn sent_by(
     ensures { IfOk result (λ v. v.items ≡ sent_by host.now (option_copied port.entry)) }
 {
     let mut text = Vec::with_capacity(alloc, host.len() + PORT_LEN)?;
-    append_folded(host, &mut text)?;
+    text.extend_from_slice(host)?;
+    text.make_ascii_lowercase();
     text.push(b':')?;
     text.extend_from_slice(Buffer::new().format(port_number(port)).as_bytes())?;
     Ok(text)

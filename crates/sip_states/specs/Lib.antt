@@ -4,5 +4,6 @@ pub mod inner
 pub mod KeyMachine
 pub mod Meaning
 pub mod AnySet
+pub mod Agenda
 pub mod Tables
 pub mod TablesLends

@@ -1,3 +1,4 @@
+pub mod Lines
 pub mod Toy
 pub mod ToyLaws
 pub mod Ways

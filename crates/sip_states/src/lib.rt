@@ -1,6 +1,7 @@
 //! Sets of states: where the runs of a machine of a transaction can stand, and one set for each key.
 #![tactic(auto)]
 
+mod agenda;
 mod any_set;
 mod each_once;
 mod ends;

@@ -1,8 +1,9 @@
 //! The states of every transaction, by key.
-ghost use Rattle.std.specs.Prelude.{◌≡◌, ◌≢◌, ◌<◌, ◌-◌, [], AllPairs, length, slice_get, IfOk, OnErr, Some};
+ghost use Rattle.std.specs.Prelude.{◌≡◌, ◌≢◌, ◌<◌, ◌-◌, [], AllPairs, length, slice_get, IfOk, OnErr, OnOk, Some};
 ghost use Rattle.std.specs.Borrow.{sem};
-ghost use Rattle.sip_states.specs.Tables.{IsGiven, Touches, most_keys};
+ghost use Rattle.sip_states.specs.Tables.{IsGiven, HasState, Settles, Touches, due_of, most_keys};
 
+use crate::agenda::Agenda;
 use crate::any_set::AnySet;
 use indexmap::IndexMap;
 use sip_key::Key;
@@ -16,18 +17,19 @@ use std::marker::Model;
 pub struct Tables<H: BuildHasher> {
     params: Params,
     sets: IndexMap<Key, AnySet, H>,
+    agenda: Agenda,
 }
 
 impl<H: BuildHasher> Model for Tables<H> {
-    ghost use Rattle.std.specs.Prelude.{◌≤◌};
+    ghost use Rattle.std.specs.Prelude.{◌≡◌, ◌≤◌, length};
     ghost use Rattle.indexmap.specs.IndexMap.{keys, values, index_map_len};
     ghost use Rattle.sip_states.specs.Tables.{Tabled, most_keys};
 
     ghost Value = { Tabled };
 
-    ghost view = { λ t. record { times = t.params; keys = keys t.sets; sets = values t.sets } };
+    ghost view = { λ t. record { times = t.params; keys = keys t.sets; sets = values t.sets; records = t.agenda } };
 
-    ghost invariant = { λ t. index_map_len t.sets ≤ most_keys };
+    ghost invariant = { λ t. (index_map_len t.sets ≤ most_keys) × (length t.agenda ≡ index_map_len t.sets) };
 }
 
 impl<H: BuildHasher> Tables<H> {
@@ -35,11 +37,12 @@ impl<H: BuildHasher> Tables<H> {
 
     /// Tables without keys, which take no memory.
     pub fn new(alloc: Global, params: Params, hasher: H) -> Self
-        ensures { result ≡ record { times = params; keys = []; sets = [] } }
+        ensures { result ≡ record { times = params; keys = []; sets = []; records = [] } }
     {
         Tables {
             params,
             sets: IndexMap::with_hasher(alloc, hasher),
+            agenda: Agenda::new(alloc),
         }
     }
 
@@ -56,7 +59,11 @@ impl<H: BuildHasher> Tables<H> {
         }
         let alloc = *self.sets.allocator();
         let set = AnySet::start(alloc, self.params, &key)?;
-        self.sets.insert(key, set)?;
+        self.agenda.push()?;
+        if let Err(refused) = self.sets.insert(key, set) {
+            self.agenda.pop();
+            return Err(refused.into());
+        }
         Ok(self.sets.len() as u32)
     }
 
@@ -77,6 +84,27 @@ impl<H: BuildHasher> Tables<H> {
         &mut self.sets[number as usize - 1]
     }
 
+    /// Puts the last moment of the set of this number on record, in place of an older one. On an error
+    /// nothing changes.
+    pub fn settle(&mut self, number: u32) -> Result<(), AllocError>
+        requires given { IsGiven self.old number }
+        requires state { HasState self.old number }
+        ensures ok { OnOk result (Settles number self.old self.new) }
+        ensures err { OnErr result (self.new ≡ self.old) }
+    {
+        let index = number as usize - 1;
+        let limit = self.sets[index].last_moment();
+        self.agenda.set(index, limit)
+    }
+
+    /// The least number whose last moment on record is below the moment, in milliseconds. It looks no
+    /// further than the earliest last moment, unless that one is below.
+    pub fn due(&self, moment: u64) -> Option<u32>
+        ensures { result ≡ due_of self.now moment }
+    {
+        self.agenda.due(moment).map(|index| index as u32 + 1)
+    }
+
     /// The key with this number.
     pub fn key(&self, number: u32) -> &Key
         requires { IsGiven self.now number }
@@ -93,9 +121,11 @@ impl<H: BuildHasher> Tables<H> {
         self.sets.len() as u32
     }
 
-    /// No key is there twice.
+    /// No key is there twice, and each has a set and a place for its last moment.
     pub fn known(&self)
-        ensures { AllPairs (λ a b. a ≢ b) self.now.keys }
+        ensures unique { AllPairs (λ a b. a ≢ b) self.now.keys }
+        ensures sets { length self.now.sets ≡ length self.now.keys }
+        ensures records { length self.now.records ≡ length self.now.keys }
     {
         let _ = self.sets.len();
     }

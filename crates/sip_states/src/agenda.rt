@@ -1,0 +1,119 @@
+//! The last moments on record, by index.
+ghost use Rattle.std.specs.Prelude.{◌≡◌, ◌<◌, ◌++◌, ◌∷◌, [], None, IfSome, OnErr, OnOk, Some, length, position, slice_set};
+ghost use Rattle.std.specs.BTreeSet.{IsUnchanged};
+ghost use Rattle.sip_states.specs.Agenda.{Records, is_overdue};
+ghost use Rattle.sip_states.specs.inner.Lines.{Enters, Leaves};
+
+use std::alloc::{AllocError, Global};
+use std::collections::BTreeSet;
+use std::marker::Model;
+
+/// The last moment on record of each index, if it was settled, and these moments in their order.
+#[derive(Drop)]
+pub(crate) struct Agenda {
+    records: Vec<Option<Option<u64>>>,
+    order: BTreeSet<(u64, usize)>,
+}
+
+impl Model for Agenda {
+    ghost use Rattle.sip_states.specs.Agenda.{Records};
+    ghost use Rattle.sip_states.specs.inner.Lines.{IsInOrder};
+
+    ghost Value = { Records };
+
+    ghost view = { λ a. a.records.items };
+
+    ghost invariant = { λ a. IsInOrder a.records.items a.order };
+}
+
+/// Whether a last moment is on record that is below the moment.
+fn is_overdue(kept: Option<Option<u64>>, moment: u64) -> bool
+    ensures { result ≡ is_overdue moment kept }
+{
+    match kept {
+        Some(Some(last)) => last < moment,
+        _ => false,
+    }
+}
+
+/// Puts the last moment of the index into the order.
+fn enter(
+    order: &mut BTreeSet<(u64, usize)>,
+    index: usize,
+    limit: Option<u64>,
+) -> Result<(), AllocError>
+    ensures ok { OnOk result (Enters index limit order.old order.new) }
+    ensures err { OnErr result (IsUnchanged order.old order.new) }
+{
+    if let Some(last) = limit {
+        order.insert((last, index))?;
+    }
+    Ok(())
+}
+
+/// Takes the last moment of the index out of the order.
+fn leave(order: &mut BTreeSet<(u64, usize)>, index: usize, limit: Option<u64>)
+    ensures { Leaves index limit order.old order.new }
+{
+    if let Some(last) = limit {
+        order.remove(&(last, index));
+    }
+}
+
+impl Agenda {
+    pub(crate) fn new(alloc: Global) -> Self
+        ensures { result ≡ [] }
+    {
+        Agenda {
+            records: Vec::new(alloc),
+            order: BTreeSet::new(alloc),
+        }
+    }
+
+    /// One more index, not settled yet.
+    pub(crate) fn push(&mut self) -> Result<(), AllocError>
+        ensures ok { OnOk result (self.new ≡ self.old ++ None ∷ []) }
+        ensures err { OnErr result (self.new ≡ self.old) }
+    {
+        self.records.push(None)?;
+        Ok(())
+    }
+
+    /// Takes the last index away, which was not settled.
+    pub(crate) fn pop(&mut self)
+        requires { (rest : Records) × (self.old ≡ rest ++ None ∷ []) }
+        ensures { self.old ≡ self.new ++ None ∷ [] }
+    {
+        self.records.pop();
+    }
+
+    /// Puts the last moment of the index on record, in place of an older one.
+    pub(crate) fn set(&mut self, index: usize, limit: Option<u64>) -> Result<(), AllocError>
+        requires { index < length self.old }
+        ensures ok { OnOk result (self.new ≡ slice_set self.old index (Some limit)) }
+        ensures err { OnErr result (self.new ≡ self.old) }
+    {
+        let older = self.records[index];
+        if older == Some(limit) {
+            return Ok(());
+        }
+        enter(&mut self.order, index, limit)?;
+        leave(&mut self.order, index, older.flatten());
+        self.records[index] = Some(limit);
+        Ok(())
+    }
+
+    /// The first index whose last moment on record is below the moment.
+    pub(crate) fn due(&self, moment: u64) -> Option<usize>
+        ensures value { result ≡ position (is_overdue moment) self.now }
+        ensures within { IfSome result (λ index. index < length self.now) }
+    {
+        let (last, _) = *self.order.first()?;
+        if last >= moment {
+            return None;
+        }
+        self.records
+            .iter()
+            .position(|kept| is_overdue(*kept, moment))
+    }
+}

@@ -73,7 +73,29 @@ def many_live_keys(entries):
         yield "R", number, request("OPTIONS", number)
 
 
-KINDS = [registrations, calls, marks, one_long_key, many_live_keys]
+def many_due_keys(entries):
+    """Requests of a client that all come in the first 400 ms, and are all due at their first repeat."""
+    for number in range(entries):
+        yield "S", 400 * number // entries, request("OPTIONS", number)
+
+
+def other_messages(entries):
+    """A call that rings, with another 180 every second."""
+    yield "R", 0, request("INVITE", 0, body=SDP)
+    for number in range(entries - 1):
+        yield "S", 1000 * number, message("SIP/2.0 180 Reply", "INVITE", 0, tag=f";tag={number}")
+
+
+def idle_keys(entries):
+    """Requests that a server never answers, up to a thousand of them, and then a mark every millisecond."""
+    keys = min(1000, entries // 10)
+    for number in range(keys):
+        yield "R", 0, request("OPTIONS", number)
+    for moment in range(entries - keys):
+        yield "M", moment, ""
+
+
+KINDS = [registrations, calls, marks, idle_keys, one_long_key, other_messages, many_live_keys, many_due_keys]
 
 
 def write_log(path, entries):

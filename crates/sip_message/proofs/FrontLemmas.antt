@@ -90,6 +90,12 @@ longest-behind text n longest =
     let behind : Behind text (drop n text) = (blanks.1, (front.0, front.1, blanks-units front.0 front.2, sym rest_is, front.3)) in
     (behind, (λ other is. same-behind text other (drop n text) is behind))
 
+-- where no blank run stands nothing is passed
+pub stops-behind : (text : List ℕ) → StopsBlank text → IsOnlyBehind text text
+stops-behind text stops =
+    let behind : Behind text text = (stops, ([], text, inl refl, refl, refl)) in
+    (behind, (λ other is. same-behind text other text is behind))
+
 -- behind a byte that is no blank stands no blank run
 pub stops-byte : (b : ℕ) (text : List ℕ) → is_blank b ≡ false → StopsBlank (b ∷ text)
 stops-byte b text solid = at (is_wsp b) (nat_eq b carriage_return) solid

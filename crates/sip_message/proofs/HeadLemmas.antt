@@ -1,5 +1,5 @@
 -- The head ends where the empty line is found, and its lines' ends are whole.
-use Rattle.std.proofs.Common.{◌≡◌, ℕ, zero, suc, ◌+◌, ◌<◌, ◌≤◌, ◌⊎◌, Bool, true, false, nat_lt, nat_eq, not, ◌||◌, ◌&&◌, List, [], ◌∷◌, ◌++◌, length, take, drop, get_or, refl, sym, ap, ap₂, ◌∙◌, subst, inl, inr, arith}
+use Rattle.std.proofs.Common.{◌≡◌, ℕ, zero, suc, ◌+◌, ◌-◌, ◌<◌, ◌≤◌, ◌⊎◌, Bool, true, false, nat_lt, nat_eq, not, ◌||◌, ◌&&◌, List, [], ◌∷◌, ◌++◌, length, take, drop, get_or, refl, sym, ap, ap₂, ◌∙◌, subst, inl, inr, arith}
 use Rattle.std.specs.List.{concat, flat_map}
 use Rattle.std.proofs.lemmas.Bool.{both_ways, and_parts, not-true, eqb-true, eq-eqb, ltb-true, ltb-false}
 use Rattle.std.proofs.lemmas.List.{length-append, length-drop, get_or-drop, get_or-append-add, get_or_append_left, take-append-drop, length-take-le}
@@ -42,6 +42,35 @@ cut-occurs t u v is = record {
   fits = omega (arith, ap length is, length-append u (crlf ++ (crlf ++ v)));
   reads = λ j below. ap (λ x. get_or x (length u + j) 0) is ∙ get_or-append-add u (crlf ++ (crlf ++ v)) j 0 ∙ get_or_append_left double_end v 0 j below;
 }
+
+-- the LF, CR and LF within
+abbrev pub inner_end : List ℕ
+inner_end = line_feed ∷ carriage_return ∷ line_feed ∷ []
+
+double-inner : (t : List ℕ) (k : ℕ) → OccursAt t double_end k → OccursAt t inner_end (k + 1)
+double-inner t k at = record {
+  fits = omega (arith, at.fits);
+  reads = λ j below. ap (λ i. get_or t i 0) (omega arith) ∙ at.reads (suc j) (omega (arith, below));
+}
+
+-- without these there is no such place
+pub nowhere-double : (t : List ℕ) → Nowhere (OccursAt t inner_end) 0 (length t + 1) → Nowhere (OccursAt t double_end) 0 (length t + 1)
+nowhere-double t none k low high at = none (k + 1) (omega arith) (omega (arith, at.fits)) (double-inner t k at)
+
+-- behind a CR the first of these is the first such place
+pub first-double : (t : List ℕ) (k : ℕ) → NoneBefore (OccursAt t inner_end) 0 (length t + 1) k → OccursAt t inner_end k → 0 < k → get_or t (k - 1) 0 ≡ carriage_return → NoneBefore (OccursAt t double_end) 0 (length t + 1) (k - 1) × OccursAt t double_end (k - 1)
+first-double t k first at some cr = (
+  record {
+    low = omega arith;
+    high = omega (arith, first.high);
+    before = λ j low high found. first.before (j + 1) (omega arith) (omega (arith, high, some)) (double-inner t j found);
+  },
+  record { fits = omega (arith, at.fits, some); reads = reads },
+)
+  where
+    reads : (j : ℕ) → j < 4 → get_or t (k - 1 + j) 0 ≡ get_or double_end j 0
+    reads zero below = ap (λ i. get_or t i 0) (omega arith) ∙ cr
+    reads (suc j) below = ap (λ i. get_or t i 0) (omega (arith, some)) ∙ at.reads j (omega (arith, below))
 
 -- without it there is no head
 pub no-head : (t : List ℕ) → Nowhere (OccursAt t double_end) 0 (length t + 1) → NotRead (IsCut t)

@@ -1,15 +1,17 @@
 -- The fields of a name, one after another.
-use Rattle.std.proofs.Common.{◌≡◌, ℕ, zero, suc, ◌+◌, ◌<◌, List, [], ◌∷◌, length, drop, map, cond, slice_index_or, add-one, true, false, refl, sym, ap, ◌∙◌, subst, arith}
-use Rattle.std.specs.Prelude.{Result, Ok, Err, IsErr, IsErrAnd}
+use Rattle.std.proofs.Common.{◌≡◌, ℕ, zero, suc, ◌+◌, ◌<◌, ◌≤◌, List, [], ◌∷◌, length, drop, map, cond, slice_index_or, add-one, true, false, refl, sym, ap, ◌∙◌, subst, arith}
+use Rattle.std.specs.Prelude.{Result, Ok, Err, IsErr, IsErrAnd, Some, None}
 use Rattle.std.proofs.lemmas.Bool.{both_ways}
 use Rattle.sip_message.specs.declared.name.Known.{Known}
 use Rattle.sip_message.specs.declared.field.Field.{Field as Code}
 use Rattle.sip_message.specs.declared.fault.Fault.{Fault}
 use Rattle.sip_message.specs.Name.{is_named}
 use Rattle.sip_message.specs.Field.{Field}
-use Rattle.sip_message.specs.Message.{found_from, IsFirst}
-use Rattle.sip_message.specs.Outcome.{Outcome, gives, stops}
-use Rattle.sip_message.specs.Faults.{Once}
+use Rattle.sip_message.specs.Message.{found, found_from, IsFirst}
+use Rattle.sip_message.specs.declared.fault.Reason.TheVariants as reason
+use Rattle.sip_message.specs.Outcome.{Outcome, gives, stops, passes, stopped}
+use Rattle.sip_message.specs.Faults.{Present, Once, at_line, second_line}
+use Rattle.sip_message.specs.inner.Finds.{IsFound}
 use Rattle.sip_message.specs.Views.{name_parts, field_parts}
 use Rattle.sip_message.specs.inner.Settles.{outcome_of}
 use Rattle.sip_message.proofs.OutcomeLemmas.{given-then}
@@ -52,3 +54,21 @@ once-first name fields one is = (given-then is).2
 pub stops-there : {A X : Type 0} (parts : A → X) (S : Outcome X → Type 0) (r : Result A Fault) (fault : Fault) → IsErr r → IsErrAnd r (λ e. e ≡ fault) → S (stops fault) → S (outcome_of parts r)
 stops-there parts S (Ok a) fault err same is = absurd (both_ways false refl err)
 stops-there parts S (Err e) fault err same is = subst (λ f. S (stops f)) (sym same) is
+
+-- no field of a name, two, and one
+pub once-absent : (name : Known) (fields : List Field) (fault : Fault) → Present name fields (stops fault) → Once name fields (stops fault)
+once-absent name fields fault none = passes tt (few (found name fields) none.0) none
+  where
+    few : (fs : List (ℕ × List ℕ)) → ((x : ℕ × List ℕ) → (more : List (ℕ × List ℕ)) × (fs ≡ x ∷ more) → ⊥) → length fs ≤ 1
+    few [] none_is = omega arith
+    few (f ∷ fs) none_is = absurd (none_is f (fs, refl))
+
+pub once-twice : (name : Known) (fields : List Field) (one two : ℕ × List ℕ) → IsFound name 0 fields (Some one) → IsFound name (one.0) fields (Some two) → Once name fields (stops (at_line (two.0) reason.Repeated))
+once-twice name fields one two first second =
+    let both = first ∙ ap (λ fs. one ∷ fs) second in
+    stopped (at_line (two.0) reason.Repeated) ((λ _ few. absurd (omega (arith, ap length both, few))), ap (λ fs. at_line (second_line fs) reason.Repeated) (sym both)) refl
+
+pub once-one : (name : Known) (fields : List Field) (one : ℕ × List ℕ) → IsFound name 0 fields (Some one) → IsFound name (one.0) fields None → Once name fields (gives one)
+once-one name fields one first none =
+    let both = first ∙ ap (λ fs. one ∷ fs) none in
+    passes tt (omega (arith, ap length both)) ([], both)

@@ -3,7 +3,7 @@ ghost use Rattle.std.specs.Prelude.{◌≡◌, false, option_copied};
 ghost use Rattle.sip_text.specs.Cut.{before, behind, past};
 ghost use Rattle.sip_message.specs.Unfold.{is_blank};
 ghost use Rattle.sip_text.specs.Text.{IsOnlyValue};
-ghost use Rattle.sip_message.specs.inner.Fronts.{IsOnlyBehind, LineFront, is_line, TokenFront, MarkFront, ProtocolFront, pair_parts, text_parts, protocol_parts};
+ghost use Rattle.sip_message.specs.inner.Fronts.{IsOnlyBehind, StopsBlank, LineFront, is_line, TokenFront, MarkFront, ProtocolFront, pair_parts, text_parts, protocol_parts};
 
 use memchr::memchr;
 use sip_text::{skip_lws, token_len};
@@ -42,8 +42,28 @@ pub fn read_protocol(text: &[u8]) -> Option<(&[u8], &[u8], &[u8], &[u8])>
     Some((protocol, version, transport, &rest[blanks..]))
 }
 
-/// What is behind the blanks at the front.
+/// What is behind the blanks at the front. Before most texts there is none.
+#[inline]
 pub(crate) fn skip_blanks(text: &[u8]) -> &[u8]
+    ensures { IsOnlyBehind text.now result.now }
+{
+    if may_begin_blank(text) {
+        past_blanks(text)
+    } else {
+        text
+    }
+}
+
+// Whether a blank run may stand at the front.
+#[inline]
+fn may_begin_blank(text: &[u8]) -> bool
+    ensures { result ≡ false → StopsBlank text.now }
+{
+    matches!(text, [b' ' | b'\t' | b'\r', ..])
+}
+
+// The same for any text.
+fn past_blanks(text: &[u8]) -> &[u8]
     ensures { IsOnlyBehind text.now result.now }
 {
     &text[skip_lws(text)..]

@@ -6,7 +6,7 @@ ghost use Rattle.sip_message.specs.inner.Lines.{ArePaired, BeginsWithFeed, IsPai
 use std::simd::prelude::*;
 
 // How many bytes are looked at at once.
-const BLOCK: usize = 16;
+const BLOCK: usize = 32;
 
 /// No CR without LF, and no LF without CR.
 pub(crate) fn is_clean(head: &[u8]) -> bool
@@ -20,8 +20,8 @@ pub(crate) fn is_clean(head: &[u8]) -> bool
     !begins_with_feed(head)
 }
 
-// The length of a front of whole blocks in which a LF stands behind each CR, and behind no other
-// byte.
+// The length of a front in which a LF stands behind each CR, and behind no other byte, looked at in
+// blocks. The last block may begin within the one before it.
 fn blocks_len(text: &[u8]) -> usize
     ensures paired { ArePaired text.now 0 result }
     ensures within { result ≤ length text.now }
@@ -29,6 +29,10 @@ fn blocks_len(text: &[u8]) -> usize
     let mut at = 0;
     while text.len() - at > BLOCK && is_paired_block(text, at) {
         at += BLOCK;
+    }
+    let len = text.len();
+    if len - at <= BLOCK && len > BLOCK && is_paired_block(text, len - BLOCK - 1) {
+        return len - 1;
     }
     at
 }
@@ -39,8 +43,8 @@ fn is_paired_block(text: &[u8], at: usize) -> bool
     requires { at + BLOCK < length text.now }
     ensures { IsTrue result → ArePaired text.now at (at + BLOCK) }
 {
-    let ends = u8x16::from_slice(&text[at..]).simd_eq(u8x16::splat(b'\r'));
-    let feeds = u8x16::from_slice(&text[at + 1..]).simd_eq(u8x16::splat(b'\n'));
+    let ends = u8x32::from_slice(&text[at..]).simd_eq(u8x32::splat(b'\r'));
+    let feeds = u8x32::from_slice(&text[at + 1..]).simd_eq(u8x32::splat(b'\n'));
     (ends ^ feeds).to_bitmask() == 0
 }
 

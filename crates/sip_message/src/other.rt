@@ -7,8 +7,10 @@ ghost use Rattle.sip_message.specs.inner.ValueFronts.{is_plain_byte, ArePlain};
 
 use std::simd::prelude::*;
 
-// How many bytes are looked at at once.
+// How many bytes are looked at at once, and how many of a short text.
 const BLOCK: usize = 16;
+
+const HALF: usize = 8;
 
 /// Whether the text is a value that the reader doesn't look into.
 pub(crate) fn is_other(text: &[u8]) -> bool
@@ -50,7 +52,34 @@ fn blocks_len(text: &[u8]) -> usize
     if len - at < BLOCK && len >= BLOCK && is_plain_block(text, len - BLOCK) {
         return len;
     }
-    at
+    if at == 0 { halves_len(text) } else { at }
+}
+
+// The same of a short text: its first half and its last one.
+#[inline]
+fn halves_len(text: &[u8]) -> usize
+    ensures plain { ArePlain text.now 0 result }
+    ensures within { result ≤ length text.now }
+{
+    let len = text.len();
+    if len < HALF || !is_plain_half(text, 0) {
+        return 0;
+    }
+    if len <= BLOCK && is_plain_half(text, len - HALF) {
+        return len;
+    }
+    HALF
+}
+
+// Whether the bytes of the half block at this place are such bytes.
+#[inline]
+fn is_plain_half(text: &[u8], at: usize) -> bool
+    requires { at + HALF ≤ length text.now }
+    ensures { IsTrue result → ArePlain text.now at (at + HALF) }
+{
+    let half = u8x8::from_slice(&text[at..]);
+    let is_control = half.simd_lt(u8x8::splat(b' ')) & half.simd_ne(u8x8::splat(b'\t'));
+    (is_control | half.simd_eq(u8x8::splat(0x7f))).to_bitmask() == 0
 }
 
 // Whether the bytes of the block at this place are such bytes.

@@ -1,5 +1,7 @@
 //! The stages of reading.
-ghost use Rattle.std.specs.Prelude.{◌≡◌, ◌↔◌, ℕ, List, IsTrue, IfOk};
+ghost use Rattle.std.specs.Prelude.{◌≡◌, ◌↔◌, ℕ, List, ◌++◌, Some, IsTrue, IfOk};
+ghost use Rattle.memchr.specs.Find.{FindsNeedle};
+ghost use Rattle.sip_text.specs.Bytes.{crlf};
 ghost use Rattle.sip_text.specs.Text.{IsOnlyValue};
 ghost use Rattle.sip_message.specs.Lines.{IsLines};
 ghost use Rattle.sip_message.specs.inner.Lines.{AreLines};
@@ -9,7 +11,7 @@ ghost use Rattle.sip_message.specs.Name.{known};
 ghost use Rattle.sip_message.specs.Field.{Row};
 ghost use Rattle.sip_message.specs.Message.{content_length, is_stream, IsStream, MethodFits};
 ghost use Rattle.sip_message.specs.Faults.{IsCut, Present, NotTwice, Once, NamesOf, BodyOf};
-ghost use Rattle.sip_message.specs.inner.Finds.{found_parts, nothing_parts};
+ghost use Rattle.sip_message.specs.inner.Finds.{IsFound, found_parts, nothing_parts};
 ghost use Rattle.sip_message.specs.Reading.{IsValueOf};
 ghost use Rattle.sip_message.specs.inner.Fronts.{pair_parts, text_parts};
 ghost use Rattle.sip_message.specs.Views.{slice_fields};
@@ -43,8 +45,21 @@ pub(crate) struct Named<'a> {
 pub(crate) fn cut_head(bytes: &[u8]) -> Option<(&[u8], &[u8])>
     ensures { IsOnlyValue IsCut pair_parts bytes.now result }
 {
-    let at = memmem::find(bytes, b"\r\n\r\n")?;
+    let at = find_double_end(bytes)?;
     Some((&bytes[..at + 2], &bytes[at + 4..]))
+}
+
+// The place of the first CRLF CRLF. A CR stands behind a LF in no other place of most messages, so
+// that the search for these seldom stops at another line.
+#[inline]
+fn find_double_end(bytes: &[u8]) -> Option<usize>
+    ensures { FindsNeedle bytes.now (crlf ++ crlf) 0 result }
+{
+    let at = memmem::find(bytes, b"\n\r\n")?;
+    if at > 0 && bytes[at - 1] == b'\r' {
+        return Some(at - 1);
+    }
+    memmem::find(bytes, b"\r\n\r\n")
 }
 
 // The first line, and the text of the others.
@@ -81,7 +96,8 @@ pub(crate) fn find_named<'a>(fields: &[Field<'a>]) -> Result<Named<'a>, Fault>
 
 // The value of the first field of the name, with its line.
 fn find_first<'a>(fields: &[Field<'a>], name: Known) -> Result<(&'a [u8], usize), Fault>
-    ensures { Present name (slice_fields fields.entry) (outcome_of found_parts result) }
+    ensures present { Present name (slice_fields fields.entry) (outcome_of found_parts result) }
+    ensures found { IfOk result (λ first. IsFound name 0 (slice_fields fields.entry) (Some (found_parts first))) }
 {
     match cut_value(fields, 0, name) {
         Some(first) => Ok(first),
@@ -112,8 +128,14 @@ fn check_not_twice(fields: &[Field<'_>], name: Known) -> Result<(), Fault>
 fn find_once<'a>(fields: &[Field<'a>], name: Known) -> Result<(&'a [u8], usize), Fault>
     ensures { Once name (slice_fields fields.entry) (outcome_of found_parts result) }
 {
-    check_not_twice(fields, name)?;
-    find_first(fields, name)
+    let (value, line) = find_first(fields, name)?;
+    match cut_value(fields, line, name) {
+        Some((_, second)) => Err(Fault {
+            unit: Unit::Line(second),
+            reason: Reason::Repeated,
+        }),
+        None => Ok((value, line)),
+    }
 }
 
 // The body.

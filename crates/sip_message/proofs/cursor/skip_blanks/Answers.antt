@@ -1,10 +1,5 @@
-use Rattle.std.proofs.Common.{sym, subst}
-use Rattle.std.proofs.lemmas.List.{take_rest}
-use Rattle.sip_message.specs.inner.Fronts.{IsOnlyBehind}
-use Rattle.sip_message.proofs.FrontLemmas.{longest-behind}
+use Rattle.sip_message.proofs.FrontLemmas.{stops-behind}
 use Rattle.sip_message.proofs.cursor.skip_blanks.Goals as goal
 
-pub returns : goal.returns
-returns c =
-    subst (IsOnlyBehind c.args.text.now) (sym (take_rest c.args.text.now c.skip_lws.result))
-    (longest-behind c.args.text.now c.skip_lws.result c.skip_lws.ensures.reads)
+pub returns-else-may_begin_blank : goal.returns-else-may_begin_blank
+returns-else-may_begin_blank c = stops-behind c.args.text.now (c.may_begin_blank.ensures c.if-may_begin_blank.false)

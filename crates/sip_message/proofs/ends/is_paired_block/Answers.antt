@@ -8,9 +8,9 @@ pub returns : goal.returns
 returns c none = λ k from to.
     let d = c.args.text.now in
     let i = c.args.at in
-    let long = length-chunk i 16 d (omega (arith, c.requires)) in
-    let next = length-chunk (i + 1) 16 d (omega (arith, c.requires)) in
-    let clear = two_clear d i (i + 1) 16 _ _ _ _ _ (omega (arith, c.requires)) (omega (arith, c.requires)) (omega arith) (zip2_splat {Y = ℕ} _ (chunk i 16 d) 16 13 long) (zip2_splat {Y = ℕ} _ (chunk (i + 1) 16 d) 16 10 next) none (k - i) (omega (arith, from, to)) in
+    let long = length-chunk i 32 d (omega (arith, c.requires)) in
+    let next = length-chunk (i + 1) 32 d (omega (arith, c.requires)) in
+    let clear = two_clear d i (i + 1) 32 _ _ _ _ _ (omega (arith, c.requires)) (omega (arith, c.requires)) (omega arith) (zip2_splat {Y = ℕ} _ (chunk i 32 d) 32 13 long) (zip2_splat {Y = ℕ} _ (chunk (i + 1) 32 d) 32 10 next) none (k - i) (omega (arith, from, to)) in
     let back : i + (k - i) ≡ k = omega (arith, from) in
     let back_next : i + 1 + (k - i) ≡ k + 1 = omega (arith, from) in
     ap (λ j. nat_eq (get_or d j 0) 13) (sym back) ∙ lanes_agree _ _ clear ∙ ap (λ j. nat_eq (get_or d j 0) 10) back_next

@@ -12,46 +12,46 @@ pub returns-in_err-via-clause-names : goal.returns-in_err-via-clause-names
 returns-in_err-via-clause-names c =
     let fault = c.in_err-via.field-0.0 in
     stops-there names_parts (NamesOf (slice_fields c.args.fields)) c.from_residual.result fault c.from_residual.ensures.0 c.from_residual.ensures.1
-    (stopped fault c.in_err-via.ensures refl)
+    (stopped fault c.in_err-via.ensures.present refl)
 
 pub returns-in_err-from-clause-names : goal.returns-in_err-from-clause-names
 returns-in_err-from-clause-names c =
     let fault = c.in_err-from.field-0.0 in
     stops-there names_parts (NamesOf (slice_fields c.args.fields)) c.from_residual-in_err-from.result fault c.from_residual-in_err-from.ensures.0 c.from_residual-in_err-from.ensures.1
-    (passes _ c.in_ok-via.ensures (stopped fault c.in_err-from.ensures refl))
+    (passes _ c.in_ok-via.ensures.present (stopped fault c.in_err-from.ensures refl))
 
 pub returns-in_err-to-clause-names : goal.returns-in_err-to-clause-names
 returns-in_err-to-clause-names c =
     let fault = c.in_err-to.field-0.0 in
     stops-there names_parts (NamesOf (slice_fields c.args.fields)) c.from_residual-in_err-to.result fault c.from_residual-in_err-to.ensures.0 c.from_residual-in_err-to.ensures.1
-    (passes _ c.in_ok-via.ensures (passes _ c.in_ok-from.ensures (stopped fault c.in_err-to.ensures refl)))
+    (passes _ c.in_ok-via.ensures.present (passes _ c.in_ok-from.ensures (stopped fault c.in_err-to.ensures refl)))
 
 pub returns-in_err-call_id-clause-names : goal.returns-in_err-call_id-clause-names
 returns-in_err-call_id-clause-names c =
     let fault = c.in_err-call_id.field-0.0 in
     stops-there names_parts (NamesOf (slice_fields c.args.fields)) c.from_residual-in_err-call_id.result fault c.from_residual-in_err-call_id.ensures.0 c.from_residual-in_err-call_id.ensures.1
-    (passes _ c.in_ok-via.ensures (passes _ c.in_ok-from.ensures (passes _ c.in_ok-to.ensures (stopped fault c.in_err-call_id.ensures refl))))
+    (passes _ c.in_ok-via.ensures.present (passes _ c.in_ok-from.ensures (passes _ c.in_ok-to.ensures (stopped fault c.in_err-call_id.ensures refl))))
 
 pub returns-in_err-cseq-clause-names : goal.returns-in_err-cseq-clause-names
 returns-in_err-cseq-clause-names c =
     let fault = c.in_err-cseq.field-0.0 in
     stops-there names_parts (NamesOf (slice_fields c.args.fields)) c.from_residual-in_err-cseq.result fault c.from_residual-in_err-cseq.ensures.0 c.from_residual-in_err-cseq.ensures.1
-    (passes _ c.in_ok-via.ensures (passes _ c.in_ok-from.ensures (passes _ c.in_ok-to.ensures (passes _ c.in_ok-call_id.ensures (stopped fault c.in_err-cseq.ensures refl)))))
+    (passes _ c.in_ok-via.ensures.present (passes _ c.in_ok-from.ensures (passes _ c.in_ok-to.ensures (passes _ c.in_ok-call_id.ensures (stopped fault c.in_err-cseq.ensures refl)))))
 
 pub returns-in_err-check_not_twice-clause-names : goal.returns-in_err-check_not_twice-clause-names
 returns-in_err-check_not_twice-clause-names c =
     let fault = c.in_err-check_not_twice.field-0.0 in
     stops-there names_parts (NamesOf (slice_fields c.args.fields)) c.from_residual-in_err-check_not_twice.result fault c.from_residual-in_err-check_not_twice.ensures.0 c.from_residual-in_err-check_not_twice.ensures.1
-    (passes _ c.in_ok-via.ensures (passes _ c.in_ok-from.ensures (passes _ c.in_ok-to.ensures (passes _ c.in_ok-call_id.ensures (passes _ c.in_ok-cseq.ensures (stopped fault c.in_err-check_not_twice.ensures refl))))))
+    (passes _ c.in_ok-via.ensures.present (passes _ c.in_ok-from.ensures (passes _ c.in_ok-to.ensures (passes _ c.in_ok-call_id.ensures (passes _ c.in_ok-cseq.ensures (stopped fault c.in_err-check_not_twice.ensures refl))))))
 
 pub returns-clause-names : goal.returns-clause-names
-returns-clause-names c = passes _ c.in_ok-via.ensures (passes _ c.in_ok-from.ensures (passes _ c.in_ok-to.ensures (passes _ c.in_ok-call_id.ensures (passes _ c.in_ok-cseq.ensures (passes _ c.in_ok-check_not_twice.ensures refl)))))
+returns-clause-names c = passes _ c.in_ok-via.ensures.present (passes _ c.in_ok-from.ensures (passes _ c.in_ok-to.ensures (passes _ c.in_ok-call_id.ensures (passes _ c.in_ok-cseq.ensures (passes _ c.in_ok-check_not_twice.ensures refl)))))
 
 pub returns-clause-stand : goal.returns-clause-stand
 returns-clause-stand c =
     let fields = slice_fields c.args.fields in
     record {
-      via = first-value known_name.Via fields _ c.in_ok-via.ensures;
+      via = first-value known_name.Via fields _ c.in_ok-via.ensures.present;
       from = first-value known_name.From fields _ (once-first known_name.From fields _ c.in_ok-from.ensures);
       to = first-value known_name.To fields _ (once-first known_name.To fields _ c.in_ok-to.ensures);
       call_id = first-value known_name.CallId fields _ (once-first known_name.CallId fields _ c.in_ok-call_id.ensures);

@@ -1,15 +1,17 @@
-use Rattle.std.proofs.Common.{refl}
-use Rattle.sip_message.specs.Outcome.{passes, stopped}
 use Rattle.sip_message.specs.Faults.{Once}
 use Rattle.sip_message.specs.inner.Finds.{found_parts}
 use Rattle.sip_message.specs.Views.{slice_fields}
-use Rattle.sip_message.proofs.NamedLemmas.{stops-there}
+use Rattle.sip_message.proofs.NamedLemmas.{stops-there, once-absent, once-twice, once-one}
 use Rattle.sip_message.proofs.stages.find_once.Goals as goal
 
-pub returns-in_err-check_not_twice : goal.returns-in_err-check_not_twice
-returns-in_err-check_not_twice c =
-    let fault = c.in_err-check_not_twice.field-0.0 in
-    stops-there found_parts (Once c.args.name (slice_fields c.args.fields)) c.from_residual.result fault c.from_residual.ensures.0 c.from_residual.ensures.1 (stopped fault c.in_err-check_not_twice.ensures refl)
+pub returns-in_err-value : goal.returns-in_err-value
+returns-in_err-value c =
+    let fault = c.in_err-value.field-0.0 in
+    stops-there found_parts (Once c.args.name (slice_fields c.args.fields)) c.from_residual.result fault c.from_residual.ensures.0 c.from_residual.ensures.1
+    (once-absent c.args.name (slice_fields c.args.fields) fault c.in_err-value.ensures.present)
 
-pub returns : goal.returns
-returns c = passes tt c.in_ok-check_not_twice.ensures c.find_first.ensures
+pub returns-in-Some : goal.returns-in-Some
+returns-in-Some c = once-twice c.args.name (slice_fields c.args.fields) _ _ c.in_ok-value.ensures.found c.in-Some.ensures.found
+
+pub returns-in-None : goal.returns-in-None
+returns-in-None c = once-one c.args.name (slice_fields c.args.fields) _ c.in_ok-value.ensures.found c.in-None.ensures.found

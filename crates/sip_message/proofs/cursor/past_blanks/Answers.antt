@@ -1,0 +1,10 @@
+use Rattle.std.proofs.Common.{sym, subst}
+use Rattle.std.proofs.lemmas.List.{take_rest}
+use Rattle.sip_message.specs.inner.Fronts.{IsOnlyBehind}
+use Rattle.sip_message.proofs.FrontLemmas.{longest-behind}
+use Rattle.sip_message.proofs.cursor.past_blanks.Goals as goal
+
+pub returns : goal.returns
+returns c =
+    subst (IsOnlyBehind c.args.text.now) (sym (take_rest c.args.text.now c.skip_lws.result))
+    (longest-behind c.args.text.now c.skip_lws.result c.skip_lws.ensures.reads)

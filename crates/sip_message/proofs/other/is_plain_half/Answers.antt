@@ -1,0 +1,13 @@
+use Rattle.std.proofs.Common.{ℕ, refl, arith}
+use Rattle.std.proofs.lemmas.Simd.{zip2_splat, length-chunk}
+use lib.Lanes.{chunk}
+use Rattle.sip_message.specs.inner.ValueFronts.{is_plain_byte}
+use Rattle.sip_message.proofs.LaneLemmas.{joined, all_pass}
+use Rattle.sip_message.proofs.other.is_plain_half.Goals as goal
+
+pub returns : goal.returns
+returns c none =
+    let v = chunk c.args.at 8 c.args.text.now in
+    let long = length-chunk c.args.at 8 c.args.text.now c.requires in
+    all_pass is_plain_byte c.args.text.now c.args.at 8 _ c.requires (omega arith) c.type_inv.text none _
+    (joined _ _ _ v (joined _ _ _ v (zip2_splat {Y = ℕ} _ v 8 32 long) (zip2_splat {Y = ℕ} _ v 8 9 long)) (zip2_splat {Y = ℕ} _ v 8 127 long)) refl

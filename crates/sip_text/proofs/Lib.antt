@@ -1,4 +1,5 @@
 pub mod BlanksLemmas
+pub mod BlockLemmas
 pub mod ClassLemmas
 pub mod CutLemmas
 pub mod DoubleLemmas

@@ -1,9 +1,14 @@
 //! Tokens.
-ghost use Rattle.std.specs.Prelude.{◌≤◌, length};
+ghost use Rattle.std.specs.Prelude.{◌≡◌, ◌+◌, ◌/◌, ◌≤◌, length, map, slice_index, bit_and};
+ghost use Rattle.std.specs.List.{prefix_len};
+ghost use Rattle.std.specs.Simd.Lanes.{chunk};
+ghost use Rattle.sip_text.specs.Bytes.{is_token_byte};
+ghost use Rattle.sip_text.specs.declared.token.TheConstants.{LOW, HIGH};
 ghost use Rattle.sip_text.specs.Text.{IsLongestFront};
 ghost use Rattle.sip_text.specs.Grammar.{Token};
 
 use crate::class::{Class, run_len};
+use std::simd::prelude::*;
 
 /// The length in bytes of the longest front of the text that is a `token` (RFC 3261, section 25.1),
 /// and 0 if there is none.
@@ -11,5 +16,60 @@ pub fn token_len(text: &[u8]) -> usize
     ensures reads { IsLongestFront Token text.now result }
     ensures within { result ≤ length text.now }
 {
-    run_len(Class::Token, text)
+    let mut at = 0;
+    while text.len() - at >= BLOCK {
+        let step = block_len(text, at);
+        at += step;
+        if step < BLOCK {
+            return at;
+        }
+    }
+    at + run_len(Class::Token, &text[at..])
+}
+
+// How many bytes are looked at at once.
+const BLOCK: usize = 16;
+
+// For each low half of a byte a bit for each high half, 2 to 7, with which it makes a byte of a
+// token; and for each high half its bit.
+const LOW: [u8; 16] = [
+    0x3a, 0x3f, 0x3e, 0x3e, 0x3e, 0x3f, 0x3e, 0x3f, 0x3e, 0x3e, 0x3d, 0x15, 0x14, 0x15, 0x35, 0x1c,
+];
+
+const HIGH: [u8; 16] = [
+    0x00, 0x00, 0x01, 0x02, 0x04, 0x08, 0x10, 0x20, 0x00, 0x00, 0x00, 0x00, 0x00, 0x00, 0x00, 0x00,
+];
+
+// How many bytes of tokens stand at the front of the block at this place.
+#[inline]
+fn block_len(text: &[u8], at: usize) -> usize
+    requires { at + BLOCK ≤ length text.now }
+    ensures run { result ≡ prefix_len is_token_byte (chunk at BLOCK text.now) }
+    ensures within { result ≤ BLOCK }
+{
+    let block = u8x16::from_slice(&text[at..]);
+    let others = (by_low(block) & by_high(block))
+        .simd_eq(u8x16::splat(0))
+        .to_bitmask();
+    if others == 0 {
+        BLOCK
+    } else {
+        others.trailing_zeros() as usize
+    }
+}
+
+// What each byte's low half has.
+#[inline]
+fn by_low(block: u8x16) -> u8x16
+    ensures { result ≡ map (λ x. slice_index LOW (bit_and x 15)) block }
+{
+    u8x16::from_array(LOW).swizzle_dyn(block & u8x16::splat(15))
+}
+
+// What each byte's high half has.
+#[inline]
+fn by_high(block: u8x16) -> u8x16
+    ensures { result ≡ map (λ x. slice_index HIGH (x / 16)) block }
+{
+    u8x16::from_array(HIGH).swizzle_dyn(block >> u8x16::splat(4))
 }

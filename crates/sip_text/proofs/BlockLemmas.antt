@@ -1,0 +1,112 @@
+-- Bytes of tokens, sixteen at a time: two look-ups by the halves of each byte.
+use Rattle.std.proofs.Common.{◌≡◌, ℕ, zero, suc, ◌+◌, ◌-◌, ◌/◌, ◌^◌, ◌<◌, ◌≤◌, eqb, Bool, true, false, not, cond, List, [], ◌∷◌, map, length, drop, get_or, replicate, bit_and, Fits, w8, refl, sym, ap, ◌∙◌, subst, inl, inr, arith}
+use Rattle.std.specs.List.{prefix_len}
+use Rattle.std.proofs.lemmas.Bool.{agree_below_at, cases_lt}
+use Rattle.std.proofs.lemmas.List.{get_or-map, length-map, ext_get_or, length-drop, get_or-drop}
+use Rattle.std.proofs.lemmas.List.Sums.{prefix_len-le-length, prefix_len_passes, prefix_len_stops, prefix_len_is}
+use Rattle.std.proofs.lemmas.Nat.{and_le_r}
+use Rattle.std.proofs.lemmas.Simd.{Each1-all, Each1-weaker, Each1-zip2, Each2-splat, below_from_Fits, length-zip2, zip2_splat, zip2_of_maps, map-map, length-chunk, get_or-chunk, swz_l, SwzOk, SwzOk-from_below, length-swz_l, get_or-swz_l_below}
+use lib.Lanes.{zip2, chunk, mask_l, Each1}
+use Rattle.sip_text.specs.Bytes.{is_token_byte}
+use Rattle.sip_text.specs.declared.token.TheConstants.{LOW, HIGH}
+
+abbrev pub IsBlock : List ℕ → Type 0
+IsBlock v = (length v ≡ 16) × Each1 (Fits w8) v
+
+abbrev pub down : ℕ → ℕ → ℕ
+down a b = a / 2 ^ b
+
+pub high_ok : (v : List ℕ) → IsBlock v → SwzOk w8 16 16 0 (zip2 down v (replicate 16 4))
+high_ok v fits =
+    let small = Each1-weaker (λ a. a < 256) (λ a. a / 16 < 16) (λ a h. omega arith) v (below_from_Fits w8 v fits.1) in
+    SwzOk-from_below w8 16 1 16 0 (zip2 down v (replicate 16 4)) refl (omega (arith, length-zip2 down v (replicate 16 4) fits.0))
+    (Each1-zip2 down (λ j. j < 16) v (replicate 16 4) (Each2-splat (λ a b. down a b < 16) v 16 4 small))
+
+pub low_ok : (v : List ℕ) → IsBlock v → SwzOk w8 16 16 0 (zip2 bit_and v (replicate 16 15))
+low_ok v fits =
+    let small = Each1-all (λ a. bit_and a 15 < 16) (λ a. omega (arith, and_le_r a 15)) v in
+    SwzOk-from_below w8 16 1 16 0 (zip2 bit_and v (replicate 16 15)) refl (omega (arith, length-zip2 bit_and v (replicate 16 15) fits.0))
+    (Each1-zip2 bit_and (λ j. j < 16) v (replicate 16 15) (Each2-splat (λ a b. bit_and a b < 16) v 16 15 small))
+
+lane_fits : (v : List ℕ) (i : ℕ) → Each1 (Fits w8) v → get_or v i 0 < 256
+lane_fits [] i h = omega arith
+lane_fits (x ∷ xs) zero h = h.0.fits
+lane_fits (x ∷ xs) (suc i) h = lane_fits xs i h.1
+
+-- a table t of sixteen, read at places g x
+pub looked_up : (t : List ℕ) (g : ℕ → ℕ) (v js : List ℕ) → IsBlock v → js ≡ map g v → ((x : ℕ) → x < 256 → g x < 16) → swz_l w8 16 t 0 js ≡ map (λ x. get_or t (g x) 0) v
+looked_up t g v js fits e small =
+    let long : length js ≡ 16 = ap length e ∙ length-map v g ∙ fits.0 in
+    ext_get_or 0 _ _ (length-swz_l w8 16 t 0 js ∙ long ∙ sym (length-map v (λ x. get_or t (g x) 0) ∙ fits.0)) (λ i h.
+    let lt : i < 16 = omega (arith, length-swz_l w8 16 t 0 js) in
+    let within : i < length v = omega (arith, fits.0) in
+    let is : get_or js i 0 ≡ g (get_or v i 0) = ap (λ l. get_or l i 0) e ∙ get_or-map g v i 0 0 within in
+    let below : get_or js i 0 < 16 = omega (arith, small (get_or v i 0) (lane_fits v i fits.1)) in
+    get_or-swz_l_below w8 16 t 0 js i (omega arith) below
+    ∙ ap (λ n. get_or t n 0) (omega arith ∙ is) ∙ sym (get_or-map (λ x. get_or t (g x) 0) v i 0 0 within))
+
+pub by_low-is : (v : List ℕ) → IsBlock v → swz_l w8 16 LOW 0 (zip2 bit_and v (replicate 16 15)) ≡ map (λ x. get_or LOW (bit_and x 15) 0) v
+by_low-is v fits = looked_up LOW (λ x. bit_and x 15) v _ fits (zip2_splat bit_and v 16 15 fits.0) (λ x h. omega (arith, and_le_r x 15))
+
+pub by_high-is : (v : List ℕ) → IsBlock v → swz_l w8 16 HIGH 0 (zip2 down v (replicate 16 4)) ≡ map (λ x. get_or HIGH (x / 16) 0) v
+by_high-is v fits = looked_up HIGH (λ x. x / 16) v _ fits (zip2_splat down v 16 4 fits.0) (λ x h. omega arith)
+
+-- the two look-ups share a bit at a byte of a token alone
+abbrev pub shares : ℕ → ℕ
+shares x = bit_and (get_or LOW (bit_and x 15) 0) (get_or HIGH (x / 16) 0)
+
+pub shares-token : (x : ℕ) → x < 256 → not (eqb (shares x) 0) ≡ is_token_byte x
+shares-token x below = agree_below_at (λ y. not (eqb (shares y) 0)) is_token_byte 256 x refl below
+
+-- tests that agree on each byte
+pub prefix_len-agree : (p q : ℕ → Bool) → ((x : ℕ) → x < 256 → p x ≡ q x) → (v : List ℕ) → Each1 (Fits w8) v → prefix_len p v ≡ prefix_len q v
+prefix_len-agree p q same [] fits = refl
+prefix_len-agree p q same (x ∷ xs) fits = ap (λ b. cond b (1 + prefix_len p xs) 0) (same x fits.0.fits) ∙ ap (λ n. cond (q x) (1 + n) 0) (prefix_len-agree p q same xs fits.1)
+
+-- the bytes that are of no token
+pub others : (v a b : List ℕ) → a ≡ map (λ x. get_or LOW (bit_and x 15) 0) v → b ≡ map (λ x. get_or HIGH (x / 16) 0) v → mask_l (map (λ x. eqb x 0) (zip2 bit_and a b)) ≡ mask_l (map (λ x. eqb (shares x) 0) v)
+others v a b a_is b_is =
+    ap (λ z. mask_l (map (λ x. eqb x 0) z)) (zip2_of_maps bit_and (λ x. get_or LOW (bit_and x 15) 0) (λ x. get_or HIGH (x / 16) 0) v a_is b_is)
+    ∙ ap mask_l (map-map (λ x. eqb x 0) shares v)
+
+pub long-and : (v a b : List ℕ) (f g : ℕ → ℕ) → length v ≡ 16 → a ≡ map f v → b ≡ map g v → length (zip2 bit_and a b) ≡ 16
+long-and v a b f g long a_is b_is =
+    let left : length a ≡ 16 = ap length a_is ∙ length-map v f ∙ long in
+    length-zip2 bit_and a b (left ∙ sym (ap length b_is ∙ length-map v g ∙ long)) ∙ left
+
+-- the run of a block
+pub block-run : (v : List ℕ) → Each1 (Fits w8) v → prefix_len (λ x. not (eqb (shares x) 0)) v ≡ prefix_len is_token_byte v
+block-run v fits = prefix_len-agree (λ x. not (eqb (shares x) 0)) is_token_byte shares-token v fits
+
+-- from a block to the text
+pub block-passes : (p : ℕ → Bool) (text : List ℕ) (at r : ℕ) → at + 16 ≤ length text → r ≡ prefix_len p (chunk at 16 text) → ((k : ℕ) → k < at → p (get_or text k 0) ≡ true) → (k : ℕ) → k < at + r → p (get_or text k 0) ≡ true
+block-passes p text at r room r_is before k below =
+    elim (cases_lt k at) [
+      | inl low ↦ before k low
+      | inr high ↦
+          let long = length-chunk at 16 text room in
+          let few = prefix_len-le-length p (chunk at 16 text) in
+          let back : at + (k - at) ≡ k = omega (arith, high) in
+          subst (λ x. p x ≡ true) (get_or-chunk at 16 text (k - at) 0 (omega (arith, below, r_is, long, few, high)) ∙ ap (λ j. get_or text j 0) back)
+          (prefix_len_passes p (chunk at 16 text) (k - at) 0 (omega (arith, below, r_is, high)))
+    ]
+
+pub block-stops : (p : ℕ → Bool) (text : List ℕ) (at r : ℕ) → at + 16 ≤ length text → r ≡ prefix_len p (chunk at 16 text) → r < 16 → p (get_or text (at + r) 0) ≡ false
+block-stops p text at r room r_is short =
+    let stops = prefix_len_stops p (chunk at 16 text) 0 (omega (arith, short, r_is, length-chunk at 16 text room)) in
+    subst (λ x. p x ≡ false) (ap (λ j. get_or (chunk at 16 text) j 0) (sym r_is) ∙ get_or-chunk at 16 text r 0 short) stops
+
+-- a run goes on in what follows
+pub run-more : (p : ℕ → Bool) (text rest : List ℕ) (at m : ℕ) → at ≤ length text → rest ≡ drop at text → m ≡ prefix_len p rest → ((k : ℕ) → k < at → p (get_or text k 0) ≡ true) → prefix_len p text ≡ at + m
+run-more p text rest at m within rest_is m_is before =
+    let long : length rest + at ≡ length text = omega (arith, ap length rest_is, length-drop at text, within) in
+    let few = prefix_len-le-length p rest in
+    let there : (j : ℕ) → get_or rest j 0 ≡ get_or text (at + j) 0 = λ j. ap (λ t. get_or t j 0) rest_is ∙ get_or-drop at text j 0 in
+    prefix_len_is p text (at + m) 0 (omega (arith, long, few, m_is))
+    (λ k below. elim (cases_lt k at) [
+      | inl low ↦ before k low
+      | inr high ↦
+          let back : at + (k - at) ≡ k = omega (arith, high) in
+          subst (λ x. p x ≡ true) (there (k - at) ∙ ap (λ j. get_or text j 0) back) (prefix_len_passes p rest (k - at) 0 (omega (arith, below, m_is, high)))
+    ])
+    (λ below. subst (λ x. p x ≡ false) (ap (λ j. get_or rest j 0) (sym m_is) ∙ there m) (prefix_len_stops p rest 0 (omega (arith, below, long, m_is))))

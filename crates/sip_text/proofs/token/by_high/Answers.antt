@@ -1,0 +1,8 @@
+use Rattle.sip_text.proofs.BlockLemmas.{high_ok, by_high-is}
+use Rattle.sip_text.proofs.token.by_high.Goals as goal
+
+pub swizzle : goal.swizzle
+swizzle c = high_ok c.args.block c.fits-block
+
+pub returns : goal.returns
+returns c = by_high-is c.args.block c.fits-block

@@ -1,0 +1,8 @@
+use Rattle.sip_text.proofs.BlockLemmas.{low_ok, by_low-is}
+use Rattle.sip_text.proofs.token.by_low.Goals as goal
+
+pub swizzle : goal.swizzle
+swizzle c = low_ok c.args.block c.fits-block
+
+pub returns : goal.returns
+returns c = by_low-is c.args.block c.fits-block

@@ -1,7 +1,7 @@
 -- The head ends where the empty line is found, and its lines' ends are whole.
 use Rattle.std.proofs.Common.{◌≡◌, ℕ, zero, suc, ◌+◌, ◌-◌, ◌<◌, ◌≤◌, ◌⊎◌, Bool, true, false, nat_lt, nat_eq, not, ◌||◌, ◌&&◌, List, [], ◌∷◌, ◌++◌, length, take, drop, get_or, refl, sym, ap, ap₂, ◌∙◌, subst, inl, inr, arith}
 use Rattle.std.specs.List.{concat, flat_map}
-use Rattle.std.proofs.lemmas.Bool.{both_ways, and_parts, not-true, eqb-true, eq-eqb, ltb-true, ltb-false}
+use Rattle.std.proofs.lemmas.Bool.{both_ways, cases_lt, and_parts, not-true, eqb-true, eq-eqb, ltb-true, ltb-false}
 use Rattle.std.proofs.lemmas.List.{length-append, length-drop, get_or-drop, get_or-append-add, get_or_append_left, take-append-drop, length-take-le}
 use Rattle.std.proofs.Math.Seq.{drop-append-add, take-append-add, take-length}
 use Rattle.memchr.specs.Find.{OccursAt, Nowhere, NoneBefore, Passes, is_byte2}
@@ -53,24 +53,70 @@ double-inner t k at = record {
   reads = λ j below. ap (λ i. get_or t i 0) (omega arith) ∙ at.reads (suc j) (omega (arith, below));
 }
 
--- without these there is no such place
-pub nowhere-double : (t : List ℕ) → Nowhere (OccursAt t inner_end) 0 (length t + 1) → Nowhere (OccursAt t double_end) 0 (length t + 1)
-nowhere-double t none k low high at = none (k + 1) (omega arith) (omega (arith, at.fits)) (double-inner t k at)
+-- no such place begins more than one byte before this one
+abbrev pub NoneSoFar : List ℕ → ℕ → Type 0
+NoneSoFar t from = (j : ℕ) → j + 1 < from → ¬ (OccursAt t double_end j)
 
--- behind a CR the first of these is the first such place
-pub first-double : (t : List ℕ) (k : ℕ) → NoneBefore (OccursAt t inner_end) 0 (length t + 1) k → OccursAt t inner_end k → 0 < k → get_or t (k - 1) 0 ≡ carriage_return → NoneBefore (OccursAt t double_end) 0 (length t + 1) (k - 1) × OccursAt t double_end (k - 1)
-first-double t k first at some cr = (
+-- from a rest to the text, and back
+inner-rest : (t rest : List ℕ) (from k : ℕ) → from ≤ length t → rest ≡ drop from t → OccursAt t inner_end (from + k) → OccursAt rest inner_end k
+inner-rest t rest from k within is at = record {
+  fits = omega (arith, at.fits, ap length is, length-drop from t, within);
+  reads = λ j below. ap (λ r. get_or r (k + j) 0) is ∙ get_or-drop from t (k + j) 0 ∙ ap (λ i. get_or t i 0) (omega arith) ∙ at.reads j below;
+}
+
+rest-inner : (t rest : List ℕ) (from k : ℕ) → from ≤ length t → rest ≡ drop from t → OccursAt rest inner_end k → OccursAt t inner_end (from + k)
+rest-inner t rest from k within is at = record {
+  fits = omega (arith, at.fits, ap length is, length-drop from t, within);
+  reads = λ j below. ap (λ i. get_or t i 0) (omega arith) ∙ sym (get_or-drop from t (k + j) 0) ∙ sym (ap (λ r. get_or r (k + j) 0) is) ∙ at.reads j below;
+}
+
+-- such a place lies in what is behind
+double-rest : (t rest : List ℕ) (from j : ℕ) → from ≤ length t → rest ≡ drop from t → NoneSoFar t from → OccursAt t double_end j → (from ≤ j + 1) × OccursAt rest inner_end (j + 1 - from)
+double-rest t rest from j within is none at =
+    elim (cases_lt (j + 1) from) [
+      | inl low ↦ absurd (none j low at)
+      | inr high ↦
+          let back : j + 1 ≡ from + (j + 1 - from) = omega (arith, high) in
+          (omega (arith, high), inner-rest t rest from (j + 1 - from) within is (subst (OccursAt t inner_end) back (double-inner t j at)))
+    ]
+
+-- without a LF, CR and LF behind there is none
+pub nowhere-double : (t rest : List ℕ) (from : ℕ) → from ≤ length t → rest ≡ drop from t → NoneSoFar t from → Nowhere (OccursAt rest inner_end) 0 (length rest + 1) → Nowhere (OccursAt t double_end) 0 (length t + 1)
+nowhere-double t rest from within is none nowhere k low high at =
+    let there = double-rest t rest from k within is none at in
+    nowhere (k + 1 - from) (omega arith) (omega (arith, there.1.fits)) there.1
+
+-- the first of these stands behind no such place
+pub none-before : (t rest : List ℕ) (from k : ℕ) → from ≤ length t → rest ≡ drop from t → NoneSoFar t from → NoneBefore (OccursAt rest inner_end) 0 (length rest + 1) k → NoneSoFar t (from + k)
+none-before t rest from k within is none first j below at =
+    let there = double-rest t rest from j within is none at in
+    first.before (j + 1 - from) (omega arith) (omega (arith, below, there.0)) there.1
+
+-- behind a CR it is one
+pub first-double : (t rest : List ℕ) (from k : ℕ) → from ≤ length t → rest ≡ drop from t → NoneSoFar t from → NoneBefore (OccursAt rest inner_end) 0 (length rest + 1) k → OccursAt rest inner_end k → 0 < from + k → get_or t (from + k - 1) 0 ≡ carriage_return → NoneBefore (OccursAt t double_end) 0 (length t + 1) (from + k - 1) × OccursAt t double_end (from + k - 1)
+first-double t rest from k within is none first at some cr = (
   record {
     low = omega arith;
-    high = omega (arith, first.high);
-    before = λ j low high found. first.before (j + 1) (omega arith) (omega (arith, high, some)) (double-inner t j found);
+    high = omega (arith, there.fits);
+    before = λ j low high found. none-before t rest from k within is none first j (omega (arith, high, some)) found;
   },
-  record { fits = omega (arith, at.fits, some); reads = reads },
+  record { fits = omega (arith, there.fits, some); reads = reads },
 )
   where
-    reads : (j : ℕ) → j < 4 → get_or t (k - 1 + j) 0 ≡ get_or double_end j 0
+    there : OccursAt t inner_end (from + k)
+    there = rest-inner t rest from k within is at
+
+    reads : (j : ℕ) → j < 4 → get_or t (from + k - 1 + j) 0 ≡ get_or double_end j 0
     reads zero below = ap (λ i. get_or t i 0) (omega arith) ∙ cr
-    reads (suc j) below = ap (λ i. get_or t i 0) (omega (arith, some)) ∙ at.reads j (omega (arith, below))
+    reads (suc j) below = ap (λ i. get_or t i 0) (omega (arith, some)) ∙ there.reads j (omega (arith, below))
+
+-- behind another byte it is none
+pub none-more : (t : List ℕ) (at : ℕ) → NoneSoFar t at → ((0 < at) × (get_or t (at - 1) 0 ≡ carriage_return) → ⊥) → NoneSoFar t (at + 1)
+none-more t at none other j below double =
+    elim (cases_lt (j + 1) at) [
+      | inl low ↦ none j low double
+      | inr high ↦ other (omega (arith, below, high), ap (λ i. get_or t i 0) (omega (arith, below, high)) ∙ double.reads zero (omega arith))
+    ]
 
 -- without it there is no head
 pub no-head : (t : List ℕ) → Nowhere (OccursAt t double_end) 0 (length t + 1) → NotRead (IsCut t)

@@ -1,7 +1,7 @@
 //! The stages of reading.
-ghost use Rattle.std.specs.Prelude.{◌≡◌, ◌↔◌, ℕ, List, ◌++◌, Some, IsTrue, IfOk};
+ghost use Rattle.std.specs.Prelude.{◌≡◌, ◌↔◌, ◌≤◌, ◌<◌, ◌-◌, ℕ, List, ◌++◌, length, slice_index, Some, IsTrue, IfOk};
 ghost use Rattle.memchr.specs.Find.{FindsNeedle};
-ghost use Rattle.sip_text.specs.Bytes.{crlf};
+ghost use Rattle.sip_text.specs.Bytes.{crlf, carriage_return};
 ghost use Rattle.sip_text.specs.Text.{IsOnlyValue};
 ghost use Rattle.sip_message.specs.Lines.{IsLines};
 ghost use Rattle.sip_message.specs.inner.Lines.{AreLines};
@@ -55,11 +55,23 @@ pub(crate) fn cut_head(bytes: &[u8]) -> Option<(&[u8], &[u8])>
 fn find_double_end(bytes: &[u8]) -> Option<usize>
     ensures { FindsNeedle bytes.now (crlf ++ crlf) 0 result }
 {
-    let at = memmem::find(bytes, b"\n\r\n")?;
-    if at > 0 && bytes[at - 1] == b'\r' {
-        return Some(at - 1);
+    let mut from = 0;
+    'feeds: loop {
+        let at = from + memmem::find(&bytes[from..], b"\n\r\n")?;
+        if is_behind_cr(bytes, at) {
+            return Some(at - 1);
+        }
+        from = at + 1;
     }
-    memmem::find(bytes, b"\r\n\r\n")
+}
+
+// Whether a CR stands before this place.
+#[inline]
+fn is_behind_cr(bytes: &[u8], at: usize) -> bool
+    requires { at ≤ length bytes.now }
+    ensures { IsTrue result ↔ ((0 < at) × (slice_index bytes.now (at - 1) ≡ carriage_return)) }
+{
+    at > 0 && bytes[at - 1] == b'\r'
 }
 
 // The first line, and the text of the others.

@@ -1,10 +1,27 @@
-use Rattle.std.proofs.Common.{sym, subst}
+use Rattle.std.proofs.Common.{◌+◌, length, false, refl, sym, ap, subst, arith}
+use Rattle.std.proofs.lemmas.Bool.{both_ways}
+use Rattle.std.proofs.lemmas.List.{take_rest, length-drop}
 use Rattle.memchr.specs.Find.{FindsNeedle}
-use Rattle.sip_message.proofs.HeadLemmas.{double_end, nowhere-double, first-double}
+use Rattle.sip_message.proofs.HeadLemmas.{double_end, nowhere-double, none-before, first-double, none-more}
 use Rattle.sip_message.proofs.stages.find_double_end.Goals as goal
 
 pub returns-in_err-at : goal.returns-in_err-at
-returns-in_err-at c = subst (FindsNeedle c.args.bytes.now double_end 0) (sym c.from_residual.ensures) (nowhere-double c.args.bytes.now c.in_err-at.ensures)
+returns-in_err-at c =
+    let text = c.args.bytes.now in
+    subst (FindsNeedle text double_end 0) (sym c.from_residual.ensures)
+    (nowhere-double text _ c.feeds.from c.feeds.invariant.0 (take_rest text c.feeds.from) c.feeds.invariant.1 c.in_err-at.ensures)
 
-pub returns-then-bytes-at-eq13 : goal.returns-then-bytes-at-eq13
-returns-then-bytes-at-eq13 c = first-double c.args.bytes.now c.in_ok-at.at c.in_ok-at.ensures.0 c.in_ok-at.ensures.1 c.if-at-gt0.true c.if-bytes-at-eq13.true
+pub returns-then-is_behind_cr : goal.returns-then-is_behind_cr
+returns-then-is_behind_cr c =
+    let text = c.args.bytes.now in
+    let behind = c.if-is_behind_cr.ensures.0 refl in
+    first-double text _ c.feeds.from c.in_ok-at.field-0 c.feeds.invariant.0 (take_rest text c.feeds.from) c.feeds.invariant.1 c.in_ok-at.ensures.0 c.in_ok-at.ensures.1 behind.0 behind.1
+
+pub feeds-preserved : goal.feeds-preserved
+feeds-preserved c =
+    let text = c.args.bytes.now in
+    let rest_is = take_rest text c.feeds.from in (
+      omega (arith, c.in_ok-at.ensures.1.fits, ap length rest_is, length-drop c.feeds.from text, c.feeds.invariant.0),
+      none-more text (c.feeds.from + c.in_ok-at.field-0) (none-before text _ c.feeds.from c.in_ok-at.field-0 c.feeds.invariant.0 rest_is c.feeds.invariant.1 c.in_ok-at.ensures.0)
+          (λ is. both_ways false refl (c.if-is_behind_cr.ensures.1 is)),
+    )

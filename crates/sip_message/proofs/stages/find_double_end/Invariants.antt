@@ -1,0 +1,10 @@
+use Rattle.std.proofs.Common.{◌-◌, ◌≤◌, length}
+use Rattle.sip_message.proofs.HeadLemmas.{NoneSoFar}
+use Rattle.sip_message.proofs.stages.find_double_end.Given as goal
+
+-- no empty line stands before
+abbrev pub invariant-feeds : goal.invariant-feeds
+invariant-feeds l = (l.from ≤ length l.bytes) × NoneSoFar l.bytes l.from
+
+abbrev pub decreases-feeds : goal.decreases-feeds
+decreases-feeds l = length l.bytes - l.from

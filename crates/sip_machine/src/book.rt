@@ -1,9 +1,9 @@
 //! The messages of a log, each kept once.
 ghost use Rattle.std.specs.Prelude.{◌≡◌, ◌≢◌, ◌<◌, ◌≤◌, ◌⊎◌, ◌++◌, ◌∷◌, [], ℕ, length, map, MatchOption, IfOk, IfErr, OnOk, OnErr, All};
-ghost use Rattle.std.specs.List.{insert};
+ghost use Rattle.std.specs.List.{insert, HoldsAt};
 ghost use Rattle.std.specs.List.Sorted.{IsSearchInRange, IsBinarySearchResult};
 ghost use Rattle.sip_machine.specs.Texts.{IsBook, Keeps, text_of};
-ghost use Rattle.sip_machine.specs.inner.Order.{texts_of, hash_of, bytes_at, key_of, compare, begins_by, places_of, index_of, IsInRuns, IsInside, IsGap};
+ghost use Rattle.sip_machine.specs.inner.Order.{texts_of, hash_of, bytes_at, key_of, compare, begins_by, places_of, index_of, most_places, IsInRuns, IsInside, IsGap};
 
 use std::alloc::{AllocError, Global};
 use std::cmp::Ordering;
@@ -154,12 +154,14 @@ fn put(
     bytes: &[u8],
 ) -> Result<(), AllocError>
     requires filled { All (λ run. 0 < length run.places.items) runs.old.items }
+    requires short { All (λ run. length run.places.items ≤ most_places) runs.old.items }
     requires inside { 0 < length runs.old.items → IsInside runs.old.items gap }
     ensures ok { OnOk result ((texts_of kept.new.items ≡ texts_of kept.old.items ++ (entry, bytes.now) ∷ [])
         × (places_of runs.new.items ≡ insert (places_of runs.old.items) (index_of runs.old.items gap)
         (record { hash = hash; position = length kept.old.items }))) }
     ensures err { OnErr result ((kept.new.items ≡ kept.old.items) × (places_of runs.new.items ≡ places_of runs.old.items)) }
     ensures filled { All (λ run. 0 < length run.places.items) runs.new.items }
+    ensures short { All (λ run. length run.places.items ≤ most_places) runs.new.items }
 {
     let bytes = bytes.to_vec(*kept.allocator())?;
     kept.reserve(1)?;
@@ -175,10 +177,12 @@ fn put(
 /// Puts a place into the gap; on an error the places are as before.
 fn insert(runs: &mut Vec<Run>, gap: Gap, place: Place) -> Result<(), AllocError>
     requires filled { All (λ run. 0 < length run.places.items) runs.old.items }
+    requires short { All (λ run. length run.places.items ≤ most_places) runs.old.items }
     requires inside { 0 < length runs.old.items → IsInside runs.old.items gap }
     ensures ok { OnOk result (places_of runs.new.items ≡ insert (places_of runs.old.items) (index_of runs.old.items gap) place) }
     ensures err { OnErr result (places_of runs.new.items ≡ places_of runs.old.items) }
     ensures filled { All (λ run. 0 < length run.places.items) runs.new.items }
+    ensures short { All (λ run. length run.places.items ≤ most_places) runs.new.items }
 {
     if runs.is_empty() {
         let mut places = Vec::new(*runs.allocator());
@@ -191,14 +195,17 @@ fn insert(runs: &mut Vec<Run>, gap: Gap, place: Place) -> Result<(), AllocError>
     Ok(())
 }
 
-/// Halves the run of a gap where it is full. The gap as it is then; on an error the places are as before.
+/// Halves the run of a gap where it is full, so that it has room. The gap as it is then; on an error the places are as before.
 fn make_room(runs: &mut Vec<Run>, gap: Gap) -> Result<Gap, AllocError>
     requires filled { All (λ run. 0 < length run.places.items) runs.old.items }
+    requires short { All (λ run. length run.places.items ≤ most_places) runs.old.items }
     requires inside { IsInside runs.old.items gap }
     ensures inside { IfOk result (λ next. IsInside runs.new.items next) }
+    ensures room { IfOk result (λ next. HoldsAt (λ run. length run.places.items < most_places) runs.new.items next.run) }
     ensures index { IfOk result (λ next. index_of runs.new.items next ≡ index_of runs.old.items gap) }
     ensures places { places_of runs.new.items ≡ places_of runs.old.items }
     ensures filled { All (λ run. 0 < length run.places.items) runs.new.items }
+    ensures short { All (λ run. length run.places.items ≤ most_places) runs.new.items }
 {
     if runs[gap.run].places.len() < MOST {
         return Ok(gap);

@@ -52,10 +52,15 @@ pub record IsGap (texts : Texts) (key : ℕ × List ℕ) (places : List Place) (
 abbrev pub places_of : List Run → List Place
 places_of runs = flat_map (λ run. run.places.items) runs
 
--- the runs hold the places in order, and none is empty
+-- a run holds at most so many places, so that few of them move for a new one
+abbrev pub most_places : ℕ
+most_places = 512
+
+-- the runs hold the places in order, none is empty, and none is too long
 pub record IsInRuns (texts : Texts) (runs : List Run) : Type 0 where
   pub order : IsOrder texts (places_of runs)
   pub filled : All (λ run. 0 < length run.places.items) runs
+  pub short : All (λ run. length run.places.items ≤ most_places) runs
 
 -- the first place of the run is none after the key
 abbrev pub begins_by : Texts → ℕ × List ℕ → Run → Bool

@@ -1,7 +1,0 @@
-use Rattle.std.proofs.Common.{◌≡◌, All}
-use Rattle.sip_machine.specs.Rules.{Knows}
-use Rattle.sip_machine.specs.PlainServer.{plain_server_names}
-use Rattle.sets_bench.proofs.shape.pay.Given as goal
-
-abbrev pub invariant-loop-send : goal.invariant-loop-send
-invariant-loop-send l = (l.set.moment ≡ 0) × All (Knows plain_server_names l.book) l.set.states

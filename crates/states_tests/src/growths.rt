@@ -4,6 +4,7 @@ ghost use Rattle.std.specs.Prelude.{◌≡◌, ◌≤◌, All, OnOk};
 ghost use Rattle.sip_machine.specs.Rules.{Knows};
 ghost use Rattle.sip_machine.specs.InviteServer.{invite_server_names};
 
+use crate::agenda::{put, settle};
 use crate::keys::key;
 use crate::played::{Entry, book, busy, invite, ringing, take};
 use sip_machine::{Book, InviteServer, Params};
@@ -91,9 +92,11 @@ fn touch_again(
     if before >= 2_000_000 {
         return Err("full".into());
     }
+    let due = tables.due(u64::MAX);
     let touched = tables.touch(key(rt.alloc(), number)?);
     if touched.is_err() {
         assert_eq!(rt; tables.len(), before);
+        assert_eq!(rt; tables.due(u64::MAX), due);
         assert_eq!(rt; tables.touch(key(rt.alloc(), number)?)?, number);
     }
     assert_eq!(rt; touched?, number);
@@ -106,6 +109,37 @@ fn tables_go_on_after_a_refused_growth(rt: HostRuntime) -> Result<(), Fail> {
     let mut tables = Tables::new(rt.alloc(), params, BuildHasherDefault::<FoldHasher>::new());
     for number in 1..6 {
         touch_again(&rt, &mut tables, number)?;
+    }
+    Ok(())
+}
+
+/// Settles the key, and a second time where memory was refused. No key is due at the moment before, and then
+/// this one is.
+fn settle_again(
+    rt: &impl Abort,
+    tables: &mut Tables<BuildHasherDefault<FoldHasher>>,
+    number: u32,
+    moment: u64,
+) -> Result<(), Fail> {
+    assert_eq!(rt; tables.due(moment), None);
+    let settled = settle(tables, number)?;
+    if settled.is_err() {
+        assert_eq!(rt; tables.due(moment), None);
+        settle(tables, number)??;
+    }
+    assert_eq!(rt; tables.due(moment), Some(number));
+    Ok(settled?)
+}
+
+/// Each key's INVITE comes 100 ms before that of the key before it, and waits 250 ms for its first response.
+#[test]
+fn an_agenda_goes_on_after_a_refused_growth(rt: HostRuntime) -> Result<(), Fail> {
+    let params = Params::new(500, 4_000, 5_000, 50).ok_or("refused")?;
+    let mut tables = Tables::new(rt.alloc(), params, BuildHasherDefault::<FoldHasher>::new());
+    for (number, moment) in [(1, 300), (2, 200), (3, 100), (1, 0)] {
+        touch_again(&rt, &mut tables, number)?;
+        put(rt.alloc(), &mut tables, number, &[invite(moment)])?;
+        settle_again(&rt, &mut tables, number, moment + 251)?;
     }
     Ok(())
 }

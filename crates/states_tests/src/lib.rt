@@ -2,6 +2,8 @@
 #![tactic(auto)]
 
 #[cfg(test)]
+mod agenda;
+#[cfg(test)]
 mod growths;
 #[cfg(test)]
 mod keys;

@@ -1,4 +1,5 @@
 pub mod Advancing
+pub mod AgendaLemmas
 pub mod AnyFacts
 pub mod AnyLemmas
 pub mod EachOnce

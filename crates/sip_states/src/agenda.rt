@@ -1,7 +1,7 @@
 //! The last moments on record, by index.
-ghost use Rattle.std.specs.Prelude.{◌≡◌, ◌<◌, ◌++◌, ◌∷◌, [], None, Option, ℕ, Some, IfSome, OnErr, OnOk, length, position, slice_set};
+ghost use Rattle.std.specs.Prelude.{◌≡◌, ◌<◌, ◌++◌, ◌∷◌, [], None, IfSome, OnErr, OnOk, Some, length, position, slice_set};
 ghost use Rattle.std.specs.BTreeSet.{IsUnchanged};
-ghost use Rattle.sip_states.specs.Agenda.{is_overdue};
+ghost use Rattle.sip_states.specs.Agenda.{Records, is_overdue};
 ghost use Rattle.sip_states.specs.inner.Lines.{Enters, Leaves};
 
 use std::alloc::{AllocError, Global};
@@ -36,7 +36,7 @@ fn is_overdue(kept: Option<Option<u64>>, moment: u64) -> bool
     }
 }
 
-/// Puts the last moment of the index in the order.
+/// Puts the last moment of the index into the order.
 fn enter(
     order: &mut BTreeSet<(u64, usize)>,
     index: usize,
@@ -45,29 +45,18 @@ fn enter(
     ensures ok { OnOk result (Enters index limit order.old order.new) }
     ensures err { OnErr result (IsUnchanged order.old order.new) }
 {
-    match limit {
-        Some(last) => {
-            order.insert((last, index))?;
-            Ok(())
-        }
-        None => Ok(()),
+    if let Some(last) = limit {
+        order.insert((last, index))?;
     }
+    Ok(())
 }
 
-/// Takes the older last moment of the index out of the order, if the new one differs.
-fn leave(
-    order: &mut BTreeSet<(u64, usize)>,
-    index: usize,
-    older: Option<Option<u64>>,
-    limit: Option<u64>,
-)
+/// Takes the last moment of the index out of the order.
+fn leave(order: &mut BTreeSet<(u64, usize)>, index: usize, limit: Option<u64>)
     ensures { Leaves index limit order.old order.new }
 {
-    match older {
-        Some(Some(last)) if limit != Some(last) => {
-            order.remove(&(last, index));
-        }
-        _ => {}
+    if let Some(last) = limit {
+        order.remove(&(last, index));
     }
 }
 
@@ -90,10 +79,10 @@ impl Agenda {
         Ok(())
     }
 
-    /// Takes the last index away.
+    /// Takes the last index away, which was not settled.
     pub(crate) fn pop(&mut self)
-        requires { 0 < length self.old }
-        ensures { (last : Option (Option ℕ)) × (self.old ≡ self.new ++ last ∷ []) }
+        requires { (rest : Records) × (self.old ≡ rest ++ None ∷ []) }
+        ensures { self.old ≡ self.new ++ None ∷ [] }
     {
         self.records.pop();
     }
@@ -104,8 +93,12 @@ impl Agenda {
         ensures ok { OnOk result (self.new ≡ slice_set self.old index (Some limit)) }
         ensures err { OnErr result (self.new ≡ self.old) }
     {
+        let older = self.records[index];
+        if older == Some(limit) {
+            return Ok(());
+        }
         enter(&mut self.order, index, limit)?;
-        leave(&mut self.order, index, self.records[index], limit);
+        leave(&mut self.order, index, older.flatten());
         self.records[index] = Some(limit);
         Ok(())
     }
@@ -115,8 +108,8 @@ impl Agenda {
         ensures value { result ≡ position (is_overdue moment) self.now }
         ensures within { IfSome result (λ index. index < length self.now) }
     {
-        let line = self.order.first()?;
-        if line.0 >= moment {
+        let (last, _) = *self.order.first()?;
+        if last >= moment {
             return None;
         }
         self.records

@@ -1,10 +1,10 @@
-use Rattle.std.specs.Prelude.{◌≡◌, ℕ, true, Option, Some, slice_get}
+use Rattle.std.specs.Prelude.{◌≡◌, ◌↔◌, ◌⊎◌, ℕ, true, Option, Some, slice_get}
 use Rattle.std.specs.Ordering.{nat_cmp, ordering_then}
 use Rattle.std.specs.declared.cmp.Ordering.{Ordering}
 use Rattle.std.specs.BTreeSet.{BTreeSet, contains}
 use Rattle.sip_states.specs.Agenda.{Records}
 
--- The last moments on record with their indices, in an ordered set of lines.
+-- The last moments on record with their indices, as the lines of an ordered set.
 
 -- the order of lines: by last moment, and then by index
 abbrev pub line_cmp : ℕ × ℕ → ℕ × ℕ → Ordering
@@ -14,15 +14,18 @@ line_cmp x y = ordering_then (nat_cmp x.0 y.0) (nat_cmp x.1 y.1)
 abbrev pub HasLine : BTreeSet (ℕ × ℕ) → ℕ × ℕ → Type 0
 HasLine order line = contains line_cmp order line ≡ true
 
--- each last moment on record is in the order
+-- the lines of the order are the last moments on record
 abbrev pub IsInOrder : Records → BTreeSet (ℕ × ℕ) → Type 0
-IsInOrder records order = (index last : ℕ) → slice_get records index ≡ Some (Some (Some last)) → HasLine order (last, index)
+IsInOrder records order = (line : ℕ × ℕ) → HasLine order line ↔ (slice_get records line.1 ≡ Some (Some (Some line.0)))
 
--- the order has the last moment of this index, if there is one, and all that it had
-pub record Enters (index : ℕ) (limit : Option ℕ) (old new : BTreeSet (ℕ × ℕ)) : Type 0 where
-  pub own : (last : ℕ) → limit ≡ Some last → HasLine new (last, index)
-  pub others : (line : ℕ × ℕ) → HasLine old line → HasLine new line
+-- it is the line of this index, which has this last moment, if any
+abbrev pub IsLineOf : ℕ → Option ℕ → ℕ × ℕ → Type 0
+IsLineOf index limit line = (line.1 ≡ index) × (limit ≡ Some line.0)
 
--- the order has what it had of every other index, and the last moment of this one
+-- the new order has the lines of the old one, and that of this index
+abbrev pub Enters : ℕ → Option ℕ → BTreeSet (ℕ × ℕ) → BTreeSet (ℕ × ℕ) → Type 0
+Enters index limit old new = (line : ℕ × ℕ) → HasLine new line ↔ (HasLine old line ⊎ IsLineOf index limit line)
+
+-- the new order has the lines of the old one without that of this index
 abbrev pub Leaves : ℕ → Option ℕ → BTreeSet (ℕ × ℕ) → BTreeSet (ℕ × ℕ) → Type 0
-Leaves index limit old new = (line : ℕ × ℕ) → (line.1 ≡ index → limit ≡ Some line.0) → HasLine old line → HasLine new line
+Leaves index limit old new = (line : ℕ × ℕ) → HasLine new line ↔ (HasLine old line × ¬ IsLineOf index limit line)

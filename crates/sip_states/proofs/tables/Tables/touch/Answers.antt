@@ -16,7 +16,7 @@ pub returns-clause-ok : goal.returns-clause-ok
 returns-clause-ok g c =
     let absent : lookup (same_key c.args.key) c.self.inside.sets.entries ≡ None = none-from-is_some _ c.in_default.ensures.found in
     let grown : c.insert.new.self.entries ≡ c.self.inside.sets.entries ++ (c.args.key, c.in_ok-set.set) ∷ [] =
-    c.in_ok-insert.ensures.entries ∙ insert_entry-new same_key c.self.inside.sets c.args.key c.in_ok-set.set absent in
+    c.in_default-insert.ensures.entries ∙ insert_entry-new same_key c.self.inside.sets c.args.key c.in_ok-set.set absent in
     let keys_are = ap keys_of grown ∙ keys_of-append c.self.inside.sets.entries c.args.key c.in_ok-set.set in
     let sets_are = ap values_of grown ∙ values_of-append c.self.inside.sets.entries c.args.key c.in_ok-set.set
     ∙ ap (λ set. values_of c.self.inside.sets.entries ++ set ∷ []) c.in_ok-set.ensures in
@@ -25,5 +25,5 @@ returns-clause-ok g c =
     rw (← c.self.view_is) (inr (
       All-absent c.self.inside.sets.entries c.args.key absent,
       one_more,
-      λ i. record { times = c.self.inside.params; keys = keys_are i; sets = sets_are i },
+      λ i. record { times = c.self.inside.params; keys = keys_are i; sets = sets_are i; records = c.in_ok-push.ensures.ok i },
     ))

@@ -1,0 +1,6 @@
+use Rattle.sip_states.proofs.AgendaLemmas.{left}
+use Rattle.sip_states.proofs.agenda.leave.Goals as goal
+
+pub returns-in-Some : goal.returns-in-Some
+returns-in-Some c =
+    left c.args.index c.in-Some.last c.args.limit c.args.order.now c.remove.new.self c.in-Some.is c.remove.ensures.updates.0

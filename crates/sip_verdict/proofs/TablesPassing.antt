@@ -17,7 +17,7 @@ use Rattle.sip_machine.specs.Heard.{Heard, heard}
 use Rattle.sip_states.specs.KeyMachine.{machine_of_key, rules_of}
 use Rattle.sip_states.specs.AnySet.{moment_of, IsKnownSet, IsAgendaOf}
 use Rattle.sip_states.specs.Agenda.{is_overdue}
-use Rattle.sip_states.specs.Tables.{Tabled, IsGiven, due_of}
+use Rattle.sip_states.specs.Tables.{Tabled, IsGiven, Settles, with_set}
 use Rattle.sip_states.specs.declared.any_set.AnySet.{AnySet}
 use Rattle.sip_verdict.specs.declared.passing.Fate.{Fate}
 use Rattle.sip_verdict.specs.declared.passing.Fate.TheVariants.{Runs, NoRun, TooWide}
@@ -127,6 +127,13 @@ pub leaves_sets : (number : ℕ) (after : AnySet) (fate : Fate) (t u : Tabled) �
 leaves_sets number after Runs t u h = ap (λ x. x.sets) h.2
 leaves_sets number after NoRun t u h = ap (λ x. x.sets) h
 leaves_sets number after TooWide t u h = ap (λ x. x.sets) h
+
+-- a set that was settled
+pub settles_leaves : (number : ℕ) (after : AnySet) (t u : Tabled) → Settles number (with_set t number after) u → Leaves number after Runs t u
+settles_leaves number after t u s = (s.limit, subst (IsAgendaOf s.limit) same s.agenda, s.recorded)
+  where
+    same : s.set ≡ after
+    same = elim (set-place t.sets (number - 1) (number - 1) after s.set s.at) [ | inl h ↦ sym h.1 | inr h ↦ absurd (h.0 refl) ]
 
 -- an entry may still pass
 pub leaves_may : (texts : Texts) (moment number : ℕ) (after : AnySet) (fate : Fate) (t u : Tabled) → MayPass texts t moment → Leaves number after fate t u

@@ -128,7 +128,7 @@ pub(crate) fn pass_all<H: BuildHasher>(
 ) -> Result<Outcome, AllocError>
     requires may { MayPass book.now tables.old moment }
     requires hear { ForSome hearing (λ h. MayHear book.now tables.old moment h.now) }
-    requires recorded { AreOnRecord (hears (option_copied hearing.entry)) tables.old }
+    requires recorded { AreOnRecord (hears (option_copied hearing)) tables.old }
     ensures times { OnOk result (tables.new.times ≡ tables.old.times) }
     ensures keys { OnOk result (tables.new.keys ≡ tables.old.keys) }
     ensures may { OnOk result (MayPass book.now tables.new moment) }

@@ -11,10 +11,11 @@ use Rattle.sip_states.specs.Tables.{Tabled}
 use Rattle.sip_verdict.specs.inner.TablesTracking.{transactions_of, MayTake}
 
 -- the first entry may come at any moment
-pub may_start : (texts : Texts) (t : Tabled) (p : Times) → texts ≡ [] → t ≡ record { times = p; keys = []; sets = [] } → MayTake texts t 1 0
+pub may_start : (texts : Texts) (t : Tabled) (p : Times) → texts ≡ [] → t ≡ record { times = p; keys = []; sets = []; records = [] } → MayTake texts t 1 0
 may_start texts t p none empty =
     subst (λ x. MayTake x t 1 0) (sym none) (subst (λ u. MayTake [] u 1 0) (sym empty) (record {
       passes = record { order = All-nil (λ set. moment_of set ≤ 0); known = All-nil (IsKnownSet []); long = refl };
+      recorded = record { long = refl; each = λ n set recorded at. absurd cc };
       numbered = λ n keeps. absurd (Contains-nil n keeps);
       few = omega arith;
     }))
@@ -27,6 +28,7 @@ may_later texts t number moment later low may = record {
     known = may.passes.known;
     long = may.passes.long;
   };
+  recorded = may.recorded;
   numbered = may.numbered;
   few = may.few;
 }
@@ -36,5 +38,5 @@ pub transactions_long : (texts : Texts) (t : Tabled) (number moment : ℕ) → M
 transactions_long texts t number moment may = sym (ap length (firsts-zip t.keys t.sets may.passes.long)) ∙ length-map (transactions_of t) (λ x. x.0)
 
 -- at first there are none
-pub transactions_none : (t : Tabled) (p : Times) → t ≡ record { times = p; keys = []; sets = [] } → transactions_of t ≡ []
+pub transactions_none : (t : Tabled) (p : Times) → t ≡ record { times = p; keys = []; sets = []; records = [] } → transactions_of t ≡ []
 transactions_none t p empty = ap transactions_of empty

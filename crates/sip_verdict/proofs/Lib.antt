@@ -1,6 +1,7 @@
 pub mod AnyHearing
 pub mod ByMachine
 pub mod EntryText
+pub mod Halfway
 pub mod Hearing
 pub mod JudgeTables
 pub mod JudgingLemmas
@@ -14,7 +15,8 @@ pub mod NumberingLemmas
 pub mod ObservingLemmas
 pub mod OneMachine
 pub mod OneVerdict
-pub mod PassingAll
+pub mod Outcomes
+pub mod Overdue
 pub mod ShowingLemmas
 pub mod Splitting
 pub mod StandingLemmas

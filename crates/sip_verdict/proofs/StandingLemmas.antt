@@ -1,14 +1,14 @@
 -- What is kept before and after an entry is judged.
-use Rattle.std.proofs.Common.{◌≡◌, ◌≢◌, ◌≤◌, ◌<◌, ◌+◌, ◌-◌, ◌⊎◌, inl, inr, ℕ, IfNone, Option, Some, None, List, [], ◌∷◌, ◌++◌, All, AllPairs, length, option_to_list, refl, sym, ap, ◌∙◌, subst, arith}
+use Rattle.std.proofs.Common.{◌≡◌, ◌≢◌, ◌≤◌, ◌<◌, ◌+◌, ◌-◌, ◌⊎◌, ◌||◌, inl, inr, ℕ, nat_eq, false, slice_get, IfNone, IfSome, Option, Some, None, List, [], ◌∷◌, ◌++◌, All, AllPairs, length, option_to_list, refl, sym, ap, ◌∙◌, subst, arith}
 use Rattle.std.specs.Prelude.{fold}
-use Rattle.std.specs.Option.{ForSome}
+use Rattle.std.specs.Option.{ForSome, option_eq}
 use Rattle.std.proofs.lemmas.Option.{slice_get_within}
 use Rattle.std.proofs.lemmas.List.Elements.{All-weaker}
 use Rattle.std.proofs.lemmas.List.Sums.{fold-append}
 use Rattle.sip_key.specs.Key.{KeyParts, same_key}
 use Rattle.sip_machine.specs.Times.{Times}
 use Rattle.sip_machine.specs.Texts.{Texts, Keeps}
-use Rattle.sip_machine.specs.Heard.{heard}
+use Rattle.sip_machine.specs.Heard.{heard, FitsBook}
 use Rattle.sip_machine.specs.NumberedEvent.{NumberedEvent}
 use Rattle.sip_machine.specs.Rules.{Knows}
 use Rattle.sip_machine.proofs.TextLaws.{Keeps-grow, Keeps-grow_cases}
@@ -23,11 +23,11 @@ use Rattle.sip_verdict.specs.Keyed.{Observation, events_of, keys_of}
 use Rattle.sip_verdict.specs.Keyed as keyed
 use Rattle.sip_verdict.specs.MessageReading.{key_machines, message_reading, mark_observation}
 use Rattle.sip_verdict.specs.inner.Tracking.{IsReady, TracksBefore, IsJudged}
-use Rattle.sip_verdict.specs.inner.TablesTracking.{meaning_of, key_keeping, transactions_of, TablesTrack, TablesTrackBefore, AreTold, TouchesIf, HasIf, AreConcerned, MayPass, MayTake}
+use Rattle.sip_verdict.specs.inner.TablesTracking.{meaning_of, key_keeping, transactions_of, TablesTrack, TablesTrackBefore, AreTold, TouchesIf, HasIf, AreConcerned, hears, MayPass, MayHear, AreOnRecord, AllAreOnRecord, MayTake}
 use Rattle.sip_verdict.proofs.Leading.{Leads-grow}
 use Rattle.sip_verdict.proofs.ByMachine.{seen_by_names_of, some_machine, of_set, to_set}
 use Rattle.sip_verdict.proofs.TrackingLemmas.{AreKept, kept_tracked, before_none, before_touched}
-use Rattle.sip_verdict.proofs.TablesTouching.{touches_times, touches_long, touches_few, touches_may, kept_if, has_number, has_still, told_mark, told_event}
+use Rattle.sip_verdict.proofs.TablesTouching.{touches_times, touches_long, touches_few, touches_may, touches_recorded, kept_if, has_number, has_still, told_mark, told_event}
 
 -- the book has the same messages, or one more
 abbrev pub IsGrown : Texts → ℕ → List ℕ → Texts → Type 0
@@ -97,6 +97,12 @@ module _ (own cancelled : Option KeyParts) (mine other : Option ℕ) (old betwee
   pub both_may : (texts : Texts) (moment : ℕ) → MayPass texts old moment → MayPass texts new moment
   both_may texts moment may = touches_may texts moment cancelled other between new (touches_may texts moment own mine old between may first) second
 
+  -- those whose last moments are not on record are to hear it
+  pub both_recorded : (event : NumberedEvent) → length old.sets ≡ length old.keys → AllAreOnRecord old → AreOnRecord (hears (Some (record { event = event; own = mine; cancelled = other }))) new
+  both_recorded event long recorded =
+      touches_recorded (λ n. false || option_eq nat_eq mine (Some n)) other cancelled between new (touches_long own mine old between long first)
+      (touches_recorded (λ n. false) mine own old between long recorded first) second
+
   -- the transactions before the event, by the old times
   both_track : (texts : Texts) (es : List (Observation KeyParts)) (e : Observation KeyParts) → length old.sets ≡ length old.keys → e.keys ≡ option_to_list own ++ option_to_list cancelled
       → TablesTrack texts es old → TracksBefore (key_machines old.times) (key_keeping texts old.times) es e (transactions_of new)
@@ -114,13 +120,14 @@ module _ (own cancelled : Option KeyParts) (mine other : Option ℕ) (old betwee
 
 -- what is left after an entry without trouble
 pub may_next : (verdict : Option Verdict) (old mid last : Texts) (t u v : Tabled) (number moment : ℕ) (bytes : List ℕ) → MayTake old t number moment → IsGrown old number bytes mid
-    → length u.keys ≤ length t.keys + 2 → v.keys ≡ u.keys → last ≡ mid → MayPass last v moment → IfNone verdict (MayTake last v (number + 1) moment)
-may_next None old mid last t u v number moment bytes may grown few keys book passes = record {
+    → length u.keys ≤ length t.keys + 2 → v.keys ≡ u.keys → last ≡ mid → MayPass last v moment → IfNone verdict (AllAreOnRecord v) → IfNone verdict (MayTake last v (number + 1) moment)
+may_next None old mid last t u v number moment bytes may grown few keys book passes recorded = record {
   passes = passes;
+  recorded = recorded;
   numbered = λ n keeps. grown_numbered old mid number bytes grown may.numbered n (subst (λ texts. Keeps texts n) book keeps);
   few = omega (arith, may.few, ap length keys, few);
 }
-may_next (Some x) old mid last t u v number moment bytes may grown few keys book passes = tt
+may_next (Some x) old mid last t u v number moment bytes may grown few keys book passes recorded = tt
 
 -- a number of a key was given
 pub has_given : (key : Option KeyParts) (number : Option ℕ) (t : Tabled) → HasIf key number t.keys → ForSome number (IsGiven t)
@@ -185,3 +192,31 @@ both_given own cancelled mine other t between u v first second keys = (
   has_given own mine v (subst (HasIf own mine) (sym keys) (has_still own mine cancelled other between u second (has_number own mine t between first))),
   has_given cancelled other v (subst (HasIf cancelled other) (sym keys) (has_number cancelled other between u second)),
 )
+
+-- two options that are the same hold the same
+pub same_some : {A : Type 0} (a b : A) → Some a ≡ Some b → a ≡ b
+same_some a b h = cc
+
+-- keys that differ have numbers that do
+numbers_differ : (own cancelled : Option KeyParts) (mine other : Option ℕ) (keys : List KeyParts) → HasIf own mine keys → HasIf cancelled other keys → IfSome cancelled (λ key. own ≢ Some key)
+    → IfSome other (λ number. mine ≢ Some number)
+numbers_differ own None mine other keys has_own has_other differ = subst (λ o. IfSome o (λ number. mine ≢ Some number)) (sym has_other) tt
+numbers_differ None (Some key) mine other keys has_own (n, is, low, at) differ = subst (λ o. IfSome o (λ number. mine ≢ Some number)) (sym is) (λ same. let never : None ≡ Some n = sym has_own ∙ same in cc)
+numbers_differ (Some first) (Some key) mine other keys (i, own_is, own_low, own_at) (n, is, low, at) differ =
+    subst (λ o. IfSome o (λ number. mine ≢ Some number)) (sym is) (λ same.
+    (let both : Some i ≡ Some n = sym own_is ∙ same in
+    let place : i ≡ n = cc in
+    differ (sym own_at ∙ ap (λ x. slice_get keys (x - 1)) place ∙ at)))
+
+-- an event may be heard by the numbers of both keys
+pub both_may_hear : (texts : Texts) (moment : ℕ) (event : NumberedEvent) (own cancelled : Option KeyParts) (mine other : Option ℕ) (t between u : Tabled) → TouchesIf own mine t between
+    → TouchesIf cancelled other between u → FitsBook texts event → event.moment ≡ moment → IfSome cancelled (λ key. own ≢ Some key) → MayHear texts u moment (record { event = event; own = mine; cancelled = other })
+both_may_hear texts moment event own cancelled mine other t between u first second fits at differ =
+    let given = both_given own cancelled mine other t between u u first second refl in
+    record {
+      fits = fits;
+      at = at;
+      own = given.0;
+      cancelled = given.1;
+      apart = numbers_differ own cancelled mine other u.keys (has_still own mine cancelled other between u second (has_number own mine t between first)) (has_number cancelled other between u second) differ;
+    }

@@ -1,34 +1,41 @@
--- One set of the tables after another passes an entry.
-use Rattle.std.proofs.Common.{◌≡◌, ◌≤◌, ◌<◌, ◌+◌, ◌-◌, ℕ, zero, suc, true, false, Result, IfOk, Option, Some, None, List, [], ◌∷◌, ◌++◌, All, map, length, take, drop, set, slice_get, refl, sym, ap, ◌∙◌, subst, arith}
+-- The sets of the tables hear the event of an entry, one after another.
+use Rattle.std.proofs.Common.{◌≡◌, ◌≢◌, ◌≤◌, ◌<◌, ◌+◌, ◌-◌, ◌⊎◌, ◌||◌, inl, inr, ℕ, zero, suc, Bool, true, false, cond, nat_eq, IfSome, Option, Some, None, List, [], ◌∷◌, ◌++◌, All, map, length, position, set, get_or, slice_get, refl, sym, ap, ◌∙◌, subst, arith}
 use Rattle.std.specs.List.{zip}
-use Rattle.std.specs.Option.{option_or}
-use Rattle.std.proofs.lemmas.Result.{IfOk-weaker}
-use Rattle.std.proofs.lemmas.List.{length-map, length-set}
+use Rattle.std.specs.Option.{option_eq, ForSome}
+use Rattle.std.specs.Cmp.{unsigned_Decides}
+use Rattle.std.proofs.lemmas.Bool.{false≢true}
+use Rattle.std.proofs.lemmas.List.{length-set}
 use Rattle.std.proofs.lemmas.List.Elements.{All-set}
+use Rattle.std.proofs.lemmas.List.Quantifiers.{position-Some}
 use Rattle.std.proofs.lemmas.Option.{slice_get_within, get_or_from_slice_get, slice_get-get_or}
 use Rattle.std.proofs.lemmas.Slice.Zip.{firsts-zip}
 use Rattle.sip_key.specs.Key.{KeyParts}
 use Rattle.sip_machine.specs.Times.{Times}
 use Rattle.sip_machine.specs.Texts.{Texts}
+use Rattle.sip_machine.specs.NumberedEvent.{NumberedEvent}
 use Rattle.sip_machine.specs.Heard.{Heard, heard}
-use Rattle.sip_states.specs.KeyMachine.{MachineKind, machine_of_key, rules_of}
-use Rattle.sip_states.specs.AnySet.{moment_of, IsKnownSet}
-use Rattle.sip_states.specs.Tables.{Tabled, with_set}
+use Rattle.sip_states.specs.KeyMachine.{machine_of_key, rules_of}
+use Rattle.sip_states.specs.AnySet.{moment_of, IsKnownSet, IsAgendaOf}
+use Rattle.sip_states.specs.Agenda.{is_overdue}
+use Rattle.sip_states.specs.Tables.{Tabled, IsGiven, Settles, with_set}
 use Rattle.sip_states.specs.declared.any_set.AnySet.{AnySet}
 use Rattle.sip_verdict.specs.declared.passing.Fate.{Fate}
 use Rattle.sip_verdict.specs.declared.passing.Fate.TheVariants.{Runs, NoRun, TooWide}
 use Rattle.sip_verdict.specs.declared.passing.Hearing.{Hearing}
-use Rattle.sip_verdict.specs.Keyed.{Observation, HasRun, events_of}
-use Rattle.sip_verdict.specs.Verdicts.{IsFirst}
+use Rattle.sip_verdict.specs.declared.passing.Outcome.{Outcome}
+use Rattle.sip_verdict.specs.declared.passing.Outcome.TheVariants as all
+use Rattle.sip_verdict.specs.Keyed.{Observation, Machines, HasRun, concerns, events_of}
+use Rattle.sip_verdict.specs.Verdicts.{IsFirst, IsTooWide}
 use Rattle.sip_verdict.specs.MessageReading.{key_machines}
-use Rattle.sip_verdict.specs.inner.Stepping.{IsStepped}
-use Rattle.sip_verdict.specs.inner.Tracking.{IsReady, IsPassed}
-use Rattle.sip_verdict.specs.inner.TablesTracking.{LeadsOf, StandsOf, key_keeping, transactions_of, is_own, hears, IsTold, AreTold, MayPass}
-use Rattle.sip_verdict.proofs.Stepped.{own_passed, other_passed}
-use Rattle.sip_verdict.proofs.PassingAll.{SoFar, get_or-same_rest, rest-set, turn_runs, turn_too_wide, turn_no_run}
+use Rattle.sip_verdict.specs.inner.Stepping.{RunsUntil, IsStepped}
+use Rattle.sip_verdict.specs.inner.Tracking.{Keeping, IsReady, IsStanding, GoesOn, IsPassed, IsOutcome, outcome_of, overdue_outcome, first_of}
+use Rattle.sip_verdict.specs.inner.TablesTracking.{LeadsOf, StandsOf, key_keeping, transactions_of, hears, is_own, AreTold, MayPass, IsOnRecord, AreOnRecord, AllAreOnRecord, AreOnRecordIf, Leaves, Hears, HearsIf}
+use Rattle.sip_verdict.proofs.Outcomes.{IsFirstAmong, Says, says_fewer, says_both, both_fine, first_at}
+use Rattle.sip_verdict.proofs.Overdue.{overdue_none, in_time_some}
+use Rattle.sip_verdict.proofs.Stepped.{own_passed, other_passed, run_still}
 
 -- a list has an element at each place
-at_place : {A : Type 0} (xs : List A) (n : ℕ) → n < length xs → (x : A) × (slice_get xs n ≡ Some x)
+pub at_place : {A : Type 0} (xs : List A) (n : ℕ) → n < length xs → (x : A) × (slice_get xs n ≡ Some x)
 at_place [] n low = absurd (omega arith)
 at_place (x ∷ xs) zero low = (x, refl)
 at_place (x ∷ xs) (suc n) low = at_place xs n (omega arith)
@@ -37,6 +44,10 @@ at_place (x ∷ xs) (suc n) low = at_place xs n (omega arith)
 pub All-place : {A : Type 0} (P : A → Type 0) (xs : List A) (n : ℕ) (x : A) → slice_get xs n ≡ Some x → All P xs → P x
 All-place P xs n x at all = subst P (get_or_from_slice_get xs n x x at) (all n x (slice_get_within xs n x at))
 
+-- and what holds of the one at each place holds of all
+pub All-places : {A : Type 0} (P : A → Type 0) (xs : List A) → ((n : ℕ) (x : A) → slice_get xs n ≡ Some x → P x) → All P xs
+All-places P xs each n d low = let x = at_place xs n low in subst P (sym (get_or_from_slice_get xs n x.0 d x.1)) (each n x.0 x.1)
+
 -- lists side by side at a place
 pub zip-place : {A B : Type 0} (xs : List A) (ys : List B) (n : ℕ) (x : A) (y : B) → slice_get xs n ≡ Some x → slice_get ys n ≡ Some y → slice_get (zip xs ys) n ≡ Some (x, y)
 zip-place [] ys n x y a b = absurd cc
@@ -44,110 +55,149 @@ zip-place (u ∷ xs) [] n x y a b = absurd cc
 zip-place (u ∷ xs) (v ∷ ys) zero x y a b = cc
 zip-place (u ∷ xs) (v ∷ ys) (suc n) x y a b = zip-place xs ys n x y a b
 
--- with another element at a place of the second
-zip-set : {A B : Type 0} (xs : List A) (ys : List B) (n : ℕ) (x : A) (y : B) → slice_get xs n ≡ Some x → zip xs (set ys n y) ≡ set (zip xs ys) n (x, y)
-zip-set [] ys n x y a = absurd cc
-zip-set (u ∷ xs) [] n x y a = refl
-zip-set (u ∷ xs) (v ∷ ys) zero x y a = cc
-zip-set (u ∷ xs) (v ∷ ys) (suc n) x y a = ap (λ z. (u, v) ∷ z) (zip-set xs ys n x y a)
+pub place-zip : {A B : Type 0} (xs : List A) (ys : List B) (n : ℕ) (z : A × B) → slice_get (zip xs ys) n ≡ Some z → (slice_get xs n ≡ Some z.0) × (slice_get ys n ≡ Some z.1)
+place-zip [] ys n z at = absurd cc
+place-zip (u ∷ xs) [] n z at = absurd cc
+place-zip (u ∷ xs) (v ∷ ys) zero z at = let same : (u, v) ≡ z = cc in (ap (λ w. Some w.0) same, ap (λ w. Some w.1) same)
+place-zip (u ∷ xs) (v ∷ ys) (suc n) z at = place-zip xs ys n z at
+
+-- the element at a place, where another was put at one
+pub set-place : {A : Type 0} (xs : List A) (i n : ℕ) (a x : A) → slice_get (set xs i a) n ≡ Some x → ((n ≡ i) × (a ≡ x)) ⊎ ((n ≢ i) × (slice_get xs n ≡ Some x))
+set-place [] i n a x at = absurd cc
+set-place (u ∷ xs) zero zero a x at = inl (refl, cc)
+set-place (u ∷ xs) zero (suc n) a x at = inr (λ same. omega (arith, same), at)
+set-place (u ∷ xs) (suc i) zero a x at = inr (λ same. omega (arith, same), at)
+set-place (u ∷ xs) (suc i) (suc n) a x at =
+    elim (set-place xs i n a x at) [ | inl h ↦ inl (ap suc h.0, h.1) | inr h ↦ inr (λ same. h.0 (omega (arith, same)), h.1) ]
 
 -- each transaction's key
 pub keys_are : (t : Tabled) → length t.sets ≡ length t.keys → map (λ x. x.0) (transactions_of t) ≡ t.keys
 keys_are t long = firsts-zip t.keys t.sets long
 
--- there are as many as keys
-pub as_many : (t : Tabled) → length t.sets ≡ length t.keys → length (transactions_of t) ≡ length t.keys
-as_many t long = sym (length-map (transactions_of t) (λ x. x.0)) ∙ ap length (keys_are t long)
+-- those that wait but for one, if it is there, which has heard its event
+abbrev pub without : (ℕ → Bool) → Option ℕ → ℕ → Bool
+without waits None n = waits n
+without waits (Some i) n = cond (nat_eq i n) false (waits n)
 
--- a transaction that hears its own event
-pub own_pass : {E : Type 0} (r : Result Fate E) (texts : Texts) (moment number : ℕ) (h : Hearing) (old new : AnySet) → is_own h number ≡ true
-    → IfOk r (λ fate. (p : Times) (machine : MachineKind) (events : List Heard) → LeadsOf texts p machine events old
-    → IsStepped (rules_of p machine) events (Some (heard texts h.event)) h.event.moment (λ es. LeadsOf texts p machine es new) (λ f. StandsOf texts p machine events f new) fate)
-    → IfOk r (λ fate. (p : Times) (es : List (Observation KeyParts)) (e : Observation KeyParts) (key : KeyParts) → IsTold texts moment (Some h) number key e
-    → IsReady (key_machines p) (key_keeping texts p) es (key, old) → IsPassed (key_machines p) (key_keeping texts p) es e (key, new) fate)
-own_pass r texts moment number h old new own all =
-    IfOk-weaker r _ _ (λ fate stepped p es e key told ready.
-    own_passed (key_machines p) (key_keeping texts p) es e (key, new) (told.concerned p ∙ own) fate
-    (subst (λ f. IsStepped (rules_of p (machine_of_key key)) (events_of (key_machines p) key es) (Some f) f.moment (λ fs. LeadsOf texts p (machine_of_key key) fs new) (λ f. StandsOf texts p (machine_of_key key) (events_of (key_machines p) key es) f new) fate) (sym told.event)
-    (stepped p (machine_of_key key) (events_of (key_machines p) key es) ready))) all
+-- all of them but that one wait
+pub still_waits : (b w : Bool) → cond b false w ≡ true → (b ≡ false) × (w ≡ true)
+still_waits true w h = absurd (false≢true h)
+still_waits false w h = (refl, h)
 
--- and any other, which waits
-pub other_pass : {E : Type 0} (r : Result Fate E) (texts : Texts) (moment number : ℕ) (hearing : Option Hearing) (old new : AnySet) → hears hearing number ≡ false
-    → IfOk r (λ fate. (p : Times) (machine : MachineKind) (events : List Heard) → LeadsOf texts p machine events old
-    → IsStepped (rules_of p machine) events None moment (λ es. LeadsOf texts p machine es new) (λ f. StandsOf texts p machine events f new) fate)
-    → IfOk r (λ fate. (p : Times) (es : List (Observation KeyParts)) (e : Observation KeyParts) (key : KeyParts) → IsTold texts moment hearing number key e
-    → IsReady (key_machines p) (key_keeping texts p) es (key, old) → IsPassed (key_machines p) (key_keeping texts p) es e (key, new) fate)
-other_pass r texts moment number hearing old new other all =
-    IfOk-weaker r _ _ (λ fate stepped p es e key told ready.
-    other_passed (key_machines p) (key_keeping texts p) es e (key, new) (told.concerned p ∙ other) fate
-    (subst (λ now. IsStepped (rules_of p (machine_of_key key)) (events_of (key_machines p) key es) None now (λ fs. LeadsOf texts p (machine_of_key key) fs new) (λ f. StandsOf texts p (machine_of_key key) (events_of (key_machines p) key es) f new) fate) (sym told.at)
-    (stepped p (machine_of_key key) (events_of (key_machines p) key es) ready))) all
+-- one that does not wait is that one, or did not before
+pub waits_no_more : (b w : Bool) → cond b false w ≡ false → (b ≡ true) ⊎ (w ≡ false)
+waits_no_more true w h = inl refl
+waits_no_more false w h = inr h
 
--- the set w takes the place of another in t, which began as the old tables
-module _ (texts : Texts) (moment : ℕ) (hearing : Option Hearing) (old t : Tabled) (n : ℕ) (before w : AnySet)
-    (keys : t.keys ≡ old.keys) (rest : drop n t.sets ≡ drop n old.sets) (may : MayPass texts t moment) (at : slice_get t.sets (n + 1 - 1) ≡ Some before) where
-  back : n + 1 - 1 ≡ n
-  back = omega arith
+-- none but the two of an event waited for it
+pub none_waits : (h : Hearing) (n : ℕ) → without (without (hears (Some h)) h.own) h.cancelled n ≡ false
+none_waits h n = go h.own h.cancelled
+  where
+    one : (b : Bool) → cond b false (b || false) ≡ false
+    one true = refl
+    one false = refl
 
-  here : slice_get t.sets n ≡ Some before
-  here = ap (slice_get t.sets) (sym back) ∙ at
+    two : (a b : Bool) → cond b false (cond a false (a || b)) ≡ false
+    two true true = refl
+    two true false = refl
+    two false true = refl
+    two false false = refl
 
-  -- an entry may still pass
-  pub turn_may : moment_of w ≤ moment → IsKnownSet texts w → MayPass texts (with_set t (n + 1) w) moment
-  turn_may low known = record {
-    order = All-set (λ set. moment_of set ≤ moment) t.sets (n + 1 - 1) w low may.order;
-    known = All-set (IsKnownSet texts) t.sets (n + 1 - 1) w known may.known;
-    long = length-set t.sets (n + 1 - 1) w ∙ may.long;
+    go : (own cancelled : Option ℕ) → without (without (λ i. option_eq nat_eq own (Some i) || option_eq nat_eq cancelled (Some i)) own) cancelled n ≡ false
+    go None None = refl
+    go None (Some c) = two false (nat_eq c n)
+    go (Some o) None = one (nat_eq o n)
+    go (Some o) (Some c) = two (nat_eq o n) (nat_eq c n)
+
+-- two numbers that differ are told apart
+apart : (i n : ℕ) → i ≢ n → nat_eq i n ≡ false
+apart i n differ = go (nat_eq i n) refl
+  where
+    go : (b : Bool) → nat_eq i n ≡ b → b ≡ false
+    go true same = absurd (differ ((unsigned_Decides i n).0 same))
+    go false same = refl
+
+-- a set that has heard leaves the keys and the other sets as they were
+pub leaves_keys : (number : ℕ) (after : AnySet) (fate : Fate) (t u : Tabled) → Leaves number after fate t u → u.keys ≡ t.keys
+leaves_keys number after Runs t u h = ap (λ x. x.keys) h.2
+leaves_keys number after NoRun t u h = ap (λ x. x.keys) h
+leaves_keys number after TooWide t u h = ap (λ x. x.keys) h
+
+pub leaves_sets : (number : ℕ) (after : AnySet) (fate : Fate) (t u : Tabled) → Leaves number after fate t u → u.sets ≡ set t.sets (number - 1) after
+leaves_sets number after Runs t u h = ap (λ x. x.sets) h.2
+leaves_sets number after NoRun t u h = ap (λ x. x.sets) h
+leaves_sets number after TooWide t u h = ap (λ x. x.sets) h
+
+-- a set that was settled
+pub settles_leaves : (number : ℕ) (after : AnySet) (t u : Tabled) → Settles number (with_set t number after) u → Leaves number after Runs t u
+settles_leaves number after t u s = (s.limit, subst (IsAgendaOf s.limit) same s.agenda, s.recorded)
+  where
+    same : s.set ≡ after
+    same = elim (set-place t.sets (number - 1) (number - 1) after s.set s.at) [ | inl h ↦ sym h.1 | inr h ↦ absurd (h.0 refl) ]
+
+-- an entry may still pass
+pub leaves_may : (texts : Texts) (moment number : ℕ) (after : AnySet) (fate : Fate) (t u : Tabled) → MayPass texts t moment → Leaves number after fate t u
+    → moment_of after ≤ moment → IsKnownSet texts after → MayPass texts u moment
+leaves_may texts moment number after fate t u may leaves low known =
+    let sets = sym (leaves_sets number after fate t u leaves) in
+    record {
+      order = subst (All (λ set. moment_of set ≤ moment)) sets (All-set (λ set. moment_of set ≤ moment) t.sets (number - 1) after low may.order);
+      known = subst (All (IsKnownSet texts)) sets (All-set (IsKnownSet texts) t.sets (number - 1) after known may.known);
+      long = ap length (sym sets) ∙ length-set t.sets (number - 1) after ∙ may.long ∙ ap length (sym (leaves_keys number after fate t u leaves));
+    }
+
+-- the last moments stay on record where more wait
+on_record_more : (waits more : ℕ → Bool) → ((n : ℕ) → waits n ≡ true → more n ≡ true) → (n : ℕ) (set : AnySet) (recorded : Option (Option ℕ)) → IsOnRecord waits n set recorded → IsOnRecord more n set recorded
+on_record_more waits more all n set None h = all n h
+on_record_more waits more all n set (Some limit) h = h
+
+pub are_on_record_more : (waits more : ℕ → Bool) (t : Tabled) → ((n : ℕ) → waits n ≡ true → more n ≡ true) → AreOnRecord waits t → AreOnRecord more t
+are_on_record_more waits more t all h = record { long = h.long; each = λ n set r at here. on_record_more waits more all (n + 1) set r (h.each n set r at here) }
+
+-- once a set has heard its event and has a state, its last moment is on record
+module _ (waits : ℕ → Bool) (t : Tabled) (number : ℕ) (low : 0 < number) (after : AnySet) (limit : Option ℕ) (agenda : IsAgendaOf limit after) (old : AreOnRecord waits t) where
+  recorded_at : (n : ℕ) (s : AnySet) (r : Option (Option ℕ)) → slice_get (set t.sets (number - 1) after) n ≡ Some s → slice_get (set t.records (number - 1) (Some limit)) n ≡ Some r
+      → IsOnRecord (without waits (Some number)) (n + 1) s r
+  recorded_at n s r at here = go (set-place t.sets (number - 1) n after s at) (set-place t.records (number - 1) n (Some limit) r here)
+    where
+      go : ((n ≡ number - 1) × (after ≡ s)) ⊎ ((n ≢ number - 1) × (slice_get t.sets n ≡ Some s)) → ((n ≡ number - 1) × (Some limit ≡ r)) ⊎ ((n ≢ number - 1) × (slice_get t.records n ≡ Some r))
+          → IsOnRecord (without waits (Some number)) (n + 1) s r
+      go (inl a) (inl b) = subst (IsOnRecord (without waits (Some number)) (n + 1) s) b.1 (subst (IsAgendaOf limit) a.1 agenda)
+      go (inl a) (inr b) = absurd (b.0 a.0)
+      go (inr a) (inl b) = absurd (a.0 b.0)
+      go (inr a) (inr b) = only r (old.each n s r a.1 b.1)
+        where
+          other : nat_eq number (n + 1) ≡ false
+          other = apart number (n + 1) (λ same. a.0 (omega (arith, same)))
+
+          only : (x : Option (Option ℕ)) → IsOnRecord waits (n + 1) s x → IsOnRecord (without waits (Some number)) (n + 1) s x
+          only None h = ap (λ b. cond b false (waits (n + 1))) other ∙ h
+          only (Some l) h = h
+
+  settled : (u : Tabled) → u.keys ≡ t.keys → u.sets ≡ set t.sets (number - 1) after → u.records ≡ set t.records (number - 1) (Some limit) → AreOnRecord (without waits (Some number)) u
+  settled u keys sets records = record {
+    long = ap length records ∙ length-set t.records (number - 1) (Some limit) ∙ old.long ∙ ap length (sym keys);
+    each = λ n s r at here. recorded_at n s r (ap (λ xs. slice_get xs n) (sym sets) ∙ at) (ap (λ xs. slice_get xs n) (sym records) ∙ here);
   }
 
-  -- the sets behind it are as they were
-  pub turn_rest : drop (n + 1) (with_set t (n + 1) w).sets ≡ drop (n + 1) old.sets
-  turn_rest = ap (λ i. drop (n + 1) (set t.sets i w)) back ∙ rest-set t.sets old.sets n w rest
+pub heard_record : (texts : Texts) (event : NumberedEvent) (waits : ℕ → Bool) (number : Option ℕ) (t u : Tabled) (outcome : Outcome) → ForSome number (IsGiven t) → AreOnRecord waits t
+    → HearsIf texts event number t u outcome → outcome ≡ all.Fine → AreOnRecord (without waits number) u
+heard_record texts event waits None t u outcome given old h fine = subst (AreOnRecord waits) (sym h.0) old
+heard_record texts event waits (Some number) t u outcome given old (fate, h, is) fine = go fate h (sym is ∙ fine)
+  where
+    go : (f : Fate) → Hears texts event number t u f → outcome_of number f ≡ all.Fine → AreOnRecord (without waits (Some number)) u
+    go Runs heard same =
+        let (limit, agenda, left) = heard.leaves in
+        settled waits t number (given number refl).low heard.after limit agenda old u (ap (λ x. x.keys) left) (ap (λ x. x.sets) left) (ap (λ x. x.records) left)
+    go NoRun heard same = absurd cc
+    go TooWide heard same = absurd cc
 
-  -- and so it was
-  was : length old.sets ≡ length old.keys → n < length old.keys → slice_get old.sets n ≡ Some before
-  was long low =
-      slice_get-get_or old.sets n before (omega (arith, long))
-      ∙ ap Some (sym (get_or-same_rest t.sets old.sets n before rest) ∙ get_or_from_slice_get t.sets n before before here)
+-- all are on record after an entry in no trouble
+pub on_record_if : (outcome : Outcome) (t : Tabled) → (outcome ≡ all.Fine → AllAreOnRecord t) → AreOnRecordIf outcome t
+on_record_if all.Fine t h = h refl
+on_record_if (all.NoRun number) t h = tt
+on_record_if (all.TooWide number) t h = tt
 
-  module _ (p : Times) (es : List (Observation KeyParts)) (e : Observation KeyParts) (told : AreTold texts old.keys moment hearing e) (long : length old.sets ≡ length old.keys)
-      (ready : All (IsReady (key_machines p) (key_keeping texts p) es) (transactions_of old)) (low : n < length old.keys) (wide : Option ℕ)
-      (so_far : SoFar (key_machines p) (key_keeping texts p) es e (take n (transactions_of t)) wide) where
-    own : (key : KeyParts) × (slice_get old.keys n ≡ Some key)
-    own = at_place old.keys n low
-
-    -- its key
-    there : slice_get t.keys n ≡ Some own.0
-    there = ap (λ ks. slice_get ks n) keys ∙ own.1
-
-    within : n < length (transactions_of t)
-    within = slice_get_within (transactions_of t) n (own.0, before) (zip-place t.keys t.sets n own.0 before there here)
-
-    placed : set (transactions_of t) n (own.0, w) ≡ transactions_of (with_set t (n + 1) w)
-    placed = sym (ap (λ i. zip t.keys (set t.sets i w)) back ∙ zip-set t.keys t.sets n own.0 w there)
-
-    -- what the entry leaves of it
-    left : (fate : Fate) → ((p : Times) (es : List (Observation KeyParts)) (e : Observation KeyParts) (key : KeyParts) → IsTold texts moment hearing (n + 1) key e
-        → IsReady (key_machines p) (key_keeping texts p) es (key, before) → IsPassed (key_machines p) (key_keeping texts p) es e (key, w) fate)
-        → IsPassed (key_machines p) (key_keeping texts p) es e (own.0, w) fate
-    left fate passed =
-        passed p es e own.0 (told n own.0 own.1)
-        (All-place (IsReady (key_machines p) (key_keeping texts p) es) (transactions_of old) n (own.0, before) (zip-place old.keys old.sets n own.0 before own.1 (was long low)) ready)
-
-    pub table_runs : ((p : Times) (es : List (Observation KeyParts)) (e : Observation KeyParts) (key : KeyParts) → IsTold texts moment hearing (n + 1) key e
-        → IsReady (key_machines p) (key_keeping texts p) es (key, before) → IsPassed (key_machines p) (key_keeping texts p) es e (key, w) Runs)
-        → SoFar (key_machines p) (key_keeping texts p) es e (take (n + 1) (transactions_of (with_set t (n + 1) w))) wide
-    table_runs passed = subst (λ ts. SoFar (key_machines p) (key_keeping texts p) es e (take (n + 1) ts) wide) placed
-        (turn_runs (key_machines p) (key_keeping texts p) es e (transactions_of t) (own.0, w) n within wide so_far (left Runs passed))
-
-    pub table_too_wide : ((p : Times) (es : List (Observation KeyParts)) (e : Observation KeyParts) (key : KeyParts) → IsTold texts moment hearing (n + 1) key e
-        → IsReady (key_machines p) (key_keeping texts p) es (key, before) → IsPassed (key_machines p) (key_keeping texts p) es e (key, w) TooWide)
-        → SoFar (key_machines p) (key_keeping texts p) es e (take (n + 1) (transactions_of (with_set t (n + 1) w))) (option_or wide (Some (n + 1)))
-    table_too_wide passed = subst (λ ts. SoFar (key_machines p) (key_keeping texts p) es e (take (n + 1) ts) (option_or wide (Some (n + 1)))) placed
-        (turn_too_wide (key_machines p) (key_keeping texts p) es e (transactions_of t) (own.0, w) n within wide so_far (left TooWide passed))
-
-    pub table_no_run : ((p : Times) (es : List (Observation KeyParts)) (e : Observation KeyParts) (key : KeyParts) → IsTold texts moment hearing (n + 1) key e
-        → IsReady (key_machines p) (key_keeping texts p) es (key, before) → IsPassed (key_machines p) (key_keeping texts p) es e (key, w) NoRun)
-        → IsFirst (λ key. ¬ HasRun (key_machines p) key (es ++ e ∷ [])) (map (λ x. x.0) (transactions_of (with_set t (n + 1) w))) (n + 1)
-    table_no_run passed = subst (λ ts. IsFirst (λ key. ¬ HasRun (key_machines p) key (es ++ e ∷ [])) (map (λ x. x.0) ts) (n + 1)) placed
-        (turn_no_run (key_machines p) (key_keeping texts p) es e (transactions_of t) (own.0, w) n within wide so_far (left NoRun passed))
+-- a number that was given still is
+pub given_still : (number : Option ℕ) (t u : Tabled) → u.keys ≡ t.keys → ForSome number (IsGiven t) → ForSome number (IsGiven u)
+given_still number t u keys given = λ n is. let g = given n is in record { low = g.low; high = (let same = ap length keys in let high = g.high in omega arith) }

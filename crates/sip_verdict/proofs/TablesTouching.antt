@@ -1,5 +1,5 @@
 -- Keys that an event names are looked up in the tables.
-use Rattle.std.proofs.Common.{◌≡◌, ◌≢◌, ◌≤◌, ◌<◌, ◌+◌, ◌-◌, ◌||◌, inl, inr, ℕ, zero, suc, Bool, true, false, nat_eq, Option, Some, None, List, [], ◌∷◌, ◌++◌, All, AllPairs, Contains, length, slice_get, option_to_list, refl, sym, ap, ◌∙◌, subst, arith, length-append}
+use Rattle.std.proofs.Common.{◌≡◌, ◌≢◌, ◌≤◌, ◌<◌, ◌+◌, ◌-◌, ◌⊎◌, ◌||◌, inl, inr, ℕ, zero, suc, Bool, true, false, nat_eq, Option, Some, None, List, [], ◌∷◌, ◌++◌, All, AllPairs, Contains, length, slice_get, option_to_list, refl, sym, ap, ◌∙◌, subst, arith, length-append}
 use Rattle.std.specs.Prelude.{fold}
 use Rattle.std.specs.List.{list_any, zip}
 use Rattle.std.specs.Option.{option_eq}
@@ -22,11 +22,11 @@ use Rattle.sip_verdict.specs.Keyed.{Observation, events_of}
 use Rattle.sip_verdict.specs.Keyed as keyed
 use Rattle.sip_verdict.specs.MessageReading.{key_machines}
 use Rattle.sip_verdict.specs.inner.Tracking.{IsTouched}
-use Rattle.sip_verdict.specs.inner.TablesTracking.{meaning_of, LeadsOf, key_keeping, transactions_of, AreTold, TouchesIf, HasIf, MayPass}
+use Rattle.sip_verdict.specs.inner.TablesTracking.{meaning_of, LeadsOf, key_keeping, transactions_of, AreTold, TouchesIf, HasIf, MayPass, IsOnRecord, AreOnRecord}
 use Rattle.sip_verdict.proofs.Keys.{IsExact}
 use Rattle.sip_verdict.proofs.Leading.{Leads-start}
 use Rattle.sip_verdict.proofs.ByMachine.{first_of, first_is_of, first_knows, start_is, moment_is, to_set}
-use Rattle.sip_verdict.proofs.TablesPassing.{keys_are}
+use Rattle.sip_verdict.proofs.TablesPassing.{keys_are, are_on_record_more}
 use Rattle.sip_verdict.proofs.TrackingLemmas.{AreKept, kept_touched}
 
 -- what holds of the tables before and of them with any key more, holds after
@@ -77,6 +77,55 @@ touches_may texts moment key number old new may h = record {
   known = touches_sets (IsKnownSet texts) old new (start_known texts old.times) key number may.known h;
   long = touches_long key number old new may.long h;
 }
+
+-- an element of a list with one more
+push-place : {A : Type 0} (xs : List A) (a : A) (n : ℕ) (x : A) → slice_get (xs ++ a ∷ []) n ≡ Some x → (slice_get xs n ≡ Some x) ⊎ ((n ≡ length xs) × (a ≡ x))
+push-place [] a zero x at = inr (refl, cc)
+push-place [] a (suc n) x at = absurd cc
+push-place (u ∷ xs) a zero x at = inl at
+push-place (u ∷ xs) a (suc n) x at = elim (push-place xs a n x at) [ | inl h ↦ inl h | inr h ↦ inr (ap suc h.0, h.1) ]
+
+or_first : (a b : Bool) → a ≡ true → (a || b) ≡ true
+or_first a b h = ap (λ x. x || b) h
+
+or_second : (a b : Bool) → b ≡ true → (a || b) ≡ true
+or_second true b h = refl
+or_second false b h = h
+
+-- each last moment is on record, but that of the key, if it is new
+module _ (waits : ℕ → Bool) (number : Option ℕ) where
+  abbrev AreOnRecordBut : Tabled → Type 0
+  AreOnRecordBut t = AreOnRecord (λ n. waits n || option_eq nat_eq number (Some n)) t
+
+  stay_on_record : (t : Tabled) → AreOnRecord waits t → AreOnRecordBut t
+  stay_on_record t h = are_on_record_more waits (λ n. waits n || option_eq nat_eq number (Some n)) t (λ n own. or_first (waits n) (option_eq nat_eq number (Some n)) own) h
+
+  module _ (key : KeyParts) (n : ℕ) (is : number ≡ Some n) (old : Tabled) (long : length old.sets ≡ length old.keys) (counts : n ≡ length old.keys + 1) (h : AreOnRecord waits old) where
+    new_record : (i : ℕ) (s : AnySet) (r : Option (Option ℕ)) → slice_get (old.sets ++ start_of old.times key ∷ []) i ≡ Some s → slice_get (old.records ++ None ∷ []) i ≡ Some r
+        → IsOnRecord (λ j. waits j || option_eq nat_eq number (Some j)) (i + 1) s r
+    new_record i s r at here = go (push-place old.sets (start_of old.times key) i s at) (push-place old.records None i r here)
+      where
+        own : i ≡ length old.records → option_eq nat_eq number (Some (i + 1)) ≡ true
+        own last = subst (λ o. option_eq nat_eq o (Some (i + 1)) ≡ true) (sym is) ((unsigned_Decides n (i + 1)).1 (let same = h.long in omega arith))
+
+        go : (slice_get old.sets i ≡ Some s) ⊎ ((i ≡ length old.sets) × (start_of old.times key ≡ s)) → (slice_get old.records i ≡ Some r) ⊎ ((i ≡ length old.records) × (None ≡ r))
+            → IsOnRecord (λ j. waits j || option_eq nat_eq number (Some j)) (i + 1) s r
+        go (inl a) (inl b) = (stay_on_record old h).each i s r a b
+        go (inl a) (inr b) = (let within = slice_get_within old.sets i s a in let same = h.long in absurd (omega (arith, b.0)))
+        go (inr a) (inl b) = (let within = slice_get_within old.records i r b in let same = h.long in absurd (omega (arith, a.0)))
+        go (inr a) (inr b) =
+            subst (IsOnRecord (λ j. waits j || option_eq nat_eq number (Some j)) (i + 1) s) b.1 (or_second (waits (i + 1)) (option_eq nat_eq number (Some (i + 1))) (own b.0))
+
+    with_key_recorded : AreOnRecordBut (with_key old key)
+    with_key_recorded = record {
+      long = length-append old.records (None ∷ []) ∙ ap (λ i. i + 1) h.long ∙ sym (length-append old.keys (key ∷ []));
+      each = new_record;
+    }
+
+  pub touches_recorded : (key : Option KeyParts) (old new : Tabled) → length old.sets ≡ length old.keys → AreOnRecord waits old → TouchesIf key number old new → AreOnRecordBut new
+  touches_recorded None old new long h touched = subst AreOnRecordBut (sym touched.1) (stay_on_record old h)
+  touches_recorded (Some key) old new long h (n, is, inl same) = subst AreOnRecordBut (sym same.1) (stay_on_record old h)
+  touches_recorded (Some key) old new long h (n, is, inr new_one) = subst AreOnRecordBut (sym new_one.2) (with_key_recorded key n is old long new_one.1 h)
 
 -- lists side by side with one more pair
 zip-push : {A B : Type 0} (xs : List A) (ys : List B) (x : A) (y : B) → length ys ≡ length xs → zip (xs ++ x ∷ []) (ys ++ y ∷ []) ≡ zip xs ys ++ (x, y) ∷ []

@@ -1,16 +1,17 @@
 //! What one entry leaves of the runs of the transactions.
-ghost use Rattle.std.specs.Prelude.{◌≡◌, ◌≤◌, ◌+◌, ℕ, List, All, IfOk, OnOk, length};
+ghost use Rattle.std.specs.Prelude.{◌≡◌, ◌≤◌, ℕ, List, All, IfOk, OnOk};
 ghost use Rattle.std.specs.Option.{ForSome, option_copied};
 ghost use Rattle.sip_key.specs.Key.{KeyParts};
 ghost use Rattle.sip_machine.specs.Times.{Times};
 ghost use Rattle.sip_machine.specs.Heard.{Heard, heard, FitsBook};
 ghost use Rattle.sip_states.specs.KeyMachine.{MachineKind, rules_of};
-ghost use Rattle.sip_states.specs.AnySet.{moment_of, IsKnownSet};
+ghost use Rattle.sip_states.specs.AnySet.{moment_of, IsEmpty, IsKnownSet};
+ghost use Rattle.sip_states.specs.Tables.{IsGiven, due_of};
 ghost use Rattle.sip_verdict.specs.Keyed.{Observation};
 ghost use Rattle.sip_verdict.specs.MessageReading.{key_machines};
 ghost use Rattle.sip_verdict.specs.inner.Stepping.{IsStepped};
-ghost use Rattle.sip_verdict.specs.inner.Tracking.{IsReady, IsPassed, IsOutcome};
-ghost use Rattle.sip_verdict.specs.inner.TablesTracking.{LeadsOf, StandsOf, key_keeping, transactions_of, is_own, IsTold, AreTold, MayPass};
+ghost use Rattle.sip_verdict.specs.inner.Tracking.{IsReady, IsOutcome, overdue_outcome, first_of};
+ghost use Rattle.sip_verdict.specs.inner.TablesTracking.{LeadsOf, StandsOf, key_keeping, transactions_of, hears, AreTold, MayPass, MayHear, AreOnRecord, AreOnRecordIf, HearsIf};
 
 use sip_machine::{Book, Event};
 use sip_states::{AnySet, Tables, TakeError};
@@ -25,15 +26,6 @@ pub(crate) struct Hearing {
     pub(crate) cancelled: Option<u32>,
 }
 
-impl Hearing {
-    /// Whether the event is one of the transaction with this number.
-    fn is_own(&self, number: u32) -> bool
-        ensures { result ≡ is_own self.now number }
-    {
-        self.own == Some(number) || self.cancelled == Some(number)
-    }
-}
-
 /// What an entry leaves of the runs of one transaction: some, none, or more last states than are followed.
 #[derive(Clone, Copy)]
 pub(crate) enum Fate {
@@ -42,12 +34,26 @@ pub(crate) enum Fate {
     TooWide,
 }
 
-/// What an entry leaves of the runs of all, with the number of the first transaction in trouble.
+/// What an entry leaves of the runs of several, with the number of the first transaction in trouble.
 #[derive(Clone, Copy)]
 pub(crate) enum Outcome {
     Fine,
     NoRun(u32),
     TooWide(u32),
+}
+
+impl Outcome {
+    /// What is left of these and of others: the first without a run, else the first with too many last states.
+    fn first(self, other: Outcome) -> Outcome
+        ensures { result ≡ first_of self other }
+    {
+        match (self, other) {
+            (Outcome::Fine, one) | (one, Outcome::Fine) => one,
+            (Outcome::NoRun(one), Outcome::NoRun(two)) => Outcome::NoRun(one.min(two)),
+            (Outcome::NoRun(one), _) | (_, Outcome::NoRun(one)) => Outcome::NoRun(one),
+            (Outcome::TooWide(one), Outcome::TooWide(two)) => Outcome::TooWide(one.min(two)),
+        }
+    }
 }
 
 /// Lets the set take the event of its key.
@@ -57,6 +63,7 @@ fn hear(set: &mut AnySet, book: &Book, event: &Event) -> Result<Fate, AllocError
     requires known { IsKnownSet book.now set.old }
     ensures order { OnOk result (moment_of set.new ≤ event.now.moment) }
     ensures known { OnOk result (IsKnownSet book.now set.new) }
+    ensures some { IfOk result (λ fate. fate ≡ Fate.Runs → ¬ IsEmpty set.new) }
     ensures stepped { IfOk result (λ fate. (p : Times) (machine : MachineKind) (events : List Heard) → LeadsOf book.now p machine events set.old
         → IsStepped (rules_of p machine) events (Some (heard book.now event.now)) event.now.moment (λ es. LeadsOf book.now p machine es set.new) (λ e. StandsOf book.now p machine events e set.new) fate) }
 {
@@ -73,76 +80,69 @@ fn hear(set: &mut AnySet, book: &Book, event: &Event) -> Result<Fate, AllocError
     }
 }
 
-/// Lets the set wait until the moment of an entry that does not concern its key.
-fn wait(set: &mut AnySet, book: &Book, moment: u64) -> Result<Fate, AllocError>
-    requires order { moment_of set.old ≤ moment }
-    requires known { IsKnownSet book.now set.old }
-    ensures order { OnOk result (moment_of set.new ≤ moment) }
-    ensures known { OnOk result (IsKnownSet book.now set.new) }
-    ensures stepped { IfOk result (λ fate. (p : Times) (machine : MachineKind) (events : List Heard) → LeadsOf book.now p machine events set.old
-        → IsStepped (rules_of p machine) events None moment (λ es. LeadsOf book.now p machine es set.new) (λ e. StandsOf book.now p machine events e set.new) fate) }
-{
-    book.known();
-    set.advance(moment)?;
-    if set.is_empty() {
-        Ok(Fate::NoRun)
-    } else {
-        Ok(Fate::Runs)
-    }
-}
-
-/// Lets the set of the transaction with this number pass the entry: it takes the event if that is its own.
-fn pass(
-    set: &mut AnySet,
-    number: u32,
+/// Lets the transaction with this number, if there is one, hear the event, and puts on record until when it can wait
+/// then.
+fn hear_one<H: BuildHasher>(
+    tables: &mut Tables<H>,
     book: &Book,
-    moment: u64,
-    hearing: Option<&Hearing>,
-) -> Result<Fate, AllocError>
-    requires order { moment_of set.old ≤ moment }
-    requires fits { ForSome hearing (λ h. FitsBook book.now h.now.event × (h.now.event.moment ≡ moment)) }
-    requires known { IsKnownSet book.now set.old }
-    ensures order { OnOk result (moment_of set.new ≤ moment) }
-    ensures known { OnOk result (IsKnownSet book.now set.new) }
-    ensures passed { IfOk result (λ fate. (p : Times) (es : List (Observation KeyParts)) (e : Observation KeyParts) (key : KeyParts)
-        → IsTold book.now moment (option_copied hearing.entry) number key e
-        → IsReady (key_machines p) (key_keeping book.now p) es (key, set.old)
-        → IsPassed (key_machines p) (key_keeping book.now p) es e (key, set.new) fate) }
+    number: Option<u32>,
+    event: &Event,
+) -> Result<Outcome, AllocError>
+    requires given { ForSome number (IsGiven tables.old) }
+    requires fits { FitsBook book.now event.now }
+    requires may { MayPass book.now tables.old event.now.moment }
+    ensures times { OnOk result (tables.new.times ≡ tables.old.times) }
+    ensures keys { OnOk result (tables.new.keys ≡ tables.old.keys) }
+    ensures may { OnOk result (MayPass book.now tables.new event.now.moment) }
+    ensures heard { IfOk result (HearsIf book.now event.now number tables.old tables.new) }
 {
-    match hearing {
-        Some(own) if own.is_own(number) => hear(set, book, &own.event),
-        _ => wait(set, book, moment),
+    let Some(number) = number else {
+        return Ok(Outcome::Fine);
+    };
+    match hear(tables.set_mut(number), book, event)? {
+        Fate::Runs => {
+            tables.settle(number)?;
+            Ok(Outcome::Fine)
+        }
+        Fate::NoRun => Ok(Outcome::NoRun(number)),
+        Fate::TooWide => Ok(Outcome::TooWide(number)),
     }
 }
 
-/// Lets the set of every transaction pass the entry.
+/// Whether a transaction has waited longer than it can.
+fn overdue<H: BuildHasher>(tables: &Tables<H>, moment: u64) -> Outcome
+    ensures { result ≡ overdue_outcome (due_of tables.now moment) }
+{
+    match tables.due(moment) {
+        Some(number) => Outcome::NoRun(number),
+        None => Outcome::Fine,
+    }
+}
+
+/// Lets every transaction pass the entry: those that it concerns hear the event, and the others wait.
 pub(crate) fn pass_all<H: BuildHasher>(
     tables: &mut Tables<H>,
     book: &Book,
     moment: u64,
     hearing: Option<&Hearing>,
 ) -> Result<Outcome, AllocError>
-    requires fits { ForSome hearing (λ h. FitsBook book.now h.now.event × (h.now.event.moment ≡ moment)) }
     requires may { MayPass book.now tables.old moment }
+    requires hear { ForSome hearing (λ h. MayHear book.now tables.old moment h.now) }
+    requires recorded { AreOnRecord (hears (option_copied hearing)) tables.old }
     ensures times { OnOk result (tables.new.times ≡ tables.old.times) }
     ensures keys { OnOk result (tables.new.keys ≡ tables.old.keys) }
     ensures may { OnOk result (MayPass book.now tables.new moment) }
+    ensures recorded { IfOk result (λ outcome. AreOnRecordIf outcome tables.new) }
     ensures outcome { IfOk result (λ outcome. (p : Times) (es : List (Observation KeyParts)) (e : Observation KeyParts)
         → AreTold book.now tables.old.keys moment (option_copied hearing.entry) e
         → All (IsReady (key_machines p) (key_keeping book.now p) es) (transactions_of tables.old)
         → IsOutcome (key_machines p) (key_keeping book.now p) es e (transactions_of tables.new) outcome) }
 {
-    let mut wide = None;
-    for n in 0..tables.len() {
-        let set = tables.set_mut(n + 1);
-        match pass(set, n + 1, book, moment, hearing)? {
-            Fate::Runs => {}
-            Fate::NoRun => return Ok(Outcome::NoRun(n + 1)),
-            Fate::TooWide => wide = wide.or(Some(n + 1)),
-        }
-    }
-    match wide {
-        None => Ok(Outcome::Fine),
-        Some(number) => Ok(Outcome::TooWide(number)),
-    }
+    let overdue = overdue(tables, moment);
+    let Some(hearing) = hearing else {
+        return Ok(overdue);
+    };
+    let own = hear_one(tables, book, hearing.own, &hearing.event)?;
+    let cancelled = hear_one(tables, book, hearing.cancelled, &hearing.event)?;
+    Ok(overdue.first(own).first(cancelled))
 }

@@ -3,7 +3,6 @@ ghost use Rattle.std.specs.Prelude.{◌≡◌, ◌≢◌, ◌≤◌, ◌<◌, �
 ghost use Rattle.std.specs.Option.{ForSome, option_copied};
 ghost use Rattle.sip_key.specs.Key.{KeyParts};
 ghost use Rattle.sip_machine.specs.Times.{last_moment};
-ghost use Rattle.sip_machine.specs.Heard.{FitsBook};
 ghost use Rattle.sip_states.specs.Tables.{IsGiven, Tabled, most_keys};
 ghost use Rattle.sip_log.specs.Log.{most_entries};
 ghost use Rattle.sip_log.specs.Spelling.{Item};
@@ -14,7 +13,7 @@ ghost use Rattle.sip_verdict.specs.Listing.{first_entry};
 ghost use Rattle.sip_verdict.specs.ListingOf.{key_words};
 ghost use Rattle.sip_verdict.specs.inner.Numbering.{AreNumbered, StaysNumbered, IsListedEntry, Appends, IsTextOf};
 ghost use Rattle.sip_verdict.specs.inner.Tracking.{IsJudged};
-ghost use Rattle.sip_verdict.specs.inner.TablesTracking.{key_keeping, transactions_of, TablesTrack, TablesTrackBefore, AreTold, TouchesIf, AreConcerned, MayPass, MayTake};
+ghost use Rattle.sip_verdict.specs.inner.TablesTracking.{key_keeping, transactions_of, TablesTrack, TablesTrackBefore, AreTold, TouchesIf, AreConcerned, hears, MayPass, MayHear, AreOnRecord, AllAreOnRecord, MayTake};
 
 use crate::listing::Listing;
 use crate::observing::{Told, observe};
@@ -28,8 +27,8 @@ use sip_states::Tables;
 use std::alloc::{AllocError, Global};
 use std::hash::BuildHasher;
 
-/// The messages of a log so far, and the transactions in the order of their first messages. Each of them passes every entry;
-/// an agenda of last moments will take its place.
+/// The messages of a log so far, and the transactions in the order of their first messages. An entry that does not concern a
+/// transaction leaves its states as they are: until when it can wait is on record.
 #[derive(Drop)]
 pub(crate) struct Standing<H: BuildHasher> {
     book: Book,
@@ -79,7 +78,7 @@ impl<H: BuildHasher> Standing<H> {
     /// Nothing was judged yet. It takes no memory.
     pub(crate) fn new(alloc: Global, params: Params, hasher: H) -> Standing<H>
         ensures book { result.book ≡ [] }
-        ensures tables { result.tables ≡ record { times = params; keys = []; sets = [] } }
+        ensures tables { result.tables ≡ record { times = params; keys = []; sets = []; records = [] } }
     {
         Standing {
             book: Book::new(alloc),
@@ -101,12 +100,14 @@ impl<H: BuildHasher> Standing<H> {
         moment: u64,
         hearing: Option<&Hearing>,
     ) -> Result<Option<Verdict>, AllocError>
-        requires fits { ForSome hearing (λ h. FitsBook self.old.book h.now.event × (h.now.event.moment ≡ moment)) }
         requires may { MayPass self.old.book self.old.tables moment }
+        requires hear { ForSome hearing (λ h. MayHear self.old.book self.old.tables moment h.now) }
+        requires recorded { AreOnRecord (hears (option_copied hearing)) self.old.tables }
         ensures times { OnOk result (self.new.tables.times ≡ self.old.tables.times) }
         ensures keys { OnOk result (self.new.tables.keys ≡ self.old.tables.keys) }
         ensures book { OnOk result (self.new.book ≡ self.old.book) }
         ensures may { OnOk result (MayPass self.new.book self.new.tables moment) }
+        ensures recorded { IfOk result (λ verdict. IfNone verdict (AllAreOnRecord self.new.tables)) }
         ensures judged { IfOk result (λ verdict. (es : List (Observation KeyParts)) (e : Observation KeyParts) → e.fault ≡ None
             → AreTold self.old.book self.old.tables.keys moment (option_copied hearing.entry) e
             → TablesTrackBefore self.old.book es e self.old.tables → number ≡ length es + 1

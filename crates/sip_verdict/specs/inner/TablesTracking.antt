@@ -1,10 +1,11 @@
-use Rattle.std.specs.Prelude.{◌≡◌, ◌≤◌, ◌<◌, ◌+◌, ◌-◌, ◌||◌, ◌++◌, ℕ, nat_eq, Bool, false, Option, Some, None, List, All, IfSome, length, slice_get, option_to_list}
+use Rattle.std.specs.Prelude.{◌≡◌, ◌≢◌, ◌≤◌, ◌<◌, ◌+◌, ◌-◌, ◌||◌, ◌++◌, ℕ, nat_eq, Bool, true, false, Option, Some, None, List, All, IfSome, length, slice_get, option_to_list}
 use Rattle.std.specs.List.{zip}
-use Rattle.std.specs.Option.{option_eq}
+use Rattle.std.specs.Option.{ForSome, option_eq}
 use Rattle.sip_key.specs.Key.{KeyParts}
 use Rattle.sip_machine.specs.Times.{Times}
 use Rattle.sip_machine.specs.Texts.{Texts, Keeps}
-use Rattle.sip_machine.specs.Heard.{Heard, heard}
+use Rattle.sip_machine.specs.NumberedEvent.{NumberedEvent}
+use Rattle.sip_machine.specs.Heard.{Heard, heard, FitsBook}
 use Rattle.sip_machine.specs.declared.invite_client.InviteClientState.{InviteClientState}
 use Rattle.sip_machine.specs.declared.plain_client.PlainState.{PlainState}
 use Rattle.sip_machine.specs.declared.invite_server.InviteServerState.{InviteServerState}
@@ -14,15 +15,19 @@ use Rattle.sip_states.specs.Runs.{After}
 use Rattle.sip_states.specs.Held.{Held}
 use Rattle.sip_states.specs.KeyMachine.{MachineKind, OfInviteClient, OfPlainClient, OfInviteServer, OfPlainServer, PhaseOf, rules_of, machine_of_key}
 use Rattle.sip_states.specs.Meaning.{Meaning}
-use Rattle.sip_states.specs.AnySet.{invite_client_meaning, plain_client_meaning, invite_server_meaning, plain_server_meaning, moment_of, IsKnownSet}
-use Rattle.sip_states.specs.Tables.{Tabled, Touches}
+use Rattle.sip_states.specs.AnySet.{invite_client_meaning, plain_client_meaning, invite_server_meaning, plain_server_meaning, moment_of, IsKnownSet, IsAgendaOf}
+use Rattle.sip_states.specs.Tables.{Tabled, IsGiven, Touches, with_set, with_record}
 use Rattle.sip_states.specs.declared.any_set.AnySet.{AnySet}
 use Rattle.sip_states.specs.declared.any_set.AnySet.TheVariants.{InviteClient, PlainClient, InviteServer, PlainServer}
 use Rattle.sip_verdict.specs.declared.passing.Hearing.{Hearing}
+use Rattle.sip_verdict.specs.declared.passing.Fate.{Fate}
+use Rattle.sip_verdict.specs.declared.passing.Fate.TheVariants.{Runs, NoRun, TooWide}
+use Rattle.sip_verdict.specs.declared.passing.Outcome.{Outcome}
+use Rattle.sip_verdict.specs.declared.passing.Outcome.TheVariants as all
 use Rattle.sip_verdict.specs.Keyed.{Observation, concerns}
 use Rattle.sip_verdict.specs.MessageReading.{key_machines}
-use Rattle.sip_verdict.specs.inner.Stepping.{LeadsTo}
-use Rattle.sip_verdict.specs.inner.Tracking.{Keeping, Tracks, TracksBefore}
+use Rattle.sip_verdict.specs.inner.Stepping.{LeadsTo, IsStepped}
+use Rattle.sip_verdict.specs.inner.Tracking.{Keeping, Tracks, TracksBefore, outcome_of}
 
 -- What is kept of the transactions of a log: the set of each key, by the machine of the key.
 
@@ -116,8 +121,57 @@ pub record MayPass (texts : Texts) (t : Tabled) (moment : ℕ) : Type 0 where
   pub known : All (IsKnownSet texts) t.sets
   pub long : length t.sets ≡ length t.keys
 
--- an entry with this number and moment may come next: at most two keys came with each of those before it
+-- an event of this moment may be heard: the book keeps its message, and its numbers were given and differ
+pub record MayHear (texts : Texts) (t : Tabled) (moment : ℕ) (h : Hearing) : Type 0 where
+  pub fits : FitsBook texts h.event
+  pub at : h.event.moment ≡ moment
+  pub own : ForSome h.own (IsGiven t)
+  pub cancelled : ForSome h.cancelled (IsGiven t)
+  pub apart : IfSome h.cancelled (λ number. h.own ≢ Some number)
+
+-- what is on record of the set with this number: until when a wait in it can last; or nothing, if it is among those that are still to hear an event
+abbrev pub IsOnRecord : (ℕ → Bool) → ℕ → AnySet → Option (Option ℕ) → Type 0
+IsOnRecord waits number set (Some limit) = IsAgendaOf limit set
+IsOnRecord waits number set None = waits number ≡ true
+
+-- the same of each set
+pub record AreOnRecord (waits : ℕ → Bool) (t : Tabled) : Type 0 where
+  pub long : length t.records ≡ length t.keys
+  pub each : (n : ℕ) (set : AnySet) (recorded : Option (Option ℕ)) → slice_get t.sets n ≡ Some set → slice_get t.records n ≡ Some recorded → IsOnRecord waits (n + 1) set recorded
+
+-- no set is still to hear one
+abbrev pub AllAreOnRecord : Tabled → Type 0
+AllAreOnRecord t = AreOnRecord (λ number. false) t
+
+-- nor after an entry in no trouble
+abbrev pub AreOnRecordIf : Outcome → Tabled → Type 0
+AreOnRecordIf all.Fine t = AllAreOnRecord t
+AreOnRecordIf (all.NoRun number) t = Unit {0}
+AreOnRecordIf (all.TooWide number) t = Unit {0}
+
+-- the set with this number is another one, and how long a wait in it can last is on record if it has a state
+abbrev pub Leaves : ℕ → AnySet → Fate → Tabled → Tabled → Type 0
+Leaves number set Runs old new = (limit : Option ℕ) × IsAgendaOf limit set × (new ≡ with_record (with_set old number set) number limit)
+Leaves number set NoRun old new = new ≡ with_set old number set
+Leaves number set TooWide old new = new ≡ with_set old number set
+
+-- the set with this number has heard the event, which leaves this of its runs
+pub record Hears (texts : Texts) (e : NumberedEvent) (number : ℕ) (old new : Tabled) (fate : Fate) : Type 0 where
+  pub before : AnySet
+  pub after : AnySet
+  pub was : slice_get old.sets (number - 1) ≡ Some before
+  pub leaves : Leaves number after fate old new
+  pub stepped : (p : Times) (machine : MachineKind) (events : List Heard) → LeadsOf texts p machine events before
+      → IsStepped (rules_of p machine) events (Some (heard texts e)) e.moment (λ es. LeadsOf texts p machine es after) (λ f. StandsOf texts p machine events f after) fate
+
+-- the same if there is such a set, with the outcome
+abbrev pub HearsIf : Texts → NumberedEvent → Option ℕ → Tabled → Tabled → Outcome → Type 0
+HearsIf texts e None old new outcome = (new ≡ old) × (outcome ≡ all.Fine)
+HearsIf texts e (Some number) old new outcome = (fate : Fate) × Hears texts e number old new fate × (outcome ≡ outcome_of number fate)
+
+-- an entry with this number and moment may come next: each last moment is on record, and at most two keys came with each entry before it
 pub record MayTake (texts : Texts) (t : Tabled) (number moment : ℕ) : Type 0 where
   pub passes : MayPass texts t moment
+  pub recorded : AllAreOnRecord t
   pub numbered : (n : ℕ) → Keeps texts n → n < number
   pub few : length t.keys + 2 ≤ number + number

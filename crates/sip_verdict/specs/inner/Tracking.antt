@@ -1,4 +1,4 @@
-use Rattle.std.specs.Prelude.{◌≡◌, ◌≤◌, ◌⊎◌, ◌++◌, [], ◌∷◌, ℕ, true, Option, Some, None, List, All, Contains, map}
+use Rattle.std.specs.Prelude.{◌≡◌, ◌≤◌, ◌⊎◌, ◌++◌, [], ◌∷◌, ℕ, true, Option, Some, None, List, All, Contains, map, min}
 use Rattle.sip_machine.specs.Heard.{Heard}
 use Rattle.sip_verdict.specs.declared.verdict.Verdict.{Verdict}
 use Rattle.sip_verdict.specs.declared.passing.Fate.{Fate}
@@ -61,11 +61,26 @@ IsOutcome m k es e ts (all.NoRun number) = IsFirst (λ key. ¬ HasRun m key (es 
 IsOutcome m k es e ts (all.TooWide number) =
     All (λ key. HasRun m key (es ++ e ∷ [])) (map k.key ts) × IsFirst (IsTooWide m es e) (map k.key ts) number
 
--- the number of an outcome is that of a transaction
-abbrev pub IsNumbered : ℕ → Outcome → Type 0
-IsNumbered count all.Fine = Unit {0}
-IsNumbered count (all.NoRun number) = number ≤ count
-IsNumbered count (all.TooWide number) = number ≤ count
+-- the outcome of one transaction
+abbrev pub outcome_of : ℕ → Fate → Outcome
+outcome_of number Runs = all.Fine
+outcome_of number NoRun = all.NoRun number
+outcome_of number TooWide = all.TooWide number
+
+-- the outcome where the transaction with this number, if there is one, waited too long
+abbrev pub overdue_outcome : Option ℕ → Outcome
+overdue_outcome None = all.Fine
+overdue_outcome (Some number) = all.NoRun number
+
+-- the outcome of some transactions and of others: the first without a run, else the first that is too wide
+abbrev pub first_of : Outcome → Outcome → Outcome
+first_of all.Fine b = b
+first_of (all.NoRun i) all.Fine = all.NoRun i
+first_of (all.NoRun i) (all.NoRun k) = all.NoRun (min i k)
+first_of (all.NoRun i) (all.TooWide k) = all.NoRun i
+first_of (all.TooWide i) all.Fine = all.TooWide i
+first_of (all.TooWide i) (all.NoRun k) = all.NoRun k
+first_of (all.TooWide i) (all.TooWide k) = all.TooWide (min i k)
 
 -- one of the transactions has the key, or this one comes last, which has it
 abbrev pub IsTouched : {K T : Type 0} → Keeping K T → T → List T → List T → Type 0

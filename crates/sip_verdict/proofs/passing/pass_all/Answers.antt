@@ -1,70 +1,61 @@
-use Rattle.std.proofs.Common.{◌≤◌, ◌<◌, [], ◌∷◌, ◌++◌, All, Some, map, length, take, arith, ap, subst}
-use Rattle.std.specs.Option.{option_copied}
-use Rattle.std.proofs.lemmas.List.{take_all}
-use Rattle.sip_verdict.specs.Keyed.{HasRun}
-use Rattle.sip_verdict.specs.Verdicts.{IsFirst, IsTooWide}
+use Rattle.std.proofs.Common.{◌≡◌, Some, sym, ap, ◌∙◌, subst}
+use Rattle.sip_verdict.specs.inner.Tracking.{IsOutcome, overdue_outcome, first_of}
+use Rattle.sip_verdict.specs.inner.TablesTracking.{key_keeping, transactions_of, MayPass, AreOnRecordIf}
 use Rattle.sip_verdict.specs.MessageReading.{key_machines}
-use Rattle.sip_verdict.specs.inner.Tracking.{IsPassed, GoesOn}
-use Rattle.sip_verdict.specs.inner.TablesTracking.{key_keeping, transactions_of}
-use Rattle.sip_verdict.proofs.PassingAll.{SoFar, so_far_all_run}
-use Rattle.sip_verdict.proofs.TablesPassing.{as_many, turn_may, turn_rest, table_runs, table_too_wide, table_no_run}
+use Rattle.sip_states.specs.Tables.{due_of}
+use Rattle.sip_verdict.proofs.Halfway.{mark_outcome, heard_recorded, heard_outcome}
+use Rattle.sip_verdict.proofs.TablesPassing.{on_record_if, given_still}
 use Rattle.sip_verdict.proofs.passing.pass_all.Goals as goal
-use Rattle.sip_verdict.proofs.passing.pass_all.Goals.{in-Runs, in-TooWide}
 
-pub returns-in-NoRun-clause-outcome : goal.returns-in-NoRun-clause-outcome
-returns-in-NoRun-clause-outcome g c = λ p es e told ready.
-    let l = c.loop-n in
-    let low : l.n < length c.args.tables.now.keys = omega arith in
-    table_no_run c.args.book.now c.args.moment (option_copied c.args.hearing) c.args.tables.now l.tables l.n c.set_mut-set.result.now c.pass.new.set l.invariant.keys l.invariant.rest l.invariant.may
-    c.set_mut-set.ensures.value p es e told c.requires.may.long ready low l.wide (l.invariant.passed p es e told ready)
-    (λ q fs f key t r. subst (IsPassed (key_machines q) (key_keeping c.args.book.now q) fs f (key, c.pass.new.set)) c.in-NoRun.is (c.in_ok-pass.ensures.passed q fs f key t r))
+pub returns-in_default-clause-recorded : goal.returns-in_default-clause-recorded
+returns-in_default-clause-recorded g c = on_record_if c.overdue-overdue.result c.args.tables.now (λ fine. rw c.in_default.is at c.requires.recorded)
 
-pub loop-n-preserved : goal.loop-n-preserved
-loop-n-preserved g c =
-    let l = c.loop-n in
-    let book = c.args.book.now in
-    let heard = option_copied c.args.hearing in
-    let old = c.args.tables.now in
-    let low : l.n < length old.keys = omega arith in
-    record {
-      times = l.invariant.times;
-      keys = l.invariant.keys;
-      rest = turn_rest book c.args.moment heard old l.tables l.n c.set_mut-set.result.now c.pass.new.set l.invariant.keys l.invariant.rest l.invariant.may c.set_mut-set.ensures.value;
-      may = turn_may book c.args.moment heard old l.tables l.n c.set_mut-set.result.now c.pass.new.set l.invariant.keys l.invariant.rest l.invariant.may c.set_mut-set.ensures.value
-          c.in_ok-pass.ensures.order c.in_ok-pass.ensures.known;
-      passed = λ p es e told ready. elim c.match-branch-2.branch [
-        | in-Runs w ↦ rw w.wide-is
-            (table_runs book c.args.moment heard old l.tables l.n c.set_mut-set.result.now c.pass.new.set l.invariant.keys l.invariant.rest l.invariant.may c.set_mut-set.ensures.value
-            p es e told c.requires.may.long ready low l.wide (l.invariant.passed p es e told ready)
-            (λ q fs f key t r. subst (IsPassed (key_machines q) (key_keeping book q) fs f (key, c.pass.new.set)) w.in-Runs.is (c.in_ok-pass.ensures.passed q fs f key t r)))
-        | in-TooWide w ↦ rw (w.wide-is, w.or-wide.ensures)
-            (table_too_wide book c.args.moment heard old l.tables l.n c.set_mut-set.result.now c.pass.new.set l.invariant.keys l.invariant.rest l.invariant.may c.set_mut-set.ensures.value
-            p es e told c.requires.may.long ready low l.wide (l.invariant.passed p es e told ready)
-            (λ q fs f key t r. subst (IsPassed (key_machines q) (key_keeping book q) fs f (key, c.pass.new.set)) w.in-TooWide.is (c.in_ok-pass.ensures.passed q fs f key t r)))
-      ];
-    }
+pub returns-in_default-clause-outcome : goal.returns-in_default-clause-outcome
+returns-in_default-clause-outcome g c = λ p es e told ready.
+    let t = c.args.tables.now in
+    subst (IsOutcome (key_machines p) (key_keeping c.args.book.now p) es e (transactions_of t)) (sym c.overdue-overdue.ensures)
+    (mark_outcome c.args.book.now c.args.moment t c.requires.may (rw c.in_default.is at c.requires.recorded) p es e (rw c.in_default.is at told) ready)
 
-pub returns-in-None-clause-outcome : goal.returns-in-None-clause-outcome
-returns-in-None-clause-outcome g c = λ p es e told ready.
-    let l = c.loop-n in
-    let m = key_machines p in
-    let k = key_keeping c.args.book.now p in
-    let long = as_many l.tables l.invariant.may.long in
-    let keys = ap length l.invariant.keys in
-    let whole : length (transactions_of l.tables) ≤ l.n = omega arith in
-    let s = subst (SoFar m k es e (take l.n (transactions_of l.tables))) c.in-None.is (l.invariant.passed p es e told ready) in
-    subst (All (GoesOn m k es e)) (take_all l.n (transactions_of l.tables) whole) s.widest
+pub hear_one-requires-clause-given : goal.hear_one-requires-clause-given
+hear_one-requires-clause-given g c = (c.requires.hear c.in-Some.hearing c.in-Some.is).own
 
-pub returns-in-Some-clause-outcome : goal.returns-in-Some-clause-outcome
-returns-in-Some-clause-outcome g c = λ p es e told ready.
-    let l = c.loop-n in
-    let m = key_machines p in
-    let k = key_keeping c.args.book.now p in
-    let long = as_many l.tables l.invariant.may.long in
-    let keys = ap length l.invariant.keys in
-    let whole : length (transactions_of l.tables) ≤ l.n = omega arith in
-    let s = subst (SoFar m k es e (take l.n (transactions_of l.tables))) c.in-Some.is (l.invariant.passed p es e told ready) in
-    let all = take_all l.n (transactions_of l.tables) whole in (
-      subst (λ ts. All (λ key. HasRun m key (es ++ e ∷ [])) (map (λ t. t.0) ts)) all (so_far_all_run m k es e (take l.n (transactions_of l.tables)) (Some c.in-Some.number) s),
-      subst (λ ts. IsFirst (IsTooWide m es e) (map (λ t. t.0) ts) c.in-Some.number) all s.widest,
-    )
+pub hear_one-requires-clause-fits : goal.hear_one-requires-clause-fits
+hear_one-requires-clause-fits g c = (c.requires.hear c.in-Some.hearing c.in-Some.is).fits
+
+pub hear_one-requires-clause-may : goal.hear_one-requires-clause-may
+hear_one-requires-clause-may g c =
+    subst (MayPass c.args.book.now c.args.tables.now) (sym (c.requires.hear c.in-Some.hearing c.in-Some.is).at) c.requires.may
+
+pub hear_one-requires-2-clause-given : goal.hear_one-requires-2-clause-given
+hear_one-requires-2-clause-given g c =
+    let h = c.in-Some.hearing in
+    given_still h.now.cancelled c.args.tables.now c.hear_one.new.tables c.in_ok-own.ensures.keys (c.requires.hear h c.in-Some.is).cancelled
+
+pub hear_one-requires-2-clause-fits : goal.hear_one-requires-2-clause-fits
+hear_one-requires-2-clause-fits g c = (c.requires.hear c.in-Some.hearing c.in-Some.is).fits
+
+pub returns-clause-may : goal.returns-clause-may
+returns-clause-may g c =
+    subst (MayPass c.args.book.now c.hear_one-2.new.tables) (c.requires.hear c.in-Some.hearing c.in-Some.is).at c.in_ok-cancelled.ensures.may
+
+pub returns-clause-recorded : goal.returns-clause-recorded
+returns-clause-recorded g c =
+    let h = c.in-Some.hearing in
+    let own = c.in_ok-own.own in
+    let cancelled = c.in_ok-cancelled.cancelled in
+    subst (λ o. AreOnRecordIf o c.hear_one-2.new.tables) (ap (λ o. first_of o cancelled) (sym c.first.ensures) ∙ sym c.first-2.ensures)
+    (heard_recorded c.args.book.now c.args.moment h.now c.args.tables.now c.hear_one.new.tables c.hear_one-2.new.tables c.requires.may (c.requires.hear h c.in-Some.is) (rw c.in-Some.is at c.requires.recorded)
+    c.in_ok-own.ensures.keys own cancelled c.in_ok-own.ensures.heard c.in_ok-cancelled.ensures.heard c.overdue-overdue.result)
+
+pub returns-clause-outcome : goal.returns-clause-outcome
+returns-clause-outcome g c = λ p es e told ready.
+    let h = c.in-Some.hearing in
+    let t = c.args.tables.now in
+    let v = c.hear_one-2.new.tables in
+    let own = c.in_ok-own.own in
+    let cancelled = c.in_ok-cancelled.cancelled in
+    let outcome : c.first-2.result ≡ first_of (first_of (overdue_outcome (due_of t c.args.moment)) own) cancelled =
+    c.first-2.ensures ∙ ap (λ o. first_of o cancelled) (c.first.ensures ∙ ap (λ o. first_of o own) c.overdue-overdue.ensures) in
+    subst (IsOutcome (key_machines p) (key_keeping c.args.book.now p) es e (transactions_of v)) (sym outcome)
+    (heard_outcome c.args.book.now c.args.moment h.now t c.hear_one.new.tables v c.requires.may (c.requires.hear h c.in-Some.is) (rw c.in-Some.is at c.requires.recorded)
+    c.in_ok-own.ensures.keys own cancelled c.in_ok-own.ensures.heard c.in_ok-cancelled.ensures.heard c.in_ok-cancelled.ensures.may.long p es e (rw c.in-Some.is at told) ready)

@@ -3,8 +3,9 @@ use Rattle.sip_machine.specs.Texts.{IsBook}
 use Rattle.sip_log.specs.Told.{item}
 use Rattle.sip_verdict.specs.MessageReading.{fault_observation}
 use Rattle.sip_verdict.specs.inner.Numbering.{StaysNumbered}
+use Rattle.sip_verdict.specs.inner.TablesTracking.{MayHear}
 use Rattle.sip_verdict.proofs.NumberingLemmas.{numbered_mark, numbered_heard, unless_trouble}
-use Rattle.sip_verdict.proofs.StandingLemmas.{grown_may, both_few, both_may, both_given, may_next, mark_judged, heard_judged}
+use Rattle.sip_verdict.proofs.StandingLemmas.{grown_may, both_few, both_may, both_recorded, both_may_hear, same_some, both_given, may_next, mark_judged, heard_judged}
 use Rattle.sip_verdict.proofs.standing.Standing.take.Goals as goal
 
 pub pass-requires-in-Heard-clause-may : goal.pass-requires-in-Heard-clause-may
@@ -15,13 +16,30 @@ pass-requires-in-Heard-clause-may g c =
     both_may c.in-Heard.own c.in-Heard.cancelled c.in_ok-own-in-Heard.own c.in_ok-own-in-Heard.cancelled s.tables touched.0 c.touch_both.new.tables touched.1 touched.2 c.observe.new.book e.moment
     (grown_may s.book c.observe.new.book e.number e.bytes.items (rw c.in-Heard.is at c.in_ok-told.ensures.kept).3 s.tables e.moment c.requires.may.passes)
 
+pub pass-requires-in-Heard-clause-hear : goal.pass-requires-in-Heard-clause-hear
+pass-requires-in-Heard-clause-hear g c =
+    let s = c.args.self.now in
+    let e = c.args.entry.now in
+    let touched = c.in_ok-own-in-Heard.ensures.touched in
+    let is_heard = rw c.in-Heard.is at c.in_ok-told.ensures.heard in
+    λ h is. subst (MayHear c.observe.new.book c.touch_both.new.tables e.moment) (ap (λ b. b.now) (same_some _ h is))
+    (both_may_hear c.observe.new.book e.moment c.in-Heard.event c.in-Heard.own c.in-Heard.cancelled c.in_ok-own-in-Heard.own c.in_ok-own-in-Heard.cancelled s.tables touched.0 c.touch_both.new.tables touched.1 touched.2
+    is_heard.0 is_heard.1 is_heard.2)
+
+pub pass-requires-in-Heard-clause-recorded : goal.pass-requires-in-Heard-clause-recorded
+pass-requires-in-Heard-clause-recorded g c =
+    let s = c.args.self.now in
+    let touched = c.in_ok-own-in-Heard.ensures.touched in
+    both_recorded c.in-Heard.own c.in-Heard.cancelled c.in_ok-own-in-Heard.own c.in_ok-own-in-Heard.cancelled s.tables touched.0 c.touch_both.new.tables touched.1 touched.2
+    c.in-Heard.event c.requires.may.passes.long c.requires.may.recorded
+
 pub returns-in_ok-verdict-in-Mark-clause-may : goal.returns-in_ok-verdict-in-Mark-clause-may
 returns-in_ok-verdict-in-Mark-clause-may g c =
     let s = c.args.self.now in
     let e = c.args.entry.now in
     let passed = c.in_ok-verdict-in-Mark in
     may_next passed.verdict s.book c.observe.new.book c.pass.new.self.book s.tables s.tables c.pass.new.self.tables e.number e.moment e.bytes.items c.requires.may
-    (inl (rw c.in-Mark.is at c.in_ok-told.ensures.kept).1) (omega arith) passed.ensures.keys passed.ensures.book passed.ensures.may
+    (inl (rw c.in-Mark.is at c.in_ok-told.ensures.kept).1) (omega arith) passed.ensures.keys passed.ensures.book passed.ensures.may passed.ensures.recorded
 
 pub returns-in_ok-verdict-in-Mark-clause-numbered : goal.returns-in_ok-verdict-in-Mark-clause-numbered
 returns-in_ok-verdict-in-Mark-clause-numbered g c =
@@ -56,7 +74,7 @@ returns-in_ok-verdict-in-Heard-clause-may g c =
     may_next passed.verdict s.book c.observe.new.book c.pass-in-Heard.new.self.book s.tables c.touch_both.new.tables c.pass-in-Heard.new.self.tables e.number e.moment e.bytes.items c.requires.may
     (rw c.in-Heard.is at c.in_ok-told.ensures.kept).3
     (both_few c.in-Heard.own c.in-Heard.cancelled c.in_ok-own-in-Heard.own c.in_ok-own-in-Heard.cancelled s.tables touched.0 c.touch_both.new.tables touched.1 touched.2)
-    passed.ensures.keys passed.ensures.book passed.ensures.may
+    passed.ensures.keys passed.ensures.book passed.ensures.may passed.ensures.recorded
 
 pub returns-in_ok-verdict-in-Heard-clause-numbered : goal.returns-in_ok-verdict-in-Heard-clause-numbered
 returns-in_ok-verdict-in-Heard-clause-numbered g c =

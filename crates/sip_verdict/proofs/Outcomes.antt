@@ -1,0 +1,133 @@
+-- What the outcomes of some keys of a list and of others say of both.
+use Rattle.std.proofs.Common.{◌≡◌, ◌≤◌, ◌<◌, ◌+◌, ◌⊎◌, inl, inr, ℕ, zero, suc, min, Some, List, [], ◌∷◌, ◌++◌, All, length, slice_get, refl, sym, ap, subst, arith}
+use Rattle.std.proofs.Math.Nat.{min-eq_left, min-eq_right}
+use Rattle.std.proofs.lemmas.Bool.{cases_lt}
+use Rattle.std.proofs.lemmas.List.Elements.{All-nil, All-cons}
+use Rattle.sip_verdict.specs.declared.passing.Outcome.{Outcome}
+use Rattle.sip_verdict.specs.declared.passing.Outcome.TheVariants as all
+use Rattle.sip_verdict.specs.Verdicts.{IsFirst}
+use Rattle.sip_verdict.specs.inner.Tracking.{first_of}
+
+-- a key at a place, of which P holds, and before which it holds of none, is the first
+pub first_at : {K : Type 0} (P : K → Type 0) (keys : List K) (place : ℕ) (key : K) → slice_get keys place ≡ Some key → P key
+    → ((n : ℕ) (k : K) → n < place → slice_get keys n ≡ Some k → ¬ P k) → IsFirst P keys (place + 1)
+first_at P [] place key at holds earlier = absurd cc
+first_at P (x ∷ xs) zero key at holds earlier = record {
+  before = [];
+  key = x;
+  rest = xs;
+  is = refl;
+  holds = (let same : key ≡ x = cc in subst P same holds);
+  earlier = All-nil (λ k. ¬ P k);
+  counts = refl;
+}
+first_at P (x ∷ xs) (suc place) key at holds earlier =
+    let f = first_at P xs place key at holds (λ n k low. earlier (suc n) k (omega arith)) in
+    record {
+      before = x ∷ f.before;
+      key = f.key;
+      rest = f.rest;
+      is = ap (λ ks. x ∷ ks) f.is;
+      holds = f.holds;
+      earlier = All-cons (λ k. ¬ P k) x f.before (earlier 0 x (omega arith) refl) f.earlier;
+      counts = (let counts = f.counts in omega arith);
+    }
+
+-- the number, from 1, of the first of some keys of a list, given by their places, of which P holds
+pub record IsFirstAmong {K : Type 0} (P : K → Type 0) (keys : List K) (Among : ℕ → Type 0) (number : ℕ) : Type 0 where
+  pub place : ℕ
+  pub counts : number ≡ place + 1
+  pub key : K
+  pub at : slice_get keys place ≡ Some key
+  pub holds : P key
+  pub earlier : (n : ℕ) (k : K) → n < place → slice_get keys n ≡ Some k → Among n → ¬ P k
+
+module _ {K : Type 0} (Runs Wide : K → Type 0) (keys : List K) where
+  -- P of some of the keys, by their places
+  abbrev pub OfSome : (K → Type 0) → (ℕ → Type 0) → Type 0
+  OfSome P Among = (n : ℕ) (k : K) → slice_get keys n ≡ Some k → Among n → P k
+
+  -- what an outcome says of some of them: each has a run and is not too wide; or this is the first without a run; or each has one, and this is the first that is too wide
+  abbrev pub Says : (ℕ → Type 0) → Outcome → Type 0
+  Says Among all.Fine = OfSome (λ k. Runs k × ¬ Wide k) Among
+  Says Among (all.NoRun number) = IsFirstAmong (λ k. ¬ Runs k) keys Among number
+  Says Among (all.TooWide number) = OfSome Runs Among × IsFirstAmong Wide keys Among number
+
+  module _ (A B : ℕ → Type 0) (less : (n : ℕ) → B n → A n) where
+    -- what it says of some it says of fewer
+    fewer : (P : K → Type 0) → OfSome P A → OfSome P B
+    fewer P h n k at among = h n k at (less n among)
+
+    first_fewer : (P : K → Type 0) (number : ℕ) → IsFirstAmong P keys A number → IsFirstAmong P keys B number
+    first_fewer P number f = record {
+      place = f.place;
+      counts = f.counts;
+      key = f.key;
+      at = f.at;
+      holds = f.holds;
+      earlier = λ n k low at among. f.earlier n k low at (less n among);
+    }
+
+    pub says_fewer : (outcome : Outcome) → Says A outcome → Says B outcome
+    says_fewer all.Fine h = fewer (λ k. Runs k × ¬ Wide k) h
+    says_fewer (all.NoRun number) h = first_fewer (λ k. ¬ Runs k) number h
+    says_fewer (all.TooWide number) h = (fewer Runs h.0, first_fewer Wide number h.1)
+
+  module _ (A B : ℕ → Type 0) where
+    -- one of both
+    abbrev Either : ℕ → Type 0
+    Either n = A n ⊎ B n
+
+    of_both : (P : K → Type 0) → OfSome P A → OfSome P B → OfSome P Either
+    of_both P a b n k at (inl among) = a n k at among
+    of_both P a b n k at (inr among) = b n k at among
+
+    -- the first of some, where P holds of none of the others before it
+    first_left : (P : K → Type 0) (i : ℕ) → IsFirstAmong P keys A i → ((n : ℕ) (k : K) → n + 1 < i → slice_get keys n ≡ Some k → B n → ¬ P k) → IsFirstAmong P keys Either i
+    first_left P i f others = record {
+      place = f.place;
+      counts = f.counts;
+      key = f.key;
+      at = f.at;
+      holds = f.holds;
+      earlier = λ n k low at. (λ among. elim among [ | inl a ↦ f.earlier n k low at a | inr b ↦ others n k (omega (arith, f.counts, low)) at b ]);
+    }
+
+    first_right : (P : K → Type 0) (i : ℕ) → IsFirstAmong P keys B i → ((n : ℕ) (k : K) → n + 1 < i → slice_get keys n ≡ Some k → A n → ¬ P k) → IsFirstAmong P keys Either i
+    first_right P i f others = record {
+      place = f.place;
+      counts = f.counts;
+      key = f.key;
+      at = f.at;
+      holds = f.holds;
+      earlier = λ n k low at. (λ among. elim among [ | inl a ↦ others n k (omega (arith, f.counts, low)) at a | inr b ↦ f.earlier n k low at b ]);
+    }
+
+    -- the lesser of two firsts is the first of both
+    first_both : (P : K → Type 0) (i j : ℕ) → IsFirstAmong P keys A i → IsFirstAmong P keys B j → IsFirstAmong P keys Either (min i j)
+    first_both P i j f g = elim (cases_lt i j) [
+      | inl low ↦ subst (IsFirstAmong P keys Either) (sym (min-eq_left (omega arith))) (first_left P i f (λ n k below at. g.earlier n k (omega (arith, g.counts, below, low)) at))
+      | inr low ↦ subst (IsFirstAmong P keys Either) (sym (min-eq_right low)) (first_right P j g (λ n k below at. f.earlier n k (omega (arith, f.counts, below, low)) at))
+    ]
+
+    -- the first of two outcomes says of both what each says of its own
+    pub says_both : (a b : Outcome) → Says A a → Says B b → Says Either (first_of a b)
+    says_both all.Fine all.Fine h l = of_both (λ k. Runs k × ¬ Wide k) h l
+    says_both all.Fine (all.NoRun j) h l = first_right (λ k. ¬ Runs k) j l (λ n k below at among none. none (h n k at among).0)
+    says_both all.Fine (all.TooWide j) h l = (of_both Runs (λ n k at among. (h n k at among).0) l.0, first_right Wide j l.1 (λ n k below at among. (h n k at among).1))
+    says_both (all.NoRun i) all.Fine h l = first_left (λ k. ¬ Runs k) i h (λ n k below at among none. none (l n k at among).0)
+    says_both (all.NoRun i) (all.NoRun j) h l = first_both (λ k. ¬ Runs k) i j h l
+    says_both (all.NoRun i) (all.TooWide j) h l = first_left (λ k. ¬ Runs k) i h (λ n k below at among none. none (l.0 n k at among))
+    says_both (all.TooWide i) all.Fine h l = (of_both Runs h.0 (λ n k at among. (l n k at among).0), first_left Wide i h.1 (λ n k below at among. (l n k at among).1))
+    says_both (all.TooWide i) (all.NoRun j) h l = first_right (λ k. ¬ Runs k) j l (λ n k below at among none. none (h.0 n k at among))
+    says_both (all.TooWide i) (all.TooWide j) h l = (of_both Runs h.0 l.0, first_both Wide i j h.1 l.1)
+
+-- an outcome in which both are fine is of two that are
+pub both_fine : (a b : Outcome) → first_of a b ≡ all.Fine → (a ≡ all.Fine) × (b ≡ all.Fine)
+both_fine all.Fine b h = (refl, h)
+both_fine (all.NoRun i) all.Fine h = absurd cc
+both_fine (all.NoRun i) (all.NoRun j) h = absurd cc
+both_fine (all.NoRun i) (all.TooWide j) h = absurd cc
+both_fine (all.TooWide i) all.Fine h = absurd cc
+both_fine (all.TooWide i) (all.NoRun j) h = absurd cc
+both_fine (all.TooWide i) (all.TooWide j) h = absurd cc

@@ -1,4 +1,4 @@
-use Rattle.std.specs.Prelude.{ℕ}
+use Rattle.std.specs.Prelude.{◌≡◌, ℕ, Bool, true, false, ⊤}
 use Rattle.sip_verdict.specs.declared.judge_error.JudgeError.{JudgeError}
 use Rattle.sip_verdict.specs.declared.judge_error.JudgeError.TheVariants as judging
 use Rattle.sip_verdict.specs.declared.show_error.ShowError.{ShowError}
@@ -23,3 +23,14 @@ status_without Read = 4
 status_without Write = 4
 status_without Memory = 4
 status_without Usage = 5
+
+-- who is to blame for there being no answer to a log: the reader if it cannot be read and the writer if it cannot be written, which have failed then; never the words
+abbrev pub Blames : (has_read_failed has_write_failed : Bool) → Failure → Type 0
+Blames has_read_failed has_write_failed Read = has_read_failed ≡ true
+Blames has_read_failed has_write_failed Write = has_write_failed ≡ true
+Blames has_read_failed has_write_failed Memory = ⊤
+Blames has_read_failed has_write_failed Usage = ⊥
+
+-- what could not be had from the system: it cannot be read, or there was no memory for it
+abbrev pub IsRefusal : Failure → Type 0
+IsRefusal failure = Blames true false failure

@@ -1,7 +1,6 @@
-use Rattle.std.specs.Prelude.{◌≡◌, ◌⊎◌, ℕ, List}
+use Rattle.std.specs.Prelude.{ℕ}
 use Rattle.sip_verdict.specs.declared.verdict.Verdict.{Verdict}
 use Rattle.sip_verdict.specs.declared.verdict.Verdict.TheVariants as verdicts
-use Rattle.sip_verdict.specs.VerdictOf.{IsVerdictOf}
 use Rattle.sip_verdict.specs.declared.listing.Listing.{Listing}
 use Rattle.sip_verdict.specs.declared.listing.Listing.TheVariants.{Text, Stopped, NoEntry}
 use Rattle.sip_verdict.specs.declared.shown.Shown.{Shown}
@@ -26,23 +25,3 @@ abbrev pub status_of_listing : Listing → ℕ
 status_of_listing (Text text) = 0
 status_of_listing (Stopped verdict) = status_of verdict
 status_of_listing NoEntry = 2
-
--- the status of some verdict
-abbrev pub IsStatusOfVerdict : ℕ → Type 0
-IsStatusOfVerdict status = (verdict : Verdict) × (status ≡ status_of verdict)
-
--- the status of the verdict of this input
-abbrev pub IsStatusOfInput : List ℕ → ℕ → Type 0
-IsStatusOfInput input status = (verdict : Verdict) × IsVerdictOf input verdict × (status ≡ status_of verdict)
-
--- the status of some log that was shown
-abbrev pub IsStatusOfShown : ℕ → Type 0
-IsStatusOfShown status = (shown : Shown) × (status ≡ status_of_shown shown)
-
--- the status of something that was listed
-abbrev pub IsStatusOfListing : ℕ → Type 0
-IsStatusOfListing status = (listing : Listing) × (status ≡ status_of_listing listing)
-
--- the status of some verdict, of some log that was shown, or of something that was listed
-abbrev pub IsStatus : ℕ → Type 0
-IsStatus status = IsStatusOfVerdict status ⊎ (IsStatusOfShown status ⊎ IsStatusOfListing status)

@@ -2,9 +2,10 @@
 ghost use Rattle.std.specs.Prelude.{◌≡◌, ◌≢◌};
 ghost use Rattle.std.specs.IoError.{error_kind};
 ghost use Rattle.std.specs.declared.io.ErrorKind.TheVariants.{OutOfMemory};
-ghost use Rattle.siptrace.specs.declared.failure.Failure.TheVariants.{Memory, Read};
+ghost use Rattle.siptrace.specs.declared.failure.Failure.TheVariants.{Memory, Read, Write};
 ghost use Rattle.siptrace.specs.Failures.{failure_of, failure_to_show, status_without};
 
+use sip_log::Broken;
 use sip_verdict::{JudgeError, ShowError};
 use std::alloc::AllocError;
 use std::io;
@@ -32,6 +33,14 @@ impl From<AllocError> for Failure {
 
     fn from(_: AllocError) -> Failure {
         Failure::Memory
+    }
+}
+
+impl From<Broken> for Failure {
+    ghost from_gives = { λ _ failure. failure ≡ Write };
+
+    fn from(_: Broken) -> Failure {
+        Failure::Write
     }
 }
 

@@ -6,109 +6,97 @@
 //! where it does not understand its words.
 #![tactic(auto)]
 
-ghost use Rattle.std.specs.Prelude.{IfOk, IfSome, IsErrOf};
+ghost use Rattle.std.specs.Prelude.{◌≡◌, ◌↔◌, ℕ, List, Option, None, Some, false, true, map, string_bytes, OnOk, IfOk, IfErr, IsErrOf};
+ghost use Rattle.siptrace.specs.Answers.{IsAnswer, IsAnswerTo};
+ghost use Rattle.siptrace.specs.Asked.{IsAskedBy};
+ghost use Rattle.siptrace.specs.Failures.{Blames, IsRefusal};
+ghost use Rattle.siptrace.specs.declared.asked.Asked.{Asked};
 ghost use Rattle.siptrace.specs.declared.failure.Failure.TheVariants.{Usage};
-ghost use Rattle.siptrace.specs.Status.{IsStatus, IsStatusOfVerdict, IsStatusOfInput, IsStatusOfShown, IsStatusOfListing};
 
+mod answering;
 mod asked;
 mod failure;
 mod status;
 
+use answering::{check, list_states, show_log};
 use asked::{Asked, asked_by};
 use failure::{Failure, read_failure, status_without};
-use sip_log::{FromRead, ToWrite};
-use sip_verdict::{Listing, judge, render, show, states_at};
-use status::{status_of, status_of_listing, status_of_shown};
+use sip_log::{FromRead, Sink, Source, ToWrite};
 use std::env;
 use std::fs::File;
 use std::hash::RandomState;
-use std::io::{BufWriter, Read, Write};
+use std::io::{BufWriter, Write};
 use std::process::ExitCode;
 
 /// How many bytes are written at once, but for the last.
 const BUFFER: usize = 65_536;
 
 /// The words behind the program's name.
-fn words(rt: &HostRuntime) -> Result<Vec<String>, Failure> {
+fn words(rt: &HostRuntime) -> Result<Vec<String>, Failure>
+    ensures { IfErr result IsRefusal }
+{
     let words = env::args(rt).map_err(read_failure)?;
     Ok(words.skip(1).collect(rt.alloc())?)
 }
 
 /// A file to read.
-fn open(rt: &HostRuntime, path: &str) -> Result<File, Failure> {
-    File::open(rt, path).map_err(read_failure)
+fn open(rt: &HostRuntime, path: &str) -> Result<FromRead<File>, Failure>
+    ensures fine { IfOk result (λ log. ⟦<FromRead<File> as Source>⟧.has_failed log ≡ false) }
+    ensures err { IfErr result IsRefusal }
+{
+    let file = File::open(rt, path).map_err(read_failure)?;
+    Ok(FromRead::new(file))
 }
 
-/// Judges a log and prints the verdict. The status is that of a verdict: of the reader's bytes, where it tells them.
-fn check<R: Read + Drop>(rt: &HostRuntime, seed: RandomState, reader: R) -> Result<u8, Failure>
-    ensures status { IfOk result IsStatusOfVerdict }
-    ensures input { IfOk result (λ status. IfSome (R.remaining reader) (λ input. IsStatusOfInput input status)) }
-    ensures words { IsErrOf result Usage → ⊥ }
+/// A seed for the tables of transactions.
+fn seed(rt: &HostRuntime) -> Result<RandomState, Failure>
+    ensures { IfErr result IsRefusal }
 {
-    let verdict = judge(rt.alloc(), &mut FromRead::new(reader), seed)?;
-    let text = render(rt.alloc(), &verdict)?;
-    println!(rt; "{text}").map_err(|_| Failure::Write)?;
-    Ok(status_of(&verdict))
+    RandomState::new(rt).map_err(read_failure)
 }
 
-/// Shows a log on the standard output. The status is that of how it ends.
-fn show_log(rt: &HostRuntime, file: File) -> Result<u8, Failure>
-    ensures status { IfOk result IsStatusOfShown }
-    ensures words { IsErrOf result Usage → ⊥ }
+/// Writes what is asked for. The answer is its status.
+fn answer<W: Sink>(rt: &HostRuntime, asked: Asked<'_>, writer: &mut W) -> Result<u8, Failure>
+    ensures answer { IfOk result (IsAnswer asked.entry None (W.written writer.old) (W.written writer.new)) }
+    ensures fine { OnOk result (W.has_failed writer.new ≡ W.has_failed writer.old) }
+    ensures err { IfErr result (Blames true (W.has_failed writer.new)) }
 {
+    let alloc = rt.alloc();
+    match asked {
+        Asked::Input => {
+            let seed = seed(rt)?;
+            check(alloc, seed, &mut FromRead::new(rt.stdin()), writer)
+        }
+        Asked::Check(path) => {
+            let seed = seed(rt)?;
+            check(alloc, seed, &mut open(rt, path)?, writer)
+        }
+        Asked::Show(path) => show_log(alloc, &mut open(rt, path)?, writer),
+        Asked::States(path, entry) => {
+            let seed = seed(rt)?;
+            list_states(alloc, seed, &mut open(rt, path)?, entry, writer)
+        }
+    }
+}
+
+/// Writes what the words ask for on the standard output. The answer is its status.
+fn run(rt: &HostRuntime, words: &[String]) -> Result<u8, Failure>
+    ensures status { IfOk result (IsAnswerTo (map string_bytes words.now)) }
+    ensures words { IsErrOf result Usage ↔ IsAskedBy (map string_bytes words.now) None }
+{
+    let Some(asked) = asked_by(words) else {
+        return Err(Failure::Usage);
+    };
     let mut writer = BufWriter::with_capacity(rt.alloc(), BUFFER, rt.stdout()).map_err(
         read_failure,
     )?;
-    let shown = show(
-        rt.alloc(),
-        &mut FromRead::new(file),
-        &mut ToWrite::new(&mut writer),
-    )?;
+    let status = answer(rt, asked, &mut ToWrite::new(&mut writer))?;
     writer.flush().map_err(|_| Failure::Write)?;
-    Ok(status_of_shown(&shown))
-}
-
-/// Lists the states of the transactions that an entry concerns. The status is that of the listing.
-fn list_states(rt: &HostRuntime, seed: RandomState, file: File, entry: u32) -> Result<u8, Failure>
-    ensures { IfOk result IsStatusOfListing }
-{
-    let listing = states_at(rt.alloc(), &mut FromRead::new(file), seed, entry)?;
-    match &listing {
-        Listing::Text(text) => print!(rt; "{text}").map_err(|_| Failure::Write)?,
-        Listing::Stopped(verdict) => {
-            let text = render(rt.alloc(), verdict)?;
-            println!(rt; "{text}").map_err(|_| Failure::Write)?;
-        }
-        Listing::NoEntry => println!(rt; "no entry").map_err(|_| Failure::Write)?,
-    }
-    Ok(status_of_listing(&listing))
-}
-
-/// Does what the words ask for. The status is that of a verdict, of how a log that is shown ends, or of a listing.
-fn run(rt: &HostRuntime) -> Result<u8, Failure>
-    ensures { IfOk result IsStatus }
-{
-    let words = words(rt)?;
-    match asked_by(words.as_slice()) {
-        Some(Asked::Input) => {
-            let seed = RandomState::new(rt).map_err(read_failure)?;
-            check(rt, seed, rt.stdin())
-        }
-        Some(Asked::Check(path)) => {
-            let seed = RandomState::new(rt).map_err(read_failure)?;
-            check(rt, seed, open(rt, path)?)
-        }
-        Some(Asked::Show(path)) => show_log(rt, open(rt, path)?),
-        Some(Asked::States(path, entry)) => {
-            let seed = RandomState::new(rt).map_err(read_failure)?;
-            list_states(rt, seed, open(rt, path)?, entry)
-        }
-        None => Err(Failure::Usage),
-    }
+    Ok(status)
 }
 
 fn main(rt: HostRuntime) -> ExitCode {
-    match run(&rt) {
+    match words(&rt).and_then(|words| run(&rt, words.as_slice())) {
         Ok(status) => ExitCode::from(status),
         Err(failure) => {
             let _ = eprintln!(rt; "siptrace: {failure}");

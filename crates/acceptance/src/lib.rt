@@ -4,6 +4,10 @@
 #[cfg(test)]
 mod growths;
 #[cfg(test)]
+mod hashers;
+#[cfg(test)]
+mod listings;
+#[cfg(test)]
 mod many;
 #[cfg(test)]
 mod notation;

@@ -1,8 +1,10 @@
 //! Long messages, and many entries, transactions and messages. Each test ends within seconds.
+use crate::hashers::{AllZero, Same};
 use crate::notation::{header, log_with, push};
 use crate::pieces::Pieces;
-use crate::verdicts::{judge_rows, verdict_of, verdict_on};
+use crate::verdicts::{judge_rows, verdict_by, verdict_of, verdict_on};
 use std::alloc::{AllocError, Global};
+use std::hash::RandomState;
 use std::test::Fail;
 
 /// An OPTIONS of so many bytes, and four more.
@@ -53,19 +55,91 @@ fn judges_the_longest_message(rt: HostRuntime) -> Result<(), Fail> {
     Ok(())
 }
 
-#[test]
-fn judges_a_thousand_transactions(rt: HostRuntime) -> Result<(), Fail> {
-    let mut log = header(rt.alloc(), "50")?;
-    for number in 0..1_000 {
-        let entry = format!(in rt.alloc(); "S 0 OPTIONS #{number}")?;
-        push(rt.alloc(), &mut log, entry.as_str(), &[])?;
+/// The log of so many OPTIONS, each with a branch of its own: one each millisecond, or all at 0.
+fn requests(alloc: Global, count: u64, are_apart: bool) -> Result<String, Fail> {
+    let mut log = header(alloc, "50")?;
+    for before in 0..count {
+        let moment = if are_apart { before } else { 0 };
+        let branch = before + 1;
+        let entry = format!(in alloc; "S {moment} OPTIONS #{branch}")?;
+        push(alloc, &mut log, entry.as_str(), &[])?;
     }
+    Ok(log)
+}
+
+/// Each is to be repeated by 550 behind its moment.
+#[test]
+fn names_the_first_that_is_overdue(rt: HostRuntime) -> Result<(), Fail> {
+    let log = requests(rt.alloc(), 600, true)?;
     let text = verdict_on(rt.alloc(), log.as_str().as_bytes())?;
-    assert_eq!(rt; text.as_str(), "legal entries 1000 transactions 1000");
-    // All of them are overdue, and the first is named.
+    assert_eq!(rt; text.as_str(), "breach 552 transaction 1");
+    let mut log = requests(rt.alloc(), 600, false)?;
+    let text = verdict_on(rt.alloc(), log.as_str().as_bytes())?;
+    assert_eq!(rt; text.as_str(), "legal entries 600 transactions 600");
     log.push_str("M 551\n")?;
     let text = verdict_on(rt.alloc(), log.as_str().as_bytes())?;
-    assert_eq!(rt; text.as_str(), "breach 1001 transaction 1");
+    assert_eq!(rt; text.as_str(), "breach 601 transaction 1");
+    Ok(())
+}
+
+#[test]
+fn names_the_least_that_is_overdue(rt: HostRuntime) -> Result<(), Fail> {
+    judge_rows(
+        &rt,
+        &[
+            // The first was answered.
+            (
+                "S 0 OPTIONS #1; S 0 OPTIONS #2; R 10 200 OPTIONS #1; M 551",
+                "breach 4 transaction 2",
+            ),
+            // The first was repeated, and may be silent until 1550; the second until 1150.
+            (
+                "S 0,500 OPTIONS #1; S 600 OPTIONS #2; M 1150",
+                "legal entries 4 transactions 2",
+            ),
+            (
+                "S 0,500 OPTIONS #1; S 600 OPTIONS #2; M 1151",
+                "breach 4 transaction 2",
+            ),
+            (
+                "S 0,500 OPTIONS #1; S 600 OPTIONS #2; M 1551",
+                "breach 4 transaction 1",
+            ),
+            // One is overdue, and the entry is too early for the other.
+            (
+                "S 0 OPTIONS #1; S 200,551 OPTIONS #2",
+                "breach 3 transaction 1",
+            ),
+            (
+                "S 0 OPTIONS #1; S 100 OPTIONS #2; S 500,651 OPTIONS #1",
+                "breach 4 transaction 1",
+            ),
+            // One is overdue, and the other would have too many states.
+            (
+                "tolerance 10000: S 0 OPTIONS #2; R 10355 INVITE; S 10356 180; R 10357..10396 INVITE; S 10397 183; \
+                R 10398..10437 INVITE; S 10438..10477 180; S 10478..10501 183",
+                "breach 148 transaction 1",
+            ),
+            (
+                "tolerance 10000: S 1 OPTIONS #2; R 10355 INVITE; S 10356 180; R 10357..10396 INVITE; S 10397 183; \
+                R 10398..10437 INVITE; S 10438..10477 180; S 10478..10501 183",
+                "undecided 148 transaction 2",
+            ),
+        ],
+    )
+}
+
+#[test]
+fn judges_many_transactions_by_any_hash(rt: HostRuntime) -> Result<(), Fail> {
+    let log = requests(rt.alloc(), 1_000, false)?;
+    for seed in [1, 2] {
+        let hasher = RandomState::new(&Same(seed))?;
+        let text = verdict_by(rt.alloc(), log.as_str().as_bytes(), hasher)?;
+        assert_eq!(rt; text.as_str(), "legal entries 1000 transactions 1000");
+    }
+    let log = requests(rt.alloc(), 200, false)?;
+    let text = verdict_by(rt.alloc(), log.as_str().as_bytes(), AllZero)?;
+    assert_eq!(rt; text.as_str(), "legal entries 200 transactions 200");
     Ok(())
 }
 

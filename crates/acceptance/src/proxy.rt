@@ -6,7 +6,8 @@ use crate::verdicts::{judge_changes, verdict_on};
 use std::test::Fail;
 
 /// A call that is cancelled. Its transactions are the INVITE from Alice (1) and on to Bob (2), and the CANCEL from Alice (3) and on (4).
-const CANCELLED_LOG: &str = "R 0 INVITE; S 2 100>; S 3 INVITE>; R 20 100; R 3000 180; S 3001 180>; \
+pub(crate) const CANCELLED_LOG: &str =
+    "R 0 INVITE; S 2 100>; S 3 INVITE>; R 20 100; R 3000 180; S 3001 180>; \
     R 5000 CANCEL; S 5001 200>; S 5002 CANCEL>; R 5020 200; R 5040 487; S 5041 ACK>; S 5042 487>; R 5060 ACK; M 12000";
 
 /// A call that is set up and ended. Its transactions are the INVITE that is refused with a 407 (1), the INVITE from Alice (2) and on to Bob

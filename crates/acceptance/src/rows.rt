@@ -7,6 +7,11 @@ use std::test::Fail;
 /// The log of a REGISTER that is sent, sent again and answered.
 pub(crate) const STORED: &str = "S 0,500 REGISTER #r1; R 700 200 REGISTER #r1; M 6000";
 
+/// The log of an INVITE that is repeated before a 183 and behind it, with sends of both responses: more and more states, up to too many.
+pub(crate) const WIDE: &str =
+    "tolerance 10000: R 0 INVITE; S 1 180; R 2..41 INVITE; S 42 183; R 43..82 INVITE; S 83..122 180; \
+    S 123..162 183";
+
 #[test]
 fn judges_the_stored_run(rt: HostRuntime) -> Result<(), Fail> {
     let log = log_of(rt.alloc(), STORED)?;
@@ -372,10 +377,7 @@ fn judges_many_states(rt: HostRuntime) -> Result<(), Fail> {
                 "tolerance 10000: R 0 INVITE; S 1 180; R 2..41 INVITE; S 42 183; R 43..82 INVITE; S 83..122 180; S 123..145 183",
                 "legal entries 146 transactions 1",
             ),
-            (
-                "tolerance 10000: R 0 INVITE; S 1 180; R 2..41 INVITE; S 42 183; R 43..82 INVITE; S 83..122 180; S 123..162 183",
-                "undecided 147 transaction 1",
-            ),
+            (WIDE, "undecided 147 transaction 1"),
         ],
     )
 }

@@ -5,7 +5,7 @@ use crate::notation::{Messages, log_of, log_with};
 use sip_log::Source;
 use sip_verdict::{JudgeError, judge, judge_bytes, render};
 use std::alloc::Global;
-use std::hash::{BuildHasherDefault, FoldHasher};
+use std::hash::{BuildHasher, BuildHasherDefault, FoldHasher};
 use std::process::Abort;
 use std::test::Fail;
 
@@ -24,11 +24,19 @@ pub(crate) fn verdict_of<S: Source>(alloc: Global, source: &mut S) -> Result<Str
     Ok(render(alloc, &verdict)?)
 }
 
-/// The verdict on these bytes.
-pub(crate) fn verdict_on(alloc: Global, bytes: &[u8]) -> Result<String, JudgeError> {
-    let hasher = BuildHasherDefault::<FoldHasher>::new();
+/// The verdict on these bytes, with a hasher of keys.
+pub(crate) fn verdict_by<H: BuildHasher + Drop>(
+    alloc: Global,
+    bytes: &[u8],
+    hasher: H,
+) -> Result<String, JudgeError> {
     let verdict = judge_bytes(alloc, bytes, hasher)?;
     Ok(render(alloc, &verdict)?)
+}
+
+/// The verdict on these bytes.
+pub(crate) fn verdict_on(alloc: Global, bytes: &[u8]) -> Result<String, JudgeError> {
+    verdict_by(alloc, bytes, BuildHasherDefault::<FoldHasher>::new())
 }
 
 /// Judges logs, row by row.

@@ -1,0 +1,44 @@
+//! Hashers of keys: of a given seed, and one that finds all keys alike.
+use std::hash::{BuildHasher, Hasher};
+use std::io;
+use std::random::RandomSource;
+
+/// Random bytes that are all the same.
+#[derive(Drop)]
+pub(crate) struct Same(pub(crate) u8);
+
+impl RandomSource for Same {
+    fn fill_bytes(&self, buf: &mut [u8]) -> io::Result<()> {
+        buf.fill(self.0);
+        Ok(())
+    }
+}
+
+/// Hashes everything to 0.
+#[derive(Drop)]
+pub(crate) struct Zero;
+
+impl Hasher for Zero {
+    ghost write = { λ s _. s };
+
+    ghost finish = { λ _. 0 };
+
+    fn finish(&self) -> u64 {
+        0
+    }
+
+    fn write(&mut self, _bytes: &[u8]) {}
+}
+
+#[derive(Drop)]
+pub(crate) struct AllZero;
+
+impl BuildHasher for AllZero {
+    type Hasher = Zero;
+
+    ghost build_hasher = { λ _. record {} };
+
+    fn build_hasher(&self) -> Zero {
+        Zero
+    }
+}

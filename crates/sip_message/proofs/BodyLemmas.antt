@@ -36,10 +36,6 @@ method-some start m u cseq n k r is read r_is = subst (λ s. IsTrue r ↔ Method
     from : MethodFits (request m.now u.now) cseq → IsTrue r
     from (number, text) = r_is ∙ (bytes_eq-Decides k m.now).1 (sym (ap (λ x. x.1) (read.1 (number, m.now) text)))
 
--- without a CSeq no method fits
-pub method-none : (start : Code) (m u : Bor (List ℕ)) (cseq : List ℕ) → start ≡ variant.Request m u → NotRead (CSeqValue cseq) → IsTrue false ↔ MethodFits (start_parts start) cseq
-method-none start m u cseq is none = subst (λ s. IsTrue false ↔ MethodFits s cseq) (sym (ap start_parts is)) ((λ no. absurd (both_ways false refl no)), (λ fits. absurd (none (fits.0, m.now) fits.1)))
-
 -- the first element stands at the front
 vias-front : (text : List ℕ) (v : ViaParts) (vias : List ViaParts) → ViasText text v vias → (x : List ℕ) × (rest : List ℕ) × ViaFront text ((x, v), rest)
 vias-front text v vias (x, y, via, more, text_is) = let later = more-elements vias y more in (x, y, (via, text_is, ends-more later.0 y later.1))

@@ -24,7 +24,7 @@ use crate::fault::{Fault, Reason, Unit};
 use crate::field::{Field, cut_value};
 use crate::name::Known;
 use crate::start_line::StartLine;
-use crate::values::{number_at_most, read_cseq};
+use crate::values::{cseq_method, number_at_most};
 use crate::via::read_via;
 use memchr::memmem;
 use sip_text::same_text;
@@ -159,6 +159,7 @@ pub(crate) fn read_body<'a>(
 ) -> Result<&'a [u8], Fault>
     requires rows { AllByRecursion (λ f. Row f.name f.value) (slice_fields fields) }
     requires via { IsValueOf known_name.Via (slice_fields fields) named.via.now }
+    requires cseq { IsValueOf known_name.CSeq (slice_fields fields) named.cseq.now }
     ensures { BodyOf (start_parts start.entry) ((names_parts named.entry).1) ((names_parts named.entry).0.1) (content_length (slice_fields fields.entry)) rest.entry.now (outcome_of text_parts result) }
 {
     if !fits_method(start, named.cseq) {
@@ -196,13 +197,11 @@ pub(crate) fn read_body<'a>(
 
 // Whether the method of CSeq is that of the request.
 fn fits_method(start: StartLine<'_>, cseq: &[u8]) -> bool
+    requires { Row (known known_name.CSeq) cseq.now }
     ensures { IsTrue result ↔ MethodFits (start_parts start.entry) cseq.now }
 {
     match start {
-        StartLine::Request { method, .. } => match read_cseq(cseq) {
-            Some(cseq) => cseq.method == method,
-            None => false,
-        },
+        StartLine::Request { method, .. } => cseq_method(cseq) == method,
         StartLine::Status { .. } => true,
     }
 }

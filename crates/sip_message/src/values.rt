@@ -1,14 +1,14 @@
 //! The values of the other fields that are known: numbers, CSeq and Call-ID.
-ghost use Rattle.std.specs.Prelude.{◌≡◌, ◌≤◌, ◌<◌, ◌↔◌, IsTrue, MatchOption, length};
+ghost use Rattle.std.specs.Prelude.{◌≡◌, ◌≤◌, ◌<◌, ◌↔◌, ℕ, List, IsTrue, MatchOption, length};
 ghost use Rattle.std.specs.List.{list_all, prefix_len};
 ghost use Rattle.std.specs.Char.{is_ascii_digit};
 ghost use Rattle.std.specs.Str.Parse.{digits_value};
 ghost use Rattle.sip_text.specs.Text.{IsOnlyValue};
-ghost use Rattle.sip_message.specs.Values.{Digits, Word, CallIdText, is_word_byte};
+ghost use Rattle.sip_message.specs.Values.{Digits, CSeqText, Word, CallIdText, is_word_byte};
 ghost use Rattle.sip_message.specs.Reading.{CSeqValue};
 ghost use Rattle.sip_message.specs.ValueParts.{cseq_parts};
 
-use crate::cursor::cut;
+use crate::cursor::{cut, skip_blanks};
 use crate::params::is_token;
 use sip_text::skip_lws;
 
@@ -37,6 +37,14 @@ pub(crate) fn read_cseq(text: &[u8]) -> Option<CSeq<'_>>
         number: number as u32,
         method,
     })
+}
+
+/// The method of a CSeq: what stands behind its digits and blanks.
+pub(crate) fn cseq_method(text: &[u8]) -> &[u8]
+    requires { (number : ℕ) × (method : List ℕ) × CSeqText text.now number method }
+    ensures { (number : ℕ) × CSeqText text.now number result.now }
+{
+    skip_blanks(&text[digits_len(text)..])
 }
 
 // The highest number of a CSeq.

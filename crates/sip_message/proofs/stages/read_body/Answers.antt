@@ -12,6 +12,9 @@ use Rattle.sip_message.proofs.stages.read_body.Goals as goal
 pub returns-then-not-fits_method : goal.returns-then-not-fits_method
 returns-then-not-fits_method c = body-method (start_parts c.args.start) (c.args.named.cseq_line, c.args.named.cseq.now) c.args.named.via.now (content_length (slice_fields c.args.fields)) c.args.rest.now (λ fits. both_ways false refl (c.if-not-fits_method.ensures.1 fits))
 
+pub fits_method-requires : goal.fits_method-requires
+fits_method-requires c = row-of known_name.CSeq (slice_fields c.args.fields) c.args.named.cseq.now c.requires.rows c.requires.cseq
+
 pub is_stream_via-requires : goal.is_stream_via-requires
 is_stream_via-requires c = row-of known_name.Via (slice_fields c.args.fields) c.args.named.via.now c.requires.rows c.requires.via
 

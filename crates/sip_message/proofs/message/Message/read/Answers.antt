@@ -57,6 +57,10 @@ pub read_body-requires-clause-via : goal.read_body-requires-clause-via
 read_body-requires-clause-via c =
     subst (λ xs. IsValueOf known_name.Via (map field_parts xs) c.in_ok-named.named.via.now) (c.deref.ensures.value ∙ sym c.deref-2.ensures.value) c.in_ok-named.ensures.stand.via
 
+pub read_body-requires-clause-cseq : goal.read_body-requires-clause-cseq
+read_body-requires-clause-cseq c =
+    subst (λ xs. IsValueOf known_name.CSeq (map field_parts xs) c.in_ok-named.named.cseq.now) (c.deref.ensures.value ∙ sym c.deref-2.ensures.value) c.in_ok-named.ensures.stand.cseq
+
 pub new-requires : goal.new-requires
 new-requires c =
     let b = begins c.in-Some.ensures.0 (c.is_clean.ensures.0 c.if-not-is_clean.false) c.cut_first.ensures in

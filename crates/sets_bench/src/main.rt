@@ -3,12 +3,15 @@
 
 ghost use Rattle.std.specs.Prelude.{◌≡◌, All, OnOk};
 ghost use Rattle.sip_machine.specs.Rules.{Knows};
-ghost use Rattle.sip_machine.specs.PlainServer.{plain_server_names};
 
-mod shape;
+mod client;
+mod hear;
+mod server;
 
-use crate::shape::{BY_OUTBOX, BY_WIDTH, SEND, STRAY, Shape, What, book, hear, set_of};
-use sip_machine::{Book, PlainServer};
+use crate::client::{ACK_LAST, OUTBOXES};
+use crate::hear::{What, hear_each};
+use crate::server::{BY_OUTBOX, BY_WIDTH, SEND, Shape};
+use sip_machine::{Book, Machine};
 use sip_states::StateSet;
 use std::rt::Clock;
 use std::time::Instant;
@@ -19,6 +22,9 @@ const DEBTS: u64 = 1 << 20;
 
 const TRIES: usize = 9;
 
+// To read a message that is owed an ACK costs about as much as to go through so many debts.
+const READ: u64 = 64;
+
 fn main(rt: HostRuntime) -> io::Result<()> {
     if env::args(&rt)?.nth(1).is_none() {
         return println!(rt; "sets_bench time: prints microseconds a take");
@@ -28,26 +34,46 @@ fn main(rt: HostRuntime) -> io::Result<()> {
         "states", "debts", "us, no row", "us, may pay"
     )?;
     for shape in BY_WIDTH {
-        show(&rt, shape)?;
+        show_server(&rt, shape)?;
     }
     for shape in BY_OUTBOX {
-        show(&rt, shape)?;
+        show_server(&rt, shape)?;
+    }
+    println!(rt;
+        "{:>6} {:>6} {:>14} {:>14}",
+        "states", "ACKs", "us, no row", "us, ACK, again"
+    )?;
+    for debts in OUTBOXES {
+        show_client(&rt, debts)?;
     }
     Ok(())
 }
 
-// Prints the best of a few figures, for an event that changes nothing and for a send that may pay.
-fn show(rt: &(impl Clock + AllocGlobal + Print), shape: Shape) -> io::Result<()> {
-    let book = book(rt.alloc())?;
-    let mut set = set_of(rt.alloc(), &book, shape)?;
-    let states = set.states().len();
+// The figures of a non-INVITE server, for an event that changes nothing and for a send that may pay.
+fn show_server(rt: &(impl Clock + AllocGlobal + Print), shape: Shape) -> io::Result<()> {
+    let book = server::book(rt.alloc())?;
+    let mut set = server::set_of(rt.alloc(), &book, shape)?;
     let debts = u64::from(shape.first)
         .saturating_add(u64::from(shape.second))
         .saturating_add(u64::from(shape.third));
-    let work = debts.saturating_add(8).saturating_mul(states as u64);
-    let rounds = DEBTS.checked_div(work).unwrap_or(0).max(3);
-    let stray = best(rt, &mut set, &book, STRAY, rounds)?;
-    let send = best(rt, &mut set, &book, SEND, rounds)?;
+    let stray = best(rt, &mut set, &book, &[server::STRAY], debts)?;
+    let send = best(rt, &mut set, &book, &[SEND], debts)?;
+    show(rt, set.states().len(), debts, stray, send)
+}
+
+// The figures of an INVITE client, for an event that changes nothing and for an ACK that pays the last debt, with the
+// response that makes it anew.
+fn show_client(rt: &(impl Clock + AllocGlobal + Print), debts: u32) -> io::Result<()> {
+    let book = client::book(rt.alloc())?;
+    let mut set = client::set_of(rt.alloc(), &book, debts)?;
+    let debts = u64::from(debts);
+    let stray = best(rt, &mut set, &book, &[client::STRAY], debts)?;
+    let ack = best(rt, &mut set, &book, &ACK_LAST, debts.saturating_mul(READ))?;
+    show(rt, set.states().len(), debts, stray, ack)
+}
+
+// Prints two figures, which are hundredths of a microsecond.
+fn show(rt: &impl Print, states: usize, debts: u64, stray: u128, send: u128) -> io::Result<()> {
     println!(rt;
         "{states:>6} {debts:>6} {:>11}.{:02} {:>11}.{:02}",
         stray / 100,
@@ -57,42 +83,46 @@ fn show(rt: &(impl Clock + AllocGlobal + Print), shape: Shape) -> io::Result<()>
     )
 }
 
-// The least of a few figures.
-fn best(
+// The least of a few figures of a set whose states owe so much.
+fn best<M: Machine>(
     clock: &impl Clock,
-    set: &mut StateSet<PlainServer>,
+    set: &mut StateSet<M>,
     book: &Book,
-    what: What,
-    rounds: u64,
+    whats: &[What],
+    debts: u64,
 ) -> io::Result<u128>
     requires start { set.old.moment ≡ 0 }
-    requires known { All (Knows plain_server_names book.now) set.old.states }
+    requires known { All (Knows M.names book.now) set.old.states }
     ensures start { OnOk result (set.new.moment ≡ 0) }
-    ensures known { OnOk result (All (Knows plain_server_names book.now) set.new.states) }
+    ensures known { OnOk result (All (Knows M.names book.now) set.new.states) }
 {
+    let work = debts
+        .saturating_add(8)
+        .saturating_mul(set.states().len() as u64);
+    let rounds = DEBTS.checked_div(work).unwrap_or(0).max(3);
     let mut least = u128::MAX;
     for tried in 0..TRIES {
-        least = least.min(timed(clock, set, book, what, rounds)?);
+        least = least.min(timed(clock, set, book, whats, rounds)?);
     }
     Ok(least)
 }
 
-// Hundredths of a microsecond that the set takes for the event, which leaves it as it is.
-fn timed(
+// Hundredths of a microsecond that the set takes for the events, which leave it as it is.
+fn timed<M: Machine>(
     clock: &impl Clock,
-    set: &mut StateSet<PlainServer>,
+    set: &mut StateSet<M>,
     book: &Book,
-    what: What,
+    whats: &[What],
     rounds: u64,
 ) -> io::Result<u128>
     requires start { set.old.moment ≡ 0 }
-    requires known { All (Knows plain_server_names book.now) set.old.states }
+    requires known { All (Knows M.names book.now) set.old.states }
     ensures start { OnOk result (set.new.moment ≡ 0) }
-    ensures known { OnOk result (All (Knows plain_server_names book.now) set.new.states) }
+    ensures known { OnOk result (All (Knows M.names book.now) set.new.states) }
 {
     let start = Instant::now(clock)?;
     for round in 0..rounds {
-        hear(set, book, what)?;
+        hear_each(set, book, whats)?;
     }
     let nanos = start.elapsed(clock)?.as_nanos();
     Ok(

@@ -3,8 +3,9 @@ ghost use Rattle.std.specs.Prelude.{◌≡◌, All, IfOk, OnOk};
 ghost use Rattle.sip_machine.specs.Rules.{Knows};
 ghost use Rattle.sip_machine.specs.PlainServer.{plain_server_names};
 
-use sip_machine::{Action, Book, Event, Kind, Method, Params, PlainServer};
-use sip_states::{StateSet, TakeError};
+use crate::hear::{What, hear, hear_often};
+use sip_machine::{Action, Book, Kind, Method, Params, PlainServer};
+use sip_states::StateSet;
 use std::alloc::{AllocError, Global};
 use std::io;
 
@@ -75,9 +76,6 @@ pub const BY_OUTBOX: [Shape; 6] = [
     },
 ];
 
-/// What was done with a message, its number, and its kind.
-pub type What = (Action, u32, Kind);
-
 const REQUEST: u32 = 1;
 
 const FIRST: u32 = 2;
@@ -105,25 +103,6 @@ pub fn book(alloc: Global) -> Result<Book, AllocError> {
     Ok(book)
 }
 
-/// Lets the set take the event at moment 0.
-pub fn hear(set: &mut StateSet<PlainServer>, book: &Book, what: What) -> io::Result<()>
-    requires start { set.old.moment ≡ 0 }
-    requires known { All (Knows plain_server_names book.now) set.old.states }
-    ensures start { OnOk result (set.new.moment ≡ 0) }
-    ensures known { OnOk result (All (Knows plain_server_names book.now) set.new.states) }
-{
-    let (action, number, kind) = what;
-    if action == Action::Mark || book.bytes(number).is_none() {
-        return Err(io::Error::other("a message is not kept"));
-    }
-    let event = Event::plain(0, action, number, kind);
-    match set.take(book, &event) {
-        Ok(()) => Ok(()),
-        Err(TakeError::Memory) => Err(AllocError.into()),
-        Err(TakeError::TooMany) => Err(io::Error::other("too many states")),
-    }
-}
-
 /// Sends the response, and lets the request come again so often.
 fn owe(set: &mut StateSet<PlainServer>, book: &Book, sent: What, times: u32) -> io::Result<()>
     requires start { set.old.moment ≡ 0 }
@@ -132,10 +111,7 @@ fn owe(set: &mut StateSet<PlainServer>, book: &Book, sent: What, times: u32) -> 
     ensures known { OnOk result (All (Knows plain_server_names book.now) set.new.states) }
 {
     hear(set, book, sent)?;
-    for repeat in 0..times {
-        hear(set, book, REPEAT)?;
-    }
-    Ok(())
+    hear_often(set, book, REPEAT, times)
 }
 
 /// Sends the response so often, and once more.
@@ -146,10 +122,7 @@ fn pay(set: &mut StateSet<PlainServer>, book: &Book, sent: What, times: u32) -> 
     ensures known { OnOk result (All (Knows plain_server_names book.now) set.new.states) }
 {
     hear(set, book, sent)?;
-    for send in 0..times {
-        hear(set, book, sent)?;
-    }
-    Ok(())
+    hear_often(set, book, sent, times)
 }
 
 /// The set of this shape.

@@ -1,4 +1,4 @@
-use Rattle.std.proofs.Common.{◌≡◌, ◌≢◌, ◌≤◌, ◌<◌, ℕ, zero, suc, Bool, true, false, cond, List, [], ◌∷◌, ◌++◌, length, Option, Some, None, position, slice_get, slice_set, get_or, refl, sym, ap, subst, ◌∙◌, true≢false, arith, ◌⊎◌, inl, inr}
+use Rattle.std.proofs.Common.{◌≡◌, ◌≢◌, ◌≤◌, ◌<◌, ℕ, zero, suc, Bool, true, false, cond, ◌==◌, ◌&&◌, List, [], ◌∷◌, ◌++◌, length, Option, Some, None, position, slice_get, slice_set, get_or, refl, sym, ap, subst, ◌∙◌, true≢false, arith, ◌⊎◌, inl, inr}
 use Rattle.std.proofs.lemmas.List.Quantifiers.{position-Some}
 use Rattle.std.proofs.lemmas.Option.{slice_get-get_or}
 use Rattle.std.proofs.lemmas.Bool.Decides.{nat_tests}
@@ -6,7 +6,7 @@ use Rattle.std.specs.Bool.{Decides}
 use Rattle.std.specs.Ordering.{nat_cmp, ordering_then, is_eq, is_gt, MatchOrdering}
 use Rattle.std.specs.declared.cmp.Ordering.{Ordering}
 use Rattle.std.specs.declared.cmp.Ordering.TheVariants.{Less, Equal, Greater}
-use Rattle.std.specs.Cmp.{ranks}
+use Rattle.std.specs.Cmp.{ranks, first_so, second_so, both_tied, unsigned_ties, unsigned_Decides}
 use Rattle.std.specs.Option.{option_flatten}
 use Rattle.std.specs.List.{list_any}
 use Rattle.std.specs.BTreeSet.{BTreeSet, contains}
@@ -15,41 +15,17 @@ use Rattle.sip_states.specs.inner.Lines.{line_cmp, HasLine, IsInOrder, IsLineOf,
 
 -- The records of the agenda, and its lines.
 
--- numbers that compare Equal are the same
-level : (x y : ℕ) → is_eq (nat_cmp x y) ≡ true → x ≡ y
-level x y = by (nat_cmp x y) (ranks x y)
-  where
-    by : (r : Ordering) → MatchOrdering r (x < y) (x ≡ y) (y < x) → is_eq r ≡ true → x ≡ y
-    by Less h e = absurd (true≢false (sym e))
-    by Equal h e = h
-    by Greater h e = absurd (true≢false (sym e))
+-- lines compare Equal where both of their numbers are the same
+line_tied : (a b : ℕ × ℕ) → is_eq (line_cmp a b) ≡ ((a.0 == b.0) && (a.1 == b.1))
+line_tied a b = sym (both_tied (a.0 == b.0) (a.1 == b.1) (nat_cmp a.0 b.0) (nat_cmp a.1 b.1) (unsigned_ties a.0 b.0) (unsigned_ties a.1 b.1))
 
--- so are lines
-same_line : (a b : ℕ × ℕ) → is_eq (line_cmp a b) ≡ true → (a.0 ≡ b.0) × (a.1 ≡ b.1)
-same_line a b = by (nat_cmp a.0 b.0) (level a.0 b.0)
-  where
-    by : (r : Ordering) → (is_eq r ≡ true → a.0 ≡ b.0) → is_eq (ordering_then r (nat_cmp a.1 b.1)) ≡ true → (a.0 ≡ b.0) × (a.1 ≡ b.1)
-    by Less h e = absurd (true≢false (sym e))
-    by Equal h e = (h refl, level a.1 b.1 e)
-    by Greater h e = absurd (true≢false (sym e))
-
--- a number compares Equal to itself
-itself : (x : ℕ) → nat_cmp x x ≡ Equal
-itself x = by (nat_cmp x x) (ranks x x) refl
-  where
-    by : (r : Ordering) → MatchOrdering r (x < x) (x ≡ x) (x < x) → nat_cmp x x ≡ r → r ≡ Equal
-    by Less h e = absurd (omega (arith, h))
-    by Equal h e = refl
-    by Greater h e = absurd (omega (arith, h))
-
-line_itself : (a : ℕ × ℕ) → is_eq (line_cmp a a) ≡ true
-line_itself a = rw (itself a.0, itself a.1) refl
-
--- the line of an index is compared Equal to that with the same last moment, and to no other
+-- so the line that an index has is told by the order
 own_line : (index last : ℕ) (limit : Option ℕ) → limit ≡ Some last → (line : ℕ × ℕ) → Decides (is_eq (line_cmp (last, index) line)) (IsLineOf index limit line)
 own_line index last limit has line = (
-  λ e. (let h = same_line (last, index) line e in (sym h.1, has ∙ ap Some h.0)),
-  λ h. (let same : last ≡ line.0 = cc in subst (λ i. is_eq (line_cmp (last, i) line) ≡ true) h.0 (subst (λ l. is_eq (line_cmp (l, line.1) line) ≡ true) (sym same) (line_itself line))),
+  λ e. (let h = sym (line_tied (last, index) line) ∙ e in
+      (sym ((unsigned_Decides index line.1).0 (second_so _ _ h)), has ∙ ap Some ((unsigned_Decides last line.0).0 (first_so _ _ h)))),
+  λ h. (let same : last ≡ line.0 = cc in
+      line_tied (last, index) line ∙ rw ((unsigned_Decides last line.0).1 same, (unsigned_Decides index line.1).1 (sym h.0)) refl),
 )
 
 -- a line that is not above another has no later moment
@@ -101,26 +77,27 @@ nothing_due records order moment ordered late = by (position (is_overdue moment)
         let found = position-Some (is_overdue moment) records i None at in
         absurd (overdue i (get_or records i None) (slice_get-get_or records i None found.0) found.1)
 
--- a place that is not settled has no last moment
+-- an index that is not settled has no last moment
 unsettled : (xs : Records) (i last : ℕ) → slice_get (xs ++ None ∷ []) i ≡ Some (Some (Some last)) → slice_get xs i ≡ Some (Some (Some last))
 unsettled [] zero last e = cc
 unsettled [] (suc i) last e = cc
 unsettled (x ∷ xs) zero last e = e
 unsettled (x ∷ xs) (suc i) last e = unsettled xs i last e
 
+-- and what the others have stays
 still : (xs : Records) (r : Option (Option ℕ)) (i : ℕ) (s : Option (Option ℕ)) → slice_get xs i ≡ Some s → slice_get (xs ++ r ∷ []) i ≡ Some s
 still [] r i s e = absurd cc
 still (x ∷ xs) r zero s e = e
 still (x ∷ xs) r (suc i) s e = still xs r i s e
 
--- with one more index that is not settled
+-- one more index that is not settled needs no line
 pub IsInOrder-push : (records : Records) (order : BTreeSet (ℕ × ℕ)) → IsInOrder records order → IsInOrder (records ++ None ∷ []) order
 IsInOrder-push records order ordered line = (
   λ has. still records None line.1 _ ((ordered line).0 has),
   λ at. (ordered line).1 (unsettled records line.1 line.0 at),
 )
 
--- without it
+-- and leaves none
 pub IsInOrder-pop : (records : Records) (order : BTreeSet (ℕ × ℕ)) → IsInOrder (records ++ None ∷ []) order → IsInOrder records order
 IsInOrder-pop records order ordered line = (
   λ has. unsettled records line.1 line.0 ((ordered line).0 has),
@@ -149,12 +126,6 @@ set_past (x ∷ xs) zero zero w r e = inl refl
 set_past (x ∷ xs) zero (suc k) w r e = inr e
 set_past (x ∷ xs) (suc i) zero w r e = inr e
 set_past (x ∷ xs) (suc i) (suc k) w r e = elim (set_past xs i k w r e) [ inl h ↦ inl (ap suc h) | inr h ↦ inr h ]
-
--- where what is written stood before, nothing changes
-pub set_same : (xs : Records) (i : ℕ) (w : Option (Option ℕ)) → slice_get xs i ≡ Some w → slice_set xs i w ≡ xs
-set_same [] i w e = refl
-set_same (x ∷ xs) zero w e = (let same : w ≡ x = cc in ap (λ y. y ∷ xs) same)
-set_same (x ∷ xs) (suc i) w e = ap (λ ys. x ∷ ys) (set_same xs i w e)
 
 -- an index has only the line of its record
 flat : (older : Option (Option ℕ)) (last : ℕ) → option_flatten older ≡ Some last → older ≡ Some (Some last)

@@ -101,7 +101,7 @@ module _ (texts : Texts) (p : Times) (es : List (Observation KeyParts)) (e : Obs
     left : IsPassed m k es e (mine.0, own.after) fate
     left =
         own_passed m k es e (mine.0, own.after) before.0 fate
-        (subst (λ f. IsStepped (rules_of p (machine_of_key mine.0)) (events_of m mine.0 es) (Some f) f.moment (λ fs. LeadsOf texts p (machine_of_key mine.0) fs own.after)
+        (subst (λ f. IsStepped (rules_of p (machine_of_key mine.0)) (events_of m mine.0 es) f (λ fs. LeadsOf texts p (machine_of_key mine.0) fs own.after)
         (λ f. StandsOf texts p (machine_of_key mine.0) (events_of m mine.0 es) f own.after) fate) (sym (is_event place mine.0 mine.1))
         (own.stepped p (machine_of_key mine.0) (events_of m mine.0 es) before.1))
 

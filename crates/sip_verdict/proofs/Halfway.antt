@@ -122,7 +122,7 @@ module _ (texts : Texts) (p : Times) (es : List (Observation KeyParts)) (e : Obs
     other n s at = set-place t.sets place n own.after s (ap (λ xs. slice_get xs n) (sym (leaves_sets number own.after fate t u own.leaves)) ∙ at)
 
     no_more : (n : ℕ) → without waits (Some number) (n + 1) ≡ false → (waits (n + 1) ≡ false) ⊎ (n ≡ place)
-    no_more n none = elim (waits_no_more (nat_eq number (n + 1)) (waits (n + 1)) none) [ | inl same ↦ inr (omega (arith, next, (unsigned_Decides number (n + 1)).0 same)) | inr old ↦ inl old ]
+    no_more n none = elim (waits_no_more (nat_eq number (n + 1)) (waits (n + 1)) none) [ inl same ↦ inr (omega (arith, next, (unsigned_Decides number (n + 1)).0 same)) | inr old ↦ inl old ]
 
     -- it is the outcome of the others and of this one
     more_waiting : (n : ℕ) (key : KeyParts) (s : AnySet) → slice_get keys n ≡ Some key → slice_get u.sets n ≡ Some s → without waits (Some number) (n + 1) ≡ true → (concerns m key e ≡ true) × IsReady m k es (key, s)

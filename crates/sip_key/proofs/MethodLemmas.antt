@@ -1,5 +1,5 @@
 -- The methods of keys are ASCII.
-use Rattle.std.proofs.Common.{◌≡◌, ◌≤◌, ◌<◌, ◌||◌, inl, inr, ℕ, Bool, true, false, Option, Some, None, List, [], ◌∷◌, ◌++◌, ◌==◌, All, cond, codes, nat_le, nat_lt, option_to_list, refl, sym, ap, subst, arith}
+use Rattle.std.proofs.Common.{◌≡◌, ◌≤◌, ◌<◌, ◌||◌, inl, inr, ℕ, Bool, true, false, Option, Some, None, List, [], ◌∷◌, ◌==◌, All, cond, codes, nat_le, nat_lt, option_to_list, refl, sym, subst, arith}
 use Rattle.std.specs.Prelude.{IsAscii, option_map, bytes_eq}
 use Rattle.std.specs.List.{list_all}
 use Rattle.std.specs.Int.{is_in_range}

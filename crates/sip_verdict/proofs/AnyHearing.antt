@@ -1,31 +1,26 @@
--- What an event, or a wait, leaves of the runs of a transaction of any machine.
-use Rattle.std.proofs.Common.{◌≡◌, ◌≢◌, ◌≤◌, ℕ, Some, None, List, [], sym, ap, ◌∙◌, subst}
+-- What an event leaves of the runs of a transaction of any machine.
+use Rattle.std.proofs.Common.{◌≡◌, ◌≢◌, ◌≤◌, ℕ, List, [], ◌∷◌, ◌++◌, sym, ap, ◌∙◌, subst}
 use Rattle.sip_machine.specs.Times.{Times}
-use Rattle.sip_machine.specs.Texts.{Texts, IsBook}
+use Rattle.sip_machine.specs.Texts.{Texts}
 use Rattle.sip_machine.specs.NumberedEvent.{NumberedEvent}
 use Rattle.sip_machine.specs.Heard.{Heard, heard}
 use Rattle.sip_machine.specs.Rules.{Rules, StandFor}
 use Rattle.sip_states.specs.Runs.{After, IsWide}
 use Rattle.sip_states.specs.Held.{Held}
 use Rattle.sip_states.specs.KeyMachine.{MachineKind, PhaseOf, rules_of}
-use Rattle.sip_states.specs.Meaning.{IsKnown, Given, HasWaited, HasTaken}
-use Rattle.sip_states.specs.AnySet.{moment_of, IsEmpty, IsKnownSet, Waits, Takes, IsTooWide}
+use Rattle.sip_states.specs.Meaning.{IsKnown, Given, HasTaken}
+use Rattle.sip_states.specs.AnySet.{moment_of, IsEmpty, IsKnownSet, Takes, IsTooWide}
 use Rattle.sip_states.specs.declared.any_set.AnySet.{AnySet}
 use Rattle.sip_verdict.specs.declared.passing.Fate.TheVariants.{Runs, NoRun, TooWide}
-use Rattle.sip_verdict.specs.inner.Stepping.{RunsUntil, IsWideAfter, with_event, IsStepped}
+use Rattle.sip_verdict.specs.inner.Stepping.{RunsUntil, IsStepped}
 use Rattle.sip_verdict.specs.inner.TablesTracking.{StateOf, meaning_of, set_of, LeadsOf, StandsOf}
-use Rattle.sip_verdict.proofs.Hearing.{heard_none, heard_some, heard_wide, waited_none, waited_some}
+use Rattle.sip_verdict.proofs.Hearing.{heard_none, heard_some, heard_wide}
 use Rattle.sip_verdict.proofs.ByMachine.{rules_are, lawful_of, moment_is, some_machine, of_set, to_set, of_sets}
 
 -- the set of a machine after an event
 after_event : (texts : Texts) (e : NumberedEvent) (machine : MachineKind) (s : Held Times (StateOf machine)) (old new : AnySet) → old ≡ set_of machine s → Takes texts e old new
     → (t : Held Times (StateOf machine)) × (new ≡ set_of machine t) × HasTaken (meaning_of machine) texts e s t
 after_event texts e machine s old new is takes = of_sets (λ X M S m a b. HasTaken m texts e a b) machine s new (subst (λ set. Takes texts e set new) is takes)
-
--- after a wait
-after_wait : (moment : ℕ) (machine : MachineKind) (s : Held Times (StateOf machine)) (old new : AnySet) → old ≡ set_of machine s → Waits moment old new
-    → (t : Held Times (StateOf machine)) × (new ≡ set_of machine t) × HasWaited (meaning_of machine) moment s t
-after_wait moment machine s old new is waits = of_sets (λ X M S m a b. HasWaited m moment a b) machine s new (subst (λ set. Waits moment set new) is waits)
 
 -- an event leaves a set of its moment
 pub takes_at : (texts : Texts) (e : NumberedEvent) (old new : AnySet) → Takes texts e old new → moment_of new ≡ e.moment
@@ -40,21 +35,6 @@ takes_known texts e old new takes =
     let o = some_machine old in
     let n = after_event texts e o.0 o.1 old new o.2 takes in
     subst (IsKnownSet texts) (sym n.1) (to_set (λ X M S m s. IsKnown m texts s) o.0 n.0 n.2.states.known)
-
--- a wait leaves a set of its last moment
-pub waits_at : (moment : ℕ) (old new : AnySet) → Waits moment old new → moment_of new ≡ moment
-waits_at moment old new waits =
-    let o = some_machine old in
-    let n = after_wait moment o.0 o.1 old new o.2 waits in
-    ap moment_of n.1 ∙ moment_is o.0 n.0 ∙ n.2.at
-
-pub waits_known : (texts : Texts) → IsBook texts → (moment : ℕ) (old new : AnySet) → IsKnownSet texts old → Waits moment old new → IsKnownSet texts new
-waits_known texts book moment old new known waits =
-    let o = some_machine old in
-    let n = after_wait moment o.0 o.1 old new o.2 waits in
-    subst (IsKnownSet texts) (sym n.1)
-    (to_set (λ X M S m s. IsKnown m texts s) o.0 n.0
-    (n.2.states texts book (of_set (λ X M S m s. IsKnown m texts s) o.0 o.1 (subst (IsKnownSet texts) o.2 known))).known)
 
 -- a set of a machine is empty where it has no state
 none_of : (machine : MachineKind) (t : Held Times (StateOf machine)) (new : AnySet) → new ≡ set_of machine t → IsEmpty new → t.states ≡ []
@@ -74,55 +54,32 @@ module _ (texts : Texts) (p : Times) (machine : MachineKind) (events : List Hear
 
   module _ (e : NumberedEvent) (low : moment_of old ≤ e.moment) where
     -- no state is left: no run takes the event
-    pub hears_none : Takes texts e old new → IsEmpty new → IsStepped (rules_of p machine) events (Some (heard texts e)) e.moment (λ es. LeadsOf texts p machine es new) (λ f. StandsOf texts p machine events f new) NoRun
+    pub hears_none : Takes texts e old new → IsEmpty new → IsStepped (rules_of p machine) events (heard texts e) (λ es. LeadsOf texts p machine es new) (λ f. StandsOf texts p machine events f new) NoRun
     hears_none takes none =
         let n = after_event texts e machine leads.0 old new leads.1 takes in
         let m = meaning_of machine in
-        subst (λ r. ¬ RunsUntil r (with_event events (Some (heard texts e))) e.moment) (rules_are p machine)
+        subst (λ r. ¬ RunsUntil r (events ++ heard texts e ∷ []) e.moment) (rules_are p machine)
         (heard_none m.names m.in_range m.seen m.rules (lawful_of machine) texts p events leads.0 n.0 leads.2 (heard texts e) (low_of e.moment low) n.2.states (none_of machine n.0 new n.1 none))
 
     -- some are left: the runs go on
-    pub hears_some : Takes texts e old new → ¬ IsEmpty new → IsStepped (rules_of p machine) events (Some (heard texts e)) e.moment (λ es. LeadsOf texts p machine es new) (λ f. StandsOf texts p machine events f new) Runs
+    pub hears_some : Takes texts e old new → ¬ IsEmpty new → IsStepped (rules_of p machine) events (heard texts e) (λ es. LeadsOf texts p machine es new) (λ f. StandsOf texts p machine events f new) Runs
     hears_some takes some =
         let n = after_event texts e machine leads.0 old new leads.1 takes in
         let m = meaning_of machine in
         let h = heard_some m.names m.in_range m.seen m.rules (lawful_of machine) texts p events leads.0 n.0 leads.2 (heard texts e) (low_of e.moment low) n.2.states n.2.machine n.2.at
         (some_of machine n.0 new n.1 some) n.2.few in (
-          subst (λ r. RunsUntil r (with_event events (Some (heard texts e))) e.moment) (rules_are p machine) h.0,
-          subst (λ r. ¬ IsWideAfter r events (Some (heard texts e))) (rules_are p machine) h.1,
+          subst (λ r. RunsUntil r (events ++ heard texts e ∷ []) e.moment) (rules_are p machine) h.0,
+          subst (λ r. ¬ IsWide (After r events (heard texts e))) (rules_are p machine) h.1,
           (n.0, n.1, h.2),
           (n.0, n.1, subst (λ r. StandFor m.names m.in_range m.seen texts (After r events (heard texts e)) n.0.states) (rules_are p machine) h.3),
         )
 
     -- too many come out: there is a run, and too many last states
-    pub hears_wide : IsTooWide texts e old → IsStepped (rules_of p machine) events (Some (heard texts e)) e.moment (λ es. LeadsOf texts p machine es new) (λ f. StandsOf texts p machine events f new) TooWide
+    pub hears_wide : IsTooWide texts e old → IsStepped (rules_of p machine) events (heard texts e) (λ es. LeadsOf texts p machine es new) (λ f. StandsOf texts p machine events f new) TooWide
     hears_wide wide =
         let m = meaning_of machine in
         let h = heard_wide m.names m.in_range m.seen m.rules (lawful_of machine) texts p events leads.0 leads.0 leads.2 (heard texts e) (low_of e.moment low)
         (of_set (λ X M S m s. IsWide (Given m texts s e)) machine leads.0 (subst (IsTooWide texts e) leads.1 wide)) in (
-          subst (λ r. RunsUntil r (with_event events (Some (heard texts e))) e.moment) (rules_are p machine) h.0,
-          subst (λ r. IsWideAfter r events (Some (heard texts e))) (rules_are p machine) h.1,
-        )
-
-  module _ (book : IsBook texts) (moment : ℕ) (low : moment_of old ≤ moment) (waits : Waits moment old new) where
-    -- no state can wait until then: no run does
-    pub waits_none : IsEmpty new → IsStepped (rules_of p machine) events None moment (λ es. LeadsOf texts p machine es new) (λ f. StandsOf texts p machine events f new) NoRun
-    waits_none none =
-        let n = after_wait moment machine leads.0 old new leads.1 waits in
-        let m = meaning_of machine in
-        subst (λ r. ¬ RunsUntil r events moment) (rules_are p machine)
-        (waited_none m.names m.in_range m.seen m.rules (lawful_of machine) texts p events leads.0 n.0 leads.2 moment (low_of moment low) (n.2.states texts book leads.2.leads.known)
-        (none_of machine n.0 new n.1 none))
-
-    -- some can: the runs go on
-    pub waits_some : ¬ IsEmpty new → IsStepped (rules_of p machine) events None moment (λ es. LeadsOf texts p machine es new) (λ f. StandsOf texts p machine events f new) Runs
-    waits_some some =
-        let n = after_wait moment machine leads.0 old new leads.1 waits in
-        let m = meaning_of machine in
-        let h = waited_some m.names m.in_range m.seen m.rules (lawful_of machine) texts p events leads.0 n.0 leads.2 moment (low_of moment low) (n.2.states texts book leads.2.leads.known)
-        n.2.machine n.2.at (some_of machine n.0 new n.1 some) in (
-          subst (λ r. RunsUntil r events moment) (rules_are p machine) h.0,
-          λ wide. wide,
-          (n.0, n.1, h.2),
-          tt,
+          subst (λ r. RunsUntil r (events ++ heard texts e ∷ []) e.moment) (rules_are p machine) h.0,
+          subst (λ r. IsWide (After r events (heard texts e))) (rules_are p machine) h.1,
         )

@@ -2,13 +2,11 @@
 use Rattle.std.proofs.Common.{◌≡◌, ◌≢◌, ◌∙◌, ◌<◌, ◌+◌, ◌-◌, inl, inr, ℕ, zero, suc, true, Option, Some, None, MatchOption, List, [], ◌∷◌, ◌++◌, All, AllPairs, Contains, length, slice_get, option_to_list, refl, sym, ap, subst, arith, append_assoc}
 use Rattle.std.specs.Prelude.{IsAscii}
 use Rattle.std.proofs.lemmas.List.{append-nil}
-use Rattle.std.proofs.lemmas.List.Elements.{All-nil, All-cons, All-weaker, Contains-get_or, Contains-append_left, Contains-append_right, All-contains}
+use Rattle.std.proofs.lemmas.List.Elements.{All-nil, All-cons, Contains-get_or, Contains-append_left, Contains-append_right, All-contains}
 use Rattle.std.proofs.lemmas.Option.{slice_get_within, get_or_from_slice_get}
 use Rattle.sip_key.specs.Key.{KeyParts, same_key}
 use Rattle.sip_key.specs.inner.KeyLaws.{same_key-decides}
 use Rattle.sip_key.specs.declared.role.Direction.{Direction}
-use Rattle.sip_machine.specs.declared.event.Action.{Action}
-use Rattle.sip_machine.specs.declared.event.Action.TheVariants.{Sent, Received, Failed, Mark}
 use Rattle.sip_machine.specs.Times.{Times}
 use Rattle.sip_machine.specs.Texts.{Texts}
 use Rattle.sip_states.specs.KeyMachine.{machine_of_key}
@@ -16,13 +14,13 @@ use Rattle.sip_states.specs.AnySet.{IsKnownSet}
 use Rattle.sip_states.specs.Tables.{Tabled}
 use Rattle.sip_listing.specs.Transaction.{transaction_text}
 use Rattle.sip_log.specs.Spelling.{Item}
-use Rattle.sip_verdict.specs.Keyed.{Observation, concerns, events_of, keys_of}
+use Rattle.sip_verdict.specs.Keyed.{Observation, concerns, events_of}
 use Rattle.sip_verdict.specs.Verdicts.{IsFirst}
 use Rattle.sip_verdict.specs.MessageReading.{key_machines, message_reading, direction_of, mark_observation, ObservesMessage, has_fault, has_no_cookie, is_heard}
 use Rattle.sip_verdict.specs.Listing.{IsKeyText, AreKeyTexts, IsEntryText}
 use Rattle.sip_verdict.specs.ListingOf.{key_words}
 use Rattle.sip_verdict.specs.inner.Tracking.{IsJudged, IsStanding}
-use Rattle.sip_verdict.specs.inner.TablesTracking.{key_keeping, transactions_of, HasIf, AreConcerned, MayPass}
+use Rattle.sip_verdict.specs.inner.TablesTracking.{key_keeping, transactions_of, HasIf, AreConcerned}
 use Rattle.sip_verdict.specs.inner.Numbering.{Appends, IsTextOf}
 use Rattle.sip_verdict.proofs.Keys.{contains-among}
 use Rattle.sip_verdict.proofs.TablesPassing.{All-place, zip-place, keys_are}

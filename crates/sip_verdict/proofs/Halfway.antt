@@ -101,7 +101,7 @@ module _ (texts : Texts) (p : Times) (es : List (Observation KeyParts)) (e : Obs
     left : IsPassed m k es e (mine.0, own.after) fate
     left =
         own_passed m k es e (mine.0, own.after) before.0 fate
-        (subst (λ f. IsStepped (rules_of p (machine_of_key mine.0)) (events_of m mine.0 es) (Some f) f.moment (λ fs. LeadsOf texts p (machine_of_key mine.0) fs own.after)
+        (subst (λ f. IsStepped (rules_of p (machine_of_key mine.0)) (events_of m mine.0 es) f (λ fs. LeadsOf texts p (machine_of_key mine.0) fs own.after)
         (λ f. StandsOf texts p (machine_of_key mine.0) (events_of m mine.0 es) f own.after) fate) (sym (is_event place mine.0 mine.1))
         (own.stepped p (machine_of_key mine.0) (events_of m mine.0 es) before.1))
 
@@ -122,7 +122,7 @@ module _ (texts : Texts) (p : Times) (es : List (Observation KeyParts)) (e : Obs
     other n s at = set-place t.sets place n own.after s (ap (λ xs. slice_get xs n) (sym (leaves_sets number own.after fate t u own.leaves)) ∙ at)
 
     no_more : (n : ℕ) → without waits (Some number) (n + 1) ≡ false → (waits (n + 1) ≡ false) ⊎ (n ≡ place)
-    no_more n none = elim (waits_no_more (nat_eq number (n + 1)) (waits (n + 1)) none) [ | inl same ↦ inr (omega (arith, next, (unsigned_Decides number (n + 1)).0 same)) | inr old ↦ inl old ]
+    no_more n none = elim (waits_no_more (nat_eq number (n + 1)) (waits (n + 1)) none) [ inl same ↦ inr (omega (arith, next, (unsigned_Decides number (n + 1)).0 same)) | inr old ↦ inl old ]
 
     -- it is the outcome of the others and of this one
     more_waiting : (n : ℕ) (key : KeyParts) (s : AnySet) → slice_get keys n ≡ Some key → slice_get u.sets n ≡ Some s → without waits (Some number) (n + 1) ≡ true → (concerns m key e ≡ true) × IsReady m k es (key, s)

@@ -1,5 +1,5 @@
--- What an event, or a wait, leaves of the runs of one transaction, whatever its machine is.
-use Rattle.std.proofs.Common.{◌≡◌, ◌≢◌, ◌≤◌, ℕ, Some, None, List, [], ◌∷◌, ◌++◌, Contains, map, length, sym, ◌∙◌, subst}
+-- What an event leaves of the runs of one transaction, whatever its machine is.
+use Rattle.std.proofs.Common.{◌≡◌, ◌≢◌, ◌≤◌, ℕ, List, [], ◌∷◌, ◌++◌, Contains, map, length, sym, ◌∙◌, subst}
 use Rattle.sip_machine.specs.Texts.{Texts}
 use Rattle.sip_machine.specs.Heard.{Heard}
 use Rattle.sip_machine.specs.Rules.{Rules, IsLawful, StandFor}
@@ -8,9 +8,9 @@ use Rattle.sip_states.specs.Runs.{Wait, Gives, After, IsWide, widest}
 use Rattle.sip_states.specs.Held.{Held}
 use Rattle.sip_verdict.specs.inner.Leads.{Leads}
 use Rattle.sip_verdict.specs.inner.Stepping.{LeadsTo, IsStepped}
-use Rattle.sip_verdict.proofs.Leading.{Leads-take, Leads-advance}
+use Rattle.sip_verdict.proofs.Leading.{Leads-take}
 use Rattle.sip_verdict.proofs.OneMachine.{none_runs, some_runs, took_after, took_narrow, wide_runs}
-use Rattle.sip_states.proofs.Taking.{took_waits, waited_waits}
+use Rattle.sip_states.proofs.Taking.{took_waits}
 
 module _ {M X S : Type 0} (names : S → List ℕ) (InRange : S → Type 0) (seen : Texts → S → X) (rules : M → Rules X) (lawful : (machine : M) → IsLawful (rules machine))
     (texts : Texts) (machine : M) (events : List Heard) (set new : Held M S) (leads : LeadsTo names seen rules texts machine set events) where
@@ -37,12 +37,12 @@ module _ {M X S : Type 0} (names : S → List ℕ) (InRange : S → Type 0) (see
     taken = Leads-take names InRange seen texts (rules machine) events set.moment set.states leads.leads e low new.states given
 
     -- no state is left: no run takes the event
-    pub heard_none : new.states ≡ [] → IsStepped (rules machine) events (Some e) e.moment (LeadsTo names seen rules texts machine new) Stands NoRun
+    pub heard_none : new.states ≡ [] → IsStepped (rules machine) events e (LeadsTo names seen rules texts machine new) Stands NoRun
     heard_none none run = none_runs names seen texts (rules machine) (events ++ e ∷ []) e.moment new.states taken none run
 
     -- some are left, and not too many: the runs go on
     pub heard_some : new.machine ≡ set.machine → new.moment ≡ e.moment → new.states ≢ [] → length new.states ≤ widest
-        → IsStepped (rules machine) events (Some e) e.moment (LeadsTo names seen rules texts machine new) Stands Runs
+        → IsStepped (rules machine) events e (LeadsTo names seen rules texts machine new) Stands Runs
     heard_some same at some few = (
       some_runs names seen texts (rules machine) (events ++ e ∷ []) e.moment new.states taken
           (took_waits names InRange seen texts (rules machine) (lawful machine) _ e new.states given) some,
@@ -58,27 +58,7 @@ module _ {M X S : Type 0} (names : S → List ℕ) (InRange : S → Type 0) (see
 
   -- too many come out: there is a run, and too many last states
   pub heard_wide : (e : Heard) → set.moment ≤ e.moment → IsWide (Gives (rules set.machine) (WaitFrom set.machine e.moment) e)
-      → IsStepped (rules machine) events (Some e) e.moment (LeadsTo names seen rules texts machine new) Stands TooWide
+      → IsStepped (rules machine) events e (LeadsTo names seen rules texts machine new) Stands TooWide
   heard_wide e low wide =
       wide_runs names seen texts (rules machine) (lawful machine) events set.moment set.states leads.leads e low
       (subst (λ own. IsWide (Gives (rules own) (WaitFrom own e.moment) e)) leads.machine_is wide)
-
-  module _ (moment : ℕ) (low : set.moment ≤ moment) (waits : StandFor names InRange seen texts (WaitFrom set.machine moment) new.states) where
-    waited : StandFor names InRange seen texts (WaitFrom machine moment) new.states
-    waited = subst (λ own. StandFor names InRange seen texts (WaitFrom own moment) new.states) leads.machine_is waits
-
-    advanced : Leads names seen texts (rules machine) events moment new.states
-    advanced = Leads-advance names InRange seen texts (rules machine) (lawful machine) events set.moment set.states leads.leads moment low new.states waited
-
-    -- no state can wait until then: no run does
-    pub waited_none : new.states ≡ [] → IsStepped (rules machine) events None moment (LeadsTo names seen rules texts machine new) Stands NoRun
-    waited_none none run = none_runs names seen texts (rules machine) events moment new.states advanced none run
-
-    -- some can: the runs go on
-    pub waited_some : new.machine ≡ set.machine → new.moment ≡ moment → new.states ≢ [] → IsStepped (rules machine) events None moment (LeadsTo names seen rules texts machine new) Stands Runs
-    waited_some same at some = (
-      some_runs names seen texts (rules machine) events moment new.states advanced (waited_waits names InRange seen texts (rules machine) _ _ moment new.states waited) some,
-      λ wide. wide,
-      led events moment same at advanced,
-      tt,
-    )

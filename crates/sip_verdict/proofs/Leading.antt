@@ -2,14 +2,13 @@ use Rattle.std.proofs.Common.{◌≡◌, ◌≤◌, ◌↔◌, ℕ, List, [], �
 use Rattle.std.proofs.lemmas.List.Elements.{All-cons, All-nil, All-weaker, Contains-get_or}
 use Rattle.sip_machine.specs.Texts.{Texts, text_of}
 use Rattle.sip_machine.specs.Heard.{Heard}
-use Rattle.sip_machine.specs.Rules.{Rules, IsLawful, Waits, Knows, StandFor}
+use Rattle.sip_machine.specs.Rules.{Rules, Waits, Knows, StandFor}
 use Rattle.sip_states.specs.Runs.{Wait, Gives, Run, After}
 use Rattle.sip_machine.proofs.RuleLaws.{AgreeOn, AgreeOn-grow, map-seen}
 use Rattle.sip_verdict.specs.inner.Leads.{Leads}
 use Rattle.sip_states.proofs.Listed.{Contains-single, Contains-none, Contains-map}
 use Rattle.sip_states.proofs.RunLemmas.{Run-wait, Run-wait_first, After-run}
 use Rattle.sip_states.proofs.Waiting.{Wait-iff, Gives-iff, Wait-stay}
-use Rattle.sip_states.proofs.Twice.{Wait-twice}
 
 -- How a set that leads to where the runs stand goes on to lead there.
 
@@ -87,19 +86,4 @@ module _ {X S : Type 0} (names : S → List ℕ) (InRange : S → Type 0) (seen 
             iff_trans
             (Wait-iff r (Contains (map (seen texts) new)) (After r events e) (λ y. iff_trans (gives.members y) (gives_after names seen texts r events moment states leads e low y)) e.moment n x)
             (iff_sym (Run-wait r events e n x));
-      }
-
-  -- where a set that leads can wait leads on
-  pub Leads-advance : IsLawful r → (events : List Heard) (moment : ℕ) (states : List S) → Leads names seen texts r events moment states →
-      (n : ℕ) → moment ≤ n → (new : List S) → StandFor names InRange seen texts (Wait r (Contains (map (seen texts) states)) moment n) new →
-      Leads names seen texts r events n new
-  Leads-advance lawful events moment states leads n low new waited =
-      record {
-        known = waited.known;
-        runs = λ m x later.
-            iff_trans
-            (iff_trans
-            (Wait-iff r (Contains (map (seen texts) new)) (Wait r (Contains (map (seen texts) states)) moment n) waited.members n m x)
-            (Wait-twice r lawful (Contains (map (seen texts) states)) moment n m low later x))
-            (leads.runs m x (omega arith));
       }

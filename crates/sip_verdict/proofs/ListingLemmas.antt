@@ -1,10 +1,10 @@
 -- From the states that the code holds to the lines of a listing.
-use Rattle.std.proofs.Common.{◌≡◌, ◌∙◌, ℕ, List, [], ◌∷◌, All, map, refl, sym, ap, subst}
+use Rattle.std.proofs.Common.{◌≡◌, ℕ, List, [], ◌∷◌, All, map, refl, sym, ap, subst}
 use Rattle.std.proofs.lemmas.List.Elements.{All-weaker}
 use Rattle.sip_machine.specs.Times.{Times}
 use Rattle.sip_machine.specs.Texts.{Texts, Keeps, text_of}
 use Rattle.sip_machine.specs.Heard.{Heard}
-use Rattle.sip_machine.specs.Rules.{Rules, Knows, StandFor}
+use Rattle.sip_machine.specs.Rules.{Knows, StandFor}
 use Rattle.sip_machine.specs.InviteClient.{invite_client_names}
 use Rattle.sip_machine.specs.PlainClient.{plain_names}
 use Rattle.sip_machine.specs.InviteServer.{invite_server_names}

@@ -1,5 +1,5 @@
 -- What the outcomes of some keys of a list and of others say of both.
-use Rattle.std.proofs.Common.{◌≡◌, ◌≤◌, ◌<◌, ◌+◌, ◌⊎◌, inl, inr, ℕ, zero, suc, min, Some, List, [], ◌∷◌, ◌++◌, All, length, slice_get, refl, sym, ap, subst, arith}
+use Rattle.std.proofs.Common.{◌≡◌, ◌<◌, ◌+◌, ◌⊎◌, inl, inr, ℕ, zero, suc, min, Some, List, [], ◌∷◌, slice_get, refl, sym, ap, subst, arith}
 use Rattle.std.proofs.Math.Nat.{min-eq_left, min-eq_right}
 use Rattle.std.proofs.lemmas.Bool.{cases_lt}
 use Rattle.std.proofs.lemmas.List.Elements.{All-nil, All-cons}
@@ -90,7 +90,7 @@ module _ {K : Type 0} (Runs Wide : K → Type 0) (keys : List K) where
       key = f.key;
       at = f.at;
       holds = f.holds;
-      earlier = λ n k low at. (λ among. elim among [ | inl a ↦ f.earlier n k low at a | inr b ↦ others n k (omega (arith, f.counts, low)) at b ]);
+      earlier = λ n k low at. (λ among. elim among [ inl a ↦ f.earlier n k low at a | inr b ↦ others n k (omega (arith, f.counts, low)) at b ]);
     }
 
     first_right : (P : K → Type 0) (i : ℕ) → IsFirstAmong P keys B i → ((n : ℕ) (k : K) → n + 1 < i → slice_get keys n ≡ Some k → A n → ¬ P k) → IsFirstAmong P keys Either i
@@ -100,7 +100,7 @@ module _ {K : Type 0} (Runs Wide : K → Type 0) (keys : List K) where
       key = f.key;
       at = f.at;
       holds = f.holds;
-      earlier = λ n k low at. (λ among. elim among [ | inl a ↦ others n k (omega (arith, f.counts, low)) at a | inr b ↦ f.earlier n k low at b ]);
+      earlier = λ n k low at. (λ among. elim among [ inl a ↦ others n k (omega (arith, f.counts, low)) at a | inr b ↦ f.earlier n k low at b ]);
     }
 
     -- the lesser of two firsts is the first of both

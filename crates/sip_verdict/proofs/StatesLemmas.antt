@@ -1,5 +1,5 @@
 -- How the entries that were read tell of what is listed of one.
-use Rattle.std.proofs.Common.{◌≡◌, inl, inr, ℕ, ◌+◌, ◌<◌, ◌≤◌, Ok, Option, Some, None, IsSomeAnd, IfSome, List, [], ◌∷◌, ◌++◌, length, string_bytes, refl, sym, ap, ◌∙◌, subst, arith}
+use Rattle.std.proofs.Common.{◌≡◌, inl, inr, ℕ, ◌+◌, ◌<◌, ◌≤◌, Ok, Option, Some, None, IsSomeAnd, IfSome, List, [], ◌∷◌, ◌++◌, length, sym, ap, ◌∙◌, subst, arith}
 use Rattle.sip_key.specs.Key.{KeyParts}
 use Rattle.sip_machine.specs.Times.{Times}
 use Rattle.sip_machine.specs.Texts.{Texts}
@@ -19,7 +19,7 @@ use Rattle.sip_verdict.specs.declared.listing.Listing.TheVariants.{Text, Stopped
 use Rattle.sip_verdict.specs.Keyed.{Observation, Machines}
 use Rattle.sip_verdict.specs.Verdicts.{IsTrouble}
 use Rattle.sip_verdict.specs.Reading.{Reading, IsVerdictBy}
-use Rattle.sip_verdict.specs.Listing.{Words, first_entry, trouble_of, HasNoEntry, IsListingBy}
+use Rattle.sip_verdict.specs.Listing.{Words, first_entry, trouble_of, IsListingBy}
 use Rattle.sip_verdict.specs.MessageReading.{key_machines, message_reading}
 use Rattle.sip_verdict.specs.inner.Tracking.{Keeping, Tracks, IsJudged}
 use Rattle.sip_verdict.specs.inner.TablesTracking.{key_keeping, transactions_of, TablesTrack}

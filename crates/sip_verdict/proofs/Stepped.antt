@@ -1,5 +1,5 @@
 -- From the events of one transaction to the entries of a log, one entry more.
-use Rattle.std.proofs.Common.{◌≡◌, Bool, true, false, Some, List, [], ◌∷◌, ◌++◌, refl, sym, ◌∙◌, subst}
+use Rattle.std.proofs.Common.{◌≡◌, Bool, true, false, List, [], ◌∷◌, ◌++◌, refl, sym, ◌∙◌, subst}
 use Rattle.std.proofs.lemmas.Bool.{false≢true}
 use Rattle.sip_machine.specs.Heard.{Heard}
 use Rattle.sip_verdict.specs.declared.passing.Fate.{Fate}
@@ -28,7 +28,7 @@ module _ {K T : Type 0} (m : Machines K) (k : Keeping K T) (es : List (Observati
     own : events_of m (k.key t) (es ++ e ∷ []) ≡ events_of m (k.key t) es ++ e.event ∷ []
     own = events_of-concerned m (k.key t) es e concerned
 
-    pub own_passed : (fate : Fate) → IsStepped (m.rules (k.key t)) (events_of m (k.key t) es) (Some e.event) e.event.moment (k.Leads t) (k.Stands t (events_of m (k.key t) es)) fate → IsPassed m k es e t fate
+    pub own_passed : (fate : Fate) → IsStepped (m.rules (k.key t)) (events_of m (k.key t) es) e.event (k.Leads t) (k.Stands t (events_of m (k.key t) es)) fate → IsPassed m k es e t fate
     own_passed Runs h = record {
       runs = runs_key _ own h.0;
       narrow = λ wide. h.1 wide.wide;

@@ -1,22 +1,17 @@
 -- The sets of the tables hear the event of an entry, one after another.
-use Rattle.std.proofs.Common.{◌≡◌, ◌≢◌, ◌≤◌, ◌<◌, ◌+◌, ◌-◌, ◌⊎◌, ◌||◌, inl, inr, ℕ, zero, suc, Bool, true, false, cond, nat_eq, IfSome, Option, Some, None, List, [], ◌∷◌, ◌++◌, All, map, length, position, set, get_or, slice_get, refl, sym, ap, ◌∙◌, subst, arith}
+use Rattle.std.proofs.Common.{◌≡◌, ◌≢◌, ◌≤◌, ◌<◌, ◌+◌, ◌-◌, ◌⊎◌, ◌||◌, inl, inr, ℕ, zero, suc, Bool, true, false, cond, nat_eq, Option, Some, None, List, [], ◌∷◌, All, map, length, set, slice_get, refl, sym, ap, ◌∙◌, subst, arith}
 use Rattle.std.specs.List.{zip}
 use Rattle.std.specs.Option.{option_eq, ForSome}
 use Rattle.std.specs.Cmp.{unsigned_Decides}
 use Rattle.std.proofs.lemmas.Bool.{false≢true}
 use Rattle.std.proofs.lemmas.List.{length-set}
 use Rattle.std.proofs.lemmas.List.Elements.{All-set}
-use Rattle.std.proofs.lemmas.List.Quantifiers.{position-Some}
-use Rattle.std.proofs.lemmas.Option.{slice_get_within, get_or_from_slice_get, slice_get-get_or}
+use Rattle.std.proofs.lemmas.Option.{slice_get_within, get_or_from_slice_get}
 use Rattle.std.proofs.lemmas.Slice.Zip.{firsts-zip}
-use Rattle.sip_key.specs.Key.{KeyParts}
-use Rattle.sip_machine.specs.Times.{Times}
 use Rattle.sip_machine.specs.Texts.{Texts}
 use Rattle.sip_machine.specs.NumberedEvent.{NumberedEvent}
-use Rattle.sip_machine.specs.Heard.{Heard, heard}
-use Rattle.sip_states.specs.KeyMachine.{machine_of_key, rules_of}
+use Rattle.sip_machine.specs.Heard.{heard}
 use Rattle.sip_states.specs.AnySet.{moment_of, IsKnownSet, IsAgendaOf}
-use Rattle.sip_states.specs.Agenda.{is_overdue}
 use Rattle.sip_states.specs.Tables.{Tabled, IsGiven, Settles, with_set}
 use Rattle.sip_states.specs.declared.any_set.AnySet.{AnySet}
 use Rattle.sip_verdict.specs.declared.passing.Fate.{Fate}
@@ -24,15 +19,8 @@ use Rattle.sip_verdict.specs.declared.passing.Fate.TheVariants.{Runs, NoRun, Too
 use Rattle.sip_verdict.specs.declared.passing.Hearing.{Hearing}
 use Rattle.sip_verdict.specs.declared.passing.Outcome.{Outcome}
 use Rattle.sip_verdict.specs.declared.passing.Outcome.TheVariants as all
-use Rattle.sip_verdict.specs.Keyed.{Observation, Machines, HasRun, concerns, events_of}
-use Rattle.sip_verdict.specs.Verdicts.{IsFirst, IsTooWide}
-use Rattle.sip_verdict.specs.MessageReading.{key_machines}
-use Rattle.sip_verdict.specs.inner.Stepping.{RunsUntil, IsStepped}
-use Rattle.sip_verdict.specs.inner.Tracking.{Keeping, IsReady, IsStanding, GoesOn, IsPassed, IsOutcome, outcome_of, overdue_outcome, first_of}
-use Rattle.sip_verdict.specs.inner.TablesTracking.{LeadsOf, StandsOf, key_keeping, transactions_of, hears, is_own, AreTold, MayPass, IsOnRecord, AreOnRecord, AllAreOnRecord, AreOnRecordIf, Leaves, Hears, HearsIf}
-use Rattle.sip_verdict.proofs.Outcomes.{IsFirstAmong, Says, says_fewer, says_both, both_fine, first_at}
-use Rattle.sip_verdict.proofs.Overdue.{overdue_none, in_time_some}
-use Rattle.sip_verdict.proofs.Stepped.{own_passed, other_passed, run_still}
+use Rattle.sip_verdict.specs.inner.Tracking.{outcome_of}
+use Rattle.sip_verdict.specs.inner.TablesTracking.{transactions_of, hears, MayPass, IsOnRecord, AreOnRecord, AllAreOnRecord, AreOnRecordIf, Leaves, Hears, HearsIf}
 
 -- a list has an element at each place
 pub at_place : {A : Type 0} (xs : List A) (n : ℕ) → n < length xs → (x : A) × (slice_get xs n ≡ Some x)
@@ -68,7 +56,7 @@ set-place (u ∷ xs) zero zero a x at = inl (refl, cc)
 set-place (u ∷ xs) zero (suc n) a x at = inr (λ same. omega (arith, same), at)
 set-place (u ∷ xs) (suc i) zero a x at = inr (λ same. omega (arith, same), at)
 set-place (u ∷ xs) (suc i) (suc n) a x at =
-    elim (set-place xs i n a x at) [ | inl h ↦ inl (ap suc h.0, h.1) | inr h ↦ inr (λ same. h.0 (omega (arith, same)), h.1) ]
+    elim (set-place xs i n a x at) [ inl h ↦ inl (ap suc h.0, h.1) | inr h ↦ inr (λ same. h.0 (omega (arith, same)), h.1) ]
 
 -- each transaction's key
 pub keys_are : (t : Tabled) → length t.sets ≡ length t.keys → map (λ x. x.0) (transactions_of t) ≡ t.keys
@@ -133,7 +121,7 @@ pub settles_leaves : (number : ℕ) (after : AnySet) (t u : Tabled) → Settles 
 settles_leaves number after t u s = (s.limit, subst (IsAgendaOf s.limit) same s.agenda, s.recorded)
   where
     same : s.set ≡ after
-    same = elim (set-place t.sets (number - 1) (number - 1) after s.set s.at) [ | inl h ↦ sym h.1 | inr h ↦ absurd (h.0 refl) ]
+    same = elim (set-place t.sets (number - 1) (number - 1) after s.set s.at) [ inl h ↦ sym h.1 | inr h ↦ absurd (h.0 refl) ]
 
 -- an entry may still pass
 pub leaves_may : (texts : Texts) (moment number : ℕ) (after : AnySet) (fate : Fate) (t u : Tabled) → MayPass texts t moment → Leaves number after fate t u

@@ -1,5 +1,5 @@
 -- Keys that an event names are looked up in the tables.
-use Rattle.std.proofs.Common.{◌≡◌, ◌≢◌, ◌≤◌, ◌<◌, ◌+◌, ◌-◌, ◌⊎◌, ◌||◌, inl, inr, ℕ, zero, suc, Bool, true, false, nat_eq, Option, Some, None, List, [], ◌∷◌, ◌++◌, All, AllPairs, Contains, length, slice_get, option_to_list, refl, sym, ap, ◌∙◌, subst, arith, length-append}
+use Rattle.std.proofs.Common.{◌≡◌, ◌≢◌, ◌≤◌, ◌+◌, ◌-◌, ◌⊎◌, ◌||◌, inl, inr, ℕ, zero, suc, Bool, true, false, nat_eq, Option, Some, None, List, [], ◌∷◌, ◌++◌, All, AllPairs, Contains, length, slice_get, option_to_list, refl, sym, ap, ◌∙◌, subst, arith, length-append}
 use Rattle.std.specs.Prelude.{fold}
 use Rattle.std.specs.List.{list_any, zip}
 use Rattle.std.specs.Option.{option_eq}
@@ -83,7 +83,7 @@ push-place : {A : Type 0} (xs : List A) (a : A) (n : ℕ) (x : A) → slice_get 
 push-place [] a zero x at = inr (refl, cc)
 push-place [] a (suc n) x at = absurd cc
 push-place (u ∷ xs) a zero x at = inl at
-push-place (u ∷ xs) a (suc n) x at = elim (push-place xs a n x at) [ | inl h ↦ inl h | inr h ↦ inr (ap suc h.0, h.1) ]
+push-place (u ∷ xs) a (suc n) x at = elim (push-place xs a n x at) [ inl h ↦ inl h | inr h ↦ inr (ap suc h.0, h.1) ]
 
 or_first : (a b : Bool) → a ≡ true → (a || b) ≡ true
 or_first a b h = ap (λ x. x || b) h

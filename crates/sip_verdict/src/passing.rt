@@ -65,16 +65,11 @@ fn hear(set: &mut AnySet, book: &Book, event: &Event) -> Result<Fate, AllocError
     ensures known { OnOk result (IsKnownSet book.now set.new) }
     ensures some { IfOk result (λ fate. fate ≡ Fate.Runs → ¬ IsEmpty set.new) }
     ensures stepped { IfOk result (λ fate. (p : Times) (machine : MachineKind) (events : List Heard) → LeadsOf book.now p machine events set.old
-        → IsStepped (rules_of p machine) events (Some (heard book.now event.now)) event.now.moment (λ es. LeadsOf book.now p machine es set.new) (λ e. StandsOf book.now p machine events e set.new) fate) }
+        → IsStepped (rules_of p machine) events (heard book.now event.now) (λ es. LeadsOf book.now p machine es set.new) (λ e. StandsOf book.now p machine events e set.new) fate) }
 {
     match set.take(book, event) {
-        Ok(()) => {
-            if set.is_empty() {
-                Ok(Fate::NoRun)
-            } else {
-                Ok(Fate::Runs)
-            }
-        }
+        Ok(()) if set.is_empty() => Ok(Fate::NoRun),
+        Ok(()) => Ok(Fate::Runs),
         Err(TakeError::TooMany) => Ok(Fate::TooWide),
         Err(TakeError::Memory) => Err(AllocError),
     }

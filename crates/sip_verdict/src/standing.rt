@@ -27,8 +27,8 @@ use sip_states::Tables;
 use std::alloc::{AllocError, Global};
 use std::hash::BuildHasher;
 
-/// The messages of a log so far, and the transactions in the order of their first messages. An entry that does not concern a
-/// transaction leaves its states as they are: until when it can wait is on record.
+/// The messages of a log so far, and the transactions in the order of their first messages. An entry touches those that it
+/// concerns; until when each can wait is on record.
 #[derive(Drop)]
 pub(crate) struct Standing<H: BuildHasher> {
     book: Book,

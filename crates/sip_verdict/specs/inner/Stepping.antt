@@ -1,4 +1,4 @@
-use Rattle.std.specs.Prelude.{◌≡◌, ◌++◌, [], ◌∷◌, ℕ, Option, Some, None, List, IsSomeAnd, IfSome}
+use Rattle.std.specs.Prelude.{◌≡◌, ◌++◌, [], ◌∷◌, ℕ, List}
 use Rattle.sip_machine.specs.Texts.{Texts}
 use Rattle.sip_machine.specs.Heard.{Heard}
 use Rattle.sip_machine.specs.Rules.{Rules}
@@ -8,7 +8,7 @@ use Rattle.sip_states.specs.Runs.{Run, After, IsWide}
 use Rattle.sip_states.specs.Held.{Held}
 use Rattle.sip_verdict.specs.inner.Leads.{Leads}
 
--- What an entry leaves of the runs of one machine.
+-- What an event leaves of the runs of one machine.
 
 -- a set of this machine leads to where the runs over the events stand
 pub record LeadsTo {M X S : Type 0} (names : S → List ℕ) (seen : Texts → S → X) (rules : M → Rules X) (texts : Texts) (machine : M) (set : Held M S) (events : List Heard) : Type 0 where
@@ -19,19 +19,9 @@ pub record LeadsTo {M X S : Type 0} (names : S → List ℕ) (seen : Texts → S
 abbrev pub RunsUntil : {X : Type 0} → Rules X → List Heard → ℕ → Type 0
 RunsUntil {X} r events moment = (y : X) × Run r events moment y
 
--- the events with one more, if there is one
-abbrev pub with_event : List Heard → Option Heard → List Heard
-with_event events None = events
-with_event events (Some e) = events ++ e ∷ []
-
--- the last states of the runs over the events and this one, if there is one, are more than 1,024
-abbrev pub IsWideAfter : {X : Type 0} → Rules X → List Heard → Option Heard → Type 0
-IsWideAfter r events e = IsSomeAnd e (λ f. IsWide (After r events f))
-
--- what the events and one more, if there is one, leave of the runs at the moment, to which events the set leads then, and that it is just the last
--- states of the runs that end with the one more
-abbrev pub IsStepped : {X : Type 0} → Rules X → List Heard → Option Heard → ℕ → (List Heard → Type 0) → (Heard → Type 0) → Fate → Type 0
-IsStepped r events e moment Leads Stands Runs =
-    RunsUntil r (with_event events e) moment × ¬ IsWideAfter r events e × Leads (with_event events e) × IfSome e Stands
-IsStepped r events e moment Leads Stands NoRun = ¬ RunsUntil r (with_event events e) moment
-IsStepped r events e moment Leads Stands TooWide = RunsUntil r (with_event events e) moment × IsWideAfter r events e
+-- what the events and one more leave of the runs at its moment, to which events the set leads then, and that it is just the last states of the runs
+-- that end with the one more
+abbrev pub IsStepped : {X : Type 0} → Rules X → List Heard → Heard → (List Heard → Type 0) → (Heard → Type 0) → Fate → Type 0
+IsStepped r events e Leads Stands Runs = RunsUntil r (events ++ e ∷ []) e.moment × ¬ IsWide (After r events e) × Leads (events ++ e ∷ []) × Stands e
+IsStepped r events e Leads Stands NoRun = ¬ RunsUntil r (events ++ e ∷ []) e.moment
+IsStepped r events e Leads Stands TooWide = RunsUntil r (events ++ e ∷ []) e.moment × IsWide (After r events e)

@@ -134,22 +134,22 @@ abbrev pub IsOnRecord : (ℕ → Bool) → ℕ → AnySet → Option (Option ℕ
 IsOnRecord waits number set (Some limit) = IsAgendaOf limit set
 IsOnRecord waits number set None = waits number ≡ true
 
--- the same of each set
+-- each last moment is on record, but those of sets that are still to hear an event
 pub record AreOnRecord (waits : ℕ → Bool) (t : Tabled) : Type 0 where
   pub long : length t.records ≡ length t.keys
   pub each : (n : ℕ) (set : AnySet) (recorded : Option (Option ℕ)) → slice_get t.sets n ≡ Some set → slice_get t.records n ≡ Some recorded → IsOnRecord waits (n + 1) set recorded
 
--- no set is still to hear one
+-- the same where none is still to hear one
 abbrev pub AllAreOnRecord : Tabled → Type 0
 AllAreOnRecord t = AreOnRecord (λ number. false) t
 
--- nor after an entry in no trouble
+-- the same after an entry, unless it is in trouble
 abbrev pub AreOnRecordIf : Outcome → Tabled → Type 0
 AreOnRecordIf all.Fine t = AllAreOnRecord t
 AreOnRecordIf (all.NoRun number) t = Unit {0}
 AreOnRecordIf (all.TooWide number) t = Unit {0}
 
--- the set with this number is another one, and how long a wait in it can last is on record if it has a state
+-- another set has taken the place of the one with this number; until when a wait in it can last is on record if it has a state
 abbrev pub Leaves : ℕ → AnySet → Fate → Tabled → Tabled → Type 0
 Leaves number set Runs old new = (limit : Option ℕ) × IsAgendaOf limit set × (new ≡ with_record (with_set old number set) number limit)
 Leaves number set NoRun old new = new ≡ with_set old number set
@@ -162,7 +162,7 @@ pub record Hears (texts : Texts) (e : NumberedEvent) (number : ℕ) (old new : T
   pub was : slice_get old.sets (number - 1) ≡ Some before
   pub leaves : Leaves number after fate old new
   pub stepped : (p : Times) (machine : MachineKind) (events : List Heard) → LeadsOf texts p machine events before
-      → IsStepped (rules_of p machine) events (Some (heard texts e)) e.moment (λ es. LeadsOf texts p machine es after) (λ f. StandsOf texts p machine events f after) fate
+      → IsStepped (rules_of p machine) events (heard texts e) (λ es. LeadsOf texts p machine es after) (λ f. StandsOf texts p machine events f after) fate
 
 -- the same if there is such a set, with the outcome
 abbrev pub HearsIf : Texts → NumberedEvent → Option ℕ → Tabled → Tabled → Outcome → Type 0

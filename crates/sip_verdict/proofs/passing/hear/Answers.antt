@@ -3,18 +3,18 @@ use Rattle.sip_states.specs.AnySet.{IsEmpty}
 use Rattle.sip_verdict.proofs.AnyHearing.{takes_known, hears_none, hears_some, hears_wide}
 use Rattle.sip_verdict.proofs.passing.hear.Goals as goal
 
-pub returns-then-is_empty-clause-stepped : goal.returns-then-is_empty-clause-stepped
-returns-then-is_empty-clause-stepped c = λ p machine events leads.
+pub returns-in-Ok-clause-stepped : goal.returns-in-Ok-clause-stepped
+returns-in-Ok-clause-stepped c = λ p machine events leads.
     let none : IsEmpty c.take.new.self = search rules in
     hears_none c.args.book.now p machine events c.args.set.now c.take.new.self leads c.args.event.now c.requires.order c.in-Ok.ensures.ok none
 
-pub returns-else-is_empty-clause-known : goal.returns-else-is_empty-clause-known
-returns-else-is_empty-clause-known c = takes_known c.args.book.now c.args.event.now c.args.set.now c.take.new.self c.in-Ok.ensures.ok
+pub returns-in-Ok-2-clause-known : goal.returns-in-Ok-2-clause-known
+returns-in-Ok-2-clause-known c = takes_known c.args.book.now c.args.event.now c.args.set.now c.take.new.self c.in-Ok-2.ensures.ok
 
-pub returns-else-is_empty-clause-stepped : goal.returns-else-is_empty-clause-stepped
-returns-else-is_empty-clause-stepped c = λ p machine events leads.
+pub returns-in-Ok-2-clause-stepped : goal.returns-in-Ok-2-clause-stepped
+returns-in-Ok-2-clause-stepped c = λ p machine events leads.
     let some : ¬ IsEmpty c.take.new.self = search rules in
-    hears_some c.args.book.now p machine events c.args.set.now c.take.new.self leads c.args.event.now c.requires.order c.in-Ok.ensures.ok some
+    hears_some c.args.book.now p machine events c.args.set.now c.take.new.self leads c.args.event.now c.requires.order c.in-Ok-2.ensures.ok some
 
 pub returns-in-Err-TooMany-clause-stepped : goal.returns-in-Err-TooMany-clause-stepped
 returns-in-Err-TooMany-clause-stepped c = λ p machine events leads.

@@ -1,10 +1,5 @@
-use Rattle.std.proofs.Common.{refl, subst}
-use Rattle.sip_states.specs.KeyMachine.{rules_of}
-use Rattle.sip_machine.specs.Heard.{heard}
-use Rattle.std.proofs.Common.{Some}
+use Rattle.std.proofs.Common.{refl}
 use Rattle.sip_verdict.specs.declared.passing.Fate.TheVariants.{Runs, NoRun, TooWide}
-use Rattle.sip_verdict.specs.inner.Stepping.{IsStepped}
-use Rattle.sip_verdict.specs.inner.TablesTracking.{LeadsOf, StandsOf}
 use Rattle.sip_verdict.proofs.TablesPassing.{settles_leaves}
 use Rattle.sip_verdict.proofs.passing.hear_one.Goals as goal
 

@@ -1,4 +1,4 @@
-use Rattle.std.proofs.Common.{◌≡◌, Some, sym, ap, ◌∙◌, subst}
+use Rattle.std.proofs.Common.{◌≡◌, sym, ap, ◌∙◌, subst}
 use Rattle.sip_verdict.specs.inner.Tracking.{IsOutcome, overdue_outcome, first_of}
 use Rattle.sip_verdict.specs.inner.TablesTracking.{key_keeping, transactions_of, MayPass, AreOnRecordIf}
 use Rattle.sip_verdict.specs.MessageReading.{key_machines}
@@ -8,7 +8,7 @@ use Rattle.sip_verdict.proofs.TablesPassing.{on_record_if, given_still}
 use Rattle.sip_verdict.proofs.passing.pass_all.Goals as goal
 
 pub returns-in_default-clause-recorded : goal.returns-in_default-clause-recorded
-returns-in_default-clause-recorded g c = on_record_if c.overdue-overdue.result c.args.tables.now (λ fine. rw c.in_default.is at c.requires.recorded)
+returns-in_default-clause-recorded g c = on_record_if _ c.args.tables.now (λ fine. rw c.in_default.is at c.requires.recorded)
 
 pub returns-in_default-clause-outcome : goal.returns-in_default-clause-outcome
 returns-in_default-clause-outcome g c = λ p es e told ready.

@@ -1,5 +1,4 @@
 use Rattle.std.proofs.Common.{◌∙◌, ap, inl, refl, arith, None, subst, sym}
-use Rattle.sip_machine.specs.Texts.{IsBook}
 use Rattle.sip_log.specs.Told.{item}
 use Rattle.sip_verdict.specs.MessageReading.{fault_observation}
 use Rattle.sip_verdict.specs.inner.Numbering.{StaysNumbered}

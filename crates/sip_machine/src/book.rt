@@ -47,7 +47,7 @@ struct Gap {
 }
 
 /// A run with so many places is halved before it takes another one.
-const MOST: usize = 512;
+const MOST: usize = 128;
 
 impl Model for Book {
     ghost use Rattle.sip_machine.specs.Texts.{Texts, IsBook};

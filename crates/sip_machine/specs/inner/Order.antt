@@ -54,7 +54,7 @@ places_of runs = flat_map (λ run. run.places.items) runs
 
 -- a run holds at most so many places, so that few of them move for a new one
 abbrev pub most_places : ℕ
-most_places = 512
+most_places = 128
 
 -- the runs hold the places in order, none is empty, and none is too long
 pub record IsInRuns (texts : Texts) (runs : List Run) : Type 0 where

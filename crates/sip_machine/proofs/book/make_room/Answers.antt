@@ -11,8 +11,8 @@ returns-then-gap-clause-places c =
     let head : Run = record { places = c.split_off.new.self } in
     let tail : Run = record { places = c.in_ok-places.places } in
     rw (c.in_ok-insert.ensures.items, c.in_ok-reserve.ensures.items)
-    (places-halved runs c.args.gap.run 256 run head tail c.requires.inside.run
-    (c.in_ok-places.ensures.items ∙ ap (λ (r : Run). take 256 r.places.items) is) (c.in_ok-places.ensures.tail ∙ ap (λ (r : Run). drop 256 r.places.items) is))
+    (places-halved runs c.args.gap.run 64 run head tail c.requires.inside.run
+    (c.in_ok-places.ensures.items ∙ ap (λ (r : Run). take 64 r.places.items) is) (c.in_ok-places.ensures.tail ∙ ap (λ (r : Run). drop 64 r.places.items) is))
 
 pub returns-clause-places : goal.returns-clause-places
 returns-clause-places c =
@@ -22,5 +22,5 @@ returns-clause-places c =
     let head : Run = record { places = c.split_off.new.self } in
     let tail : Run = record { places = c.in_ok-places.places } in
     rw (c.in_ok-insert.ensures.items, c.in_ok-reserve.ensures.items)
-    (places-halved runs c.args.gap.run 256 run head tail c.requires.inside.run
-    (c.in_ok-places.ensures.items ∙ ap (λ (r : Run). take 256 r.places.items) is) (c.in_ok-places.ensures.tail ∙ ap (λ (r : Run). drop 256 r.places.items) is))
+    (places-halved runs c.args.gap.run 64 run head tail c.requires.inside.run
+    (c.in_ok-places.ensures.items ∙ ap (λ (r : Run). take 64 r.places.items) is) (c.in_ok-places.ensures.tail ∙ ap (λ (r : Run). drop 64 r.places.items) is))

@@ -131,11 +131,11 @@ fn names_the_least_that_is_overdue(rt: HostRuntime) -> Result<(), Fail> {
 
 #[test]
 fn judges_many_transactions_by_any_hash(rt: HostRuntime) -> Result<(), Fail> {
-    let log = requests(rt.alloc(), 1_000, false)?;
+    let log = requests(rt.alloc(), 10_000, false)?;
     for seed in [1, 2] {
         let hasher = RandomState::new(&Same(seed))?;
         let text = verdict_by(rt.alloc(), log.as_str().as_bytes(), hasher)?;
-        assert_eq!(rt; text.as_str(), "legal entries 1000 transactions 1000");
+        assert_eq!(rt; text.as_str(), "legal entries 10000 transactions 10000");
     }
     let log = requests(rt.alloc(), 200, false)?;
     let text = verdict_by(rt.alloc(), log.as_str().as_bytes(), AllZero)?;

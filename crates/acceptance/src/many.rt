@@ -143,6 +143,32 @@ fn judges_many_transactions_by_any_hash(rt: HostRuntime) -> Result<(), Fail> {
     Ok(())
 }
 
+/// The log of so many registrations, one each millisecond, each with a branch of its own and answered 20 ms later.
+fn registrations(alloc: Global, count: u32) -> Result<String, Fail> {
+    let mut log = header(alloc, "50")?;
+    let count = u64::from(count);
+    for moment in 0..count + 20 {
+        if moment < count {
+            let entry = format!(in alloc; "S {moment} REGISTER #{moment}")?;
+            push(alloc, &mut log, entry.as_str(), &[])?;
+        }
+        if moment >= 20 {
+            let branch = moment - 20;
+            let entry = format!(in alloc; "R {moment} 200 REGISTER #{branch}")?;
+            push(alloc, &mut log, entry.as_str(), &[])?;
+        }
+    }
+    Ok(log)
+}
+
+#[test]
+fn judges_many_registrations(rt: HostRuntime) -> Result<(), Fail> {
+    let log = registrations(rt.alloc(), 100_000)?;
+    let text = verdict_on(rt.alloc(), log.as_str().as_bytes())?;
+    assert_eq!(rt; text.as_str(), "legal entries 200000 transactions 100000");
+    Ok(())
+}
+
 #[test]
 fn judges_many_entries(rt: HostRuntime) -> Result<(), Fail> {
     judge_rows(

@@ -127,7 +127,10 @@ fn is_wanted(state: &PlainServerState, want: Want) -> bool {
                 owes,
             },
             Want::Completed(number, moment, debts),
-        ) => !*reliable && *final_message == number && *set == moment && are_owed(owes.debts(), debts),
+        ) => !*reliable
+            && *final_message == number
+            && *set == moment
+            && are_owed(owes.debts(), debts),
         _ => false,
     }
 }

@@ -138,7 +138,7 @@ def main():
           f"{'cat: MB/s':>9} {'peak MB':>8}")
     with tempfile.TemporaryDirectory() as folder:
         log = Path(folder) / "log"
-        for size in sizes or ["1000", "10000"]:
+        for size in sizes or ["10000", "100000"]:
             for kind in KINDS:
                 entries = write_log(log, kind(int(size)))
                 megabytes = log.stat().st_size / 1e6

@@ -10,7 +10,7 @@ use Rattle.sip_log.specs.LogFault.{LogFault}
 use Rattle.sip_log.specs.LogFault as faults
 use Rattle.sip_log.specs.Next.{Next, ends, gives, stops}
 use Rattle.sip_log.specs.Spelling.{Item, header_text, entry_text}
-use Rattle.sip_log.specs.Log.{IsEntry, most_entries, ComesNext, InOrder, last_of, LogEnd, Clean, Stops, next_at, NoHeader, IsLog}
+use Rattle.sip_log.specs.Log.{IsEntry, most_entries, ComesNext, InOrder, last_of, LogEnd, Clean, Stops, next_at, NoHeader, IsLog, IsFaultOf}
 use Rattle.sip_log.specs.Told.{FailsAs, item}
 use Rattle.sip_log.specs.Reading.{Stage, fresh, entries, ended, failed, Reading, Moves, Place, reading, Continues, ComesFirst, Comes, Heads, Opens, NextsAt, Nexts}
 use Rattle.sip_log.proofs.ReadingLemmas.{FailsAs-map}
@@ -260,6 +260,14 @@ module _ (start : Option (List ℕ)) (items : List Item) (old new : Reading) whe
 
   pub Stands-stops : (e : LogError) → GoesOn old → Stands start items old → Nexts old new (Err e) → FailsAs old.has_failed new.has_failed (λ fault. IfSome start (λ input. StopsAt input new.times fault)) e
   Stands-stops e on stands nexts = stops-at old.stage e refl on stands nexts
+
+  fault-of : (t : Option Times) (s : Option (List ℕ)) (fault : LogFault) → IfSome s (λ input. StopsAt input t fault) → IfSome s (λ input. IsFaultOf input fault)
+  fault-of t None fault at = tt
+  fault-of None (Some input) fault at = inl at
+  fault-of (Some p) (Some input) fault at = inr (p, items, at)
+
+  pub Stands-fault : (e : LogError) → GoesOn old → Stands start items old → Nexts old new (Err e) → FailsAs old.has_failed new.has_failed (λ fault. IfSome start (λ input. IsFaultOf input fault)) e
+  Stands-fault e on stands nexts = FailsAs-map old.has_failed new.has_failed _ _ e (λ fault at. fault-of new.times start fault at) (Stands-stops e on stands nexts)
 
   -- no read failed where an answer was given
   fine-at : (s : Stage) (r : Option Entry) → NextsAt s old new (Ok r) → new.has_failed ≡ old.has_failed

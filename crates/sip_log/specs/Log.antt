@@ -2,7 +2,7 @@ use Rattle.std.specs.Prelude.{◌≡◌, ◌≢◌, ◌⊎◌, ◌<◌, ◌≤�
 use Rattle.sip_machine.specs.Times.{Times, AreTimes, last_moment}
 use Rattle.sip_machine.specs.declared.event.Action.{Action}
 use Rattle.sip_machine.specs.declared.event.Action.TheVariants.{Mark}
-use Rattle.sip_log.specs.LogFault.{LogFault, EntryLine, Truncated, Order, Limit}
+use Rattle.sip_log.specs.LogFault.{LogFault, Header, EntryLine, Truncated, Order, Limit}
 use Rattle.sip_log.specs.Next.{Next, ends, gives, stops}
 use Rattle.sip_log.specs.Spelling.{line_feed, Item, header_text, line_text, entry_text}
 
@@ -106,3 +106,7 @@ pub data Log : Type 0 where
 abbrev pub IsLogOf : List ℕ → Log → Type 0
 IsLogOf input Faulty = NoHeader input
 IsLogOf input (Holds p items end) = IsLog input p items end
+
+-- the fault for which the log of an input cannot be read to its end: no header stands at its front, or its entries stop so
+abbrev pub IsFaultOf : List ℕ → LogFault → Type 0
+IsFaultOf input fault = (NoHeader input × (fault ≡ Header)) ⊎ ((p : Times) × (items : List Item) × IsLog input p items (Stops fault))

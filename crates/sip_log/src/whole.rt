@@ -1,9 +1,8 @@
 //! Reads a log whole.
-ghost use Rattle.std.specs.Prelude.{◌≡◌, ◌++◌, ◌∷◌, [], true, List, map, IfOk, IfSome, OnOk, IsErrOf};
+ghost use Rattle.std.specs.Prelude.{◌≡◌, ◌++◌, ◌∷◌, [], List, map, IfOk, IfErr, IfSome, OnOk};
 ghost use Rattle.sip_machine.specs.Times.{Times};
-ghost use Rattle.sip_log.specs.declared.log_error.LogError.TheVariants.{Io};
-ghost use Rattle.sip_log.specs.Log.{IsLog, Clean};
-ghost use Rattle.sip_log.specs.Told.{item};
+ghost use Rattle.sip_log.specs.Log.{IsFaultOf, IsLog, Clean};
+ghost use Rattle.sip_log.specs.Told.{FailsAs, item};
 
 use crate::entry::Entry;
 use crate::log_error::LogError;
@@ -11,11 +10,14 @@ use crate::progress::Progress;
 use crate::source::Source;
 use std::alloc::{AllocError, Global};
 
-/// All entries of a log that can be read to its end. A long log takes as much memory as it has bytes.
+/// All entries of a log that can be read to its end, or why it cannot. A long log takes as much memory as it has bytes.
+///
+/// `LogError::Io` is answered only if the source has failed, and `LogError::Failed` never.
 pub fn read_entries<R: Source>(alloc: Global, source: &mut R) -> Result<Vec<Entry>, LogError>
     ensures log { IfOk result (λ entries. IfSome (R.left source.old) (λ input. (p : Times) × IsLog input p (map item entries.items) Clean)) }
     ensures fine { OnOk result (R.has_failed source.new ≡ R.has_failed source.old) }
-    ensures io { IsErrOf result Io → R.has_failed source.new ≡ true }
+    ensures err { IfErr result (FailsAs (R.has_failed source.old) (R.has_failed source.new)
+        (λ fault. IfSome (R.left source.old) (λ input. IsFaultOf input fault))) }
 {
     let mut progress = Progress::new(alloc);
     let mut entries = Vec::new(alloc);

@@ -1,9 +1,10 @@
-use Rattle.std.proofs.Common.{◌≡◌, ◌++◌, ◌∷◌, [], Some, inr, List, map, subst, sym, ap, ◌∙◌, arith}
+use Rattle.std.proofs.Common.{◌≡◌, ◌++◌, ◌∷◌, [], Some, inr, IfSome, List, map, subst, sym, ap, ◌∙◌, arith}
 use Rattle.std.proofs.lemmas.List.{map-append}
 use Rattle.sip_log.specs.Spelling.{Item}
-use Rattle.sip_log.specs.Told.{item}
+use Rattle.sip_log.specs.Log.{IsFaultOf}
+use Rattle.sip_log.specs.Told.{FailsAs, item}
 use Rattle.sip_log.specs.Reading.{Reading, reading}
-use Rattle.sip_log.proofs.CallerLemmas.{Stands, Stands-gives, Nexts-counted, Nexts-fine}
+use Rattle.sip_log.proofs.CallerLemmas.{Stands, Stands-gives, Stands-fault, Nexts-counted, Nexts-fine}
 use Rattle.sip_log.proofs.whole.read_entries.Goals as goal
 
 pub loop-entry-preserved : goal.loop-entry-preserved
@@ -24,3 +25,12 @@ loop-entry-preserved g c =
       fine = Nexts-fine start items old new (Some entry) nexts ∙ l.invariant.fine;
       few = omega (arith, counted.up, counted.few);
     }
+
+pub returns-in-Err-clause-err : goal.returns-in-Err-clause-err
+returns-in-Err-clause-err g c =
+    let l = c.loop-entry in
+    let start = g.R.Source.left c.args.source.now in
+    let old : Reading = reading l.progress (g.R.Source.left l.source) (g.R.Source.has_failed l.source) in
+    let new : Reading = reading c.next.new.self (g.R.Source.left c.next.new.source) (g.R.Source.has_failed c.next.new.source) in
+    let told = Stands-fault start (map item l.entries.items) old new c.in-Err.error l.invariant.on l.invariant.stands c.in-Err.ensures in
+    subst (λ before. FailsAs before new.has_failed (λ fault. IfSome start (λ input. IsFaultOf input fault)) c.in-Err.error) l.invariant.fine told

@@ -24,7 +24,7 @@ pub enum LogError {
     /// A moment or a length is outside the limits, or there are more than 1,000,000 entries.
     #[error("outside the limits")]
     Limit,
-    /// The source failed in this call.
+    /// The source has failed.
     #[error("cannot read")]
     Io,
     /// A growth was refused.

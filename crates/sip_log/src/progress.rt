@@ -65,7 +65,7 @@ impl Progress {
 
     /// Reads the header, and no entry yet. Answers its times, and how far the log was read.
     ///
-    /// `LogError::Io` is answered only if the source failed in this call.
+    /// `LogError::Io` is answered only if the source has failed: in this call, if it had not before.
     pub fn open<R: Source>(alloc: Global, source: &mut R) -> Result<(Params, Progress), LogError>
         ensures { Opens (R.left source.old) (R.left source.new) (R.has_failed source.old) (R.has_failed source.new) result }
     {
@@ -94,8 +94,8 @@ impl Progress {
 
     /// Reads the next entry, and before the first one the header. None at the end of the log, and then again.
     ///
-    /// `LogError::Io` is answered only if the source failed in this call. After an error every later call answers
-    /// `LogError::Failed`. The source must be the same one in each call.
+    /// `LogError::Io` is answered only if the source has failed: in this call, if it had not before. After an
+    /// error every later call answers `LogError::Failed`. The source must be the same one in each call.
     pub fn next<R: Source>(&mut self, source: &mut R) -> Result<Option<Entry>, LogError>
         ensures { Nexts (reading self.old (R.left source.old) (R.has_failed source.old))
             (reading self.new (R.left source.new) (R.has_failed source.new)) result }

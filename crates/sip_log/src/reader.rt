@@ -45,8 +45,8 @@ impl<R: Source> LogReader<R> {
 
     /// Reads the next entry, and before the first one the header. None at the end of the log, and then again.
     ///
-    /// `LogError::Io` is answered only if the source failed in this call. After an error every later call answers
-    /// `LogError::Failed`; nothing is read again.
+    /// `LogError::Io` is answered only if the source has failed: in this call, if it had not before. After an
+    /// error every later call answers `LogError::Failed`; nothing is read again.
     pub fn next(&mut self) -> Result<Option<Entry>, LogError>
         ensures { Nexts self.old self.new result }
     {

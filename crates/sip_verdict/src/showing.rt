@@ -20,7 +20,7 @@ use std::alloc::Global;
 /// Writes each entry of the reader's log with its number, and with its message in the canonical form, and then a last line:
 /// `end N`, or the verdict on the first entry that cannot be read or whose message has a fault. It judges no transaction.
 ///
-/// `ShowError::Read` is answered only if the reader failed in this call, and `ShowError::Write` only if the writer did. It
+/// `ShowError::Read` is answered only if the reader has failed, and `ShowError::Write` only if the writer has. It
 /// writes as it reads, and holds no more than one entry at a time.
 pub fn show<R: Source, W: Sink>(
     alloc: Global,

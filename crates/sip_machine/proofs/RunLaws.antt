@@ -1,4 +1,4 @@
-use Rattle.std.specs.Prelude.{◌≡◌, ◌<◌, ◌≤◌, ◌+◌, ◌-◌, ◌⊎◌, ℕ, true, false, List, [], ◌∷◌, ◌++◌, length, take}
+use Rattle.std.specs.Prelude.{◌≡◌, ◌<◌, ◌≤◌, ◌+◌, ◌-◌, ◌⊎◌, ℕ, true, false, List, [], ◌∷◌, ◌++◌, length, take, All}
 use Rattle.std.specs.List.{insert}
 use Rattle.std.specs.List.Sorted.{IsNonDecreasingBy, IsPartitionedBy, IsPartitionPoint}
 use Rattle.std.specs.declared.cmp.Ordering.{Ordering}
@@ -7,17 +7,17 @@ use Rattle.std.specs.Ordering.{ordering_index, is_le}
 use Rattle.std.proofs.Common.{Result, Ok, Err, OnErr, refl, sym, ◌∙◌, ap, subst, arith, get_or, set, drop, suc, inl, inr, append_assoc}
 use Rattle.std.proofs.Math.Seq.{take-append-add, drop-append-add}
 use mathlib.Core.Bool.{false≢true}
-use Rattle.std.proofs.lemmas.Bool.{cases_lt, lt-ltb}
+use Rattle.std.proofs.lemmas.Bool.{cases_lt}
 use Rattle.std.proofs.lemmas.Bool.Decides.{eqb_tells}
-use Rattle.std.proofs.lemmas.List.{append-nil, take-append-drop, take-append-le, drop-append-le, drop_more, set_split, take_more_set, drop-set-lt, take_more, take_all, take-take, get_or-take, length-take-le, length-append, get_or_default}
+use Rattle.std.proofs.lemmas.List.{append-nil, take-append-drop, take-append-le, drop-append-le, drop_more, set_split, take_more_set, drop-set-lt, take_more, take_all, take-take, get_or-take, length-take-le, length-drop, length-append, get_or_default}
 use Rattle.std.proofs.lemmas.List.Concat.{flat_map-append, get_or-flat_map}
 use Rattle.std.proofs.lemmas.List.Folds.{length-flat_map-take}
-use Rattle.std.proofs.lemmas.List.Elements.{All-get_or}
+use Rattle.std.proofs.lemmas.List.Elements.{All-get_or, All-set, All-append, All-take, All-cons, All-drop}
 use Rattle.sip_machine.specs.Texts.{Texts}
 use Rattle.sip_machine.specs.declared.book.Place.{Place}
 use Rattle.sip_machine.specs.declared.book.Run.{Run}
 use Rattle.sip_machine.specs.declared.book.Gap.{Gap}
-use Rattle.sip_machine.specs.inner.Order.{key_of, bytes_at, compare, begins_by, places_of, index_of, IsInRuns, IsGap}
+use Rattle.sip_machine.specs.inner.Order.{key_of, bytes_at, compare, begins_by, places_of, index_of, IsLed, IsInRuns, IsGap}
 use Rattle.sip_machine.proofs.OrderLaws.{searchable, found}
 
 -- Laws of the runs in which a book holds its places.
@@ -127,10 +127,30 @@ rank_of_later Less later = absurd (false≢true (sym later))
 rank_of_later Equal later = absurd (false≢true (sym later))
 rank_of_later Greater later = omega arith
 
--- a run that is not empty begins with its first place
-begins : (texts : Texts) (key : ℕ × List ℕ) (run : Run) → 0 < length (items run) →
+-- a run begins with its first place
+begins : (texts : Texts) (key : ℕ × List ℕ) (run : Run) → IsLed run →
     begins_by texts key run ≡ is_le (compare (key_of texts (get_or (items run) 0 first)) key)
-begins texts key run filled = rw (lt-ltb 0 (length (items run)) filled) refl
+begins texts key run led =
+    ap (λ place. is_le (compare (key_of texts place) key)) (led.first ∙ get_or_default (items run) 0 run.first first led.filled)
+
+-- the halves of a run are led where it was
+pub led_halved : (runs : List Run) (r n : ℕ) (d head tail : Run) → r < length runs → All IsLed runs → 0 < n → n < length (items (get_or runs r d)) →
+    head.first ≡ (get_or runs r d).first → items head ≡ take n (items (get_or runs r d)) → items tail ≡ drop n (items (get_or runs r d)) →
+    tail.first ≡ get_or (items tail) 0 tail.first → All IsLed (insert (set runs r head) (r + 1) tail)
+led_halved runs r n d head tail low led some more begins front behind begins' =
+    let run = get_or runs r d in
+    let old : IsLed run = All-get_or IsLed runs r d low led in
+    let size : length (items head) ≡ n = ap length front ∙ length-take-le n (items run) (omega arith) in
+    let rest : length (items tail) ≡ length (items run) - n = ap length behind ∙ length-drop n (items run) in
+    let led_head : IsLed head = record {
+      filled = omega (arith, size);
+      first = begins ∙ old.first ∙ get_or_default (items run) 0 run.first head.first old.filled
+          ∙ sym (ap (λ places. get_or places 0 head.first) front ∙ get_or-take n (items run) 0 head.first some);
+    } in
+    let led_tail : IsLed tail = record { filled = omega (arith, rest); first = begins' } in
+    let all = All-set IsLed runs r head led_head led in
+    All-append IsLed (take (r + 1) (set runs r head)) (tail ∷ drop (r + 1) (set runs r head)) (All-take IsLed (r + 1) (set runs r head) all)
+    (All-cons IsLed tail (drop (r + 1) (set runs r head)) led_tail (All-drop IsLed (r + 1) (set runs r head) all))
 
 -- where a run's place is among all places
 place_at : (runs : List Run) (r j : ℕ) (d : Run) (e : Place) → r < length runs → j < length (items (get_or runs r d)) →
@@ -138,8 +158,8 @@ place_at : (runs : List Run) (r j : ℕ) (d : Run) (e : Place) → r < length ru
 place_at runs r j d e low within = get_or-flat_map items runs r j d e low within
 
 module _ (texts : Texts) (runs : List Run) (key : ℕ × List ℕ) (held : IsInRuns texts runs) where
-  filled_at : (r : ℕ) (d : Run) → r < length runs → 0 < length (items (get_or runs r d))
-  filled_at r d low = All-get_or (λ run. 0 < length run.places.items) runs r d low held.filled
+  led_at : (r : ℕ) (d : Run) → r < length runs → IsLed (get_or runs r d)
+  led_at r d low = All-get_or IsLed runs r d low held.led
 
   -- a run that begins by the key has only such before it
   pub partitioned : IsPartitionedBy (begins_by texts key) runs
@@ -149,14 +169,14 @@ module _ (texts : Texts) (runs : List Run) (key : ℕ × List ℕ) (held : IsInR
             let low : i < length runs = omega arith in
             let off_i = length (places_of (take i runs)) in
             let off_j = length (places_of (take j runs)) in
-            let filled_i = filled_at i d low in
-            let filled_j = filled_at j d high in
+            let led_i = led_at i d low in
+            let led_j = led_at j d high in
             let ends = run_ends runs i j d less (omega arith) in
             let room = length-flat_map-take items runs j d high in
-            let later = rank_of_begun (compare (key_of texts (get_or (items (get_or runs j d)) 0 first)) key) (sym (begins texts key (get_or runs j d) filled_j) ∙ begun) in
-            let up = rw (place_at runs i 0 d first low filled_i, place_at runs j 0 d first high filled_j) at
+            let later = rank_of_begun (compare (key_of texts (get_or (items (get_or runs j d)) 0 first)) key) (sym (begins texts key (get_or runs j d) led_j) ∙ begun) in
+            let up = rw (place_at runs i 0 d first low led_i.filled, place_at runs j 0 d first high led_j.filled) at
             (searchable texts (places_of runs) key held.order.rising (off_i + 0) (off_j + 0) first (omega arith) (omega arith)) in
-            begins texts key (get_or runs i d) filled_i ∙ begun_of_rank (compare (key_of texts (get_or (items (get_or runs i d)) 0 first)) key) (omega (arith, up, later))
+            begins texts key (get_or runs i d) led_i ∙ begun_of_rank (compare (key_of texts (get_or (items (get_or runs i d)) 0 first)) key) (omega (arith, up, later))
         | inr from ↦ let same : i ≡ j = omega arith in rw same begun
       ]
 
@@ -189,10 +209,10 @@ module _ (texts : Texts) (runs : List Run) (key : ℕ × List ℕ) (held : IsInR
       let off = length (places_of (take r runs)) in
       let run = get_or runs r d in
       let all = places_of runs in
-      let filled = filled_at r d low in
+      let led = led_at r d low in
       let room = length-flat_map-take items runs r d low in
       let up = searchable texts all key held.order.rising in
-      let begin = place_at runs r 0 d first low filled in
+      let begin = place_at runs r 0 d first low led.filled in
       let front = compare (key_of texts (get_or (items run) 0 first)) key in
       record {
         within = omega arith;
@@ -200,9 +220,9 @@ module _ (texts : Texts) (runs : List Run) (key : ℕ × List ℕ) (held : IsInR
           | inl earlier ↦ elim chosen [
             | inl none ↦ let empty : off ≡ 0 = rw none refl in absurd (omega arith)
             | inr past ↦
-                let top : ordering_index front ≤ 1 = rank_of_begun front (sym (begins texts key run filled) ∙ parts.0 r d (omega arith) past) in
+                let top : ordering_index front ≤ 1 = rank_of_begun front (sym (begins texts key run led) ∙ parts.0 r d (omega arith) past) in
                 let lowest : ordering_index front ≤ 0 = elim (eqb_tells place 0) [
-                  | inl start ↦ absurd (omega (arith, top, ap ordering_index (parted.1 0 first (omega (arith, start.1)) filled)))
+                  | inl start ↦ absurd (omega (arith, top, ap ordering_index (parted.1 0 first (omega (arith, start.1)) led.filled)))
                   | inr some ↦ omega (arith, ap ordering_index (parted.0 0 first (omega arith) (omega (arith, some.1))))
                 ] in
                 let step = rw begin at (up k (off + 0) first (omega arith) (omega arith)) in
@@ -225,10 +245,10 @@ module _ (texts : Texts) (runs : List Run) (key : ℕ × List ℕ) (held : IsInR
               let size = run_size runs r d low in
               elim (cases_lt (r + 1) (length runs)) [
                 | inl more ↦
-                    let filled' = filled_at (r + 1) d more in
-                    let begin' = place_at runs (r + 1) 0 d first more filled' in
+                    let led' = led_at (r + 1) d more in
+                    let begin' = place_at runs (r + 1) 0 d first more led'.filled in
                     let front' = compare (key_of texts (get_or (items (get_or runs (r + 1) d)) 0 first)) key in
-                    let high : 2 ≤ ordering_index front' = rank_of_later front' (sym (begins texts key (get_or runs (r + 1) d) filled') ∙ parts.1 (r + 1) d next more) in
+                    let high : 2 ≤ ordering_index front' = rank_of_later front' (sym (begins texts key (get_or runs (r + 1) d) led') ∙ parts.1 (r + 1) d next more) in
                     let step = rw begin' at (up (length (places_of (take (r + 1) runs)) + 0) k first (omega (arith, size)) end) in
                     let greater = greater_of_rank (compare (key_of texts (get_or all k first)) key) (omega (arith, step, high)) in
                     subst (λ p. compare (key_of texts p) key ≡ Greater) (get_or_default all k first e end) greater

@@ -3,7 +3,7 @@ ghost use Rattle.std.specs.Prelude.{◌≡◌, ◌≢◌, ◌<◌, ◌≤◌, �
 ghost use Rattle.std.specs.List.{insert, HoldsAt};
 ghost use Rattle.std.specs.List.Sorted.{IsSearchInRange, IsBinarySearchResult};
 ghost use Rattle.sip_machine.specs.Texts.{IsBook, Keeps, text_of};
-ghost use Rattle.sip_machine.specs.inner.Order.{texts_of, hash_of, bytes_at, key_of, compare, begins_by, places_of, index_of, most_places, IsInRuns, IsInside, IsGap};
+ghost use Rattle.sip_machine.specs.inner.Order.{texts_of, hash_of, bytes_at, key_of, compare, begins_by, places_of, index_of, most_places, IsLed, IsInRuns, IsInside, IsGap};
 
 use std::alloc::{AllocError, Global};
 use std::cmp::Ordering;
@@ -11,8 +11,9 @@ use std::hash::{FoldHasher, Hasher};
 use std::marker::Model;
 
 /// Messages by number: equal bytes have one number. They stand in the order of their numbers, and beside them
-/// their places stand in the order of hash and bytes, in runs, so that few places move for a new one. So a message is found by its number, and by its bytes,
-/// with a logarithm of comparisons, whatever the log is and however the hashes fall; its bytes are kept once.
+/// their places stand in the order of hash and bytes, in runs, so that few places move for a new one. So a message
+/// is found by its number, and by its bytes, with a logarithm of comparisons, whatever the log is and however the
+/// hashes fall; its bytes are kept once.
 #[derive(Drop)]
 pub struct Book {
     kept: Vec<Kept>,
@@ -33,9 +34,11 @@ struct Place {
     position: usize,
 }
 
-/// Some of the places, in their order: at least one, at most `MOST`.
+/// Some of the places, in their order: at least one, at most `MOST`. The first one stands here again, so that
+/// the run of a message is found without a look into other runs.
 #[derive(Drop)]
 struct Run {
+    first: Place,
     places: Vec<Place>,
 }
 
@@ -141,7 +144,7 @@ fn find(kept: &[Kept], runs: &[Run], hash: u64, bytes: &[u8]) -> Result<usize, G
 fn begins_by(kept: &[Kept], run: &Run, hash: u64, bytes: &[u8]) -> bool
     ensures { result ≡ begins_by (texts_of kept.now) (hash, bytes.now) run.now }
 {
-    run.places.is_empty() || standing(kept, run.places[0], hash, bytes).is_le()
+    standing(kept, run.first, hash, bytes).is_le()
 }
 
 /// Keeps a message under the number of its entry, with its place in the gap; on an error all is as before.
@@ -153,14 +156,14 @@ fn put(
     hash: u64,
     bytes: &[u8],
 ) -> Result<(), AllocError>
-    requires filled { All (λ run. 0 < length run.places.items) runs.old.items }
+    requires led { All IsLed runs.old.items }
     requires short { All (λ run. length run.places.items ≤ most_places) runs.old.items }
     requires inside { 0 < length runs.old.items → IsInside runs.old.items gap }
     ensures ok { OnOk result ((texts_of kept.new.items ≡ texts_of kept.old.items ++ (entry, bytes.now) ∷ [])
         × (places_of runs.new.items ≡ insert (places_of runs.old.items) (index_of runs.old.items gap)
         (record { hash = hash; position = length kept.old.items }))) }
     ensures err { OnErr result ((kept.new.items ≡ kept.old.items) × (places_of runs.new.items ≡ places_of runs.old.items)) }
-    ensures filled { All (λ run. 0 < length run.places.items) runs.new.items }
+    ensures led { All IsLed runs.new.items }
     ensures short { All (λ run. length run.places.items ≤ most_places) runs.new.items }
 {
     let bytes = bytes.to_vec(*kept.allocator())?;
@@ -176,35 +179,42 @@ fn put(
 
 /// Puts a place into the gap; on an error the places are as before.
 fn insert(runs: &mut Vec<Run>, gap: Gap, place: Place) -> Result<(), AllocError>
-    requires filled { All (λ run. 0 < length run.places.items) runs.old.items }
+    requires led { All IsLed runs.old.items }
     requires short { All (λ run. length run.places.items ≤ most_places) runs.old.items }
     requires inside { 0 < length runs.old.items → IsInside runs.old.items gap }
     ensures ok { OnOk result (places_of runs.new.items ≡ insert (places_of runs.old.items) (index_of runs.old.items gap) place) }
     ensures err { OnErr result (places_of runs.new.items ≡ places_of runs.old.items) }
-    ensures filled { All (λ run. 0 < length run.places.items) runs.new.items }
+    ensures led { All IsLed runs.new.items }
     ensures short { All (λ run. length run.places.items ≤ most_places) runs.new.items }
 {
     if runs.is_empty() {
         let mut places = Vec::new(*runs.allocator());
         places.push(place)?;
-        runs.push(Run { places })?;
+        runs.push(Run {
+            first: place,
+            places,
+        })?;
         return Ok(());
     }
     let gap = make_room(runs, gap)?;
-    runs[gap.run].places.insert(gap.place, place)?;
+    let run = &mut runs[gap.run];
+    run.places.insert(gap.place, place)?;
+    if gap.place == 0 {
+        run.first = place;
+    }
     Ok(())
 }
 
 /// Halves the run of a gap where it is full, so that it has room. The gap as it is then; on an error the places are as before.
 fn make_room(runs: &mut Vec<Run>, gap: Gap) -> Result<Gap, AllocError>
-    requires filled { All (λ run. 0 < length run.places.items) runs.old.items }
+    requires led { All IsLed runs.old.items }
     requires short { All (λ run. length run.places.items ≤ most_places) runs.old.items }
     requires inside { IsInside runs.old.items gap }
     ensures inside { IfOk result (λ next. IsInside runs.new.items next) }
     ensures room { IfOk result (λ next. HoldsAt (λ run. length run.places.items < most_places) runs.new.items next.run) }
     ensures index { IfOk result (λ next. index_of runs.new.items next ≡ index_of runs.old.items gap) }
     ensures places { places_of runs.new.items ≡ places_of runs.old.items }
-    ensures filled { All (λ run. 0 < length run.places.items) runs.new.items }
+    ensures led { All IsLed runs.new.items }
     ensures short { All (λ run. length run.places.items ≤ most_places) runs.new.items }
 {
     if runs[gap.run].places.len() < MOST {
@@ -212,7 +222,8 @@ fn make_room(runs: &mut Vec<Run>, gap: Gap) -> Result<Gap, AllocError>
     }
     runs.reserve(1)?;
     let places = runs[gap.run].places.split_off(MOST / 2)?;
-    runs.insert(gap.run + 1, Run { places })?;
+    let first = places[0];
+    runs.insert(gap.run + 1, Run { first, places })?;
     if gap.place <= MOST / 2 {
         return Ok(gap);
     }

@@ -1,4 +1,4 @@
-use Rattle.std.specs.Prelude.{◌≡◌, ◌<◌, ◌≤◌, ◌+◌, ℕ, Bool, true, if◌then◌else◌, nat_lt, List, [], All, AllPairs, Contains, map, length, take, slice_index_or}
+use Rattle.std.specs.Prelude.{◌≡◌, ◌<◌, ◌≤◌, ◌+◌, ℕ, Bool, List, [], All, AllPairs, Contains, map, length, take, slice_index_or}
 use Rattle.std.specs.declared.cmp.Ordering.{Ordering}
 use Rattle.std.specs.declared.cmp.Ordering.TheVariants.{Less, Greater}
 use Rattle.std.specs.Ordering.{nat_cmp, ordering_then, is_le}
@@ -56,16 +56,20 @@ places_of runs = flat_map (λ run. run.places.items) runs
 abbrev pub most_places : ℕ
 most_places = 128
 
--- the runs hold the places in order, none is empty, and none is too long
+-- the run has places, and tells the first of them
+pub record IsLed (run : Run) : Type 0 where
+  pub filled : 0 < length run.places.items
+  pub first : run.first ≡ slice_index_or run.places.items 0 run.first
+
+-- the runs hold the places in order, each tells its first one, and none is too long
 pub record IsInRuns (texts : Texts) (runs : List Run) : Type 0 where
   pub order : IsOrder texts (places_of runs)
-  pub filled : All (λ run. 0 < length run.places.items) runs
+  pub led : All IsLed runs
   pub short : All (λ run. length run.places.items ≤ most_places) runs
 
 -- the first place of the run is none after the key
 abbrev pub begins_by : Texts → ℕ × List ℕ → Run → Bool
-begins_by texts key run =
-    if nat_lt 0 (length run.places.items) then is_le (compare (key_of texts (slice_index_or run.places.items 0 (record { hash = 0; position = 0 }))) key) else true
+begins_by texts key run = is_le (compare (key_of texts run.first) key)
 
 -- where a gap is among the places of all runs
 abbrev pub index_of : List Run → Gap → ℕ

@@ -13,9 +13,9 @@ invariant_of-self-in-Err c =
     (λ grows.
     let grown = IsKept-grow kept c.put.new.kept.items (places_of runs) (places_of c.put.new.runs.items) c.args.entry c.hash-hash.result c.args.bytes.now
     (index_of runs c.in-Err.gap) c.hash-hash.ensures (c.self.invariant.0, c.self.invariant.1.order) (rw c.self.view_is c.requires) gap grows in
-    (grown.0, record { order = grown.1; filled = c.put.ensures.filled; short = c.put.ensures.short }))
+    (grown.0, record { order = grown.1; led = c.put.ensures.led; short = c.put.ensures.short }))
     (λ same.
-    (rw same.0 c.self.invariant.0, record { order = rw (same.0, same.1) c.self.invariant.1.order; filled = c.put.ensures.filled; short = c.put.ensures.short }))
+    (rw same.0 c.self.invariant.0, record { order = rw (same.0, same.1) c.self.invariant.1.order; led = c.put.ensures.led; short = c.put.ensures.short }))
 
 pub returns-in-Ok-clause-ok : goal.returns-in-Ok-clause-ok
 returns-in-Ok-clause-ok c =

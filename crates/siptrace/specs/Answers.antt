@@ -1,5 +1,5 @@
 -- What the program writes of a log, and the status that it ends with. What it reads and writes is spoken of where it is known.
-use Rattle.std.specs.Prelude.{◌≡◌, ◌++◌, ◌∷◌, [], ℕ, List, Option, None, Some, IfSome, codes, string_bytes}
+use Rattle.std.specs.Prelude.{◌≡◌, ◌++◌, ◌∷◌, [], ℕ, List, Option, Some, IfSome, codes, string_bytes}
 use Rattle.std.specs.Io.KnownBytes.{Appends}
 use Rattle.sip_log.specs.Spelling.{line_feed}
 use Rattle.sip_verdict.specs.declared.verdict.Verdict.{Verdict}
@@ -48,10 +48,15 @@ IsAnswer (Check file) input before after status = IsJudged input before after st
 IsAnswer (Show file) input before after status = IsShown input before after status
 IsAnswer (States file entry) input before after status = IsListed entry input before after status
 
--- the status of an answer to what these words ask for
-pub record IsAnswerTo (words : List (List ℕ)) (status : ℕ) : Type 0 where
+-- the log that is asked for: the standard input, or what the file of that path has
+abbrev pub log_for : Asked → (input : Option (List ℕ)) (file : List ℕ → Option (List ℕ)) → Option (List ℕ)
+log_for Input input file = input
+log_for (Check path) input file = file path.now
+log_for (Show path) input file = file path.now
+log_for (States path entry) input file = file path.now
+
+-- what these words ask for is written of its log, and this is its status
+pub record IsAnswerTo (words : List (List ℕ)) (input : Option (List ℕ)) (file : List ℕ → Option (List ℕ)) (before after : Option (List ℕ)) (status : ℕ) : Type 0 where
   pub asked : Asked
   pub is_asked : IsAskedBy words (Some asked)
-  pub before : Option (List ℕ)
-  pub after : Option (List ℕ)
-  pub is : IsAnswer asked None before after status
+  pub is : IsAnswer asked (log_for asked input file) before after status

@@ -1,4 +1,4 @@
-use Rattle.std.specs.Prelude.{◌≡◌, ℕ, Bool, true, false, ⊤}
+use Rattle.std.specs.Prelude.{◌≡◌, ℕ, Bool, true, ⊤}
 use Rattle.sip_verdict.specs.declared.judge_error.JudgeError.{JudgeError}
 use Rattle.sip_verdict.specs.declared.judge_error.JudgeError.TheVariants as judging
 use Rattle.sip_verdict.specs.declared.show_error.ShowError.{ShowError}
@@ -30,7 +30,3 @@ Blames has_read_failed has_write_failed Read = has_read_failed ≡ true
 Blames has_read_failed has_write_failed Write = has_write_failed ≡ true
 Blames has_read_failed has_write_failed Memory = ⊤
 Blames has_read_failed has_write_failed Usage = ⊥
-
--- what could not be had from the system: it cannot be read, or there was no memory for it
-abbrev pub IsRefusal : Failure → Type 0
-IsRefusal failure = Blames true false failure

@@ -6,98 +6,106 @@
 //! where it does not understand its words.
 #![tactic(auto)]
 
-ghost use Rattle.std.specs.Prelude.{◌≡◌, ◌↔◌, ℕ, List, Option, None, Some, false, true, map, string_bytes, OnOk, IfOk, IfErr, IsErrOf};
-ghost use Rattle.siptrace.specs.Answers.{IsAnswer, IsAnswerTo};
+ghost use Rattle.std.specs.Prelude.{◌≡◌, ◌↔◌, ℕ, List, Option, None, false, true, map, string_bytes, IfSome, OnOk, IfOk, IfErr, IsErrOf};
+ghost use Rattle.siptrace.specs.Answers.{IsAnswer, IsAnswerTo, log_for};
 ghost use Rattle.siptrace.specs.Asked.{IsAskedBy};
-ghost use Rattle.siptrace.specs.Failures.{Blames, IsRefusal};
-ghost use Rattle.siptrace.specs.declared.asked.Asked.{Asked};
-ghost use Rattle.siptrace.specs.declared.failure.Failure.TheVariants.{Usage};
+ghost use Rattle.siptrace.specs.Failures.{Blames};
+ghost use Rattle.siptrace.specs.declared.failure.Failure.TheVariants.{Read, Usage};
 
 mod answering;
 mod asked;
 mod failure;
+mod host;
+mod output;
 mod status;
+mod system;
 
 use answering::{check, list_states, show_log};
 use asked::{Asked, asked_by};
 use failure::{Failure, read_failure, status_without};
-use sip_log::{FromRead, Sink, Source, ToWrite};
-use std::env;
-use std::fs::File;
-use std::hash::RandomState;
-use std::io::{BufWriter, Write};
+use host::Host;
+use output::Output;
+use sip_log::{Sink, Source};
+use std::alloc::Global;
+use std::io::Write;
 use std::process::ExitCode;
-
-/// How many bytes are written at once, but for the last.
-const BUFFER: usize = 65_536;
-
-/// The words behind the program's name.
-fn words(rt: &HostRuntime) -> Result<Vec<String>, Failure>
-    ensures { IfErr result IsRefusal }
-{
-    let words = env::args(rt).map_err(read_failure)?;
-    Ok(words.skip(1).collect(rt.alloc())?)
-}
-
-/// A file to read.
-fn open(rt: &HostRuntime, path: &str) -> Result<FromRead<File>, Failure>
-    ensures fine { IfOk result (λ log. ⟦<FromRead<File> as Source>⟧.has_failed log ≡ false) }
-    ensures err { IfErr result IsRefusal }
-{
-    let file = File::open(rt, path).map_err(read_failure)?;
-    Ok(FromRead::new(file))
-}
-
-/// A seed for the tables of transactions.
-fn seed(rt: &HostRuntime) -> Result<RandomState, Failure>
-    ensures { IfErr result IsRefusal }
-{
-    RandomState::new(rt).map_err(read_failure)
-}
+use system::System;
 
 /// Writes what is asked for. The answer is its status.
-fn answer<W: Sink>(rt: &HostRuntime, asked: Asked<'_>, writer: &mut W) -> Result<u8, Failure>
-    ensures answer { IfOk result (IsAnswer asked.entry None (W.written writer.old) (W.written writer.new)) }
-    ensures fine { OnOk result (W.has_failed writer.new ≡ W.has_failed writer.old) }
-    ensures err { IfErr result (Blames true (W.has_failed writer.new)) }
+fn answer<S: System, W: Sink>(
+    alloc: Global,
+    system: &mut S,
+    asked: Asked<'_>,
+    writer: &mut W,
+) -> Result<u8, Failure>
+    requires { S.has_failed system.old ≡ false }
+    ensures answer { IfOk result (IsAnswer asked.entry (log_for asked.entry (S.left system.old) (S.file system.old)) (W.written writer.old) (W.written writer.new)) }
+    ensures fine { OnOk result ((S.has_failed system.new ≡ false) × (W.has_failed writer.new ≡ W.has_failed writer.old)) }
+    ensures err { IfErr result (Blames (S.has_failed system.new) (W.has_failed writer.new)) }
 {
-    let alloc = rt.alloc();
     match asked {
         Asked::Input => {
-            let seed = seed(rt)?;
-            check(alloc, seed, &mut FromRead::new(rt.stdin()), writer)
+            let seed = system.seed().map_err(read_failure)?;
+            check(alloc, seed, system, writer)
         }
         Asked::Check(path) => {
-            let seed = seed(rt)?;
-            check(alloc, seed, &mut open(rt, path)?, writer)
+            let seed = system.seed().map_err(read_failure)?;
+            system.open(path).map_err(read_failure)?;
+            check(alloc, seed, system, writer)
         }
-        Asked::Show(path) => show_log(alloc, &mut open(rt, path)?, writer),
+        Asked::Show(path) => {
+            system.open(path).map_err(read_failure)?;
+            show_log(alloc, system, writer)
+        }
         Asked::States(path, entry) => {
-            let seed = seed(rt)?;
-            list_states(alloc, seed, &mut open(rt, path)?, entry, writer)
+            let seed = system.seed().map_err(read_failure)?;
+            system.open(path).map_err(read_failure)?;
+            list_states(alloc, seed, system, entry, writer)
         }
     }
 }
 
-/// Writes what the words ask for on the standard output. The answer is its status.
-fn run(rt: &HostRuntime, words: &[String]) -> Result<u8, Failure>
-    ensures status { IfOk result (IsAnswerTo (map string_bytes words.now)) }
+/// Writes what the words ask for. The answer is its status, and the writer that has it all.
+fn run<S: System, W: Write + Drop>(
+    alloc: Global,
+    system: &mut S,
+    words: &[String],
+    writer: W,
+) -> Result<(u8, W), Failure>
+    requires { S.has_failed system.old ≡ false }
+    ensures answer { IfOk result (λ done. IsAnswerTo (map string_bytes words.now) (S.left system.old) (S.file system.old) (W.contents writer) (W.contents done.1) done.0) }
+    ensures fine { OnOk result (S.has_failed system.new ≡ false) }
     ensures words { IsErrOf result Usage ↔ IsAskedBy (map string_bytes words.now) None }
+    ensures read { IsErrOf result Read → S.has_failed system.new ≡ true }
 {
     let Some(asked) = asked_by(words) else {
         return Err(Failure::Usage);
     };
-    let mut writer = BufWriter::with_capacity(rt.alloc(), BUFFER, rt.stdout()).map_err(
-        read_failure,
-    )?;
-    let status = answer(rt, asked, &mut ToWrite::new(&mut writer))?;
-    writer.flush().map_err(|_| Failure::Write)?;
-    Ok(status)
+    let mut output = Output::new(alloc, writer).map_err(read_failure)?;
+    let status = answer(alloc, system, asked, &mut output)?;
+    let writer = output.finish().map_err(|_| Failure::Write)?;
+    Ok((status, writer))
+}
+
+/// Writes what the words of the system ask for. The answer is its status, and the writer that has it all.
+fn run_on<S: System, W: Write + Drop>(
+    alloc: Global,
+    system: &mut S,
+    writer: W,
+) -> Result<(u8, W), Failure>
+    requires { S.has_failed system.old ≡ false }
+    ensures answer { IfOk result (λ done. IfSome (S.words system.old) (λ words. IsAnswerTo words (S.left system.old) (S.file system.old) (W.contents writer) (W.contents done.1) done.0)) }
+    ensures fine { OnOk result (S.has_failed system.new ≡ false) }
+    ensures words { IsErrOf result Usage → IfSome (S.words system.old) (λ words. IsAskedBy words None) }
+    ensures read { IsErrOf result Read → S.has_failed system.new ≡ true }
+{
+    let words = system.words().map_err(read_failure)?;
+    run(alloc, system, words.as_slice(), writer)
 }
 
 fn main(rt: HostRuntime) -> ExitCode {
-    match words(&rt).and_then(|words| run(&rt, words.as_slice())) {
-        Ok(status) => ExitCode::from(status),
+    match run_on(rt.alloc(), &mut Host::new(rt), rt.stdout()) {
+        Ok((status, _)) => ExitCode::from(status),
         Err(failure) => {
             let _ = eprintln!(rt; "siptrace: {failure}");
             ExitCode::from(status_without(&failure))

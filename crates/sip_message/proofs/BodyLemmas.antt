@@ -13,18 +13,18 @@ use Rattle.sip_message.specs.declared.start_line.StartLine.TheVariants as varian
 use Rattle.sip_message.specs.StartLine.{StartLine, request}
 use Rattle.sip_message.specs.Via.{ViaParts, ViasText}
 use Rattle.sip_message.specs.Values.{CSeqText}
-use Rattle.sip_message.specs.Name.{known}
-use Rattle.sip_message.specs.Field.{Field, Row}
+use Rattle.sip_message.specs.Field.{Field}
 use Rattle.sip_message.specs.Message.{found, length_in, content_length, is_stream, IsStream, MethodFits, HasLength, IsEnough, body_of}
 use Rattle.sip_message.specs.Outcome.{gives, stops, passes, stopped}
 use Rattle.sip_message.specs.Faults.{at_line, at_body, BodyOf}
 use Rattle.sip_message.specs.Elements.{Element}
-use Rattle.sip_message.specs.inner.ElementFronts.{ViaFront}
+use Rattle.sip_message.specs.inner.ElementFronts.{ViaFront, FirstVia}
 use Rattle.sip_message.specs.Reading.{CSeqValue}
 use Rattle.sip_message.specs.ValueParts.{start_parts}
-use Rattle.sip_message.proofs.FrontLemmas.{ReadAs, NotRead}
+use Rattle.sip_message.proofs.FrontLemmas.{ReadAs}
 use Rattle.sip_message.proofs.PartLemmas.{more-elements}
 use Rattle.sip_message.proofs.ViewLemmas.{ends-more}
+use Rattle.sip_message.proofs.ViaStepLemmas.{one-via}
 
 -- a CSeq that was read fits by its method
 pub method-some : (start : Code) (m u : Bor (List ℕ)) (cseq : List ℕ) (n : ℕ) (k : List ℕ) (r : Bool) → start ≡ variant.Request m u → ReadAs (CSeqValue cseq) (n, k) → r ≡ bytes_eq k m.now → IsTrue r ↔ MethodFits (start_parts start) cseq
@@ -40,21 +40,18 @@ method-some start m u cseq n k r is read r_is = subst (λ s. IsTrue r ↔ Method
 vias-front : (text : List ℕ) (v : ViaParts) (vias : List ViaParts) → ViasText text v vias → (x : List ℕ) × (rest : List ℕ) × ViaFront text ((x, v), rest)
 vias-front text v vias (x, y, via, more, text_is) = let later = more-elements vias y more in (x, y, (via, text_is, ends-more later.0 y later.1))
 
--- the top transport is that of the element that was read
-pub stream-some : (text : List ℕ) (e : Element) (rest : List ℕ) (r : Bool) → Row (known known_name.Via) text → ReadAs (ViaFront text) (e, rest) → r ≡ is_stream e.1.transport → IsTrue r ↔ IsStream text
-stream-some text e rest r row read r_is = (to row, from)
+-- the top transport is that of the first element
+pub stream-first : (text : List ℕ) (e : Element) (r : Bool) → FirstVia text e → r ≡ is_stream e.1.transport → IsTrue r ↔ IsStream text
+stream-first text e r ((v, vias, is), (rest, front)) r_is = (to, from)
   where
-    top : (v : ViaParts) (vias : List ViaParts) → ViasText text v vias → e.1 ≡ v
-    top v vias is = let f = vias-front text v vias is in sym (ap (λ x. x.0.1) (read.1 ((f.0, v), f.1) f.2))
+    top : (w : ViaParts) (others : List ViaParts) → ViasText text w others → e.1 ≡ w
+    top w others are = let f = vias-front text w others are in ap (λ x. x.0.1) (one-via text (e, rest) ((f.0, w), f.1) front f.2)
 
-    to : Row (known known_name.Via) text → IsTrue r → IsStream text
-    to (v, vias, is) so = (v.transport, (v, vias, is, refl), ap (λ x. is_stream x.transport) (sym (top v vias is)) ∙ sym r_is ∙ so)
+    to : IsTrue r → IsStream text
+    to so = (v.transport, (v, vias, is, refl), ap (λ x. is_stream x.transport) (sym (top v vias is)) ∙ sym r_is ∙ so)
 
     from : IsStream text → IsTrue r
-    from (transport, (v, vias, is, same), so) = r_is ∙ ap (λ x. is_stream x.transport) (top v vias is) ∙ ap is_stream (sym same) ∙ so
-
-pub stream-none : (text : List ℕ) → Row (known known_name.Via) text → NotRead (ViaFront text) → ⊥
-stream-none text (v, vias, is) none = let f = vias-front text v vias is in none ((f.0, v), f.1) f.2
+    from (transport, (w, others, are, same), so) = r_is ∙ ap (λ x. is_stream x.transport) (top w others are) ∙ ap is_stream (sym same) ∙ so
 
 -- the number of Content-Length
 pub length-none : (fields : List Field) → found known_name.ContentLength fields ≡ [] → content_length fields ≡ None

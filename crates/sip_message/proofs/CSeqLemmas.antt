@@ -7,7 +7,7 @@ use Rattle.sip_text.specs.Grammar.{Blanks, Token}
 use Rattle.std.proofs.lemmas.List.{append-nil, take-append-drop, length-take-le}
 use Rattle.sip_message.specs.Unfold.{is_blank}
 use Rattle.sip_message.specs.Values.{Digits, CSeqText}
-use Rattle.sip_message.specs.inner.Fronts.{Stops, StopsBlank, Behind, IsOnlyBehind, BlanksFront}
+use Rattle.sip_message.specs.inner.Fronts.{Stops, StopsBlank, Behind, BlanksFront}
 use Rattle.sip_message.specs.Reading.{CSeqValue}
 use Rattle.sip_message.proofs.SplitLemmas.{same_front}
 use Rattle.sip_message.proofs.EachLemmas.{Each, each-one, each-then, each-many, blank_is}
@@ -86,9 +86,3 @@ cseq-is text rest method n b number n_is within rest_is method_is some longest b
   is_method = token;
   whole = (take n text, rest, refl, subst (λ m. (Blanks then Exactly m) rest) (sym method_is) (longest-blanks_front rest b longest blanks).0.1, sym (take-append-drop n text) ∙ ap (λ t. take n text ++ t) (sym rest_is));
 }
-
--- what stands behind the digits and the blanks is the method
-pub cseq-behind : (text rest method : List ℕ) (n : ℕ) → n ≡ prefix_len is_ascii_digit text → rest ≡ drop n text → IsOnlyBehind rest method → (x : ℕ × List ℕ) → CSeqText text x.0 x.1 → CSeqText text (x.0) method
-cseq-behind text rest method n n_is rest_is behind x c =
-    let front = (cseq-parts text rest n n_is rest_is x c).1 in
-    subst (CSeqText text (x.0)) (behind.1 (x.1) (front.0, (front.1.0, front.1.1, inr front.1.2, front.1.3, front.1.4))) c

@@ -1,5 +1,5 @@
 -- The stages of reading, one after another.
-use Rattle.std.proofs.Common.{◌≡◌, ℕ, List, false, refl, sym, subst}
+use Rattle.std.proofs.Common.{◌≡◌, ℕ, List, false, refl, sym, ap, subst}
 use Rattle.std.specs.Prelude.{Result, Ok, Err, IsErr, IsErrAnd}
 use Rattle.std.proofs.lemmas.Bool.{both_ways}
 use Rattle.sip_message.specs.declared.fault.Fault.{Fault}
@@ -15,13 +15,19 @@ use Rattle.sip_message.specs.Outcome.{Outcome, gives, stops, passes}
 use Rattle.sip_message.specs.Faults.{FieldsOf, NamesOf, BodyOf, LinesOf, ReadOf}
 use Rattle.sip_message.specs.inner.Settles.{Settles}
 use Rattle.sip_message.specs.Only.{IsOnly}
-use Rattle.sip_message.specs.Reading.{Reading, Parts, HasParts, Keeps}
+use Rattle.sip_message.specs.Reading.{Reading, Parts, HasParts, Keeps, CSeqValue}
+use Rattle.sip_message.specs.Elements.{Element}
+use Rattle.sip_message.specs.inner.ElementFronts.{FirstVia}
+use Rattle.sip_message.specs.inner.Kept.{KeepsRead}
 use Rattle.sip_message.specs.Reads.{Reads, ReadsTo}
 use Rattle.sip_message.specs.inner.Stages.{names_parts, Stand}
 use Rattle.sip_message.proofs.LinesLemmas.{head-lines}
 use Rattle.sip_message.proofs.FaultLemmas.{read-text}
 use Rattle.sip_message.proofs.PartLemmas.{has-parts}
 use Rattle.sip_message.proofs.OnePartLemmas.{parts-one}
+use Rattle.sip_message.proofs.MessageLemmas.{keeps-via, keeps-cseq}
+use Rattle.sip_message.proofs.ViaStepLemmas.{one-via}
+use Rattle.sip_message.proofs.CSeqLemmas.{same-cseq}
 
 -- the head is clean, and these are its first line and the others
 pub record IsBegun (bytes head rest first : List ℕ) (others : List (List ℕ)) : Type 0 where
@@ -72,20 +78,28 @@ found-text {bytes = bytes} {body = body} {start = start} {fields = fields} {n = 
     read-text bytes _ (begun f.is_begun (passes start f.is_start (passes fields f.are_fields (passes (names_parts n) f.are_names (passes body f.is_body refl)))))
 
 -- and what it keeps is so
-pub found-keeps : {bytes rest first body : List ℕ} {start : StartLine} {fields : List Field} {n : Named} → Found bytes rest first start fields n body
-    → (p : Parts) × Keeps (record { start = start; fields = fields; body = body }) p n.via.now n.from.now n.to.now n.call_id.now n.cseq.now
-found-keeps {bytes = bytes} f =
+pub found-keeps : {bytes rest first body : List ℕ} {start : StartLine} {fields : List Field} {n : Named} (e : Element) (s : ℕ × List ℕ) → Found bytes rest first start fields n body → FirstVia n.via.now e → CSeqValue n.cseq.now s
+    → (p : Parts) × KeepsRead (record { start = start; fields = fields; body = body }) p e n.from.now n.to.now n.call_id.now s
+found-keeps {bytes = bytes} {n = n} e s f first said =
     let text = found-text f in
-    let parts = has-parts bytes _ text in (
+    let parts = has-parts bytes _ text in
+    let keeps : Keeps _ parts.0 n.via.now n.from.now n.to.now n.call_id.now n.cseq.now = record {
+      parts = record { is = parts.1; only = (λ q is. parts-one _ q parts.0 is parts.1) };
+      spelled = (bytes, text);
+      via = f.stand.via;
+      from = f.stand.from;
+      to = f.stand.to;
+      call_id = f.stand.call_id;
+      cseq = f.stand.cseq;
+    } in
+    let top = keeps-via keeps in (
       parts.0,
       record {
-        parts = record { is = parts.1; only = (λ q is. parts-one _ q parts.0 is parts.1) };
-        spelled = (bytes, text);
-        via = f.stand.via;
-        from = f.stand.from;
-        to = f.stand.to;
-        call_id = f.stand.call_id;
-        cseq = f.stand.cseq;
+        via_text = n.via.now;
+        cseq_text = n.cseq.now;
+        keeps = keeps;
+        via = ap (λ x. x.0) (one-via n.via.now (e, first.1.0) (parts.0.via, top.0) first.1.1 top.1);
+        cseq = same-cseq n.cseq.now s parts.0.cseq said (keeps-cseq keeps);
       },
     )
 

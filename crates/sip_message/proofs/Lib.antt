@@ -41,6 +41,7 @@ pub mod AppendLemmas
 pub mod ChainLemmas
 pub mod OnePartLemmas
 pub mod CSeqLemmas
+pub mod KeptLemmas
 pub mod NumberLemmas
 pub mod PrefixLemmas
 pub mod CallIdLemmas

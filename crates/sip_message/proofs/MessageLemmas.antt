@@ -12,6 +12,7 @@ use Rattle.sip_message.specs.Elements.{Element, values, AreElements}
 use Rattle.sip_message.specs.inner.ElementFronts.{ViaFront}
 use Rattle.sip_message.specs.Reading.{IsValueOf, AddressValue, CSeqValue, Reading, Parts, HasParts, Keeps}
 use Rattle.sip_message.specs.inner.Codes.{parts_code}
+use Rattle.sip_message.specs.inner.Kept.{KeepsRead}
 use Rattle.sip_message.specs.Reads.{Reads}
 use Rattle.sip_message.proofs.FaultLemmas.{text-read}
 use Rattle.sip_message.proofs.FaultLemmas.{one-read}
@@ -85,6 +86,6 @@ same_reading bytes r s one other =
     ap (λ m. record { message = m; parts = r.parts }) message ∙ ap (λ p. record { message = s.message; parts = p }) (sym parts)
 
 -- the parts are the only ones, by whatever name
-pub keeps-one : {m : Message} {p : Parts} {v f t i c : List ℕ} → Keeps m p v f t i c → (one : One (HasParts m.fields)) → Keeps m (the one) v f t i c
-keeps-one {m = m} {p = p} {v = v} {f = f} {t = t} {i = i} {c = c} k one =
-    subst (λ q. Keeps m q v f t i c) (sym (One-is parts_code (HasParts m.fields) one p k.parts.is)) k
+pub kept-one : {m : Message} {p : Parts} {e : Element} {f t i : List ℕ} {s : ℕ × List ℕ} → KeepsRead m p e f t i s → (one : One (HasParts m.fields)) → KeepsRead m (the one) e f t i s
+kept-one {m = m} {p = p} {e = e} {f = f} {t = t} {i = i} {s = s} k one =
+    subst (λ q. KeepsRead m q e f t i s) (sym (One-is parts_code (HasParts m.fields) one p k.keeps.parts.is)) k

@@ -5,7 +5,7 @@ use Rattle.sip_message.specs.Params.{comma}
 use Rattle.sip_message.specs.Via.{ViaParts, ViaText, MoreVias, ViasText}
 use Rattle.sip_message.specs.inner.Fronts.{StopsBlank, MarkFront}
 use Rattle.sip_message.specs.Elements.{Element}
-use Rattle.sip_message.specs.inner.ElementFronts.{EndsElement, ViaFront}
+use Rattle.sip_message.specs.inner.ElementFronts.{EndsElement, ViaFront, FirstVia}
 use Rattle.sip_message.proofs.FrontLemmas.{ReadAs, NotRead}
 use Rattle.sip_message.proofs.ProtocolLemmas.{token-stops}
 use Rattle.sip_message.proofs.ViewLemmas.{no_mark-nil}
@@ -39,35 +39,52 @@ vias-first text (v, vias, (x, y, via, more, whole)) = (via, whole, more-ends via
 pub vias-none : (text : List ℕ) → NotRead (ViaFront text) → AreVias text → ⊥
 vias-none text none are = none ((are.2.0, are.0), are.2.1) (vias-first text are)
 
--- behind an element and a comma the others decide
-pub vias-more : (text more next : List ℕ) (e : Element) → ReadAs (ViaFront text) (e, more) → ReadAs (MarkFront comma more) next → AreVias next ↔ AreVias text
-vias-more text more next e read comma_read = (to, from)
+-- the text is elements of Via, each behind a comma
+abbrev pub AreMore : List ℕ → Type 0
+AreMore text = (vias : List ViaParts) × MoreVias vias text
+
+-- behind an element the others decide
+pub vias-behind : (text more : List ℕ) (e : Element) → ReadAs (ViaFront text) (e, more) → AreVias text ↔ AreMore more
+vias-behind text more e read = (to, from)
   where
-    to : AreVias next → AreVias text
-    to (v, vias, are) =
-        let mark = comma_read.0.1 in
-        (e.1, v ∷ vias, (e.0, more, read.0.0, (mark.0, mark.1, mark.2, subst (λ t. ViasText t v vias) (sym mark.3) are, mark.4), read.0.1))
+    to : AreVias text → AreMore more
+    to are = (are.1, subst (MoreVias are.1) (ap (λ x. x.1) (read.1 ((are.2.0, are.0), are.2.1) (vias-first text are))) are.2.3)
 
-    at : (v : ViaParts) (vias : List ViaParts) (left : List ℕ) → left ≡ more → MoreVias vias left → AreVias next
-    at v [] left same is = absurd (no_mark-nil comma next (subst (λ t. MarkFront comma t next) (sym same ∙ is) comma_read.0))
-    at v (w ∷ vias) left same is =
-        let found = more-comma w vias left is in
-        (w, vias, subst (λ t. ViasText t w vias) (comma_read.1 found.0 (subst (λ t. MarkFront comma t found.0) same found.1)) found.2)
+    from : AreMore more → AreVias text
+    from (vias, are) = (e.1, vias, (e.0, more, read.0.0, are, read.0.1))
 
-    from : AreVias text → AreVias next
-    from are =
-        let same = read.1 ((are.2.0, are.0), are.2.1) (vias-first text are) in
-        at are.0 are.1 are.2.1 (ap (λ x. x.1) same) are.2.3
-
--- an element that no comma follows is the last
-pub vias-last : (text more : List ℕ) (e : Element) → ReadAs (ViaFront text) (e, more) → NotRead (MarkFront comma more) → AreVias text
-vias-last text more e read none = at read.0.2
+-- behind a comma stand elements
+pub more-behind : (rest next : List ℕ) → ReadAs (MarkFront comma rest) next → AreMore rest ↔ AreVias next
+more-behind rest next read = (to, from)
   where
-    at : EndsElement more → AreVias text
-    at (inl empty) = (e.1, [], (e.0, more, read.0.0, empty, read.0.1))
-    at (inr (next, mark)) = absurd (none next mark)
+    to : AreMore rest → AreVias next
+    to ([], is) = absurd (no_mark-nil comma next (subst (λ t. MarkFront comma t next) is read.0))
+    to (v ∷ vias, is) =
+        let found = more-comma v vias rest is in
+        (v, vias, subst (λ t. ViasText t v vias) (read.1 found.0 found.1) found.2)
 
--- what is behind an element and a comma is shorter
-pub vias-shorter : (text more next : List ℕ) (e : Element) → ReadAs (ViaFront text) (e, more) → ReadAs (MarkFront comma more) next → length next < length text
-vias-shorter text more next e read comma_read =
-    omega (arith, mark-shorter comma more next refl comma_read.0, ap length read.0.1, length-append (e.0) more)
+    from : AreVias next → AreMore rest
+    from (v, vias, are) =
+        let mark = read.0.1 in
+        (v ∷ vias, (mark.0, mark.1, mark.2, subst (λ t. ViasText t v vias) (sym mark.3) are, mark.4))
+
+-- without a comma there are no more
+pub more-none : (rest : List ℕ) → NotRead (MarkFront comma rest) → AreMore rest ↔ (rest ≡ [])
+more-none rest none = (to, λ is. ([], is))
+  where
+    to : AreMore rest → rest ≡ []
+    to ([], is) = is
+    to (v ∷ vias, is) = let found = more-comma v vias rest is in absurd (none found.0 found.1)
+
+-- what is behind a comma and an element is shorter
+pub more-shorter : (rest next more : List ℕ) (e : Element) → ReadAs (MarkFront comma rest) next → ReadAs (ViaFront next) (e, more) → length more < length rest
+more-shorter rest next more e comma_read read =
+    omega (arith, mark-shorter comma rest next refl comma_read.0, ap length read.0.1, length-append (e.0) more)
+
+-- the first of the elements that a text is
+pub first-is : (text more : List ℕ) (e : Element) → ReadAs (ViaFront text) (e, more) → AreVias text → ReadAs (FirstVia text) e
+first-is text more e read are = ((are, (more, read.0)), λ x is. ap (λ y. y.0) (read.1 (x, is.1.0) is.1.1))
+
+-- elements have a first
+pub first-none : (text : List ℕ) → NotRead (FirstVia text) → AreVias text → ⊥
+first-none text none are = none (are.2.0, are.0) (are, (are.2.1, vias-first text are))

@@ -5,6 +5,7 @@ pub mod StartFronts
 pub mod AddressFronts
 pub mod ValueFronts
 pub mod Stages
+pub mod Kept
 pub mod Finds
 pub mod Appends
 pub mod ElementFronts

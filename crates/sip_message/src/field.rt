@@ -1,6 +1,6 @@
 //! Field lines.
 ghost use Rattle.sip_text.specs.Text.{IsOnlyValue};
-ghost use Rattle.std.specs.Prelude.{◌≡◌, ℕ, List, [], ◌∷◌, drop, MatchOption};
+ghost use Rattle.std.specs.Prelude.{◌≡◌, ℕ, List, [], ◌∷◌, ◌++◌, drop, MatchOption, IfOk, IfSome};
 ghost use Rattle.std.specs.Option.{option_map};
 ghost use Rattle.sip_message.specs.Elements.{values};
 ghost use Rattle.sip_message.specs.inner.Finds.{IsFound, found_parts};
@@ -8,11 +8,13 @@ ghost use Rattle.sip_message.specs.inner.Lines.{AreLines};
 ghost use Rattle.sip_message.specs.Faults.{IsNamed, IsValue, FieldOf, FieldsOf};
 ghost use Rattle.sip_message.specs.Views.{name_parts, field_parts, fields_parts, slice_fields};
 ghost use Rattle.sip_message.specs.inner.Settles.{outcome_of, Settles};
+ghost use Rattle.sip_message.specs.inner.Kept.{KeptOf, KeepsMore};
 ghost use Rattle.sip_message.specs.inner.Names.{named_parts};
 ghost use Rattle.sip_message.specs.inner.Fronts.{text_parts, past_wsp};
 
 use crate::cursor::{cut_line, cut_token, past};
 use crate::fault::{Fault, ReadError, Reason, Unit};
+use crate::kept::Kept;
 use crate::name::{Known, Name, read_name};
 use crate::row::{is_of_row, trim};
 use std::alloc::{AllocError, Global};
@@ -47,20 +49,22 @@ fn past_wsp(text: &[u8]) -> &[u8]
 }
 
 // The value of a field of this name.
-fn read_value<'a>(name: Name<'a>, rest: &'a [u8]) -> Option<&'a [u8]>
-    ensures { IsOnlyValue (λ t v. IsValue (name_parts name.entry, t) v) text_parts rest.now result }
+fn read_value<'a>(name: Name<'a>, rest: &'a [u8], kept: &mut Kept<'a>) -> Option<&'a [u8]>
+    ensures value { IsOnlyValue (λ t v. IsValue (name_parts name.entry, t) v) text_parts rest.entry.now result }
+    ensures kept { IfSome result (λ value. KeepsMore (record { name = name_parts name.entry; value = value.now }) kept.old kept.new) }
 {
     let value = trim(rest)?;
-    if is_of_row(name, value) {
+    if is_of_row(name, value, kept) {
         Some(value)
     } else {
         None
     }
 }
 
-/// The field that line `n` is, or the fault of the line.
-pub fn read_field(n: usize, line: &[u8]) -> Result<Field<'_>, Fault>
-    ensures { FieldOf n line.now (outcome_of field_parts result) }
+// The field that line `n` is, or the fault of the line. What a first Via and a first CSeq say is kept.
+fn read_field<'a>(n: usize, line: &'a [u8], kept: &mut Kept<'a>) -> Result<Field<'a>, Fault>
+    ensures field { FieldOf n line.entry.now (outcome_of field_parts result) }
+    ensures kept { IfOk result (λ f. KeepsMore (field_parts f) kept.old kept.new) }
 {
     let Some((name, rest)) = cut_name(line) else {
         return Err(Fault {
@@ -68,7 +72,7 @@ pub fn read_field(n: usize, line: &[u8]) -> Result<Field<'_>, Fault>
             reason: Reason::FieldLine,
         });
     };
-    let Some(value) = read_value(name, rest) else {
+    let Some(value) = read_value(name, rest, kept) else {
         return Err(Fault {
             unit: Unit::Line(n),
             reason: Reason::Value,
@@ -80,20 +84,25 @@ pub fn read_field(n: usize, line: &[u8]) -> Result<Field<'_>, Fault>
 // For how many fields there is room at first. Most messages have no more.
 const ROOM: usize = 16;
 
-/// The fields that the lines are, or the first fault of the lines.
-pub(crate) fn read_fields(alloc: Global, text: &[u8]) -> Result<Vec<Field<'_>>, ReadError>
-    ensures { (lines : List (List ℕ)) → AreLines text.now lines → Settles (FieldsOf 1 lines) fields_parts result }
+/// The fields that the lines are, with what is kept of them, or the first fault of the lines.
+pub(crate) fn read_fields(
+    alloc: Global,
+    text: &[u8],
+) -> Result<(Vec<Field<'_>>, Kept<'_>), ReadError>
+    ensures fields { (lines : List (List ℕ)) → AreLines text.now lines → Settles (FieldsOf 1 lines) (λ read. fields_parts read.0) result }
+    ensures kept { IfOk result (λ read. KeptOf (fields_parts read.0) read.1) }
 {
+    let mut kept = Kept::new();
     let mut fields = Vec::with_capacity(alloc, ROOM)?;
     let mut rest = text;
     'lines: while let Some((line, more)) = cut_line(rest) {
-        let field = read_field(fields.len() + 1, line)?;
+        let field = read_field(fields.len() + 1, line, &mut kept)?;
         if let Err(e) = fields.push(field) {
             return Err(AllocError::from(e).into());
         }
         rest = more;
     }
-    Ok(fields)
+    Ok((fields, kept))
 }
 
 /// The value of the first field of this name from place `from` on, and the place behind it, which is

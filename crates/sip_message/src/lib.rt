@@ -7,6 +7,7 @@ mod cursor;
 mod ends;
 mod fault;
 mod field;
+mod kept;
 pub mod laws;
 mod message;
 mod name;

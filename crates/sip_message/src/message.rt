@@ -1,8 +1,9 @@
 //! Messages.
 ghost use Rattle.std.specs.Prelude.{◌≡◌, ◌∷◌, ℕ, List, IsTrue};
 ghost use Rattle.sip_message.specs.Only.{IsOnly, One, the, One-prop};
-ghost use Rattle.sip_message.specs.Reading.{Reading, Parts, HasParts, Keeps};
+ghost use Rattle.sip_message.specs.Reading.{Reading, Parts, HasParts};
 ghost use Rattle.sip_message.specs.inner.Codes.{parts_code};
+ghost use Rattle.sip_message.specs.inner.Kept.{KeepsRead};
 ghost use Rattle.sip_message.specs.Views.{fields_parts, slice_fields};
 ghost use Rattle.sip_message.specs.ValueParts.{start_parts, address_parts, cseq_parts};
 ghost use Rattle.sip_message.specs.ViaParts.{element};
@@ -13,8 +14,8 @@ use crate::fault::{Fault, ReadError, Reason, Unit};
 use crate::field::{Field, read_fields};
 use crate::stages::{cut_first, cut_head, find_named, read_body};
 use crate::start_line::{StartLine, read_start};
-use crate::values::{CSeq, read_cseq};
-use crate::via::{Via, read_via};
+use crate::values::CSeq;
+use crate::via::Via;
 use crate::vias::{Routes, Vias};
 use sip_text::same_text;
 use std::alloc::Global;
@@ -26,11 +27,11 @@ pub struct Message<'a> {
     start: StartLine<'a>,
     fields: Vec<Field<'a>>,
     body: &'a [u8],
-    via: &'a [u8],
+    via: Via<'a>,
     from: &'a [u8],
     to: &'a [u8],
     call_id: &'a [u8],
-    cseq: &'a [u8],
+    cseq: CSeq<'a>,
     ghost parts: { One (HasParts (fields_parts fields)) } by { One-prop parts_code (HasParts (fields_parts fields)) },
 }
 
@@ -39,7 +40,7 @@ impl<'a> Model for Message<'a> {
 
     ghost view = { λ m. record { message = record { start = start_parts m.start; fields = fields_parts m.fields; body = m.body.now }; parts = the m.parts } };
 
-    ghost invariant = { λ m. Keeps (record { start = start_parts m.start; fields = fields_parts m.fields; body = m.body.now }) (the m.parts) m.via.now m.from.now m.to.now m.call_id.now m.cseq.now };
+    ghost invariant = { λ m. KeepsRead (record { start = start_parts m.start; fields = fields_parts m.fields; body = m.body.now }) (the m.parts) (element m.via) m.from.now m.to.now m.call_id.now (cseq_parts m.cseq) };
 }
 
 impl<'a> Message<'a> {
@@ -51,13 +52,13 @@ impl<'a> Message<'a> {
         start: StartLine<'a>,
         fields: Vec<Field<'a>>,
         body: &'a [u8],
-        via: &'a [u8],
+        via: Via<'a>,
         from: &'a [u8],
         to: &'a [u8],
         call_id: &'a [u8],
-        cseq: &'a [u8],
+        cseq: CSeq<'a>,
     ) -> Self
-        requires { (p : Parts) × Keeps (record { start = start_parts start; fields = fields_parts fields; body = body.now }) p via.now from.now to.now call_id.now cseq.now }
+        requires { (p : Parts) × KeepsRead (record { start = start_parts start; fields = fields_parts fields; body = body.now }) p (element via) from.now to.now call_id.now (cseq_parts cseq) }
         ensures message { ◌≡◌ {A = Text} result.message (record { start = start_parts start.entry; fields = fields_parts fields.entry; body = body.entry.now }) }
         ensures parts { IsOnly (HasParts result.message.fields) result.parts }
     {
@@ -96,18 +97,20 @@ impl<'a> Message<'a> {
                 reason: Reason::StartLine,
             }));
         };
-        let fields = read_fields(alloc, lines)?;
+        let (fields, kept) = read_fields(alloc, lines)?;
         let named = find_named(&fields)?;
-        let body = read_body(start, named, &fields, rest)?;
+        let via = kept.via.unwrap();
+        let cseq = kept.cseq.unwrap();
+        let body = read_body(start, named, &via, cseq, &fields, rest)?;
         Ok(Message::new(
             start,
             fields,
             body,
-            named.via,
+            via,
             named.from,
             named.to,
             named.call_id,
-            named.cseq,
+            cseq,
         ))
     }
 
@@ -150,14 +153,14 @@ impl<'a> Message<'a> {
     pub fn cseq(&self) -> CSeq<'a>
         ensures { cseq_parts result ≡ self.now.parts.cseq }
     {
-        read_cseq(self.cseq).unwrap()
+        self.cseq
     }
 
     /// The first element of the first Via field.
     pub fn top_via(&self) -> Via<'a>
         ensures { element result ≡ self.now.parts.via }
     {
-        read_via(self.via).unwrap().0
+        self.via
     }
 
     /// The elements of all Via fields, in order.

@@ -5,18 +5,19 @@ ghost use Rattle.sip_text.specs.Text.{IsOnlyValue};
 ghost use Rattle.sip_text.specs.Grammar.{Sws};
 ghost use Rattle.sip_message.specs.Unfold.{is_blank};
 ghost use Rattle.sip_message.specs.Address.{AddressParts, AddressText};
-ghost use Rattle.sip_message.specs.Values.{CSeqText};
 ghost use Rattle.sip_message.specs.Field.{ValueText, Row};
 ghost use Rattle.sip_message.specs.inner.Fronts.{text_parts};
 ghost use Rattle.sip_message.specs.inner.ValueFronts.{is_solid};
+ghost use Rattle.sip_message.specs.inner.Kept.{KeepsMore};
 ghost use Rattle.sip_message.specs.Views.{name_parts};
 
 use crate::address::read_address;
 use crate::cursor::past;
+use crate::kept::{Kept, keep};
 use crate::name::{Known, Name};
 use crate::other::is_other;
 use crate::values::{is_call_id, is_length, read_cseq};
-use crate::via::are_vias;
+use crate::via::first_via;
 use sip_text::skip_lws;
 
 /// The value in what follows the colon of a field line: the text without the longest blank runs at
@@ -93,16 +94,17 @@ fn is_sws(text: &[u8]) -> bool
     skip_lws(text) == text.len()
 }
 
-/// Whether a field of this name may have the value.
-pub(crate) fn is_of_row(name: Name<'_>, value: &[u8]) -> bool
-    ensures { IsTrue result ↔ Row (name_parts name.entry) value.now }
+/// Whether a field of this name may have the value. What a first Via and a first CSeq say is kept.
+pub(crate) fn is_of_row<'a>(name: Name<'a>, value: &'a [u8], kept: &mut Kept<'a>) -> bool
+    ensures row { IsTrue result ↔ Row (name_parts name.entry) value.entry.now }
+    ensures kept { IsTrue result → KeepsMore (record { name = name_parts name.entry; value = value.entry.now }) kept.old kept.new }
 {
     match name {
-        Name::Known(Known::Via) => are_vias(value),
+        Name::Known(Known::Via) => keep(first_via(value), &mut kept.via),
         Name::Known(Known::From) => is_address(value),
         Name::Known(Known::To) => is_address(value),
         Name::Known(Known::CallId) => is_call_id(value),
-        Name::Known(Known::CSeq) => is_cseq(value),
+        Name::Known(Known::CSeq) => keep(read_cseq(value), &mut kept.cseq),
         Name::Known(Known::ContentLength) => is_length(value),
         _ => is_other(value),
     }
@@ -113,11 +115,4 @@ fn is_address(text: &[u8]) -> bool
     ensures { IsTrue result ↔ ((a : AddressParts) × AddressText text.now a) }
 {
     read_address(text).is_some()
-}
-
-// Whether the text is a CSeq.
-fn is_cseq(text: &[u8]) -> bool
-    ensures { IsTrue result ↔ ((number : ℕ) × (method : List ℕ) × CSeqText text.now number method) }
-{
-    read_cseq(text).is_some()
 }

@@ -6,17 +6,17 @@ ghost use Rattle.sip_text.specs.Text.{IsOnlyValue};
 ghost use Rattle.sip_message.specs.Lines.{IsLines};
 ghost use Rattle.sip_message.specs.inner.Lines.{AreLines};
 ghost use Rattle.std.specs.List.{AllByRecursion};
-ghost use Rattle.sip_message.specs.declared.name.Known.TheVariants as known_name;
-ghost use Rattle.sip_message.specs.Name.{known};
 ghost use Rattle.sip_message.specs.Field.{Row};
-ghost use Rattle.sip_message.specs.Message.{content_length, is_stream, IsStream, MethodFits};
+ghost use Rattle.sip_message.specs.Message.{content_length, is_stream, MethodFits};
 ghost use Rattle.sip_message.specs.Faults.{IsCut, Present, NotTwice, Once, NamesOf, BodyOf};
 ghost use Rattle.sip_message.specs.inner.Finds.{IsFound, found_parts, nothing_parts};
-ghost use Rattle.sip_message.specs.Reading.{IsValueOf};
+ghost use Rattle.sip_message.specs.Reading.{CSeqValue};
 ghost use Rattle.sip_message.specs.inner.Fronts.{pair_parts, text_parts};
 ghost use Rattle.sip_message.specs.Views.{slice_fields};
 ghost use Rattle.sip_message.specs.inner.Settles.{outcome_of};
-ghost use Rattle.sip_message.specs.ValueParts.{start_parts};
+ghost use Rattle.sip_message.specs.ValueParts.{start_parts, cseq_parts};
+ghost use Rattle.sip_message.specs.ViaParts.{element};
+ghost use Rattle.sip_message.specs.inner.ElementFronts.{FirstVia};
 ghost use Rattle.sip_message.specs.inner.Stages.{names_parts, Stand};
 
 use crate::cursor::cut_line;
@@ -24,8 +24,8 @@ use crate::fault::{Fault, Reason, Unit};
 use crate::field::{Field, cut_value};
 use crate::name::Known;
 use crate::start_line::StartLine;
-use crate::values::{cseq_method, number_at_most};
-use crate::via::read_via;
+use crate::values::{CSeq, number_at_most};
+use crate::via::Via;
 use memchr::memmem;
 use sip_text::same_text;
 
@@ -154,22 +154,24 @@ fn find_once<'a>(fields: &[Field<'a>], name: Known) -> Result<(&'a [u8], usize),
 pub(crate) fn read_body<'a>(
     start: StartLine<'a>,
     named: Named<'a>,
+    via: &Via<'a>,
+    cseq: CSeq<'a>,
     fields: &[Field<'a>],
     rest: &'a [u8],
 ) -> Result<&'a [u8], Fault>
     requires rows { AllByRecursion (λ f. Row f.name f.value) (slice_fields fields) }
-    requires via { IsValueOf known_name.Via (slice_fields fields) named.via.now }
-    requires cseq { IsValueOf known_name.CSeq (slice_fields fields) named.cseq.now }
+    requires via { FirstVia named.via.now (element via.now) }
+    requires cseq { CSeqValue named.cseq.now (cseq_parts cseq) }
     ensures { BodyOf (start_parts start.entry) ((names_parts named.entry).1) ((names_parts named.entry).0.1) (content_length (slice_fields fields.entry)) rest.entry.now (outcome_of text_parts result) }
 {
-    if !fits_method(start, named.cseq) {
+    if !fits_method(start, cseq) {
         return Err(Fault {
             unit: Unit::Line(named.cseq_line),
             reason: Reason::MethodMismatch,
         });
     }
     let Some((digits, _)) = cut_value(fields, 0, Known::ContentLength) else {
-        if is_stream_via(named.via) {
+        if is_stream(via.transport) {
             return Err(Fault {
                 unit: Unit::Body,
                 reason: Reason::NoLength,
@@ -186,7 +188,7 @@ pub(crate) fn read_body<'a>(
     if len == rest.len() {
         return Ok(rest);
     }
-    if is_stream_via(named.via) {
+    if is_stream(via.transport) {
         return Err(Fault {
             unit: Unit::Body,
             reason: Reason::LongBody,
@@ -196,24 +198,12 @@ pub(crate) fn read_body<'a>(
 }
 
 // Whether the method of CSeq is that of the request.
-fn fits_method(start: StartLine<'_>, cseq: &[u8]) -> bool
-    requires { Row (known known_name.CSeq) cseq.now }
-    ensures { IsTrue result ↔ MethodFits (start_parts start.entry) cseq.now }
+fn fits_method(start: StartLine<'_>, cseq: CSeq<'_>) -> bool
+    ensures { (text : List ℕ) → CSeqValue text (cseq_parts cseq.entry) → IsTrue result ↔ MethodFits (start_parts start.entry) text }
 {
     match start {
-        StartLine::Request { method, .. } => cseq_method(cseq) == method,
+        StartLine::Request { method, .. } => cseq.method == method,
         StartLine::Status { .. } => true,
-    }
-}
-
-// Whether the transport of the value's first element is a stream.
-fn is_stream_via(via: &[u8]) -> bool
-    requires { Row (known known_name.Via) via.now }
-    ensures { IsTrue result ↔ IsStream via.now }
-{
-    match read_via(via) {
-        Some((via, _)) => is_stream(via.transport),
-        None => false,
     }
 }
 

@@ -8,7 +8,7 @@ ghost use Rattle.sip_message.specs.Values.{Digits, CSeqText, Word, CallIdText, i
 ghost use Rattle.sip_message.specs.Reading.{CSeqValue};
 ghost use Rattle.sip_message.specs.ValueParts.{cseq_parts};
 
-use crate::cursor::{cut, skip_blanks};
+use crate::cursor::cut;
 use crate::params::is_token;
 use sip_text::skip_lws;
 
@@ -37,14 +37,6 @@ pub(crate) fn read_cseq(text: &[u8]) -> Option<CSeq<'_>>
         number: number as u32,
         method,
     })
-}
-
-/// The method of a CSeq: what stands behind its digits and blanks.
-pub(crate) fn cseq_method(text: &[u8]) -> &[u8]
-    requires { (number : ℕ) × (method : List ℕ) × CSeqText text.now number method }
-    ensures { (number : ℕ) × CSeqText text.now number result.now }
-{
-    skip_blanks(&text[digits_len(text)..])
 }
 
 // The highest number of a CSeq.

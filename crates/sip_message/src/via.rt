@@ -2,10 +2,10 @@
 ghost use Rattle.std.specs.Prelude.{◌≡◌, ◌↔◌, ℕ, List, Option, IsTrue, MatchOption, option_copied};
 ghost use Rattle.sip_text.specs.Text.{IsOnlyValue};
 ghost use Rattle.sip_text.specs.Bytes.{colon};
-ghost use Rattle.sip_message.specs.Via.{ViaParts, ViasText};
+ghost use Rattle.sip_message.specs.Via.{ViaParts, MoreVias};
 ghost use Rattle.sip_message.specs.inner.Fronts.{pair_parts};
-ghost use Rattle.sip_message.specs.inner.ElementFronts.{EndsElement, ViaFront};
-ghost use Rattle.sip_message.specs.ViaParts.{front_parts};
+ghost use Rattle.sip_message.specs.inner.ElementFronts.{EndsElement, ViaFront, FirstVia};
+ghost use Rattle.sip_message.specs.ViaParts.{element, front_parts};
 ghost use Rattle.sip_message.specs.inner.ParamFronts.{LedFront, led_parts};
 ghost use Rattle.sip_message.specs.inner.ViaFronts.{HostCut, HostFront, PortFront, BranchOf, BranchFront, TailFront, host_front_parts, tail_parts};
 
@@ -34,20 +34,30 @@ pub struct Via<'a> {
     pub branch: Option<&'a [u8]>,
 }
 
-/// Whether the whole text is one or more elements of Via, with a comma between any two.
-pub(crate) fn are_vias(text: &[u8]) -> bool
-    ensures { IsTrue result ↔ ((v : ViaParts) × (vias : List ViaParts) × ViasText text.now v vias) }
+/// The first of the elements of Via that the whole text is, with a comma between any two.
+pub(crate) fn first_via(text: &[u8]) -> Option<Via<'_>>
+    ensures { IsOnlyValue FirstVia element text.now result }
+{
+    let (first, rest) = read_via(text)?;
+    if are_more_vias(rest) {
+        Some(first)
+    } else {
+        None
+    }
+}
+
+// Whether the whole text is elements of Via, each behind a comma.
+fn are_more_vias(text: &[u8]) -> bool
+    ensures { IsTrue result ↔ ((vias : List ViaParts) × MoreVias vias text.now) }
 {
     let mut rest = text;
-    'elements: loop {
-        let Some((_, more)) = read_via(rest) else {
+    'elements: while let Some(next) = past_mark(rest, b',') {
+        let Some((_, more)) = read_via(next) else {
             return false;
         };
-        match past_mark(more, b',') {
-            Some(next) => rest = next,
-            None => return true,
-        }
+        rest = more;
     }
+    rest.is_empty()
 }
 
 /// The element at the front, and what is behind it: nothing, or a comma and more.

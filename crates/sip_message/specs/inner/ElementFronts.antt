@@ -1,7 +1,7 @@
 -- The elements of Via that are left, one after another.
 use Rattle.std.specs.Prelude.{◌≡◌, ◌⊎◌, ℕ, List, [], ◌∷◌, ◌++◌}
 use Rattle.sip_message.specs.Params.{comma}
-use Rattle.sip_message.specs.Via.{ViaText}
+use Rattle.sip_message.specs.Via.{ViaParts, ViaText, ViasText}
 use Rattle.sip_message.specs.Elements.{Element, MoreElements, AreElements}
 use Rattle.sip_message.specs.inner.Fronts.{MarkFront}
 
@@ -25,3 +25,8 @@ EndsElement rest = (rest ≡ []) ⊎ ((next : List ℕ) × MarkFront comma rest 
 -- an element at the front, and what is left
 abbrev pub ViaFront : List ℕ → Element × List ℕ → Type 0
 ViaFront text (e, rest) = ViaText e.0 e.1 × (text ≡ e.0 ++ rest) × EndsElement rest
+
+-- the text is elements of Via, and this is the first of them
+abbrev pub FirstVia : List ℕ → Element → Type 0
+FirstVia text e =
+    ((v : ViaParts) × (vias : List ViaParts) × ViasText text v vias) × ((rest : List ℕ) × ViaFront text (e, rest))

@@ -4,25 +4,32 @@ use Rattle.sip_message.specs.Outcome.{stops}
 use Rattle.sip_message.specs.Faults.{FieldsOf, FieldOf}
 use Rattle.sip_message.specs.Views.{field_parts, fields_parts}
 use Rattle.sip_message.specs.inner.Settles.{outcome_of}
+use Rattle.std.specs.Global.{Vec}
+use Rattle.sip_message.specs.declared.field.Field.{Field as Code}
+use Rattle.sip_message.specs.declared.kept.Kept.{Kept}
+use Rattle.sip_message.specs.inner.Kept.{KeptOf}
 use Rattle.sip_message.proofs.ReadLemmas.{SoFar, so_far-all, so_far-more, so_far-stops, settles-fault}
 use Rattle.sip_message.proofs.field.read_fields.Goals as goal
 
-pub returns-in_err-field : goal.returns-in_err-field
-returns-in_err-field c lines are =
+pub returns-in_err-field-clause-fields : goal.returns-in_err-field-clause-fields
+returns-in_err-field-clause-fields c lines are =
     let fault = c.in_err-field.field-0.0 in
     let line = c.in-Some.line.now in
     let fields = fields_parts c.lines.fields in
-    let field = subst (λ r. FieldOf (c.len.result + 1) line (outcome_of field_parts r)) c.in_err-field.was c.read_field.ensures in
-    settles-fault (FieldsOf 1 lines) fields_parts c.from_residual-in_err-field.result fault c.from_residual-in_err-field.ensures.0 c.from_residual-in_err-field.ensures.1
-    (so_far-stops lines c.lines.rest.now line c.in-Some.more.now fields fault (c.lines.invariant lines are) c.in-Some.ensures
+    let field = subst (λ r. FieldOf (c.len.result + 1) line (outcome_of field_parts r)) c.in_err-field.was c.read_field.ensures.field in
+    settles-fault (FieldsOf 1 lines) (λ (read : Vec Code × Kept). fields_parts read.0) c.from_residual-in_err-field.result fault c.from_residual-in_err-field.ensures.0 c.from_residual-in_err-field.ensures.1
+    (so_far-stops lines c.lines.rest.now line c.in-Some.more.now fields fault (c.lines.invariant.0 lines are) c.in-Some.ensures
     (subst (λ n. FieldOf n line (stops fault)) (omega (arith, c.len.ensures, length-map c.lines.fields.items field_parts)) field))
 
 pub lines-preserved : goal.lines-preserved
-lines-preserved c lines are =
-    let line = c.in-Some.line.now in
+lines-preserved c =
     let field = field_parts c.in_ok-field.field in
-    subst (SoFar lines c.in-Some.more.now) (sym (ap (map field_parts) c.in_default-push.ensures.items ∙ map-append field_parts c.lines.fields.items (c.in_ok-field.field ∷ [])))
-    (so_far-more lines c.lines.rest.now line c.in-Some.more.now (fields_parts c.lines.fields) field (c.len.result + 1) (c.lines.invariant lines are) c.in-Some.ensures c.in_ok-field.ensures)
+    let more = sym (ap (map field_parts) c.in_default-push.ensures.items ∙ map-append field_parts c.lines.fields.items (c.in_ok-field.field ∷ [])) in (
+      (λ lines are.
+          subst (SoFar lines c.in-Some.more.now) more
+          (so_far-more lines c.lines.rest.now c.in-Some.line.now c.in-Some.more.now (fields_parts c.lines.fields) field (c.len.result + 1) (c.lines.invariant.0 lines are) c.in-Some.ensures c.in_ok-field.ensures.field)),
+      subst (λ fs. KeptOf fs c.read_field.new.kept) more (c.in_ok-field.ensures.kept (fields_parts c.lines.fields) c.lines.invariant.1),
+    )
 
-pub returns : goal.returns
-returns c lines are = so_far-all lines c.lines.rest.now (fields_parts c.lines.fields) (c.lines.invariant lines are) c.in_default.ensures
+pub returns-clause-fields : goal.returns-clause-fields
+returns-clause-fields c lines are = so_far-all lines c.lines.rest.now (fields_parts c.lines.fields) (c.lines.invariant.0 lines are) c.in_default.ensures

@@ -1,11 +1,14 @@
 use Rattle.std.proofs.Common.{ℕ, List, length}
 use Rattle.sip_message.specs.inner.Lines.{AreLines}
+use Rattle.sip_message.specs.inner.Kept.{KeptOf}
 use Rattle.sip_message.specs.Views.{fields_parts}
 use Rattle.sip_message.proofs.ReadLemmas.{SoFar}
 use Rattle.sip_message.proofs.field.read_fields.Given as goal
 
 abbrev pub invariant-lines : goal.invariant-lines
-invariant-lines l = (lines : List (List ℕ)) → AreLines l.fn.text lines → SoFar lines l.rest (fields_parts l.fields)
+invariant-lines l =
+    ((lines : List (List ℕ)) → AreLines l.fn.text lines → SoFar lines l.rest (fields_parts l.fields))
+    × KeptOf (fields_parts l.fields) l.kept
 
 abbrev pub decreases-lines : goal.decreases-lines
 decreases-lines l = length l.rest

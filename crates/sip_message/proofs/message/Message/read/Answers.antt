@@ -1,4 +1,4 @@
-use Rattle.std.proofs.Common.{rules, map, refl, subst, sym, ◌∙◌}
+use Rattle.std.proofs.Common.{rules, map, refl, subst, sym}
 use Rattle.std.specs.List.{AllByRecursion}
 use Rattle.sip_message.specs.declared.name.Known.TheVariants as known_name
 use Rattle.sip_message.specs.Field.{Row}
@@ -9,8 +9,13 @@ use Rattle.sip_message.specs.Outcome.{stops, gives, passes, stopped}
 use Rattle.sip_message.specs.Faults.{FieldsOf, NamesOf, BodyOf}
 use Rattle.sip_message.specs.Message.{content_length}
 use Rattle.sip_message.specs.Views.{field_parts, fields_parts}
-use Rattle.sip_message.specs.ValueParts.{start_parts}
+use Rattle.sip_message.specs.ValueParts.{start_parts, cseq_parts}
+use Rattle.sip_message.specs.ViaParts.{element}
+use Rattle.std.specs.Global.{Vec}
+use Rattle.sip_message.specs.declared.field.Field.{Field as Code}
+use Rattle.sip_message.specs.declared.kept.Kept.{Kept}
 use Rattle.sip_message.specs.inner.Stages.{names_parts, Stand}
+use Rattle.sip_message.proofs.KeptLemmas.{via-some, via-is, cseq-some, cseq-is}
 use Rattle.sip_message.proofs.ChainLemmas.{begun, begins, settled, faulted, Found, found-keeps, found-reads}
 use Rattle.sip_message.proofs.message.Message.read.Goals as goal
 
@@ -28,7 +33,7 @@ returns-in_default-read_start c =
 pub returns-in_err-fields : goal.returns-in_err-fields
 returns-in_err-fields c =
     let b = begins c.in-Some.ensures.0 (c.is_clean.ensures.0 c.if-not-is_clean.false) c.cut_first.ensures in
-    settled fields_parts (FieldsOf 1 b.0) c.args.bytes.now c.in_err-fields.field-0.0 c.from_residual.result c.from_residual.ensures.0 c.from_residual.ensures.1 (c.in_err-fields.ensures b.0 b.2)
+    settled (λ (read : Vec Code × Kept). fields_parts read.0) (FieldsOf 1 b.0) c.args.bytes.now c.in_err-fields.field-0.0 c.from_residual.result c.from_residual.ensures.0 c.from_residual.ensures.1 (c.in_err-fields.ensures.fields b.0 b.2)
     (λ fault stop. begun b.1 (passes _ c.in-Some-read_start.ensures.0 (stopped fault stop refl)))
 
 pub returns-in_err-named : goal.returns-in_err-named
@@ -36,7 +41,7 @@ returns-in_err-named c =
     let b = begins c.in-Some.ensures.0 (c.is_clean.ensures.0 c.if-not-is_clean.false) c.cut_first.ensures in
     let fault = c.in_err-named.field-0.0 in
     faulted c.args.bytes.now fault c.from_residual-in_err-named.result c.from_residual-in_err-named.ensures.0 c.from_residual-in_err-named.ensures.1
-    (begun b.1 (passes _ c.in-Some-read_start.ensures.0 (passes _ (c.in_ok-fields.ensures b.0 b.2)
+    (begun b.1 (passes _ c.in-Some-read_start.ensures.0 (passes _ (c.in_ok-fields.ensures.fields b.0 b.2)
     (stopped fault (subst (λ xs. NamesOf (map field_parts xs) (stops fault)) c.deref.ensures.value c.in_err-named.ensures.names) refl))))
 
 pub returns-in_err-body : goal.returns-in_err-body
@@ -44,22 +49,30 @@ returns-in_err-body c =
     let b = begins c.in-Some.ensures.0 (c.is_clean.ensures.0 c.if-not-is_clean.false) c.cut_first.ensures in
     let fault = c.in_err-body.field-0.0 in
     faulted c.args.bytes.now fault c.from_residual-in_err-body.result c.from_residual-in_err-body.ensures.0 c.from_residual-in_err-body.ensures.1
-    (begun b.1 (passes _ c.in-Some-read_start.ensures.0 (passes _ (c.in_ok-fields.ensures b.0 b.2)
+    (begun b.1 (passes _ c.in-Some-read_start.ensures.0 (passes _ (c.in_ok-fields.ensures.fields b.0 b.2)
     (passes (names_parts c.in_ok-named.named) (subst (λ xs. NamesOf (map field_parts xs) (gives (names_parts c.in_ok-named.named))) c.deref.ensures.value c.in_ok-named.ensures.names)
     (stopped fault (subst (λ xs. BodyOf (start_parts c.in-Some-read_start.start) ((names_parts c.in_ok-named.named).1) ((names_parts c.in_ok-named.named).0.1) (content_length (map field_parts xs)) c.in-Some.rest.now (stops fault)) c.deref-2.ensures.value c.in_err-body.ensures) refl)))))
 
 pub read_body-requires-clause-rows : goal.read_body-requires-clause-rows
 read_body-requires-clause-rows c =
     let b = begins c.in-Some.ensures.0 (c.is_clean.ensures.0 c.if-not-is_clean.false) c.cut_first.ensures in
-    subst (λ xs. AllByRecursion (λ f. Row f.name f.value) (map field_parts xs)) (sym c.deref-2.ensures.value) (fields-rows b.0 (fields_parts c.in_ok-fields.fields) (read-fields 1 b.0 (fields_parts c.in_ok-fields.fields) (c.in_ok-fields.ensures b.0 b.2)))
+    subst (λ xs. AllByRecursion (λ f. Row f.name f.value) (map field_parts xs)) (sym c.deref-2.ensures.value) (fields-rows b.0 (fields_parts c.in_ok-fields.fields) (read-fields 1 b.0 (fields_parts c.in_ok-fields.fields) (c.in_ok-fields.ensures.fields b.0 b.2)))
+
+pub unwrap-via-requires : goal.unwrap-via-requires
+unwrap-via-requires c =
+    via-some (fields_parts c.in_ok-fields.fields) c.in_ok-fields.kept c.in_ok-named.named.via.now c.in_ok-fields.ensures.kept (subst (λ xs. IsValueOf known_name.Via (map field_parts xs) c.in_ok-named.named.via.now) c.deref.ensures.value c.in_ok-named.ensures.stand.via)
+
+pub unwrap-cseq-requires : goal.unwrap-cseq-requires
+unwrap-cseq-requires c =
+    cseq-some (fields_parts c.in_ok-fields.fields) c.in_ok-fields.kept c.in_ok-named.named.cseq.now c.in_ok-fields.ensures.kept (subst (λ xs. IsValueOf known_name.CSeq (map field_parts xs) c.in_ok-named.named.cseq.now) c.deref.ensures.value c.in_ok-named.ensures.stand.cseq)
 
 pub read_body-requires-clause-via : goal.read_body-requires-clause-via
 read_body-requires-clause-via c =
-    subst (λ xs. IsValueOf known_name.Via (map field_parts xs) c.in_ok-named.named.via.now) (c.deref.ensures.value ∙ sym c.deref-2.ensures.value) c.in_ok-named.ensures.stand.via
+    via-is (fields_parts c.in_ok-fields.fields) c.in_ok-fields.kept c.in_ok-named.named.via.now c.unwrap-via.result c.in_ok-fields.ensures.kept (subst (λ xs. IsValueOf known_name.Via (map field_parts xs) c.in_ok-named.named.via.now) c.deref.ensures.value c.in_ok-named.ensures.stand.via) c.unwrap-via.ensures
 
 pub read_body-requires-clause-cseq : goal.read_body-requires-clause-cseq
 read_body-requires-clause-cseq c =
-    subst (λ xs. IsValueOf known_name.CSeq (map field_parts xs) c.in_ok-named.named.cseq.now) (c.deref.ensures.value ∙ sym c.deref-2.ensures.value) c.in_ok-named.ensures.stand.cseq
+    cseq-is (fields_parts c.in_ok-fields.fields) c.in_ok-fields.kept c.in_ok-named.named.cseq.now c.unwrap-cseq.result c.in_ok-fields.ensures.kept (subst (λ xs. IsValueOf known_name.CSeq (map field_parts xs) c.in_ok-named.named.cseq.now) c.deref.ensures.value c.in_ok-named.ensures.stand.cseq) c.unwrap-cseq.ensures
 
 pub new-requires : goal.new-requires
 new-requires c =
@@ -69,12 +82,14 @@ new-requires c =
       others = b.0;
       is_begun = b.1;
       is_start = c.in-Some-read_start.ensures.0;
-      are_fields = c.in_ok-fields.ensures b.0 b.2;
+      are_fields = c.in_ok-fields.ensures.fields b.0 b.2;
       are_names = subst (λ xs. NamesOf (map field_parts xs) (gives (names_parts c.in_ok-named.named))) c.deref.ensures.value c.in_ok-named.ensures.names;
       is_body = subst (λ xs. BodyOf (start_parts c.in-Some-read_start.start) ((names_parts c.in_ok-named.named).1) ((names_parts c.in_ok-named.named).0.1) (content_length (map field_parts xs)) c.in-Some.rest.now (gives c.in_ok-body.body.now)) c.deref-2.ensures.value c.in_ok-body.ensures;
       stand = subst (λ xs. Stand (map field_parts xs) c.in_ok-named.named) c.deref.ensures.value c.in_ok-named.ensures.stand;
     } in
-    found-keeps found
+    found-keeps (element c.unwrap-via.result) (cseq_parts c.unwrap-cseq.result) found
+    (via-is (fields_parts c.in_ok-fields.fields) c.in_ok-fields.kept c.in_ok-named.named.via.now c.unwrap-via.result c.in_ok-fields.ensures.kept (subst (λ xs. IsValueOf known_name.Via (map field_parts xs) c.in_ok-named.named.via.now) c.deref.ensures.value c.in_ok-named.ensures.stand.via) c.unwrap-via.ensures)
+    (cseq-is (fields_parts c.in_ok-fields.fields) c.in_ok-fields.kept c.in_ok-named.named.cseq.now c.unwrap-cseq.result c.in_ok-fields.ensures.kept (subst (λ xs. IsValueOf known_name.CSeq (map field_parts xs) c.in_ok-named.named.cseq.now) c.deref.ensures.value c.in_ok-named.ensures.stand.cseq) c.unwrap-cseq.ensures)
 
 pub returns : goal.returns
 returns c =
@@ -84,7 +99,7 @@ returns c =
       others = b.0;
       is_begun = b.1;
       is_start = c.in-Some-read_start.ensures.0;
-      are_fields = c.in_ok-fields.ensures b.0 b.2;
+      are_fields = c.in_ok-fields.ensures.fields b.0 b.2;
       are_names = subst (λ xs. NamesOf (map field_parts xs) (gives (names_parts c.in_ok-named.named))) c.deref.ensures.value c.in_ok-named.ensures.names;
       is_body = subst (λ xs. BodyOf (start_parts c.in-Some-read_start.start) ((names_parts c.in_ok-named.named).1) ((names_parts c.in_ok-named.named).0.1) (content_length (map field_parts xs)) c.in-Some.rest.now (gives c.in_ok-body.body.now)) c.deref-2.ensures.value c.in_ok-body.ensures;
       stand = subst (λ xs. Stand (map field_parts xs) c.in_ok-named.named) c.deref.ensures.value c.in_ok-named.ensures.stand;

@@ -1,10 +1,10 @@
 use Rattle.std.proofs.Common.{◌↔◌, length}
-use Rattle.sip_message.proofs.ViasLemmas.{AreVias}
-use Rattle.sip_message.proofs.via.are_vias.Given as goal
+use Rattle.sip_message.proofs.ViasLemmas.{AreMore}
+use Rattle.sip_message.proofs.via.are_more_vias.Given as goal
 
 -- the rest decides
 abbrev pub invariant-elements : goal.invariant-elements
-invariant-elements l = AreVias l.rest ↔ AreVias l.fn.text
+invariant-elements l = AreMore l.rest ↔ AreMore l.fn.text
 
 abbrev pub decreases-elements : goal.decreases-elements
 decreases-elements l = length l.rest

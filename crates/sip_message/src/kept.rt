@@ -1,0 +1,37 @@
+//! What is kept of fields as they are read.
+ghost use Rattle.std.specs.Prelude.{◌≡◌, [], is_some};
+ghost use Rattle.std.specs.Option.{option_or};
+ghost use Rattle.sip_message.specs.inner.Kept.{KeptOf};
+
+use crate::values::CSeq;
+use crate::via::Via;
+
+/// What the first Via and the first CSeq of some fields say.
+#[derive(Clone, Copy, Drop)]
+pub(crate) struct Kept<'a> {
+    pub(crate) via: Option<Via<'a>>,
+    pub(crate) cseq: Option<CSeq<'a>>,
+}
+
+impl Kept<'_> {
+    /// What no fields say.
+    pub(crate) fn new() -> Self
+        ensures { KeptOf [] result }
+    {
+        Kept {
+            via: None,
+            cseq: None,
+        }
+    }
+}
+
+/// Whether a value says something. It is kept if nothing is kept yet.
+pub(crate) fn keep<T: Copy>(said: Option<T>, kept: &mut Option<T>) -> bool
+    ensures says { result ≡ is_some said }
+    ensures kept { kept.new ≡ option_or kept.old said }
+{
+    if kept.is_none() {
+        *kept = said;
+    }
+    said.is_some()
+}

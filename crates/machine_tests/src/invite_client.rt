@@ -1,13 +1,12 @@
 //! The INVITE client, with moments worked out by hand for T1 500 and a tolerance of 50.
-ghost use Rattle.std.specs.Prelude.{ℕ, All, IfOk, OnOk, ◌≤◌, ◌<◌};
+ghost use Rattle.std.specs.Prelude.{All, IfOk};
 ghost use Rattle.sip_machine.specs.Heard.{FitsBook};
 ghost use Rattle.sip_machine.specs.Rules.{Knows};
-ghost use Rattle.sip_machine.specs.Texts.{Keeps};
 ghost use Rattle.sip_machine.specs.InviteClient.{invite_client_names, InviteClientInRange};
 
+use crate::messages::{Numbered, Start, book_of, event_of};
 use sip_machine::{Action, Book, Debt, Event, InviteClient, InviteClientState, Machine, Params};
-use sip_message::Message;
-use std::alloc::{AllocError, Global};
+use std::alloc::Global;
 use std::test::Fail;
 
 /// An entry: its moment, what was done, and the number of its message.
@@ -119,49 +118,8 @@ fn client(t1: u64) -> Result<InviteClient, Fail> {
     Ok(InviteClient::new(params))
 }
 
-/// A request by its method, or a response to the INVITE by its code.
-#[derive(Clone, Copy)]
-enum Start {
-    Request(&'static str),
-    Response(u16),
-}
-
-/// The bytes of a message that begins so, with this tag of To.
-fn text_of(
-    alloc: Global,
-    start: Start,
-    transport: &str,
-    tag: Option<u8>,
-) -> Result<String, AllocError> {
-    let (line, method) = match start {
-        Start::Request(method) => (
-            format!(in alloc; "{method} sip:example.com SIP/2.0")?,
-            method,
-        ),
-        Start::Response(code) => (format!(in alloc; "SIP/2.0 {code} Reply")?, "INVITE"),
-    };
-    let tag = match tag {
-        Some(tag) => format!(in alloc; ";tag={tag}")?,
-        None => String::new(alloc),
-    };
-    format!(in alloc;
-        "{line}\r\nVia: SIP/2.0/{transport} a.example.com;branch=z9hG4bKb1\r\n\
-        From: <sip:bob@example.com>;tag=1\r\nTo: <sip:bob@example.com>{tag}\r\nCall-ID: c1@a\r\n\
-        CSeq: 1 {method}\r\nContent-Length: 0\r\n\r\n"
-    )
-}
-
-/// Keeps a message under the next number.
-fn keep(book: &mut Book, number: u32, text: &str) -> Result<(), Fail>
-    requires { (n : ℕ) → Keeps book.old n → n < number }
-    ensures { OnOk result ((n : ℕ) → Keeps book.new n → n ≤ number) }
-{
-    book.add(number, text.as_bytes())?;
-    Ok(())
-}
-
 /// Each message by its number: how it begins, and its tag of To.
-const MESSAGES: [(u32, Start, Option<u8>); 11] = [
+const MESSAGES: [Numbered; 11] = [
     (INVITE, Start::Request("INVITE"), None),
     (OTHER_INVITE, Start::Request("INVITE"), Some(9)),
     (TRYING, Start::Response(100), None),
@@ -175,21 +133,6 @@ const MESSAGES: [(u32, Start, Option<u8>); 11] = [
     (OPTIONS, Start::Request("OPTIONS"), None),
 ];
 
-/// A book that keeps the messages over a transport.
-fn messages(alloc: Global, transport: &str) -> Result<Book, Fail> {
-    let mut book = Book::new(alloc);
-    let mut last = 0;
-    for (number, start, tag) in MESSAGES {
-        if number <= last {
-            return Err("out of order".into());
-        }
-        let text = text_of(alloc, start, transport, tag)?;
-        keep(&mut book, number, text.as_str())?;
-        last = number;
-    }
-    Ok(book)
-}
-
 /// The states after the entries.
 fn states_after(
     alloc: Global,
@@ -199,7 +142,7 @@ fn states_after(
 ) -> Result<Vec<InviteClientState>, Fail>
     ensures { IfOk result (λ states. All InviteClientInRange states.items) }
 {
-    let book = messages(alloc, transport)?;
+    let book = book_of(alloc, &MESSAGES, "INVITE", transport)?;
     run(alloc, client, &book, entries)
 }
 
@@ -214,16 +157,7 @@ fn run(
     let mut states = Vec::new(alloc);
     states.push(client.first())?;
     for &(moment, action, number) in entries {
-        let Some(bytes) = book.bytes(number) else {
-            return Err("not kept".into());
-        };
-        let Ok(message) = Message::read(alloc, bytes) else {
-            return Err("not a message".into());
-        };
-        if moment > 9_999_999_999_999 || action == Action::Mark {
-            return Err("not an entry".into());
-        }
-        let event = Event::of(moment, action, number, &message);
+        let event = event_of(alloc, book, moment, action, number)?;
         states = step(alloc, client, book, &states, &event)?;
     }
     Ok(states)

@@ -4,17 +4,17 @@ ghost use Rattle.sip_machine.specs.Heard.{FitsBook};
 ghost use Rattle.sip_machine.specs.Rules.{Knows};
 ghost use Rattle.sip_machine.specs.InviteServer.{invite_server_names, InviteServerInRange};
 
+use crate::messages::{Numbered, Start, book_of, event_of};
 use sip_machine::{
-    Action, Book, Debt, Event, InviteServer, InviteServerState, Kind, Machine, Method, Outbox,
-    Params,
+    Action, Book, Debt, Event, InviteServer, InviteServerState, Machine, Outbox, Params,
 };
 use std::alloc::Global;
 use std::test::Fail;
 
-/// An entry: its moment, what was done, the number of its message, and its kind.
-type Entry = (u64, Action, u32, Kind);
+/// An entry: its moment, what was done, and the number of its message.
+type Entry = (u64, Action, u32);
 
-const REQUEST: u32 = 1;
+const INVITE: u32 = 1;
 
 const RINGING: u32 = 2;
 
@@ -26,41 +26,51 @@ const BUSY: u32 = 5;
 
 const OK: u32 = 6;
 
-const TRYING_BYTES: &[u8] = b"SIP/2.0 100 Trying\r\n\
-    Via: SIP/2.0/UDP a.example.com;branch=z9hG4bK1\r\n\
-    From: <sip:bob@example.com>;tag=1\r\n\
-    To: <sip:bob@example.com>\r\n\
-    Call-ID: c1@a\r\n\
-    CSeq: 1 INVITE\r\n\
-    Content-Length: 0\r\n\
-    \r\n";
+const ACK: u32 = 7;
 
-fn received(moment: u64, method: Method) -> Entry {
-    (moment, Action::Received, REQUEST, Kind::Request(method))
+const CANCEL: u32 = 8;
+
+const OTHER: u32 = 9;
+
+/// Each message by its number.
+const MESSAGES: [Numbered; 9] = [
+    (INVITE, Start::Request("INVITE"), None),
+    (RINGING, Start::Response(180), Some(2)),
+    (TRYING, Start::Response(100), None),
+    (PROGRESS, Start::Response(183), Some(2)),
+    (BUSY, Start::Response(486), Some(2)),
+    (OK, Start::Response(200), Some(2)),
+    (ACK, Start::Request("ACK"), Some(2)),
+    (CANCEL, Start::Request("CANCEL"), None),
+    (OTHER, Start::Request("INFO"), None),
+];
+
+fn received(moment: u64, number: u32) -> Entry {
+    (moment, Action::Received, number)
 }
 
 fn invite(moment: u64) -> Entry {
-    received(moment, Method::Invite)
+    received(moment, INVITE)
 }
 
 fn ack(moment: u64) -> Entry {
-    received(moment, Method::Ack)
+    received(moment, ACK)
 }
 
-fn sent(moment: u64, number: u32, code: u16) -> Entry {
-    (moment, Action::Sent, number, Kind::Response(code))
+fn sent(moment: u64, number: u32) -> Entry {
+    (moment, Action::Sent, number)
 }
 
 fn ringing(moment: u64) -> Entry {
-    sent(moment, RINGING, 180)
+    sent(moment, RINGING)
 }
 
 fn busy(moment: u64) -> Entry {
-    sent(moment, BUSY, 486)
+    sent(moment, BUSY)
 }
 
 fn ok(moment: u64) -> Entry {
-    sent(moment, OK, 200)
+    sent(moment, OK)
 }
 
 fn must(message: u32, deadline: u64) -> Debt {
@@ -163,13 +173,7 @@ fn server() -> Result<InviteServer, Fail> {
 fn states_after(alloc: Global, entries: &[Entry]) -> Result<Vec<InviteServerState>, Fail>
     ensures { IfOk result (λ states. All InviteServerInRange states.items) }
 {
-    let mut book = Book::new(alloc);
-    book.add(REQUEST, b"INVITE")?;
-    book.add(RINGING, b"SIP/2.0 180")?;
-    book.add(TRYING, TRYING_BYTES)?;
-    book.add(PROGRESS, b"SIP/2.0 183")?;
-    book.add(BUSY, b"SIP/2.0 486")?;
-    book.add(OK, b"SIP/2.0 200")?;
+    let book = book_of(alloc, &MESSAGES, "INVITE", "UDP")?;
     run(alloc, &server()?, &book, entries)
 }
 
@@ -183,14 +187,8 @@ fn run(
 {
     let mut states = Vec::new(alloc);
     states.push(server.first())?;
-    for &(moment, action, number, kind) in entries {
-        if moment > 9_999_999_999_999 || action == Action::Mark {
-            return Err("not an entry".into());
-        }
-        let Some(_) = book.bytes(number) else {
-            return Err("not kept".into());
-        };
-        let event = Event::plain(moment, action, number, kind);
+    for &(moment, action, number) in entries {
+        let event = event_of(alloc, book, moment, action, number)?;
         states = step(alloc, server, book, &states, &event)?;
     }
     Ok(states)
@@ -249,13 +247,13 @@ fn before_the_final_response(rt: HostRuntime) -> Result<(), Fail> {
                 first,
                 ringing(5),
                 invite(10),
-                (60, Action::Failed, RINGING, Kind::Response(180)),
+                (60, Action::Failed, RINGING),
             ],
             &[rings(owed), rings(None)],
         ),
         (&[first, ringing(5), invite(10), ringing(61)], &[]),
         (
-            &[first, ringing(5), invite(10), sent(20, PROGRESS, 183)],
+            &[first, ringing(5), invite(10), sent(20, PROGRESS)],
             &[Want::Proceeding(0, Some(PROGRESS), owed)],
         ),
         (
@@ -263,7 +261,7 @@ fn before_the_final_response(rt: HostRuntime) -> Result<(), Fail> {
                 first,
                 ringing(5),
                 invite(10),
-                sent(20, PROGRESS, 183),
+                sent(20, PROGRESS),
                 ringing(30),
             ],
             &[rings(owed), Want::Proceeding(0, Some(PROGRESS), None)],
@@ -278,7 +276,7 @@ fn before_the_final_response(rt: HostRuntime) -> Result<(), Fail> {
 #[test]
 fn a_100_need_not_be_repeated(rt: HostRuntime) -> Result<(), Fail> {
     let first = invite(0);
-    let trying = sent(5, TRYING, 100);
+    let trying = sent(5, TRYING);
     let tries = |owes| Want::Proceeding(0, Some(TRYING), owes);
     let rows: [(&[Entry], &[Want]); 4] = [
         (
@@ -290,11 +288,11 @@ fn a_100_need_not_be_repeated(rt: HostRuntime) -> Result<(), Fail> {
             &[tries(Some(may(TRYING, 111)))],
         ),
         (
-            &[first, trying, invite(10), received(61, Method::Cancel)],
+            &[first, trying, invite(10), received(61, CANCEL)],
             &[tries(None)],
         ),
         (
-            &[first, trying, invite(10), sent(61, TRYING, 100)],
+            &[first, trying, invite(10), sent(61, TRYING)],
             &[tries(None)],
         ),
     ];
@@ -387,7 +385,7 @@ fn after_the_ack(rt: HostRuntime) -> Result<(), Fail> {
     let first = invite(0);
     let rows: [(&[Entry], &[Want]); 9] = [
         (
-            &[first, busy(0), received(100, Method::Other)],
+            &[first, busy(0), received(100, OTHER)],
             &[Want::Completed(0, 0, 500, None)],
         ),
         (&[first, busy(0), ack(100)], &[Want::Confirmed(100, None)]),

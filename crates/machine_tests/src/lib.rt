@@ -8,6 +8,8 @@ mod invite_client;
 #[cfg(test)]
 mod invite_server;
 #[cfg(test)]
+mod messages;
+#[cfg(test)]
 mod plain_client;
 #[cfg(test)]
 mod plain_server;

@@ -2,34 +2,38 @@
 ghost use Rattle.std.specs.Prelude.{◌≡◌, false};
 ghost use Rattle.sip_machine.specs.PlainClient.{PlainInRange};
 
-use sip_machine::{
-    Action, Book, Event, Kind, Machine, Method, Params, PlainClient, PlainState, PlainWaiting,
-};
+use crate::messages::{Numbered, Start, book_of, event_of};
+use sip_machine::{Action, Book, Machine, Params, PlainClient, PlainState, PlainWaiting};
 use std::alloc::Global;
 use std::test::Fail;
 
-/// An entry: its moment, what was done, the number of its message, and its kind.
-type Entry = (u64, Action, u32, Kind);
+/// An entry: its moment, what was done, and the number of its message.
+type Entry = (u64, Action, u32);
 
 const REQUEST: u32 = 1;
 
 const OTHER: u32 = 2;
 
+/// Each message by its number, which is the code of a response.
+const MESSAGES: [Numbered; 6] = [
+    (REQUEST, Start::Request("OPTIONS"), None),
+    (OTHER, Start::Request("INFO"), None),
+    (100, Start::Response(100), Some(2)),
+    (199, Start::Response(199), Some(2)),
+    (200, Start::Response(200), Some(2)),
+    (699, Start::Response(699), Some(2)),
+];
+
 fn sent(moment: u64) -> Entry {
-    (moment, Action::Sent, REQUEST, Kind::Request(Method::Other))
+    (moment, Action::Sent, REQUEST)
 }
 
 fn failed(moment: u64) -> Entry {
-    (
-        moment,
-        Action::Failed,
-        REQUEST,
-        Kind::Request(Method::Other),
-    )
+    (moment, Action::Failed, REQUEST)
 }
 
-fn received(moment: u64, code: u16) -> Entry {
-    (moment, Action::Received, OTHER, Kind::Response(code))
+fn received(moment: u64, code: u32) -> Entry {
+    (moment, Action::Received, code)
 }
 
 /// The request of moment 0 that waits, with timer E set then for so long.
@@ -52,9 +56,7 @@ fn client() -> Result<PlainClient, Fail> {
 
 /// The state after the entries, None where one of them has no step.
 fn state_after(alloc: Global, entries: &[Entry]) -> Result<Option<PlainState>, Fail> {
-    let mut book = Book::new(alloc);
-    book.add(REQUEST, b"OPTIONS")?;
-    book.add(OTHER, b"SIP/2.0")?;
+    let book = book_of(alloc, &MESSAGES, "OPTIONS", "UDP")?;
     run(alloc, &client()?, &book, entries)
 }
 
@@ -65,11 +67,8 @@ fn run(
     entries: &[Entry],
 ) -> Result<Option<PlainState>, Fail> {
     let mut state = client.first();
-    for &(moment, action, number, kind) in entries {
-        if moment > 9_999_999_999_999 || action == Action::Mark || book.bytes(number).is_none() {
-            return Err("not an entry".into());
-        }
-        let event = Event::plain(moment, action, number, kind);
+    for &(moment, action, number) in entries {
+        let event = event_of(alloc, book, moment, action, number)?;
         let mut next = Vec::new(alloc);
         client.successors(book, &state, &event, &mut next)?;
         let [only] = next.as_slice() else {
@@ -94,7 +93,7 @@ fn before_the_final_response(rt: HostRuntime) -> Result<(), Fail> {
         (
             &[
                 sent(0),
-                (500, Action::Sent, OTHER, Kind::Request(Method::Other)),
+                (500, Action::Sent, OTHER),
             ],
             None,
         ),

@@ -4,14 +4,15 @@ ghost use Rattle.sip_machine.specs.Heard.{FitsBook};
 ghost use Rattle.sip_machine.specs.Rules.{Knows};
 ghost use Rattle.sip_machine.specs.PlainServer.{plain_server_names, PlainServerInRange};
 
+use crate::messages::{Numbered, Start, book_of, event_of};
 use sip_machine::{
-    Action, Book, Debt, Event, Kind, Machine, Method, Outbox, Params, PlainServer, PlainServerState,
+    Action, Book, Debt, Event, Machine, Outbox, Params, PlainServer, PlainServerState,
 };
 use std::alloc::Global;
 use std::test::Fail;
 
-/// An entry: its moment, what was done, the number of its message, and its kind.
-type Entry = (u64, Action, u32, Kind);
+/// An entry: its moment, what was done, and the number of its message.
+type Entry = (u64, Action, u32);
 
 const REQUEST: u32 = 1;
 
@@ -23,41 +24,28 @@ const FINAL: u32 = 4;
 
 const PROGRESS: u32 = 5;
 
-const NO_MESSAGE: u32 = 6;
+const LAST: u32 = 6;
 
-const TRYING_BYTES: &[u8] = b"SIP/2.0 100 Trying\r\n\
-    Via: SIP/2.0/UDP a.example.com;branch=z9hG4bK1\r\n\
-    From: <sip:bob@example.com>;tag=1\r\n\
-    To: <sip:bob@example.com>\r\n\
-    Call-ID: c1@a\r\n\
-    CSeq: 1 OPTIONS\r\n\
-    Content-Length: 0\r\n\
-    \r\n";
-
-const PROGRESS_BYTES: &[u8] = b"SIP/2.0 101 Trying\r\n\
-    Via: SIP/2.0/UDP a.example.com;branch=z9hG4bK1\r\n\
-    From: <sip:bob@example.com>;tag=1\r\n\
-    To: <sip:bob@example.com>\r\n\
-    Call-ID: c1@a\r\n\
-    CSeq: 1 OPTIONS\r\n\
-    Content-Length: 0\r\n\
-    \r\n";
+/// Each message by its number.
+const MESSAGES: [Numbered; 6] = [
+    (REQUEST, Start::Request("OPTIONS"), None),
+    (RINGING, Start::Response(180), None),
+    (TRYING, Start::Response(100), None),
+    (FINAL, Start::Response(200), None),
+    (PROGRESS, Start::Response(101), None),
+    (LAST, Start::Response(699), None),
+];
 
 fn received(moment: u64) -> Entry {
-    (
-        moment,
-        Action::Received,
-        REQUEST,
-        Kind::Request(Method::Other),
-    )
+    (moment, Action::Received, REQUEST)
 }
 
-fn sent(moment: u64, number: u32, code: u16) -> Entry {
-    (moment, Action::Sent, number, Kind::Response(code))
+fn sent(moment: u64, number: u32) -> Entry {
+    (moment, Action::Sent, number)
 }
 
-fn failed(moment: u64, number: u32, code: u16) -> Entry {
-    (moment, Action::Failed, number, Kind::Response(code))
+fn failed(moment: u64, number: u32) -> Entry {
+    (moment, Action::Failed, number)
 }
 
 fn must(message: u32, deadline: u64) -> Debt {
@@ -152,13 +140,7 @@ fn server() -> Result<PlainServer, Fail> {
 fn states_after(alloc: Global, entries: &[Entry]) -> Result<Vec<PlainServerState>, Fail>
     ensures { IfOk result (λ states. All PlainServerInRange states.items) }
 {
-    let mut book = Book::new(alloc);
-    book.add(REQUEST, b"OPTIONS")?;
-    book.add(RINGING, b"SIP/2.0 180")?;
-    book.add(TRYING, TRYING_BYTES)?;
-    book.add(FINAL, b"SIP/2.0 200")?;
-    book.add(PROGRESS, PROGRESS_BYTES)?;
-    book.add(NO_MESSAGE, b"SIP/2.0 100 Trying")?;
+    let book = book_of(alloc, &MESSAGES, "OPTIONS", "UDP")?;
     run(alloc, &server()?, &book, entries)
 }
 
@@ -172,14 +154,8 @@ fn run(
 {
     let mut states = Vec::new(alloc);
     states.push(server.first())?;
-    for &(moment, action, number, kind) in entries {
-        if moment > 9_999_999_999_999 || action == Action::Mark {
-            return Err("not an entry".into());
-        }
-        let Some(_) = book.bytes(number) else {
-            return Err("not kept".into());
-        };
-        let event = Event::plain(moment, action, number, kind);
+    for &(moment, action, number) in entries {
+        let event = event_of(alloc, book, moment, action, number)?;
         states = step(alloc, server, book, &states, &event)?;
     }
     Ok(states)
@@ -215,11 +191,11 @@ fn leads(alloc: Global, entries: &[Entry], wants: &[Want]) -> Result<bool, Fail>
 #[test]
 fn before_the_final_response(rt: HostRuntime) -> Result<(), Fail> {
     let first = received(0);
-    let ringing = sent(5, RINGING, 180);
+    let ringing = sent(5, RINGING);
     let owed = must(RINGING, 60);
-    let rows: [(&[Entry], &[Want]); 14] = [
+    let rows: [(&[Entry], &[Want]); 13] = [
         (&[], &[Want::Idle]),
-        (&[sent(0, FINAL, 200)], &[]),
+        (&[sent(0, FINAL)], &[]),
         (&[first], &[Want::Trying]),
         (&[first, received(10)], &[Want::Trying]),
         (&[first, ringing], &[Want::Proceeding(RINGING, NOTHING)]),
@@ -228,22 +204,22 @@ fn before_the_final_response(rt: HostRuntime) -> Result<(), Fail> {
             &[Want::Proceeding(RINGING, one(owed))],
         ),
         (
-            &[first, ringing, received(10), sent(50, RINGING, 180)],
+            &[first, ringing, received(10), sent(50, RINGING)],
             &[
                 Want::Proceeding(RINGING, one(owed)),
                 Want::Proceeding(RINGING, NOTHING),
             ],
         ),
         (
-            &[first, ringing, received(10), failed(60, RINGING, 180)],
+            &[first, ringing, received(10), failed(60, RINGING)],
             &[
                 Want::Proceeding(RINGING, one(owed)),
                 Want::Proceeding(RINGING, NOTHING),
             ],
         ),
-        (&[first, ringing, received(10), sent(61, RINGING, 180)], &[]),
+        (&[first, ringing, received(10), sent(61, RINGING)], &[]),
         (
-            &[first, ringing, received(10), sent(20, PROGRESS, 101)],
+            &[first, ringing, received(10), sent(20, PROGRESS)],
             &[Want::Proceeding(PROGRESS, one(owed))],
         ),
         (
@@ -252,7 +228,7 @@ fn before_the_final_response(rt: HostRuntime) -> Result<(), Fail> {
                 ringing,
                 received(10),
                 received(20),
-                sent(30, RINGING, 180),
+                sent(30, RINGING),
             ],
             &[
                 Want::Proceeding(RINGING, two(owed, must(RINGING, 70))),
@@ -260,18 +236,14 @@ fn before_the_final_response(rt: HostRuntime) -> Result<(), Fail> {
             ],
         ),
         (
-            &[first, sent(5, PROGRESS, 101), received(10)],
+            &[first, sent(5, PROGRESS), received(10)],
             &[Want::Proceeding(PROGRESS, one(must(PROGRESS, 60)))],
-        ),
-        (
-            &[first, sent(5, NO_MESSAGE, 100), received(10)],
-            &[Want::Proceeding(NO_MESSAGE, one(must(NO_MESSAGE, 60)))],
         ),
         (
             &[
                 first,
                 ringing,
-                (20, Action::Received, FINAL, Kind::Response(200)),
+                (20, Action::Received, FINAL),
             ],
             &[Want::Proceeding(RINGING, NOTHING)],
         ),
@@ -285,7 +257,7 @@ fn before_the_final_response(rt: HostRuntime) -> Result<(), Fail> {
 #[test]
 fn a_100_need_not_be_repeated(rt: HostRuntime) -> Result<(), Fail> {
     let first = received(0);
-    let trying = sent(5, TRYING, 100);
+    let trying = sent(5, TRYING);
     let rows: [(&[Entry], &[Want]); 4] = [
         (
             &[first, trying, received(10)],
@@ -300,7 +272,7 @@ fn a_100_need_not_be_repeated(rt: HostRuntime) -> Result<(), Fail> {
             &[Want::Proceeding(TRYING, one(may(TRYING, 111)))],
         ),
         (
-            &[first, trying, received(10), sent(61, TRYING, 100)],
+            &[first, trying, received(10), sent(61, TRYING)],
             &[Want::Proceeding(TRYING, NOTHING)],
         ),
     ];
@@ -313,33 +285,33 @@ fn a_100_need_not_be_repeated(rt: HostRuntime) -> Result<(), Fail> {
 #[test]
 fn after_the_final_response(rt: HostRuntime) -> Result<(), Fail> {
     let first = received(0);
-    let ringing = sent(5, RINGING, 180);
-    let last = sent(10, FINAL, 200);
+    let ringing = sent(5, RINGING);
+    let last = sent(10, FINAL);
     let soft = may(RINGING, 60);
     let rows: [(&[Entry], &[Want]); 12] = [
         (&[first, last], &[Want::Completed(FINAL, 10, NOTHING)]),
         (
-            &[first, failed(10, FINAL, 699)],
-            &[Want::Completed(FINAL, 10, NOTHING)],
+            &[first, failed(10, LAST)],
+            &[Want::Completed(LAST, 10, NOTHING)],
         ),
-        (&[first, last, sent(20, FINAL, 200)], &[]),
+        (&[first, last, sent(20, FINAL)], &[]),
         (
             &[first, last, received(500)],
             &[Want::Completed(FINAL, 10, one(must(FINAL, 550)))],
         ),
         (
-            &[first, last, received(500), sent(550, FINAL, 200)],
+            &[first, last, received(500), sent(550, FINAL)],
             &[Want::Completed(FINAL, 10, NOTHING)],
         ),
-        (&[first, last, received(500), sent(551, FINAL, 200)], &[]),
-        (&[first, last, received(500), sent(550, RINGING, 180)], &[]),
+        (&[first, last, received(500), sent(551, FINAL)], &[]),
+        (&[first, last, received(500), sent(550, RINGING)], &[]),
         (
             &[first, last, received(32_060)],
             &[Want::Completed(FINAL, 10, one(must(FINAL, 32_110)))],
         ),
         (&[first, last, received(32_061)], &[]),
         (
-            &[first, ringing, received(10), sent(20, FINAL, 200)],
+            &[first, ringing, received(10), sent(20, FINAL)],
             &[Want::Completed(FINAL, 20, one(soft))],
         ),
         (
@@ -347,8 +319,8 @@ fn after_the_final_response(rt: HostRuntime) -> Result<(), Fail> {
                 first,
                 ringing,
                 received(10),
-                sent(20, FINAL, 200),
-                sent(60, RINGING, 180),
+                sent(20, FINAL),
+                sent(60, RINGING),
             ],
             &[Want::Completed(FINAL, 20, NOTHING)],
         ),
@@ -357,8 +329,8 @@ fn after_the_final_response(rt: HostRuntime) -> Result<(), Fail> {
                 first,
                 ringing,
                 received(10),
-                sent(20, FINAL, 200),
-                sent(61, RINGING, 180),
+                sent(20, FINAL),
+                sent(61, RINGING),
             ],
             &[],
         ),
@@ -383,24 +355,24 @@ fn ends_of(
 fn ends(rt: HostRuntime) -> Result<(), Fail> {
     let server = server()?;
     let first = received(0);
-    let ringing = sent(5, RINGING, 180);
+    let ringing = sent(5, RINGING);
     let rows: [(&[Entry], Option<(u64, Option<u64>)>, Option<u64>); 7] = [
         (&[], None, None),
         (&[first], None, None),
         (&[first, ringing], None, None),
         (&[first, ringing, received(10)], None, Some(60)),
         (
-            &[first, sent(10, FINAL, 200)],
+            &[first, sent(10, FINAL)],
             Some((31_960, Some(32_060))),
             Some(32_060),
         ),
         (
-            &[first, sent(10, FINAL, 200), received(500)],
+            &[first, sent(10, FINAL), received(500)],
             None,
             Some(550),
         ),
         (
-            &[first, ringing, received(10), sent(20, FINAL, 200)],
+            &[first, ringing, received(10), sent(20, FINAL)],
             Some((31_970, Some(32_070))),
             Some(32_070),
         ),

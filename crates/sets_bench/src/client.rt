@@ -3,8 +3,8 @@ ghost use Rattle.std.specs.Prelude.{◌≡◌, All, IfOk};
 ghost use Rattle.sip_machine.specs.Rules.{Knows};
 ghost use Rattle.sip_machine.specs.InviteClient.{invite_client_names};
 
-use crate::hear::{What, hear, hear_often};
-use sip_machine::{Action, Book, InviteClient, Kind, Method, Params};
+use crate::hear::{What, event_of, hear, hear_often};
+use sip_machine::{Action, Book, InviteClient, Params};
 use sip_states::StateSet;
 use std::alloc::{AllocError, Global};
 use std::io;
@@ -23,13 +23,13 @@ const LAST: u32 = 4;
 const ACK: u32 = 5;
 
 /// The final response that came in last, the only one with its tag of To.
-const LAST_AGAIN: What = (Action::Received, LAST, Kind::Response(486));
+const LAST_AGAIN: What = (Action::Received, LAST);
 
 /// A provisional response behind the final one, for which the client has no row.
-pub const STRAY: What = (Action::Received, RINGING, Kind::Response(180));
+pub const STRAY: What = (Action::Received, RINGING);
 
 /// The ACK for the last response, for which each response that is owed one is read, and that response again.
-pub const ACK_LAST: [What; 2] = [(Action::Sent, ACK, Kind::Request(Method::Ack)), LAST_AGAIN];
+pub const ACK_LAST: [What; 2] = [(Action::Sent, ACK), LAST_AGAIN];
 
 /// The bytes of a message that begins so, with this To and this method in CSeq.
 fn text_of(alloc: Global, start: &str, to: &str, method: &str) -> Result<String, AllocError> {
@@ -61,15 +61,13 @@ pub fn set_of(alloc: Global, book: &Book, debts: u32) -> io::Result<StateSet<Inv
     ensures start { IfOk result (λ set. set.moment ≡ 0) }
     ensures known { IfOk result (λ set. All (Knows invite_client_names book.now) set.states) }
 {
+    let invite = event_of(alloc, book, (Action::Sent, INVITE))?;
+    let busy = event_of(alloc, book, (Action::Received, BUSY))?;
+    let last = event_of(alloc, book, LAST_AGAIN)?;
     let params = Params::new(500, 4_000, 5_000, 50).ok_or(io::ErrorKind::InvalidInput)?;
     let mut set = StateSet::start(alloc, InviteClient::new(params))?;
-    hear(
-        &mut set,
-        book,
-        (Action::Sent, INVITE, Kind::Request(Method::Invite)),
-    )?;
-    let busy = (Action::Received, BUSY, Kind::Response(486));
-    hear_often(&mut set, book, busy, debts.saturating_sub(1))?;
-    hear(&mut set, book, LAST_AGAIN)?;
+    hear(&mut set, book, &invite)?;
+    hear_often(&mut set, book, &busy, debts.saturating_sub(1))?;
+    hear(&mut set, book, &last)?;
     Ok(set)
 }

@@ -2,27 +2,40 @@
 ghost use Rattle.std.specs.Prelude.{◌≡◌, All, OnOk};
 ghost use Rattle.sip_machine.specs.Rules.{Knows};
 
-use sip_machine::{Action, Book, Event, Kind, Machine};
+use sip_machine::{Action, Book, Event, Machine};
+use sip_message::{Message, ReadError};
 use sip_states::{StateSet, TakeError};
-use std::alloc::AllocError;
+use std::alloc::{AllocError, Global};
 use std::io;
 
-/// What was done with a message, its number, and its kind.
-pub type What = (Action, u32, Kind);
+/// What was done with a message, and its number.
+pub type What = (Action, u32);
 
-/// Lets the set take the event.
-pub fn hear<M: Machine>(set: &mut StateSet<M>, book: &Book, what: What) -> io::Result<()>
+/// The event of a kept message, at moment 0.
+pub fn event_of(alloc: Global, book: &Book, what: What) -> io::Result<Event> {
+    let (action, number) = what;
+    let bytes = book.bytes(number).ok_or(io::ErrorKind::NotFound)?;
+    if action == Action::Mark {
+        return Err(io::ErrorKind::InvalidInput.into());
+    }
+    match Message::read(alloc, bytes) {
+        Ok(message) => Ok(Event::of(0, action, number, &message)),
+        Err(ReadError::Memory) => Err(AllocError.into()),
+        Err(ReadError::Fault(_)) => Err(io::ErrorKind::InvalidData.into()),
+    }
+}
+
+/// Lets the set take the event, which is one of moment 0.
+pub fn hear<M: Machine>(set: &mut StateSet<M>, book: &Book, event: &Event) -> io::Result<()>
     requires start { set.old.moment ≡ 0 }
     requires known { All (Knows M.names book.now) set.old.states }
     ensures start { OnOk result (set.new.moment ≡ 0) }
     ensures known { OnOk result (All (Knows M.names book.now) set.new.states) }
 {
-    let (action, number, kind) = what;
-    if action == Action::Mark || book.bytes(number).is_none() {
+    if event.moment() != 0 || book.bytes(event.number()).is_none() {
         return Err(io::Error::other("a message is not kept"));
     }
-    let event = Event::plain(0, action, number, kind);
-    match set.take(book, &event) {
+    match set.take(book, event) {
         Ok(()) => Ok(()),
         Err(TakeError::Memory) => Err(AllocError.into()),
         Err(TakeError::TooMany) => Err(io::Error::other("too many states")),
@@ -30,14 +43,18 @@ pub fn hear<M: Machine>(set: &mut StateSet<M>, book: &Book, what: What) -> io::R
 }
 
 /// Lets the set take the events in turn.
-pub fn hear_each<M: Machine>(set: &mut StateSet<M>, book: &Book, whats: &[What]) -> io::Result<()>
+pub fn hear_each<M: Machine>(
+    set: &mut StateSet<M>,
+    book: &Book,
+    events: &[Event],
+) -> io::Result<()>
     requires start { set.old.moment ≡ 0 }
     requires known { All (Knows M.names book.now) set.old.states }
     ensures start { OnOk result (set.new.moment ≡ 0) }
     ensures known { OnOk result (All (Knows M.names book.now) set.new.states) }
 {
-    for what in whats {
-        hear(set, book, *what)?;
+    for event in events {
+        hear(set, book, event)?;
     }
     Ok(())
 }
@@ -46,7 +63,7 @@ pub fn hear_each<M: Machine>(set: &mut StateSet<M>, book: &Book, whats: &[What])
 pub fn hear_often<M: Machine>(
     set: &mut StateSet<M>,
     book: &Book,
-    what: What,
+    event: &Event,
     times: u32,
 ) -> io::Result<()>
     requires start { set.old.moment ≡ 0 }
@@ -55,7 +72,7 @@ pub fn hear_often<M: Machine>(
     ensures known { OnOk result (All (Knows M.names book.now) set.new.states) }
 {
     for time in 0..times {
-        hear(set, book, what)?;
+        hear(set, book, event)?;
     }
     Ok(())
 }

@@ -9,9 +9,9 @@ mod hear;
 mod server;
 
 use crate::client::{ACK_LAST, OUTBOXES};
-use crate::hear::{What, hear_each};
+use crate::hear::{event_of, hear_each};
 use crate::server::{BY_OUTBOX, BY_WIDTH, SEND, Shape};
-use sip_machine::{Book, Machine};
+use sip_machine::{Book, Event, Machine};
 use sip_states::StateSet;
 use std::rt::Clock;
 use std::time::Instant;
@@ -56,8 +56,10 @@ fn show_server(rt: &(impl Clock + AllocGlobal + Print), shape: Shape) -> io::Res
     let debts = u64::from(shape.first)
         .saturating_add(u64::from(shape.second))
         .saturating_add(u64::from(shape.third));
-    let stray = best(rt, &mut set, &book, &[server::STRAY], debts)?;
-    let send = best(rt, &mut set, &book, &[SEND], debts)?;
+    let stray = event_of(rt.alloc(), &book, server::STRAY)?;
+    let send = event_of(rt.alloc(), &book, SEND)?;
+    let stray = best(rt, &mut set, &book, &[stray], debts)?;
+    let send = best(rt, &mut set, &book, &[send], debts)?;
     show(rt, set.states().len(), debts, stray, send)
 }
 
@@ -67,8 +69,18 @@ fn show_client(rt: &(impl Clock + AllocGlobal + Print), debts: u32) -> io::Resul
     let book = client::book(rt.alloc())?;
     let mut set = client::set_of(rt.alloc(), &book, debts)?;
     let debts = u64::from(debts);
-    let stray = best(rt, &mut set, &book, &[client::STRAY], debts)?;
-    let ack = best(rt, &mut set, &book, &ACK_LAST, debts.saturating_mul(READ))?;
+    let stray = event_of(rt.alloc(), &book, client::STRAY)?;
+    let [ack, again] = ACK_LAST;
+    let ack = event_of(rt.alloc(), &book, ack)?;
+    let again = event_of(rt.alloc(), &book, again)?;
+    let stray = best(rt, &mut set, &book, &[stray], debts)?;
+    let ack = best(
+        rt,
+        &mut set,
+        &book,
+        &[ack, again],
+        debts.saturating_mul(READ),
+    )?;
     show(rt, set.states().len(), debts, stray, ack)
 }
 
@@ -88,7 +100,7 @@ fn best<M: Machine>(
     clock: &impl Clock,
     set: &mut StateSet<M>,
     book: &Book,
-    whats: &[What],
+    events: &[Event],
     debts: u64,
 ) -> io::Result<u128>
     requires start { set.old.moment ≡ 0 }
@@ -102,7 +114,7 @@ fn best<M: Machine>(
     let rounds = DEBTS.checked_div(work).unwrap_or(0).max(3);
     let mut least = u128::MAX;
     for tried in 0..TRIES {
-        least = least.min(timed(clock, set, book, whats, rounds)?);
+        least = least.min(timed(clock, set, book, events, rounds)?);
     }
     Ok(least)
 }
@@ -112,7 +124,7 @@ fn timed<M: Machine>(
     clock: &impl Clock,
     set: &mut StateSet<M>,
     book: &Book,
-    whats: &[What],
+    events: &[Event],
     rounds: u64,
 ) -> io::Result<u128>
     requires start { set.old.moment ≡ 0 }
@@ -122,7 +134,7 @@ fn timed<M: Machine>(
 {
     let start = Instant::now(clock)?;
     for round in 0..rounds {
-        hear_each(set, book, whats)?;
+        hear_each(set, book, events)?;
     }
     let nanos = start.elapsed(clock)?.as_nanos();
     Ok(

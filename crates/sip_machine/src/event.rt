@@ -1,5 +1,5 @@
 //! What happened at a moment: a message that was sent, received, or refused by the transport.
-ghost use Rattle.std.specs.Prelude.{◌≡◌, ◌≢◌, ◌≤◌, ◌↔◌, IsTrue, false};
+ghost use Rattle.std.specs.Prelude.{◌≡◌, ◌≢◌, ◌≤◌, ◌↔◌, IsTrue};
 ghost use Rattle.sip_message.specs.Transport.{is_reliable};
 ghost use Rattle.sip_message.specs.ValueParts.{start_parts};
 ghost use Rattle.sip_machine.specs.declared.event.Action.TheVariants.{Mark};
@@ -119,21 +119,6 @@ impl Model for Event {
 }
 
 impl Event {
-    /// An event over an unreliable transport, at a moment in milliseconds.
-    pub fn plain(moment: u64, action: Action, number: u32, kind: Kind) -> Event
-        requires action { action ≢ Mark }
-        requires limit { moment ≤ last_moment }
-        ensures { result ≡ record { moment = moment; action = action; number = number; kind = kind; reliable = false } }
-    {
-        Event {
-            moment,
-            action,
-            number,
-            kind,
-            reliable: false,
-        }
-    }
-
     /// The event of a message, at a moment in milliseconds. Its transport is that of the top Via.
     pub fn of(moment: u64, action: Action, number: u32, message: &Message<'_>) -> Event
         requires action { action ≢ Mark }

@@ -5,9 +5,19 @@ mod toy;
 
 use crate::tests::toy::Toy;
 use crate::{StateSet, TakeError};
-use sip_machine::{Action, Book, Event, Kind, Method, Params, PlainClient};
+use sip_machine::{Action, Book, Event, Params, PlainClient};
+use sip_message::Message;
 use std::alloc::Global;
 use std::test::Fail;
+
+const OPTIONS: &[u8] = b"OPTIONS sip:bob@example.com SIP/2.0\r\n\
+    Via: SIP/2.0/UDP a.example.com;branch=z9hG4bK1\r\n\
+    From: <sip:bob@example.com>;tag=1\r\n\
+    To: <sip:bob@example.com>\r\n\
+    Call-ID: c1@a\r\n\
+    CSeq: 1 OPTIONS\r\n\
+    Content-Length: 0\r\n\
+    \r\n";
 
 /// For T1 500, T2 4000, T4 5000 and a tolerance of 50: a request at 0 is repeated at 500, and then
 /// again by 1,550.
@@ -15,12 +25,13 @@ use std::test::Fail;
 fn waits_for_the_repeat(rt: HostRuntime) -> Result<(), Fail> {
     let alloc = rt.alloc();
     let mut book = Book::new(alloc);
-    let request = book.add(1, b"OPTIONS")?;
+    let request = book.add(1, OPTIONS)?;
+    let message = Message::read(alloc, OPTIONS)?;
     let params = Params::new(500, 4_000, 5_000, 50).ok_or("refused")?;
     let mut set = StateSet::start(alloc, PlainClient::new(params))?;
-    let first = Event::plain(0, Action::Sent, request, Kind::Request(Method::Other));
+    let first = Event::of(0, Action::Sent, request, &message);
     assert_eq!(rt; set.take(&book, &first), Ok(()));
-    let repeat = Event::plain(500, Action::Sent, request, Kind::Request(Method::Other));
+    let repeat = Event::of(500, Action::Sent, request, &message);
     assert_eq!(rt; set.take(&book, &repeat), Ok(()));
     set.advance(1_550)?;
     assert!(rt; !set.is_empty());
@@ -39,11 +50,12 @@ fn busy(alloc: Global, ends: bool) -> Result<StateSet<Toy>, Fail>
     ensures { IfOk result (λ set. set.moment ≡ 9000000000100) }
 {
     let mut book = Book::new(alloc);
-    let number = book.add(1, b"")?;
+    let number = book.add(1, OPTIONS)?;
+    let message = Message::read(alloc, OPTIONS)?;
     let mut set = StateSet::start(alloc, Toy { ends })?;
-    let early = Event::plain(EARLY, Action::Sent, number, Kind::Request(Method::Other));
+    let early = Event::of(EARLY, Action::Sent, number, &message);
     set.take(&book, &early).ok().ok_or("not taken")?;
-    let late = Event::plain(LATE, Action::Sent, number, Kind::Request(Method::Other));
+    let late = Event::of(LATE, Action::Sent, number, &message);
     set.take(&book, &late).ok().ok_or("not taken")?;
     Ok(set)
 }
@@ -80,14 +92,15 @@ fn waits_in_two_states(rt: HostRuntime) -> Result<(), Fail> {
 fn follows_1_024_states(rt: HostRuntime) -> Result<(), Fail> {
     let alloc = rt.alloc();
     let mut book = Book::new(alloc);
-    let number = book.add(1, b"")?;
+    let number = book.add(1, OPTIONS)?;
+    let message = Message::read(alloc, OPTIONS)?;
     let mut set = StateSet::start(alloc, Toy { ends: true })?;
     for moment in 1..1_025 {
-        let event = Event::plain(moment, Action::Sent, number, Kind::Request(Method::Other));
+        let event = Event::of(moment, Action::Sent, number, &message);
         assert_eq!(rt; set.take(&book, &event), Ok(()));
     }
     assert_eq!(rt; set.states().len(), 1_024);
-    let event = Event::plain(1_025, Action::Sent, number, Kind::Request(Method::Other));
+    let event = Event::of(1_025, Action::Sent, number, &message);
     assert_eq!(rt; set.take(&book, &event), Err(TakeError::TooMany));
     assert_eq!(rt; set.states().len(), 1_024);
     Ok(())

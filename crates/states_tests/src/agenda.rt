@@ -22,7 +22,7 @@ pub(crate) fn put<H: BuildHasher + Drop>(
     }
     let params = Params::new(500, 4_000, 5_000, 50).ok_or("refused")?;
     let mut set = StateSet::start(alloc, InviteServer::new(params))?;
-    play(&mut set, &book(alloc)?, entries)?;
+    play(alloc, &mut set, &book(alloc)?, entries)?;
     *tables.set_mut(number) = AnySet::InviteServer(set);
     Ok(())
 }

@@ -16,7 +16,7 @@ use std::test::Fail;
 
 /// Takes the entry, and a second time where memory was refused. The twin has the same states.
 fn take_again(
-    rt: &impl Abort,
+    rt: &(impl Abort + AllocGlobal),
     set: &mut StateSet<InviteServer>,
     twin: &mut StateSet<InviteServer>,
     book: &Book,
@@ -31,15 +31,16 @@ fn take_again(
     ensures known { OnOk result (All (Knows invite_server_names book.now) set.new.states) }
     ensures known_of_twin { OnOk result (All (Knows invite_server_names book.now) twin.new.states) }
 {
-    if let Err(error) = take(set, book, entry)? {
+    let alloc = rt.alloc();
+    if let Err(error) = take(alloc, set, book, entry)? {
         assert_eq!(rt; error, TakeError::Memory);
         assert!(rt; set.states() == twin.states());
-        take(set, book, entry)??;
-        take(twin, book, entry)??;
+        take(alloc, set, book, entry)??;
+        take(alloc, twin, book, entry)??;
         assert!(rt; set.states() == twin.states());
         return Err(error.into());
     }
-    take(twin, book, entry)??;
+    take(alloc, twin, book, entry)??;
     Ok(())
 }
 
@@ -56,7 +57,7 @@ fn entry_at(moment: u64) -> Entry
 
 /// Takes each of the entries so.
 fn take_all_again(
-    rt: &impl Abort,
+    rt: &(impl Abort + AllocGlobal),
     set: &mut StateSet<InviteServer>,
     twin: &mut StateSet<InviteServer>,
     book: &Book,

@@ -4,15 +4,16 @@ ghost use Rattle.sip_machine.specs.Rules.{Knows};
 ghost use Rattle.sip_machine.specs.Texts.{Keeps};
 ghost use Rattle.sip_machine.specs.InviteServer.{invite_server_names};
 
-use sip_machine::{Action, Book, Event, InviteServer, Kind, Method};
+use sip_machine::{Action, Book, Event, InviteServer};
+use sip_message::Message;
 use sip_states::{StateSet, TakeError};
 use std::alloc::{AllocError, Global};
 use std::test::Fail;
 
-/// An entry: its moment in milliseconds, what was done, the number of its message, and its kind.
-pub(crate) type Entry = (u64, Action, u32, Kind);
+/// An entry: its moment in milliseconds, what was done, and the number of its message.
+pub(crate) type Entry = (u64, Action, u32);
 
-const REQUEST: u32 = 1;
+const INVITE: u32 = 1;
 
 const RINGING: u32 = 2;
 
@@ -22,60 +23,68 @@ const BUSY: u32 = 4;
 
 const OK: u32 = 5;
 
+/// The bytes of a message of the INVITE transaction that begins so.
+fn text_of(alloc: Global, start: &str) -> Result<String, AllocError> {
+    format!(in alloc;
+        "{start}\r\nVia: SIP/2.0/UDP a.example.com;branch=z9hG4bKb1\r\n\
+        From: <sip:bob@example.com>;tag=1\r\nTo: <sip:bob@example.com>;tag=2\r\nCall-ID: c1@a\r\n\
+        CSeq: 1 INVITE\r\nContent-Length: 0\r\n\r\n"
+    )
+}
+
 /// The book with all messages of the entries.
 pub(crate) fn book(alloc: Global) -> Result<Book, AllocError> {
     let mut book = Book::new(alloc);
-    book.add(REQUEST, b"INVITE")?;
-    book.add(RINGING, b"SIP/2.0 180")?;
-    book.add(PROGRESS, b"SIP/2.0 183")?;
-    book.add(BUSY, b"SIP/2.0 486")?;
-    book.add(OK, b"SIP/2.0 200")?;
+    book.add(
+        INVITE,
+        text_of(alloc, "INVITE sip:bob@example.com SIP/2.0")?.as_bytes(),
+    )?;
+    book.add(RINGING, text_of(alloc, "SIP/2.0 180 Ringing")?.as_bytes())?;
+    book.add(PROGRESS, text_of(alloc, "SIP/2.0 183 Progress")?.as_bytes())?;
+    book.add(BUSY, text_of(alloc, "SIP/2.0 486 Busy")?.as_bytes())?;
+    book.add(OK, text_of(alloc, "SIP/2.0 200 OK")?.as_bytes())?;
     Ok(book)
 }
 
 pub(crate) fn invite(moment: u64) -> Entry
     ensures { result.0 ≡ moment }
 {
-    (
-        moment,
-        Action::Received,
-        REQUEST,
-        Kind::Request(Method::Invite),
-    )
+    (moment, Action::Received, INVITE)
 }
 
-fn sent(moment: u64, number: u32, code: u16) -> Entry
+fn sent(moment: u64, number: u32) -> Entry
     ensures { result.0 ≡ moment }
 {
-    (moment, Action::Sent, number, Kind::Response(code))
+    (moment, Action::Sent, number)
 }
 
 pub(crate) fn ringing(moment: u64) -> Entry
     ensures { result.0 ≡ moment }
 {
-    sent(moment, RINGING, 180)
+    sent(moment, RINGING)
 }
 
 pub(crate) fn progress(moment: u64) -> Entry
     ensures { result.0 ≡ moment }
 {
-    sent(moment, PROGRESS, 183)
+    sent(moment, PROGRESS)
 }
 
 pub(crate) fn busy(moment: u64) -> Entry
     ensures { result.0 ≡ moment }
 {
-    sent(moment, BUSY, 486)
+    sent(moment, BUSY)
 }
 
 pub(crate) fn ok(moment: u64) -> Entry
     ensures { result.0 ≡ moment }
 {
-    sent(moment, OK, 200)
+    sent(moment, OK)
 }
 
 /// What the set answers to the entry; an error where the entry does not fit the book.
 pub(crate) fn take(
+    alloc: Global,
     set: &mut StateSet<InviteServer>,
     book: &Book,
     entry: Entry,
@@ -85,19 +94,21 @@ pub(crate) fn take(
     ensures order { OnOk result (set.new.moment ≤ entry.0) }
     ensures known { OnOk result (All (Knows invite_server_names book.now) set.new.states) }
 {
-    let (moment, action, number, kind) = entry;
+    let (moment, action, number) = entry;
     if moment > 9_999_999_999_999 || action == Action::Mark {
         return Err("not an entry".into());
     }
-    let Some(_) = book.bytes(number) else {
+    let Some(bytes) = book.bytes(number) else {
         return Err("not kept".into());
     };
-    let event = Event::plain(moment, action, number, kind);
+    let message = Message::read(alloc, bytes)?;
+    let event = Event::of(moment, action, number, &message);
     Ok(set.take(book, &event))
 }
 
 /// Lets the set take the entries, and gives the moment of the last one.
 pub(crate) fn play(
+    alloc: Global,
     set: &mut StateSet<InviteServer>,
     book: &Book,
     entries: &[Entry],
@@ -112,7 +123,7 @@ pub(crate) fn play(
         if entry.0 < last {
             return Err("not in order".into());
         }
-        take(set, book, *entry)??;
+        take(alloc, set, book, *entry)??;
         last = entry.0;
     }
     Ok(last)

@@ -50,7 +50,7 @@ fn waits_as_timers_fire(rt: HostRuntime) -> Result<(), Fail> {
     let params = Params::new(500, 4_000, 5_000, 50).ok_or("refused")?;
     for (entries, limit, waits) in rows {
         let mut set = StateSet::start(alloc, InviteServer::new(params))?;
-        let last = play(&mut set, &book, entries)?;
+        let last = play(alloc, &mut set, &book, entries)?;
         if set.is_empty() {
             return Err("no state".into());
         }

@@ -6,6 +6,7 @@ ghost use Rattle.sip_machine.specs.InviteServer.{invite_server_names};
 use crate::played::{Entry, book, invite, progress, ringing, take};
 use sip_machine::{Book, InviteServer, Params};
 use sip_states::{StateSet, TakeError};
+use std::alloc::Global;
 use std::test::Fail;
 
 /// The entry with this number, which is one more than its moment: an INVITE, a 180, 40 repeats, a
@@ -21,27 +22,35 @@ fn entry_at(moment: u64) -> Entry
 }
 
 /// Lets the set take the entries before the sends of the 183.
-fn take_before_sends(set: &mut StateSet<InviteServer>, book: &Book) -> Result<(), Fail>
+fn take_before_sends(
+    alloc: Global,
+    set: &mut StateSet<InviteServer>,
+    book: &Book,
+) -> Result<(), Fail>
     requires start { set.old.moment ≡ 0 }
     requires known { All (Knows invite_server_names book.now) set.old.states }
     ensures order { OnOk result (set.new.moment ≤ 123) }
     ensures known { OnOk result (All (Knows invite_server_names book.now) set.new.states) }
 {
     for moment in 0..123 {
-        take(set, book, entry_at(moment))??;
+        take(alloc, set, book, entry_at(moment))??;
     }
     Ok(())
 }
 
 /// Lets the set take the next 23 entries, and tells whether each gives 41 states more.
-fn widens(set: &mut StateSet<InviteServer>, book: &Book) -> Result<bool, Fail>
+fn widens(
+    alloc: Global,
+    set: &mut StateSet<InviteServer>,
+    book: &Book,
+) -> Result<bool, Fail>
     requires order { set.old.moment ≤ 123 }
     requires known { All (Knows invite_server_names book.now) set.old.states }
     ensures order { OnOk result (set.new.moment ≤ 146) }
     ensures known { OnOk result (All (Knows invite_server_names book.now) set.new.states) }
 {
     for sends in 0..23 {
-        take(set, book, entry_at(123 + sends))??;
+        take(alloc, set, book, entry_at(123 + sends))??;
         if set.states().len() as u64 != 41 * (sends + 2) {
             return Ok(false);
         }
@@ -57,12 +66,12 @@ fn follows_984_states_and_not_1_025(rt: HostRuntime) -> Result<(), Fail> {
     let book = book(alloc)?;
     let params = Params::new(500, 4_000, 5_000, 10_000).ok_or("refused")?;
     let mut set = StateSet::start(alloc, InviteServer::new(params))?;
-    take_before_sends(&mut set, &book)?;
+    take_before_sends(alloc, &mut set, &book)?;
     assert_eq!(rt; set.states().len(), 41);
-    assert!(rt; widens(&mut set, &book)?);
+    assert!(rt; widens(alloc, &mut set, &book)?);
     assert_eq!(rt; set.states().len(), 984);
     assert_eq!(rt;
-        take(&mut set, &book, entry_at(146))?,
+        take(alloc, &mut set, &book, entry_at(146))?,
         Err(TakeError::TooMany)
     );
     assert_eq!(rt; set.states().len(), 984);

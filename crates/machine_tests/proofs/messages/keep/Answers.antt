@@ -1,7 +1,7 @@
 use Rattle.std.specs.Prelude.{◌<◌}
 use Rattle.std.proofs.Common.{inl, inr, arith}
 use Rattle.sip_machine.proofs.TextLaws.{Keeps-grow_cases}
-use Rattle.machine_tests.proofs.invite_client.keep.Goals as goal
+use Rattle.machine_tests.proofs.messages.keep.Goals as goal
 
 pub returns : goal.returns
 returns c = λ n keeps.

@@ -1,0 +1,96 @@
+//! Messages of one transaction, kept in a book, and their events.
+ghost use Rattle.std.specs.Prelude.{ℕ, IfOk, OnOk, ◌≤◌, ◌<◌};
+ghost use Rattle.sip_machine.specs.Heard.{FitsBook};
+ghost use Rattle.sip_machine.specs.Texts.{Keeps};
+
+use sip_machine::{Action, Book, Event};
+use sip_message::Message;
+use std::alloc::{AllocError, Global};
+use std::test::Fail;
+
+/// A request by its method, or a response by its code.
+#[derive(Clone, Copy)]
+pub(crate) enum Start {
+    Request(&'static str),
+    Response(u16),
+}
+
+/// A message by its number: how it begins, and its tag of To.
+pub(crate) type Numbered = (u32, Start, Option<u8>);
+
+/// The bytes of a message that begins so, with this tag of To. A response is one to this method.
+fn text_of(
+    alloc: Global,
+    start: Start,
+    tag: Option<u8>,
+    answered: &str,
+    transport: &str,
+) -> Result<String, AllocError> {
+    let (line, method) = match start {
+        Start::Request(method) => (
+            format!(in alloc; "{method} sip:example.com SIP/2.0")?,
+            method,
+        ),
+        Start::Response(code) => (format!(in alloc; "SIP/2.0 {code} Reply")?, answered),
+    };
+    let tag = match tag {
+        Some(tag) => format!(in alloc; ";tag={tag}")?,
+        None => String::new(alloc),
+    };
+    format!(in alloc;
+        "{line}\r\nVia: SIP/2.0/{transport} a.example.com;branch=z9hG4bKb1\r\n\
+        From: <sip:bob@example.com>;tag=1\r\nTo: <sip:bob@example.com>{tag}\r\nCall-ID: c1@a\r\n\
+        CSeq: 1 {method}\r\nContent-Length: 0\r\n\r\n"
+    )
+}
+
+/// Keeps a message under the next number.
+fn keep(book: &mut Book, number: u32, text: &str) -> Result<(), Fail>
+    requires { (n : ℕ) → Keeps book.old n → n < number }
+    ensures { OnOk result ((n : ℕ) → Keeps book.new n → n ≤ number) }
+{
+    book.add(number, text.as_bytes())?;
+    Ok(())
+}
+
+/// A book that keeps the messages over a transport. Its responses are to this method.
+pub(crate) fn book_of(
+    alloc: Global,
+    messages: &[Numbered],
+    answered: &str,
+    transport: &str,
+) -> Result<Book, Fail> {
+    let mut book = Book::new(alloc);
+    let mut last = 0;
+    for &(number, start, tag) in messages {
+        if number <= last {
+            return Err("out of order".into());
+        }
+        let text = text_of(alloc, start, tag, answered, transport)?;
+        keep(&mut book, number, text.as_str())?;
+        last = number;
+    }
+    Ok(book)
+}
+
+/// The event of a kept message.
+pub(crate) fn event_of(
+    alloc: Global,
+    book: &Book,
+    moment: u64,
+    action: Action,
+    number: u32,
+) -> Result<Event, Fail>
+    ensures { IfOk result (λ event. FitsBook book.now event) }
+{
+    let Some(bytes) = book.bytes(number) else {
+        return Err("not kept".into());
+    };
+    let Ok(message) = Message::read(alloc, bytes) else {
+        return Err("not a message".into());
+    };
+    if moment > 9_999_999_999_999 || action == Action::Mark {
+        return Err("not an entry".into());
+    }
+    Ok(Event::of(moment, action, number, &message))
+}

@@ -243,12 +243,7 @@ fn before_the_final_response(rt: HostRuntime) -> Result<(), Fail> {
             &[rings(owed), rings(None)],
         ),
         (
-            &[
-                first,
-                ringing(5),
-                invite(10),
-                (60, Action::Failed, RINGING),
-            ],
+            &[first, ringing(5), invite(10), (60, Action::Failed, RINGING)],
             &[rings(owed), rings(None)],
         ),
         (&[first, ringing(5), invite(10), ringing(61)], &[]),

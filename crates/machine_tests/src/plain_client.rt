@@ -90,13 +90,7 @@ fn before_the_final_response(rt: HostRuntime) -> Result<(), Fail> {
         (&[sent(0), sent(450)], trying(450, 1_000)),
         (&[sent(0), sent(550)], trying(550, 1_000)),
         (&[sent(0), sent(551)], None),
-        (
-            &[
-                sent(0),
-                (500, Action::Sent, OTHER),
-            ],
-            None,
-        ),
+        (&[sent(0), (500, Action::Sent, OTHER)], None),
         (
             &[sent(0), sent(500), sent(1_500), sent(3_500)],
             trying(3_500, 4_000),

@@ -240,11 +240,7 @@ fn before_the_final_response(rt: HostRuntime) -> Result<(), Fail> {
             &[Want::Proceeding(PROGRESS, one(must(PROGRESS, 60)))],
         ),
         (
-            &[
-                first,
-                ringing,
-                (20, Action::Received, FINAL),
-            ],
+            &[first, ringing, (20, Action::Received, FINAL)],
             &[Want::Proceeding(RINGING, NOTHING)],
         ),
     ];
@@ -366,11 +362,7 @@ fn ends(rt: HostRuntime) -> Result<(), Fail> {
             Some((31_960, Some(32_060))),
             Some(32_060),
         ),
-        (
-            &[first, sent(10, FINAL), received(500)],
-            None,
-            Some(550),
-        ),
+        (&[first, sent(10, FINAL), received(500)], None, Some(550)),
         (
             &[first, ringing, received(10), sent(20, FINAL)],
             Some((31_970, Some(32_070))),

@@ -43,11 +43,7 @@ pub fn hear<M: Machine>(set: &mut StateSet<M>, book: &Book, event: &Event) -> io
 }
 
 /// Lets the set take the events in turn.
-pub fn hear_each<M: Machine>(
-    set: &mut StateSet<M>,
-    book: &Book,
-    events: &[Event],
-) -> io::Result<()>
+pub fn hear_each<M: Machine>(set: &mut StateSet<M>, book: &Book, events: &[Event]) -> io::Result<()>
     requires start { set.old.moment ≡ 0 }
     requires known { All (Knows M.names book.now) set.old.states }
     ensures start { OnOk result (set.new.moment ≡ 0) }

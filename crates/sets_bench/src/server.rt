@@ -131,12 +131,7 @@ fn owe(
 }
 
 /// Sends the response so often, and once more.
-fn pay(
-    set: &mut StateSet<PlainServer>,
-    book: &Book,
-    sent: &Event,
-    times: u32,
-) -> io::Result<()>
+fn pay(set: &mut StateSet<PlainServer>, book: &Book, sent: &Event, times: u32) -> io::Result<()>
     requires start { set.old.moment ≡ 0 }
     requires known { All (Knows plain_server_names book.now) set.old.states }
     ensures start { OnOk result (set.new.moment ≡ 0) }

@@ -39,11 +39,7 @@ fn take_before_sends(
 }
 
 /// Lets the set take the next 23 entries, and tells whether each gives 41 states more.
-fn widens(
-    alloc: Global,
-    set: &mut StateSet<InviteServer>,
-    book: &Book,
-) -> Result<bool, Fail>
+fn widens(alloc: Global, set: &mut StateSet<InviteServer>, book: &Book) -> Result<bool, Fail>
     requires order { set.old.moment ≤ 123 }
     requires known { All (Knows invite_server_names book.now) set.old.states }
     ensures order { OnOk result (set.new.moment ≤ 146) }

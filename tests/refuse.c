@@ -1,0 +1,16 @@
+/* Loaded before the C library, it refuses one growth of memory: the one whose number, from 1 on, is in the environment as REFUSED_GROWTH. */
+#include <stdlib.h>
+
+extern void *__libc_malloc(size_t size);
+extern void *__libc_realloc(void *old, size_t size);
+
+static int is_refused(void) {
+  static long growth;
+  const char *refused = getenv("REFUSED_GROWTH");
+  growth++;
+  return refused && growth == atol(refused);
+}
+
+void *malloc(size_t size) { return is_refused() ? NULL : __libc_malloc(size); }
+
+void *realloc(void *old, size_t size) { return is_refused() ? NULL : __libc_realloc(old, size); }

@@ -1,5 +1,6 @@
 //! Moments worked out by hand.
-ghost use Rattle.std.specs.Prelude.{◌≡◌, IfOk};
+ghost use Rattle.std.specs.Prelude.{◌≡◌, ◌≤◌, IfOk};
+ghost use Rattle.sip_machine.specs.Times.{last_moment};
 
 mod toy;
 
@@ -19,6 +20,15 @@ const OPTIONS: &[u8] = b"OPTIONS sip:bob@example.com SIP/2.0\r\n\
     Content-Length: 0\r\n\
     \r\n";
 
+/// The request, under its number in a book, as it is sent at a moment.
+fn sent(alloc: Global, number: u32, moment: u64) -> Result<Event, Fail>
+    requires { moment ≤ last_moment }
+    ensures { IfOk result (λ event. (event.moment ≡ moment) × (event.number ≡ number)) }
+{
+    let message = Message::read(alloc, OPTIONS)?;
+    Ok(Event::of(moment, Action::Sent, number, &message))
+}
+
 /// For T1 500, T2 4000, T4 5000 and a tolerance of 50: a request at 0 is repeated at 500, and then
 /// again by 1,550.
 #[test]
@@ -26,12 +36,11 @@ fn waits_for_the_repeat(rt: HostRuntime) -> Result<(), Fail> {
     let alloc = rt.alloc();
     let mut book = Book::new(alloc);
     let request = book.add(1, OPTIONS)?;
-    let message = Message::read(alloc, OPTIONS)?;
     let params = Params::new(500, 4_000, 5_000, 50).ok_or("refused")?;
     let mut set = StateSet::start(alloc, PlainClient::new(params))?;
-    let first = Event::of(0, Action::Sent, request, &message);
+    let first = sent(alloc, request, 0)?;
     assert_eq!(rt; set.take(&book, &first), Ok(()));
-    let repeat = Event::of(500, Action::Sent, request, &message);
+    let repeat = sent(alloc, request, 500)?;
     assert_eq!(rt; set.take(&book, &repeat), Ok(()));
     set.advance(1_550)?;
     assert!(rt; !set.is_empty());
@@ -51,11 +60,10 @@ fn busy(alloc: Global, ends: bool) -> Result<StateSet<Toy>, Fail>
 {
     let mut book = Book::new(alloc);
     let number = book.add(1, OPTIONS)?;
-    let message = Message::read(alloc, OPTIONS)?;
     let mut set = StateSet::start(alloc, Toy { ends })?;
-    let early = Event::of(EARLY, Action::Sent, number, &message);
+    let early = sent(alloc, number, EARLY)?;
     set.take(&book, &early).ok().ok_or("not taken")?;
-    let late = Event::of(LATE, Action::Sent, number, &message);
+    let late = sent(alloc, number, LATE)?;
     set.take(&book, &late).ok().ok_or("not taken")?;
     Ok(set)
 }

@@ -47,20 +47,6 @@ PaysDebt-read texts ack invite t a i reads_a reads_i d =
     let same = AckOf-read ack invite (text_of texts d.message) a i reads_a reads_i in
     (λ acks. (same.0 acks.0, acks.1), λ pays. (same.1 pays.0, pays.1))
 
--- the list without the first element of which P holds
-pub IsWithoutFirst-at : {X : Type 0} (P : X → Type 0) (xs : List X) (i : ℕ) (d : X) → i < length xs →
-    All (λ x. ¬ (P x)) (take i xs) → P (get_or xs i d) → IsWithoutFirst P xs (remove xs i)
-IsWithoutFirst-at P xs i d low none holds =
-    record {
-      before = take i xs;
-      first = get_or xs i d;
-      after = drop (suc i) xs;
-      whole = sym (take-append-drop i xs) ∙ ap (λ rest. take i xs ++ rest) (drop-cons xs i d low);
-      holds = holds;
-      none_before = none;
-      rest = refl;
-    }
-
 -- what holds of the same elements has the same first one
 pub FindsFirst-same : {X : Type 0} (P Q : X → Type 0) → ((x : X) → P x ↔ Q x) → (xs : List X) (found : Option ℕ) →
     FindsFirst P xs found → FindsFirst Q xs found

@@ -1,5 +1,5 @@
 use Prim.Native.Nat.{suc}
-use Rattle.std.specs.Prelude.{◌<◌, ◌↔◌, ◌++◌, ℕ, Option, None, Some, Result, Ok, Err, IfOk, List, All, length, take, drop, remove}
+use Rattle.std.specs.Prelude.{◌≡◌, ◌<◌, ◌↔◌, ◌++◌, ℕ, Option, None, Some, Result, Ok, Err, IfOk, SomeIff, List, All, length, take, drop, remove}
 use Rattle.std.proofs.Common.{refl, sym, ◌∙◌, ap, get_or, drop-cons}
 use Rattle.std.proofs.lemmas.List.{take-append-drop}
 use Rattle.sip_message.specs.declared.fault.Fault.{Fault}
@@ -77,3 +77,8 @@ PaysDebt-no_ack texts ack invite t f fault ds = λ k d low pays. Reads-fault ack
 pub PaysDebt-no_invite : (texts : Texts) (ack invite : List ℕ) (t : ℕ) (f : Fault) → FaultOf invite (Some f) → (ds : List Debt) →
     All (λ d. ¬ (PaysDebt texts ack invite t d)) ds
 PaysDebt-no_invite texts ack invite t f fault ds = λ k d low pays. Reads-fault invite f fault pays.0.1 pays.0.4
+
+-- a sum that fits is the sum
+pub sum-told : (P : Type 0) (o : Option ℕ) (sum n : ℕ) → SomeIff o P sum → o ≡ Some n → n ≡ sum
+sum-told P None sum n told is = cc
+sum-told P (Some m) sum n told is = let same : m ≡ n = cc in sym same ∙ told.1

@@ -5,6 +5,7 @@ use Rattle.sip_machine.specs.Texts.{Keeps}
 use Rattle.sip_machine.specs.inner.Acks.{AcksDebt}
 use Rattle.sip_machine.specs.inner.Runs.{debts_of}
 use Rattle.sip_machine.proofs.RunsLemmas.{none, All-each, start_of, start_after, first_one, one_less}
+use Rattle.sip_machine.proofs.AckLemmas.{sum-told}
 use Rattle.sip_machine.proofs.invite_client.acks.first_of.Goals as goal
 
 pub pays-requires : goal.pays-requires
@@ -27,7 +28,8 @@ loop-run-preserved c =
     let runs = c.args.runs.now in
     let at = c.loop-run.run-index in
     let next = start_after runs at none c.loop-run-test.true in (
-      ?,
+      sum-told _ c.checked_add.result (c.loop-run.index + (get_or runs at none).count) c.in_ok-index.index c.checked_add.ensures c.in_ok-index.ensures.ok_part
+          ∙ ap (λ n. n + (get_or runs at none).count) c.loop-run.invariant.0 ∙ sym next,
       All-more (λ run. ¬ (P run.debt)) runs at none c.loop-run-test.true c.loop-run.invariant.1
           (λ pays. true≢false (sym (c.in_ok-pays.ensures.1 pays) ∙ c.if-branch.false)),
     )

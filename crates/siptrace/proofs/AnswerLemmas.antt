@@ -1,9 +1,9 @@
 -- What stays an answer where the writer keeps its bytes.
-use Rattle.std.proofs.Common.{◌∙◌, ℕ, List, Option, None, Some}
+use Rattle.std.proofs.Common.{◌≡◌, ◌∙◌, ℕ, List, Option, None, Some, IfSome, subst}
 use Rattle.std.specs.Io.KnownBytes.{Appends, Keeps}
 use Rattle.siptrace.specs.declared.asked.Asked.{Asked}
 use Rattle.siptrace.specs.declared.asked.Asked.TheVariants.{Input, Check, Show, States}
-use Rattle.siptrace.specs.Answers.{IsJudged, IsShown, IsListed, IsAnswer}
+use Rattle.siptrace.specs.Answers.{IsJudged, IsShown, IsListed, IsAnswer, IsAnswerTo}
 
 -- what was appended is appended still
 Appends-kept : (a b c : Option (List ℕ)) (bytes : List ℕ) → Appends a b bytes → Keeps b c → Appends a c bytes
@@ -31,3 +31,9 @@ IsAnswer-kept Input input a b c status it kept = IsJudged-kept input a b c statu
 IsAnswer-kept (Check path) input a b c status it kept = IsJudged-kept input a b c status it kept
 IsAnswer-kept (Show path) input a b c status it kept = IsShown-kept input a b c status it kept
 IsAnswer-kept (States path entry) input a b c status it kept = IsListed-kept entry input a b c status it kept
+
+-- an answer to the words that were given is one to those that are known, if they are the same
+pub IsAnswerTo-known : (known : Option (List (List ℕ))) (words : List (List ℕ)) (input : Option (List ℕ)) (file : List ℕ → Option (List ℕ)) (before after : Option (List ℕ)) (status : ℕ)
+    → IfSome known (λ theirs. words ≡ theirs) → IsAnswerTo words input file before after status → IfSome known (λ theirs. IsAnswerTo theirs input file before after status)
+IsAnswerTo-known None words input file before after status same it = tt
+IsAnswerTo-known (Some theirs) words input file before after status same it = subst (λ them. IsAnswerTo them input file before after status) same it

@@ -1,6 +1,7 @@
 //! The system that the program runs on, as std gives it.
 ghost use Rattle.std.specs.Prelude.{◌≡◌, false, None, drop, IfOk};
 ghost use Rattle.std.specs.Vec.Iter.{into_iter_items};
+ghost use Rattle.siptrace.specs.Reading.{left_of};
 
 use crate::system::System;
 use sip_log::{Broken, FromRead, Source};
@@ -8,35 +9,35 @@ use std::alloc::{AllocError, Global};
 use std::env::Args;
 use std::fs::File;
 use std::hash::RandomState;
-use std::rt::Stdin;
+use std::io::Read;
 use std::{env, io};
 
 /// What is read.
 #[derive(Drop)]
-enum Log {
-    Input(FromRead<Stdin>),
+enum Log<I> {
+    Input(FromRead<I>),
     File(FromRead<File>),
 }
 
-/// The system as std gives it. It tells no bytes and no words before it is asked, so this much is trusted, and stands in its few
-/// lines: that the words, the seed and the bytes are those that std gave, of the file at that path, and that `failed` is set only
-/// where std answered an error.
+/// The system as std gives it, with a reader as its standard input. std tells no words, and of no file which bytes it has, so this
+/// much is trusted, and stands in its few lines: that the words and the seed are those that std gave, that `open` opens the file at
+/// that path, and that `failed` is set only where std answered an error.
 #[derive(Drop)]
-pub struct Host {
+pub struct Host<I: Drop> {
     rt: HostRuntime,
-    log: Log,
+    log: Log<I>,
     failed: bool,
 }
 
-impl Host {
+impl<I: Read + Drop> Host<I> {
     /// The system of `main`, with its standard input.
-    pub fn new(rt: HostRuntime) -> Host
-        ensures { ⟦<Host as Source>⟧.has_failed result ≡ false }
+    pub fn new(rt: HostRuntime, input: I) -> Host<I>
+        ensures input { ⟦<Host<I> as Source>⟧.left result ≡ I.remaining input }
+        ensures fine { ⟦<Host<I> as Source>⟧.has_failed result ≡ false }
     {
-        let log = Log::Input(FromRead::new(rt.stdin()));
         Host {
             rt,
-            log,
+            log: Log::Input(FromRead::new(input)),
             failed: false,
         }
     }
@@ -54,8 +55,8 @@ fn words(rt: &HostRuntime) -> io::Result<Vec<String>> {
     Ok(behind_name(rt.alloc(), env::args(rt)?)?)
 }
 
-impl Source for Host {
-    ghost left = { λ _. None };
+impl<I: Read + Drop> Source for Host<I> {
+    ghost left = { λ host. left_of ⟦<FromRead<I> as Source>⟧.left host.log };
 
     ghost has_failed = { λ host. host.failed };
 
@@ -73,7 +74,7 @@ impl Source for Host {
     }
 }
 
-impl System for Host {
+impl<I: Read + Drop> System for Host<I> {
     ghost words = { λ _. None };
 
     ghost file = { λ _ _. None };

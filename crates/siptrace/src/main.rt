@@ -6,11 +6,12 @@
 //! where it does not understand its words.
 #![tactic(auto)]
 
-ghost use Rattle.std.specs.Prelude.{◌≡◌, ◌↔◌, ℕ, List, Option, None, false, true, map, string_bytes, IfSome, OnOk, IfOk, IfErr, IsErrOf};
+ghost use Rattle.std.specs.Prelude.{◌≡◌, None, false, true, IfSome, OnOk, IfOk, IfErr, IsErrOf};
 ghost use Rattle.siptrace.specs.Answers.{IsAnswer, IsAnswerTo, log_for};
 ghost use Rattle.siptrace.specs.Asked.{IsAskedBy};
 ghost use Rattle.siptrace.specs.Failures.{Blames};
-ghost use Rattle.siptrace.specs.declared.failure.Failure.TheVariants.{Read, Usage};
+ghost use Rattle.siptrace.specs.Sent.{sent};
+ghost use Rattle.siptrace.specs.declared.failure.Failure.TheVariants.{Read, Usage, Write};
 
 mod answering;
 mod asked;
@@ -65,47 +66,35 @@ fn answer<S: System, W: Sink>(
     }
 }
 
-/// Writes what the words ask for. The answer is its status, and the writer that has it all.
+/// Writes what the words of the system ask for, to the last byte. The answer is its status.
 fn run<S: System, W: Write + Drop>(
     alloc: Global,
     system: &mut S,
-    words: &[String],
-    writer: W,
-) -> Result<(u8, W), Failure>
+    output: &mut Output<W>,
+) -> Result<u8, Failure>
     requires { S.has_failed system.old ≡ false }
-    ensures answer { IfOk result (λ done. IsAnswerTo (map string_bytes words.now) (S.left system.old) (S.file system.old) (W.contents writer) (W.contents done.1) done.0) }
-    ensures fine { OnOk result (S.has_failed system.new ≡ false) }
-    ensures words { IsErrOf result Usage ↔ IsAskedBy (map string_bytes words.now) None }
-    ensures read { IsErrOf result Read → S.has_failed system.new ≡ true }
-{
-    let Some(asked) = asked_by(words) else {
-        return Err(Failure::Usage);
-    };
-    let mut output = Output::new(alloc, writer).map_err(read_failure)?;
-    let status = answer(alloc, system, asked, &mut output)?;
-    let writer = output.finish().map_err(|_| Failure::Write)?;
-    Ok((status, writer))
-}
-
-/// Writes what the words of the system ask for. The answer is its status, and the writer that has it all.
-fn run_on<S: System, W: Write + Drop>(
-    alloc: Global,
-    system: &mut S,
-    writer: W,
-) -> Result<(u8, W), Failure>
-    requires { S.has_failed system.old ≡ false }
-    ensures answer { IfOk result (λ done. IfSome (S.words system.old) (λ words. IsAnswerTo words (S.left system.old) (S.file system.old) (W.contents writer) (W.contents done.1) done.0)) }
-    ensures fine { OnOk result (S.has_failed system.new ≡ false) }
+    ensures answer { IfOk result (λ status. IfSome (S.words system.old) (λ words. IsAnswerTo words (S.left system.old) (S.file system.old) (⟦<Output<W> as Sink>⟧.written output.old) (sent W.contents output.new) status)) }
+    ensures fine { OnOk result ((S.has_failed system.new ≡ false) × (⟦<Output<W> as Sink>⟧.has_failed output.new ≡ ⟦<Output<W> as Sink>⟧.has_failed output.old)) }
     ensures words { IsErrOf result Usage → IfSome (S.words system.old) (λ words. IsAskedBy words None) }
     ensures read { IsErrOf result Read → S.has_failed system.new ≡ true }
+    ensures write { IsErrOf result Write → ⟦<Output<W> as Sink>⟧.has_failed output.new ≡ true }
 {
     let words = system.words().map_err(read_failure)?;
-    run(alloc, system, words.as_slice(), writer)
+    let Some(asked) = asked_by(words.as_slice()) else {
+        return Err(Failure::Usage);
+    };
+    let status = answer(alloc, system, asked, output)?;
+    output.flush()?;
+    Ok(status)
 }
 
 fn main(rt: HostRuntime) -> ExitCode {
-    match run_on(rt.alloc(), &mut Host::new(rt), rt.stdout()) {
-        Ok((status, _)) => ExitCode::from(status),
+    let ended = match Output::new(rt.alloc(), rt.stdout()) {
+        Ok(mut output) => run(rt.alloc(), &mut Host::new(rt, rt.stdin()), &mut output),
+        Err(error) => Err(read_failure(error)),
+    };
+    match ended {
+        Ok(status) => ExitCode::from(status),
         Err(failure) => {
             let _ = eprintln!(rt; "siptrace: {failure}");
             ExitCode::from(status_without(&failure))

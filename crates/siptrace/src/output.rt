@@ -1,9 +1,10 @@
 //! Where the answer goes.
-ghost use Rattle.std.specs.Prelude.{◌≡◌, true, false, IfOk, IfErr};
+ghost use Rattle.std.specs.Prelude.{◌≡◌, true, false, IfOk, IfErr, OnOk, OnErr};
 ghost use Rattle.std.specs.IoError.{error_kind};
 ghost use Rattle.std.specs.Io.Buffered.{writer_contents};
 ghost use Rattle.std.specs.Io.KnownBytes.{Keeps};
 ghost use Rattle.std.specs.declared.io.ErrorKind.TheVariants.{OutOfMemory};
+ghost use Rattle.siptrace.specs.Sent.{sent};
 
 use sip_log::{Broken, Sink};
 use std::alloc::Global;
@@ -34,18 +35,16 @@ impl<W: Write + Drop> Output<W> {
         })
     }
 
-    /// The writer, which has all that was put then; or the sink, where the writer failed.
-    pub fn finish(mut self) -> Result<W, Output<W>>
-        ensures written { IfOk result (λ writer. Keeps (⟦<Output<W> as Sink>⟧.written self) (W.contents writer)) }
-        ensures err { IfErr result (λ output. ⟦<Output<W> as Sink>⟧.has_failed output ≡ true) }
+    /// Hands its writer all that was put. A writer that fails has a front of it.
+    pub fn flush(&mut self) -> Result<(), Broken>
+        ensures sent { OnOk result (Keeps (⟦<Output<W> as Sink>⟧.written self.old) (sent W.contents self.new)) }
+        ensures kept { Keeps (⟦<Output<W> as Sink>⟧.written self.old) (⟦<Output<W> as Sink>⟧.written self.new) }
+        ensures ok { OnOk result (⟦<Output<W> as Sink>⟧.has_failed self.new ≡ ⟦<Output<W> as Sink>⟧.has_failed self.old) }
+        ensures err { OnErr result (⟦<Output<W> as Sink>⟧.has_failed self.new ≡ true) }
     {
-        if self.writer.flush().is_err() {
-            self.failed = true;
-            return Err(self);
-        }
-        let Output { writer, failed: _ } = self;
-        let (writer, _) = writer.into_parts();
-        Ok(writer)
+        let flushed = self.writer.flush();
+        self.failed |= flushed.is_err();
+        flushed.map_err(|_| Broken)
     }
 }
 

@@ -50,11 +50,6 @@ fn behind_name(alloc: Global, args: Args) -> Result<Vec<String>, AllocError>
     args.skip(1).collect(alloc)
 }
 
-/// The words behind the program's name.
-fn words(rt: &HostRuntime) -> io::Result<Vec<String>> {
-    Ok(behind_name(rt.alloc(), env::args(rt)?)?)
-}
-
 impl<I: Read + Drop> Source for Host<I> {
     ghost left = { λ host. left_of ⟦<FromRead<I> as Source>⟧.left host.log };
 
@@ -82,7 +77,8 @@ impl<I: Read + Drop> System for Host<I> {
     type Seed = RandomState;
 
     fn words(&mut self) -> io::Result<Vec<String>> {
-        let words = words(&self.rt);
+        let alloc = self.rt.alloc();
+        let words = env::args(&self.rt).and_then(|args| Ok(behind_name(alloc, args)?));
         self.failed |= words.is_err();
         words
     }

@@ -20,6 +20,7 @@ pub fn cut_token(text: &[u8]) -> Option<(&[u8], &[u8])>
 }
 
 /// What is behind the mark at the front: blanks, the byte, and blanks.
+#[inline]
 pub fn past_mark(text: &[u8], mark: u8) -> Option<&[u8]>
     requires { is_blank mark ≡ false }
     ensures { IsOnlyValue (MarkFront mark) text_parts text.now result }

@@ -66,6 +66,7 @@ fn cut_value(text: &[u8]) -> Option<(&[u8], &[u8])>
 }
 
 /// The quoted string at the front, with its quotes; no blank stands before it.
+#[inline]
 pub(crate) fn cut_quoted(text: &[u8]) -> Option<(&[u8], &[u8])>
     ensures { IsOnlyValue QuotedFront pair_parts text.now result }
 {

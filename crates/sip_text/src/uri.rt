@@ -10,6 +10,7 @@ use crate::case::same_text;
 use crate::class::{Class, all_in, has, run_len};
 use crate::cut::{cut, cut_last, past};
 use crate::host::{Host, read_host};
+use crate::token::are_token_bytes;
 
 /// A URI (RFC 3261, section 25.1), in slices of its text.
 #[derive(Clone, Copy, Debug, PartialEq, Eq)]
@@ -50,11 +51,9 @@ pub fn read_uri(text: &[u8]) -> Option<Uri<'_>>
 {
     let (scheme, rest) = cut(text, b':');
     let rest = rest?;
-    if same_text(scheme, b"sip") {
-        return read_sip(false, rest);
-    }
-    if same_text(scheme, b"sips") {
-        return read_sip(true, rest);
+    let is_sip = same_text(scheme, b"sip");
+    if is_sip || same_text(scheme, b"sips") {
+        return read_sip(!is_sip, rest);
     }
     if is_scheme(scheme) && is_some_chars(Class::Uric, rest) {
         Some(Uri::Other { scheme, rest })
@@ -108,7 +107,7 @@ fn cut_sip(text: &[u8]) -> Cuts<'_>
     ensures { IsSipCut text.now (cut_parts result) }
 {
     let (user, password, rest) = cut_userinfo(text);
-    if all_in(Class::Token, rest) {
+    if are_token_bytes(rest) {
         return Cuts {
             user,
             password,

@@ -20,7 +20,7 @@ pub fn cut_token(text: &[u8]) -> Option<(&[u8], &[u8])>
 }
 
 /// What is behind the mark at the front: blanks, the byte, and blanks.
-#[inline]
+#[inline(always)]
 pub fn past_mark(text: &[u8], mark: u8) -> Option<&[u8]>
     requires { is_blank mark ≡ false }
     ensures { IsOnlyValue (MarkFront mark) text_parts text.now result }
@@ -64,6 +64,7 @@ fn may_begin_blank(text: &[u8]) -> bool
 }
 
 // The same for any text.
+#[inline(never)]
 fn past_blanks(text: &[u8]) -> &[u8]
     ensures { IsOnlyBehind text.now result.now }
 {

@@ -79,6 +79,7 @@ pub(crate) fn cut_quoted(text: &[u8]) -> Option<(&[u8], &[u8])>
 }
 
 // The IPv6 address in brackets at the front.
+#[inline(always)]
 fn cut_reference(text: &[u8]) -> Option<(&[u8], &[u8])>
     ensures { IsOnlyValue ReferenceFront pair_parts text.now result }
 {
@@ -88,6 +89,7 @@ fn cut_reference(text: &[u8]) -> Option<(&[u8], &[u8])>
 }
 
 /// What stands at the front from a `[` to the first `]`.
+#[inline(always)]
 pub(crate) fn cut_brackets(text: &[u8]) -> Option<(&[u8], &[u8])>
     ensures { IsOnlyValue BracketFront pair_parts text.now result }
 {

@@ -1,10 +1,18 @@
 -- A Call-ID is cut at its first "@".
-use Rattle.std.proofs.Common.{◌≡◌, Bool, List, ℕ, Option, IfSome, refl, sym, subst}
+use Rattle.std.proofs.Common.{◌≡◌, ◌<◌, ◌&&◌, ◌++◌, Bool, true, List, [], ◌∷◌, ℕ, drop, length, get_or, Fits, w8, Option, IfSome, refl, sym, ap, ◌∙◌, subst, inl, inr}
 use Rattle.std.specs.Bool.{Decides}
+use Rattle.std.specs.List.{list_all}
+use Rattle.std.proofs.lemmas.Bool.{agree_below_at, and_parts, and_from}
+use Rattle.std.proofs.lemmas.List.Folds.{list_all-append}
+use Rattle.std.proofs.lemmas.Simd.{Each1-from_get_or}
+use lib.Lanes.{Each1}
 use Rattle.std.proofs.lemmas.Bool.Decides.{Decides-like}
-use Rattle.sip_text.specs.Bytes.{at_sign}
-use Rattle.sip_text.specs.Text.{One}
+use Rattle.sip_text.specs.Bytes.{at_sign, is_token_byte}
+use Rattle.sip_text.specs.Text.{One, IsLongestFront}
+use Rattle.sip_text.specs.Grammar.{Token}
 use Rattle.sip_text.specs.Cut.{before, behind}
+use Rattle.sip_text.proofs.ManyLemmas.{many-some, drop-front}
+use Rattle.sip_text.proofs.RunLemmas.{run-list_all}
 use Rattle.sip_text.proofs.LacksLemmas.{AllLack, lack-one, lack-some}
 use Rattle.sip_text.proofs.UriPartLemmas.{cut-optional, optional-cut}
 use Rattle.sip_message.specs.Values.{is_word_byte, Word, CallIdText}
@@ -20,3 +28,30 @@ decides-call_id text word more r word_is more_is =
     (λ whole.
     let both = cut-optional at_sign Word Word text lack-word whole in
     (subst Word (sym word_is) both.0, subst (λ o. IfSome o Word) (sym more_is) both.1))
+
+-- a byte of a token is one of a word
+token-word : (b : ℕ) → b < 256 → is_token_byte b ≡ true → is_word_byte b ≡ true
+token-word b below is =
+    (and_parts (is_token_byte b) (is_word_byte b) (agree_below_at (λ x. is_token_byte x && is_word_byte x) is_token_byte 256 b refl below ∙ is)).1
+
+token-words : (u v : List ℕ) → Each1 (Fits w8) (u ++ v) → list_all is_token_byte u ≡ true → list_all is_word_byte u ≡ true
+token-words [] v fits all = refl
+token-words (b ∷ u) v fits all =
+    let both = and_parts (is_token_byte b) (list_all is_token_byte u) all in
+    and_from _ _ (token-word b fits.0.fits both.0) (token-words u v fits.1 both.1)
+
+-- the bytes of a token at the front need not be looked at
+pub words-behind : (text : List ℕ) (n : ℕ) → ((k : ℕ) → Fits w8 (get_or text k 0)) → IsLongestFront Token text n → list_all is_word_byte (drop n text) ≡ list_all is_word_byte text
+words-behind text n fits longest =
+    elim longest.front [
+      | inl none ↦ ap (λ m. list_all is_word_byte (drop m text)) none
+      | inr front ↦
+          let u = front.0 in
+          let v = front.1 in
+          let whole : text ≡ u ++ v = front.3 in
+          let each = subst (Each1 (Fits w8)) whole (Each1-from_get_or (Fits w8) text 0 (λ k lt. fits k)) in
+          let words = token-words u v each (run-list_all is_token_byte u (many-some (One is_token_byte) u front.2)) in
+          ap (λ m. list_all is_word_byte (drop m text)) front.4 ∙ ap (λ t. list_all is_word_byte (drop (length u) t)) whole
+          ∙ ap (list_all is_word_byte) (drop-front u v)
+          ∙ sym (ap (list_all is_word_byte) whole ∙ list_all-append is_word_byte u v ∙ ap (λ r. r && list_all is_word_byte v) words)
+    ]

@@ -33,6 +33,7 @@ fn past_params(text: &[u8]) -> &[u8]
 }
 
 /// The parameter at the front, its name and its value if it has one, and what is behind it.
+#[inline(always)]
 pub(crate) fn cut_param(text: &[u8]) -> Option<(&[u8], Option<&[u8]>, &[u8])>
     ensures { IsOnlyValue ParamFront param_parts text.now result }
 {
@@ -42,6 +43,7 @@ pub(crate) fn cut_param(text: &[u8]) -> Option<(&[u8], Option<&[u8]>, &[u8])>
 }
 
 // The value at the front, behind its `=` if there is one.
+#[inline(always)]
 fn cut_led_value(text: &[u8]) -> Option<(Option<&[u8]>, &[u8])>
     ensures { IsOnlyValue (LedFront equals ValueFront) led_parts text.now result }
 {
@@ -53,6 +55,7 @@ fn cut_led_value(text: &[u8]) -> Option<(Option<&[u8]>, &[u8])>
 }
 
 // The value of a parameter at the front.
+#[inline(always)]
 fn cut_value(text: &[u8]) -> Option<(&[u8], &[u8])>
     ensures { IsOnlyValue ValueFront pair_parts text.now result }
 {
@@ -66,6 +69,7 @@ fn cut_value(text: &[u8]) -> Option<(&[u8], &[u8])>
 }
 
 /// The quoted string at the front, with its quotes; no blank stands before it.
+#[inline(always)]
 pub(crate) fn cut_quoted(text: &[u8]) -> Option<(&[u8], &[u8])>
     ensures { IsOnlyValue QuotedFront pair_parts text.now result }
 {
@@ -75,6 +79,7 @@ pub(crate) fn cut_quoted(text: &[u8]) -> Option<(&[u8], &[u8])>
 }
 
 // The IPv6 address in brackets at the front.
+#[inline(always)]
 fn cut_reference(text: &[u8]) -> Option<(&[u8], &[u8])>
     ensures { IsOnlyValue ReferenceFront pair_parts text.now result }
 {
@@ -84,6 +89,7 @@ fn cut_reference(text: &[u8]) -> Option<(&[u8], &[u8])>
 }
 
 /// What stands at the front from a `[` to the first `]`.
+#[inline(always)]
 pub(crate) fn cut_brackets(text: &[u8]) -> Option<(&[u8], &[u8])>
     ensures { IsOnlyValue BracketFront pair_parts text.now result }
 {
@@ -106,6 +112,7 @@ fn cut_bare(text: &[u8]) -> Option<(&[u8], &[u8])>
 }
 
 // The same from all bytes of tokens and colons at the front.
+#[inline(never)]
 fn cut_bare_run(text: &[u8]) -> Option<(&[u8], &[u8])>
     ensures { IsOnlyValue BareFront pair_parts text.now result }
 {

@@ -79,12 +79,12 @@ fn solid_len(text: &[u8]) -> usize
     len
 }
 
-// A byte of a blank run.
+// A byte of a blank run. Most bytes are above all of these.
 #[inline]
 fn is_blank(byte: u8) -> bool
     ensures { result ≡ is_blank byte }
 {
-    matches!(byte, b' ' | b'\t' | b'\r' | b'\n')
+    byte <= b' ' && matches!(byte, b' ' | b'\t' | b'\r' | b'\n')
 }
 
 // Whether the text is a blank run, or empty.

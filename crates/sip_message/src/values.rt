@@ -10,7 +10,7 @@ ghost use Rattle.sip_message.specs.ValueParts.{cseq_parts};
 
 use crate::cursor::cut;
 use crate::params::is_token;
-use sip_text::skip_lws;
+use sip_text::{skip_lws, token_len};
 
 /// The value of CSeq (RFC 3261, section 20.16).
 #[derive(Clone, Copy, Debug, PartialEq, Eq)]
@@ -100,11 +100,12 @@ pub(crate) fn is_call_id(text: &[u8]) -> bool
     }
 }
 
-// Whether the text is a word.
+// Whether the text is a word. The bytes of a token at its front are those of a word, and most words
+// have no others.
 fn is_word(text: &[u8]) -> bool
     ensures { IsTrue result ↔ Word text.now }
 {
-    !text.is_empty() && are_word_bytes(text)
+    !text.is_empty() && are_word_bytes(&text[token_len(text)..])
 }
 
 // Whether each byte is one of a word.

@@ -1,9 +1,11 @@
 -- Runs of bytes of one class: the longest front that passes a test.
-use Rattle.std.proofs.Common.{◌≡◌, ℕ, ◌+◌, ◌≤◌, ◌⊎◌, Bool, true, false, List, [], ◌∷◌, ◌++◌, length, cond, refl, ap, ◌∙◌, inl, inr, arith}
+use Rattle.std.proofs.Common.{◌≡◌, ℕ, ◌+◌, ◌≤◌, ◌⊎◌, Bool, true, false, List, [], ◌∷◌, ◌++◌, length, cond, nat_eq, refl, sym, ap, ◌∙◌, inl, inr, arith}
 use Rattle.std.specs.List.{AllByRecursion, concat, prefix_len, list_all}
-use Rattle.std.proofs.lemmas.Bool.{and_from, and_parts}
+use Rattle.std.proofs.lemmas.Bool.{and_from, and_parts, eq-eqb, eqb-true}
+use Rattle.std.proofs.lemmas.List.{append-nil}
+use Rattle.std.proofs.lemmas.List.Sums.{prefix_len-le-length}
 use Rattle.sip_text.specs.Text.{One, Many, OneOrMore, HasFront, IsLongestFront}
-use Rattle.sip_text.proofs.ManyLemmas.{many-cons, many-nil, many-some}
+use Rattle.sip_text.proofs.ManyLemmas.{many-cons, many-nil, many-some, front-whole}
 
 -- a run of bytes of the class passes the test throughout
 pub run-list_all : (test : ℕ → Bool) (text : List ℕ) → Many (One test) text → list_all test text ≡ true
@@ -74,3 +76,24 @@ longest-run test text = record {
           omega (arith, rest.4),
         )
         at false is = inl refl
+
+-- there is one longest front
+pub longest-same : (P : List ℕ → Type 0) (text : List ℕ) (n m : ℕ) → IsLongestFront P text n → IsLongestFront P text m → n ≡ m
+longest-same P text n m one other = omega (arith, within n m one.front other, within m n other.front one)
+  where
+    within : (k l : ℕ) → (k ≡ 0) ⊎ HasFront P text k → IsLongestFront P text l → k ≤ l
+    within k l (inl none) longest = omega (arith, none)
+    within k l (inr front) longest = longest.longest k front
+
+-- the longest run is the whole text exactly if the text passes the test throughout
+pub run-whole : (test : ℕ → Bool) (text : List ℕ) (n : ℕ) → n ≡ prefix_len test text → nat_eq n (length text) ≡ list_all test text
+run-whole test text n is = agree (nat_eq n (length text)) (list_all test text)
+    (λ whole. run-list_all test text (front-whole (Many (One test)) text (prefix_len test text) (run-front test text) (sym is ∙ eqb-true n (length text) whole)))
+    (λ all.
+    let front : HasFront (Many (One test)) text (length text) = (text, [], list_all-run test text all, sym (append-nil text), refl) in
+    eq-eqb n (length text) (omega (arith, is, run-longest test text (length text) front, prefix_len-le-length test text)))
+  where
+    agree : (r s : Bool) → (r ≡ true → s ≡ true) → (s ≡ true → r ≡ true) → r ≡ s
+    agree true s there back = sym (there refl)
+    agree false false there back = refl
+    agree false true there back = back refl

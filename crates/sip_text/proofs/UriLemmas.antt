@@ -1,5 +1,5 @@
 -- A URI is cut at its first ":", and its scheme says which it is.
-use Rattle.std.proofs.Common.{◌≡◌, ℕ, Bool, true, false, nat_eq, List, [], ◌∷◌, ◌++◌, Option, None, Some, Bor, option_copied, refl, sym, ap, ◌∙◌, subst}
+use Rattle.std.proofs.Common.{◌≡◌, ℕ, Bool, true, false, not, nat_eq, List, [], ◌∷◌, ◌++◌, Option, None, Some, Bor, option_copied, refl, sym, ap, ◌∙◌, subst}
 use Rattle.std.specs.Char.{is_ascii_alphabetic, to_ascii_lowercase}
 use Rattle.std.proofs.lemmas.Bool.{both_ways, eqb-true}
 use Rattle.sip_text.specs.Bytes.{colon, is_scheme_byte}
@@ -93,6 +93,11 @@ read-sip secure text scheme rest (Some uri) cut same only = (
   sip-uri secure text scheme rest (uri_parts uri) cut same only.0,
   λ x fits. only.1 x (uri-sip secure text scheme rest x cut same fits),
 )
+
+-- a scheme that is one of the two, where it is told which
+pub named-so : (is_sip : Bool) (scheme : List ℕ) → (is_sip ≡ true → SameText scheme (scheme_name false)) → (is_sip ≡ false → SameText scheme (scheme_name true)) → SameText scheme (scheme_name (not is_sip))
+named-so true scheme sip_named sips_named = sip_named refl
+named-so false scheme sip_named sips_named = sips_named refl
 
 -- a scheme that is neither
 pub not-sip : (scheme : List ℕ) → (SameText scheme (scheme_name false) → ⊥) → (SameText scheme (scheme_name true) → ⊥) → (secure : Bool) → SameText scheme (scheme_name secure) → ⊥

@@ -1,6 +1,6 @@
 //! Tokens.
 ghost use Rattle.std.specs.Prelude.{◌≡◌, ◌+◌, ◌/◌, ◌≤◌, length, map, slice_index, bit_and};
-ghost use Rattle.std.specs.List.{prefix_len};
+ghost use Rattle.std.specs.List.{list_all, prefix_len};
 ghost use Rattle.std.specs.Simd.Lanes.{chunk};
 ghost use Rattle.sip_text.specs.Bytes.{is_token_byte};
 ghost use Rattle.sip_text.specs.declared.token.TheConstants.{LOW, HIGH};
@@ -11,20 +11,32 @@ use crate::class::{Class, run_len};
 use std::simd::prelude::*;
 
 /// The length in bytes of the longest front of the text that is a `token` (RFC 3261, section 25.1),
-/// and 0 if there is none.
+/// and 0 if there is none. The last block that is looked at may begin within the one before it.
 pub fn token_len(text: &[u8]) -> usize
     ensures reads { IsLongestFront Token text.now result }
     ensures within { result ≤ length text.now }
 {
-    let mut at = 0;
-    while text.len() - at >= BLOCK {
-        let step = block_len(text, at);
-        at += step;
-        if step < BLOCK {
-            return at;
-        }
+    if text.len() < BLOCK {
+        return run_len(Class::Token, text);
     }
-    at + run_len(Class::Token, &text[at..])
+    let last = text.len() - BLOCK;
+    let mut at = 0;
+    while at < last {
+        let step = block_len(text, at);
+        if step < BLOCK {
+            return at + step;
+        }
+        at += BLOCK;
+    }
+    last + block_len(text, last)
+}
+
+/// Whether each byte is one of a token.
+#[inline]
+pub fn are_token_bytes(text: &[u8]) -> bool
+    ensures { result ≡ list_all is_token_byte text.now }
+{
+    token_len(text) == text.len()
 }
 
 // How many bytes are looked at at once.

@@ -10,6 +10,7 @@ use crate::case::same_text;
 use crate::class::{Class, all_in, has, run_len};
 use crate::cut::{cut, cut_last, past};
 use crate::host::{Host, read_host};
+use crate::token::are_token_bytes;
 
 /// A URI (RFC 3261, section 25.1), in slices of its text.
 #[derive(Clone, Copy, Debug, PartialEq, Eq)]
@@ -45,16 +46,15 @@ pub enum Uri<'a> {
 /// A SIP URI is cut into its parts in the only way there is. A port has one to five digits and is at
 /// most 65535. Any other URI is a scheme that is neither `sip` nor `sips`, compared without case, a
 /// `:` and one or more `uric`, whatever the scheme asks of them.
+#[inline(always)]
 pub fn read_uri(text: &[u8]) -> Option<Uri<'_>>
     ensures { IsOnlyValue UriText uri_parts text.now result }
 {
     let (scheme, rest) = cut(text, b':');
     let rest = rest?;
-    if same_text(scheme, b"sip") {
-        return read_sip(false, rest);
-    }
-    if same_text(scheme, b"sips") {
-        return read_sip(true, rest);
+    let is_sip = same_text(scheme, b"sip");
+    if is_sip || same_text(scheme, b"sips") {
+        return read_sip(!is_sip, rest);
     }
     if is_scheme(scheme) && is_some_chars(Class::Uric, rest) {
         Some(Uri::Other { scheme, rest })
@@ -75,6 +75,7 @@ struct Cuts<'a> {
 }
 
 // The SIP URI whose scheme this text follows.
+#[inline(always)]
 fn read_sip(secure: bool, text: &[u8]) -> Option<Uri<'_>>
     ensures { IsOnlyValue (SipText secure) uri_parts text.now result }
 {
@@ -104,11 +105,12 @@ fn read_sip(secure: bool, text: &[u8]) -> Option<Uri<'_>>
 
 // Cuts what follows the scheme of a SIP URI, each time at the first byte that the part before it
 // cannot hold. Where no such byte stands behind the userinfo, all of it is the host.
+#[inline(always)]
 fn cut_sip(text: &[u8]) -> Cuts<'_>
     ensures { IsSipCut text.now (cut_parts result) }
 {
     let (user, password, rest) = cut_userinfo(text);
-    if all_in(Class::Token, rest) {
+    if are_token_bytes(rest) {
         return Cuts {
             user,
             password,
@@ -157,6 +159,7 @@ fn cut_port(text: &[u8]) -> (&[u8], Option<&[u8]>)
 }
 
 // Whether the user and the password are texts of their productions.
+#[inline(always)]
 fn userinfo_fits(cuts: &Cuts<'_>) -> bool
     ensures { IsTrue result ↔ InfoFits (cut_parts cuts.now) }
 {
@@ -168,6 +171,7 @@ fn userinfo_fits(cuts: &Cuts<'_>) -> bool
 }
 
 // Whether the parameters and the headers are texts of their productions.
+#[inline(always)]
 fn tail_fits(cuts: &Cuts<'_>) -> bool
     ensures { IsTrue result ↔ TailFits (cut_parts cuts.now) }
 {

@@ -1,11 +1,15 @@
-use Rattle.std.proofs.Common.{sym, ◌∙◌}
+use Rattle.std.proofs.Common.{sym, ap, ◌∙◌}
+use Rattle.std.specs.List.{list_all}
+use Rattle.std.proofs.lemmas.List.{take_rest}
 use Rattle.sip_message.specs.Values.{is_word_byte}
 use Rattle.sip_text.specs.Text.{One}
 use Rattle.sip_text.proofs.UriCharLemmas.{some-decides}
 use Rattle.sip_message.proofs.NumberLemmas.{all-decides}
+use Rattle.sip_message.proofs.CallIdLemmas.{words-behind}
 use Rattle.sip_message.proofs.values.is_word.Goals as goal
 
 pub returns-then-not-is_empty : goal.returns-then-not-is_empty
 returns-then-not-is_empty c =
     some-decides (One is_word_byte) c.args.text.now c.are_word_bytes.result (sym c.is_empty.ensures ∙ c.if-not-is_empty.true)
-    (all-decides is_word_byte c.args.text.now c.are_word_bytes.result c.are_word_bytes.ensures)
+    (all-decides is_word_byte c.args.text.now c.are_word_bytes.result
+    (c.are_word_bytes.ensures ∙ ap (list_all is_word_byte) (take_rest c.args.text.now c.token_len.result) ∙ words-behind c.args.text.now c.token_len.result c.type_inv.text c.token_len.ensures.reads))

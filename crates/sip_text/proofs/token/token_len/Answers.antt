@@ -1,19 +1,22 @@
-use Rattle.std.proofs.Common.{◌+◌, ◌≤◌, length, subst, arith}
-use Rattle.std.proofs.lemmas.List.{take_rest}
+use Rattle.std.proofs.Common.{◌+◌, ◌-◌, ◌≤◌, length, sym, subst, arith}
 use Rattle.std.proofs.lemmas.List.Sums.{prefix_len_is}
 use Rattle.sip_text.specs.Text.{IsLongestFront}
 use Rattle.sip_text.specs.Grammar.{Token}
 use Rattle.sip_text.specs.Bytes.{is_token_byte}
 use Rattle.sip_text.proofs.RunLemmas.{longest-run}
-use Rattle.sip_text.proofs.BlockLemmas.{block-passes, block-stops, run-more}
+use Rattle.sip_text.proofs.BlockLemmas.{block-passes, block-stops}
 use Rattle.sip_text.proofs.token.token_len.Goals as goal
+
+pub returns-then-text-lt-BLOCK-clause-reads : goal.returns-then-text-lt-BLOCK-clause-reads
+returns-then-text-lt-BLOCK-clause-reads c =
+    subst (IsLongestFront Token c.args.text.now) (sym c.run_len.ensures.run) (longest-run is_token_byte c.args.text.now)
 
 pub returns-then-step-lt-BLOCK-clause-reads : goal.returns-then-step-lt-BLOCK-clause-reads
 returns-then-step-lt-BLOCK-clause-reads c =
     let text = c.args.text.now in
     let at = c.loop-at.at in
     let step = c.block_len-step.result in
-    let room : at + 16 ≤ length text = omega (arith, c.loop-at-test.true) in
+    let room : at + 16 ≤ length text = omega (arith, c.loop-at-test.true, c.if-text-lt-BLOCK.false) in
     subst (IsLongestFront Token text)
     (prefix_len_is is_token_byte text (at + step) 0 (omega (arith, room, c.block_len-step.ensures.within)) (block-passes is_token_byte text at step room c.block_len-step.ensures.run c.loop-at.invariant.1)
     (λ _. block-stops is_token_byte text at step room c.block_len-step.ensures.run c.if-step-lt-BLOCK.true))
@@ -24,12 +27,16 @@ loop-at-preserved c =
     let text = c.args.text.now in
     let at = c.loop-at.at in
     let step = c.block_len-step.result in
-    let room : at + 16 ≤ length text = omega (arith, c.loop-at-test.true) in
-    (omega (arith, room, c.block_len-step.ensures.within), block-passes is_token_byte text at step room c.block_len-step.ensures.run c.loop-at.invariant.1)
+    let room : at + 16 ≤ length text = omega (arith, c.loop-at-test.true, c.if-text-lt-BLOCK.false) in
+    (room, λ k below. block-passes is_token_byte text at step room c.block_len-step.ensures.run c.loop-at.invariant.1 k (omega (arith, below, c.if-step-lt-BLOCK.false)))
 
 pub returns-clause-reads : goal.returns-clause-reads
 returns-clause-reads c =
     let text = c.args.text.now in
-    let at = c.loop-at.at in
-    subst (IsLongestFront Token text) (run-more is_token_byte text _ at c.run_len.result c.loop-at.invariant.0 (take_rest text at) c.run_len.ensures.run c.loop-at.invariant.1)
+    let last = length text - 16 in
+    let step = c.block_len.result in
+    let room : last + 16 ≤ length text = omega (arith, c.if-text-lt-BLOCK.false) in
+    subst (IsLongestFront Token text)
+    (prefix_len_is is_token_byte text (last + step) 0 (omega (arith, room, c.block_len.ensures.within)) (block-passes is_token_byte text last step room c.block_len.ensures.run (λ k below. c.loop-at.invariant.1 k (omega (arith, below, c.loop-at-test.false))))
+    (λ short. block-stops is_token_byte text last step room c.block_len.ensures.run (omega (arith, short, room))))
     (longest-run is_token_byte text)

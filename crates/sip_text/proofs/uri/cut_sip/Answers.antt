@@ -1,8 +1,6 @@
 use Rattle.std.proofs.Common.{◌≤◌, length, refl, sym, ◌∙◌, rules}
 use Rattle.std.proofs.lemmas.List.{take_rest}
-use Rattle.sip_text.specs.Bytes.{semicolon}
-use Rattle.sip_text.specs.Class.{is_in}
-use Rattle.sip_text.specs.declared.class.Class.TheVariants as variant
+use Rattle.sip_text.specs.Bytes.{semicolon, is_token_byte}
 use Rattle.sip_text.proofs.UriSipLemmas.{before-within, host-cut, sip-cut}
 use Rattle.sip_text.proofs.uri.cut_sip.Goals as goal
 
@@ -15,10 +13,10 @@ slice_bounds-params-start c =
     before-within semicolon c.cut.result.0.now c.cut-2.result.0.now c.cut-2.ensures.front in
     search rules
 
-pub returns-then-all_in : goal.returns-then-all_in
-returns-then-all_in c =
-    host-cut (is_in variant.Token) c.args.text.now _ _ c.cut_userinfo.result.2.now refl refl refl
-    c.cut_userinfo.ensures (sym c.all_in.ensures ∙ c.if-all_in.true)
+pub returns-then-are_token_bytes : goal.returns-then-are_token_bytes
+returns-then-are_token_bytes c =
+    host-cut is_token_byte c.args.text.now _ _ c.cut_userinfo.result.2.now refl refl refl
+    c.cut_userinfo.ensures (sym c.are_token_bytes.ensures ∙ c.if-are_token_bytes.true)
 
 pub returns : goal.returns
 returns c =

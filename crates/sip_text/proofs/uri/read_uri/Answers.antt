@@ -1,35 +1,37 @@
-use Rattle.std.proofs.Common.{false, true, option_copied, sym, ap, ◌∙◌, subst}
+use Rattle.std.proofs.Common.{◌≡◌, false, true, not, option_copied, sym, ap, ◌∙◌, subst}
 use Rattle.std.proofs.lemmas.Bool.{both_ways}
 use Rattle.sip_text.specs.Text.{IsOnlyValue}
-use Rattle.sip_text.specs.Uri.{UriText, uri_parts}
+use Rattle.sip_text.specs.Uri.{UriText, uri_parts, scheme_name}
+use Rattle.sip_text.specs.Case.{SameText}
 use Rattle.sip_text.proofs.UriCharLemmas.{decides-uric}
-use Rattle.sip_text.proofs.UriLemmas.{scheme-at, read-sip, not-sip, other-fits, other-only, no-colon}
+use Rattle.sip_text.proofs.UriLemmas.{scheme-at, read-sip, named-so, not-sip, other-fits, other-only, no-colon}
 use Rattle.sip_text.proofs.uri.read_uri.Goals as goal
-use Rattle.sip_text.proofs.uri.read_uri.Goals.{else-is_scheme-via-then-is_scheme+else-is_some_chars, else-is_scheme-via-else-is_scheme}
+use Rattle.sip_text.proofs.uri.read_uri.Goals.{then-is_sip-via-then-is_sip, then-is_sip-via-else-is_sip+then-same_text, else-is_scheme-via-then-is_scheme+else-is_some_chars, else-is_scheme-via-else-is_scheme}
 
 pub returns-in_err-rest : goal.returns-in_err-rest
 returns-in_err-rest c =
     subst (IsOnlyValue UriText uri_parts c.args.text.now) (sym c.from_residual.ensures)
     (λ x. no-colon c.args.text.now x (ap option_copied (sym c.in_err-rest.was) ∙ c.cut.ensures.rest))
 
-pub returns-then-same_text : goal.returns-then-same_text
-returns-then-same_text c =
-    let cut = scheme-at c.args.text.now c.cut.result.0.now c.cut.result.1 c.in_ok-rest.rest c.cut.ensures.front c.cut.ensures.rest c.in_ok-rest.was in
-    read-sip false c.args.text.now c.cut.result.0.now c.in_ok-rest.rest.now c.read_sip.result cut
-    (c.same_text.ensures.0 c.if-same_text.true) c.read_sip.ensures
-
-pub returns-then-same_text-2 : goal.returns-then-same_text-2
-returns-then-same_text-2 c =
-    let cut = scheme-at c.args.text.now c.cut.result.0.now c.cut.result.1 c.in_ok-rest.rest c.cut.ensures.front c.cut.ensures.rest c.in_ok-rest.was in
-    read-sip true c.args.text.now c.cut.result.0.now c.in_ok-rest.rest.now c.read_sip-then-same_text-2.result cut
-    (c.same_text-2.ensures.0 c.if-same_text-2.true) c.read_sip-then-same_text-2.ensures
+pub returns-then-is_sip : goal.returns-then-is_sip
+returns-then-is_sip c =
+    let is_sip = c.same_text-is_sip.result in
+    let scheme = c.cut.result.0.now in
+    let cut = scheme-at c.args.text.now scheme c.cut.result.1 c.in_ok-rest.rest c.cut.ensures.front c.cut.ensures.rest c.in_ok-rest.was in
+    let sips_named : is_sip ≡ false → SameText scheme (scheme_name true) =
+    λ no. elim c.then-is_sip.branch [
+      | then-is_sip-via-then-is_sip w ↦ absurd (both_ways is_sip no w.if-is_sip.true)
+      | then-is_sip-via-else-is_sip+then-same_text w ↦ w.same_text.ensures.0 w.if-same_text.true
+    ] in
+    read-sip (not is_sip) c.args.text.now scheme c.in_ok-rest.rest.now c.read_sip.result cut
+    (named-so is_sip scheme c.same_text-is_sip.ensures.0 sips_named) c.read_sip.ensures
 
 pub returns-then-is_some_chars : goal.returns-then-is_some_chars
 returns-then-is_some_chars c =
     let cut = scheme-at c.args.text.now c.cut.result.0.now c.cut.result.1 c.in_ok-rest.rest c.cut.ensures.front c.cut.ensures.rest c.in_ok-rest.was in
     let neither = not-sip c.cut.result.0.now
-    (λ same. both_ways c.same_text.result c.if-same_text.false (c.same_text.ensures.1 same))
-    (λ same. both_ways c.same_text-2.result c.if-same_text-2.false (c.same_text-2.ensures.1 same)) in
+    (λ same. both_ways c.same_text-is_sip.result c.if-is_sip.false (c.same_text-is_sip.ensures.1 same))
+    (λ same. both_ways c.same_text.result c.if-same_text.false (c.same_text.ensures.1 same)) in
     let uric = decides-uric c.in_ok-rest.rest.now c.is_some_chars.result c.is_some_chars.ensures in (
       other-fits c.args.text.now c.cut.result.0.now c.in_ok-rest.rest.now cut neither
           (c.is_scheme.ensures.0 c.if-is_scheme.true) (uric.0 c.if-is_some_chars.true),
@@ -40,8 +42,8 @@ pub returns-else-is_scheme : goal.returns-else-is_scheme
 returns-else-is_scheme c = λ x is.
     let cut = scheme-at c.args.text.now c.cut.result.0.now c.cut.result.1 c.in_ok-rest.rest c.cut.ensures.front c.cut.ensures.rest c.in_ok-rest.was in
     let neither = not-sip c.cut.result.0.now
-    (λ same. both_ways c.same_text.result c.if-same_text.false (c.same_text.ensures.1 same))
-    (λ same. both_ways c.same_text-2.result c.if-same_text-2.false (c.same_text-2.ensures.1 same)) in
+    (λ same. both_ways c.same_text-is_sip.result c.if-is_sip.false (c.same_text-is_sip.ensures.1 same))
+    (λ same. both_ways c.same_text.result c.if-same_text.false (c.same_text.ensures.1 same)) in
     let fits = other-only c.args.text.now c.cut.result.0.now c.in_ok-rest.rest.now x cut neither is in
     elim c.else-is_scheme.branch [
       | else-is_scheme-via-then-is_scheme+else-is_some_chars w ↦

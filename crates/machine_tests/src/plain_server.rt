@@ -6,7 +6,7 @@ ghost use Rattle.sip_machine.specs.PlainServer.{plain_server_names, PlainServerI
 
 use crate::messages::{Numbered, Start, book_of, event_of};
 use sip_machine::{
-    Action, Book, Debt, Event, Machine, Outbox, Params, PlainServer, PlainServerState,
+    Action, Book, Debt, Event, Machine, Outbox, Params, PlainServer, PlainServerState, Run,
 };
 use std::alloc::Global;
 use std::test::Fail;
@@ -64,7 +64,7 @@ fn may(message: u32, deadline: u64) -> Debt {
     }
 }
 
-/// Up to two debts that are wanted.
+/// Up to two debts that are wanted, and differ.
 type Owes = [Option<Debt>; 2];
 
 const NOTHING: Owes = [None, None];
@@ -77,13 +77,14 @@ fn two(first: Debt, second: Debt) -> Owes {
     [Some(first), Some(second)]
 }
 
-fn are_owed(debts: &[Debt], want: Owes) -> bool {
-    match debts {
-        [] => want == NOTHING,
-        [only] => want == one(*only),
-        [first, second] => want == two(*first, *second),
-        _ => false,
-    }
+fn are_owed(runs: &[Run], want: Owes) -> bool {
+    let debts = match runs {
+        [] => NOTHING,
+        [only] => one(only.debt),
+        [first, second] => two(first.debt, second.debt),
+        _ => return false,
+    };
+    runs.iter().all(|run| run.count == 1) && debts == want
 }
 
 /// A state that is wanted, over an unreliable transport.
@@ -106,7 +107,7 @@ fn is_wanted(state: &PlainServerState, want: Want) -> bool {
                 owes,
             },
             Want::Proceeding(number, debts),
-        ) => !*reliable && *last == number && are_owed(owes.debts(), debts),
+        ) => !*reliable && *last == number && are_owed(owes.runs(), debts),
         (
             PlainServerState::Completed {
                 reliable,
@@ -118,7 +119,7 @@ fn is_wanted(state: &PlainServerState, want: Want) -> bool {
         ) => !*reliable
             && *final_message == number
             && *set == moment
-            && are_owed(owes.debts(), debts),
+            && are_owed(owes.runs(), debts),
         _ => false,
     }
 }

@@ -10,5 +10,6 @@ pub mod TextLaws
 mod OrderLaws
 mod RunLaws
 pub mod OutboxLemmas
+pub mod RunsLemmas
 pub mod ProvisionalLemmas
 pub mod AckLemmas

@@ -11,5 +11,7 @@ pub mod Acks
 pub mod InviteServerAt
 pub mod InviteServerLaws
 pub mod Outbox
+pub mod Runs
+pub mod RunLaws
 pub mod Order
 pub mod Start

@@ -338,6 +338,86 @@ fn after_the_final_response(rt: HostRuntime) -> Result<(), Fail> {
     Ok(())
 }
 
+/// Whether the state is proceeding with this last response, and owes these runs of debts.
+fn proceeds(state: &PlainServerState, number: u32, want: &[Run]) -> bool {
+    match state {
+        PlainServerState::Proceeding { last, owes, .. } => *last == number && owes.runs() == want,
+        _ => false,
+    }
+}
+
+/// A request that comes again and again at one moment: each time the last response is owed once more. A send of what is owed
+/// is one in its turn, or pays: both rows stand.
+#[test]
+fn equal_debts_stand_in_runs(rt: HostRuntime) -> Result<(), Fail> {
+    let ringing = |count| Run {
+        debt: must(RINGING, 60),
+        count,
+    };
+    let progress = |count| Run {
+        debt: must(PROGRESS, 60),
+        count,
+    };
+    let again = received(10);
+    let entries = [
+        received(0),
+        sent(5, RINGING),
+        again,
+        again,
+        again,
+        sent(10, PROGRESS),
+        again,
+        sent(10, RINGING),
+        again,
+        sent(10, PROGRESS),
+        again,
+    ];
+    let rows: [(usize, &[(u32, &[Run])]); 6] = [
+        (5, &[(RINGING, &[ringing(3)])]),
+        (7, &[(PROGRESS, &[ringing(3), progress(1)])]),
+        (
+            8,
+            &[
+                (RINGING, &[ringing(3), progress(1)]),
+                (PROGRESS, &[ringing(2), progress(1)]),
+            ],
+        ),
+        (
+            9,
+            &[
+                (RINGING, &[ringing(3), progress(1), ringing(1)]),
+                (PROGRESS, &[ringing(2), progress(2)]),
+            ],
+        ),
+        (
+            10,
+            &[
+                (PROGRESS, &[ringing(3), progress(1), ringing(1)]),
+                (RINGING, &[ringing(4)]),
+                (PROGRESS, &[ringing(2), progress(2)]),
+                (PROGRESS, &[ringing(2), progress(1)]),
+            ],
+        ),
+        (
+            11,
+            &[
+                (PROGRESS, &[ringing(3), progress(1), ringing(1), progress(1)]),
+                (RINGING, &[ringing(5)]),
+                (PROGRESS, &[ringing(2), progress(3)]),
+                (PROGRESS, &[ringing(2), progress(2)]),
+            ],
+        ),
+    ];
+    for (len, wants) in rows {
+        let states = states_after(rt.alloc(), &entries[..len])?;
+        assert!(rt; states.len() == wants.len(), "{len}");
+        for (state, (number, want)) in states.iter().zip(wants) {
+            assert!(rt; proceeds(state, *number, want), "{len}");
+        }
+    }
+    Ok(())
+}
+
 /// When the state may end, and its last moment.
 fn ends_of(
     server: &PlainServer,

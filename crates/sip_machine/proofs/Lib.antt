@@ -11,5 +11,6 @@ mod OrderLaws
 mod RunLaws
 pub mod OutboxLemmas
 pub mod RunsLemmas
+pub mod RunOrderLemmas
 pub mod ProvisionalLemmas
 pub mod AckLemmas

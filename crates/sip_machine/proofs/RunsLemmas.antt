@@ -1,5 +1,6 @@
 use Prim.Native.Nat.{zero, suc}
-use Rattle.std.specs.Prelude.{◌≡◌, ◌≢◌, ◌<◌, ◌≤◌, ◌+◌, ◌-◌, ◌^◌, ◌⊎◌, ℕ, Bool, true, false, List, [], ◌∷◌, ◌++◌, All, length, take, drop, remove, map, filter, get_or, set, replicate, position, Some, min, fold}
+use Rattle.std.specs.Prelude.{◌≡◌, ◌≢◌, ◌<◌, ◌≤◌, ◌+◌, ◌-◌, ◌^◌, ◌⊎◌, ℕ, Bool, true, false, ◌==◌, ◌&&◌, if◌then◌else◌, List, [], ◌∷◌, ◌++◌, All, length, take, drop, remove, map, filter, get_or, set, replicate, position, Some, min, fold}
+use Rattle.std.specs.Bool.{beq}
 use Rattle.std.proofs.Common.{inl, inr, refl, sym, ◌∙◌, ap, ap₂, subst, arith, cond, not, true≢false}
 use Rattle.std.proofs.Math.Seq.{take-append_seam, map-set_same, drop-append-add}
 use Rattle.std.proofs.lemmas.Bool.{cases_lt}
@@ -17,12 +18,12 @@ use Rattle.sip_machine.specs.contracts.outbox.DebtPartialEq.TheImpl as debt_eq
 use Rattle.sip_machine.specs.contracts.outbox.DebtEq.TheImpl.Laws as debt_laws
 use Rattle.sip_machine.specs.Debts.{IsWithoutFirst, earliest}
 use Rattle.sip_machine.specs.inner.Outbox.{debt_deadlines}
-use Rattle.sip_machine.specs.inner.Runs.{debts_of, kinds, AreRuns, AreApartBut, EndsWith, run_deadlines, is_same, runs_before, runs_of}
+use Rattle.sip_machine.specs.inner.Runs.{debts_of, kinds, AreRuns, AreApartBut, EndsWith, run_deadlines}
 use Rattle.sip_machine.proofs.OutboxLemmas.{IsWithoutFirst-at}
 
 -- Laws of debts in runs of equal ones.
 
-abbrev each : Run → List Debt
+abbrev pub each : Run → List Debt
 each run = replicate run.count run.debt
 
 -- where the debts of a run begin
@@ -254,14 +255,14 @@ not_true true e = absurd (true≢false (sym e))
 not_true false e = refl
 
 -- debts are equal exactly if their data are
-same_debt : (c d : Debt) → debt_eq.ghosts.eq c d ≡ true → c ≡ d
+pub same_debt : (c d : Debt) → debt_eq.ghosts.eq c d ≡ true → c ≡ d
 same_debt c d e =
     let message : c.message ≡ d.message = grind (arith, nat_tests) in
     let deadline : c.deadline ≡ d.deadline = grind (arith, nat_tests) in
     let must : c.must ≡ d.must = grind (arith, nat_tests) in
     let all : record { message = c.message; deadline = c.deadline; must = c.must } ≡ d = rw (message, deadline, must) in all
 
-equal_itself : (c : Debt) → debt_eq.ghosts.eq c c ≡ true
+pub equal_itself : (c : Debt) → debt_eq.ghosts.eq c c ≡ true
 equal_itself c = debt_laws.laws-law.refl c
 
 pub other_debt : (c d : Debt) → debt_eq.ghosts.eq c d ≡ false → c ≢ d
@@ -274,7 +275,7 @@ pub tells_other : (b : Bool) (c d : Debt) → b ≡ not (debt_eq.ghosts.eq c d) 
 tells_other b c d is told = other_debt c d (not_true (debt_eq.ghosts.eq c d) (sym is ∙ told))
 
 -- the kind of a run
-kind-at : (runs : List Run) (k : ℕ) (e : Debt) (d : Run) → k < length runs → get_or (kinds runs) k e ≡ (get_or runs k d).debt
+pub kind-at : (runs : List Run) (k : ℕ) (e : Debt) (d : Run) → k < length runs → get_or (kinds runs) k e ≡ (get_or runs k d).debt
 kind-at runs k e d low = get_or-map (λ run. run.debt) runs k d e low
 
 -- neighbours of different debts are apart
@@ -556,6 +557,21 @@ earliest-runs (run ∷ runs) filled =
           ∙ earliest-runs runs more
           ∙ sym (ap earliest (deadlines-may run runs may))
     ]
+
+-- the debts have the same data
+abbrev is_same : Debt → Debt → Bool
+is_same c d = (c.message == d.message) && ((c.deadline == d.deadline) && beq c.must d.must)
+
+-- runs with one more debt in front of them
+abbrev runs_before : Debt → List Run → List Run
+runs_before debt [] = record { debt = debt; count = 1 } ∷ []
+runs_before debt (run ∷ runs) =
+    if is_same debt run.debt then record { debt = debt; count = run.count + 1 } ∷ runs else record { debt = debt; count = 1 } ∷ run ∷ runs
+
+-- the runs of debts
+abbrev pub runs_of : List Debt → List Run
+runs_of [] = []
+runs_of (debt ∷ debts) = runs_before debt (runs_of debts)
 
 -- the runs of the debts of runs are these
 same-is : (c d : Debt) → is_same c d ≡ debt_eq.ghosts.eq c d

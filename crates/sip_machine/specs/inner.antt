@@ -12,6 +12,5 @@ pub mod InviteServerAt
 pub mod InviteServerLaws
 pub mod Outbox
 pub mod Runs
-pub mod RunLaws
 pub mod Order
 pub mod Start

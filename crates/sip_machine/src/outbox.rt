@@ -1,18 +1,16 @@
 //! What a machine owes, oldest cause first: a list of messages with their deadlines.
-ghost use Rattle.std.specs.Prelude.{◌≡◌, ◌↔◌, ◌++◌, ◌∷◌, [], ◌+◌, ◌<◌, ◌^◌, IfOk, OnOk, OnErr, IsTrue, IfSome, All, length, position, remove, map, filter, take, flat_map, replicate};
+ghost use Rattle.std.specs.Prelude.{◌≡◌, ◌≢◌, ◌↔◌, ◌++◌, ◌∷◌, [], ◌+◌, ◌<◌, ◌^◌, List, IfOk, OnOk, OnErr, IsTrue, IfSome, All, length, position, remove, map, filter, take, drop, get_or, flat_map, replicate};
 ghost use Rattle.std.specs.Bool.{OnTrue, OnFalse};
-ghost use Rattle.std.specs.Ordering.{on};
-ghost use Rattle.std.specs.Cmp.{on_per, on_po};
-ghost use Rattle.std.specs.Cmp.Derive.{on_agrees};
-ghost use Rattle.std.proofs.lemmas.Cmp.{on_equiv, on_total, lists_equiv, lists_total};
-ghost use Rattle.std.specs.Cmp.Lexicographic.{pointwise, slice_cmp, slice_partial_cmp, lists_per, lists_po, lists_agrees, lists_ties};
-ghost use Rattle.sip_machine.specs.contracts.outbox.RunPartialEq.TheImpl.Laws as partial_eq;
-ghost use Rattle.sip_machine.specs.contracts.outbox.RunEq.TheImpl.Laws as eq;
-ghost use Rattle.sip_machine.specs.contracts.outbox.RunPartialOrd.TheImpl.Laws as partial_ord;
-ghost use Rattle.sip_machine.specs.contracts.outbox.RunOrd.TheImpl.Laws as ord;
+ghost use Rattle.std.specs.Cmp.Lexicographic.{pointwise, slice_cmp, slice_partial_cmp, lists_per, lists_equiv, lists_po, lists_total, lists_agrees, lists_ties};
+ghost use Rattle.sip_machine.specs.contracts.outbox.DebtPartialEq.TheImpl.Laws as partial_eq;
+ghost use Rattle.sip_machine.specs.contracts.outbox.DebtEq.TheImpl.Laws as eq;
+ghost use Rattle.sip_machine.specs.contracts.outbox.DebtPartialOrd.TheImpl.Laws as partial_ord;
+ghost use Rattle.sip_machine.specs.contracts.outbox.DebtOrd.TheImpl.Laws as ord;
 ghost use Rattle.sip_machine.specs.Debts.{IsWithoutFirst, earliest};
 ghost use Rattle.sip_machine.specs.inner.Outbox.{counts_at, softened_debt, is_payable, debt_deadlines};
-ghost use Rattle.sip_machine.specs.inner.Runs.{debts_of, kinds, runs_of, AreRuns, AreApartBut, EndsWith, run_deadlines};
+ghost use Rattle.sip_machine.specs.declared.outbox.Debt.{Debt};
+ghost use Rattle.sip_machine.specs.declared.outbox.Run.{Run};
+ghost use Rattle.sip_machine.specs.inner.Runs.{debts_of, kinds, AreRuns, AreApartBut, EndsWith, run_deadlines};
 
 use std::alloc::{AllocError, Global};
 use std::cmp::Ordering;
@@ -30,7 +28,7 @@ pub struct Debt {
 }
 
 /// Equal debts, one behind another.
-#[derive(Clone, Copy, Debug, PartialEq, Eq, PartialOrd, Ord)]
+#[derive(Clone, Copy, Debug, PartialEq, Eq)]
 pub struct Run {
     /// Each of them.
     pub debt: Debt,
@@ -166,11 +164,10 @@ impl Outbox {
     }
 }
 
-/// Lists are equal where their runs are.
 impl PartialEq for Outbox {
-    ghost eq = { on runs_of (pointwise ⟦<Run as PartialEq>⟧.eq) };
+    ghost eq = { pointwise ⟦<Debt as PartialEq>⟧.eq };
 
-    ghost laws = { on_per runs_of (lists_per partial_eq.laws-law) };
+    ghost laws = { lists_per partial_eq.laws-law };
 
     fn eq(&self, other: &Outbox) -> bool {
         self.runs == other.runs
@@ -178,30 +175,66 @@ impl PartialEq for Outbox {
 }
 
 impl Eq for Outbox {
-    ghost laws = { on_equiv runs_of (lists_equiv eq.laws-law) };
+    ghost laws = { lists_equiv eq.laws-law };
 }
 
 impl PartialOrd for Outbox {
-    ghost partial_cmp = { on runs_of (slice_partial_cmp ⟦<Run as PartialOrd>⟧.partial_cmp) };
+    ghost partial_cmp = { slice_partial_cmp ⟦<Debt as PartialOrd>⟧.partial_cmp };
 
-    ghost laws = { on_po runs_of (lists_po partial_ord.laws-law) };
+    ghost laws = { lists_po partial_ord.laws-law };
 
     fn partial_cmp(&self, other: &Outbox) -> Option<Ordering> {
-        self.runs.partial_cmp(&other.runs)
+        Some(self.cmp(other))
     }
 }
 
+/// As lists of debts.
 impl Ord for Outbox {
-    ghost cmp = { on runs_of (slice_cmp ⟦<Run as Ord>⟧.cmp) };
+    ghost cmp = { slice_cmp ⟦<Debt as Ord>⟧.cmp };
 
-    ghost total = { on_total runs_of (lists_total ord.total-law) };
+    ghost total = { lists_total ord.total-law };
 
-    ghost matches_partial_cmp = { on_agrees runs_of (lists_agrees ord.matches_partial_cmp-law) };
+    ghost matches_partial_cmp = { lists_agrees ord.matches_partial_cmp-law };
 
-    ghost matches_eq = { λ xs ys. lists_ties ⟦<Run as Ord>⟧.cmp ord.matches_eq-law (runs_of xs) (runs_of ys) };
+    ghost matches_eq = { lists_ties ⟦<Debt as Ord>⟧.cmp ord.matches_eq-law };
 
     fn cmp(&self, other: &Outbox) -> Ordering {
-        self.runs.cmp(&other.runs)
+        compare(&self.runs, &other.runs)
+    }
+}
+
+/// Compares the debts of these runs: the first runs that differ decide.
+fn compare(these: &[Run], others: &[Run]) -> Ordering
+    requires these { AreRuns these.now }
+    requires others { AreRuns others.now }
+    ensures { result ≡ slice_cmp ⟦<Debt as Ord>⟧.cmp (debts_of these.now) (debts_of others.now) }
+{
+    for at in 0..these.len().min(others.len()) {
+        let run = these[at];
+        let other = others[at];
+        if run.debt != other.debt {
+            return run.debt.cmp(&other.debt);
+        }
+        if run.count < other.count {
+            return against(these, at + 1, other.debt);
+        }
+        if other.count < run.count {
+            return against(others, at + 1, run.debt).reverse();
+        }
+    }
+    these.len().cmp(&others.len())
+}
+
+/// Compares the debts of the runs from the index on with a list that begins with this debt, as they do not.
+fn against(runs: &[Run], at: usize, debt: Debt) -> Ordering
+    requires filled { All (λ run. 0 < run.count) runs.now }
+    requires other { (run : Run) → at < length runs.now → (get_or runs.now at run).debt ≢ debt }
+    ensures { (rest : List Debt) → result ≡ slice_cmp ⟦<Debt as Ord>⟧.cmp (debts_of (drop at runs.now)) (debt ∷ rest) }
+{
+    if at < runs.len() {
+        runs[at].debt.cmp(&debt)
+    } else {
+        Ordering::Less
     }
 }
 
@@ -304,8 +337,7 @@ fn first_payable(runs: &[Run], message: u32, moment: u64) -> Option<usize>
     ensures value { result ≡ position (λ run. is_payable message moment run.debt) runs.now }
     ensures within { IfSome result (λ i. i < length runs.now) }
 {
-    runs.iter()
-        .position(|run| run.debt.message == message && moment <= run.debt.deadline)
+    runs.iter().position(|run| run.debt.message == message && moment <= run.debt.deadline)
 }
 
 /// The least deadline of a debt that has to be paid.

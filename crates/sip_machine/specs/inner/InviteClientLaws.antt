@@ -1,5 +1,6 @@
 use Rattle.std.specs.Prelude.{◌≡◌, ◌≤◌, ◌*◌, ◌++◌, ℕ, Bool, true, false, Option, None, Some, List, [], ◌∷◌, All, Contains, nat_eq, if◌then◌else◌}
 use Rattle.std.specs.Option.{option_eq}
+use Rattle.std.specs.Cmp.Lexicographic.{pointwise}
 use Rattle.std.proofs.Common.{refl, sym, ◌∙◌, ap, ap₂, subst, inl, inr, arith}
 use Rattle.std.proofs.lemmas.Bool.Decides.{nat_tests}
 use Rattle.std.proofs.lemmas.List.Elements.{All-head, All-tail, All-nil, All-cons, Contains-append_right}
@@ -13,6 +14,7 @@ use Rattle.sip_machine.specs.declared.event.Kind.TheVariants.{Request, Response}
 use Rattle.sip_machine.specs.declared.invite_client.InviteWaiting.{InviteWaiting}
 use Rattle.sip_machine.specs.declared.invite_client.InviteClientState.{InviteClientState}
 use Rattle.sip_machine.specs.declared.invite_client.InviteClientState.TheVariants as code
+use Rattle.sip_machine.specs.contracts.outbox.DebtPartialEq.TheImpl as debt_eq
 use Rattle.sip_machine.specs.contracts.invite_client.InviteClientStatePartialEq.TheImpl as derived
 use Rattle.sip_machine.specs.contracts.invite_client.InviteWaitingPartialEq.TheImpl as waiting
 use Rattle.sip_machine.specs.Times.{Times}
@@ -22,7 +24,7 @@ use Rattle.sip_machine.specs.Heard.{Heard}
 use Rattle.sip_machine.specs.Rules.{IsLawful, Knows}
 use Rattle.sip_machine.specs.Debts.{Owed, must_owe, unexpired, earliest}
 use Rattle.sip_machine.specs.Owes.{owes_seen, owes_names}
-use Rattle.sip_machine.specs.inner.OwesLaws.{owes_equal, owes_exact, owes_apart, owes_seen_by_names, must_deadlines-seen, is_some-deadlines, AreDue, AreDue-unexpired, AreDue-must, AreDue-paid, IsWithin-owed}
+use Rattle.sip_machine.specs.inner.OwesLaws.{owes_exact, owes_apart, owes_seen_by_names, must_deadlines-seen, is_some-deadlines, AreDue, AreDue-unexpired, AreDue-must, AreDue-paid, IsWithin-owed}
 use Rattle.sip_machine.specs.Waiting.{Waiting}
 use Rattle.sip_machine.specs.InviteClient.{InviteClientPhase, Idle, Calling, Proceeding, Accepted, Completed, Ended, SendsInvite, SendsAck, Cancels, Receives, Sends, FailsAck, Fails, Steps, owed_by, with_owes, timers, timer_b, timer_m, timer_a_closes, timer_d_closes, invite_client_until, invite_client_window, invite_client_rules, waiting_seen, invite_client_seen, invite_client_names}
 
@@ -79,7 +81,7 @@ invite_client_exact (code.Completed reliable request set owes) (code.Calling w')
 invite_client_exact (code.Completed reliable request set owes) (code.Proceeding reliable' request' cancel') e = cc
 invite_client_exact (code.Completed reliable request set owes) (code.Accepted set') e = cc
 invite_client_exact (code.Completed reliable request set owes) (code.Completed reliable' request' set' owes') e =
-    let same : owes_equal owes owes' ≡ true = grind (arith, nat_tests) in
+    let same : pointwise debt_eq.ghosts.eq owes owes' ≡ true = grind (arith, nat_tests) in
     let same_owes = owes_exact owes owes' same in
     let same_reliable : reliable ≡ reliable' = grind (arith, nat_tests) in
     let same_request : request ≡ request' = grind (arith, nat_tests) in

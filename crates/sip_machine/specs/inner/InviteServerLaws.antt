@@ -1,4 +1,5 @@
 use Rattle.std.specs.Prelude.{◌≡◌, ◌≤◌, ◌++◌, ◌*◌, ℕ, Bool, true, false, Option, Some, None, List, [], ◌∷◌, All, Contains, if◌then◌else◌, min}
+use Rattle.std.specs.Cmp.Lexicographic.{pointwise}
 use Rattle.std.specs.Option.{option_eq}
 use Rattle.std.proofs.Common.{refl, sym, ◌∙◌, ap, ap₂, subst, inl, inr, arith, eqb, true≢false}
 use Rattle.std.proofs.lemmas.Bool.Decides.{nat_tests}
@@ -12,6 +13,7 @@ use Rattle.sip_machine.specs.declared.event.Kind.TheVariants.{Request, Response}
 use Rattle.sip_machine.specs.declared.outbox.Debt.{Debt}
 use Rattle.sip_machine.specs.declared.invite_server.InviteServerState.{InviteServerState}
 use Rattle.sip_machine.specs.declared.invite_server.InviteServerState.TheVariants as code
+use Rattle.sip_machine.specs.contracts.outbox.DebtPartialEq.TheImpl as debt_eq
 use Rattle.sip_machine.specs.contracts.invite_server.InviteServerStatePartialEq.TheImpl as derived
 use Rattle.sip_machine.specs.Times.{Times}
 use Rattle.sip_machine.specs.Limits.{close_at, IsWithin}
@@ -20,7 +22,7 @@ use Rattle.sip_machine.specs.Heard.{Heard}
 use Rattle.sip_machine.specs.Rules.{IsLawful, Knows}
 use Rattle.sip_machine.specs.Debts.{Owed, unexpired, earliest}
 use Rattle.sip_machine.specs.Owes.{owes_seen, owes_names}
-use Rattle.sip_machine.specs.inner.OwesLaws.{owes_equal, owes_exact, owes_apart, owes_seen_by_names, must_deadlines-seen, is_some-deadlines, AreDue, AreDue-unexpired, AreDue-must, AreDue-may, AreDue-paid, AreDue-softened, IsWithin-owed}
+use Rattle.sip_machine.specs.inner.OwesLaws.{owes_exact, owes_apart, owes_seen_by_names, must_deadlines-seen, is_some-deadlines, AreDue, AreDue-unexpired, AreDue-must, AreDue-may, AreDue-paid, AreDue-softened, IsWithin-owed}
 use Rattle.sip_machine.specs.InviteServer.{InviteServerPhase, Idle, Proceeding, Accepted, Completed, Confirmed, Invited, Acknowledged, Receives, Sends, Repays, Emits, Steps, owed_by, with_owes, timers, first_response, timer_h, timer_i, timer_l, invite_server_until, invite_server_window, invite_server_rules, last_seen, invite_server_seen, invite_server_names}
 
 -- equal last responses are the same one
@@ -39,7 +41,7 @@ invite_server_exact code.Idle (code.Completed reliable' final' set' repeat' inte
 invite_server_exact code.Idle (code.Confirmed reliable' set' owes') e = cc
 invite_server_exact (code.Proceeding reliable set last owes) code.Idle e = cc
 invite_server_exact (code.Proceeding reliable set last owes) (code.Proceeding reliable' set' last' owes') e =
-    let same : owes_equal owes owes' ≡ true = grind (arith, nat_tests) in
+    let same : pointwise debt_eq.ghosts.eq owes owes' ≡ true = grind (arith, nat_tests) in
     let same_owes = owes_exact owes owes' same in
     let same_reliable : reliable ≡ reliable' = grind (arith, nat_tests) in
     let same_set : set ≡ set' = grind (arith, nat_tests) in
@@ -52,7 +54,7 @@ invite_server_exact (code.Proceeding reliable set last owes) (code.Confirmed rel
 invite_server_exact (code.Accepted set owes) code.Idle e = cc
 invite_server_exact (code.Accepted set owes) (code.Proceeding reliable' set' last' owes') e = cc
 invite_server_exact (code.Accepted set owes) (code.Accepted set' owes') e =
-    let same : owes_equal owes owes' ≡ true = grind (arith, nat_tests) in
+    let same : pointwise debt_eq.ghosts.eq owes owes' ≡ true = grind (arith, nat_tests) in
     let same_owes = owes_exact owes owes' same in
     let same_set : set ≡ set' = grind (arith, nat_tests) in
     cc
@@ -62,7 +64,7 @@ invite_server_exact (code.Completed reliable final set repeat interval owes) cod
 invite_server_exact (code.Completed reliable final set repeat interval owes) (code.Proceeding reliable' set' last' owes') e = cc
 invite_server_exact (code.Completed reliable final set repeat interval owes) (code.Accepted set' owes') e = cc
 invite_server_exact (code.Completed reliable final set repeat interval owes) (code.Completed reliable' final' set' repeat' interval' owes') e =
-    let same : owes_equal owes owes' ≡ true = grind (arith, nat_tests) in
+    let same : pointwise debt_eq.ghosts.eq owes owes' ≡ true = grind (arith, nat_tests) in
     let same_owes = owes_exact owes owes' same in
     let same_reliable : reliable ≡ reliable' = grind (arith, nat_tests) in
     let same_final : final ≡ final' = grind (arith, nat_tests) in
@@ -76,7 +78,7 @@ invite_server_exact (code.Confirmed reliable set owes) (code.Proceeding reliable
 invite_server_exact (code.Confirmed reliable set owes) (code.Accepted set' owes') e = cc
 invite_server_exact (code.Confirmed reliable set owes) (code.Completed reliable' final' set' repeat' interval' owes') e = cc
 invite_server_exact (code.Confirmed reliable set owes) (code.Confirmed reliable' set' owes') e =
-    let same : owes_equal owes owes' ≡ true = grind (arith, nat_tests) in
+    let same : pointwise debt_eq.ghosts.eq owes owes' ≡ true = grind (arith, nat_tests) in
     let same_owes = owes_exact owes owes' same in
     let same_reliable : reliable ≡ reliable' = grind (arith, nat_tests) in
     let same_set : set ≡ set' = grind (arith, nat_tests) in

@@ -1,22 +1,17 @@
-use Rattle.std.specs.Prelude.{◌≡◌, ◌==◌, ◌≤◌, ◌↔◌, ◌&&◌, ◌||◌, ℕ, Bool, true, false, is_some, IsTrue, List, [], ◌∷◌, ◌++◌, All, Contains, filter, map, nat_le}
+use Rattle.std.specs.Prelude.{◌≡◌, ◌≤◌, ◌↔◌, ◌&&◌, ◌||◌, ℕ, Bool, true, false, is_some, IsTrue, List, [], ◌∷◌, ◌++◌, All, Contains, filter, map, nat_le}
 use Rattle.std.specs.List.{list_any}
-use Rattle.std.specs.Ordering.{on}
 use Rattle.std.specs.Cmp.Lexicographic.{pointwise}
-use Rattle.std.proofs.Common.{refl, sym, ◌∙◌, ap, ap₂, subst, arith, cond, true≢false}
+use Rattle.std.proofs.Common.{refl, sym, ap, ap₂, subst, arith, cond, true≢false}
 use Rattle.std.proofs.lemmas.Bool.Decides.{nat_tests}
 use Rattle.std.proofs.lemmas.List.Elements.{All-head, All-tail, All-nil, All-cons, All-filter, All-map, All-push, All-append, All-weaker, Contains-append_right}
 use Rattle.sip_machine.specs.declared.outbox.Debt.{Debt}
-use Rattle.sip_machine.specs.declared.outbox.Run.{Run}
 use Rattle.sip_machine.specs.contracts.outbox.DebtPartialEq.TheImpl as debt_eq
-use Rattle.sip_machine.specs.contracts.outbox.RunPartialEq.TheImpl as run_eq
 use Rattle.sip_machine.specs.Times.{Times}
 use Rattle.sip_machine.specs.Limits.{IsWithin}
 use Rattle.sip_machine.specs.Texts.{Texts, IsBook, Keeps, text_of}
 use Rattle.sip_machine.specs.Debts.{Owed, must_owe, may_owe, unexpired, softened, IsWithoutFirst, Pays, must_deadlines, earliest}
 use Rattle.sip_machine.specs.Owes.{owed_seen, owes_seen, owes_names}
 use Rattle.sip_machine.specs.inner.Outbox.{counts_at, softened_debt, is_payable, debt_deadlines}
-use Rattle.sip_machine.specs.inner.Runs.{debts_of, runs_of}
-use Rattle.sip_machine.specs.inner.RunLaws.{debts_of-runs_of}
 use Rattle.sip_machine.specs.inner.DebtLaws.{filter-map, IsWithoutFirst-map, IsWithoutFirst-same, IsWithoutFirst-none, All-front, All-back, All-without, IsWithin-earliest}
 
 -- Laws of what a machine owes: of the debts of the code, of what they stand for, and of moments up to their deadlines.
@@ -35,28 +30,14 @@ debt_same c d message deadline must =
 debt_exact : (c d : Debt) → debt_eq.ghosts.eq c d ≡ true → c ≡ d
 debt_exact c d e = debt_same c d (grind (arith, nat_tests)) (grind (arith, nat_tests)) (grind (arith, nat_tests))
 
--- equal runs are the same one, and so are equal lists of them
-run_exact : (a b : Run) → run_eq.ghosts.eq a b ≡ true → a ≡ b
-run_exact a b e =
-    let each = both_true (debt_eq.ghosts.eq a.debt b.debt) (a.count == b.count) e in
-    let count : a.count ≡ b.count = let same = each.1 in grind (arith, nat_tests) in
-    let all : record { debt = a.debt; count = a.count } ≡ b = rw (debt_exact a.debt b.debt each.0, count) refl in all
-
-runs_exact : (xs ys : List Run) → pointwise run_eq.ghosts.eq xs ys ≡ true → xs ≡ ys
-runs_exact [] [] e = refl
-runs_exact [] (b ∷ ys) e = absurd (true≢false (sym e))
-runs_exact (a ∷ xs) [] e = absurd (true≢false (sym e))
-runs_exact (a ∷ xs) (b ∷ ys) e =
-    let each = both_true (run_eq.ghosts.eq a b) (pointwise run_eq.ghosts.eq xs ys) e in
-    ap₂ (λ z zs. z ∷ zs) (run_exact a b each.0) (runs_exact xs ys each.1)
-
--- lists of debts are equal where their runs are
-abbrev pub owes_equal : List Debt → List Debt → Bool
-owes_equal xs ys = on runs_of (pointwise run_eq.ghosts.eq) xs ys
-
 -- equal lists of debts are the same one
-pub owes_exact : (xs ys : List Debt) → owes_equal xs ys ≡ true → xs ≡ ys
-owes_exact xs ys e = sym (debts_of-runs_of xs) ∙ ap debts_of (runs_exact (runs_of xs) (runs_of ys) e) ∙ debts_of-runs_of ys
+pub owes_exact : (xs ys : List Debt) → pointwise debt_eq.ghosts.eq xs ys ≡ true → xs ≡ ys
+owes_exact [] [] e = refl
+owes_exact [] (y ∷ ys) e = absurd (true≢false (sym e))
+owes_exact (x ∷ xs) [] e = absurd (true≢false (sym e))
+owes_exact (x ∷ xs) (y ∷ ys) e =
+    let each = both_true (debt_eq.ghosts.eq x y) (pointwise debt_eq.ghosts.eq xs ys) e in
+    ap₂ (λ z zs. z ∷ zs) (debt_exact x y each.0) (owes_exact xs ys each.1)
 
 -- debts that stand for the same beside one book are the same
 pub owes_apart : (texts : Texts) (xs ys : List Debt) → IsBook texts → All (Keeps texts) (owes_names xs) →

@@ -1,4 +1,5 @@
 use Rattle.std.specs.Prelude.{◌≡◌, ◌≤◌, ℕ, true, List, [], ◌∷◌, All, Contains}
+use Rattle.std.specs.Cmp.Lexicographic.{pointwise}
 use Rattle.std.proofs.Common.{refl, sym, ◌∙◌, ap, ap₂, subst, inl, inr, arith}
 use Rattle.std.proofs.lemmas.Bool.Decides.{nat_tests}
 use Rattle.std.proofs.lemmas.List.Elements.{All-head, All-tail, All-nil, All-cons, Contains-append_right}
@@ -8,6 +9,7 @@ use Rattle.sip_machine.specs.declared.event.Kind.{Kind}
 use Rattle.sip_machine.specs.declared.event.Kind.TheVariants.{Request, Response}
 use Rattle.sip_machine.specs.declared.plain_server.PlainServerState.{PlainServerState}
 use Rattle.sip_machine.specs.declared.plain_server.PlainServerState.TheVariants as code
+use Rattle.sip_machine.specs.contracts.outbox.DebtPartialEq.TheImpl as debt_eq
 use Rattle.sip_machine.specs.contracts.plain_server.PlainServerStatePartialEq.TheImpl as derived
 use Rattle.sip_machine.specs.Times.{Times}
 use Rattle.sip_machine.specs.Limits.{close_at, IsWithin}
@@ -16,7 +18,7 @@ use Rattle.sip_machine.specs.Heard.{Heard}
 use Rattle.sip_machine.specs.Rules.{IsLawful, Knows}
 use Rattle.sip_machine.specs.Debts.{Owed, unexpired, earliest}
 use Rattle.sip_machine.specs.Owes.{owes_seen, owes_names}
-use Rattle.sip_machine.specs.inner.OwesLaws.{owes_equal, owes_exact, owes_apart, owes_seen_by_names, must_deadlines-seen, is_some-deadlines, AreDue, AreDue-unexpired, AreDue-must, AreDue-may, AreDue-paid, AreDue-softened, IsWithin-owed}
+use Rattle.sip_machine.specs.inner.OwesLaws.{owes_exact, owes_apart, owes_seen_by_names, must_deadlines-seen, is_some-deadlines, AreDue, AreDue-unexpired, AreDue-must, AreDue-may, AreDue-paid, AreDue-softened, IsWithin-owed}
 use Rattle.sip_machine.specs.PlainServer.{PlainServerPhase, Idle, Trying, Proceeding, Completed, Receives, Sends, Repays, Emits, Steps, owed_by, with_owes, timers, timer_j, plain_server_until, plain_server_window, plain_server_rules, plain_server_seen, plain_server_names}
 
 -- equal states of the code are the same one
@@ -32,7 +34,7 @@ plain_server_exact (code.Trying reliable) (code.Completed reliable' final' set' 
 plain_server_exact (code.Proceeding reliable last owes) code.Idle e = cc
 plain_server_exact (code.Proceeding reliable last owes) (code.Trying reliable') e = cc
 plain_server_exact (code.Proceeding reliable last owes) (code.Proceeding reliable' last' owes') e =
-    let same : owes_equal owes owes' ≡ true = grind (arith, nat_tests) in
+    let same : pointwise debt_eq.ghosts.eq owes owes' ≡ true = grind (arith, nat_tests) in
     let same_owes = owes_exact owes owes' same in
     let same_reliable : reliable ≡ reliable' = grind (arith, nat_tests) in
     let same_last : last ≡ last' = grind (arith, nat_tests) in
@@ -42,7 +44,7 @@ plain_server_exact (code.Completed reliable final set owes) code.Idle e = cc
 plain_server_exact (code.Completed reliable final set owes) (code.Trying reliable') e = cc
 plain_server_exact (code.Completed reliable final set owes) (code.Proceeding reliable' last' owes') e = cc
 plain_server_exact (code.Completed reliable final set owes) (code.Completed reliable' final' set' owes') e =
-    let same : owes_equal owes owes' ≡ true = grind (arith, nat_tests) in
+    let same : pointwise debt_eq.ghosts.eq owes owes' ≡ true = grind (arith, nat_tests) in
     let same_owes = owes_exact owes owes' same in
     let same_reliable : reliable ≡ reliable' = grind (arith, nat_tests) in
     let same_final : final ≡ final' = grind (arith, nat_tests) in

@@ -30,18 +30,3 @@ pub record EndsWith (runs : List Run) (debt : Debt) : Type 0 where
 -- the deadlines of runs of debts that have to be paid
 abbrev pub run_deadlines : List Run → List ℕ
 run_deadlines runs = map (λ run. run.debt.deadline) (filter (λ run. run.debt.must) runs)
-
--- the debts have the same data
-abbrev pub is_same : Debt → Debt → Bool
-is_same c d = (c.message == d.message) && ((c.deadline == d.deadline) && beq c.must d.must)
-
--- runs with one more debt in front of them
-abbrev pub runs_before : Debt → List Run → List Run
-runs_before debt [] = record { debt = debt; count = 1 } ∷ []
-runs_before debt (run ∷ runs) =
-    if is_same debt run.debt then record { debt = debt; count = run.count + 1 } ∷ runs else record { debt = debt; count = 1 } ∷ run ∷ runs
-
--- the runs of debts
-abbrev pub runs_of : List Debt → List Run
-runs_of [] = []
-runs_of (debt ∷ debts) = runs_before debt (runs_of debts)

@@ -1,10 +1,9 @@
+use Rattle.std.proofs.Common.{ap, ap₂, ◌∙◌}
 use Rattle.std.specs.Cmp.Lexicographic.{slice_cmp}
-use Rattle.std.proofs.Common.{ap₂, ◌∙◌}
-use Rattle.sip_machine.proofs.RunsLemmas.{runs_are}
+use Rattle.sip_machine.specs.inner.Runs.{debts_of}
 use Rattle.sip_machine.proofs.outbox.OutboxOrd.cmp.Goals as goal
 
 pub returns : goal.returns
 returns c =
-    c.cmp.ensures
-    ∙ ap₂ (slice_cmp _) (runs_are c.self.inside.runs.items c.args.self.now c.self.invariant.0 c.self.view_is)
-    (runs_are c.other.inside.runs.items c.args.other.now c.other.invariant.0 c.other.view_is)
+    c.compare.ensures
+    ∙ ap₂ (slice_cmp _) (ap debts_of c.deref.ensures.value ∙ c.self.view_is) (ap debts_of c.deref-2.ensures.value ∙ c.other.view_is)

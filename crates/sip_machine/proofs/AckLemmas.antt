@@ -1,7 +1,5 @@
-use Prim.Native.Nat.{suc}
-use Rattle.std.specs.Prelude.{◌≡◌, ◌<◌, ◌↔◌, ◌++◌, ℕ, Option, None, Some, Result, Ok, Err, IfOk, SomeIff, List, All, length, take, drop, remove}
-use Rattle.std.proofs.Common.{refl, sym, ◌∙◌, ap, get_or, drop-cons}
-use Rattle.std.proofs.lemmas.List.{take-append-drop}
+use Rattle.std.specs.Prelude.{◌≡◌, ◌↔◌, ℕ, Option, None, Some, Result, Ok, Err, IfOk, SomeIff, List, All}
+use Rattle.std.proofs.Common.{refl, sym, ◌∙◌}
 use Rattle.sip_message.specs.declared.fault.Fault.{Fault}
 use Rattle.sip_message.specs.Message.{message_of}
 use Rattle.sip_message.specs.Reading.{Reading}
@@ -12,7 +10,6 @@ use Rattle.sip_message.proofs.MessageLemmas.{same_reading}
 use Rattle.sip_key.specs.AckOf.{AckOf, IsAckOf}
 use Rattle.sip_machine.specs.declared.outbox.Debt.{Debt}
 use Rattle.sip_machine.specs.Texts.{Texts, text_of}
-use Rattle.sip_machine.specs.Debts.{IsWithoutFirst}
 use Rattle.sip_machine.specs.inner.Acks.{Acks, AcksDebt, PaysDebt, FindsFirst}
 
 -- Which debts an ACK pays.

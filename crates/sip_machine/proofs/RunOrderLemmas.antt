@@ -1,5 +1,5 @@
 use Prim.Native.Nat.{zero, suc}
-use Rattle.std.specs.Prelude.{◌≡◌, ◌≢◌, ◌<◌, ◌≤◌, ◌+◌, ◌-◌, ℕ, Bool, true, List, [], ◌∷◌, ◌++◌, All, length, drop, get_or, replicate}
+use Rattle.std.specs.Prelude.{◌≡◌, ◌≢◌, ◌<◌, ◌≤◌, ◌+◌, ◌-◌, ℕ, Bool, true, List, ◌∷◌, ◌++◌, All, length, drop, get_or, replicate}
 use Rattle.std.specs.Bool.{Decides, one_answer}
 use Rattle.std.specs.declared.cmp.Ordering.{Ordering}
 use Rattle.std.specs.declared.cmp.Ordering.TheVariants.{Less, Equal, Greater}
@@ -19,7 +19,7 @@ use Rattle.sip_machine.specs.contracts.outbox.RunPartialEq.TheImpl as run_eq
 use Rattle.sip_machine.specs.contracts.outbox.RunEq.TheImpl.Laws as run_laws
 use Rattle.sip_machine.specs.contracts.outbox.DebtOrd.TheImpl as debt_ord
 use Rattle.sip_machine.specs.contracts.outbox.DebtOrd.TheImpl.Laws as debt_order
-use Rattle.sip_machine.specs.inner.Runs.{debts_of, kinds, AreRuns}
+use Rattle.sip_machine.specs.inner.Runs.{debts_of, AreRuns}
 use Rattle.sip_machine.proofs.RunsLemmas.{same_debt, equal_itself, kind-at, kinds-size, canonical, each, runs_of}
 
 -- How lists of debts that stand in runs compare.

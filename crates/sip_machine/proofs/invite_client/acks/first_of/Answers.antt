@@ -1,10 +1,9 @@
-use Rattle.std.proofs.Common.{◌+◌, ◌≡◌, false, true≢false, sym, subst, ◌∙◌, ap, take, length, get_or, arith}
+use Rattle.std.proofs.Common.{◌+◌, true≢false, sym, ◌∙◌, ap, get_or}
 use Rattle.std.proofs.lemmas.List.{take_all}
 use Rattle.std.proofs.lemmas.List.Elements.{All-more, All-get_or}
 use Rattle.sip_machine.specs.Texts.{Keeps}
 use Rattle.sip_machine.specs.inner.Acks.{AcksDebt}
-use Rattle.sip_machine.specs.inner.Runs.{debts_of}
-use Rattle.sip_machine.proofs.RunsLemmas.{none, All-each, start_of, start_after, first_one, one_less}
+use Rattle.sip_machine.proofs.RunsLemmas.{none, All-each, start_after, first_one, one_less}
 use Rattle.sip_machine.proofs.AckLemmas.{sum-told}
 use Rattle.sip_machine.proofs.invite_client.acks.first_of.Goals as goal
 

@@ -5,7 +5,9 @@ ghost use Rattle.sip_machine.specs.Rules.{Knows};
 ghost use Rattle.sip_machine.specs.InviteClient.{invite_client_names, InviteClientInRange};
 
 use crate::messages::{Numbered, Start, book_of, event_of};
-use sip_machine::{Action, Book, Debt, Event, InviteClient, InviteClientState, Machine, Params};
+use sip_machine::{
+    Action, Book, Debt, Event, InviteClient, InviteClientState, Machine, Params, Run,
+};
 use std::alloc::Global;
 use std::test::Fail;
 
@@ -69,10 +71,10 @@ enum Want {
     Ended,
 }
 
-fn is_owed(debts: &[Debt], want: Option<Debt>) -> bool {
-    match debts {
+fn is_owed(runs: &[Run], want: Option<Debt>) -> bool {
+    match runs {
         [] => want.is_none(),
-        [only] => want == Some(*only),
+        [only] => only.count == 1 && want == Some(only.debt),
         _ => false,
     }
 }
@@ -100,7 +102,7 @@ fn is_wanted(state: &InviteClientState, want: Want) -> bool {
                 ..
             },
             Want::Completed(moment, debt),
-        ) => *request == INVITE && *set == moment && is_owed(owes.debts(), debt),
+        ) => *request == INVITE && *set == moment && is_owed(owes.runs(), debt),
         _ => false,
     }
 }

@@ -93,9 +93,9 @@ fn may(message: u32, deadline: u64) -> Debt {
 type Owes = Option<Debt>;
 
 fn are_owed(owes: &Outbox, want: Owes) -> bool {
-    match owes.debts() {
+    match owes.runs() {
         [] => want.is_none(),
-        [only] => want == Some(*only),
+        [only] => only.count == 1 && want == Some(only.debt),
         _ => false,
     }
 }

@@ -6,7 +6,7 @@ ghost use Rattle.sip_machine.specs.PlainServer.{plain_server_names, PlainServerI
 
 use crate::messages::{Numbered, Start, book_of, event_of};
 use sip_machine::{
-    Action, Book, Debt, Event, Machine, Outbox, Params, PlainServer, PlainServerState,
+    Action, Book, Debt, Event, Machine, Outbox, Params, PlainServer, PlainServerState, Run,
 };
 use std::alloc::Global;
 use std::test::Fail;
@@ -64,7 +64,7 @@ fn may(message: u32, deadline: u64) -> Debt {
     }
 }
 
-/// Up to two debts that are wanted.
+/// Up to two debts that are wanted, and differ.
 type Owes = [Option<Debt>; 2];
 
 const NOTHING: Owes = [None, None];
@@ -77,13 +77,14 @@ fn two(first: Debt, second: Debt) -> Owes {
     [Some(first), Some(second)]
 }
 
-fn are_owed(debts: &[Debt], want: Owes) -> bool {
-    match debts {
-        [] => want == NOTHING,
-        [only] => want == one(*only),
-        [first, second] => want == two(*first, *second),
-        _ => false,
-    }
+fn are_owed(runs: &[Run], want: Owes) -> bool {
+    let debts = match runs {
+        [] => NOTHING,
+        [only] => one(only.debt),
+        [first, second] => two(first.debt, second.debt),
+        _ => return false,
+    };
+    runs.iter().all(|run| run.count == 1) && debts == want
 }
 
 /// A state that is wanted, over an unreliable transport.
@@ -106,7 +107,7 @@ fn is_wanted(state: &PlainServerState, want: Want) -> bool {
                 owes,
             },
             Want::Proceeding(number, debts),
-        ) => !*reliable && *last == number && are_owed(owes.debts(), debts),
+        ) => !*reliable && *last == number && are_owed(owes.runs(), debts),
         (
             PlainServerState::Completed {
                 reliable,
@@ -118,7 +119,7 @@ fn is_wanted(state: &PlainServerState, want: Want) -> bool {
         ) => !*reliable
             && *final_message == number
             && *set == moment
-            && are_owed(owes.debts(), debts),
+            && are_owed(owes.runs(), debts),
         _ => false,
     }
 }
@@ -333,6 +334,86 @@ fn after_the_final_response(rt: HostRuntime) -> Result<(), Fail> {
     ];
     for (entries, wants) in rows {
         assert!(rt; leads(rt.alloc(), entries, wants)?, "{entries:?}");
+    }
+    Ok(())
+}
+
+/// Whether the state is proceeding with this last response, and owes these runs of debts.
+fn proceeds(state: &PlainServerState, number: u32, want: &[Run]) -> bool {
+    match state {
+        PlainServerState::Proceeding { last, owes, .. } => *last == number && owes.runs() == want,
+        _ => false,
+    }
+}
+
+/// A request that comes again and again at one moment: each time the last response is owed once more. A send of what is owed
+/// is one in its turn, or pays: both rows stand.
+#[test]
+fn equal_debts_stand_in_runs(rt: HostRuntime) -> Result<(), Fail> {
+    let ringing = |count| Run {
+        debt: must(RINGING, 60),
+        count,
+    };
+    let progress = |count| Run {
+        debt: must(PROGRESS, 60),
+        count,
+    };
+    let again = received(10);
+    let entries = [
+        received(0),
+        sent(5, RINGING),
+        again,
+        again,
+        again,
+        sent(10, PROGRESS),
+        again,
+        sent(10, RINGING),
+        again,
+        sent(10, PROGRESS),
+        again,
+    ];
+    let rows: [(usize, &[(u32, &[Run])]); 6] = [
+        (5, &[(RINGING, &[ringing(3)])]),
+        (7, &[(PROGRESS, &[ringing(3), progress(1)])]),
+        (
+            8,
+            &[
+                (RINGING, &[ringing(3), progress(1)]),
+                (PROGRESS, &[ringing(2), progress(1)]),
+            ],
+        ),
+        (
+            9,
+            &[
+                (RINGING, &[ringing(3), progress(1), ringing(1)]),
+                (PROGRESS, &[ringing(2), progress(2)]),
+            ],
+        ),
+        (
+            10,
+            &[
+                (PROGRESS, &[ringing(3), progress(1), ringing(1)]),
+                (RINGING, &[ringing(4)]),
+                (PROGRESS, &[ringing(2), progress(2)]),
+                (PROGRESS, &[ringing(2), progress(1)]),
+            ],
+        ),
+        (
+            11,
+            &[
+                (PROGRESS, &[ringing(3), progress(1), ringing(1), progress(1)]),
+                (RINGING, &[ringing(5)]),
+                (PROGRESS, &[ringing(2), progress(3)]),
+                (PROGRESS, &[ringing(2), progress(2)]),
+            ],
+        ),
+    ];
+    for (len, wants) in rows {
+        let states = states_after(rt.alloc(), &entries[..len])?;
+        assert!(rt; states.len() == wants.len(), "{len}");
+        for (state, (number, want)) in states.iter().zip(wants) {
+            assert!(rt; proceeds(state, *number, want), "{len}");
+        }
     }
     Ok(())
 }

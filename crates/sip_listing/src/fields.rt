@@ -1,10 +1,10 @@
 //! The words of which the text of a state is made.
-ghost use Rattle.std.specs.Prelude.{◌≡◌, ◌++◌, OnOk, string_bytes};
+ghost use Rattle.std.specs.Prelude.{◌≡◌, ◌++◌, OnOk, flat_map, replicate, string_bytes};
 ghost use Rattle.sip_listing.specs.Fields.{field, number_field, optional_field, flag_field, owed_field};
 ghost use Rattle.sip_listing.specs.inner.FieldLaws.{debts_fields};
 
 use itoa::Buffer;
-use sip_machine::Debt;
+use sip_machine::{Debt, Run};
 use std::alloc::AllocError;
 
 /// Appends a value with its name, behind a blank.
@@ -56,12 +56,22 @@ fn push_owed(line: &mut String, debt: Debt) -> Result<(), AllocError>
     line.push_str(if debt.must { "must" } else { "may" })
 }
 
-/// Appends what is owed, one behind another.
-pub(crate) fn push_owes(line: &mut String, owes: &[Debt]) -> Result<(), AllocError>
-    ensures { OnOk result (string_bytes line.new ≡ string_bytes line.old ++ debts_fields owes.now) }
+/// Appends a message that is owed so often, as often.
+fn push_run(line: &mut String, run: Run) -> Result<(), AllocError>
+    ensures { OnOk result (string_bytes line.new ≡ string_bytes line.old ++ debts_fields (replicate run.count run.debt)) }
 {
-    for debt in owes {
-        push_owed(line, *debt)?;
+    for time in 0..run.count {
+        push_owed(line, run.debt)?;
+    }
+    Ok(())
+}
+
+/// Appends what is owed, one behind another.
+pub(crate) fn push_owes(line: &mut String, owes: &[Run]) -> Result<(), AllocError>
+    ensures { OnOk result (string_bytes line.new ≡ string_bytes line.old ++ debts_fields (flat_map (λ run. replicate run.count run.debt) owes.now)) }
+{
+    for run in owes {
+        push_run(line, *run)?;
     }
     Ok(())
 }

@@ -52,7 +52,7 @@ impl Told for InviteClientState {
                 push_flag(out, "reliable", *reliable)?;
                 push_number(out, "request", (*request).into())?;
                 push_number(out, "set", *set)?;
-                push_owes(out, owes.debts())
+                push_owes(out, owes.runs())
             }
             InviteClientState::Ended => out.push_str("ended"),
         }

@@ -34,12 +34,12 @@ impl Told for InviteServerState {
                 push_flag(out, "reliable", *reliable)?;
                 push_number(out, "set", *set)?;
                 push_optional(out, "last", last.map(u64::from))?;
-                push_owes(out, owes.debts())
+                push_owes(out, owes.runs())
             }
             InviteServerState::Accepted { set, owes } => {
                 out.push_str("accepted")?;
                 push_number(out, "set", *set)?;
-                push_owes(out, owes.debts())
+                push_owes(out, owes.runs())
             }
             InviteServerState::Completed {
                 reliable,
@@ -55,7 +55,7 @@ impl Told for InviteServerState {
                 push_number(out, "set", *set)?;
                 push_number(out, "repeat", *repeat)?;
                 push_number(out, "interval", *interval)?;
-                push_owes(out, owes.debts())
+                push_owes(out, owes.runs())
             }
             InviteServerState::Confirmed {
                 reliable,
@@ -65,7 +65,7 @@ impl Told for InviteServerState {
                 out.push_str("confirmed")?;
                 push_flag(out, "reliable", *reliable)?;
                 push_number(out, "set", *set)?;
-                push_owes(out, owes.debts())
+                push_owes(out, owes.runs())
             }
         }
     }

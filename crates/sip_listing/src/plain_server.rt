@@ -36,7 +36,7 @@ impl Told for PlainServerState {
                 out.push_str("proceeding")?;
                 push_flag(out, "reliable", *reliable)?;
                 push_number(out, "last", (*last).into())?;
-                push_owes(out, owes.debts())
+                push_owes(out, owes.runs())
             }
             PlainServerState::Completed {
                 reliable,
@@ -48,7 +48,7 @@ impl Told for PlainServerState {
                 push_flag(out, "reliable", *reliable)?;
                 push_number(out, "final", (*final_message).into())?;
                 push_number(out, "set", *set)?;
-                push_owes(out, owes.debts())
+                push_owes(out, owes.runs())
             }
         }
     }

@@ -30,6 +30,19 @@ fn two_debts(alloc: Global) -> Result<Outbox, Fail> {
     Ok(owes)
 }
 
+/// The message 2 three times, 3, 2 and 3, each of which must be sent until 540.
+fn six_debts(alloc: Global) -> Result<Outbox, Fail> {
+    let mut owes = Outbox::new(alloc);
+    for message in [2, 2, 2, 3, 2, 3] {
+        owes.push(Debt {
+            message,
+            deadline: 540,
+            must: true,
+        })?;
+    }
+    Ok(owes)
+}
+
 fn waiting(interval: u64) -> PlainWaiting {
     PlainWaiting {
         reliable: false,
@@ -185,6 +198,14 @@ fn tells_plain_servers(rt: HostRuntime) -> Result<(), Fail> {
                 owes: two_debts(alloc)?,
             },
             "proceeding reliable=no last=2 owes=2/530/may owes=3/540/must",
+        ),
+        (
+            PlainServerState::Proceeding {
+                reliable: false,
+                last: 3,
+                owes: six_debts(alloc)?,
+            },
+            "proceeding reliable=no last=3 owes=2/540/must owes=2/540/must owes=2/540/must owes=3/540/must owes=2/540/must owes=3/540/must",
         ),
         (
             PlainServerState::Completed {

@@ -1,7 +1,5 @@
-use Prim.Native.Nat.{suc}
-use Rattle.std.specs.Prelude.{◌<◌, ◌↔◌, ◌++◌, ℕ, Option, None, Some, Result, Ok, Err, IfOk, List, All, length, take, drop, remove}
-use Rattle.std.proofs.Common.{refl, sym, ◌∙◌, ap, get_or, drop-cons}
-use Rattle.std.proofs.lemmas.List.{take-append-drop}
+use Rattle.std.specs.Prelude.{◌≡◌, ◌↔◌, ℕ, Option, None, Some, Result, Ok, Err, IfOk, SomeIff, List, All}
+use Rattle.std.proofs.Common.{refl, sym, ◌∙◌}
 use Rattle.sip_message.specs.declared.fault.Fault.{Fault}
 use Rattle.sip_message.specs.Message.{message_of}
 use Rattle.sip_message.specs.Reading.{Reading}
@@ -12,7 +10,6 @@ use Rattle.sip_message.proofs.MessageLemmas.{same_reading}
 use Rattle.sip_key.specs.AckOf.{AckOf, IsAckOf}
 use Rattle.sip_machine.specs.declared.outbox.Debt.{Debt}
 use Rattle.sip_machine.specs.Texts.{Texts, text_of}
-use Rattle.sip_machine.specs.Debts.{IsWithoutFirst}
 use Rattle.sip_machine.specs.inner.Acks.{Acks, AcksDebt, PaysDebt, FindsFirst}
 
 -- Which debts an ACK pays.
@@ -47,20 +44,6 @@ PaysDebt-read texts ack invite t a i reads_a reads_i d =
     let same = AckOf-read ack invite (text_of texts d.message) a i reads_a reads_i in
     (λ acks. (same.0 acks.0, acks.1), λ pays. (same.1 pays.0, pays.1))
 
--- the list without the first element of which P holds
-pub IsWithoutFirst-at : {X : Type 0} (P : X → Type 0) (xs : List X) (i : ℕ) (d : X) → i < length xs →
-    All (λ x. ¬ (P x)) (take i xs) → P (get_or xs i d) → IsWithoutFirst P xs (remove xs i)
-IsWithoutFirst-at P xs i d low none holds =
-    record {
-      before = take i xs;
-      first = get_or xs i d;
-      after = drop (suc i) xs;
-      whole = sym (take-append-drop i xs) ∙ ap (λ rest. take i xs ++ rest) (drop-cons xs i d low);
-      holds = holds;
-      none_before = none;
-      rest = refl;
-    }
-
 -- what holds of the same elements has the same first one
 pub FindsFirst-same : {X : Type 0} (P Q : X → Type 0) → ((x : X) → P x ↔ Q x) → (xs : List X) (found : Option ℕ) →
     FindsFirst P xs found → FindsFirst Q xs found
@@ -91,3 +74,8 @@ PaysDebt-no_ack texts ack invite t f fault ds = λ k d low pays. Reads-fault ack
 pub PaysDebt-no_invite : (texts : Texts) (ack invite : List ℕ) (t : ℕ) (f : Fault) → FaultOf invite (Some f) → (ds : List Debt) →
     All (λ d. ¬ (PaysDebt texts ack invite t d)) ds
 PaysDebt-no_invite texts ack invite t f fault ds = λ k d low pays. Reads-fault invite f fault pays.0.1 pays.0.4
+
+-- a sum that fits is the sum
+pub sum-told : (P : Type 0) (o : Option ℕ) (sum n : ℕ) → SomeIff o P sum → o ≡ Some n → n ≡ sum
+sum-told P None sum n told is = cc
+sum-told P (Some m) sum n told is = let same : m ≡ n = cc in sym same ∙ told.1

@@ -10,5 +10,7 @@ pub mod TextLaws
 mod OrderLaws
 mod RunLaws
 pub mod OutboxLemmas
+pub mod RunsLemmas
+pub mod RunOrderLemmas
 pub mod ProvisionalLemmas
 pub mod AckLemmas

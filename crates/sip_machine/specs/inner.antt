@@ -11,5 +11,6 @@ pub mod Acks
 pub mod InviteServerAt
 pub mod InviteServerLaws
 pub mod Outbox
+pub mod Runs
 pub mod Order
 pub mod Start

@@ -20,7 +20,7 @@ pub use event::{Action, Event, Kind, Method};
 pub use invite_client::{InviteClient, InviteClientState, InviteWaiting};
 pub use invite_server::{InviteServer, InviteServerState};
 pub use machine::Machine;
-pub use outbox::{Debt, Outbox};
+pub use outbox::{Debt, Outbox, Run};
 pub use params::Params;
 pub use plain_client::{PlainClient, PlainState, PlainWaiting};
 pub use plain_server::{PlainServer, PlainServerState};

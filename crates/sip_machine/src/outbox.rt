@@ -1,5 +1,5 @@
 //! What a machine owes, oldest cause first: a list of messages with their deadlines.
-ghost use Rattle.std.specs.Prelude.{◌≡◌, ◌++◌, ◌∷◌, [], IfOk, OnOk, OnErr, IsTrue, IfSome, ◌<◌, All, length, position, remove, map, filter};
+ghost use Rattle.std.specs.Prelude.{◌≡◌, ◌≢◌, ◌↔◌, ◌++◌, ◌∷◌, [], ◌+◌, ◌<◌, ◌^◌, List, IfOk, OnOk, OnErr, IsTrue, IfSome, All, length, position, remove, map, filter, take, drop, get_or, flat_map, replicate};
 ghost use Rattle.std.specs.Bool.{OnTrue, OnFalse};
 ghost use Rattle.std.specs.Cmp.Lexicographic.{pointwise, slice_cmp, slice_partial_cmp, lists_per, lists_equiv, lists_po, lists_total, lists_agrees, lists_ties};
 ghost use Rattle.sip_machine.specs.contracts.outbox.DebtPartialEq.TheImpl.Laws as partial_eq;
@@ -8,6 +8,9 @@ ghost use Rattle.sip_machine.specs.contracts.outbox.DebtPartialOrd.TheImpl.Laws 
 ghost use Rattle.sip_machine.specs.contracts.outbox.DebtOrd.TheImpl.Laws as ord;
 ghost use Rattle.sip_machine.specs.Debts.{IsWithoutFirst, earliest};
 ghost use Rattle.sip_machine.specs.inner.Outbox.{counts_at, softened_debt, is_payable, debt_deadlines};
+ghost use Rattle.sip_machine.specs.declared.outbox.Debt.{Debt};
+ghost use Rattle.sip_machine.specs.declared.outbox.Run.{Run};
+ghost use Rattle.sip_machine.specs.inner.Runs.{debts_of, kinds, AreRuns, AreApartBut, EndsWith, run_deadlines};
 
 use std::alloc::{AllocError, Global};
 use std::cmp::Ordering;
@@ -24,20 +27,33 @@ pub struct Debt {
     pub must: bool,
 }
 
-/// The debts of a machine, oldest cause first. They stand in a plain vector, and contracts see the list,
-/// so that runs of equal debts may take its place.
+/// Equal debts, one behind another.
+#[derive(Clone, Copy, Debug, PartialEq, Eq)]
+pub struct Run {
+    /// Each of them.
+    pub debt: Debt,
+    /// How many there are.
+    pub count: usize,
+}
+
+/// The debts of a machine, oldest cause first. They stand in runs, so that a message that comes again and again at one
+/// moment costs no more than one that came once; contracts see the list.
 #[derive(Debug, Drop)]
 pub struct Outbox {
-    debts: Vec<Debt>,
+    runs: Vec<Run>,
+    count: usize,
 }
 
 impl Model for Outbox {
-    ghost use Rattle.std.specs.Prelude.{List};
+    ghost use Rattle.std.specs.Prelude.{◌≡◌, List, length};
     ghost use Rattle.sip_machine.specs.declared.outbox.Debt.{Debt};
+    ghost use Rattle.sip_machine.specs.inner.Runs.{debts_of, AreRuns};
 
     ghost Value = { List Debt };
 
-    ghost view = { λ o. o.debts.items };
+    ghost view = { λ o. debts_of o.runs.items };
+
+    ghost invariant = { λ o. AreRuns o.runs.items × (o.count ≡ length (debts_of o.runs.items)) };
 }
 
 impl Outbox {
@@ -46,15 +62,17 @@ impl Outbox {
         ensures { result ≡ [] }
     {
         Outbox {
-            debts: Vec::new(alloc),
+            runs: Vec::new(alloc),
+            count: 0,
         }
     }
 
-    /// The debts.
-    pub fn debts(&self) -> &[Debt]
-        ensures { result.now ≡ self.now }
+    /// The debts, in runs.
+    pub fn runs(&self) -> &[Run]
+        ensures debts { flat_map (λ run. replicate run.count run.debt) result.now ≡ self.now }
+        ensures filled { All (λ run. 0 < run.count) result.now }
     {
-        self.debts.as_slice()
+        self.runs.as_slice()
     }
 
     /// Adds a debt behind the others. On an error they are as before.
@@ -62,7 +80,18 @@ impl Outbox {
         ensures ok { OnOk result (self.new ≡ self.old ++ debt ∷ []) }
         ensures err { OnErr result (self.new ≡ self.old) }
     {
-        self.debts.push(debt)?;
+        self.push_run(Run { debt, count: 1 })
+    }
+
+    /// Adds equal debts behind the others. On an error they are as before.
+    fn push_run(&mut self, run: Run) -> Result<(), AllocError>
+        requires { 0 < run.count }
+        ensures ok { OnOk result (self.new ≡ self.old ++ replicate run.count run.debt) }
+        ensures err { OnErr result (self.new ≡ self.old) }
+    {
+        let count = self.count.checked_add(run.count).ok_or(AllocError)?;
+        append(&mut self.runs, run)?;
+        self.count = count;
         Ok(())
     }
 
@@ -70,24 +99,36 @@ impl Outbox {
     pub(crate) fn try_clone(&self) -> Result<Outbox, AllocError>
         ensures { IfOk result (λ copy. copy ≡ self.now) }
     {
-        let debts = Vec::from_slice(*self.debts.allocator(), &self.debts)?;
-        Ok(Outbox { debts })
+        let runs = Vec::from_slice(*self.runs.allocator(), &self.runs)?;
+        Ok(Outbox {
+            runs,
+            count: self.count,
+        })
     }
 
     /// A copy without what may be sent and whose deadline is below the moment.
     pub(crate) fn unexpired(&self, moment: u64) -> Result<Outbox, AllocError>
         ensures { IfOk result (λ copy. copy ≡ filter (counts_at moment) self.now) }
     {
-        let debts = counting(*self.debts.allocator(), &self.debts, moment)?;
-        Ok(Outbox { debts })
+        let mut counting = Outbox::new(*self.runs.allocator());
+        for run in &self.runs {
+            if !counts(run.debt, moment) {
+                continue;
+            }
+            counting.push_run(*run)?;
+        }
+        Ok(counting)
     }
 
     /// A copy of which all may be sent, and none has to be.
     pub(crate) fn softened(&self) -> Result<Outbox, AllocError>
         ensures { IfOk result (λ copy. copy ≡ map softened_debt self.now) }
     {
-        let debts = soft(*self.debts.allocator(), &self.debts)?;
-        Ok(Outbox { debts })
+        let mut soft = Outbox::new(*self.runs.allocator());
+        for run in &self.runs {
+            soft.push_run(softened(*run))?;
+        }
+        Ok(soft)
     }
 
     /// Takes out the first debt that a send of the message at the moment pays, and tells whether there was one.
@@ -95,9 +136,10 @@ impl Outbox {
         ensures paid { OnTrue result (IsWithoutFirst (λ debt. IsTrue (is_payable message moment debt)) self.old self.new) }
         ensures unpaid { OnFalse result ((self.new ≡ self.old) × All (λ debt. ¬ (IsTrue (is_payable message moment debt))) self.old) }
     {
-        match first_payable(&self.debts, message, moment) {
-            Some(index) => {
-                self.debts.remove(index);
+        match first_payable(&self.runs, message, moment) {
+            Some(at) => {
+                take_one(&mut self.runs, at);
+                self.count -= 1;
                 true
             }
             None => false,
@@ -109,14 +151,16 @@ impl Outbox {
         requires { index < length self.old }
         ensures { self.new ≡ remove self.old index }
     {
-        self.debts.remove(index);
+        let at = run_at(&self.runs, index);
+        take_one(&mut self.runs, at);
+        self.count -= 1;
     }
 
     /// The least deadline of what must be sent.
     pub(crate) fn earliest_must(&self) -> Option<u64>
         ensures { result ≡ earliest (debt_deadlines self.now) }
     {
-        earliest_must(&self.debts)
+        earliest_must(&self.runs)
     }
 }
 
@@ -126,7 +170,7 @@ impl PartialEq for Outbox {
     ghost laws = { lists_per partial_eq.laws-law };
 
     fn eq(&self, other: &Outbox) -> bool {
-        self.debts == other.debts
+        self.runs == other.runs
     }
 }
 
@@ -140,10 +184,11 @@ impl PartialOrd for Outbox {
     ghost laws = { lists_po partial_ord.laws-law };
 
     fn partial_cmp(&self, other: &Outbox) -> Option<Ordering> {
-        self.debts.partial_cmp(&other.debts)
+        Some(self.cmp(other))
     }
 }
 
+/// As lists of debts.
 impl Ord for Outbox {
     ghost cmp = { slice_cmp ⟦<Debt as Ord>⟧.cmp };
 
@@ -154,49 +199,153 @@ impl Ord for Outbox {
     ghost matches_eq = { lists_ties ⟦<Debt as Ord>⟧.cmp ord.matches_eq-law };
 
     fn cmp(&self, other: &Outbox) -> Ordering {
-        self.debts.cmp(&other.debts)
+        compare(&self.runs, &other.runs)
     }
 }
 
-/// The debts that still count at the moment.
-fn counting(alloc: Global, debts: &[Debt], moment: u64) -> Result<Vec<Debt>, AllocError>
-    ensures { IfOk result (λ v. v.items ≡ filter (counts_at moment) debts.now) }
+/// Compares the debts of these runs: the first runs that differ decide.
+fn compare(these: &[Run], others: &[Run]) -> Ordering
+    requires these { AreRuns these.now }
+    requires others { AreRuns others.now }
+    ensures { result ≡ slice_cmp ⟦<Debt as Ord>⟧.cmp (debts_of these.now) (debts_of others.now) }
 {
-    let counts = debts
-        .iter()
-        .copied()
-        .filter(|debt| debt.must || moment <= debt.deadline);
-    counts.collect(alloc)
+    for at in 0..these.len().min(others.len()) {
+        let run = these[at];
+        let other = others[at];
+        if run.debt != other.debt {
+            return run.debt.cmp(&other.debt);
+        }
+        if run.count < other.count {
+            return against(these, at + 1, other.debt);
+        }
+        if other.count < run.count {
+            return against(others, at + 1, run.debt).reverse();
+        }
+    }
+    these.len().cmp(&others.len())
 }
 
-/// The debts, of which none has to be paid.
-fn soft(alloc: Global, debts: &[Debt]) -> Result<Vec<Debt>, AllocError>
-    ensures { IfOk result (λ v. v.items ≡ map softened_debt debts.now) }
+/// Compares the debts of the runs from the index on with a list that begins with this debt, as they do not.
+fn against(runs: &[Run], at: usize, debt: Debt) -> Ordering
+    requires filled { All (λ run. 0 < run.count) runs.now }
+    requires other { (run : Run) → at < length runs.now → (get_or runs.now at run).debt ≢ debt }
+    ensures { (rest : List Debt) → result ≡ slice_cmp ⟦<Debt as Ord>⟧.cmp (debts_of (drop at runs.now)) (debt ∷ rest) }
 {
-    let soft = debts.iter().map(|debt| Debt {
-        must: false,
-        ..*debt
-    });
-    soft.collect(alloc)
+    if at < runs.len() {
+        runs[at].debt.cmp(&debt)
+    } else {
+        Ordering::Less
+    }
 }
 
-/// The index of the first debt that a send of the message at the moment pays.
-fn first_payable(debts: &[Debt], message: u32, moment: u64) -> Option<usize>
-    ensures value { result ≡ position (is_payable message moment) debts.now }
-    ensures within { IfSome result (λ i. i < length debts.now) }
+/// Whether the debt counts still at the moment.
+fn counts(debt: Debt, moment: u64) -> bool
+    ensures { result ≡ counts_at moment debt }
 {
-    debts
-        .iter()
-        .position(|debt| debt.message == message && moment <= debt.deadline)
+    debt.must || moment <= debt.deadline
+}
+
+/// The run, whose debts have not to be paid any more.
+fn softened(run: Run) -> Run
+    ensures { result ≡ record { debt = softened_debt run.debt; count = run.count } }
+{
+    Run {
+        debt: Debt {
+            must: false,
+            ..run.debt
+        },
+        ..run
+    }
+}
+
+/// Puts a run behind the others, into the last one if that is of the same debt. On an error they are as before.
+fn append(runs: &mut Vec<Run>, run: Run) -> Result<(), AllocError>
+    requires runs { AreRuns runs.old.items }
+    requires filled { 0 < run.count }
+    requires fits { length (debts_of runs.old.items) + run.count < 2 ^ 64 }
+    ensures ok { OnOk result (debts_of runs.new.items ≡ debts_of runs.old.items ++ replicate run.count run.debt) }
+    ensures err { OnErr result (runs.new.items ≡ runs.old.items) }
+    ensures runs { AreRuns runs.new.items }
+{
+    if ends_with(runs, run.debt) {
+        let last = runs.len() - 1;
+        runs[last].count += run.count;
+        return Ok(());
+    }
+    runs.push(run)?;
+    Ok(())
+}
+
+/// Whether the last run is of this debt.
+fn ends_with(runs: &[Run], debt: Debt) -> bool
+    ensures { IsTrue result ↔ EndsWith runs.now debt }
+{
+    if runs.is_empty() {
+        return false;
+    }
+    runs[runs.len() - 1].debt == debt
+}
+
+/// Takes one debt out of the run at the index.
+fn take_one(runs: &mut Vec<Run>, at: usize)
+    requires runs { AreRuns runs.old.items }
+    requires within { at < length runs.old.items }
+    requires fits { length (debts_of runs.old.items) < 2 ^ 64 }
+    ensures debts { debts_of runs.new.items ≡ remove (debts_of runs.old.items) (length (debts_of (take at runs.old.items))) }
+    ensures runs { AreRuns runs.new.items }
+{
+    if runs[at].count > 1 {
+        runs[at].count -= 1;
+    } else {
+        runs.remove(at);
+        join(runs, at);
+    }
+}
+
+/// Puts the run at the index into the one before it, if that is of the same debt.
+fn join(runs: &mut Vec<Run>, at: usize)
+    requires filled { All (λ run. 0 < run.count) runs.old.items }
+    requires apart { AreApartBut at (kinds runs.old.items) }
+    requires fits { length (debts_of runs.old.items) < 2 ^ 64 }
+    ensures debts { debts_of runs.new.items ≡ debts_of runs.old.items }
+    ensures runs { AreRuns runs.new.items }
+{
+    if at == 0 || runs.len() <= at || runs[at - 1].debt != runs[at].debt {
+        return;
+    }
+    let next = runs.remove(at);
+    runs[at - 1].count += next.count;
+}
+
+/// The index of the run in which the debt at an index stands.
+fn run_at(runs: &[Run], index: usize) -> usize
+    requires { index < length (debts_of runs.now) }
+    ensures within { result < length runs.now }
+    ensures debt { remove (debts_of runs.now) index ≡ remove (debts_of runs.now) (length (debts_of (take result runs.now))) }
+{
+    let mut at = 0;
+    let mut left = index;
+    'passed: while runs[at].count <= left {
+        left -= runs[at].count;
+        at += 1;
+    }
+    at
+}
+
+/// The index of the first run of debts that a send of the message at the moment pays.
+fn first_payable(runs: &[Run], message: u32, moment: u64) -> Option<usize>
+    ensures value { result ≡ position (λ run. is_payable message moment run.debt) runs.now }
+    ensures within { IfSome result (λ i. i < length runs.now) }
+{
+    runs.iter().position(|run| run.debt.message == message && moment <= run.debt.deadline)
 }
 
 /// The least deadline of a debt that has to be paid.
-fn earliest_must(debts: &[Debt]) -> Option<u64>
-    ensures { result ≡ earliest (debt_deadlines debts.now) }
+fn earliest_must(runs: &[Run]) -> Option<u64>
+    ensures { result ≡ earliest (run_deadlines runs.now) }
 {
-    debts
-        .iter()
-        .filter(|debt| debt.must)
-        .map(|debt| debt.deadline)
+    runs.iter()
+        .filter(|run| run.debt.must)
+        .map(|run| run.debt.deadline)
         .min()
 }

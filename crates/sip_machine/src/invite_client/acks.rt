@@ -1,29 +1,30 @@
 //! Which response an ACK is for: the INVITE, the ACK and the responses of the `Book`, read anew.
-ghost use Rattle.std.specs.Prelude.{◌≡◌, ◌↔◌, IfOk, IsTrue, All};
+ghost use Rattle.std.specs.Prelude.{◌≡◌, ◌↔◌, ◌<◌, IfOk, IsTrue, All};
 ghost use Rattle.sip_machine.specs.Texts.{Keeps, text_of};
-ghost use Rattle.sip_machine.specs.Owes.{owes_names};
 ghost use Rattle.sip_machine.specs.inner.Acks.{Acks, AcksDebt, PaysDebt, FindsFirst};
+ghost use Rattle.sip_machine.specs.inner.Runs.{debts_of};
 
 use crate::book::Book;
 use crate::event::Event;
-use crate::outbox::Debt;
+use crate::outbox::{Debt, Run};
 use sip_key::is_ack_of;
 use sip_message::{Message, ReadError};
 use std::alloc::{AllocError, Global};
 
-/// The index of the first debt whose message is a response to the INVITE that the event's message is
+/// The index of the first debt of these runs whose message is a response to the INVITE that the event's message is
 /// the ACK for (RFC 3261, section 17.1.1.3), and whose deadline has not passed; None if there is none.
 pub(crate) fn first_acked(
     alloc: Global,
     book: &Book,
     invite: u32,
-    debts: &[Debt],
+    runs: &[Run],
     event: &Event,
 ) -> Result<Option<usize>, AllocError>
     requires ack { Keeps book.now event.now.number }
     requires invite { Keeps book.now invite }
-    requires debts { All (Keeps book.now) (owes_names debts.now) }
-    ensures { IfOk result (FindsFirst (PaysDebt book.now (text_of book.now event.now.number) (text_of book.now invite) event.now.moment) debts.now) }
+    requires filled { All (λ run. 0 < run.count) runs.now }
+    requires debts { All (λ run. Keeps book.now run.debt.message) runs.now }
+    ensures { IfOk result (FindsFirst (PaysDebt book.now (text_of book.now event.now.number) (text_of book.now invite) event.now.moment) (debts_of runs.now)) }
 {
     let ack = match Message::read(alloc, kept(book, event.number())) {
         Ok(ack) => ack,
@@ -35,7 +36,7 @@ pub(crate) fn first_acked(
         Err(ReadError::Memory) => return Err(AllocError),
         Err(ReadError::Fault(_)) => return Ok(None),
     };
-    first_of(alloc, book, &ack, &invite, debts, event.moment())
+    first_of(alloc, book, &ack, &invite, runs, event.moment())
 }
 
 /// The same, of messages that were read.
@@ -44,16 +45,19 @@ fn first_of(
     book: &Book,
     ack: &Message<'_>,
     invite: &Message<'_>,
-    debts: &[Debt],
+    runs: &[Run],
     moment: u64,
 ) -> Result<Option<usize>, AllocError>
-    requires { All (Keeps book.now) (owes_names debts.now) }
-    ensures { IfOk result (FindsFirst (AcksDebt book.now ack.now invite.now moment) debts.now) }
+    requires filled { All (λ run. 0 < run.count) runs.now }
+    requires debts { All (λ run. Keeps book.now run.debt.message) runs.now }
+    ensures { IfOk result (FindsFirst (AcksDebt book.now ack.now invite.now moment) (debts_of runs.now)) }
 {
-    for (index, debt) in debts.iter().enumerate() {
-        if pays(alloc, book, ack, invite, *debt, moment)? {
+    let mut index = 0usize;
+    for run in runs {
+        if pays(alloc, book, ack, invite, run.debt, moment)? {
             return Ok(Some(index));
         }
+        index = index.checked_add(run.count).ok_or(AllocError)?;
     }
     Ok(None)
 }

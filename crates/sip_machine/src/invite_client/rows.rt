@@ -220,7 +220,7 @@ fn sends_ack(
             set,
             mut owes,
         } => {
-            let Some(index) = first_acked(alloc, book, request, owes.debts(), event)? else {
+            let Some(index) = first_acked(alloc, book, request, owes.runs(), event)? else {
                 return Ok(None);
             };
             owes.remove(index);

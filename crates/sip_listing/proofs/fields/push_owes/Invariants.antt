@@ -1,7 +1,7 @@
-use Rattle.std.proofs.Common.{◌≡◌, ◌++◌, take, string_bytes}
+use Rattle.std.proofs.Common.{◌≡◌, ◌++◌, take, flat_map, replicate, string_bytes}
 use Rattle.sip_listing.specs.inner.FieldLaws.{debts_fields}
 use Rattle.sip_listing.proofs.fields.push_owes.Given as goal
 
-abbrev pub invariant-loop-debt : goal.invariant-loop-debt
-invariant-loop-debt l =
-    string_bytes l.line ≡ string_bytes l.fn.line ++ debts_fields (take l.debt-index l.owes)
+abbrev pub invariant-loop-run : goal.invariant-loop-run
+invariant-loop-run l =
+    string_bytes l.line ≡ string_bytes l.fn.line ++ debts_fields (flat_map (λ run. replicate run.count run.debt) (take l.run-index l.owes))

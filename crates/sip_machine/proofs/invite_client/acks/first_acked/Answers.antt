@@ -1,6 +1,7 @@
 use Rattle.sip_message.specs.Reads.{Reads}
 use Rattle.sip_machine.specs.Texts.{text_of}
 use Rattle.sip_machine.specs.inner.Acks.{AcksDebt, PaysDebt}
+use Rattle.sip_machine.specs.inner.Runs.{debts_of}
 use Rattle.sip_machine.proofs.AckLemmas.{IfOk-first, PaysDebt-read, PaysDebt-no_ack, PaysDebt-no_invite}
 use Rattle.sip_machine.proofs.invite_client.acks.first_acked.Goals as goal
 
@@ -8,13 +9,13 @@ pub returns-in-Err-Fault : goal.returns-in-Err-Fault
 returns-in-Err-Fault c =
     let texts = c.args.book.now in
     let fault = rw (c.in-Err-Fault.field-0-is, c.kept.ensures, c.number.ensures) at c.in-Err-Fault.ensures in
-    PaysDebt-no_ack texts (text_of texts c.args.event.now.number) (text_of texts c.args.invite) c.args.event.now.moment c.in-Err-Fault.field-0-0 fault c.args.debts.now
+    PaysDebt-no_ack texts (text_of texts c.args.event.now.number) (text_of texts c.args.invite) c.args.event.now.moment c.in-Err-Fault.field-0-0 fault (debts_of c.args.runs.now)
 
 pub returns-in-Err-Fault-read : goal.returns-in-Err-Fault-read
 returns-in-Err-Fault-read c =
     let texts = c.args.book.now in
     let fault = rw (c.in-Err-Fault-read.field-0-is, c.kept-2.ensures) at c.in-Err-Fault-read.ensures in
-    PaysDebt-no_invite texts (text_of texts c.args.event.now.number) (text_of texts c.args.invite) c.args.event.now.moment c.in-Err-Fault-read.field-0-0 fault c.args.debts.now
+    PaysDebt-no_invite texts (text_of texts c.args.event.now.number) (text_of texts c.args.invite) c.args.event.now.moment c.in-Err-Fault-read.field-0-0 fault (debts_of c.args.runs.now)
 
 pub returns : goal.returns
 returns c =
@@ -25,5 +26,5 @@ returns c =
     let reads_ack : Reads ack c.in-Ok.ack = rw (c.kept.ensures, c.number.ensures) at c.in-Ok.ensures in
     let reads_invite : Reads invite c.in-Ok-read.invite = rw c.kept-2.ensures at c.in-Ok-read.ensures in
     IfOk-first (AcksDebt texts c.in-Ok.ack c.in-Ok-read.invite t) (PaysDebt texts ack invite t)
-    (PaysDebt-read texts ack invite t c.in-Ok.ack c.in-Ok-read.invite reads_ack reads_invite) c.args.debts.now c.first_of.result
+    (PaysDebt-read texts ack invite t c.in-Ok.ack c.in-Ok-read.invite reads_ack reads_invite) (debts_of c.args.runs.now) c.first_of.result
     (rw c.moment.ensures at c.first_of.ensures)

@@ -1,35 +1,39 @@
-use Rattle.std.proofs.Common.{false, true≢false, sym, ◌∙◌}
+use Rattle.std.proofs.Common.{◌+◌, true≢false, sym, ◌∙◌, ap, get_or}
 use Rattle.std.proofs.lemmas.List.{take_all}
-use Rattle.std.proofs.lemmas.List.Elements.{All-more}
-use Rattle.sip_machine.specs.declared.outbox.Debt.{Debt}
+use Rattle.std.proofs.lemmas.List.Elements.{All-more, All-get_or}
 use Rattle.sip_machine.specs.Texts.{Keeps}
 use Rattle.sip_machine.specs.inner.Acks.{AcksDebt}
-use Rattle.sip_machine.specs.inner.OwesLaws.{All-names}
-use Rattle.sip_machine.proofs.AckLemmas.{IsWithoutFirst-at}
+use Rattle.sip_machine.proofs.RunsLemmas.{none, All-each, start_after, first_one, one_less}
+use Rattle.sip_machine.proofs.AckLemmas.{sum-told}
 use Rattle.sip_machine.proofs.invite_client.acks.first_of.Goals as goal
-
--- where the list has no element
-abbrev none : Debt
-none = record { message = 0; deadline = 0; must = false }
 
 pub pays-requires : goal.pays-requires
 pays-requires c =
-    All-names (Keeps c.args.book.now) c.args.debts.now c.requires c.loop-index.index none c.loop-index-test.true
+    All-get_or (λ run. Keeps c.args.book.now run.debt.message) c.args.runs.now c.loop-run.run-index none c.loop-run-test.true c.requires.debts
 
 pub returns-then-branch : goal.returns-then-branch
 returns-then-branch c =
-    let P = AcksDebt c.args.book.now c.args.ack.now c.args.invite.now c.args.moment in (
-      c.loop-index-test.true,
-      IsWithoutFirst-at P c.args.debts.now c.loop-index.index none c.loop-index-test.true c.loop-index.invariant
-          (c.in_ok-pays.ensures.0 c.if-branch.true),
+    let P = AcksDebt c.args.book.now c.args.ack.now c.args.invite.now c.args.moment in
+    let runs = c.args.runs.now in
+    let at = c.loop-run.run-index in
+    rw c.loop-run.invariant.0 (
+      (one_less runs at c.loop-run-test.true c.requires.filled).0,
+      first_one P runs at none c.loop-run-test.true c.requires.filled c.loop-run.invariant.1 (c.in_ok-pays.ensures.0 c.if-branch.true),
     )
 
-pub loop-index-preserved : goal.loop-index-preserved
-loop-index-preserved c =
+pub loop-run-preserved : goal.loop-run-preserved
+loop-run-preserved c =
     let P = AcksDebt c.args.book.now c.args.ack.now c.args.invite.now c.args.moment in
-    All-more (λ debt. ¬ (P debt)) c.args.debts.now c.loop-index.index none c.loop-index-test.true c.loop-index.invariant
-    (λ pays. true≢false (sym (c.in_ok-pays.ensures.1 pays) ∙ c.if-branch.false))
+    let runs = c.args.runs.now in
+    let at = c.loop-run.run-index in
+    let next = start_after runs at none c.loop-run-test.true in (
+      sum-told _ c.checked_add.result (c.loop-run.index + (get_or runs at none).count) c.in_ok-index.index c.checked_add.ensures c.in_ok-index.ensures.ok_part
+          ∙ ap (λ n. n + (get_or runs at none).count) c.loop-run.invariant.0 ∙ sym next,
+      All-more (λ run. ¬ (P run.debt)) runs at none c.loop-run-test.true c.loop-run.invariant.1
+          (λ pays. true≢false (sym (c.in_ok-pays.ensures.1 pays) ∙ c.if-branch.false)),
+    )
 
 pub returns : goal.returns
 returns c =
-    rw (take_all c.loop-index.index c.args.debts.now c.loop-index-test.false) at c.loop-index.invariant
+    let P = AcksDebt c.args.book.now c.args.ack.now c.args.invite.now c.args.moment in
+    All-each (λ debt. ¬ (P debt)) c.args.runs.now (rw (take_all c.loop-run.run-index c.args.runs.now c.loop-run-test.false) at c.loop-run.invariant.1)

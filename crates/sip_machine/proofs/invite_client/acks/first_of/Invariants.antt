@@ -1,7 +1,10 @@
-use Rattle.std.specs.Prelude.{All, take}
+use Rattle.std.specs.Prelude.{◌≡◌, All, take}
 use Rattle.sip_machine.specs.inner.Acks.{AcksDebt}
+use Rattle.sip_machine.proofs.RunsLemmas.{start_of}
 use Rattle.sip_machine.proofs.invite_client.acks.first_of.Given as goal
 
--- none of the debts so far is one that the ACK pays
-abbrev pub invariant-loop-index : goal.invariant-loop-index
-invariant-loop-index l = All (λ debt. ¬ (AcksDebt l.book l.ack l.invite l.moment debt)) (take l.index l.debts)
+-- the index is where the run begins, and the ACK pays none of the runs so far
+abbrev pub invariant-loop-run : goal.invariant-loop-run
+invariant-loop-run l =
+    (l.index ≡ start_of l.runs l.run-index)
+    × All (λ run. ¬ (AcksDebt l.book l.ack l.invite l.moment run.debt)) (take l.run-index l.runs)

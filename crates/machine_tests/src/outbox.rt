@@ -1,0 +1,57 @@
+//! Runs of debts, and the order of outboxes, by hand.
+use sip_machine::{Debt, Outbox, Run};
+use std::alloc::Global;
+use std::test::Fail;
+
+/// A message that must be sent until 60.
+fn debt(message: u32) -> Debt {
+    Debt {
+        message,
+        deadline: 60,
+        must: true,
+    }
+}
+
+fn outbox(alloc: Global, messages: &[u32]) -> Result<Outbox, Fail> {
+    let mut owes = Outbox::new(alloc);
+    for message in messages {
+        owes.push(debt(*message))?;
+    }
+    Ok(owes)
+}
+
+#[test]
+fn equal_neighbours_are_one_run(rt: HostRuntime) -> Result<(), Fail> {
+    let run = |message, count| Run {
+        debt: debt(message),
+        count,
+    };
+    let owes = outbox(rt.alloc(), &[1, 1, 1, 2, 1, 2])?;
+    assert!(rt; owes.runs() == [run(1, 3), run(2, 1), run(1, 1), run(2, 1)]);
+    assert!(rt; outbox(rt.alloc(), &[])?.runs().is_empty());
+    Ok(())
+}
+
+/// And not by their runs: three 1s and a 2 come before two 1s and a 2.
+#[test]
+fn outboxes_compare_as_lists(rt: HostRuntime) -> Result<(), Fail> {
+    let lists: [&[u32]; 9] = [
+        &[],
+        &[1],
+        &[1, 1],
+        &[1, 1, 1, 2],
+        &[1, 1, 2],
+        &[1, 1, 2, 1],
+        &[1, 2],
+        &[1, 2, 1],
+        &[2],
+    ];
+    for (place, these) in lists.iter().enumerate() {
+        for (other, others) in lists.iter().enumerate() {
+            let owed = outbox(rt.alloc(), these)?;
+            let order = owed.cmp(&outbox(rt.alloc(), others)?);
+            assert!(rt; order == place.cmp(&other), "{place} {other}");
+        }
+    }
+    Ok(())
+}

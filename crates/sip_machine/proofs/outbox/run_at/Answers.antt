@@ -1,0 +1,9 @@
+use Rattle.std.proofs.Common.{remove, sym, ap, ◌∙◌}
+use Rattle.sip_machine.specs.inner.Runs.{debts_of}
+use Rattle.sip_machine.proofs.RunsLemmas.{none, without-any}
+use Rattle.sip_machine.proofs.outbox.run_at.Goals as goal
+
+pub returns-clause-debt : goal.returns-clause-debt
+returns-clause-debt c =
+    ap (λ i. remove (debts_of c.args.runs.now) i) (sym c.passed.invariant.1)
+    ∙ without-any c.args.runs.now c.passed.at c.passed.left none c.passed.invariant.0 c.passed-test.false

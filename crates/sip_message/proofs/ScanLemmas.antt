@@ -1,10 +1,6 @@
 -- A text is cut at its first line end that no blank follows, LF by LF.
-use Rattle.std.proofs.Common.{◌≡◌, ℕ, ◌+◌, ◌-◌, ◌<◌, ◌≤◌, ◌⊎◌, get_or, Bool, true, false, not, cond, take, drop, Some, None, List, [], ◌∷◌, ◌++◌, length, refl, sym, ap, ◌∙◌, subst, inl, inr, arith}
-use Rattle.std.specs.List.{prefix_len}
-use Rattle.std.proofs.lemmas.Bool.{both_ways, and_parts, and_from, not-true, not-false}
-use lib.Lanes.{chunk}
-use Rattle.memchr.specs.Find.{IsFirstByte, is_byte}
-use Rattle.sip_text.proofs.BlockLemmas.{block-passes, block-stops}
+use Rattle.std.proofs.Common.{◌≡◌, ℕ, ◌+◌, ◌-◌, ◌≤◌, ◌⊎◌, Bool, true, false, not, cond, take, drop, Some, None, List, [], ◌∷◌, ◌++◌, length, refl, sym, ap, ◌∙◌, subst, inl, inr, arith}
+use Rattle.std.proofs.lemmas.Bool.{both_ways, and_parts, and_from}
 use Rattle.std.proofs.lemmas.Option.{none-some}
 use Rattle.std.proofs.Math.Seq.{take-append_seam, drop-append_seam}
 use Rattle.sip_text.specs.Text.{led}
@@ -15,7 +11,7 @@ use Rattle.std.proofs.lemmas.List.{append_assoc, append-nil, length-append, appe
 use Rattle.sip_text.specs.Bytes.{crlf, carriage_return, line_feed, is_wsp}
 use Rattle.sip_text.proofs.LacksLemmas.{Lacks}
 use Rattle.sip_message.specs.Lines.{BeginsBlank, IsFolded}
-use Rattle.sip_message.specs.inner.Fronts.{LineFront, ends_cr, begins_wsp, is_line, is_unmarked}
+use Rattle.sip_message.specs.inner.Fronts.{LineFront, ends_cr, begins_wsp, is_line}
 use Rattle.sip_message.proofs.SplitLemmas.{Cuts, first_longer, same_length, second_longer, two_cuts, same_by_end}
 use Rattle.sip_message.proofs.LinesLemmas.{same_first}
 use Rattle.sip_message.proofs.FrontLemmas.{ReadAs, NotRead}
@@ -246,18 +242,3 @@ lf-within text front rest at within front_is rest_is =
       ap length (cut-lf (drop at text) front rest front_is rest_is).0,
       length-append front (line_feed ∷ rest),
     )
-
--- the first mark stands behind the unmarked front of a block
-pub first-mark : (mark : ℕ) (text : List ℕ) (at r : ℕ) → at + 16 ≤ length text → r ≡ prefix_len (is_unmarked mark) (chunk at 16 text) → r < 16 → ((k : ℕ) → k < at → is_unmarked mark (get_or text k 0) ≡ true) → IsFirstByte (is_byte mark) text (Some (at + r))
-first-mark mark text at r room run short before = (
-  record {
-    low = omega arith;
-    high = omega (arith, room, short);
-    before = λ k _ below is. both_ways _ (not-true _ (block-passes (is_unmarked mark) text at r room run before k below)) is;
-  },
-  not-false _ (block-stops (is_unmarked mark) text at r room run short),
-)
-
--- where every byte is unmarked there is no mark
-pub no-mark : (mark : ℕ) (text : List ℕ) → ((k : ℕ) → k < length text → is_unmarked mark (get_or text k 0) ≡ true) → IsFirstByte (is_byte mark) text None
-no-mark mark text each k _ below is = both_ways _ (not-true _ (each k below)) is

@@ -1,16 +1,12 @@
 //! Cursors: what stands at the front of a text, and what is left behind it.
-ghost use Rattle.std.specs.Prelude.{◌≡◌, ◌+◌, ◌≤◌, false, length, option_copied};
-ghost use Rattle.std.specs.List.{prefix_len};
-ghost use Rattle.std.specs.Simd.Lanes.{chunk};
-ghost use Rattle.memchr.specs.Find.{IsFirstByte, is_byte};
+ghost use Rattle.std.specs.Prelude.{◌≡◌, false, option_copied};
 ghost use Rattle.sip_text.specs.Cut.{before, behind, past};
 ghost use Rattle.sip_message.specs.Unfold.{is_blank};
 ghost use Rattle.sip_text.specs.Text.{IsOnlyValue};
-ghost use Rattle.sip_message.specs.inner.Fronts.{IsOnlyBehind, StopsBlank, LineFront, is_line, is_unmarked, TokenFront, MarkFront, ProtocolFront, pair_parts, text_parts, protocol_parts};
+ghost use Rattle.sip_message.specs.inner.Fronts.{IsOnlyBehind, StopsBlank, LineFront, is_line, TokenFront, MarkFront, ProtocolFront, pair_parts, text_parts, protocol_parts};
 
 use memchr::memchr;
 use sip_text::{skip_lws, token_len};
-use std::simd::prelude::*;
 
 /// The token at the front, and what is behind it.
 pub fn cut_token(text: &[u8]) -> Option<(&[u8], &[u8])>
@@ -92,51 +88,9 @@ pub(crate) fn cut(text: &[u8], mark: u8) -> (&[u8], Option<&[u8]>)
     ensures front { result.0.now ≡ before mark text.now }
     ensures rest { option_copied result.1 ≡ behind mark text.now }
 {
-    match find_mark(text, mark) {
+    match memchr(mark, text) {
         Some(at) => (&text[..at], Some(&text[at + 1..])),
         None => (text, None),
-    }
-}
-
-// How many bytes are looked at at once.
-const BLOCK: usize = 16;
-
-// The place of the first mark. In a head it is seldom far, so that small blocks find it soonest. The
-// last block may begin within the one before it.
-#[inline]
-fn find_mark(text: &[u8], mark: u8) -> Option<usize>
-    ensures { IsFirstByte (is_byte mark) text.now result }
-{
-    if text.len() < BLOCK {
-        return memchr(mark, text);
-    }
-    let last = text.len() - BLOCK;
-    let mut at = 0;
-    while at < last {
-        let len = unmarked_len(text, at, mark);
-        if len < BLOCK {
-            return Some(at + len);
-        }
-        at += BLOCK;
-    }
-    let len = unmarked_len(text, last, mark);
-    if len < BLOCK { Some(last + len) } else { None }
-}
-
-// How many bytes of the block at this place stand before its first mark.
-#[inline]
-fn unmarked_len(text: &[u8], at: usize, mark: u8) -> usize
-    requires { at + BLOCK ≤ length text.now }
-    ensures run { result ≡ prefix_len (is_unmarked mark) (chunk at BLOCK text.now) }
-    ensures within { result ≤ BLOCK }
-{
-    let marks = u8x16::from_slice(&text[at..])
-        .simd_eq(u8x16::splat(mark))
-        .to_bitmask();
-    if marks == 0 {
-        BLOCK
-    } else {
-        marks.trailing_zeros() as usize
     }
 }
 

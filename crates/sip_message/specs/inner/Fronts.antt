@@ -86,10 +86,6 @@ begins_wsp (byte ∷ text) = is_wsp byte
 abbrev pub is_line : List ℕ → List ℕ → Bool
 is_line front rest = ends_cr front && not (begins_wsp rest)
 
--- the byte is not the mark
-abbrev pub is_unmarked : ℕ → ℕ → Bool
-is_unmarked mark byte = not (byte == mark)
-
 -- the text past the SP and HTAB at its front
 abbrev pub past_wsp : List ℕ → List ℕ
 past_wsp [] = []

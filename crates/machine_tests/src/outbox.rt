@@ -27,7 +27,8 @@ fn equal_neighbours_are_one_run(rt: HostRuntime) -> Result<(), Fail> {
         count,
     };
     let owes = outbox(rt.alloc(), &[1, 1, 1, 2, 1, 2])?;
-    assert!(rt; owes.runs() == [run(1, 3), run(2, 1), run(1, 1), run(2, 1)]);
+    let wants = [run(1, 3), run(2, 1), run(1, 1), run(2, 1)];
+    assert!(rt; owes.runs() == wants.as_slice());
     assert!(rt; outbox(rt.alloc(), &[])?.runs().is_empty());
     Ok(())
 }

@@ -338,10 +338,27 @@ fn after_the_final_response(rt: HostRuntime) -> Result<(), Fail> {
     Ok(())
 }
 
-/// Whether the state is proceeding with this last response, and owes these runs of debts.
-fn proceeds(state: &PlainServerState, number: u32, want: &[Run]) -> bool {
+/// How often the 180, the 101, the 180 again and the 101 again are owed, each until 60.
+type Turns = [usize; 4];
+
+fn are_turns(runs: &[Run], want: Turns) -> bool {
+    let debts = [must(RINGING, 60), must(PROGRESS, 60)];
+    let mut turns = [0; 4];
+    for (place, run) in runs.iter().enumerate() {
+        if place >= 4 || run.debt != debts[place % 2] {
+            return false;
+        }
+        turns[place] = run.count;
+    }
+    turns == want
+}
+
+/// Whether the state is proceeding with this last response, and owes these.
+fn proceeds(state: &PlainServerState, (number, turns): (u32, Turns)) -> bool {
     match state {
-        PlainServerState::Proceeding { last, owes, .. } => *last == number && owes.runs() == want,
+        PlainServerState::Proceeding { last, owes, .. } => {
+            *last == number && are_turns(owes.runs(), turns)
+        }
         _ => false,
     }
 }
@@ -350,14 +367,6 @@ fn proceeds(state: &PlainServerState, number: u32, want: &[Run]) -> bool {
 /// is one in its turn, or pays: both rows stand.
 #[test]
 fn equal_debts_stand_in_runs(rt: HostRuntime) -> Result<(), Fail> {
-    let ringing = |count| Run {
-        debt: must(RINGING, 60),
-        count,
-    };
-    let progress = |count| Run {
-        debt: must(PROGRESS, 60),
-        count,
-    };
     let again = received(10);
     let entries = [
         received(0),
@@ -372,47 +381,35 @@ fn equal_debts_stand_in_runs(rt: HostRuntime) -> Result<(), Fail> {
         sent(10, PROGRESS),
         again,
     ];
-    let rows: [(usize, &[(u32, &[Run])]); 6] = [
-        (5, &[(RINGING, &[ringing(3)])]),
-        (7, &[(PROGRESS, &[ringing(3), progress(1)])]),
-        (
-            8,
-            &[
-                (RINGING, &[ringing(3), progress(1)]),
-                (PROGRESS, &[ringing(2), progress(1)]),
-            ],
-        ),
-        (
-            9,
-            &[
-                (RINGING, &[ringing(3), progress(1), ringing(1)]),
-                (PROGRESS, &[ringing(2), progress(2)]),
-            ],
-        ),
+    let rows: [(usize, &[(u32, Turns)]); 6] = [
+        (5, &[(RINGING, [3, 0, 0, 0])]),
+        (7, &[(PROGRESS, [3, 1, 0, 0])]),
+        (8, &[(RINGING, [3, 1, 0, 0]), (PROGRESS, [2, 1, 0, 0])]),
+        (9, &[(RINGING, [3, 1, 1, 0]), (PROGRESS, [2, 2, 0, 0])]),
         (
             10,
             &[
-                (PROGRESS, &[ringing(3), progress(1), ringing(1)]),
-                (RINGING, &[ringing(4)]),
-                (PROGRESS, &[ringing(2), progress(2)]),
-                (PROGRESS, &[ringing(2), progress(1)]),
+                (PROGRESS, [3, 1, 1, 0]),
+                (RINGING, [4, 0, 0, 0]),
+                (PROGRESS, [2, 2, 0, 0]),
+                (PROGRESS, [2, 1, 0, 0]),
             ],
         ),
         (
             11,
             &[
-                (PROGRESS, &[ringing(3), progress(1), ringing(1), progress(1)]),
-                (RINGING, &[ringing(5)]),
-                (PROGRESS, &[ringing(2), progress(3)]),
-                (PROGRESS, &[ringing(2), progress(2)]),
+                (PROGRESS, [3, 1, 1, 1]),
+                (RINGING, [5, 0, 0, 0]),
+                (PROGRESS, [2, 3, 0, 0]),
+                (PROGRESS, [2, 2, 0, 0]),
             ],
         ),
     ];
     for (len, wants) in rows {
         let states = states_after(rt.alloc(), &entries[..len])?;
         assert!(rt; states.len() == wants.len(), "{len}");
-        for (state, (number, want)) in states.iter().zip(wants) {
-            assert!(rt; proceeds(state, *number, want), "{len}");
+        for (state, want) in states.iter().zip(wants) {
+            assert!(rt; proceeds(state, *want), "{len}");
         }
     }
     Ok(())

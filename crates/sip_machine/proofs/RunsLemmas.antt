@@ -278,6 +278,12 @@ tells_other b c d is told = other_debt c d (not_true (debt_eq.ghosts.eq c d) (sy
 pub kind-at : (runs : List Run) (k : ℕ) (e : Debt) (d : Run) → k < length runs → get_or (kinds runs) k e ≡ (get_or runs k d).debt
 kind-at runs k e d low = get_or-map (λ run. run.debt) runs k d e low
 
+-- neighbours among runs are of different debts
+pub runs-apart : (runs : List Run) → AreRuns runs → (at : ℕ) (d : Run) → at + 1 < length runs → (get_or runs at d).debt ≢ (get_or runs (at + 1) d).debt
+runs-apart runs are at d low same =
+    are.apart at d.debt (omega (arith, low, kinds-size runs)) (λ none. omega (arith, none))
+    (kind-at runs at d.debt d (omega (arith, low)) ∙ same ∙ sym (kind-at runs (at + 1) d.debt d low))
+
 -- neighbours of different debts are apart
 pub apart-by : (runs : List Run) (at : ℕ) (a b : Run) → a ≡ get_or runs (at - 1) a → b ≡ get_or runs at b → a.debt ≢ b.debt →
     AreApartBut at (kinds runs) → AreApartBut 0 (kinds runs)

@@ -1,5 +1,5 @@
 //! What a machine owes, oldest cause first: a list of messages with their deadlines.
-ghost use Rattle.std.specs.Prelude.{◌≡◌, ◌≢◌, ◌↔◌, ◌++◌, ◌∷◌, [], ◌+◌, ◌<◌, ◌^◌, List, IfOk, OnOk, OnErr, IsTrue, IfSome, All, length, position, remove, map, filter, take, drop, get_or, flat_map, replicate};
+ghost use Rattle.std.specs.Prelude.{◌≡◌, ◌≢◌, ◌↔◌, ◌++◌, ◌∷◌, [], ◌+◌, ◌<◌, ◌^◌, ℕ, List, IfOk, OnOk, OnErr, IsTrue, IfSome, All, length, position, remove, map, filter, take, drop, get_or, flat_map, replicate};
 ghost use Rattle.std.specs.Bool.{OnTrue, OnFalse};
 ghost use Rattle.std.specs.Cmp.Lexicographic.{pointwise, slice_cmp, slice_partial_cmp, lists_per, lists_equiv, lists_po, lists_total, lists_agrees, lists_ties};
 ghost use Rattle.sip_machine.specs.contracts.outbox.DebtPartialEq.TheImpl.Laws as partial_eq;
@@ -67,10 +67,11 @@ impl Outbox {
         }
     }
 
-    /// The debts, in runs.
+    /// The debts, in runs: equal neighbours stand in one.
     pub fn runs(&self) -> &[Run]
         ensures debts { flat_map (λ run. replicate run.count run.debt) result.now ≡ self.now }
         ensures filled { All (λ run. 0 < run.count) result.now }
+        ensures apart { (at : ℕ) (run : Run) → at + 1 < length result.now → (get_or result.now at run).debt ≢ (get_or result.now (at + 1) run).debt }
     {
         self.runs.as_slice()
     }

@@ -26,7 +26,7 @@ use Rattle.sip_machine.specs.inner.DebtLaws.{IsWithoutFirst-none, All-without}
 use Rattle.sip_machine.specs.inner.OwesLaws.{unexpired-seen, softened-seen, All-names, Pays-seen, Pays-none}
 use Rattle.sip_machine.specs.inner.PlainServerAt.{state_at}
 use Rattle.sip_machine.specs.PlainServer.{PlainServerPhase, Idle, Trying, Proceeding, Completed, Receives, Sends, Repays, Steps, PlainServerTake, plain_server_until, owed_by, with_owes, plain_server_seen, plain_server_names, PlainServerInRange}
-use Rattle.sip_machine.proofs.BothLemmas.{StandFor-same, AnswersBoth-one, OrStays-one, OrStays-none}
+use Rattle.sip_machine.proofs.BothLemmas.{StandFor-same, AnswersBoth-one, OrStays-one}
 
 -- The rows of the non-INVITE server, over the states of the code.
 
@@ -72,13 +72,6 @@ Receives-idle p texts e =
       known = All-nil (Keeps texts);
       in_range = tt;
     }
-
--- a request in trying changes nothing
-pub Receives-trying : (p : Times) (texts : Texts) (reliable : Bool) (e : Heard) →
-    IsTheOne plain_server_names PlainServerInRange plain_server_seen texts
-    (OrStays (Receives p (Trying reliable) e) (Trying reliable)) (code.Trying reliable)
-Receives-trying p texts reliable e =
-    record { only = OrStays-none (Receives p (Trying reliable) e) (Trying reliable) (λ y h. h); known = All-nil (Keeps texts); in_range = tt }
 
 -- what is owed with one debt more
 owes-push : (texts : Texts) (ds : List Debt) (d : Debt) → owes_seen texts (ds ++ d ∷ []) ≡ owes_seen texts ds ++ owed_seen texts d ∷ []

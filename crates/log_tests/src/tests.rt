@@ -4,7 +4,7 @@ use sip_log::{
     Broken, FromRead, LogError, LogReader, Sink, Source, ToWrite, WriteError, read_entries,
     write_entry, write_header,
 };
-use sip_machine::{Action, Params};
+use sip_times::{Action, Params};
 use std::alloc::{AllocError, Global};
 use std::test::Fail;
 

@@ -10,8 +10,6 @@ pub mod laws;
 mod role;
 mod sent_by;
 mod solid;
-#[cfg(test)]
-mod tests;
 
 pub use crate::ack_of::is_ack_of;
 pub use crate::concern::{KeyError, cancelled_key, key_of};

@@ -3,7 +3,7 @@ use Rattle.std.proofs.Common.{◌≡◌, ◌≢◌, ◌⊎◌, inl, inr, Option,
 use Rattle.std.specs.Prelude.{codes}
 use Rattle.std.proofs.lemmas.List.{append-nil, append_cancel_left, take-append-drop, take-append-le, length-append}
 use Rattle.std.proofs.Math.Seq.{take-append_seam}
-use Rattle.sip_machine.specs.Times.{Times, AreTimes}
+use Rattle.sip_times.specs.Times.{Times, AreTimes}
 use Rattle.memchr.specs.Find.{IsFirstByte, is_byte}
 use Rattle.sip_log.specs.LogFault as faults
 use Rattle.sip_log.specs.Spelling.{line_feed, space}

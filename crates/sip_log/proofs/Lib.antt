@@ -12,7 +12,6 @@ pub mod NextRead
 pub mod NumberLemmas
 pub mod PutsLemmas
 pub mod ReadingLemmas
-pub mod ReadsLemmas
 pub mod SaysLemmas
 pub mod SpellingLemmas
 pub mod SplitLemmas

@@ -3,8 +3,8 @@ use Rattle.std.proofs.Common.{◌≡◌, ◌≢◌, ◌≤◌, ℕ, List, ◌∷
 use Rattle.sip_log.specs.inner.Number.{IsNumber}
 use Rattle.sip_log.specs.Spelling.{space, letter}
 use Rattle.sip_log.specs.inner.Line.{Numbers, Head, message, mark, HeadLine}
-use Rattle.sip_machine.specs.declared.event.Action.{Action}
-use Rattle.sip_machine.specs.declared.event.Action.TheVariants.{Mark}
+use Rattle.sip_times.specs.declared.action.Action.{Action}
+use Rattle.sip_times.specs.declared.action.Action.TheVariants.{Mark}
 use Rattle.sip_log.proofs.NumberLemmas.{IsNumber-no_space}
 use Rattle.sip_log.proofs.SplitLemmas.{Cut, cut-one, two-front}
 

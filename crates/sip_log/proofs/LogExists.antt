@@ -5,9 +5,9 @@ use Rattle.std.specs.Char.{digit_value}
 use Rattle.std.specs.Str.Parse.{AllDigits, digits_value}
 use Rattle.std.proofs.lemmas.Bool.{cases_eq, cases_lt}
 use Rattle.std.proofs.lemmas.List.{append-nil, append_cancel_left, length-append, length-take-le}
-use Rattle.sip_machine.specs.Times.{Times, AreTimes, last_moment}
-use Rattle.sip_machine.specs.declared.event.Action.{Action}
-use Rattle.sip_machine.specs.declared.event.Action.TheVariants.{Sent, Received, Failed, Mark}
+use Rattle.sip_times.specs.Times.{Times, AreTimes, last_moment}
+use Rattle.sip_times.specs.declared.action.Action.{Action}
+use Rattle.sip_times.specs.declared.action.Action.TheVariants.{Sent, Received, Failed, Mark}
 use Rattle.sip_log.specs.LogFault.{LogFault}
 use Rattle.sip_log.specs.inner.Number.{IsNumber, digit_zero}
 use Rattle.sip_log.specs.Spelling.{line_feed, space, letter, Item}

@@ -1,9 +1,9 @@
 -- What is read of an input is only one.
 use Rattle.std.proofs.Common.{◌≡◌, ◌≢◌, inl, inr, ℕ, ◌+◌, List, [], ◌∷◌, ◌++◌, length, get_or, drop, if◌then◌else◌, ◌==◌, refl, subst, sym, ap, ◌∙◌, arith}
 use Rattle.std.proofs.lemmas.List.{append_cancel_left}
-use Rattle.sip_machine.specs.Times.{Times}
-use Rattle.sip_machine.specs.declared.event.Action.{Action}
-use Rattle.sip_machine.specs.declared.event.Action.TheVariants.{Sent, Received, Failed, Mark}
+use Rattle.sip_times.specs.Times.{Times}
+use Rattle.sip_times.specs.declared.action.Action.{Action}
+use Rattle.sip_times.specs.declared.action.Action.TheVariants.{Sent, Received, Failed, Mark}
 use Rattle.sip_log.specs.LogFault.{LogFault}
 use Rattle.sip_log.specs.Spelling.{line_feed, space, letter, Item}
 use Rattle.sip_log.specs.inner.Line.{Numbers, Head, message, mark, HeadLine}

@@ -2,7 +2,7 @@
 use Rattle.std.proofs.Common.{◌≡◌, inl, inr, ◌≤◌, ◌+◌, ℕ, suc, List, [], ◌∷◌, ◌++◌, length, refl, subst, sym, ap, ◌∙◌, arith, append_assoc}
 use Rattle.std.specs.Prelude.{flat_map}
 use Rattle.std.proofs.lemmas.List.{append-nil, append_cancel_left}
-use Rattle.sip_machine.specs.Times.{Times, AreTimes}
+use Rattle.sip_times.specs.Times.{Times, AreTimes}
 use Rattle.sip_log.specs.Next.{Next, gives}
 use Rattle.sip_log.specs.Spelling.{Item, header_text, entry_text}
 use Rattle.sip_log.specs.Log.{most_entries, ComesNext, InOrder, last_of, LogEnd, Clean, next_at, IsLog, Log, Faulty, Holds, IsLogOf}

@@ -1,7 +1,7 @@
 -- A message and the byte behind it, by what is held of them.
 use Rattle.std.proofs.Common.{◌≡◌, ◌≢◌, inl, inr, ℕ, ◌+◌, ◌<◌, List, ◌++◌, length, take, drop, get_or, refl, ap, arith}
 use Rattle.std.proofs.lemmas.List.{length-take-le, length-append}
-use Rattle.sip_machine.specs.declared.event.Action.{Action}
+use Rattle.sip_times.specs.declared.action.Action.{Action}
 use Rattle.sip_log.specs.LogFault as faults
 use Rattle.sip_log.specs.Spelling.{line_feed}
 use Rattle.sip_log.specs.Next.{gives, stops}

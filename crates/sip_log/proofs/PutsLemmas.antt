@@ -3,7 +3,7 @@ use Rattle.std.proofs.Common.{◌≡◌, ℕ, Bool, List, [], ◌∷◌, ◌++�
 use Rattle.std.specs.Prelude.{codes, decimal}
 use Rattle.std.specs.Io.KnownBytes.{Appends}
 use Rattle.std.proofs.KnownBytes.{Appends-trans}
-use Rattle.sip_machine.specs.Times.{Times}
+use Rattle.sip_times.specs.Times.{Times}
 use Rattle.sip_log.specs.Spelling.{line_feed, header_text}
 
 -- a piece was appended, and no put failed

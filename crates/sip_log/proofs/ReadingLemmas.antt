@@ -1,7 +1,7 @@
 -- What an answer says, by what it says in other words.
 use Rattle.std.proofs.Common.{◌≡◌, inl, inr, ℕ, Bool, List, ◌++◌, Option, Some, None, IfSome, Result, Ok, Err, IsSome, OnOk, refl, subst, sym, ap, ◌∙◌}
 use Rattle.std.specs.Io.KnownBytes.{prepend_known}
-use Rattle.sip_machine.specs.Times.{Times, AreTimes}
+use Rattle.sip_times.specs.Times.{Times, AreTimes}
 use Rattle.sip_log.specs.declared.entry.Entry.{Entry}
 use Rattle.sip_log.specs.declared.log_error.LogError.{LogError}
 use Rattle.sip_log.specs.declared.log_error.LogError.TheVariants as errors

@@ -1,7 +1,7 @@
 use Rattle.std.specs.Prelude.{◌++◌, ℕ, List, [], ◌∷◌, length, codes, decimal}
-use Rattle.sip_machine.specs.Times.{Times}
-use Rattle.sip_machine.specs.declared.event.Action.{Action}
-use Rattle.sip_machine.specs.declared.event.Action.TheVariants.{Sent, Received, Failed, Mark}
+use Rattle.sip_times.specs.Times.{Times}
+use Rattle.sip_times.specs.declared.action.Action.{Action}
+use Rattle.sip_times.specs.declared.action.Action.TheVariants.{Sent, Received, Failed, Mark}
 
 -- Log format 1: the one text of a header, and the one text of an entry.
 

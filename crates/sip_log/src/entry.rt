@@ -1,6 +1,6 @@
 //! The entries of a log, one after another.
 ghost use Rattle.std.specs.Prelude.{◌≡◌, ◌+◌, ◌<◌, ◌≤◌, IfOk, IfSome, OnSome};
-ghost use Rattle.sip_machine.specs.Times.{last_moment};
+ghost use Rattle.sip_times.specs.Times.{last_moment};
 ghost use Rattle.sip_log.specs.inner.Line.{KeepsLimits, cut_head, head_of, moment_of};
 ghost use Rattle.sip_log.specs.inner.Window.{unread};
 ghost use Rattle.sip_log.specs.inner.Entry.{AtMessage, AtBody, AtHead, AtLine, ComesNext};
@@ -13,7 +13,7 @@ use crate::line::{Head, read_head};
 use crate::log_error::LogError;
 use crate::source::Source;
 use crate::window::Window;
-use sip_machine::Action;
+use sip_times::Action;
 use std::alloc::Global;
 
 /// The most bytes of an entry's line with its line feed.

@@ -1,6 +1,6 @@
 //! The first two lines of a log: the format and the times of the element.
 ghost use Rattle.std.specs.Prelude.{◌≡◌, ℕ, List, MatchOption};
-ghost use Rattle.sip_machine.specs.Times.{Times, AreTimes};
+ghost use Rattle.sip_times.specs.Times.{Times, AreTimes};
 ghost use Rattle.sip_log.specs.inner.Header.{NumberAfter, TimesLine, ComesFirst, ComesSecond};
 ghost use Rattle.sip_log.specs.Next.{gives};
 ghost use Rattle.sip_log.specs.inner.Number.{cut};
@@ -12,7 +12,7 @@ use crate::number::number;
 use crate::source::Source;
 use crate::window::Window;
 use memchr::memchr;
-use sip_machine::Params;
+use sip_times::Params;
 
 /// The most bytes of line 2 with its line feed, where its numbers are within their limits.
 const LONGEST_TIMES: usize = 43;

@@ -1,6 +1,6 @@
 //! Laws of the format. The functions do nothing: their contracts are the laws.
 ghost use Rattle.std.specs.Prelude.{◌≡◌, ◌<◌, ◌≤◌, ◌++◌, ℕ, List, length, flat_map};
-ghost use Rattle.sip_machine.specs.Times.{Times, AreTimes};
+ghost use Rattle.sip_times.specs.Times.{Times, AreTimes};
 ghost use Rattle.sip_log.specs.Next.{Next, gives};
 ghost use Rattle.sip_log.specs.Spelling.{Item, header_text, entry_text};
 ghost use Rattle.sip_log.specs.Turn.{ComeInTurn};

@@ -1,7 +1,7 @@
 //! The line at which an entry begins.
 ghost use Rattle.std.specs.Prelude.{◌≡◌, ◌≢◌, ◌↔◌, ℕ, MatchOption, IsTrue};
-ghost use Rattle.sip_machine.specs.declared.event.Action.{Action};
-ghost use Rattle.sip_machine.specs.declared.event.Action.TheVariants.{Mark};
+ghost use Rattle.sip_times.specs.declared.action.Action.{Action};
+ghost use Rattle.sip_times.specs.declared.action.Action.TheVariants.{Mark};
 ghost use Rattle.sip_log.specs.inner.Number.{cut};
 ghost use Rattle.sip_log.specs.Spelling.{letter};
 ghost use Rattle.sip_log.specs.Log.{IsWithinLimits};
@@ -10,7 +10,7 @@ ghost use Rattle.sip_log.specs.inner.Line as log;
 
 use crate::number::number;
 use memchr::memchr;
-use sip_machine::Action;
+use sip_times::Action;
 
 /// The last moment that a log can name, in milliseconds.
 const LAST_MOMENT: u64 = 9_999_999_999_999;

@@ -9,7 +9,7 @@ use crate::header::read_header;
 use crate::log_error::LogError;
 use crate::source::Source;
 use crate::window::Window;
-use sip_machine::Params;
+use sip_times::Params;
 use std::alloc::Global;
 use std::marker::Model;
 use std::mem;

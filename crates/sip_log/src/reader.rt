@@ -6,7 +6,7 @@ use crate::entry::Entry;
 use crate::log_error::LogError;
 use crate::progress::Progress;
 use crate::source::Source;
-use sip_machine::Params;
+use sip_times::Params;
 use std::alloc::Global;
 use std::marker::Model;
 

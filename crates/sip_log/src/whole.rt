@@ -1,6 +1,6 @@
 //! Reads a log whole.
 ghost use Rattle.std.specs.Prelude.{◌≡◌, ◌++◌, ◌∷◌, [], List, map, IfOk, IfErr, IfSome, OnOk};
-ghost use Rattle.sip_machine.specs.Times.{Times};
+ghost use Rattle.sip_times.specs.Times.{Times};
 ghost use Rattle.sip_log.specs.Log.{IsFaultOf, IsLog, Clean};
 ghost use Rattle.sip_log.specs.Told.{FailsAs, item};
 

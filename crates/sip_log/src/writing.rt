@@ -10,7 +10,7 @@ use crate::line::{is_within_limits, letter_of};
 use crate::sink::Sink;
 use crate::write_error::WriteError;
 use itoa::Buffer;
-use sip_machine::{Action, Params};
+use sip_times::{Action, Params};
 
 /// Writes the header of a log: the format, and the times of the element. Takes no memory.
 pub fn write_header<W: Sink>(writer: &mut W, params: &Params) -> Result<(), WriteError>

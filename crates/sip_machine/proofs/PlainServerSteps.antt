@@ -2,8 +2,8 @@ use Rattle.std.specs.Prelude.{◌≡◌, ◌≤◌, ◌<◌, ◌^◌, ◌↔◌,
 use Rattle.std.proofs.Common.{refl, sym, ◌∙◌, ap, subst, inl, inr, arith, true≢false, length-append}
 use Rattle.std.proofs.lemmas.List.{map-append}
 use Rattle.std.proofs.lemmas.List.Elements.{All-head, All-tail, All-nil, All-cons, All-map, All-push, All-filter}
-use Rattle.sip_machine.specs.declared.event.Action.{Action}
-use Rattle.sip_machine.specs.declared.event.Action.TheVariants.{Received}
+use Rattle.sip_times.specs.declared.action.Action.{Action}
+use Rattle.sip_times.specs.declared.action.Action.TheVariants.{Received}
 use Rattle.sip_machine.specs.declared.event.Method.{Method}
 use Rattle.sip_machine.specs.declared.event.Kind.{Kind}
 use Rattle.sip_machine.specs.declared.event.Kind.TheVariants.{Request, Response}
@@ -26,7 +26,7 @@ use Rattle.sip_machine.specs.inner.DebtLaws.{IsWithoutFirst-none, All-without}
 use Rattle.sip_machine.specs.inner.OwesLaws.{unexpired-seen, softened-seen, All-names, Pays-seen, Pays-none}
 use Rattle.sip_machine.specs.inner.PlainServerAt.{state_at}
 use Rattle.sip_machine.specs.PlainServer.{PlainServerPhase, Idle, Trying, Proceeding, Completed, Receives, Sends, Repays, Steps, PlainServerTake, plain_server_until, owed_by, with_owes, plain_server_seen, plain_server_names, PlainServerInRange}
-use Rattle.sip_machine.proofs.BothLemmas.{StandFor-same, AnswersBoth-one, OrStays-one, OrStays-none}
+use Rattle.sip_machine.proofs.BothLemmas.{StandFor-same, AnswersBoth-one, OrStays-one}
 
 -- The rows of the non-INVITE server, over the states of the code.
 
@@ -72,13 +72,6 @@ Receives-idle p texts e =
       known = All-nil (Keeps texts);
       in_range = tt;
     }
-
--- a request in trying changes nothing
-pub Receives-trying : (p : Times) (texts : Texts) (reliable : Bool) (e : Heard) →
-    IsTheOne plain_server_names PlainServerInRange plain_server_seen texts
-    (OrStays (Receives p (Trying reliable) e) (Trying reliable)) (code.Trying reliable)
-Receives-trying p texts reliable e =
-    record { only = OrStays-none (Receives p (Trying reliable) e) (Trying reliable) (λ y h. h); known = All-nil (Keeps texts); in_range = tt }
 
 -- what is owed with one debt more
 owes-push : (texts : Texts) (ds : List Debt) (d : Debt) → owes_seen texts (ds ++ d ∷ []) ≡ owes_seen texts ds ++ owed_seen texts d ∷ []

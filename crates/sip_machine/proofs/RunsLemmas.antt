@@ -7,7 +7,7 @@ use Rattle.std.proofs.lemmas.Bool.{cases_lt}
 use Rattle.std.proofs.lemmas.Bool.Decides.{eqb_tells, nat_tests}
 use Rattle.std.proofs.lemmas.Grind.{flat_map-append}
 use Rattle.std.specs.List.{take-map, drop-map}
-use Rattle.std.proofs.lemmas.List.{get_or_default, get_or-take, length-take, take-append-drop, take_all, drop_all, take-append-le, take-replicate, drop-replicate, replicate-append-replicate, length-replicate, length-append, length-map, length-take-le, map-append, drop_more, take_more, take-take, set_split, append-nil, append_assoc, get_or_append_left, get_or-append-add, get_or-replicate, get_or-map}
+use Rattle.std.proofs.lemmas.List.{get_or_default, get_or-take, length-take, take-append-drop, drop_all, take-append-le, take-replicate, drop-replicate, replicate-append-replicate, length-replicate, length-append, length-map, length-take-le, map-append, drop_more, take_more, take-take, set_split, append-nil, append_assoc, get_or_append_left, get_or-append-add, get_or-replicate, get_or-map}
 use Rattle.std.proofs.lemmas.List.Edits.{remove-append_left, remove-append_right, get_or-remove_below, get_or-remove_above, length-remove}
 use Rattle.std.proofs.lemmas.List.Elements.{All-get_or, All-append, All-take, All-drop, All-cons, All-nil, All-set, All-head, All-tail, All-replicate, filter-append}
 use Rattle.std.proofs.lemmas.List.Concat.{get_or-flat_map}
@@ -362,10 +362,6 @@ module _ (runs : List Run) (at : ℕ) (a : Run) (low : at < length runs) (is : a
       let size = length-remove (debts_of runs) (start_of runs at) within in
       rw (emptied-debts few all) (omega (arith, size, fits))
 
--- a run more
-pub appended-debts : (runs : List Run) (run : Run) → debts_of (runs ++ run ∷ []) ≡ debts_of runs ++ each run
-appended-debts runs run = flat_map-append each runs (run ∷ []) ∙ ap (λ rest. debts_of runs ++ rest) (append-nil (each run))
-
 pub appended-runs : (runs : List Run) (run : Run) → AreRuns runs → 0 < run.count →
     (EndsWith runs run.debt → ⊥) → AreRuns (runs ++ run ∷ [])
 appended-runs runs run all some other =
@@ -619,12 +615,6 @@ canonical (run ∷ runs) all =
     all.apart 0 e.debt inside (omega arith) (same ∙ sym (kind-at runs 0 e.debt e filled)))
     ∙ ap (λ n. record { debt = run.debt; count = n } ∷ runs) (sym size)
 
-pub tells_equal : (b : Bool) (c d : Debt) → b ≡ debt_eq.ghosts.eq c d → b ≡ true → c ≡ d
-tells_equal b c d is told = same_debt c d (sym is ∙ told)
-
-pub equal_told : (b : Bool) (c d : Debt) → b ≡ debt_eq.ghosts.eq c d → c ≡ d → b ≡ true
-equal_told b c d is same = is ∙ subst (λ x. debt_eq.ghosts.eq c x ≡ true) same (equal_itself c)
-
 -- where there is no run
 abbrev pub none : Run
 none = record { debt = record { message = 0; deadline = 0; must = false }; count = 0 }
@@ -657,17 +647,6 @@ each-All P (run ∷ runs) filled all =
     let whole : All P (run.debt ∷ (replicate (run.count - 1) run.debt ++ debts_of runs)) = subst (λ n. All P (replicate n run.debt ++ debts_of runs)) size all in
     All-cons (λ run. P run.debt) run runs (All-head P run.debt (replicate (run.count - 1) run.debt ++ debts_of runs) whole)
     (each-All P runs (All-tail (λ run. 0 < run.count) run runs filled) (All-back P (each run) (debts_of runs) all))
-
--- a run of no debt at an index is not the last one
-pub before_end : (runs : List Run) (at index : ℕ) → index < length (debts_of runs) → start_of runs at ≤ index → at < length runs
-before_end runs at index low begun = elim (cases_lt at (length runs)) [
-  | inl below ↦ below
-  | inr past ↦ let whole : start_of runs at ≡ length (debts_of runs) = ap (λ all. length (debts_of all)) (take_all at runs past) in absurd (omega (arith, whole, low, begun))
-]
-
--- runs are those of their debts
-pub runs_are : (runs : List Run) (debts : List Debt) → AreRuns runs → debts_of runs ≡ debts → runs ≡ runs_of debts
-runs_are runs debts all is = sym (canonical runs all) ∙ ap runs_of is
 
 -- where the next run begins, by the count of this one
 pub start_after : (runs : List Run) (at : ℕ) (d : Run) → at < length runs → start_of runs (at + 1) ≡ start_of runs at + (get_or runs at d).count

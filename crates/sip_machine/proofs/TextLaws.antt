@@ -140,9 +140,3 @@ text_of-kept text kept i k rising low e =
 -- where the number is none of the messages', it is not kept
 pub Keeps-none : (texts : Texts) (n : ℕ) → All (λ kept. kept.0 ≢ n) texts → Keeps texts n → ⊥
 Keeps-none texts n none keeps = All-contains (λ number. number ≢ n) (map (λ k. k.0) texts) n (All-map (λ number. number ≢ n) (λ k. k.0) texts none) keeps refl
-
--- what a book holds when the code keeps one message more
-pub texts-grow : {K : Type 0} (text : K → ℕ × List ℕ) (kept grown : List K) (k : K) (texts : Texts) (number : ℕ)
-    (bytes : List ℕ) → grown ≡ kept ++ k ∷ [] → map text kept ≡ texts → text k ≡ (number, bytes) →
-    map text grown ≡ texts ++ (number, bytes) ∷ []
-texts-grow text kept grown k texts number bytes grows are is = rw (grows, map-append, are, is)

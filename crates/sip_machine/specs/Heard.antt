@@ -1,5 +1,5 @@
 use Rattle.std.specs.Prelude.{◌≤◌, ℕ, Bool, List}
-use Rattle.sip_machine.specs.declared.event.Action.{Action}
+use Rattle.sip_times.specs.declared.action.Action.{Action}
 use Rattle.sip_machine.specs.declared.event.Kind.{Kind}
 use Rattle.sip_machine.specs.Times.{last_moment}
 use Rattle.sip_machine.specs.NumberedEvent.{NumberedEvent}

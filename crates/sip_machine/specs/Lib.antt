@@ -1,5 +1,5 @@
-pub mod Times
-pub mod Limits
+pub use Rattle.sip_times.specs.Times
+pub use Rattle.sip_times.specs.Limits
 pub mod Texts
 pub mod Message
 pub mod NumberedEvent

@@ -2,22 +2,13 @@
 ghost use Rattle.std.specs.Prelude.{◌≡◌, ◌≢◌, ◌≤◌, ◌↔◌, IsTrue};
 ghost use Rattle.sip_message.specs.Transport.{is_reliable};
 ghost use Rattle.sip_message.specs.ValueParts.{start_parts};
-ghost use Rattle.sip_machine.specs.declared.event.Action.TheVariants.{Mark};
+ghost use Rattle.sip_times.specs.declared.action.Action.TheVariants.{Mark};
 ghost use Rattle.sip_machine.specs.Times.{last_moment};
 ghost use Rattle.sip_machine.specs.Message.{method_named, kind_of, IsProvisional, IsFinal, IsSuccess, IsUnsuccessful};
 
 use sip_message::{Message, StartLine};
+use sip_times::Action;
 use std::marker::Model;
-
-/// What an entry of a log says of its message. A mark has none: it tells that a moment was reached.
-#[derive(Clone, Copy, Debug, PartialEq, Eq)]
-pub enum Action {
-    Sent,
-    Received,
-    /// A send that the transport refused.
-    Failed,
-    Mark,
-}
 
 /// The methods of requests that machines tell apart (RFC 3261, sections 9, 13 and 17.1.1.3).
 #[derive(Clone, Copy, Debug, PartialEq, Eq)]
@@ -105,7 +96,7 @@ pub struct Event {
 
 impl Model for Event {
     ghost use Rattle.std.specs.Prelude.{◌≢◌, ◌≤◌};
-    ghost use Rattle.sip_machine.specs.declared.event.Action.TheVariants.{Mark};
+    ghost use Rattle.sip_times.specs.declared.action.Action.TheVariants.{Mark};
     ghost use Rattle.sip_machine.specs.Times.{last_moment};
     ghost use Rattle.sip_machine.specs.NumberedEvent.{NumberedEvent};
 

@@ -12,7 +12,7 @@ use crate::invite_client::ends::{until, window};
 use crate::invite_client::rows::next_state;
 use crate::machine::Machine;
 use crate::outbox::Outbox;
-use crate::params::Params;
+use sip_times::Params;
 use std::alloc::AllocError;
 use std::marker::Model;
 

@@ -13,8 +13,8 @@ use crate::invite_server::ends::{until, window};
 use crate::invite_server::rows::next_states;
 use crate::machine::Machine;
 use crate::outbox::Outbox;
-use crate::params::Params;
 use crate::push::push_both;
+use sip_times::Params;
 use std::alloc::AllocError;
 use std::marker::Model;
 

@@ -7,9 +7,9 @@ mod rows;
 use crate::book::Book;
 use crate::event::Event;
 use crate::machine::Machine;
-use crate::params::Params;
 use crate::plain_client::ends::{until, window};
 use crate::plain_client::rows::next_state;
+use sip_times::Params;
 use std::alloc::AllocError;
 use std::marker::Model;
 

@@ -8,10 +8,10 @@ use crate::book::Book;
 use crate::event::Event;
 use crate::machine::Machine;
 use crate::outbox::Outbox;
-use crate::params::Params;
 use crate::plain_server::ends::{until, window};
 use crate::plain_server::rows::next_states;
 use crate::push::push_both;
+use sip_times::Params;
 use std::alloc::AllocError;
 use std::marker::Model;
 

@@ -18,7 +18,6 @@ use Rattle.sip_message.specs.Unfold.{is_blank}
 use Rattle.sip_message.specs.Params.{left_angle, right_angle, Mark, ParamsPart, BehindBlanks}
 use Rattle.sip_message.specs.Address.{AddressParts, AddressText, name_addr, addr_spec, BeforeUri, DisplayName}
 use Rattle.sip_message.specs.inner.Fronts.{Stops, Behind, IsOnlyBehind, both}
-use Rattle.sip_message.specs.inner.ParamFronts.{QuotedFront}
 use Rattle.sip_message.specs.Reading.{AddressValue}
 use Rattle.sip_message.specs.inner.AddressFronts.{Words, WordsFront, NameFront, DisplayFront, HasScheme, is_plain_byte, CutParts, AddressCut, named, plain, TailText, AddressSteps}
 use Rattle.sip_message.proofs.SplitLemmas.{All, same_front}
@@ -123,17 +122,6 @@ one-name text x y (inl a) (inl b) = one-quoted text x y a b
 one-name text x y (inl a) (inr b) = absurd (first-fails is_token_byte (slice_index text 0) dquote refl (quoted-first text x a) (words-first_byte text y b))
 one-name text x y (inr a) (inl b) = absurd (first-fails is_token_byte (slice_index text 0) dquote refl (quoted-first text y b) (words-first_byte text x a))
 one-name text x y (inr a) (inr b) = one-words text x y a b
-
--- a quoted string is the name, or else words are
-pub name-quoted : (text name rest : List ℕ) → ReadAs (QuotedFront text) (name, rest) → ReadAs (NameFront text) (name, rest)
-name-quoted text name rest is = read-one (NameFront text) (name, rest) (one-name text) (inl is.0)
-
-pub name-words : (text name rest : List ℕ) → NotRead (QuotedFront text) → ReadAs (WordsFront text) (name, rest) → ReadAs (NameFront text) (name, rest)
-name-words text name rest none is = read-one (NameFront text) (name, rest) (one-name text) (inr is.0)
-
-pub no-name : (text : List ℕ) → NotRead (QuotedFront text) → NotRead (WordsFront text) → NotRead (NameFront text)
-no-name text none no_words x (inl is) = none x is
-no-name text none no_words x (inr is) = no_words x is
 
 -- it begins with no "<"
 name-angle : (text : List ℕ) (x : List ℕ × List ℕ) → NameFront text x → slice_index text 0 ≡ left_angle → ⊥

@@ -5,7 +5,7 @@ use Rattle.sip_text.specs.Bytes.{colon, is_wsp, is_token_byte}
 use Rattle.sip_text.specs.Text.{One, Many}
 use Rattle.sip_text.specs.Grammar.{Token}
 use Rattle.sip_message.specs.Name.{FieldName, name_of}
-use Rattle.sip_message.specs.Field.{Field, NameText, ValueText, FieldText, FieldsText}
+use Rattle.sip_message.specs.Field.{NameText, ValueText}
 use Rattle.sip_message.specs.Unfold.{is_blank, OpensSolid, EndsSolid}
 use Rattle.sip_message.proofs.SplitLemmas.{Cuts, first_longer, same_length, second_longer, two_cuts, same_front, Stops, All, all_left, all_right, all_both}
 use Rattle.sip_message.proofs.EachLemmas.{Each, each-one, each-some, each-many, each-sws, blank_is, wsp-blank}
@@ -71,10 +71,6 @@ value_whole rest value v =
     let w = v.whole in
     w.4 ∙ ap (λ t. w.0 ++ t) (w.3.4 ∙ ap (λ t. t ++ w.3.1) w.3.2)
 
--- a text of blanks has no solid front
-no_solid : (b : ℕ) (v : List ℕ) → OpensSolid (b ∷ v) → All is_blank (b ∷ v) → ⊥
-no_solid b v opens all = both_ways (is_blank b) opens all.0
-
 -- the value is what stands between the longest blank runs
 pub same_value : (rest value other : List ℕ) → ValueText rest value → ValueText rest other → value ≡ other
 same_value rest value other one two =
@@ -102,21 +98,3 @@ same_value rest value other one two =
         absurd (both_ways (is_blank b) vo (all_right is_blank one.whole.0 (b ∷ v ++ one.whole.3.1) all).0)
     at (b ∷ v) (c ∷ w) vo ve wo we same =
         same_solid (b ∷ v) one.whole.3.1 (c ∷ w) two.whole.3.1 ve we back back_too (same_front is_blank one.whole.0 _ two.whole.0 _ front front_too vo wo same).1
-
--- two fields of one name and value are one
-pub field_same : (f g : Field) → f.name ≡ g.name → f.value ≡ g.value → f ≡ g
-field_same f g names values =
-    ap (λ n. record { name = n; value = f.value }) names ∙ ap (λ v. record { name = g.name; value = v }) values
-
--- a line is at most one field
-pub same_field : (line : List ℕ) (f g : Field) → FieldText line f → FieldText line g → f ≡ g
-same_field line f g one other =
-    let names = same_name line one.rest other.rest f.name g.name one.named other.named in
-    field_same f g names.0 (same_value other.rest f.value g.value (subst (λ r. ValueText r f.value) names.1 one.valued) other.valued)
-
--- lines are at most one list of fields
-pub same_fields : (lines : List (List ℕ)) (fs gs : List Field) → FieldsText lines fs → FieldsText lines gs → fs ≡ gs
-same_fields [] fs gs one other = one ∙ sym other
-same_fields (line ∷ lines) fs gs one other =
-    one.4 ∙ ap (λ f. f ∷ one.1) (same_field line one.0 other.0 one.2 other.2)
-    ∙ ap (λ t. other.0 ∷ t) (same_fields lines one.1 other.1 one.3 other.3) ∙ sym other.4

@@ -27,10 +27,6 @@ pub record SoFar (lines : List (List ℕ)) (rest : List ℕ) (fields : List Fiel
   pub lines_left : AreLines rest left
   pub are : FieldsText done fields
 
--- at first nothing is done
-pub so_far-none : (text : List ℕ) (lines : List (List ℕ)) → AreLines text lines → SoFar lines text []
-so_far-none text lines are = record { done = []; left = lines; whole = refl; lines_left = are; are = refl }
-
 -- as many fields as lines
 length-fields : (lines : List (List ℕ)) (fields : List Field) → FieldsText lines fields → length fields ≡ length lines
 length-fields [] fields are = ap length are

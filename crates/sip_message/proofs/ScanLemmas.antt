@@ -148,10 +148,6 @@ wsp-begins : (text : List ℕ) → begins_wsp text ≡ true → BeginsBlank text
 wsp-begins [] is = both_ways false refl is
 wsp-begins (b ∷ text) is = is
 
--- the text, with what is scanned, what is not, and the LF between
-text-is : (text front rest : List ℕ) (at : ℕ) → drop at text ≡ front ++ line_feed ∷ rest → text ≡ take at text ++ (front ++ line_feed ∷ rest)
-text-is text front rest at is = sym (take-append-drop at text) ∙ ap (λ t. take at text ++ t) is
-
 -- the LF ends a line
 pub line-found : (text front rest : List ℕ) (at : ℕ) → at ≤ length text → Scanned (take at text) (drop at text) → front ≡ before line_feed (drop at text) → Some rest ≡ behind line_feed (drop at text) → is_line front rest ≡ true → ReadAs (LineFront text) (take (at + length front - 1) text, rest)
 line-found text front rest at within scanned front_is rest_is line =

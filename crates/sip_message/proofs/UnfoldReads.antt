@@ -4,7 +4,6 @@ use Rattle.std.specs.Prelude.{decimal, Result, Ok, Err, IsErr}
 use Rattle.std.specs.Char.{is_ascii_digit}
 use Rattle.std.proofs.lemmas.Bool.{both_ways, and_from, le-leb}
 use Rattle.std.proofs.lemmas.List.{append-nil, append_assoc, drop_more, length-drop, take_more, get_or-drop}
-use Rattle.std.proofs.Math.Seq.{drop-length}
 use Rattle.std.proofs.lemmas.Str.{digit_value_digit}
 use Rattle.sip_message.specs.Unfold.{is_blank, unfolded_run, unfolded_from, unfolded}
 use Rattle.sip_message.specs.StartLine.{CodeText}
@@ -69,16 +68,6 @@ unfold-solid old text out mid new from at below solid u mid_is new_is = record {
     step =
         ap (unfolded_from run) (drop_more text at 0 below)
         ∙ ap (λ b. cond b (unfolded_from (run ++ get_or text at 0 ∷ []) (drop (at + 1) text)) (unfolded_run run ++ get_or text at 0 ∷ unfolded_from [] (drop (at + 1) text))) solid
-
--- at the end the last run is written
-pub unfold-end : {A E : Type 0} (old text out new : List ℕ) (from at : ℕ) (r : Result A E) → at ≡ length text → Unfolding old text from at out → Appends out new (unfolded_run (take (length text - from) (drop from text))) r → Appends old new (unfolded text) r
-unfold-end old text out new from at (Ok a) end u is =
-    is ∙ ap (λ x. x ++ unfolded_run (take (length text - from) (drop from text))) u.appended ∙ append_assoc old u.done (unfolded_run (take (length text - from) (drop from text)))
-    ∙ ap (λ x. old ++ x) (ap (λ t. u.done ++ unfolded_from (take (length text - from) (drop from text)) t) (sym nothing) ∙ ap (λ n. u.done ++ unfolded_from (take (n - from) (drop from text)) (drop n text)) (sym end) ∙ u.rest)
-  where
-    nothing : drop (length text) text ≡ []
-    nothing = drop-length text
-unfold-end old text out new from at (Err e) end u is = (u.done ++ is.0, is.1 ∙ ap (λ x. x ++ is.0) u.appended ∙ append_assoc old u.done is.0)
 
 -- where memory is refused some part is written
 pub unfold-part : {A E : Type 0} (old text out new goal : List ℕ) (from at : ℕ) (r : Result A E) → IsErr r → Unfolding old text from at out → (part : List ℕ) × (new ≡ out ++ part) → Appends old new goal r

@@ -1,5 +1,5 @@
 -- The top Via's transport is one.
-use Rattle.std.proofs.Common.{◌≡◌, ℕ, Bool, true, false, ◌||◌, not, nat_eq, List, [], ◌∷◌, ◌++◌, length, refl, sym, ap, ◌∙◌, subst, inl, inr, arith}
+use Rattle.std.proofs.Common.{◌≡◌, ℕ, Bool, true, false, ◌||◌, nat_eq, List, [], ◌∷◌, ◌++◌, length, refl, sym, ap, ◌∙◌, subst, inl, inr, arith}
 use Rattle.std.proofs.lemmas.Bool.{both_ways, eqb-true}
 use Rattle.std.proofs.lemmas.List.{append_assoc, length-append}
 use Rattle.sip_text.specs.Bytes.{is_token_byte}
@@ -33,15 +33,6 @@ fails-stops test (b ∷ u) v fails = fails
 -- P Q, by P
 pub fail-then : (test : ℕ → Bool) (P Q : List ℕ → Type 0) → AllFail test P → AllFail test (P then Q)
 fail-then test P Q fail u both = subst (Fails test) (sym both.4) (fails-append test both.0 both.1 (fail both.0 both.2))
-
--- a text whose first byte is of a class that fails
-fails-all : (test class : ℕ → Bool) (u v : List ℕ) → ((b : ℕ) → class b ≡ true → test b ≡ false) → Fails (λ b. not (class b)) u → Fails test u
-fails-all test class [] v fail some = absurd some
-fails-all test class (b ∷ u) v fail some = fail b (back (class b) some)
-  where
-    back : (x : Bool) → not x ≡ false → x ≡ true
-    back true is = refl
-    back false is = absurd (both_ways true is refl)
 
 -- where P is of bytes that pass, and Q begins with one that does not, P is the same in two texts
 same_step : (test : ℕ → Bool) (P Q R S : List ℕ → Type 0) (u v w x : List ℕ) → Each test P → Each test R → AllFail test Q → AllFail test S → (one : (P then Q) u) → (other : (R then S) v) → u ++ w ≡ v ++ x → (one.0 ≡ other.0) × (one.1 ++ w ≡ other.1 ++ x)

@@ -1,6 +1,6 @@
 -- The elements of Via fields, one after another.
 use Rattle.std.proofs.Common.{◌≡◌, ℕ, zero, suc, ◌+◌, ◌<◌, List, [], ◌∷◌, ◌++◌, length, drop, map, cond, slice_index_or, add-one, Bool, true, false, Option, None, Some, inl, inr, refl, sym, ap, ◌∙◌, subst, arith}
-use Rattle.std.proofs.Math.Logic.{∥∥₁_elim, ∥∥₁_map}
+use Rattle.std.proofs.Math.Logic.{∥∥₁_elim}
 use Rattle.std.specs.Coded.{Coded, Coded-set}
 use Rattle.std.proofs.lemmas.List.{append_assoc, length-append}
 use Rattle.sip_message.specs.Params.{comma}
@@ -54,10 +54,6 @@ values-end known (x ∷ xs) (suc i) past = values-end known xs i (λ below. past
 pub One-is : {X : Type 0} → Coded X → (R : X → Type 0) (o : One R) (x : X) → R x → the o ≡ x
 unfolding the
 One-is c R o x is = ∥∥₁_elim o.1 (Coded-set c o.0 x) (λ p. sym (p.only x is))
-
--- the one value of a fact is that of another that says the same
-pub One-same : {X : Type 0} (R S : X → Type 0) → ((x : X) → R x → S x) → ((x : X) → S x → R x) → One R → One S
-One-same R S to from o = (o.0, ∥∥₁_map o.1 (λ p. record { is = to o.0 p.is; only = (λ y s. p.only y (from y s)) }))
 
 -- an element begins with no blank
 element-stops : (text rest : List ℕ) (v : ViaParts) → ViaText text v → StopsBlank (text ++ rest)

@@ -1,9 +1,9 @@
 -- Bytes of tokens, sixteen at a time: two look-ups by the halves of each byte.
-use Rattle.std.proofs.Common.{◌≡◌, ℕ, zero, suc, ◌+◌, ◌-◌, ◌/◌, ◌^◌, ◌<◌, ◌≤◌, eqb, Bool, true, false, not, cond, List, [], ◌∷◌, map, length, drop, get_or, replicate, bit_and, Fits, w8, refl, sym, ap, ◌∙◌, subst, inl, inr, arith}
+use Rattle.std.proofs.Common.{◌≡◌, ℕ, zero, suc, ◌+◌, ◌-◌, ◌/◌, ◌^◌, ◌<◌, ◌≤◌, eqb, Bool, true, false, not, cond, List, [], ◌∷◌, map, length, get_or, replicate, bit_and, Fits, w8, refl, sym, ap, ◌∙◌, subst, inl, inr, arith}
 use Rattle.std.specs.List.{prefix_len}
 use Rattle.std.proofs.lemmas.Bool.{agree_below_at, cases_lt}
-use Rattle.std.proofs.lemmas.List.{get_or-map, length-map, ext_get_or, length-drop, get_or-drop}
-use Rattle.std.proofs.lemmas.List.Sums.{prefix_len-le-length, prefix_len_passes, prefix_len_stops, prefix_len_is}
+use Rattle.std.proofs.lemmas.List.{get_or-map, length-map, ext_get_or}
+use Rattle.std.proofs.lemmas.List.Sums.{prefix_len-le-length, prefix_len_passes, prefix_len_stops}
 use Rattle.std.proofs.lemmas.Nat.{and_le_r}
 use Rattle.std.proofs.lemmas.Simd.{Each1-all, Each1-weaker, Each1-zip2, Each2-splat, below_from_Fits, length-zip2, zip2_splat, zip2_of_maps, map-map, length-chunk, get_or-chunk, swz_l, SwzOk, SwzOk-from_below, length-swz_l, get_or-swz_l_below}
 use lib.Lanes.{zip2, chunk, mask_l, Each1}
@@ -95,18 +95,3 @@ pub block-stops : (p : ℕ → Bool) (text : List ℕ) (at r : ℕ) → at + 16 
 block-stops p text at r room r_is short =
     let stops = prefix_len_stops p (chunk at 16 text) 0 (omega (arith, short, r_is, length-chunk at 16 text room)) in
     subst (λ x. p x ≡ false) (ap (λ j. get_or (chunk at 16 text) j 0) (sym r_is) ∙ get_or-chunk at 16 text r 0 short) stops
-
--- a run goes on in what follows
-pub run-more : (p : ℕ → Bool) (text rest : List ℕ) (at m : ℕ) → at ≤ length text → rest ≡ drop at text → m ≡ prefix_len p rest → ((k : ℕ) → k < at → p (get_or text k 0) ≡ true) → prefix_len p text ≡ at + m
-run-more p text rest at m within rest_is m_is before =
-    let long : length rest + at ≡ length text = omega (arith, ap length rest_is, length-drop at text, within) in
-    let few = prefix_len-le-length p rest in
-    let there : (j : ℕ) → get_or rest j 0 ≡ get_or text (at + j) 0 = λ j. ap (λ t. get_or t j 0) rest_is ∙ get_or-drop at text j 0 in
-    prefix_len_is p text (at + m) 0 (omega (arith, long, few, m_is))
-    (λ k below. elim (cases_lt k at) [
-      | inl low ↦ before k low
-      | inr high ↦
-          let back : at + (k - at) ≡ k = omega (arith, high) in
-          subst (λ x. p x ≡ true) (there (k - at) ∙ ap (λ j. get_or text j 0) back) (prefix_len_passes p rest (k - at) 0 (omega (arith, below, m_is, high)))
-    ])
-    (λ below. subst (λ x. p x ≡ false) (ap (λ j. get_or rest j 0) (sym m_is) ∙ there m) (prefix_len_stops p rest 0 (omega (arith, below, long, m_is))))

@@ -8,8 +8,6 @@ mod class;
 mod cut;
 mod host;
 mod quoted;
-#[cfg(test)]
-mod tests;
 mod token;
 mod uri;
 

@@ -312,6 +312,3 @@ fn strip_escape(text: &[u8]) -> Option<&[u8]>
         _ => None,
     }
 }
-
-#[cfg(test)]
-mod tests;

@@ -1,7 +1,7 @@
 -- The states of the transactions that an entry of a log concerns.
 use Rattle.std.specs.Prelude.{◌≡◌, ◌≤◌, ◌<◌, ◌+◌, ◌⊎◌, ◌&&◌, ℕ, Bool, true, false, Option, Some, None, IsSomeAnd, List, [], ◌∷◌, ◌++◌, if◌then◌else◌, length, codes, bytes_eq, string_bytes}
-use Rattle.sip_machine.specs.declared.event.Action.{Action}
-use Rattle.sip_machine.specs.declared.event.Action.TheVariants.{Sent, Received, Failed, Mark}
+use Rattle.sip_times.specs.declared.action.Action.{Action}
+use Rattle.sip_times.specs.declared.action.Action.TheVariants.{Sent, Received, Failed, Mark}
 use Rattle.sip_machine.specs.Times.{Times}
 use Rattle.sip_states.specs.Runs.{After}
 use Rattle.sip_log.specs.Spelling.{Item}

@@ -11,8 +11,8 @@ use Rattle.sip_key.specs.declared.role.Direction.{Direction}
 use Rattle.sip_key.specs.declared.role.Direction.TheVariants as way
 use Rattle.sip_key.specs.Key.{KeyParts, same_key}
 use Rattle.sip_key.specs.Concerns.{Concerns, lacks_cookie}
-use Rattle.sip_machine.specs.declared.event.Action.{Action}
-use Rattle.sip_machine.specs.declared.event.Action.TheVariants.{Sent, Received, Failed, Mark}
+use Rattle.sip_times.specs.declared.action.Action.{Action}
+use Rattle.sip_times.specs.declared.action.Action.TheVariants.{Sent, Received, Failed, Mark}
 use Rattle.sip_machine.specs.declared.event.Kind.TheVariants.{Request}
 use Rattle.sip_machine.specs.declared.event.Method.TheVariants.{Other}
 use Rattle.sip_machine.specs.Message.{kind_of}

@@ -1,7 +1,7 @@
 use Rattle.std.specs.Prelude.{◌≡◌, ◌≢◌, ◌+◌, ◌⊎◌, ◌++◌, [], ◌∷◌, ℕ, List, Some, length, codes, decimal}
 use Rattle.sip_machine.specs.Times.{Times}
-use Rattle.sip_machine.specs.declared.event.Action.{Action}
-use Rattle.sip_machine.specs.declared.event.Action.TheVariants.{Sent, Received, Failed, Mark}
+use Rattle.sip_times.specs.declared.action.Action.{Action}
+use Rattle.sip_times.specs.declared.action.Action.TheVariants.{Sent, Received, Failed, Mark}
 use Rattle.sip_log.specs.Spelling.{line_feed, space, Item, entry_text}
 use Rattle.sip_log.specs.Log.{LogEnd, Clean, Stops, Faulty, Holds, IsLogOf}
 use Rattle.sip_message.specs.declared.fault.Fault.{Fault}

@@ -1,5 +1,5 @@
 use Rattle.std.specs.Prelude.{◌≡◌, ◌⊎◌, ◌++◌, ℕ, List, [], ◌∷◌, codes}
-use Rattle.sip_machine.specs.Times.{Times, AreTimes}
+use Rattle.sip_times.specs.Times.{Times, AreTimes}
 use Rattle.sip_log.specs.LogFault as faults
 use Rattle.sip_log.specs.Spelling.{line_feed, space}
 use Rattle.sip_log.specs.Next.{Next, gives, stops}

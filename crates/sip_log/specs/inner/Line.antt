@@ -1,7 +1,7 @@
 use Rattle.std.specs.Prelude.{◌≡◌, ◌≢◌, ◌≤◌, ◌++◌, ℕ, List, ◌∷◌}
-use Rattle.sip_machine.specs.declared.event.Action.{Action}
-use Rattle.sip_machine.specs.declared.event.Action.TheVariants.{Mark}
-use Rattle.sip_machine.specs.Times.{last_moment}
+use Rattle.sip_times.specs.declared.action.Action.{Action}
+use Rattle.sip_times.specs.declared.action.Action.TheVariants.{Mark}
+use Rattle.sip_times.specs.Times.{last_moment}
 use Rattle.sip_log.specs.declared.line.Head.{Head as CodeHead}
 use Rattle.sip_log.specs.declared.line.Head.TheVariants as code
 use Rattle.sip_log.specs.Spelling.{space, letter}

@@ -4,8 +4,8 @@ use Rattle.std.specs.Option.{option_eq}
 use Rattle.std.proofs.Common.{refl, sym, ◌∙◌, ap, ap₂, subst, inl, inr, arith, eqb, true≢false}
 use Rattle.std.proofs.lemmas.Bool.Decides.{nat_tests}
 use Rattle.std.proofs.lemmas.List.Elements.{All-head, All-tail, All-nil, All-cons, Contains-append_right}
-use Rattle.sip_machine.specs.declared.event.Action.{Action}
-use Rattle.sip_machine.specs.declared.event.Action.TheVariants.{Sent, Received, Failed, Mark}
+use Rattle.sip_times.specs.declared.action.Action.{Action}
+use Rattle.sip_times.specs.declared.action.Action.TheVariants.{Sent, Received, Failed, Mark}
 use Rattle.sip_machine.specs.declared.event.Method.{Method}
 use Rattle.sip_machine.specs.declared.event.Method.TheVariants.{Invite, Ack, Cancel, Other}
 use Rattle.sip_machine.specs.declared.event.Kind.{Kind}

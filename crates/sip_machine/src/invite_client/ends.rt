@@ -10,7 +10,7 @@ ghost use Rattle.sip_machine.specs.InviteClient.{Calling, timer_b, timer_d, time
 use crate::invite_client::{InviteClientState, InviteWaiting};
 use crate::limit::earlier;
 use crate::outbox::Outbox;
-use crate::params::Params;
+use sip_times::Params;
 
 /// Timer D over an unreliable transport, in milliseconds.
 const TIMER_D: u64 = 32_000;

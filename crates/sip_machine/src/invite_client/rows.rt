@@ -11,14 +11,14 @@ ghost use Rattle.sip_machine.specs.inner.InviteClientAt.{state_at, unacked_at};
 ghost use Rattle.sip_machine.specs.InviteClient.{SendsInvite, SendsAck, Cancels, Receives, Sends, FailsAck, Fails, Steps, InviteClientTake, invite_client_seen, invite_client_names, WaitingInRange, InviteClientInRange};
 
 use crate::book::Book;
-use crate::event::{Action, Event, Kind, Method};
+use crate::event::{Event, Kind, Method};
 use crate::invite_client::acks::first_acked;
 use crate::invite_client::class::Class;
 use crate::invite_client::ends::until;
 use crate::invite_client::{InviteClientState, InviteWaiting};
 use crate::limit::is_past;
 use crate::outbox::{Debt, Outbox};
-use crate::params::Params;
+use sip_times::{Action, Params};
 use std::alloc::{AllocError, Global};
 
 /// The state that the event gives, None if it has no step or comes after the last moment.

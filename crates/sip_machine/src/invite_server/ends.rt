@@ -9,7 +9,7 @@ ghost use Rattle.sip_machine.specs.InviteServer.{timer_h, timer_i, timer_l, invi
 use crate::invite_server::InviteServerState;
 use crate::limit::earlier;
 use crate::outbox::Outbox;
-use crate::params::Params;
+use sip_times::Params;
 
 /// The first response is to be sent within so many milliseconds.
 const FIRST_RESPONSE: u64 = 200;

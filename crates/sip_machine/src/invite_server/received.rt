@@ -9,8 +9,8 @@ use crate::book::Book;
 use crate::event::{Event, Method};
 use crate::invite_server::InviteServerState;
 use crate::outbox::{Debt, Outbox};
-use crate::params::Params;
 use crate::provisional::is_100;
+use sip_times::Params;
 use std::alloc::{AllocError, Global};
 
 /// The state after a request was received, which stays where it has no row.

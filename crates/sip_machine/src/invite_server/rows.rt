@@ -6,14 +6,14 @@ ghost use Rattle.sip_machine.specs.inner.Both.{AnswersBoth};
 ghost use Rattle.sip_machine.specs.InviteServer.{Emits, Steps, InviteServerTake, invite_server_seen, invite_server_names, InviteServerInRange};
 
 use crate::book::Book;
-use crate::event::{Action, Event, Kind};
+use crate::event::{Event, Kind};
 use crate::invite_server::InviteServerState;
 use crate::invite_server::at::at;
 use crate::invite_server::ends::until;
 use crate::invite_server::received::receives;
 use crate::invite_server::sent::{repays, sends};
 use crate::limit::is_past;
-use crate::params::Params;
+use sip_times::{Action, Params};
 use std::alloc::{AllocError, Global};
 
 /// What the event leads to: no state, one, or two.

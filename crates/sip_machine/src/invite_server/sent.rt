@@ -11,7 +11,7 @@ ghost use Rattle.sip_machine.specs.InviteServer.{Sends, Repays, invite_server_se
 use crate::book::Book;
 use crate::event::{Event, is_provisional, is_success, is_unsuccessful};
 use crate::invite_server::InviteServerState;
-use crate::params::Params;
+use sip_times::Params;
 use std::alloc::AllocError;
 
 /// The state after a response was sent, None if it has no row. In proceeding a provisional one becomes the

@@ -3,8 +3,8 @@ ghost use Rattle.std.specs.Prelude.{◌≡◌, ◌≤◌};
 ghost use Rattle.sip_machine.specs.Texts.{Texts};
 ghost use Rattle.sip_machine.specs.PlainClient.{timer_f, timer_k, waiting_until, waiting_seen, plain_window, plain_until, plain_seen, WaitingInRange, PlainInRange};
 
-use crate::params::Params;
 use crate::plain_client::{PlainState, PlainWaiting};
+use sip_times::Params;
 
 /// From when, and until when, the transaction may end: as timer F fires, or timer K.
 pub(crate) fn window(params: &Params, state: &PlainState) -> Option<(u64, Option<u64>)>

@@ -9,10 +9,10 @@ ghost use Rattle.sip_machine.specs.inner.Single.{AnswersOne};
 ghost use Rattle.sip_machine.specs.PlainClient.{Sends, Hears, Steps, PlainTake, plain_seen, plain_names, WaitingInRange, PlainInRange};
 
 use crate::book::Book;
-use crate::event::{Action, Event, Kind};
-use crate::params::Params;
+use crate::event::{Event, Kind};
 use crate::plain_client::ends::until;
 use crate::plain_client::{PlainState, PlainWaiting};
+use sip_times::{Action, Params};
 
 /// The state that the event gives, None if it has no step or comes after the last moment.
 pub(crate) fn next_state(

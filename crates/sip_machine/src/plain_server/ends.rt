@@ -4,8 +4,8 @@ ghost use Rattle.sip_machine.specs.Texts.{Texts};
 ghost use Rattle.sip_machine.specs.PlainServer.{timer_j, plain_server_window, plain_server_until, plain_server_seen, PlainServerInRange};
 
 use crate::limit::earlier;
-use crate::params::Params;
 use crate::plain_server::PlainServerState;
+use sip_times::Params;
 
 /// From when, and until when, the transaction may end: as timer J fires, but not while something must be sent.
 pub(crate) fn window(params: &Params, state: &PlainServerState) -> Option<(u64, Option<u64>)>

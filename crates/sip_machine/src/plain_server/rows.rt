@@ -10,13 +10,13 @@ ghost use Rattle.sip_machine.specs.inner.PlainServerAt.{state_at};
 ghost use Rattle.sip_machine.specs.PlainServer.{Receives, Sends, Repays, Emits, Steps, PlainServerTake, plain_server_seen, plain_server_names, PlainServerInRange};
 
 use crate::book::Book;
-use crate::event::{Action, Event, Kind, is_final, is_provisional};
+use crate::event::{Event, Kind, is_final, is_provisional};
 use crate::limit::is_past;
 use crate::outbox::{Debt, Outbox};
-use crate::params::Params;
 use crate::plain_server::PlainServerState;
 use crate::plain_server::ends::until;
 use crate::provisional::is_100;
+use sip_times::{Action, Params};
 use std::alloc::{AllocError, Global};
 
 /// What the event leads to: no state, one, or two.

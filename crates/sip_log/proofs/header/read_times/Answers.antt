@@ -2,7 +2,7 @@ use Rattle.std.proofs.Common.{◌≡◌, [], ap, length, subst, sym}
 use Rattle.std.specs.Prelude.{codes}
 use Rattle.std.proofs.lemmas.Bool.{eqb-true, eqb-false}
 use Rattle.std.proofs.lemmas.List.{nil_from_length}
-use Rattle.sip_machine.specs.Times.{Times}
+use Rattle.sip_times.specs.Times.{Times}
 use Rattle.sip_log.specs.inner.Header.{NumberAfter}
 use Rattle.sip_log.proofs.HeaderLemmas.{TimesParts, TimesLine-parts, TimesLine-of, t2-after, t4-after, tolerance-after, none-after, times-after, times-read}
 use Rattle.sip_log.proofs.header.read_times.Goals as goal

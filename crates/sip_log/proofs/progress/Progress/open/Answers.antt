@@ -1,6 +1,6 @@
 use Rattle.std.proofs.Common.{Ok, Err, refl, subst}
 use Rattle.std.specs.Io.KnownBytes.{prepend_known}
-use Rattle.sip_machine.specs.Times.{Times}
+use Rattle.sip_times.specs.Times.{Times}
 use Rattle.sip_log.specs.Next.{gives}
 use Rattle.sip_log.specs.Told.{Says}
 use Rattle.sip_log.specs.Reading.{Heads}

@@ -1,5 +1,5 @@
 use Rattle.std.specs.Prelude.{◌+◌, ◌-◌, ◌≤◌, ℕ, Option, Some, None}
-use Rattle.sip_machine.specs.Times.{Times}
+use Rattle.sip_times.specs.Times.{Times}
 
 -- the first moment at which a timer that was set at s for d may fire
 abbrev pub open_at : Times → ℕ → ℕ → ℕ

@@ -1,5 +1,6 @@
 //! Keys and ACKs worked out by hand from RFC 3261.
-use crate::{Direction, Key, KeyError, Role, cancelled_key, is_ack_of, key_of};
+
+use sip_key::{Direction, Key, KeyError, Role, cancelled_key, is_ack_of, key_of};
 use sip_message::{Message, ReadError};
 use std::alloc::{AllocError, Global};
 use std::test::Fail;
@@ -309,7 +310,7 @@ const CANCELS: [(Direction, Parts, Option<Parts>); 2] = [
 ];
 
 /// Where a growth is refused in a call, it answers want of memory and nothing else, and the same call with
-/// memory is then right; the test ends with `Memory` (`tests/growths sip_key asks_again_for_memory`).
+/// memory is then right; the test ends with `Memory` (`tests/growths key_tests asks_again_for_memory`).
 #[test]
 fn asks_again_for_memory(rt: HostRuntime) -> Result<(), Fail> {
     let alloc = rt.alloc();

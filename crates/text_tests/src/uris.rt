@@ -1,5 +1,6 @@
-use crate::host::Host;
-use crate::uri::{Uri, read_uri};
+//! URIs in their parts, and texts that are none.
+
+use sip_text::{Host, Uri, read_uri};
 
 // A URI and its parts in order: the scheme, user, password, host, port, parameters and headers of a
 // SIP URI, the scheme and the rest of another. A part that is not there is `-`.

@@ -1,7 +1,7 @@
 //! The times of an element: its timers T1, T2 and T4, and how far from them it may be.
 ghost use Rattle.std.specs.Prelude.{◌≡◌, ◌≤◌, ◌<◌, ◌^◌, MatchOption, Some};
-ghost use Rattle.sip_machine.specs.Times.{Times, AreTimes, last_moment};
-ghost use Rattle.sip_machine.specs.Limits.{open_at, close_at, window_at};
+ghost use Rattle.sip_times.specs.Times.{Times, AreTimes, last_moment};
+ghost use Rattle.sip_times.specs.Limits.{open_at, close_at, window_at};
 
 use std::marker::Model;
 
@@ -15,7 +15,7 @@ pub struct Params {
 }
 
 impl Model for Params {
-    ghost use Rattle.sip_machine.specs.Times.{Times, AreTimes};
+    ghost use Rattle.sip_times.specs.Times.{Times, AreTimes};
 
     ghost Value = { Times };
 
@@ -82,8 +82,8 @@ impl Params {
         self.tolerance
     }
 
-    /// The first moment at which a timer that was set then for so long may fire.
-    pub(crate) fn opens(&self, set: u64, duration: u64) -> u64
+    /// The first moment at which a timer that was set then for so long may fire, in milliseconds.
+    pub fn opens(&self, set: u64, duration: u64) -> u64
         requires set { set ≤ last_moment }
         requires duration { duration < 2 ^ 50 }
         ensures { result ≡ open_at self.now set duration }
@@ -91,8 +91,8 @@ impl Params {
         set + duration.saturating_sub(self.tolerance)
     }
 
-    /// The last moment at which it may.
-    pub(crate) fn closes(&self, set: u64, duration: u64) -> u64
+    /// The last moment at which it may, in milliseconds.
+    pub fn closes(&self, set: u64, duration: u64) -> u64
         requires set { set ≤ last_moment }
         requires duration { duration < 2 ^ 50 }
         ensures { result ≡ close_at self.now set duration }
@@ -100,8 +100,8 @@ impl Params {
         set + duration + self.tolerance
     }
 
-    /// From when, and until when, a timer that was set then for so long may fire.
-    pub(crate) fn window(&self, set: u64, duration: u64) -> (u64, Option<u64>)
+    /// From when, and until when, a timer that was set then for so long may fire, in milliseconds.
+    pub fn window(&self, set: u64, duration: u64) -> (u64, Option<u64>)
         requires set { set ≤ last_moment }
         requires duration { duration < 2 ^ 50 }
         ensures { Some result ≡ window_at self.now set duration }
@@ -109,8 +109,8 @@ impl Params {
         (self.opens(set, duration), Some(self.closes(set, duration)))
     }
 
-    /// The last moment at which what is due at once may be done.
-    pub(crate) fn deadline(&self, moment: u64) -> u64
+    /// The last moment at which what is due at once may be done, in milliseconds.
+    pub fn deadline(&self, moment: u64) -> u64
         requires { moment ≤ last_moment }
         ensures value { result ≡ close_at self.now moment 0 }
         ensures small { result < 2 ^ 50 }

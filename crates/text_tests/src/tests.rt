@@ -1,4 +1,6 @@
-use crate::{
+//! Tokens, blanks, quoted strings, hosts and ports, and texts that differ in case.
+
+use sip_text::{
     Host, is_ipv6_address, is_port, read_host, read_quoted, same_text, skip_lws, token_len,
 };
 

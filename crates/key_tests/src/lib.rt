@@ -1,0 +1,5 @@
+//! Tests of `sip_key` on whole messages: their keys, and the ACKs of an INVITE.
+#![tactic(auto)]
+
+#[cfg(test)]
+mod tests;

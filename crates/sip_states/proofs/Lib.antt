@@ -1,6 +1,5 @@
 pub mod Advancing
 pub mod AgendaLemmas
-pub mod AnyFacts
 pub mod AnyLemmas
 pub mod EachOnce
 pub mod Few
@@ -8,7 +7,6 @@ pub mod Following
 pub mod Listed
 pub mod Reaching
 pub mod RunLemmas
-pub mod StandForLemmas
 pub mod Stepping
 pub mod TablesLemmas
 pub mod Taking

@@ -14,15 +14,6 @@ pub can_end_by : (window : Option (ℕ × Option ℕ)) (until : Option ℕ) (h f
 can_end_by window until h first m ends =
     (λ can. let low = ends.1 can.at can.is in let high = can.before in omega arith, λ low. record { at = first; is = ends.0; before = low })
 
--- from a state that can end one can wait for ever
-pub reach_ever : (window : Option (ℕ × Option ℕ)) (until : Option ℕ) (h first : ℕ) →
-    IsFirstEnd window until h (Some first) → (m : ℕ) → CanReach window until h m
-reach_ever window until h first ends m = go (dec_le first m)
-  where
-    go : Dec (first ≤ m) → CanReach window until h m
-    go (yes low) = inr (record { at = first; is = ends.0; before = low })
-    go (no high) = inl (IsWithin-earlier m first until (omega arith) ends.0.waited)
-
 -- some of a list and one more is one of the list or that one
 pub any_push : {X : Type 0} (P : X → Type 0) (xs : List X) (x : X) → Any P (xs ++ x ∷ []) ↔ (Any P xs ⊎ P x)
 any_push P xs x = (
@@ -40,10 +31,6 @@ module _ {S : Type 0} (window : S → Option (ℕ × Option ℕ)) (until : S →
   -- one can wait until `last` from the states so far, and no longer; h counts as reached
   abbrev pub IsLastSoFar : List S → ℕ → Type 0
   IsLastSoFar xs last = (m : ℕ) → h ≤ m → ((m ≤ h) ⊎ SomeCanReach window until h m xs) ↔ (m ≤ last)
-
-  -- at first no state was looked at
-  pub last_none : IsLastSoFar [] h
-  last_none m low = (λ some. elim some [ inl first ↦ first | inr (k, y, within, is, can) ↦ absurd (omega arith) ], λ first. inl first)
 
   -- the later of two last moments is that of both
   pub last_push : (xs : List S) (x : S) (last r new : ℕ) → IsLastSoFar xs last →

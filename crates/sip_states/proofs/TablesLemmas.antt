@@ -1,4 +1,4 @@
-use Rattle.std.proofs.Common.{◌≡◌, ◌≢◌, ◌<◌, ◌+◌, ◌-◌, ℕ, zero, suc, Bool, true, false, cond, List, [], ◌∷◌, ◌++◌, Option, Some, None, is_some, position, slice_get, slice_set, All, get_or, refl, sym, ap, subst, ◌∙◌, true≢false, arith}
+use Rattle.std.proofs.Common.{◌≡◌, ◌≢◌, ◌<◌, ◌+◌, ◌-◌, ℕ, zero, suc, Bool, true, false, cond, List, [], ◌∷◌, Option, Some, None, is_some, position, slice_get, slice_set, All, get_or, refl, sym, ap, subst, ◌∙◌, true≢false, arith}
 use Rattle.std.proofs.lemmas.List.Quantifiers.{position-Some}
 use Rattle.std.proofs.lemmas.Option.{slice_get-get_or}
 use Rattle.std.specs.Map.{keys_of, values_of, lookup}
@@ -33,20 +33,21 @@ All-absent {X} (e ∷ es) key none = at (same_key key e.0) refl (All-absent es k
     at false p rest zero d l = λ same. true≢false (sym ((same_key-decides key e.0).1 (sym same)) ∙ p)
     at false p rest (suc k) d l = rest (subst (λ b. cond b (Some e.1) (lookup (same_key key) es) ≡ None) p none) k d (omega (arith, l))
 
+-- and a key that none of them is, is not found
+pub lookup-absent : {X : Type 0} (es : List (KeyParts × X)) (key : KeyParts) → All (λ k. k ≢ key) (keys_of es) → lookup (same_key key) es ≡ None
+lookup-absent [] key absent = refl
+lookup-absent {X} (e ∷ es) key absent =
+    at (same_key key e.0) refl (lookup-absent es key (λ k d l. absent (suc k) d (omega (arith, l))))
+  where
+    at : (b : Bool) → same_key key e.0 ≡ b → lookup (same_key key) es ≡ None → lookup (same_key key) (e ∷ es) ≡ None
+    at true p rest = absurd (absent 0 e.0 (omega arith) (sym ((same_key-decides key e.0).0 p)))
+    at false p rest = subst (λ b. cond b (Some e.1) (lookup (same_key key) es) ≡ None) (sym p) rest
+
 -- a write by index, seen in the values
 pub values_of-set_value_at : {K X : Type 0} (es : List (K × X)) (i : ℕ) (w : X) → values_of (set_value_at es i w) ≡ slice_set (values_of es) i w
 values_of-set_value_at [] i w = refl
 values_of-set_value_at (e ∷ es) zero w = refl
 values_of-set_value_at (e ∷ es) (suc i) w = ap (λ l. e.1 ∷ l) (values_of-set_value_at es i w)
-
--- the keys and the values with one more pair
-pub keys_of-append : {K X : Type 0} (es : List (K × X)) (k : K) (x : X) → keys_of (es ++ (k, x) ∷ []) ≡ keys_of es ++ k ∷ []
-keys_of-append [] k x = refl
-keys_of-append (e ∷ es) k x = ap (λ l. e.0 ∷ l) (keys_of-append es k x)
-
-pub values_of-append : {K X : Type 0} (es : List (K × X)) (k : K) (x : X) → values_of (es ++ (k, x) ∷ []) ≡ values_of es ++ x ∷ []
-values_of-append [] k x = refl
-values_of-append (e ∷ es) k x = ap (λ l. e.1 ∷ l) (values_of-append es k x)
 
 pub none-from-is_some : {X : Type 0} (o : Option X) → false ≡ is_some o → o ≡ None
 none-from-is_some None e = refl

@@ -7,7 +7,7 @@ use Rattle.sip_machine.specs.Heard.{Heard}
 use Rattle.sip_machine.specs.Rules.{Rules, IsLawful, Waits, StandFor}
 use Rattle.sip_states.specs.Held.{IsKept}
 use Rattle.sip_states.specs.inner.Ways.{Advances}
-use Rattle.sip_states.specs.Runs.{Wait, Gives, IsWide, widest}
+use Rattle.sip_states.specs.Runs.{Gives, IsWide, widest}
 use Rattle.sip_states.proofs.Few.{distinct_few}
 use Rattle.sip_states.proofs.Following.{Follows, seen_waits, ended_stays}
 use Rattle.sip_states.proofs.Listed.{Contains-map}
@@ -52,12 +52,6 @@ module _ {X S : Type 0} (names : S → List ℕ) (InRange : S → Type 0) (seen 
   took_waits lawful P e new gives k d within =
       let given = (gives.members (seen texts (get_or new k d))).0 (Contains-map (seen texts) new (get_or new k d) (Contains-get_or new k d within)) in
       lawful.fresh given.before e (seen texts (get_or new k d)) given.takes
-
-  -- a state that was waited in can wait at that moment
-  pub waited_waits : (P : X → Type 0) (h m : ℕ) (new : List S) → StandFor names InRange seen texts (Wait r P h m) new → All (λ s. Waits r (seen texts s) m) new
-  waited_waits P h m new waited k d within =
-      let wait = (waited.members (seen texts (get_or new k d))).0 (Contains-map (seen texts) new (get_or new k d) (Contains-get_or new k d within)) in
-      wait.stands.waits
 
 -- after an event the set is kept, if it is not too wide
 pub took_kept : {M X S : Type 0} (names : S → List ℕ) (InRange : S → Type 0) (seen : Texts → S → X) (r : M → Rules X) (ended : M → S) (window : M → S → Option (ℕ × Option ℕ)) (until : M → S → Option ℕ)

@@ -1,4 +1,2 @@
 pub mod Lines
-pub mod Toy
-pub mod ToyLaws
 pub mod Ways

@@ -9,8 +9,6 @@ mod laws;
 mod state_set;
 mod steps;
 mod tables;
-#[cfg(test)]
-mod tests;
 
 pub use any_set::AnySet;
 pub use laws::{by_waiting_and_stepping, in_one_wait_or_two};

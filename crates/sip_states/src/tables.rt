@@ -1,7 +1,8 @@
 //! The states of every transaction, by key.
-ghost use Rattle.std.specs.Prelude.{◌≡◌, ◌≢◌, ◌<◌, ◌-◌, [], AllPairs, length, slice_get, IfOk, OnErr, OnOk, Some};
+ghost use Rattle.std.specs.Prelude.{◌≡◌, ◌≢◌, ◌<◌, ◌+◌, ◌++◌, ◌-◌, ◌∷◌, [], All, AllPairs, length, slice_get, IfOk, OnErr, OnOk, Some};
 ghost use Rattle.std.specs.Borrow.{sem};
-ghost use Rattle.sip_states.specs.Tables.{IsGiven, HasState, Settles, Touches, due_of, most_keys};
+ghost use Rattle.indexmap.specs.IndexMap.{keys};
+ghost use Rattle.sip_states.specs.Tables.{IsGiven, HasState, Settles, Touches, due_of, most_keys, with_key};
 
 use crate::agenda::Agenda;
 use crate::any_set::AnySet;
@@ -32,6 +33,20 @@ impl<H: BuildHasher> Model for Tables<H> {
     ghost invariant = { λ t. (index_map_len t.sets ≤ most_keys) × (length t.agenda ≡ index_map_len t.sets) };
 }
 
+/// Puts a new key and its set behind the others. On an error nothing changes, and both are dropped.
+fn append<H: BuildHasher>(
+    sets: &mut IndexMap<Key, AnySet, H>,
+    key: Key,
+    set: AnySet,
+) -> Result<(), AllocError>
+    requires new { All (λ k. k ≢ key) (keys sets.old) }
+    ensures ok { OnOk result (sets.new.entries ≡ sets.old.entries ++ (key, set) ∷ []) }
+    ensures err { OnErr result (sets.new.entries ≡ sets.old.entries) }
+{
+    sets.insert(key, set)?;
+    Ok(())
+}
+
 impl<H: BuildHasher> Tables<H> {
     ghost use Rattle.sip_states.specs.TablesLends.{LendsSet};
 
@@ -54,15 +69,25 @@ impl<H: BuildHasher> Tables<H> {
         ensures given { IfOk result (IsGiven self.new) }
         ensures err { OnErr result (self.new ≡ self.old) }
     {
-        if let Some(index) = self.sets.get_index_of(&key) {
-            return Ok(index as u32 + 1);
+        match self.sets.get_index_of(&key) {
+            Some(index) => Ok(index as u32 + 1),
+            None => self.add(key),
         }
-        let alloc = *self.sets.allocator();
-        let set = AnySet::start(alloc, self.params, &key)?;
+    }
+
+    /// Gives a new key the next number, and the set that it starts with. On an error nothing changes,
+    /// and the key is dropped.
+    fn add(&mut self, key: Key) -> Result<u32, AllocError>
+        requires room { length self.old.keys < most_keys }
+        requires new { All (λ k. k ≢ key) self.old.keys }
+        ensures ok { IfOk result (λ number. (number ≡ length self.old.keys + 1) × (self.new ≡ with_key self.old key)) }
+        ensures err { OnErr result (self.new ≡ self.old) }
+    {
+        let set = AnySet::start(*self.sets.allocator(), self.params, &key)?;
         self.agenda.push()?;
-        if let Err(refused) = self.sets.insert(key, set) {
+        if let Err(refused) = append(&mut self.sets, key, set) {
             self.agenda.pop();
-            return Err(refused.into());
+            return Err(refused);
         }
         Ok(self.sets.len() as u32)
     }

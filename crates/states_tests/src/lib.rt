@@ -12,6 +12,10 @@ mod played;
 #[cfg(test)]
 mod rows;
 #[cfg(test)]
+mod sets;
+#[cfg(test)]
 mod tables;
+#[cfg(test)]
+mod toy;
 #[cfg(test)]
 mod width;

@@ -1,13 +1,11 @@
-//! Moments worked out by hand.
+//! Sets of a client and of a machine of two phases, with moments worked out by hand.
 ghost use Rattle.std.specs.Prelude.{◌≡◌, ◌≤◌, IfOk};
 ghost use Rattle.sip_machine.specs.Times.{last_moment};
 
-mod toy;
-
-use crate::tests::toy::Toy;
-use crate::{StateSet, TakeError};
+use crate::toy::Toy;
 use sip_machine::{Action, Book, Event, Params, PlainClient};
 use sip_message::Message;
+use sip_states::{StateSet, TakeError};
 use std::alloc::Global;
 use std::test::Fail;
 

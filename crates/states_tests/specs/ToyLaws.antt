@@ -4,7 +4,7 @@ use Rattle.std.proofs.Common.{refl, inl, inr, arith}
 use Rattle.std.proofs.lemmas.Bool.Decides.{nat_tests}
 use Rattle.sip_machine.specs.Limits.{IsWithin}
 use Rattle.sip_machine.specs.Rules.{IsLawful}
-use Rattle.sip_states.specs.inner.Toy.{toy_until, ToySteps, toy_rules}
+use Rattle.states_tests.specs.Toy.{toy_until, ToySteps, toy_rules}
 
 -- a step gives a state that can wait at its moment
 steps_fresh : (x : Option ℕ) (moment : ℕ) (y : Option ℕ) → IsWithin moment (toy_until x) → ToySteps x moment y → IsWithin moment (toy_until y)

@@ -13,8 +13,8 @@ pub(crate) struct Toy {
 
 impl Machine for Toy {
     ghost use Rattle.std.specs.Prelude.{refl, [], ℕ, Option, None};
-    ghost use Rattle.sip_states.specs.inner.Toy.{toy_until, toy_window, toy_rules, ToyInRange};
-    ghost use Rattle.sip_states.specs.inner.ToyLaws.{toy_lawful, toy_exact};
+    ghost use Rattle.states_tests.specs.Toy.{toy_until, toy_window, toy_rules, ToyInRange};
+    ghost use Rattle.states_tests.specs.ToyLaws.{toy_lawful, toy_exact};
 
     type State = Option<u64>;
 

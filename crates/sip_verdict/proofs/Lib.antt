@@ -20,9 +20,10 @@ pub mod Overdue
 pub mod ShowingLemmas
 pub mod Splitting
 pub mod StandingLemmas
-pub mod StatesLemmas
 pub mod Stepped
 pub mod TablesPassing
 pub mod TablesTouching
 pub mod TrackingLemmas
 pub mod Unique
+pub mod WalkingLemmas
+pub mod WalksLemmas

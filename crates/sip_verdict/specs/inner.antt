@@ -6,3 +6,4 @@ pub mod Showing
 pub mod Stepping
 pub mod TablesTracking
 pub mod Tracking
+pub mod Walking

@@ -3,10 +3,9 @@ ghost use Rattle.std.specs.Prelude.{◌≡◌, true, false, IfSome, IfOk, OnOk, 
 ghost use Rattle.sip_verdict.specs.VerdictOf.{IsVerdictOf};
 
 use crate::judge_error::JudgeError;
-use crate::log_reason::reason_of;
-use crate::standing::Standing;
 use crate::verdict::Verdict;
-use sip_log::{Progress, Source};
+use crate::walking::Walk;
+use sip_log::Source;
 use std::alloc::Global;
 use std::hash::BuildHasher;
 
@@ -26,36 +25,9 @@ pub fn judge<R: Source, H: BuildHasher + Drop>(
     ensures ok { OnOk result (R.has_failed reader.new ≡ false) }
     ensures io { IsErrOf result JudgeError.Io → R.has_failed reader.new ≡ true }
 {
-    let (params, mut progress) = match Progress::open(alloc, reader) {
-        Ok(opened) => opened,
-        Err(error) => {
-            let reason = reason_of(error)?;
-            return Ok(Verdict::LogFault { entry: 0, reason });
-        }
-    };
-    let mut standing = Standing::new(alloc, params, hasher);
-    let mut count = 0;
-    loop {
-        let entry = match progress.next(reader) {
-            Ok(Some(entry)) => entry,
-            Ok(None) => {
-                return Ok(Verdict::Legal {
-                    entries: count,
-                    transactions: standing.transactions(),
-                });
-            }
-            Err(error) => {
-                let reason = reason_of(error)?;
-                return Ok(Verdict::LogFault {
-                    entry: count + 1,
-                    reason,
-                });
-            }
-        };
-        if let Some(verdict) = standing.entry(alloc, &entry)? {
-            return Ok(verdict);
-        }
-        count = entry.number;
+    match Walk::open(alloc, reader, hasher)? {
+        Ok(mut walk) => walk.verdict(reader),
+        Err(verdict) => Ok(verdict),
     }
 }
 

@@ -9,12 +9,14 @@ mod listing;
 mod log_reason;
 mod observing;
 mod passing;
+mod reading;
 mod rendering;
 mod show_error;
 mod showing;
 mod shown;
 mod standing;
 mod verdict;
+mod walking;
 
 pub use judge_error::JudgeError;
 pub use judging::{judge, judge_bytes};

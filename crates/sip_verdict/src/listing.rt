@@ -1,12 +1,12 @@
 //! The states of the transactions that an entry of a log concerns.
 ghost use Rattle.std.specs.Prelude.{◌≡◌, true, false, IfSome, IfOk, OnOk, IsErrOf};
 ghost use Rattle.sip_verdict.specs.ListingOf.{IsListingOf};
+ghost use Rattle.sip_verdict.specs.inner.Walking.{listed_behind};
 
 use crate::judge_error::JudgeError;
-use crate::log_reason::reason_of;
-use crate::standing::Standing;
 use crate::verdict::Verdict;
-use sip_log::{Progress, Source};
+use crate::walking::Walk;
+use sip_log::Source;
 use std::alloc::Global;
 use std::hash::BuildHasher;
 
@@ -19,6 +19,18 @@ pub enum Listing {
     Stopped(Verdict),
     /// The log has no such entry.
     NoEntry,
+}
+
+impl Listing {
+    /// What is listed of an entry that comes behind this verdict.
+    pub(crate) fn behind(verdict: Verdict) -> Listing
+        ensures { result ≡ listed_behind verdict }
+    {
+        match verdict {
+            Verdict::Legal { .. } => Listing::NoEntry,
+            _ => Listing::Stopped(verdict),
+        }
+    }
 }
 
 /// The states in which the transactions of an entry can stand after it: for each transaction that it concerns, its own
@@ -38,36 +50,8 @@ pub fn states_at<R: Source, H: BuildHasher + Drop>(
     ensures ok { OnOk result (R.has_failed reader.new ≡ false) }
     ensures io { IsErrOf result JudgeError.Io → R.has_failed reader.new ≡ true }
 {
-    let (params, mut progress) = match Progress::open(alloc, reader) {
-        Ok(opened) => opened,
-        Err(error) => {
-            let reason = reason_of(error)?;
-            return Ok(Listing::Stopped(Verdict::LogFault { entry: 0, reason }));
-        }
-    };
-    if entry == 0 {
-        return Ok(Listing::NoEntry);
-    }
-    let mut standing = Standing::new(alloc, params, hasher);
-    let mut count = 0;
-    loop {
-        let next = match progress.next(reader) {
-            Ok(Some(next)) => next,
-            Ok(None) => return Ok(Listing::NoEntry),
-            Err(error) => {
-                let reason = reason_of(error)?;
-                return Ok(Listing::Stopped(Verdict::LogFault {
-                    entry: count + 1,
-                    reason,
-                }));
-            }
-        };
-        if next.number == entry {
-            return Ok(standing.list(alloc, &next)?);
-        }
-        if let Some(verdict) = standing.entry(alloc, &next)? {
-            return Ok(Listing::Stopped(verdict));
-        }
-        count = next.number;
+    match Walk::open(alloc, reader, hasher)? {
+        Ok(mut walk) => walk.listing(reader, entry),
+        Err(verdict) => Ok(Listing::Stopped(verdict)),
     }
 }

@@ -6,7 +6,7 @@ use Rattle.sip_log.specs.Reading.{reading}
 use Rattle.sip_log.proofs.CallerLemmas.{Opens-stands, Nexts-counted, Nexts-fine}
 use Rattle.sip_verdict.specs.declared.shown.Shown.TheVariants.{End, Malformed, LogFault}
 use Rattle.sip_verdict.specs.Showing.{last_text}
-use Rattle.sip_verdict.proofs.JudgingLemmas.{told-fault}
+use Rattle.sip_verdict.proofs.WalkingLemmas.{told-fault}
 use Rattle.sip_verdict.proofs.ShowingLemmas.{Answers, finished, showed_start, showed_end, showed_stops, showed_more, showed_fault}
 use Rattle.sip_verdict.proofs.showing.show.Goals as goal
 

@@ -1,0 +1,90 @@
+-- How a log is read and judged, entry by entry.
+use Rattle.std.specs.Prelude.{◌≡◌, ◌<◌, ◌≤◌, ◌+◌, ◌++◌, ◌∷◌, [], ℕ, Option, Some, None, IfSome, List, length}
+use Rattle.sip_key.specs.Key.{KeyParts}
+use Rattle.sip_machine.specs.Times.{Times}
+use Rattle.sip_machine.specs.Texts.{Texts}
+use Rattle.sip_states.specs.Tables.{Tabled}
+use Rattle.sip_log.specs.LogFault.{LogFault}
+use Rattle.sip_log.specs.Spelling.{Item}
+use Rattle.sip_log.specs.Log.{most_entries, Clean, Stops, IsLog}
+use Rattle.sip_log.specs.Told.{item}
+use Rattle.sip_log.specs.Reading as log
+use Rattle.sip_log.specs.Reading.{Place, entries, Continues}
+use Rattle.sip_log.proofs.CallerLemmas.{Stands}
+use Rattle.sip_verdict.specs.declared.reading.Next.{Next}
+use Rattle.sip_verdict.specs.declared.reading.Next.TheVariants.{Entry, End, Fault}
+use Rattle.sip_verdict.specs.declared.verdict.Verdict.{Verdict}
+use Rattle.sip_verdict.specs.declared.verdict.Verdict.TheVariants.{Legal, Malformed, Breach, Undecided, LogFault as FaultOfLog}
+use Rattle.sip_verdict.specs.declared.listing.Listing.{Listing}
+use Rattle.sip_verdict.specs.declared.listing.Listing.TheVariants.{Stopped, NoEntry}
+use Rattle.sip_verdict.specs.LogReason.{reason_of}
+use Rattle.sip_verdict.specs.Keyed.{Observation}
+use Rattle.sip_verdict.specs.Reading.{Reading, AreObserved}
+use Rattle.sip_verdict.specs.VerdictOf.{IsVerdictOf}
+use Rattle.sip_verdict.specs.MessageReading.{message_reading}
+use Rattle.sip_verdict.specs.inner.Numbering.{AreNumbered}
+use Rattle.sip_verdict.specs.inner.TablesTracking.{TablesTrack, MayTake}
+
+-- What is read.
+
+-- these times and entries were read of an input, and it may be read on
+pub record HasRead (start : Option (List ℕ)) (times : Times) (items : List Item) (now : log.Reading) : Type 0 where
+  pub on : now.stage ≡ entries
+  pub times_are : now.times ≡ Some times
+  pub stands : Stands start items now
+
+-- what comes behind them: one more, the end of the log, or the fault that ends it
+abbrev pub Gives : Option (List ℕ) → Times → List Item → log.Reading → Next → Type 0
+Gives start times items new (Entry e) = HasRead start times (items ++ item e ∷ []) new
+Gives start times items new End = IfSome start (λ input. IsLog input times items Clean)
+Gives start times items new (Fault reason) = (fault : LogFault) × (reason ≡ reason_of fault) × IfSome start (λ input. IsLog input times items (Stops fault))
+
+-- one more has the next number and keeps order and limits
+abbrev pub MovesOn : Place → Place → Next → Type 0
+MovesOn old new (Entry e) = (new.stage ≡ entries) × Continues (old.count + 1) old.last e × (new.count ≡ e.number) × (new.last ≡ e.moment) × (old.count < most_entries)
+MovesOn old new End = Unit {0}
+MovesOn old new (Fault reason) = Unit {0}
+
+-- What was judged of it.
+
+-- these entries were read of the input and this is observed of them; what was judged follows them
+pub record Judged {K : Type 0} (r : Reading K) (times : Times) (Follows : List (Observation K) → Type 0) (start : Option (List ℕ)) (now : log.Reading) : Type 0 where
+  pub items : List Item
+  pub es : List (Observation K)
+  pub observed : AreObserved r [] items es
+  pub follows : Follows es
+  pub long : length items ≡ length es
+  pub read : HasRead start times items now
+
+-- book and tables follow the entries that were read of the input, and the book numbers their messages
+pub record Walks (start : Option (List ℕ)) (now : log.Reading) (texts : Texts) (t : Tabled) : Type 0 where
+  pub judged : Judged message_reading t.times (λ (es : List (Observation KeyParts)). TablesTrack texts es t) start now
+  pub numbered : AreNumbered judged.items texts
+
+-- so many entries were read up to this place, and the next one may come
+pub record MayStep (count : ℕ) (place : Place) (texts : Texts) (t : Tabled) : Type 0 where
+  pub on : place.stage ≡ entries
+  pub counts : count ≡ place.count
+  pub few : count ≤ most_entries
+  pub may : MayTake texts t (count + 1) place.last
+
+-- the verdict is that behind so many entries: that the log ends there, or what is wrong with the next
+abbrev pub IsBehind : ℕ → Verdict → Type 0
+IsBehind count (Legal whole transactions) = whole ≡ count
+IsBehind count (Malformed entry fault) = entry ≡ count + 1
+IsBehind count (Breach entry transaction) = entry ≡ count + 1
+IsBehind count (Undecided entry transaction) = entry ≡ count + 1
+IsBehind count (FaultOfLog entry reason) = entry ≡ count + 1
+
+-- a step behind so many entries: one more was judged and is in no trouble, or this is the verdict
+abbrev pub WalksOn : Option (List ℕ) → ℕ → log.Reading → Texts → Tabled → Option Verdict → Type 0
+WalksOn start count now texts t None = Walks start now texts t
+WalksOn start count now texts t (Some v) = IfSome start (λ input. IsVerdictOf input v) × IsBehind count v
+
+-- what is listed of an entry that the verdict comes before: the verdict, or that the log has no such entry if it is legal
+abbrev pub listed_behind : Verdict → Listing
+listed_behind (Legal whole transactions) = NoEntry
+listed_behind (Malformed entry fault) = Stopped (Malformed entry fault)
+listed_behind (Breach entry transaction) = Stopped (Breach entry transaction)
+listed_behind (Undecided entry transaction) = Stopped (Undecided entry transaction)
+listed_behind (FaultOfLog entry reason) = Stopped (FaultOfLog entry reason)

@@ -10,13 +10,13 @@ use std::simd::prelude::*;
 
 /// A text with its masks: it is seen as the text.
 #[derive(Drop)]
-pub struct Masks<'a> {
-    text: &'a [u8],
-    others: &'a [u64],
-    controls: &'a [u64],
+pub struct Masks<'t, 'm> {
+    text: &'t [u8],
+    others: &'m [u64],
+    controls: &'m [u64],
 }
 
-impl<'a> Model for Masks<'a> {
+impl<'t, 'm> Model for Masks<'t, 'm> {
     ghost use Rattle.std.specs.Prelude.{ℕ, List};
     ghost use Rattle.sip_masks.specs.Marks.{IsMasks};
 
@@ -59,9 +59,9 @@ fn word_at(words: &[u64], p: usize) -> u64
     (words[p / 64] >> r) | ((words[p / 64 + 1] << 1) << (63 - r))
 }
 
-impl<'a> Masks<'a> {
+impl<'t, 'm> Masks<'t, 'm> {
     /// The text with its masks, which go into the words.
-    pub fn of(text: &'a [u8], other: &'a mut [u64], control: &'a mut [u64]) -> Masks<'a>
+    pub fn of(text: &'t [u8], other: &'m mut [u64], control: &'m mut [u64]) -> Masks<'t, 'm>
         requires { (words_for (length text.now) ≤ length other.old) × (words_for (length text.now) ≤ length control.old) }
         ensures { result ≡ text.now }
     {
@@ -75,7 +75,7 @@ impl<'a> Masks<'a> {
 
     /// The text.
     #[inline(always)]
-    pub fn text(&self) -> &'a [u8]
+    pub fn text(&self) -> &'t [u8]
         ensures { result.now ≡ self.now }
     {
         self.text

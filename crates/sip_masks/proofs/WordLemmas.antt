@@ -1,11 +1,11 @@
 -- Words of 64 bits, one behind the other.
-use Rattle.std.proofs.Common.{◌≡◌, ℕ, ◌+◌, ◌-◌, ◌*◌, ◌/◌, ◌%◌, ◌^◌, ◌<◌, ◌≤◌, Bool, true, false, ◌||◌, ◌==◌, List, length, get_or, set, bit_or, refl, sym, ap, ap₂, ◌∙◌, subst, inl, inr, arith}
+use Rattle.std.proofs.Common.{◌≡◌, ℕ, ◌+◌, ◌-◌, ◌*◌, ◌/◌, ◌%◌, ◌^◌, ◌<◌, ◌≤◌, Bool, true, false, ◌||◌, ◌==◌, List, length, take, get_or, set, bit_or, refl, sym, ap, ap₂, ◌∙◌, subst, inl, inr, arith}
 use Rattle.std.proofs.lemmas.Bool.{cases_lt}
-use Rattle.std.proofs.lemmas.List.{get_or-set_same, get_or-set_other, get_or_past}
+use Rattle.std.proofs.lemmas.List.{get_or-set_same, get_or-set_other, get_or_past, get_or-take, length-set, length-take-le}
 use Rattle.std.proofs.lemmas.Nat.{shr-shr}
 use Rattle.std.proofs.lemmas.Nat.Bits.{bit_at_above}
 use Rattle.sip_masks.specs.Bits.{test}
-use Rattle.sip_masks.specs.Marks.{Marks}
+use Rattle.sip_masks.specs.Marks.{Marks, words_for}
 use Rattle.sip_masks.proofs.BitLemmas.{shl, test-or, test-shl_high, test-shl_low, test-ones}
 
 pub test-shr : (x r j : ℕ) → test (x / 2 ^ r) j ≡ test x (r + j)
@@ -76,3 +76,17 @@ marks-more p text words k w within before now i below =
 -- all ones, past the end
 pub ones-past : (p : ℕ → Bool) (text : List ℕ) (n i : ℕ) → p 0 ≡ true → length text ≤ n → i < 64 → test 18446744073709551615 i ≡ p (get_or text (n + i) 0)
 ones-past p text n i nul past below = test-ones i below ∙ sym (ap p (get_or_past text (n + i) 0 (omega (arith, past))) ∙ nul)
+
+-- a front of the text
+pub marks-front : (p : ℕ → Bool) (text words : List ℕ) (n : ℕ) → Marks p text words n → Marks p (take n text) words n
+marks-front p text words n marks i below = marks i below ∙ ap p (sym (get_or-take n text i 0 below))
+
+-- two words of ones behind a front
+pub front-ends : (p : ℕ → Bool) (text words : List ℕ) (k : ℕ) → p 0 ≡ true → 64 * k ≤ length text → k + 1 < length words → Marks p text words (64 * k)
+    → Marks p (take (64 * k) text) (set (set words k 18446744073709551615) (k + 1) 18446744073709551615) (64 * words_for (64 * k))
+front-ends p text words k nul within room marks i below =
+    let front = take (64 * k) text in
+    let long : length front ≡ 64 * k = length-take-le (64 * k) text within in
+    let past = λ (m j : ℕ) (from : k ≤ m) (h : j < 64). ones-past p front (64 * m) j nul (omega (arith, long, from)) h in
+    let one = marks-more p front words k 18446744073709551615 (omega (arith, room)) (marks-front p text words (64 * k) marks) (λ j h. past k j (omega arith) h) in
+    marks-more p front (set words k 18446744073709551615) (k + 1) 18446744073709551615 (omega (arith, room, length-set words k 18446744073709551615)) one (λ j h. past (k + 1) j (omega arith) h) i (omega (arith, below))

@@ -1,5 +1,5 @@
 //! The masks of a text.
-ghost use Rattle.std.specs.Prelude.{◌≡◌, ℕ, not, ◌+◌, ◌*◌, ◌/◌, ◌%◌, ◌<◌, ◌≤◌, get_or, length, drop};
+ghost use Rattle.std.specs.Prelude.{◌≡◌, ℕ, not, ◌+◌, ◌*◌, ◌/◌, ◌%◌, ◌<◌, ◌≤◌, get_or, length, take, drop};
 ghost use Rattle.std.specs.List.{prefix_len};
 ghost use Rattle.sip_masks.specs.Bits.{test};
 ghost use Rattle.sip_masks.specs.Marks.{is_plain, is_control, is_other, Marks, words_for};
@@ -27,26 +27,44 @@ impl<'t, 'm> Model for Masks<'t, 'm> {
     ghost invariant = { λ m. IsMasks m.text.now m.others.now m.controls.now };
 }
 
-// Marks the bytes of the text, and two words' bytes past it as NUL.
+// Marks the bytes of a front of the text, and two words' bytes past it as NUL. The front ends behind
+// the block in which an empty line ends, or else with the text.
 #[inline(never)]
-pub fn mark(text: &[u8], other: &mut [u64], control: &mut [u64])
+fn mark(text: &[u8], other: &mut [u64], control: &mut [u64]) -> usize
     requires { (words_for (length text.now) ≤ length other.old) × (words_for (length text.now) ≤ length control.old) }
-    ensures other { Marks is_other text.now other.new (64 * words_for (length text.now)) }
-    ensures control { Marks is_control text.now control.new (64 * words_for (length text.now)) }
+    ensures within { result ≤ length text.now }
+    ensures other { Marks is_other (take result text.now) other.new (64 * words_for result) }
+    ensures control { Marks is_control (take result text.now) control.new (64 * words_for result) }
     ensures lengths { (length other.new ≡ length other.old) × (length control.new ≡ length control.old) }
 {
     let mut word = 0;
     while text.len() - 64 * word >= 64 {
         let v = u8x64::from_slice(&text[64 * word..]);
+        let ends = controls(v);
         other[word] = others(v);
-        control[word] = controls(v);
+        control[word] = ends;
         word += 1;
+        if holds_empty_line(ends) {
+            other[word] = !0;
+            control[word] = !0;
+            other[word + 1] = !0;
+            control[word + 1] = !0;
+            return 64 * word;
+        }
     }
     let v = tail(text, 64 * word);
     other[word] = others(v);
     control[word] = controls(v);
     other[word + 1] = !0;
     control[word + 1] = !0;
+    text.len()
+}
+
+// Whether four controls stand in a row, as where a head ends. Nothing rests on it but how many bytes
+// are marked.
+#[inline(always)]
+fn holds_empty_line(ends: u64) -> bool {
+    ends & (ends >> 1) & (ends >> 2) & (ends >> 3) != 0
 }
 
 // The 64 bits from place p on.
@@ -60,14 +78,15 @@ fn word_at(words: &[u64], p: usize) -> u64
 }
 
 impl<'t, 'm> Masks<'t, 'm> {
-    /// The text with its masks, which go into the words.
+    /// A front of the text with its masks, which go into the words. Mostly it ends with the block in
+    /// which the first empty line ends.
     pub fn of(text: &'t [u8], other: &'m mut [u64], control: &'m mut [u64]) -> Masks<'t, 'm>
         requires { (words_for (length text.now) ≤ length other.old) × (words_for (length text.now) ≤ length control.old) }
-        ensures { result ≡ text.now }
+        ensures { result ≡ take (length result) text.now }
     {
-        mark(text, other, control);
+        let len = mark(text, other, control);
         Masks {
-            text,
+            text: &text[..len],
             others: other,
             controls: control,
         }

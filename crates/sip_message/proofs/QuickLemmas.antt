@@ -220,16 +220,24 @@ so_far-all text from at end fields so empty room is =
       are = so.are;
     }
 
+-- a front and what follows it
+pub front-rest : (text front : List ℕ) → front ≡ take (length front) text → text ≡ front ++ drop (length front) text
+front-rest text front is = sym (take-append-drop (length front) text) ∙ ap (λ t. t ++ drop (length front) text) (sym is)
+
 -- a first line, lines that are fields, and an empty line are a head
-pub ordinary-head : (bytes rest : List ℕ) (start : StartLine) (fields : List Field) (end at : ℕ) → IsOpen (take (end - 0) (drop 0 bytes)) → drop 0 bytes ≡ with_end (take (end - 0) (drop 0 bytes)) ++ drop (end + 2) bytes
-    → StartText (take (end - 0) (drop 0 bytes)) start → AreOrdinary bytes (end + 2) at fields → rest ≡ drop (at + 2) bytes → IsOrdinary bytes start fields rest
-ordinary-head bytes rest start fields end at clear is is_start are rest_is =
-    let first = take (end - 0) (drop 0 bytes) in
+pub ordinary-head : (bytes text more rest : List ℕ) (start : StartLine) (fields : List Field) (end at : ℕ) → bytes ≡ text ++ more
+    → IsOpen (take (end - 0) (drop 0 text)) → drop 0 text ≡ with_end (take (end - 0) (drop 0 text)) ++ drop (end + 2) text
+    → StartText (take (end - 0) (drop 0 text)) start → AreOrdinary text (end + 2) at fields → rest ≡ drop (at + 2) text ++ more → IsOrdinary bytes start fields rest
+ordinary-head bytes text more rest start fields end at bytes_is clear is is_start are rest_is =
+    let first = take (end - 0) (drop 0 text) in
     let ls = flat_map with_end are.lines in
+    let behind = drop (at + 2) text in
     let begins = lines-begin are.lines fields are.are are.are_open in
     let inner : AreInner (first ∷ are.lines) = ((open-inner first clear, start-some first start is_start), begins.0) in
+    let text_is : text ≡ (with_end first ++ ls) ++ (crlf ++ behind) =
+    is ∙ ap (λ t. with_end first ++ t) (are.whole ∙ ap (λ t. ls ++ t) are.ends) ∙ sym (append_assoc (with_end first) ls (crlf ++ behind)) in
     let whole : bytes ≡ (with_end first ++ ls) ++ (crlf ++ rest) =
-    is ∙ ap (λ t. with_end first ++ t) (are.whole ∙ ap (λ t. ls ++ t) (are.ends ∙ ap (λ t. crlf ++ t) (sym rest_is))) ∙ sym (append_assoc (with_end first) ls (crlf ++ rest)) in
+    bytes_is ∙ ap (λ t. t ++ more) text_is ∙ append_assoc (with_end first ++ ls) (crlf ++ behind) more ∙ ap (λ t. (with_end first ++ ls) ++ (crlf ++ t)) (sym rest_is) in
     record {
       head = with_end first ++ ls;
       first = first;

@@ -17,11 +17,10 @@ use crate::start_line::{StartLine, read_start};
 use sip_masks::Masks;
 use std::alloc::Global;
 
-// The longest front of a message that is looked at, in words of 64 bytes, and how many words its masks
-// take.
-const BLOCKS: usize = 32;
+// How many bytes of a message are looked at, and how many words their masks take.
+const LONGEST: usize = 2047;
 
-const WORDS: usize = BLOCKS + 2;
+const WORDS: usize = 33;
 
 // For how many fields there is room at first. Most messages have no more.
 const ROOM: usize = 16;
@@ -35,22 +34,32 @@ pub(crate) fn read_ordinary(
     ensures head { IfSome result (λ read. IsOrdinary bytes.now (start_parts read.0) (fields_parts read.1) read.3.now) }
     ensures kept { IfSome result (λ read. KeptOf (fields_parts read.1) read.2) }
 {
-    if bytes.len() >= 64 * BLOCKS {
-        return None;
-    }
     let mut others = [0; WORDS];
     let mut controls = [0; WORDS];
-    let masks = Masks::of(bytes, &mut others, &mut controls);
+    let masks = Masks::of(front(bytes), &mut others, &mut controls);
     let Some(end) = line_end(&masks, 0) else {
         return None;
     };
-    let Some(start) = read_start(&bytes[..end]) else {
+    let Some(start) = read_start(&masks.text()[..end]) else {
         return None;
     };
     let Some((fields, kept, at)) = ordinary_fields(alloc, &masks, end + 2) else {
         return None;
     };
     Some((start, fields, kept, &bytes[at + 2..]))
+}
+
+// The front of the bytes that is looked at.
+#[inline]
+fn front(bytes: &[u8]) -> &[u8]
+    ensures within { length result.now ≤ LONGEST }
+    ensures front { result.now ≡ take (length result.now) bytes.now }
+{
+    if bytes.len() > LONGEST {
+        &bytes[..LONGEST]
+    } else {
+        bytes
+    }
 }
 
 // The fields of the lines from here on, with what is kept of them, and the place of the empty line

@@ -51,3 +51,4 @@ pub mod TrimLemmas
 pub mod WordLemmas
 pub mod UriOneLemmas
 pub mod AddressLemmas
+pub mod QuickLemmas

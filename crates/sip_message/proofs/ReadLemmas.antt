@@ -54,7 +54,7 @@ next-line rest line more (l ∷ ls) are read =
     (ls, ap (λ x. x.0 ∷ ls) same, subst (λ t. AreLines t ls) (ap (λ x. x.1) same) front.1)
 
 -- a field more
-fields-push : (lines : List (List ℕ)) (fields : List Field) (line : List ℕ) (f : Field) → FieldsText lines fields → FieldText line f → FieldsText (lines ++ line ∷ []) (fields ++ f ∷ [])
+pub fields-push : (lines : List (List ℕ)) (fields : List Field) (line : List ℕ) (f : Field) → FieldsText lines fields → FieldText line f → FieldsText (lines ++ line ∷ []) (fields ++ f ∷ [])
 fields-push [] fields line f are is = (f, [], is, refl, ap (λ fs. fs ++ f ∷ []) are)
 fields-push (l ∷ lines) fields line f (g, gs, one, are, whole) is =
     (g, gs ++ f ∷ [], one, fields-push lines gs line f are is, ap (λ fs. fs ++ f ∷ []) whole)

@@ -13,3 +13,4 @@ pub mod Lines
 pub mod Settles
 pub mod Codes
 pub mod Names
+pub mod Quick

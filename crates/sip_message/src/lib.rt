@@ -13,6 +13,7 @@ mod message;
 mod name;
 mod other;
 mod params;
+mod quick;
 mod row;
 mod stages;
 mod start_line;

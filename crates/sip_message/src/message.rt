@@ -12,6 +12,7 @@ use crate::address::{Address, read_address};
 use crate::ends::is_clean;
 use crate::fault::{Fault, ReadError, Reason, Unit};
 use crate::field::{Field, read_fields};
+use crate::quick::read_ordinary;
 use crate::stages::{cut_first, cut_head, find_named, read_body};
 use crate::start_line::{StartLine, read_start};
 use crate::values::CSeq;
@@ -44,7 +45,8 @@ impl<'a> Model for Message<'a> {
 }
 
 impl<'a> Message<'a> {
-    ghost use Rattle.sip_message.specs.Reads.{ReadsTo};
+    ghost use Rattle.std.specs.Prelude.{IfSome};
+    ghost use Rattle.sip_message.specs.Reads.{Reads, ReadsTo};
     ghost use Rattle.sip_message.specs.Message.{Message as Text};
 
     // The message of these parts.
@@ -76,6 +78,44 @@ impl<'a> Message<'a> {
 
     /// The message that the bytes spell, or their first fault.
     pub fn read(alloc: Global, bytes: &'a [u8]) -> Result<Self, ReadError>
+        ensures { ReadsTo bytes.entry.now result }
+    {
+        match Message::quick(alloc, bytes) {
+            Some(message) => Ok(message),
+            None => Message::whole(alloc, bytes),
+        }
+    }
+
+    // The message that the bytes spell, where its head is an ordinary one.
+    fn quick(alloc: Global, bytes: &'a [u8]) -> Option<Self>
+        ensures { IfSome result (λ m. Reads bytes.entry.now m) }
+    {
+        let Some((start, fields, kept, rest)) = read_ordinary(alloc, bytes) else {
+            return None;
+        };
+        let Ok(named) = find_named(&fields) else {
+            return None;
+        };
+        let via = kept.via.unwrap();
+        let cseq = kept.cseq.unwrap();
+        let Ok(body) = read_body(start, named, &via, cseq, &fields, rest) else {
+            return None;
+        };
+        Some(Message::new(
+            start,
+            fields,
+            body,
+            via,
+            named.from,
+            named.to,
+            named.call_id,
+            cseq,
+        ))
+    }
+
+    // The same for any message.
+    #[inline(never)]
+    fn whole(alloc: Global, bytes: &'a [u8]) -> Result<Self, ReadError>
         ensures { ReadsTo bytes.entry.now result }
     {
         let Some((head, rest)) = cut_head(bytes) else {

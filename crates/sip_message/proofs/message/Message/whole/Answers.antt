@@ -17,7 +17,7 @@ use Rattle.sip_message.specs.declared.kept.Kept.{Kept}
 use Rattle.sip_message.specs.inner.Stages.{names_parts, Stand}
 use Rattle.sip_message.proofs.KeptLemmas.{via-some, via-is, cseq-some, cseq-is}
 use Rattle.sip_message.proofs.ChainLemmas.{begun, begins, settled, faulted, Found, found-keeps, found-reads}
-use Rattle.sip_message.proofs.message.Message.read.Goals as goal
+use Rattle.sip_message.proofs.message.Message.whole.Goals as goal
 
 pub returns-in_default : goal.returns-in_default
 returns-in_default c = stopped _ (c.in_default.ensures, refl) refl

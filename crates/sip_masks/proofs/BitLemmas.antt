@@ -1,0 +1,63 @@
+-- One bit of a word, through the operations that join two words.
+use Rattle.std.proofs.Common.{◌≡◌, ℕ, zero, suc, ◌+◌, ◌-◌, ◌*◌, ◌/◌, ◌%◌, ◌^◌, ◌<◌, max, Bool, true, false, ◌||◌, ◌==◌, List, get_or, cond, refl, sym, ap, ◌∙◌, arith}
+use Rattle.std.specs.Int.{bit_at}
+use Rattle.std.proofs.lemmas.Bool.{agree_below_at}
+use Rattle.std.proofs.lemmas.Nat.{pow_pos}
+use Rattle.std.proofs.lemmas.Nat.Bits.{bit_at-lt, bit_at-zero, bit_at_or, bit_at_cat_low, bit_at_cat_high}
+use Rattle.std.proofs.lemmas.Simd.{bit_mask_l}
+use lib.Bits.{bit_or}
+use lib.Lanes.{mask_l}
+use Rattle.sip_masks.specs.Bits.{test}
+
+-- a bit is 0 or 1
+by-bit : (P : ℕ → Type 0) (n : ℕ) → n < 2 → P 0 → P 1 → P n
+by-bit P zero small none one = none
+by-bit P (suc zero) small none one = one
+by-bit P (suc (suc n)) small none one = absurd (omega (arith, small))
+
+pub test-or : (a b i : ℕ) → test (bit_or a b) i ≡ (test a i || test b i)
+unfolding test
+test-or a b i =
+    ap (λ n. n == 1) (bit_at_or a b i)
+    ∙ by-bit (λ x. (max x (bit_at b i) == 1) ≡ ((x == 1) || (bit_at b i == 1))) (bit_at a i) (bit_at-lt a i)
+    (by-bit (λ y. (max 0 y == 1) ≡ (y == 1)) (bit_at b i) (bit_at-lt b i) refl refl)
+    (by-bit (λ y. (max 1 y == 1) ≡ true) (bit_at b i) (bit_at-lt b i) refl refl)
+
+-- the low bits of a number are those of its remainder
+pub test-low : (n i : ℕ) → i < 64 → test (n % 2 ^ 64) i ≡ test n i
+unfolding test
+test-low n i below =
+    let parts : n / 2 ^ 64 * 2 ^ 64 + n % 2 ^ 64 ≡ n = omega arith in
+    ap (λ b. b == 1) (sym (bit_at_cat_low (n / 2 ^ 64) 64 (n % 2 ^ 64) i below) ∙ ap (λ m. bit_at m i) parts)
+
+-- a word moved up by k bits
+abbrev pub shl : ℕ → ℕ → ℕ
+shl k y = y * 2 ^ k % 2 ^ 64
+
+pub test-shl_high : (k j y : ℕ) → k + j < 64 → test (shl k y) (k + j) ≡ test y j
+unfolding test
+test-shl_high k j y below =
+    let place : k + j - k ≡ j = omega arith in
+    let none : y * 2 ^ k ≡ y * 2 ^ k + 0 = omega arith in
+    test-low (y * 2 ^ k) (k + j) below
+    ∙ ap (λ b. b == 1) (ap (λ m. bit_at m (k + j)) none ∙ bit_at_cat_high y k 0 (k + j) (pow_pos k) (omega arith) ∙ ap (bit_at y) place)
+
+pub test-shl_low : (k i y : ℕ) → i < k → i < 64 → test (shl k y) i ≡ false
+unfolding test
+test-shl_low k i y before below =
+    let none : y * 2 ^ k ≡ y * 2 ^ k + 0 = omega arith in
+    test-low (y * 2 ^ k) i below ∙ ap (λ b. b == 1) (ap (λ m. bit_at m i) none ∙ bit_at_cat_low y k 0 i before ∙ bit_at-zero i)
+
+-- the mask of some lanes
+pub test-mask : (lanes : List Bool) (i : ℕ) → test (mask_l lanes) i ≡ get_or lanes i false
+unfolding test
+test-mask lanes i = ap (λ b. b == 1) (bit_mask_l lanes i) ∙ is (get_or lanes i false)
+  where
+    is : (b : Bool) → (cond b 1 0 == 1) ≡ b
+    is true = refl
+    is false = refl
+
+-- each bit of the highest word is set
+pub test-ones : (i : ℕ) → i < 64 → test 18446744073709551615 i ≡ true
+unfolding test
+test-ones i below = agree_below_at (λ j. bit_at 18446744073709551615 j == 1) (λ _. true) 64 i refl below

@@ -1,0 +1,5 @@
+pub mod BitLemmas
+pub mod LaneLemmas
+pub mod TableLemmas
+pub mod WordLemmas
+pub mod RunLemmas

@@ -1,0 +1,92 @@
+-- Runs of bytes, seen in a word.
+use Rattle.std.proofs.Common.{◌≡◌, ℕ, ◌+◌, ◌-◌, ◌^◌, ◌<◌, ◌≤◌, Bool, true, false, not, ◌==◌, List, length, drop, get_or, refl, sym, ap, ◌∙◌, subst, inl, inr, arith, w64}
+use Rattle.std.specs.List.{prefix_len}
+use Rattle.std.specs.Int.{bit_at, trailing_zeros}
+use Rattle.std.proofs.lemmas.Bool.{cases_lt, false≢true}
+use Rattle.std.proofs.lemmas.List.{length-drop, get_or-drop, get_or_past}
+use Rattle.std.proofs.lemmas.List.Sums.{prefix_len_is}
+use Rattle.std.proofs.lemmas.Nat.Bits.{bit_at-zero, bit_at-trailing_zeros}
+use Rattle.sip_masks.specs.Bits.{test}
+
+-- the bits of the word are the bytes from p on
+abbrev pub Shows : (ℕ → Bool) → List ℕ → ℕ → ℕ → Type 0
+Shows q text p word = (j : ℕ) → j < 64 → test word j ≡ q (get_or text (p + j) 0)
+
+-- each byte from p up to e passes
+abbrev pub Passes : (ℕ → Bool) → List ℕ → ℕ → ℕ → Type 0
+Passes f text p e = (k : ℕ) → p ≤ k → k < e → f (get_or text k 0) ≡ true
+
+lowest-set : (word : ℕ) → 0 < word → word < 2 ^ 64 → (trailing_zeros w64 word < 64) × (test word (trailing_zeros w64 word) ≡ true) × ((i : ℕ) → i < trailing_zeros w64 word → test word i ≡ false)
+unfolding test
+lowest-set word some small =
+    let found = bit_at-trailing_zeros w64 word some small in
+    (found.0, ap (λ n. n == 1) found.1, λ i below. ap (λ n. n == 1) (found.2 i below))
+
+pub none-set : (word j : ℕ) → word ≡ 0 → test word j ≡ false
+unfolding test
+none-set word j none = ap (λ n. n == 1) (ap (λ n. bit_at n j) none ∙ bit_at-zero j)
+
+flipped : (a b : Bool) → a ≡ not b → a ≡ false → b ≡ true
+flipped a true same low = refl
+flipped a false same low = absurd (false≢true (sym low ∙ same))
+
+flopped : (a b : Bool) → a ≡ not b → a ≡ true → b ≡ false
+flopped a false same high = refl
+flopped a true same high = absurd (false≢true (sym same ∙ high))
+
+pub run-is : (f : ℕ → Bool) (text : List ℕ) (p e : ℕ) → p ≤ e → e ≤ length text → Passes f text p e → (e < length text → f (get_or text e 0) ≡ false) → prefix_len f (drop p text) ≡ e - p
+run-is f text p e from within passes stops =
+    let long = length-drop p text in
+    prefix_len_is f (drop p text) (e - p) 0 (omega (arith, long, from, within))
+    (λ k below. subst (λ x. f x ≡ true) (sym (get_or-drop p text k 0)) (passes (p + k) (omega arith) (omega (arith, below, from))))
+    (λ below.
+    let is : p + (e - p) ≡ e = omega (arith, from) in
+    subst (λ x. f x ≡ false) (sym (get_or-drop p text (e - p) 0 ∙ ap (λ n. get_or text n 0) is)) (stops (omega (arith, below, long, from))))
+
+module _ (f q : ℕ → Bool) (opposite : (x : ℕ) → q x ≡ not (f x)) (nul : q 0 ≡ true) where
+  -- no bit is set: 64 bytes more
+  pub goes-on : (text : List ℕ) (s p word : ℕ) → word ≡ 0 → Shows q text p word → Passes f text s p → p ≤ length text → Passes f text s (p + 64) × (p + 64 ≤ length text)
+  goes-on text s p word none shows before within =
+      let unset = λ (j : ℕ) (h : j < 64). sym (shows j h) ∙ none-set word j none in (
+        (λ k from below. elim (cases_lt k p) [
+          | inl low ↦ before k from low
+          | inr high ↦
+              let is : p + (k - p) ≡ k = omega (arith, high) in
+              let small : k - p < 64 = omega (arith, high, below) in
+              subst (λ n. f (get_or text n 0) ≡ true) is (flipped (q (get_or text (p + (k - p)) 0)) (f (get_or text (p + (k - p)) 0)) (opposite _) (unset (k - p) small))
+        ]),
+        elim (cases_lt (length text) (p + 64)) [
+          | inl short ↦
+              let is : p + (length text - p) ≡ length text = omega (arith, within) in
+              let set_there : q (get_or text (p + (length text - p)) 0) ≡ true = ap q (get_or_past text (p + (length text - p)) 0 (omega (arith, is))) ∙ nul in
+              absurd (false≢true (sym (unset (length text - p) (omega (arith, short, within))) ∙ set_there))
+          | inr room ↦ room
+        ],
+      )
+
+  -- the lowest bit is the end
+  pub stops-at : (text : List ℕ) (s p word : ℕ) → 0 < word → word < 2 ^ 64 → Shows q text p word → s ≤ p → Passes f text s p → p ≤ length text → prefix_len f (drop s text) ≡ p + trailing_zeros w64 word - s
+  stops-at text s p word some small shows order before within =
+      let found = lowest-set word some small in
+      let n = trailing_zeros w64 word in
+      let at : q (get_or text (p + n) 0) ≡ true = sym (shows n found.0) ∙ found.1 in
+      let low = λ (j : ℕ) (h : j < n). sym (shows j (omega (arith, h, found.0))) ∙ found.2 j h in
+      let inside : p + n ≤ length text = elim (cases_lt (length text) (p + n)) [
+        | inl short ↦
+            let is : p + (length text - p) ≡ length text = omega (arith, within) in
+            let set_there : q (get_or text (p + (length text - p)) 0) ≡ true = ap q (get_or_past text (p + (length text - p)) 0 (omega (arith, is))) ∙ nul in
+            absurd (false≢true (sym (low (length text - p) (omega (arith, short, within))) ∙ set_there))
+        | inr room ↦ room
+      ] in
+      run-is f text s (p + n) (omega (arith, order)) inside
+      (λ k from below. elim (cases_lt k p) [
+        | inl early ↦ before k from early
+        | inr high ↦
+            let is : p + (k - p) ≡ k = omega (arith, high) in
+            subst (λ m. f (get_or text m 0) ≡ true) is (flipped (q (get_or text (p + (k - p)) 0)) (f (get_or text (p + (k - p)) 0)) (opposite _) (low (k - p) (omega (arith, high, below))))
+      ])
+      (λ _. flopped (q (get_or text (p + n) 0)) (f (get_or text (p + n) 0)) (opposite _) at)
+
+pub twice : (b : Bool) → b ≡ not (not b)
+twice true = refl
+twice false = refl

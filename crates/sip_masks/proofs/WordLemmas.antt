@@ -1,0 +1,92 @@
+-- Words of 64 bits, one behind the other.
+use Rattle.std.proofs.Common.{◌≡◌, ℕ, ◌+◌, ◌-◌, ◌*◌, ◌/◌, ◌%◌, ◌^◌, ◌<◌, ◌≤◌, Bool, true, false, ◌||◌, ◌==◌, List, length, take, get_or, set, bit_or, refl, sym, ap, ap₂, ◌∙◌, subst, inl, inr, arith}
+use Rattle.std.proofs.lemmas.Bool.{cases_lt}
+use Rattle.std.proofs.lemmas.List.{get_or-set_same, get_or-set_other, get_or_past, get_or-take, length-set, length-take-le}
+use Rattle.std.proofs.lemmas.Nat.{shr-shr}
+use Rattle.std.proofs.lemmas.Nat.Bits.{bit_at_above}
+use Rattle.sip_masks.specs.Bits.{test}
+use Rattle.sip_masks.specs.Marks.{Marks, words_for}
+use Rattle.sip_masks.proofs.BitLemmas.{shl, test-or, test-shl_high, test-shl_low, test-ones}
+
+pub test-shr : (x r j : ℕ) → test (x / 2 ^ r) j ≡ test x (r + j)
+unfolding test
+test-shr x r j = ap (λ n. n % 2 == 1) (shr-shr x r j)
+
+test-above : (x i : ℕ) → x < 2 ^ 64 → 64 ≤ i → test x i ≡ false
+unfolding test
+test-above x i small high = ap (λ n. n == 1) (bit_at_above x 64 i small high)
+
+pub or-false : (b : Bool) → (b || false) ≡ b
+or-false true = refl
+or-false false = refl
+
+-- the words x and y joined from bit r of x on
+pub joined : (x y r j : ℕ) → x < 2 ^ 64 → r < 64 → j < 64 → r + j < 64 → test (bit_or (x / 2 ^ r) (shl (63 - r) (shl 1 y))) j ≡ test x (r + j)
+joined x y r j small rl jl low =
+    test-or (x / 2 ^ r) (shl (63 - r) (shl 1 y)) j
+    ∙ ap₂ (λ a b. a || b) (test-shr x r j) (elim (cases_lt j (63 - r)) [
+      | inl before ↦ test-shl_low (63 - r) j (shl 1 y) before jl
+      | inr at ↦
+          let is : 63 - r + 0 ≡ j = omega (arith, at) in
+          subst (λ i. test (shl (63 - r) (shl 1 y)) i ≡ false) is (test-shl_high (63 - r) 0 (shl 1 y) (omega arith) ∙ test-shl_low 1 0 y (omega arith) (omega arith))
+    ])
+    ∙ or-false (test x (r + j))
+
+pub joined-next : (x y r j : ℕ) → x < 2 ^ 64 → r < 64 → j < 64 → 64 ≤ r + j → test (bit_or (x / 2 ^ r) (shl (63 - r) (shl 1 y))) j ≡ test y (r + j - 64)
+joined-next x y r j small rl jl high =
+    let k = r + j - 64 in
+    let is : 63 - r + (1 + k) ≡ j = omega (arith, high) in
+    test-or (x / 2 ^ r) (shl (63 - r) (shl 1 y)) j
+    ∙ ap₂ (λ a b. a || b) (test-shr x r j ∙ test-above x (r + j) small high)
+    (subst (λ i. test (shl (63 - r) (shl 1 y)) i ≡ test y k) is (test-shl_high (63 - r) (1 + k) (shl 1 y) (omega (arith, is, jl)) ∙ test-shl_high 1 k y (omega (arith, is, jl))))
+
+-- a word of a list, from any place on
+pub from_place : (words : List ℕ) (p j : ℕ) → get_or words (p / 64) 0 < 2 ^ 64 → j < 64 →
+    test (bit_or (get_or words (p / 64) 0 / 2 ^ (p % 64)) (shl (63 - p % 64) (shl 1 (get_or words (p / 64 + 1) 0)))) j ≡ test (get_or words ((p + j) / 64) 0) ((p + j) % 64)
+from_place words p j small jl =
+    let x = get_or words (p / 64) 0 in
+    let y = get_or words (p / 64 + 1) 0 in
+    let r = p % 64 in
+    let rl : r < 64 = omega arith in
+    elim (cases_lt (r + j) 64) [
+      | inl low ↦
+          let word : p / 64 ≡ (p + j) / 64 = omega (arith, low) in
+          let bit : r + j ≡ (p + j) % 64 = omega (arith, low) in
+          joined x y r j small rl jl low ∙ ap₂ (λ w i. test (get_or words w 0) i) word bit
+      | inr high ↦
+          let word : p / 64 + 1 ≡ (p + j) / 64 = omega (arith, high, jl) in
+          let bit : r + j - 64 ≡ (p + j) % 64 = omega (arith, high, jl) in
+          joined-next x y r j small rl jl high ∙ ap₂ (λ w i. test (get_or words w 0) i) word bit
+    ]
+
+-- a word more
+pub marks-more : (p : ℕ → Bool) (text words : List ℕ) (k w : ℕ) → k < length words → Marks p text words (64 * k) → ((i : ℕ) → i < 64 → test w i ≡ p (get_or text (64 * k + i) 0)) → Marks p text (set words k w) (64 * (k + 1))
+marks-more p text words k w within before now i below =
+    elim (cases_lt i (64 * k)) [
+      | inl low ↦
+          ap (λ x. test x (i % 64)) (get_or-set_other words k (i / 64) w 0 (λ same. omega (arith, same, low))) ∙ before i low
+      | inr high ↦
+          let place : i / 64 ≡ k = omega (arith, high, below) in
+          let at : 64 * k + i % 64 ≡ i = omega (arith, high, below) in
+          ap (λ n. test (get_or (set words k w) n 0) (i % 64)) place
+          ∙ ap (λ x. test x (i % 64)) (get_or-set_same words k w 0 within)
+          ∙ now (i % 64) (omega arith) ∙ ap (λ n. p (get_or text n 0)) at
+    ]
+
+-- all ones, past the end
+pub ones-past : (p : ℕ → Bool) (text : List ℕ) (n i : ℕ) → p 0 ≡ true → length text ≤ n → i < 64 → test 18446744073709551615 i ≡ p (get_or text (n + i) 0)
+ones-past p text n i nul past below = test-ones i below ∙ sym (ap p (get_or_past text (n + i) 0 (omega (arith, past))) ∙ nul)
+
+-- a front of the text
+pub marks-front : (p : ℕ → Bool) (text words : List ℕ) (n : ℕ) → Marks p text words n → Marks p (take n text) words n
+marks-front p text words n marks i below = marks i below ∙ ap p (sym (get_or-take n text i 0 below))
+
+-- two words of ones behind a front
+pub front-ends : (p : ℕ → Bool) (text words : List ℕ) (k : ℕ) → p 0 ≡ true → 64 * k ≤ length text → k + 1 < length words → Marks p text words (64 * k)
+    → Marks p (take (64 * k) text) (set (set words k 18446744073709551615) (k + 1) 18446744073709551615) (64 * words_for (64 * k))
+front-ends p text words k nul within room marks i below =
+    let front = take (64 * k) text in
+    let long : length front ≡ 64 * k = length-take-le (64 * k) text within in
+    let past = λ (m j : ℕ) (from : k ≤ m) (h : j < 64). ones-past p front (64 * m) j nul (omega (arith, long, from)) h in
+    let one = marks-more p front words k 18446744073709551615 (omega (arith, room)) (marks-front p text words (64 * k) marks) (λ j h. past k j (omega arith) h) in
+    marks-more p front (set words k 18446744073709551615) (k + 1) 18446744073709551615 (omega (arith, room, length-set words k 18446744073709551615)) one (λ j h. past (k + 1) j (omega arith) h) i (omega (arith, below))

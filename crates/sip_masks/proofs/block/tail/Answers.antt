@@ -1,0 +1,6 @@
+use Rattle.std.proofs.Common.{refl, arith}
+use Rattle.std.proofs.lemmas.Simd.{get_or-replicate}
+use Rattle.sip_masks.proofs.block.tail.Goals as goal
+
+pub loop-i-init : goal.loop-i-init
+loop-i-init c = (refl, omega arith, λ k h. (let no : ⊥ = omega arith in absurd no), λ k from h. get_or-replicate 64 k 0 0 h)

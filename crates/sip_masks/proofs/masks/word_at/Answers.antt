@@ -1,0 +1,8 @@
+use Rattle.std.proofs.Common.{◌/◌}
+use Rattle.sip_masks.proofs.WordLemmas.{from_place}
+use Rattle.sip_masks.proofs.masks.word_at.Goals as goal
+
+pub returns : goal.returns
+returns c j h =
+    let words = c.args.words.now in
+    from_place words c.args.p j (c.type_inv.words (c.args.p / 64)).fits h

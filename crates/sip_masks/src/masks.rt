@@ -1,0 +1,147 @@
+//! The masks of a text.
+ghost use Rattle.std.specs.Prelude.{◌≡◌, ℕ, not, ◌+◌, ◌*◌, ◌/◌, ◌%◌, ◌<◌, ◌≤◌, get_or, length, take, drop};
+ghost use Rattle.std.specs.List.{prefix_len};
+ghost use Rattle.sip_masks.specs.Bits.{test};
+ghost use Rattle.sip_masks.specs.Marks.{is_plain, is_control, is_other, Marks, words_for};
+
+use crate::block::{controls, others, tail};
+use std::marker::Model;
+use std::simd::prelude::*;
+
+/// A text with its masks: it is seen as the text.
+#[derive(Drop)]
+pub struct Masks<'t, 'm> {
+    text: &'t [u8],
+    others: &'m [u64],
+    controls: &'m [u64],
+}
+
+impl<'t, 'm> Model for Masks<'t, 'm> {
+    ghost use Rattle.std.specs.Prelude.{ℕ, List};
+    ghost use Rattle.sip_masks.specs.Marks.{IsMasks};
+
+    ghost Value = { List ℕ };
+
+    ghost view = { λ m. m.text.now };
+
+    ghost invariant = { λ m. IsMasks m.text.now m.others.now m.controls.now };
+}
+
+// Marks the bytes of a front of the text, and two words' bytes past it as NUL. The front ends behind
+// the block in which an empty line ends, or else with the text.
+#[inline(never)]
+fn mark(text: &[u8], other: &mut [u64], control: &mut [u64]) -> usize
+    requires { (words_for (length text.now) ≤ length other.old) × (words_for (length text.now) ≤ length control.old) }
+    ensures within { result ≤ length text.now }
+    ensures other { Marks is_other (take result text.now) other.new (64 * words_for result) }
+    ensures control { Marks is_control (take result text.now) control.new (64 * words_for result) }
+    ensures lengths { (length other.new ≡ length other.old) × (length control.new ≡ length control.old) }
+{
+    let mut word = 0;
+    while text.len() - 64 * word >= 64 {
+        let v = u8x64::from_slice(&text[64 * word..]);
+        let ends = controls(v);
+        other[word] = others(v);
+        control[word] = ends;
+        word += 1;
+        if holds_empty_line(ends) {
+            other[word] = !0;
+            control[word] = !0;
+            other[word + 1] = !0;
+            control[word + 1] = !0;
+            return 64 * word;
+        }
+    }
+    let v = tail(text, 64 * word);
+    other[word] = others(v);
+    control[word] = controls(v);
+    other[word + 1] = !0;
+    control[word + 1] = !0;
+    text.len()
+}
+
+// Whether four controls stand in a row, as where a head ends. Nothing rests on it but how many bytes
+// are marked.
+#[inline(always)]
+fn holds_empty_line(ends: u64) -> bool {
+    ends & (ends >> 1) & (ends >> 2) & (ends >> 3) != 0
+}
+
+// The 64 bits from place p on.
+#[inline(always)]
+fn word_at(words: &[u64], p: usize) -> u64
+    requires { p / 64 + 1 < length words.now }
+    ensures { (j : ℕ) → j < 64 → test result j ≡ test (get_or words.now ((p + j) / 64) 0) ((p + j) % 64) }
+{
+    let r = p % 64;
+    (words[p / 64] >> r) | ((words[p / 64 + 1] << 1) << (63 - r))
+}
+
+impl<'t, 'm> Masks<'t, 'm> {
+    /// A front of the text with its masks, which go into the words. Mostly it ends with the block in
+    /// which the first empty line ends.
+    pub fn of(text: &'t [u8], other: &'m mut [u64], control: &'m mut [u64]) -> Masks<'t, 'm>
+        requires { (words_for (length text.now) ≤ length other.old) × (words_for (length text.now) ≤ length control.old) }
+        ensures { result ≡ take (length result) text.now }
+    {
+        let len = mark(text, other, control);
+        Masks {
+            text: &text[..len],
+            others: other,
+            controls: control,
+        }
+    }
+
+    /// The text.
+    #[inline(always)]
+    pub fn text(&self) -> &'t [u8]
+        ensures { result.now ≡ self.now }
+    {
+        self.text
+    }
+
+    /// The length of the run of plain bytes at p.
+    #[inline(always)]
+    pub fn run_at(&self, p: usize) -> usize
+        requires { p ≤ length self.now }
+        ensures { result ≡ prefix_len is_plain (drop p self.now) }
+    {
+        let word = word_at(self.others, p);
+        if word != 0 {
+            return word.trailing_zeros() as usize;
+        }
+        self.long_run(p)
+    }
+
+    // The same of a run of any length.
+    #[inline(never)]
+    fn long_run(&self, p: usize) -> usize
+        requires { p ≤ length self.now }
+        ensures { result ≡ prefix_len is_plain (drop p self.now) }
+    {
+        let mut q = p;
+        loop {
+            let word = word_at(self.others, q);
+            if word != 0 {
+                return q - p + word.trailing_zeros() as usize;
+            }
+            q += 64;
+        }
+    }
+
+    /// The place of the next control from p on, or the end.
+    #[inline(always)]
+    pub fn next_control(&self, p: usize) -> usize
+        requires { p ≤ length self.now }
+        ensures { result ≡ p + prefix_len (λ b. not (is_control b)) (drop p self.now) }
+    {
+        let mut q = p;
+        loop {
+            let word = word_at(self.controls, q);
+            if word != 0 {
+                return q + word.trailing_zeros() as usize;
+            }
+            q += 64;
+        }
+    }
+}

@@ -1,0 +1,250 @@
+-- Lines that end at their first control, and what they are read as.
+use Rattle.std.proofs.Common.{◌≡◌, ◌⊎◌, ℕ, suc, ◌+◌, ◌-◌, ◌<◌, ◌≤◌, Bool, true, false, not, ◌&&◌, ◌||◌, ◌==◌, nat_le, List, [], ◌∷◌, ◌++◌, length, take, drop, get_or, refl, sym, ap, ap₂, ◌∙◌, subst, inl, inr, arith}
+use Rattle.std.specs.Prelude.{codes}
+use Rattle.std.specs.Char.{is_ascii_alphanumeric}
+use Rattle.std.specs.List.{AllByRecursion, flat_map, list_all, prefix_len}
+use Rattle.std.proofs.Math.Seq.{drop-cons, take-append_seam, take-append-add, drop-append_seam}
+use Rattle.std.proofs.lemmas.Bool.{both_ways, agree_below_at, and_parts, or_cases, cases_lt, eqb-true, le-leb, ne_eqb}
+use Rattle.std.proofs.lemmas.List.{take-append-drop, drop-drop, append_assoc, append-nil, length-append, length-drop, length-take-le, take-take, drop-append-le}
+use Rattle.std.proofs.lemmas.List.Sums.{prefix_len-le-length}
+use Rattle.std.proofs.lemmas.Grind.{flat_map-append}
+use Rattle.sip_text.specs.Bytes.{is_one_of, crlf, colon, carriage_return, line_feed, is_wsp, is_token_byte}
+use Rattle.sip_text.specs.Text.{One, Many, ◌or◌, HasFront}
+use Rattle.sip_text.specs.Grammar.{Token, Lws}
+use Rattle.sip_text.proofs.ManyLemmas.{AllByRecursion-append, many-nil, many-cons, many-map, some-many}
+use Rattle.sip_text.proofs.BlanksLemmas.{lws-blank}
+use Rattle.sip_text.proofs.RunLemmas.{run-front, run-list_all}
+use Rattle.sip_masks.specs.Marks.{is_control, is_plain}
+use Rattle.sip_message.specs.Lines.{is_inner_byte, IsHead, IsLines, BeginsBlank, with_end}
+use Rattle.sip_message.specs.Values.{is_value_byte, OtherText}
+use Rattle.sip_message.specs.Name.{name_of}
+use Rattle.sip_message.specs.StartLine.{StartLine, request, status, StartText}
+use Rattle.sip_message.specs.Field.{Field, Row, NameText, ValueText, FieldText, FieldsText}
+use Rattle.sip_message.specs.inner.Quick.{is_open, IsOpen, AreOrdinary, IsOrdinary}
+use Rattle.sip_message.proofs.SplitLemmas.{All, all_left, all_right}
+use Rattle.sip_message.proofs.EachLemmas.{each-one, each-many, wsp-blank}
+use Rattle.sip_message.proofs.FieldLemmas.{each-token, blank-token, name_whole}
+use Rattle.sip_message.proofs.CanonLemmas.{Inner, AreInner, lines-head, inner-folds, inner-no_bare}
+use Rattle.sip_message.proofs.ReadLemmas.{fields-push}
+
+-- the text up to the first control
+open-front : (text : List ℕ) → All is_open (take (prefix_len is_open text) text)
+open-front text =
+    let front = run-front is_open text in
+    let same : take (prefix_len is_open text) text ≡ front.0 = ap₂ take front.4 front.3 ∙ take-append_seam front.0 front.1 in
+    subst (All is_open) (sym same) (each-many is_open _ (each-one is_open is_open (λ b is. is)) front.0 front.2)
+
+-- a line that a CRLF ends, the first control in it
+pub open-line : (text : List ℕ) (at end : ℕ) → end ≡ at + prefix_len is_open (drop at text) → end + 2 ≤ length text → get_or text end 0 ≡ 13 → get_or text (end + 1) 0 ≡ 10
+    → IsOpen (take (end - at) (drop at text)) × (drop at text ≡ with_end (take (end - at) (drop at text)) ++ drop (end + 2) text)
+open-line text at end is room cr lf =
+    let n = prefix_len is_open (drop at text) in
+    let len : n ≡ end - at = omega (arith, is) in
+    let rest = drop (end + 2) text in
+    let one : suc end ≡ end + 1 = omega arith in
+    let two : suc (end + 1) ≡ end + 2 = omega arith in
+    let ends : drop end text ≡ crlf ++ rest =
+    drop-cons text end 0 (omega (arith, room)) ∙ ap₂ (λ b t. b ∷ t) cr (ap (λ k. drop k text) one ∙ drop-cons text (end + 1) 0 (omega (arith, room)) ∙ ap₂ (λ b t. b ∷ t) lf (ap (λ k. drop k text) two)) in
+    let behind : drop n (drop at text) ≡ crlf ++ rest = drop-drop n at text ∙ ap (λ k. drop k text) (sym is) ∙ ends in (
+      subst (λ k. IsOpen (take k (drop at text))) len (open-front (drop at text)),
+      sym (take-append-drop n (drop at text)) ∙ ap₂ (λ k t. take k (drop at text) ++ t) len behind ∙ sym (append_assoc (take (end - at) (drop at text)) crlf rest),
+    )
+
+-- a byte that is no control is one of a value, or a blank
+open-byte : (b : ℕ) → is_open b ≡ true → (is_value_byte b || is_wsp b) ≡ true
+open-byte b clear =
+    elim (cases_lt b 256) [
+      | inl low ↦
+          (and_parts (is_open b) (is_value_byte b || is_wsp b) (agree_below_at (λ x. is_open x && (is_value_byte x || is_wsp x)) is_open 256 b refl low ∙ clear)).1
+      | inr high ↦ over (nat_le 128 b) _ (is_wsp b) (le-leb 128 b (omega (arith, high)))
+    ]
+  where
+    over : (x y z : Bool) → x ≡ true → ((y || x) || z) ≡ true
+    over true true z is = refl
+    over true false z is = refl
+    over false y z is = absurd (both_ways false refl is)
+
+-- a text without controls is a value that the reader doesn't look into
+pub open-other : (text : List ℕ) → IsOpen text → OtherText text
+open-other [] clear = many-nil _
+open-other (b ∷ text) clear = many-cons _ (b ∷ []) text (piece (or_cases (is_value_byte b) (is_wsp b) (open-byte b clear.0))) (open-other text clear.1)
+  where
+    piece : (is_value_byte b ≡ true) ⊎ (is_wsp b ≡ true) → (Lws or One is_value_byte) (b ∷ [])
+    piece (inl byte) = inr (b, byte, refl)
+    piece (inr wsp) = inl (lws-blank (b ∷ []) ([], b ∷ [], inl refl, (b, wsp, refl), refl))
+
+-- it has no line end
+open-inner : (line : List ℕ) → IsOpen line → Inner line
+open-inner [] clear = tt
+open-inner (b ∷ line) clear = (inner b clear.0, open-inner line clear.1)
+  where
+    inner : (b : ℕ) → is_open b ≡ true → is_inner_byte b ≡ true
+    inner b clear =
+        elim (cases_lt b 32) [
+          | inl low ↦ (and_parts (is_open b) (is_inner_byte b) (agree_below_at (λ x. is_open x && is_inner_byte x) is_open 32 b refl low ∙ clear)).1
+          | inr high ↦ ap₂ (λ x y. not x && not y) (ne_eqb b carriage_return (λ same. omega (arith, same, high))) (ne_eqb b line_feed (λ same. omega (arith, same, high)))
+        ]
+
+-- what a run of plain bytes and a colon begin
+pub line-cut : (text : List ℕ) (at n end : ℕ) → at + n < end → end ≤ length text → get_or text (at + n) 0 ≡ colon
+    → take (end - at) (drop at text) ≡ take n (drop at text) ++ colon ∷ take (end - (at + n + 1)) (drop (at + n + 1) text)
+line-cut text at n end less within is =
+    let t = drop at text in
+    let long : n ≤ length t = omega (arith, length-drop at text, less, within) in
+    let next : suc (at + n) ≡ at + n + 1 = omega arith in
+    let behind : drop n t ≡ colon ∷ drop (at + n + 1) text =
+    drop-drop n at text ∙ drop-cons text (at + n) 0 (omega (arith, less, within)) ∙ ap₂ (λ b k. b ∷ drop k text) is next in
+    let parts : t ≡ take n t ++ colon ∷ drop (at + n + 1) text = sym (take-append-drop n t) ∙ ap (λ r. take n t ++ r) behind in
+    let count : end - at ≡ length (take n t) + suc (end - (at + n + 1)) = omega (arith, length-take-le n t long, less) in
+    ap₂ take count parts ∙ take-append-add (take n t) (colon ∷ drop (at + n + 1) text) (suc (end - (at + n + 1)))
+
+-- a byte that stands in a list of bytes
+low-one : (set : List ℕ) (b : ℕ) → AllByRecursion (λ x. x < 256) set → is_one_of set b ≡ true → b < 256
+low-one [] b low is = absurd (both_ways false refl is)
+low-one (x ∷ set) b low is =
+    elim (or_cases (x == b) (is_one_of set b) is) [
+      | inl same ↦ omega (arith, eqb-true x b same, low.0)
+      | inr later ↦ low-one set b low.1 later
+    ]
+
+-- a plain byte is one of a token
+plain-token : (b : ℕ) → is_plain b ≡ true → is_token_byte b ≡ true
+plain-token b is =
+    elim (or_cases (is_ascii_alphanumeric b) (is_one_of (codes "-.!*_+'~") b) is) [
+      | inl letter ↦ ap (λ x. x || is_one_of (codes "-.!%*_+`'~") b) letter
+      | inr mark ↦
+          (and_parts (is_token_byte b) (is_plain b) (agree_below_at (λ x. is_token_byte x && is_plain x) is_plain 256 b refl (low-one (codes "-.!*_+'~") b low mark) ∙ is)).0
+    ]
+  where
+    low : AllByRecursion (λ x. x < 256) (codes "-.!*_+'~")
+    low = (omega arith, (omega arith, (omega arith, (omega arith, (omega arith, (omega arith, (omega arith, (omega arith, tt))))))))
+
+-- the run of plain bytes at a place is a token
+plain-run : (text : List ℕ) (n : ℕ) → n ≡ prefix_len is_plain text → 0 < n → Token (take n text)
+plain-run text n is some =
+    let front = run-front is_plain text in
+    let same : take n text ≡ front.0 = ap₂ take (is ∙ front.4) front.3 ∙ take-append_seam front.0 front.1 in
+    elim (some-many _ front.0 (many-map (One is_plain) (One is_token_byte) front.0 (λ u one. (one.0, plain-token one.0 one.1, one.2)) front.2)) [
+      | inl none ↦ absurd (omega (arith, some, is, front.4, ap length none))
+      | inr token ↦ subst Token (sym same) token
+    ]
+
+-- a line that begins with a run of plain bytes and a colon is named
+pub plain-named : (text : List ℕ) (at n end : ℕ) → n ≡ prefix_len is_plain (drop at text) → 0 < n → at + n < end → end ≤ length text → get_or text (at + n) 0 ≡ colon
+    → NameText (take (end - at) (drop at text)) (name_of (take n (drop at text))) (take (end - (at + n + 1)) (drop (at + n + 1) text))
+plain-named text at n end is some less within mark =
+    let name = take n (drop at text) in
+    let rest = take (end - (at + n + 1)) (drop (at + n + 1) text) in
+    record {
+      spelled = name;
+      is_token = plain-run (drop at text) n is some;
+      name_is = refl;
+      whole = (name, colon ∷ rest, refl, ([], colon ∷ rest, many-nil _, (colon ∷ [], rest, refl, refl, refl), refl), line-cut text at n end less within mark);
+    }
+
+-- what is left behind its colon has no controls
+pub plain-open : (text : List ℕ) (at n end : ℕ) (value : List ℕ) → at + n < end → end ≤ length text → get_or text (at + n) 0 ≡ colon → IsOpen (take (end - at) (drop at text))
+    → ValueText (take (end - (at + n + 1)) (drop (at + n + 1) text)) value → IsOpen value
+plain-open text at n end value less within mark clear valued =
+    let rest = take (end - (at + n + 1)) (drop (at + n + 1) text) in
+    let behind = all_right is_open (take n (drop at text)) (colon ∷ rest) (subst IsOpen (line-cut text at n end less within mark) clear) in
+    let w = valued.whole in
+    let whole : rest ≡ w.0 ++ (value ++ w.3.1) = w.4 ∙ ap (λ t. w.0 ++ t) (w.3.4 ∙ ap (λ t. t ++ w.3.1) w.3.2) in
+    all_left is_open value w.3.1 (all_right is_open w.0 (value ++ w.3.1) (subst IsOpen whole behind.1))
+
+-- a field's line is not empty, and begins with no blank
+line-begins : (line : List ℕ) (f : Field) → FieldText line f → (line ≡ [] → ⊥) × (BeginsBlank line → ⊥)
+line-begins line f is =
+    let n = is.named in
+    let whole = name_whole line is.rest f.name n in
+    (λ none. absurd (omega (arith, ap length (sym none ∙ whole), length-append n.spelled (n.whole.3.0 ++ colon ∷ is.rest), length-append n.whole.3.0 (colon ∷ is.rest))), λ begins. at n.spelled n.is_token _ (subst BeginsBlank whole begins))
+  where
+    at : (name : List ℕ) → Token name → (more : List ℕ) → BeginsBlank (name ++ more) → ⊥
+    at [] token more begins = absurd (omega (arith, length-append token.0 token.1, ap length token.4, ap length token.2.2))
+    at (b ∷ name) token more begins = both_ways (is_token_byte b) (blank-token b (wsp-blank b begins)) (each-token (b ∷ name) token).0
+
+-- so are the lines of fields
+lines-begin : (lines : List (List ℕ)) (fields : List Field) → FieldsText lines fields → AllByRecursion IsOpen lines → AreInner lines × AllByRecursion (λ line. ¬ (BeginsBlank line)) lines
+lines-begin [] fields are clear = (tt, tt)
+lines-begin (line ∷ lines) fields (f, fs, is, are, whole) clear =
+    let begins = line-begins line f is in
+    let later = lines-begin lines fs are clear.1 in
+    (((open-inner line clear.0, begins.0), later.0), (begins.1, later.1))
+
+-- a start line is not empty
+start-some : (line : List ℕ) (start : StartLine) → StartText line start → line ≡ [] → ⊥
+start-some line (request method uri) is none =
+    let w = is.2 in
+    absurd (omega (arith, ap length (sym none ∙ w.4), length-append w.0 w.1, ap length w.3.4, length-append w.3.0 w.3.1, ap length w.3.2))
+start-some line (status code reason) is none =
+    let w = is.1 in
+    absurd (omega (arith, ap length (sym none ∙ w.4), length-append w.0 w.1, ap length w.3.4, length-append w.3.0 w.3.1, ap length w.3.2))
+
+-- the lines from one place up to another, which are the fields so far
+pub record LinesSoFar (text : List ℕ) (from at : ℕ) (fields : List Field) : Type 0 where
+  pub lines : List (List ℕ)
+  pub within : at ≤ length text
+  pub whole : drop from text ≡ flat_map with_end lines ++ drop at text
+  pub are_open : AllByRecursion IsOpen lines
+  pub are : FieldsText lines fields
+
+pub so_far-none : (text : List ℕ) (from : ℕ) → from ≤ length text → LinesSoFar text from from []
+so_far-none text from within = record { lines = []; within = within; whole = refl; are_open = tt; are = refl }
+
+-- a line more
+pub so_far-more : (text : List ℕ) (from at end : ℕ) (fields : List Field) (f : Field) → LinesSoFar text from at fields → end + 2 ≤ length text → IsOpen (take (end - at) (drop at text))
+    → drop at text ≡ with_end (take (end - at) (drop at text)) ++ drop (end + 2) text → FieldText (take (end - at) (drop at text)) f → LinesSoFar text from (end + 2) (fields ++ f ∷ [])
+so_far-more text from at end fields f so room clear is field =
+    let line = take (end - at) (drop at text) in
+    let one : flat_map with_end (line ∷ []) ≡ with_end line = append-nil (with_end line) in
+    record {
+      lines = so.lines ++ line ∷ [];
+      within = room;
+      whole = so.whole ∙ ap (λ t. flat_map with_end so.lines ++ t) is ∙ sym (append_assoc (flat_map with_end so.lines) (with_end line) (drop (end + 2) text))
+          ∙ ap (λ t. t ++ drop (end + 2) text) (sym (flat_map-append with_end so.lines (line ∷ []) ∙ ap (λ t. flat_map with_end so.lines ++ t) one));
+      are_open = AllByRecursion-append IsOpen so.lines (line ∷ []) so.are_open (clear, tt);
+      are = fields-push so.lines fields line f so.are field;
+    }
+
+-- behind them the empty line
+pub so_far-all : (text : List ℕ) (from at end : ℕ) (fields : List Field) → LinesSoFar text from at fields → end ≡ at → end + 2 ≤ length text
+    → drop at text ≡ with_end (take (end - at) (drop at text)) ++ drop (end + 2) text → AreOrdinary text from at fields
+so_far-all text from at end fields so empty room is =
+    let none : end - at ≡ 0 = omega (arith, empty) in
+    record {
+      lines = so.lines;
+      within = omega (arith, room, empty);
+      whole = so.whole;
+      ends = is ∙ ap₂ (λ k e. with_end (take k (drop at text)) ++ drop (e + 2) text) none empty;
+      are_open = so.are_open;
+      are = so.are;
+    }
+
+-- a front and what follows it
+pub front-rest : (text front : List ℕ) → front ≡ take (length front) text → text ≡ front ++ drop (length front) text
+front-rest text front is = sym (take-append-drop (length front) text) ∙ ap (λ t. t ++ drop (length front) text) (sym is)
+
+-- a first line, lines that are fields, and an empty line are a head
+pub ordinary-head : (bytes text more rest : List ℕ) (start : StartLine) (fields : List Field) (end at : ℕ) → bytes ≡ text ++ more
+    → IsOpen (take (end - 0) (drop 0 text)) → drop 0 text ≡ with_end (take (end - 0) (drop 0 text)) ++ drop (end + 2) text
+    → StartText (take (end - 0) (drop 0 text)) start → AreOrdinary text (end + 2) at fields → rest ≡ drop (at + 2) text ++ more → IsOrdinary bytes start fields rest
+ordinary-head bytes text more rest start fields end at bytes_is clear is is_start are rest_is =
+    let first = take (end - 0) (drop 0 text) in
+    let ls = flat_map with_end are.lines in
+    let behind = drop (at + 2) text in
+    let begins = lines-begin are.lines fields are.are are.are_open in
+    let inner : AreInner (first ∷ are.lines) = ((open-inner first clear, start-some first start is_start), begins.0) in
+    let text_is : text ≡ (with_end first ++ ls) ++ (crlf ++ behind) =
+    is ∙ ap (λ t. with_end first ++ t) (are.whole ∙ ap (λ t. ls ++ t) are.ends) ∙ sym (append_assoc (with_end first) ls (crlf ++ behind)) in
+    let whole : bytes ≡ (with_end first ++ ls) ++ (crlf ++ rest) =
+    bytes_is ∙ ap (λ t. t ++ more) text_is ∙ append_assoc (with_end first ++ ls) (crlf ++ behind) more ∙ ap (λ t. (with_end first ++ ls) ++ (crlf ++ t)) (sym rest_is) in
+    record {
+      head = with_end first ++ ls;
+      first = first;
+      others = are.lines;
+      is_head = subst (λ t. IsHead t (with_end first ++ ls) rest) (sym whole) (lines-head first are.lines rest inner);
+      no_bare = inner-no_bare (first ∷ are.lines) inner;
+      are_lines = record { whole = refl; folded = inner-folds (first ∷ are.lines) inner; cut = begins.1 };
+      is_start = is_start;
+      are_fields = are.are;
+    }

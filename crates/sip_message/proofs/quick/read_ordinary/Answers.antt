@@ -1,0 +1,26 @@
+use Rattle.std.proofs.Common.{◌≡◌, ◌+◌, ◌-◌, ◌≤◌, ◌++◌, length, take, drop, refl, sym, ap, ◌∙◌, subst, arith}
+use Rattle.std.proofs.lemmas.List.{take_rest, append_assoc, length-append, drop-append-le}
+use Rattle.sip_message.specs.StartLine.{StartText}
+use Rattle.sip_message.specs.Views.{fields_parts}
+use Rattle.sip_message.specs.ValueParts.{start_parts}
+use Rattle.sip_message.specs.inner.Quick.{IsOrdinary}
+use Rattle.sip_message.proofs.QuickLemmas.{ordinary-head, front-rest}
+use Rattle.sip_message.proofs.quick.read_ordinary.Goals as goal
+
+pub returns-clause-head : goal.returns-clause-head
+returns-clause-head c =
+    let bytes = c.args.bytes.now in
+    let text = c.of-masks.result in
+    let front = c.front.result.now in
+    let more = drop (length text) front ++ drop (length front) bytes in
+    let whole : bytes ≡ text ++ more =
+    front-rest bytes front c.front.ensures.front ∙ ap (λ t. t ++ drop (length front) bytes) (front-rest front text c.of-masks.ensures) ∙ append_assoc text (drop (length text) front) (drop (length front) bytes) in
+    let at = c.in-Some-ordinary_fields.at in
+    let start = start_parts c.in-Some-read_start.start in
+    let fields = fields_parts c.in-Some-ordinary_fields.fields in
+    let full : c.in-Some.end ≡ c.in-Some.end - 0 = omega arith in
+    let is_start : StartText (take (c.in-Some.end - 0) (drop 0 text)) start =
+    subst (λ k. StartText (take k text) start) full (subst (λ t. StartText (take c.in-Some.end t) start) c.text.ensures c.in-Some-read_start.ensures.0) in
+    let are = c.in-Some-ordinary_fields.ensures.lines in
+    let rest : drop (at + 2) bytes ≡ drop (at + 2) text ++ more = ap (drop (at + 2)) whole ∙ drop-append-le (at + 2) text more are.within in
+    ordinary-head bytes text more _ start fields c.in-Some.end at whole c.in-Some.ensures.line.2 c.in-Some.ensures.line.3 is_start are (take_rest bytes (at + 2) ∙ rest)

@@ -1,0 +1,34 @@
+-- What the quick reader finds.
+use Rattle.std.specs.Prelude.{◌≡◌, ℕ, ◌+◌, ◌≤◌, not, Bool, true, List, [], ◌∷◌, ◌++◌, length, drop}
+use Rattle.std.specs.List.{AllByRecursion, flat_map}
+use Rattle.sip_masks.specs.Marks.{is_control}
+use Rattle.sip_message.specs.Lines.{IsHead, HasNoBareEnd, IsLines, BeginsBlank, with_end}
+use Rattle.sip_message.specs.StartLine.{StartLine, StartText}
+use Rattle.sip_message.specs.Field.{Field, FieldsText}
+
+abbrev pub is_open : ℕ → Bool
+is_open byte = not (is_control byte)
+
+-- no control stands in the text, HTAB aside
+abbrev pub IsOpen : List ℕ → Type 0
+IsOpen text = AllByRecursion (λ byte. is_open byte ≡ true) text
+
+-- the text from one place up to another is lines without controls, and they are these fields
+pub record AreOrdinary (text : List ℕ) (from at : ℕ) (fields : List Field) : Type 0 where
+  pub lines : List (List ℕ)
+  pub within : at + 2 ≤ length text
+  pub whole : drop from text ≡ flat_map with_end lines ++ drop at text
+  pub ends : drop at text ≡ with_end [] ++ drop (at + 2) text
+  pub are_open : AllByRecursion IsOpen lines
+  pub are : FieldsText lines fields
+
+-- the bytes are a head without controls in its lines, and what follows it
+pub record IsOrdinary (bytes : List ℕ) (start : StartLine) (fields : List Field) (rest : List ℕ) : Type 0 where
+  pub head : List ℕ
+  pub first : List ℕ
+  pub others : List (List ℕ)
+  pub is_head : IsHead bytes head rest
+  pub no_bare : HasNoBareEnd head
+  pub are_lines : IsLines head first others
+  pub is_start : StartText first start
+  pub are_fields : FieldsText others fields

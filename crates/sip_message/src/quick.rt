@@ -1,0 +1,164 @@
+//! The quick reader of ordinary heads: no line of theirs is folded, and no blank stands before a colon.
+//! It finds the ends of lines and of names in masks of the text. What is not ordinary it leaves to the
+//! reader of all heads.
+ghost use Rattle.std.specs.Prelude.{◌≡◌, ◌+◌, ◌-◌, ◌^◌, ◌≤◌, ◌<◌, ◌++◌, IsTrue, IfSome, length, take, drop};
+ghost use Rattle.sip_message.specs.Lines.{with_end};
+ghost use Rattle.sip_message.specs.Field.{Row, FieldText};
+ghost use Rattle.sip_message.specs.Views.{name_parts, field_parts, fields_parts};
+ghost use Rattle.sip_message.specs.ValueParts.{start_parts};
+ghost use Rattle.sip_message.specs.inner.Kept.{KeptOf, KeepsMore};
+ghost use Rattle.sip_message.specs.inner.Quick.{IsOpen, AreOrdinary, IsOrdinary};
+
+use crate::field::Field;
+use crate::kept::Kept;
+use crate::name::{Known, Name, read_name};
+use crate::row::{is_of_row, trim};
+use crate::start_line::{StartLine, read_start};
+use sip_masks::Masks;
+use std::alloc::Global;
+
+// How many bytes of a message are looked at, and how many words their masks take.
+const LONGEST: usize = 2047;
+
+const WORDS: usize = 33;
+
+// For how many fields there is room at first. Most messages have no more.
+const ROOM: usize = 16;
+
+/// The start line, the fields with what is kept of them, and what follows the head, where the head is
+/// an ordinary one.
+pub(crate) fn read_ordinary(
+    alloc: Global,
+    bytes: &[u8],
+) -> Option<(StartLine<'_>, Vec<Field<'_>>, Kept<'_>, &[u8])>
+    ensures head { IfSome result (λ read. IsOrdinary bytes.now (start_parts read.0) (fields_parts read.1) read.3.now) }
+    ensures kept { IfSome result (λ read. KeptOf (fields_parts read.1) read.2) }
+{
+    let mut others = [0; WORDS];
+    let mut controls = [0; WORDS];
+    let masks = Masks::of(front(bytes), &mut others, &mut controls);
+    let Some(end) = line_end(&masks, 0) else {
+        return None;
+    };
+    let Some(start) = read_start(&masks.text()[..end]) else {
+        return None;
+    };
+    let Some((fields, kept, at)) = ordinary_fields(alloc, &masks, end + 2) else {
+        return None;
+    };
+    Some((start, fields, kept, &bytes[at + 2..]))
+}
+
+// The front of the bytes that is looked at.
+#[inline]
+fn front(bytes: &[u8]) -> &[u8]
+    ensures within { length result.now ≤ LONGEST }
+    ensures front { result.now ≡ take (length result.now) bytes.now }
+{
+    if bytes.len() > LONGEST {
+        &bytes[..LONGEST]
+    } else {
+        bytes
+    }
+}
+
+// The fields of the lines from here on, with what is kept of them, and the place of the empty line
+// behind them, where the lines are ordinary ones.
+fn ordinary_fields<'a>(
+    alloc: Global,
+    masks: &Masks<'a, '_>,
+    from: usize,
+) -> Option<(Vec<Field<'a>>, Kept<'a>, usize)>
+    requires { from ≤ length masks.now }
+    ensures lines { IfSome result (λ read. AreOrdinary masks.now from read.2 (fields_parts read.0)) }
+    ensures kept { IfSome result (λ read. KeptOf (fields_parts read.0) read.1) }
+{
+    let mut kept = Kept::new();
+    let Ok(mut fields) = Vec::with_capacity(alloc, ROOM) else {
+        return None;
+    };
+    let mut at = from;
+    'lines: loop {
+        let Some(end) = line_end(masks, at) else {
+            return None;
+        };
+        if end == at {
+            return Some((fields, kept, at));
+        }
+        let Some(field) = ordinary_field(masks, at, end, &mut kept) else {
+            return None;
+        };
+        let Ok(()) = fields.push(field) else {
+            return None;
+        };
+        at = end + 2;
+    }
+}
+
+// Where the line at this place ends, if a CRLF is the first control from there on.
+#[inline]
+fn line_end(masks: &Masks<'_, '_>, at: usize) -> Option<usize>
+    requires { at ≤ length masks.now }
+    ensures fits { IfSome result (λ end. end + 2 < 2 ^ 64) }
+    ensures line { IfSome result (λ end. (at ≤ end) × (end + 2 ≤ length masks.now) × IsOpen (take (end - at) (drop at masks.now)) × (drop at masks.now ≡ with_end (take (end - at) (drop at masks.now)) ++ drop (end + 2) masks.now)) }
+{
+    let text = masks.text();
+    let end = masks.next_control(at);
+    if text.len() < 2 || end > text.len() - 2 {
+        return None;
+    }
+    if text[end] != b'\r' || text[end + 1] != b'\n' {
+        return None;
+    }
+    Some(end)
+}
+
+// The field that the line from one place up to another is, if its name is plain and its colon stands
+// right behind that. What a first Via and a first CSeq say is kept.
+#[inline]
+fn ordinary_field<'a>(
+    masks: &Masks<'a, '_>,
+    at: usize,
+    end: usize,
+    kept: &mut Kept<'a>,
+) -> Option<Field<'a>>
+    requires within { (at ≤ end) × (end ≤ length masks.now) }
+    requires clear { IsOpen (take (end - at) (drop at masks.now)) }
+    ensures field { IfSome result (λ f. FieldText (take (end - at) (drop at masks.now)) (field_parts f)) }
+    ensures kept { IfSome result (λ f. KeepsMore (field_parts f) kept.old kept.new) }
+{
+    let text = masks.text();
+    let len = masks.run_at(at);
+    if len == 0 || len >= end - at || text[at + len] != b':' {
+        return None;
+    }
+    let colon = at + len;
+    let name = read_name(&text[at..colon]);
+    let Some(value) = trim(&text[colon + 1..end]) else {
+        return None;
+    };
+    if !is_ordinary_value(name, value, kept) {
+        return None;
+    }
+    Some(Field { name, value })
+}
+
+// Whether a field of this name may have the value, in which no control stands.
+#[inline]
+fn is_ordinary_value<'a>(name: Name<'a>, value: &'a [u8], kept: &mut Kept<'a>) -> bool
+    requires { IsOpen value.now }
+    ensures row { IsTrue result → Row (name_parts name.entry) value.entry.now }
+    ensures kept { IsTrue result → KeepsMore (record { name = name_parts name.entry; value = value.entry.now }) kept.old kept.new }
+{
+    match name {
+        Name::Known(
+            Known::Via
+            | Known::From
+            | Known::To
+            | Known::CallId
+            | Known::CSeq
+            | Known::ContentLength,
+        ) => is_of_row(name, value, kept),
+        _ => true,
+    }
+}

@@ -8,6 +8,8 @@ mod hashers;
 #[cfg(test)]
 mod listings;
 #[cfg(test)]
+mod long;
+#[cfg(test)]
 mod many;
 #[cfg(test)]
 mod notation;
@@ -27,3 +29,5 @@ mod shows;
 mod tests;
 #[cfg(test)]
 mod verdicts;
+#[cfg(test)]
+mod widths;

@@ -18,7 +18,11 @@ use std::test::Fail;
 pub(crate) type Listed = (&'static str, u32, &'static str);
 
 /// What is listed of an entry of the log that a source hands out: the text, `stopped` and the verdict, or `no entry`.
-fn listing_of<S: Source>(alloc: Global, source: &mut S, entry: u32) -> Result<String, JudgeError>
+pub(crate) fn listing_of<S: Source>(
+    alloc: Global,
+    source: &mut S,
+    entry: u32,
+) -> Result<String, JudgeError>
     requires { S.has_failed source.old ≡ false }
 {
     let hasher = BuildHasherDefault::<FoldHasher>::new();
@@ -33,7 +37,7 @@ fn listing_of<S: Source>(alloc: Global, source: &mut S, entry: u32) -> Result<St
 }
 
 /// What is listed of an entry of the log of these bytes.
-fn listing_on(alloc: Global, bytes: &[u8], entry: u32) -> Result<String, JudgeError> {
+pub(crate) fn listing_on(alloc: Global, bytes: &[u8], entry: u32) -> Result<String, JudgeError> {
     listing_of(alloc, &mut Pieces::cut_at(bytes, bytes.len()), entry)
 }
 
@@ -477,6 +481,18 @@ fn answers_io_where_a_read_fails(rt: HostRuntime) -> Result<(), Fail> {
         let mut source = Pieces::failing(bytes, bytes.len() + 1);
         let text = listing_of(rt.alloc(), &mut source, entry + 1)?;
         assert_eq!(rt; text.as_str(), "no entry");
+    }
+    Ok(())
+}
+
+#[test]
+fn answers_io_behind_the_last_entry(rt: HostRuntime) -> Result<(), Fail> {
+    let log = log_of(rt.alloc(), STORED)?;
+    let bytes = log.as_str().as_bytes();
+    // The call behind those for the single bytes finds the end.
+    for calls in 0..=bytes.len() {
+        let answer = listing_of(rt.alloc(), &mut Pieces::failing(bytes, calls), 5);
+        assert_eq!(rt; answer.err(), Some(JudgeError::Io), "after {calls} calls");
     }
     Ok(())
 }

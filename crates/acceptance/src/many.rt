@@ -8,7 +8,7 @@ use std::hash::RandomState;
 use std::test::Fail;
 
 /// An OPTIONS of so many bytes, and four more.
-fn long_message(alloc: Global, len: usize) -> Result<String, AllocError> {
+pub(crate) fn long_message(alloc: Global, len: usize) -> Result<String, AllocError> {
     let mut text = String::with_capacity(alloc, 65_536)?;
     text.push_str(
         "OPTIONS sip:example.com SIP/2.0\r\nVia: SIP/2.0/UDP a.example.com;branch=z9hG4bK1\r\n\

@@ -2,8 +2,8 @@
 //!
 //! Entries stand behind one another with a semicolon between. `S 0,500 OPTIONS` is the request OPTIONS, sent at 0 and again at 500;
 //! with `R` it was received, and with `F` its send was refused. `R 700 200 OPTIONS` is the response 200 to it, and `R 700 200` the one to
-//! an INVITE. `R 2..41 INVITE` stands at each moment from 2 to 41. `M 6000` is a mark. Further words change the message: `#2` is the end
-//! of its branch, `branch=abc` the whole branch, `/TCP` the transport, `@b.example.com` the sent-by, `-CSeq` leaves that line out,
+//! an INVITE. `R 2..41 INVITE` stands at each moment from 2 to 41, and `R 10*31 INVITE` 31 times at 10. `M 6000` is a mark. Further words
+//! change the message: `#2` is the end of its branch, `branch=abc` the whole branch, `/TCP` the transport, `@b.example.com` the sent-by, `-CSeq` leaves that line out,
 //! `length=5` is its Content-Length and `SIP/1.0` its version. A word of the table of messages is that message, in which a word `a=>b`
 //! puts b in the place of the first a. In front of all there may be the tolerance, as `tolerance 10000:`.
 use std::alloc::{AllocError, Global};
@@ -177,6 +177,12 @@ fn push_entries(log: &mut String, letter: &str, moments: &str, message: &str) ->
     if let Some((first, last)) = moments.split_once("..") {
         for moment in first.parse::<u64>()?..=last.parse::<u64>()? {
             push_entry(log, letter, moment, message)?;
+        }
+        return Ok(());
+    }
+    if let Some((moment, times)) = moments.split_once('*') {
+        for _ in 0..times.parse::<u64>()? {
+            push_entry(log, letter, moment.parse::<u64>()?, message)?;
         }
         return Ok(());
     }

@@ -45,10 +45,17 @@ impl<'a> Pieces<'a> {
     pub(crate) fn failing(bytes: &'a [u8], calls: usize) -> Pieces<'a>
         ensures { result.failed ≡ false }
     {
+        Pieces::failing_in(bytes, 1, calls)
+    }
+
+    /// Pieces of one size, and the call behind so many fails.
+    pub(crate) fn failing_in(bytes: &'a [u8], size: usize, calls: usize) -> Pieces<'a>
+        ensures { result.failed ≡ false }
+    {
         Pieces {
             bytes,
-            first: 1,
-            others: 1,
+            first: size,
+            others: size,
             calls: Some(calls),
             failed: false,
         }

@@ -50,6 +50,11 @@ fn judges_invites_that_wait(rt: HostRuntime) -> Result<(), Fail> {
             ("F 0 INVITE; M 600", "legal entries 2 transactions 1"),
             // A breach at the entry of another transaction.
             ("S 0 INVITE; R 551 OPTIONS #2", "breach 2 transaction 1"),
+            // The last moment that a log can name.
+            (
+                "S 9999999999999 INVITE; M 9999999999999",
+                "legal entries 2 transactions 1",
+            ),
         ],
     )
 }

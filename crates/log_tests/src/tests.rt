@@ -206,6 +206,64 @@ fn a_source_that_fails(rt: HostRuntime) -> Result<(), Fail> {
     Ok(())
 }
 
+/// A REGISTER, and the response to it.
+const REGISTER: &[u8] =
+    b"REGISTER sip:example.com SIP/2.0\r\nVia: SIP/2.0/UDP a.example.com;branch=z9hG4bKr1\r\n\
+    From: <sip:bob@example.com>;tag=1\r\nTo: <sip:bob@example.com>\r\nCall-ID: c1@a\r\nCSeq: 1 REGISTER\r\n\
+    Content-Length: 0\r\n\r\n";
+
+const RESPONSE: &[u8] = b"SIP/2.0 200 Reply\r\nVia: SIP/2.0/UDP a.example.com;branch=z9hG4bKr1\r\n\
+    From: <sip:bob@example.com>;tag=1\r\nTo: <sip:bob@example.com>;tag=2\r\nCall-ID: c1@a\r\nCSeq: 1 REGISTER\r\n\
+    Content-Length: 0\r\n\r\n";
+
+/// The log of a REGISTER that is sent, sent again and answered.
+fn registration(alloc: Global) -> Result<Vec<u8>, AllocError> {
+    let mut log = Vec::from_slice(alloc, HEADER)?;
+    for part in [
+        b"S 0 199\n".as_slice(),
+        REGISTER,
+        b"\nS 500 199\n",
+        REGISTER,
+        b"\nR 700 190\n",
+        RESPONSE,
+        b"\nM 6000\n",
+    ] {
+        log.extend_from_slice(part)?;
+    }
+    Ok(log)
+}
+
+/// How many entries are whole in so many bytes of the log of a registration.
+fn whole_entries(len: usize) -> u32 {
+    match len {
+        0..=255 => 0,
+        256..=465 => 1,
+        466..=666 => 2,
+        667..=673 => 3,
+        _ => 4,
+    }
+}
+
+/// The entries before the call that fails are told, then `Io`, and then `Failed`.
+#[test]
+fn a_registration_whose_source_fails(rt: HostRuntime) -> Result<(), Fail> {
+    let bytes = registration(rt.alloc())?;
+    assert_eq!(rt; bytes.len(), 674);
+    // The last call finds the end.
+    for calls in 0..=bytes.len() {
+        assert_eq!(rt;
+            read(rt.alloc(), Pieces::failing(&bytes, calls)),
+            Some((whole_entries(calls), Some(LogError::Io))),
+            "after {calls}"
+        );
+    }
+    assert_eq!(rt;
+        read(rt.alloc(), Pieces::failing(&bytes, bytes.len() + 1)),
+        Some((4, None))
+    );
+    Ok(())
+}
+
 /// The largest message, the last moment, and what stays known after an error.
 #[test]
 fn what_an_entry_tells(rt: HostRuntime) -> Result<(), Fail> {

@@ -104,23 +104,52 @@ fn writes_the_canonical_form(rt: HostRuntime) -> Result<(), Fail> {
     Ok(())
 }
 
+/// Whether the messages have the same parts. Those that may be folded are compared by their canonical form.
+fn are_same(alloc: Global, one: &Message<'_>, other: &Message<'_>) -> Result<bool, AllocError> {
+    let mut texts = (Vec::new(alloc), Vec::new(alloc));
+    write(one, &mut texts.0)?;
+    write(other, &mut texts.1)?;
+    let (via, other_via) = (one.top_via(), other.top_via());
+    Ok(
+        texts.0.as_slice() == texts.1.as_slice()
+            && one.start() == other.start()
+            && one.body() == other.body()
+            && one.call_id() == other.call_id()
+            && one.cseq() == other.cseq()
+            && (via.transport, via.host, via.port, via.branch)
+                == (
+                    other_via.transport,
+                    other_via.host,
+                    other_via.port,
+                    other_via.branch,
+                )
+            && one.is_reliable() == other.is_reliable(),
+    )
+}
+
+/// Whether the bytes are a message whose canonical form reads back as the same message, or have one of the faults 1 to 11.
+fn is_read_back(alloc: Global, bytes: &[u8]) -> Result<bool, AllocError> {
+    let message = match Message::read(alloc, bytes) {
+        Ok(message) => message,
+        Err(ReadError::Fault(fault)) => return Ok((1..=11).contains(&fault.reason.number())),
+        Err(ReadError::Memory) => return Err(AllocError),
+    };
+    let mut out = Vec::new(alloc);
+    write(&message, &mut out)?;
+    match Message::read(alloc, &out) {
+        Ok(again) => are_same(alloc, &message, &again),
+        Err(ReadError::Fault(_)) => Ok(false),
+        Err(ReadError::Memory) => Err(AllocError),
+    }
+}
+
 #[test]
 fn reads_back_what_it_writes(rt: HostRuntime) -> Result<(), Fail> {
     let mut text = FOLDED.to_vec(rt.alloc())?;
     for at in 0..FOLDED.len() {
         for byte in 0..=255 {
             text[at] = byte;
-            match canonical(rt.alloc(), &text) {
-                Ok(out) => assert!(rt;
-                    canonical(rt.alloc(), &out)?.as_slice() == out.as_slice(),
-                    "{byte} at {at}"
-                ),
-                Err(ReadError::Fault(fault)) => {
-                    let of_keys = fault.reason == Reason::NoCookie;
-                    assert!(rt; !of_keys, "{byte} at {at}");
-                }
-                Err(ReadError::Memory) => return Err(AllocError.into()),
-            }
+            assert!(rt; is_read_back(rt.alloc(), &text)?, "{byte} at {at}");
         }
         text[at] = FOLDED[at];
     }

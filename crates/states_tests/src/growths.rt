@@ -6,7 +6,7 @@ ghost use Rattle.sip_machine.specs.InviteServer.{invite_server_names};
 
 use crate::agenda::{put, settle};
 use crate::keys::key;
-use crate::played::{Entry, book, busy, invite, ringing, take};
+use crate::played::{Entry, book, busy, invite, ok, ringing, take};
 use sip_machine::{Book, InviteServer, Params};
 use sip_states::{StateSet, Tables, TakeError};
 use std::alloc::Global;
@@ -81,6 +81,62 @@ fn a_set_goes_on_after_a_refused_growth(rt: HostRuntime) -> Result<(), Fail> {
     let mut set = StateSet::start(alloc, InviteServer::new(params))?;
     let mut twin = StateSet::start(alloc, InviteServer::new(params))?;
     take_all_again(&rt, &mut set, &mut twin, &book)
+}
+
+/// Lets the set wait until the moment, and a second time where memory was refused. The twin has the same states, and so many behind it.
+fn advance_again(
+    rt: &impl Abort,
+    set: &mut StateSet<InviteServer>,
+    twin: &mut StateSet<InviteServer>,
+    moment: u64,
+    count: usize,
+) -> Result<(), Fail>
+    requires order { set.old.moment ≤ moment }
+    requires order_of_twin { twin.old.moment ≤ moment }
+    ensures order { OnOk result (set.new.moment ≤ moment) }
+    ensures order_of_twin { OnOk result (twin.new.moment ≤ moment) }
+{
+    let waited = set.advance(moment);
+    if waited.is_err() {
+        assert!(rt; set.states() == twin.states());
+        set.advance(moment)?;
+    }
+    assert_eq!(rt; set.states().len(), count, "at {moment}");
+    twin.advance(moment)?;
+    assert!(rt; set.states() == twin.states());
+    Ok(waited?)
+}
+
+/// A 486 that answers a repeat, or is itself repeated: timer G fires at 540 or at 1490, and the set has a state for each.
+#[test]
+fn a_repeat_goes_on_after_a_refused_growth(rt: HostRuntime) -> Result<(), Fail> {
+    let alloc = rt.alloc();
+    let book = book(alloc)?;
+    let params = Params::new(500, 4_000, 5_000, 50).ok_or("refused")?;
+    let mut set = StateSet::start(alloc, InviteServer::new(params))?;
+    let mut twin = StateSet::start(alloc, InviteServer::new(params))?;
+    take_again(&rt, &mut set, &mut twin, &book, invite(0))?;
+    take_again(&rt, &mut set, &mut twin, &book, busy(0))?;
+    take_again(&rt, &mut set, &mut twin, &book, invite(480))?;
+    take_again(&rt, &mut set, &mut twin, &book, busy(490))?;
+    advance_again(&rt, &mut set, &mut twin, 550, 2)?;
+    advance_again(&rt, &mut set, &mut twin, 551, 1)?;
+    advance_again(&rt, &mut set, &mut twin, 1_541, 0)
+}
+
+/// Behind the 200 timer L ends the transaction between 31950 and 32050.
+#[test]
+fn a_wait_goes_on_after_a_refused_growth(rt: HostRuntime) -> Result<(), Fail> {
+    let alloc = rt.alloc();
+    let book = book(alloc)?;
+    let params = Params::new(500, 4_000, 5_000, 50).ok_or("refused")?;
+    let mut set = StateSet::start(alloc, InviteServer::new(params))?;
+    let mut twin = StateSet::start(alloc, InviteServer::new(params))?;
+    take_again(&rt, &mut set, &mut twin, &book, invite(0))?;
+    take_again(&rt, &mut set, &mut twin, &book, ok(0))?;
+    advance_again(&rt, &mut set, &mut twin, 31_949, 1)?;
+    advance_again(&rt, &mut set, &mut twin, 31_950, 2)?;
+    advance_again(&rt, &mut set, &mut twin, 32_051, 1)
 }
 
 /// Touches the key, and a second time where memory was refused.

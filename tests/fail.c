@@ -1,0 +1,36 @@
+/* Loaded before the C library, it has siptrace read and write in pieces, and fails one read or one write of standard output: that whose
+   number, from 1 on, is in the environment as FAILED_READ or FAILED_WRITE. Other programs read and write as ever. */
+#define _GNU_SOURCE
+#include <errno.h>
+#include <stdlib.h>
+#include <string.h>
+#include <sys/syscall.h>
+#include <unistd.h>
+
+enum { PIECE = 4096 };
+
+static int is_siptrace(void) { return strcmp(program_invocation_short_name, "siptrace") == 0; }
+
+static int is_failed(const char *name, long call) {
+  const char *failed = getenv(name);
+  return failed && call == atol(failed);
+}
+
+static size_t piece(size_t size) { return size < PIECE ? size : PIECE; }
+
+static ssize_t fail(void) {
+  errno = EIO;
+  return -1;
+}
+
+ssize_t read(int file, void *bytes, size_t size) {
+  static long call;
+  if (!is_siptrace()) return syscall(SYS_read, file, bytes, size);
+  return is_failed("FAILED_READ", ++call) ? fail() : syscall(SYS_read, file, bytes, piece(size));
+}
+
+ssize_t write(int file, const void *bytes, size_t size) {
+  static long call;
+  if (!is_siptrace() || file != STDOUT_FILENO) return syscall(SYS_write, file, bytes, size);
+  return is_failed("FAILED_WRITE", ++call) ? fail() : syscall(SYS_write, file, bytes, piece(size));
+}

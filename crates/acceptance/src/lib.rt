@@ -27,3 +27,5 @@ mod shows;
 mod tests;
 #[cfg(test)]
 mod verdicts;
+#[cfg(test)]
+mod words;

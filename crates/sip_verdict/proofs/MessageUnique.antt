@@ -17,10 +17,6 @@ use Rattle.sip_verdict.specs.Keyed.{Observation}
 use Rattle.sip_verdict.specs.MessageReading.{key_machines, fault_observation, message_observation, ObservesMessage, has_fault, has_no_cookie, is_heard, direction_of, mark_observation, message_reading}
 use Rattle.sip_verdict.proofs.Keys.{IsExact}
 
--- keys are compared exactly
-pub keys_exact : (p : Times) → IsExact (key_machines p)
-keys_exact p = same_key-decides
-
 -- bytes that have a fault are no message
 pub fault_no_reading : (text : List ℕ) (fault : Fault) (r : message.Reading) → FaultOf text (Some fault) → Reads text r → ⊥
 fault_no_reading text fault r has reads = let e : Some fault ≡ None = same_fault text (Some fault) None has (r.message, text-read text r.message reads.text) in cc

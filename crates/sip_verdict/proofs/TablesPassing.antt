@@ -123,17 +123,6 @@ settles_leaves number after t u s = (s.limit, subst (IsAgendaOf s.limit) same s.
     same : s.set ≡ after
     same = elim (set-place t.sets (number - 1) (number - 1) after s.set s.at) [ inl h ↦ sym h.1 | inr h ↦ absurd (h.0 refl) ]
 
--- an entry may still pass
-pub leaves_may : (texts : Texts) (moment number : ℕ) (after : AnySet) (fate : Fate) (t u : Tabled) → MayPass texts t moment → Leaves number after fate t u
-    → moment_of after ≤ moment → IsKnownSet texts after → MayPass texts u moment
-leaves_may texts moment number after fate t u may leaves low known =
-    let sets = sym (leaves_sets number after fate t u leaves) in
-    record {
-      order = subst (All (λ set. moment_of set ≤ moment)) sets (All-set (λ set. moment_of set ≤ moment) t.sets (number - 1) after low may.order);
-      known = subst (All (IsKnownSet texts)) sets (All-set (IsKnownSet texts) t.sets (number - 1) after known may.known);
-      long = ap length (sym sets) ∙ length-set t.sets (number - 1) after ∙ may.long ∙ ap length (sym (leaves_keys number after fate t u leaves));
-    }
-
 -- the last moments stay on record where more wait
 on_record_more : (waits more : ℕ → Bool) → ((n : ℕ) → waits n ≡ true → more n ≡ true) → (n : ℕ) (set : AnySet) (recorded : Option (Option ℕ)) → IsOnRecord waits n set recorded → IsOnRecord more n set recorded
 on_record_more waits more all n set None h = all n h

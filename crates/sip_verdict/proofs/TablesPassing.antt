@@ -1,17 +1,16 @@
 -- The sets of the tables hear the event of an entry, one after another.
-use Rattle.std.proofs.Common.{◌≡◌, ◌≢◌, ◌≤◌, ◌<◌, ◌+◌, ◌-◌, ◌⊎◌, ◌||◌, inl, inr, ℕ, zero, suc, Bool, true, false, cond, nat_eq, Option, Some, None, List, [], ◌∷◌, All, map, length, set, slice_get, refl, sym, ap, ◌∙◌, subst, arith}
+use Rattle.std.proofs.Common.{◌≡◌, ◌≢◌, ◌<◌, ◌+◌, ◌-◌, ◌⊎◌, ◌||◌, inl, inr, ℕ, zero, suc, Bool, true, false, cond, nat_eq, Option, Some, None, List, [], ◌∷◌, All, map, length, set, slice_get, refl, sym, ap, ◌∙◌, subst, arith}
 use Rattle.std.specs.List.{zip}
 use Rattle.std.specs.Option.{option_eq, ForSome}
 use Rattle.std.specs.Cmp.{unsigned_Decides}
 use Rattle.std.proofs.lemmas.Bool.{false≢true}
 use Rattle.std.proofs.lemmas.List.{length-set}
-use Rattle.std.proofs.lemmas.List.Elements.{All-set}
 use Rattle.std.proofs.lemmas.Option.{slice_get_within, get_or_from_slice_get}
 use Rattle.std.proofs.lemmas.Slice.Zip.{firsts-zip}
 use Rattle.sip_machine.specs.Texts.{Texts}
 use Rattle.sip_machine.specs.NumberedEvent.{NumberedEvent}
 use Rattle.sip_machine.specs.Heard.{heard}
-use Rattle.sip_states.specs.AnySet.{moment_of, IsKnownSet, IsAgendaOf}
+use Rattle.sip_states.specs.AnySet.{IsAgendaOf}
 use Rattle.sip_states.specs.Tables.{Tabled, IsGiven, Settles, with_set}
 use Rattle.sip_states.specs.declared.any_set.AnySet.{AnySet}
 use Rattle.sip_verdict.specs.declared.passing.Fate.{Fate}
@@ -20,7 +19,7 @@ use Rattle.sip_verdict.specs.declared.passing.Hearing.{Hearing}
 use Rattle.sip_verdict.specs.declared.passing.Outcome.{Outcome}
 use Rattle.sip_verdict.specs.declared.passing.Outcome.TheVariants as all
 use Rattle.sip_verdict.specs.inner.Tracking.{outcome_of}
-use Rattle.sip_verdict.specs.inner.TablesTracking.{transactions_of, hears, MayPass, IsOnRecord, AreOnRecord, AllAreOnRecord, AreOnRecordIf, Leaves, Hears, HearsIf}
+use Rattle.sip_verdict.specs.inner.TablesTracking.{transactions_of, hears, IsOnRecord, AreOnRecord, AllAreOnRecord, AreOnRecordIf, Leaves, Hears, HearsIf}
 
 -- a list has an element at each place
 pub at_place : {A : Type 0} (xs : List A) (n : ℕ) → n < length xs → (x : A) × (slice_get xs n ≡ Some x)

@@ -31,3 +31,5 @@ mod tests;
 mod verdicts;
 #[cfg(test)]
 mod widths;
+#[cfg(test)]
+mod words;

@@ -165,6 +165,29 @@ fn lists_invite_servers(rt: HostRuntime) -> Result<(), Fail> {
                 3,
                 "transaction 1 server INVITE states 1\n  confirmed reliable=yes set=20\n",
             ),
+            (
+                "R 0 INVITE /TCP; S 5 180 /TCP",
+                2,
+                "transaction 1 server INVITE states 1\n  proceeding reliable=yes set=0 last=2\n",
+            ),
+            // Three repeats at one moment are owed three responses.
+            (
+                "R 0 INVITE; S 1 180; R 2,2,2 INVITE",
+                5,
+                "transaction 1 server INVITE states 1\n  \
+                proceeding reliable=no set=0 last=2 owes=2/52/must owes=2/52/must owes=2/52/must\n",
+            ),
+            (
+                "R 0 INVITE; S 1 180; R 2 INVITE; S 3 200",
+                4,
+                "transaction 1 server INVITE states 1\n  accepted set=3 owes=2/52/may\n",
+            ),
+            // An ACK without an INVITE.
+            (
+                "R 0 ACK",
+                1,
+                "transaction 1 server INVITE states 1\n  idle\n",
+            ),
             // Behind a final response what was owed need not be sent, and then it was.
             (
                 "R 0 INVITE; S 1 180; R 2 INVITE; S 3 486; S 4 180",
@@ -236,6 +259,11 @@ fn lists_clients_and_servers(rt: HostRuntime) -> Result<(), Fail> {
                 "S 0,500 OPTIONS; R 600 100 OPTIONS; S 1500 OPTIONS",
                 4,
                 "transaction 1 client OPTIONS states 1\n  proceeding reliable=no request=1 start=0 set=1500 interval=4000\n",
+            ),
+            (
+                "S 0 OPTIONS /TCP; R 700 200 OPTIONS /TCP",
+                2,
+                "transaction 1 client OPTIONS states 1\n  completed reliable=yes set=700\n",
             ),
             // Within the window of timer K.
             (

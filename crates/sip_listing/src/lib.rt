@@ -7,8 +7,6 @@ mod invite_server;
 mod lines;
 mod plain_client;
 mod plain_server;
-#[cfg(test)]
-mod tests;
 mod told;
 mod transaction;
 

@@ -22,14 +22,7 @@ after_event : (texts : Texts) (e : NumberedEvent) (machine : MachineKind) (s : H
     → (t : Held Times (StateOf machine)) × (new ≡ set_of machine t) × HasTaken (meaning_of machine) texts e s t
 after_event texts e machine s old new is takes = of_sets (λ X M S m a b. HasTaken m texts e a b) machine s new (subst (λ set. Takes texts e set new) is takes)
 
--- an event leaves a set of its moment
-pub takes_at : (texts : Texts) (e : NumberedEvent) (old new : AnySet) → Takes texts e old new → moment_of new ≡ e.moment
-takes_at texts e old new takes =
-    let o = some_machine old in
-    let n = after_event texts e o.0 o.1 old new o.2 takes in
-    ap moment_of n.1 ∙ moment_is o.0 n.0 ∙ n.2.at
-
--- which names messages that are kept
+-- an event leaves a set that names messages that are kept
 pub takes_known : (texts : Texts) (e : NumberedEvent) (old new : AnySet) → Takes texts e old new → IsKnownSet texts new
 takes_known texts e old new takes =
     let o = some_machine old in

@@ -1,24 +1,12 @@
 -- What is kept before the first entry, and between two.
-use Rattle.std.proofs.Common.{◌≡◌, ◌≤◌, ℕ, [], length, sym, ap, ◌∙◌, subst, refl, arith}
-use Rattle.std.proofs.lemmas.List.Elements.{All-nil, All-weaker}
+use Rattle.std.proofs.Common.{◌≡◌, ◌≤◌, ℕ, length, sym, ap, ◌∙◌, arith}
+use Rattle.std.proofs.lemmas.List.Elements.{All-weaker}
 use Rattle.std.proofs.lemmas.List.{length-map}
 use Rattle.std.proofs.lemmas.Slice.Zip.{firsts-zip}
-use Rattle.sip_machine.specs.Times.{Times}
 use Rattle.sip_machine.specs.Texts.{Texts}
-use Rattle.sip_machine.proofs.TextLaws.{Contains-nil}
-use Rattle.sip_states.specs.AnySet.{moment_of, IsKnownSet}
+use Rattle.sip_states.specs.AnySet.{moment_of}
 use Rattle.sip_states.specs.Tables.{Tabled}
 use Rattle.sip_verdict.specs.inner.TablesTracking.{transactions_of, MayTake}
-
--- the first entry may come at any moment
-pub may_start : (texts : Texts) (t : Tabled) (p : Times) → texts ≡ [] → t ≡ record { times = p; keys = []; sets = []; records = [] } → MayTake texts t 1 0
-may_start texts t p none empty =
-    subst (λ x. MayTake x t 1 0) (sym none) (subst (λ u. MayTake [] u 1 0) (sym empty) (record {
-      passes = record { order = All-nil (λ set. moment_of set ≤ 0); known = All-nil (IsKnownSet []); long = refl };
-      recorded = record { long = refl; each = λ n set recorded at. absurd cc };
-      numbered = λ n keeps. absurd (Contains-nil n keeps);
-      few = omega arith;
-    }))
 
 -- an entry may come later
 pub may_later : (texts : Texts) (t : Tabled) (number moment later : ℕ) → moment ≤ later → MayTake texts t number moment → MayTake texts t number later
@@ -36,7 +24,3 @@ may_later texts t number moment later low may = record {
 -- there are as many transactions as keys
 pub transactions_long : (texts : Texts) (t : Tabled) (number moment : ℕ) → MayTake texts t number moment → length t.keys ≡ length (transactions_of t)
 transactions_long texts t number moment may = sym (ap length (firsts-zip t.keys t.sets may.passes.long)) ∙ length-map (transactions_of t) (λ x. x.0)
-
--- at first there are none
-pub transactions_none : (t : Tabled) (p : Times) → t ≡ record { times = p; keys = []; sets = []; records = [] } → transactions_of t ≡ []
-transactions_none t p empty = ap transactions_of empty

@@ -9,17 +9,10 @@ use Rattle.sip_message.proofs.FaultLemmas.{text-read, same_fault}
 use Rattle.sip_message.proofs.MessageLemmas.{same_reading}
 use Rattle.sip_key.specs.declared.role.Direction.{Direction}
 use Rattle.sip_key.specs.Key.{KeyParts}
-use Rattle.sip_key.specs.inner.KeyLaws.{same_key-decides}
 use Rattle.sip_key.specs.Concerns.{Concerns, lacks_cookie, own_key, cancelled_key}
-use Rattle.sip_machine.specs.Times.{Times}
 use Rattle.sip_log.specs.Spelling.{Item}
 use Rattle.sip_verdict.specs.Keyed.{Observation}
-use Rattle.sip_verdict.specs.MessageReading.{key_machines, fault_observation, message_observation, ObservesMessage, has_fault, has_no_cookie, is_heard, direction_of, mark_observation, message_reading}
-use Rattle.sip_verdict.proofs.Keys.{IsExact}
-
--- keys are compared exactly
-pub keys_exact : (p : Times) → IsExact (key_machines p)
-keys_exact p = same_key-decides
+use Rattle.sip_verdict.specs.MessageReading.{fault_observation, message_observation, ObservesMessage, has_fault, has_no_cookie, is_heard, direction_of, mark_observation, message_reading}
 
 -- bytes that have a fault are no message
 pub fault_no_reading : (text : List ℕ) (fault : Fault) (r : message.Reading) → FaultOf text (Some fault) → Reads text r → ⊥

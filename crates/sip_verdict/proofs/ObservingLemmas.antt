@@ -30,18 +30,12 @@ observes before item e direction goes seen = subst (λ d. MatchOption d (e ≡ m
 pub going : (action : Action) (direction : Direction) → direction_of action ≡ Some direction → action ≡ Mark → ⊥
 going action direction goes mark = let e : None ≡ Some direction = sym (ap direction_of mark) ∙ goes in cc
 
--- it has a message, and a mark has none
+-- it has a message
 pub going_says : (action : Action) (direction : Direction) → direction_of action ≡ Some direction → has_message action ≡ true
 going_says Sent direction goes = refl
 going_says Received direction goes = refl
 going_says Failed direction goes = refl
 going_says Mark direction goes = cc
-
-pub staying_says : (action : Action) → direction_of action ≡ None → has_message action ≡ false
-staying_says Sent stays = cc
-staying_says Received stays = cc
-staying_says Failed stays = cc
-staying_says Mark stays = refl
 
 -- a fault of its bytes
 pub observes_fault : (item : Item) (direction : Direction) (text : List ℕ) (fault : Fault) → text ≡ item.text → FaultOf text (Some fault) → ObservesMessage direction item (fault_observation item fault)

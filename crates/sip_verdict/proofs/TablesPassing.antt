@@ -1,17 +1,16 @@
 -- The sets of the tables hear the event of an entry, one after another.
-use Rattle.std.proofs.Common.{◌≡◌, ◌≢◌, ◌≤◌, ◌<◌, ◌+◌, ◌-◌, ◌⊎◌, ◌||◌, inl, inr, ℕ, zero, suc, Bool, true, false, cond, nat_eq, Option, Some, None, List, [], ◌∷◌, All, map, length, set, slice_get, refl, sym, ap, ◌∙◌, subst, arith}
+use Rattle.std.proofs.Common.{◌≡◌, ◌≢◌, ◌<◌, ◌+◌, ◌-◌, ◌⊎◌, ◌||◌, inl, inr, ℕ, zero, suc, Bool, true, false, cond, nat_eq, Option, Some, None, List, [], ◌∷◌, All, map, length, set, slice_get, refl, sym, ap, ◌∙◌, subst, arith}
 use Rattle.std.specs.List.{zip}
 use Rattle.std.specs.Option.{option_eq, ForSome}
 use Rattle.std.specs.Cmp.{unsigned_Decides}
 use Rattle.std.proofs.lemmas.Bool.{false≢true}
 use Rattle.std.proofs.lemmas.List.{length-set}
-use Rattle.std.proofs.lemmas.List.Elements.{All-set}
 use Rattle.std.proofs.lemmas.Option.{slice_get_within, get_or_from_slice_get}
 use Rattle.std.proofs.lemmas.Slice.Zip.{firsts-zip}
 use Rattle.sip_machine.specs.Texts.{Texts}
 use Rattle.sip_machine.specs.NumberedEvent.{NumberedEvent}
 use Rattle.sip_machine.specs.Heard.{heard}
-use Rattle.sip_states.specs.AnySet.{moment_of, IsKnownSet, IsAgendaOf}
+use Rattle.sip_states.specs.AnySet.{IsAgendaOf}
 use Rattle.sip_states.specs.Tables.{Tabled, IsGiven, Settles, with_set}
 use Rattle.sip_states.specs.declared.any_set.AnySet.{AnySet}
 use Rattle.sip_verdict.specs.declared.passing.Fate.{Fate}
@@ -20,7 +19,7 @@ use Rattle.sip_verdict.specs.declared.passing.Hearing.{Hearing}
 use Rattle.sip_verdict.specs.declared.passing.Outcome.{Outcome}
 use Rattle.sip_verdict.specs.declared.passing.Outcome.TheVariants as all
 use Rattle.sip_verdict.specs.inner.Tracking.{outcome_of}
-use Rattle.sip_verdict.specs.inner.TablesTracking.{transactions_of, hears, MayPass, IsOnRecord, AreOnRecord, AllAreOnRecord, AreOnRecordIf, Leaves, Hears, HearsIf}
+use Rattle.sip_verdict.specs.inner.TablesTracking.{transactions_of, hears, IsOnRecord, AreOnRecord, AllAreOnRecord, AreOnRecordIf, Leaves, Hears, HearsIf}
 
 -- a list has an element at each place
 pub at_place : {A : Type 0} (xs : List A) (n : ℕ) → n < length xs → (x : A) × (slice_get xs n ≡ Some x)
@@ -122,17 +121,6 @@ settles_leaves number after t u s = (s.limit, subst (IsAgendaOf s.limit) same s.
   where
     same : s.set ≡ after
     same = elim (set-place t.sets (number - 1) (number - 1) after s.set s.at) [ inl h ↦ sym h.1 | inr h ↦ absurd (h.0 refl) ]
-
--- an entry may still pass
-pub leaves_may : (texts : Texts) (moment number : ℕ) (after : AnySet) (fate : Fate) (t u : Tabled) → MayPass texts t moment → Leaves number after fate t u
-    → moment_of after ≤ moment → IsKnownSet texts after → MayPass texts u moment
-leaves_may texts moment number after fate t u may leaves low known =
-    let sets = sym (leaves_sets number after fate t u leaves) in
-    record {
-      order = subst (All (λ set. moment_of set ≤ moment)) sets (All-set (λ set. moment_of set ≤ moment) t.sets (number - 1) after low may.order);
-      known = subst (All (IsKnownSet texts)) sets (All-set (IsKnownSet texts) t.sets (number - 1) after known may.known);
-      long = ap length (sym sets) ∙ length-set t.sets (number - 1) after ∙ may.long ∙ ap length (sym (leaves_keys number after fate t u leaves));
-    }
 
 -- the last moments stay on record where more wait
 on_record_more : (waits more : ℕ → Bool) → ((n : ℕ) → waits n ≡ true → more n ≡ true) → (n : ℕ) (set : AnySet) (recorded : Option (Option ℕ)) → IsOnRecord waits n set recorded → IsOnRecord more n set recorded

@@ -4,13 +4,12 @@ use Rattle.sip_machine.specs.Times.{Times}
 use Rattle.sip_log.specs.declared.entry.Entry.{Entry}
 use Rattle.sip_log.specs.declared.log_error.LogError.{LogError}
 use Rattle.sip_log.specs.declared.log_error.LogError.TheVariants as errors
-use Rattle.sip_log.specs.LogFault.{LogFault}
 use Rattle.sip_log.specs.Spelling.{Item}
-use Rattle.sip_log.specs.Log.{LogEnd, Clean, Stops, IsLog}
+use Rattle.sip_log.specs.Log.{LogEnd, Clean, IsLog}
 use Rattle.sip_log.specs.Told.{FailsAs, item}
 use Rattle.sip_log.specs.Reading as log
 use Rattle.sip_log.specs.Reading.{Nexts}
-use Rattle.sip_log.proofs.ReadingLemmas.{FailsAs-map, IfSome-map}
+use Rattle.sip_log.proofs.ReadingLemmas.{FailsAs-map}
 use Rattle.sip_log.proofs.CallerLemmas.{StandsAt, StopsAt, Stands-gives, Stands-ends, Stands-stops, Stands-log, Nexts-counted, Nexts-times}
 use Rattle.sip_verdict.specs.declared.log_reason.LogReason.{LogReason}
 use Rattle.sip_verdict.specs.declared.log_reason.LogReason.TheVariants as reasons

@@ -23,20 +23,3 @@ impl From<AllocError> for JudgeError {
         JudgeError::Memory
     }
 }
-
-#[cfg(test)]
-mod tests {
-    use super::*;
-    use std::test::Fail;
-
-    #[test]
-    fn says_what_failed(rt: HostRuntime) -> Result<(), Fail> {
-        for (error, text) in [
-            (JudgeError::Io, "cannot read"),
-            (JudgeError::from(AllocError), "out of memory"),
-        ] {
-            assert_eq!(rt; format!(in rt.alloc(); "{error}")?.as_str(), text);
-        }
-        Ok(())
-    }
-}

@@ -107,7 +107,7 @@ impl<H: BuildHasher + Drop> Walk<H> {
         ensures walks { IfOk result (λ verdict. (start : Option (List ℕ))
             → Walks start (reading self.old.progress (R.left reader.old) (R.has_failed reader.old)) self.old.standing.book self.old.standing.tables
             → WalksOn start self.old.count (reading self.new.progress (R.left reader.new) (R.has_failed reader.new))
-                self.new.standing.book self.new.standing.tables verdict) }
+            self.new.standing.book self.new.standing.tables verdict) }
         ensures ok { OnOk result (R.has_failed reader.new ≡ R.has_failed reader.old) }
         ensures io { IsErrOf result JudgeError.Io → R.has_failed reader.new ≡ true }
     {

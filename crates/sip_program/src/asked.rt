@@ -4,6 +4,9 @@ ghost use Rattle.sip_program.specs.Asked.{IsAskedBy, IsNumberFor};
 
 use itoa::Buffer;
 
+/// The number of the first entry of a log.
+const LEAST: u32 = 1;
+
 /// The most entries of a log.
 const MOST: u32 = 1_000_000;
 
@@ -27,7 +30,7 @@ fn entry_number(word: &str) -> Option<u32>
     let Ok(number) = word.parse::<u32>() else {
         return None;
     };
-    if number == 0 || number > MOST || Buffer::new().format(number) != word {
+    if number < LEAST || number > MOST || Buffer::new().format(number) != word {
         return None;
     }
     Some(number)

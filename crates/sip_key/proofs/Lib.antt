@@ -3,3 +3,4 @@ pub mod SolidLemmas
 pub mod ConcernLemmas
 pub mod AckOfLemmas
 pub mod MethodLemmas
+pub mod HashLemmas

@@ -5,6 +5,9 @@ ghost use Rattle.sip_message.specs.Reads.{Reads};
 ghost use Rattle.sip_key.specs.Key.{KeyParts, same_key};
 ghost use Rattle.sip_key.specs.AckOf.{AckOf, IsAckOf};
 
+use crate::key::Key;
+use std::hash::Hash;
+
 /// Keys are equal exactly if they have the same parts.
 pub fn keys_are_equal_by_their_parts()
     ensures { (a b : KeyParts) → (same_key a b ≡ true) ↔ (a ≡ b) }
@@ -13,4 +16,9 @@ pub fn keys_are_equal_by_their_parts()
 /// Three texts are an ACK, an INVITE and a response to it exactly if the messages that they spell are.
 pub fn an_ack_is_told_by_its_bytes()
     ensures { (ack invite response : List ℕ) (a i r : Reading) → Reads ack a → Reads invite i → Reads response r → AckOf ack invite response ↔ IsAckOf a i r }
+{}
+
+/// Keys that feed a hasher alike are the same key: each part of a key is fed.
+pub fn keys_are_told_by_what_they_feed_a_hasher()
+    ensures { (a b : KeyParts) → ⟦<Key as Hash>⟧.hash_input a ≡ ⟦<Key as Hash>⟧.hash_input b → a ≡ b }
 {}

@@ -1,10 +1,25 @@
-//! Laws of the format. The functions do nothing: their contracts are the laws.
+//! Laws of the format and of its devices. The functions do nothing: their contracts are the laws.
 ghost use Rattle.std.specs.Prelude.{◌≡◌, ◌<◌, ◌≤◌, ◌++◌, ℕ, List, length, flat_map};
 ghost use Rattle.sip_times.specs.Times.{Times, AreTimes};
 ghost use Rattle.sip_log.specs.Next.{Next, gives};
 ghost use Rattle.sip_log.specs.Spelling.{Item, header_text, entry_text};
 ghost use Rattle.sip_log.specs.Turn.{ComeInTurn};
 ghost use Rattle.sip_log.specs.Log.{IsEntry, IsWithinLimits, most_entries, ComesNext, InOrder, LogEnd, Clean, Log, Holds, IsLogOf};
+
+use crate::sink::Sink;
+use crate::source::Source;
+
+/// A source through a reference to it has left what it has left, and has failed if it has.
+pub fn a_source_through_a_reference_is_that_source<'a, S: Source>(source: &&'a mut S)
+    ensures left { ⟦<&'a mut S as Source>⟧.left source.now ≡ S.left source.now.now }
+    ensures failed { ⟦<&'a mut S as Source>⟧.has_failed source.now ≡ S.has_failed source.now.now }
+{}
+
+/// A sink through a reference to it has taken what it has taken, and has failed if it has.
+pub fn a_sink_through_a_reference_is_that_sink<'a, S: Sink>(sink: &&'a mut S)
+    ensures written { ⟦<&'a mut S as Sink>⟧.written sink.now ≡ S.written sink.now.now }
+    ensures failed { ⟦<&'a mut S as Sink>⟧.has_failed sink.now ≡ S.has_failed sink.now.now }
+{}
 
 /// Each input has a log.
 pub fn each_input_has_a_log()

@@ -1,0 +1,40 @@
+//! The platform of the tests.
+ghost use Rattle.std.specs.Prelude.{None, Some, if◌then◌else◌, bytes_eq, map, string_bytes};
+
+use sip_program::Platform;
+use std::hash::{BuildHasherDefault, FoldHasher};
+use std::io;
+
+/// A platform that gives these words and has one file.
+#[derive(Drop)]
+pub(crate) struct Desk<'a> {
+    pub(crate) words: Vec<String>,
+    pub(crate) path: &'a str,
+    pub(crate) bytes: &'a [u8],
+}
+
+impl<'a> Platform for Desk<'a> {
+    ghost words = { λ desk. Some (map string_bytes desk.words.items) };
+
+    ghost file = { λ desk path. if bytes_eq path desk.path.now then Some desk.bytes.now else None };
+
+    type Seed = BuildHasherDefault<FoldHasher>;
+
+    type File = &'a [u8];
+
+    #[tactic(auto, using(crate::proofs::WordLemmas::told_alike))]
+    fn words(&self) -> io::Result<Vec<String>> {
+        Ok(self.words.clone()?)
+    }
+
+    fn seed(&self) -> io::Result<BuildHasherDefault<FoldHasher>> {
+        Ok(BuildHasherDefault::<FoldHasher>::new())
+    }
+
+    fn open(&self, path: &str) -> io::Result<&'a [u8]> {
+        if path != self.path {
+            return Err(io::Error::from(io::ErrorKind::NotFound));
+        }
+        Ok(self.bytes)
+    }
+}

@@ -1,0 +1,189 @@
+//! Each form of the program on a platform of known words with a known file, and each way in which it fails.
+use crate::desk::Desk;
+use sip_log::ToWrite;
+use sip_program::{Host, Output, program, run};
+use std::alloc::{AllocError, Global};
+use std::process::Abort;
+use std::test::Fail;
+
+/// The path of the file, with a blank at its end.
+const PATH: &str = "a log ";
+
+/// A request, in 199 bytes.
+const REQUEST: &str =
+    "REGISTER sip:example.com SIP/2.0\r\nVia: SIP/2.0/UDP a.example.com;branch=z9hG4bKr1\r\n\
+From: <sip:bob@example.com>;tag=1\r\nTo: <sip:bob@example.com>\r\nCall-ID: c1@a\r\nCSeq: 1 REGISTER\r\nContent-Length: 0\r\n\r\n";
+
+/// The response to it, in 190 bytes.
+const RESPONSE: &str = "SIP/2.0 200 Reply\r\nVia: SIP/2.0/UDP a.example.com;branch=z9hG4bKr1\r\n\
+From: <sip:bob@example.com>;tag=1\r\nTo: <sip:bob@example.com>;tag=2\r\nCall-ID: c1@a\r\nCSeq: 1 REGISTER\r\nContent-Length: 0\r\n\r\n";
+
+/// The first two lines of a log.
+const HEADER: &str = "sip-trace 1\nt1 500 t2 4000 t4 5000 tolerance 50\n";
+
+const USAGE: &str = "siptrace: usage: siptrace [check FILE | show FILE | states FILE ENTRY]\n";
+
+/// The log of a client that registers, repeats its request after T1 and has its response.
+fn registered(alloc: Global) -> Result<String, AllocError> {
+    format!(in alloc;
+        "{HEADER}S 0 199\n{REQUEST}\nS 500 199\n{REQUEST}\nR 700 190\n{RESPONSE}\nM 6000\n"
+    )
+}
+
+/// The log of a client that repeats its request too early.
+fn hasty(alloc: Global) -> Result<String, AllocError> {
+    format!(in alloc; "{HEADER}S 0 199\n{REQUEST}\nS 449 199\n{REQUEST}\n")
+}
+
+/// A platform that gives the program's name and these words, and has these bytes at the path.
+fn desk<'a>(alloc: Global, words: &[&str], bytes: &'a str) -> Result<Desk<'a>, AllocError> {
+    let mut given = vec![in alloc; String::from_str(alloc, "siptrace")?]?;
+    for word in words {
+        given.push(String::from_str(alloc, word)?)?;
+    }
+    Ok(Desk {
+        words: given,
+        path: PATH,
+        bytes: bytes.as_bytes(),
+    })
+}
+
+/// Runs with these words, this on the standard input and this in the file: what is written, and the status.
+fn answers(
+    rt: &(impl Abort + AllocGlobal),
+    words: &[&str],
+    input: &str,
+    file: &str,
+    want: (&str, u8),
+) -> Result<(), Fail> {
+    let mut written = Vec::new(rt.alloc());
+    let mut host = Host::new(desk(rt.alloc(), words, file)?, input.as_bytes());
+    let mut output = Output::new(rt.alloc(), &mut written)?;
+    let ended = run(rt.alloc(), &mut host, &mut output);
+    drop(output);
+    assert!(rt; written.as_slice() == want.0.as_bytes());
+    assert_eq!(rt; ended.ok(), Some(want.1));
+    Ok(())
+}
+
+/// Runs the whole program with these words, nothing on the standard input and this in the file: what it writes and tells, and the
+/// status.
+fn ends(
+    rt: &(impl Abort + AllocGlobal),
+    words: &[&str],
+    file: &str,
+    want: (&str, &str, u8),
+) -> Result<(), Fail> {
+    let mut written = Vec::new(rt.alloc());
+    let mut told = Vec::new(rt.alloc());
+    let mut host = Host::new(desk(rt.alloc(), words, file)?, b"".as_slice());
+    let mut output = Output::new(rt.alloc(), &mut written)?;
+    let mut errors = ToWrite::new(&mut told);
+    let status = program(rt.alloc(), &mut host, &mut output, &mut errors);
+    drop(output);
+    drop(errors);
+    assert!(rt; written.as_slice() == want.0.as_bytes());
+    assert!(rt; told.as_slice() == want.1.as_bytes());
+    assert_eq!(rt; status, want.2);
+    Ok(())
+}
+
+#[test]
+fn judges_the_standard_input(rt: HostRuntime) -> Result<(), Fail> {
+    let (right, wrong) = (registered(rt.alloc())?, hasty(rt.alloc())?);
+    let (legal, breach) = (
+        ("legal entries 4 transactions 1\n", 0),
+        ("breach 2 transaction 1\n", 1),
+    );
+    answers(&rt, &[], right.as_str(), wrong.as_str(), legal)?;
+    answers(&rt, &[], wrong.as_str(), right.as_str(), breach)
+}
+
+#[test]
+fn checks_the_file(rt: HostRuntime) -> Result<(), Fail> {
+    let (right, wrong) = (registered(rt.alloc())?, hasty(rt.alloc())?);
+    let words = ["check", PATH];
+    let (legal, breach) = (
+        ("legal entries 4 transactions 1\n", 0),
+        ("breach 2 transaction 1\n", 1),
+    );
+    answers(&rt, &words, wrong.as_str(), right.as_str(), legal)?;
+    answers(&rt, &words, right.as_str(), wrong.as_str(), breach)
+}
+
+#[test]
+fn shows_the_file(rt: HostRuntime) -> Result<(), Fail> {
+    let file = registered(rt.alloc())?;
+    let text = format!(in rt.alloc();
+        "1 S 0 199\n{REQUEST}\n2 S 500 199\n{REQUEST}\n3 R 700 190\n{RESPONSE}\n4 M 6000\nend 4\n"
+    )?;
+    answers(&rt, &["show", PATH], "", file.as_str(), (text.as_str(), 0))
+}
+
+#[test]
+fn lists_the_states_of_an_entry_of_the_file(rt: HostRuntime) -> Result<(), Fail> {
+    let file = registered(rt.alloc())?;
+    // Timer K begins with the response.
+    let states = "transaction 1 client REGISTER states 1\n  completed reliable=no set=700\n";
+    for (entry, want) in [
+        ("3", (states, 0)),
+        ("4", ("no transaction\n", 0)),
+        ("5", ("no entry\n", 2)),
+    ] {
+        answers(&rt, &["states", PATH, entry], "", file.as_str(), want)?;
+    }
+    Ok(())
+}
+
+#[test]
+fn tells_nothing_of_an_answer(rt: HostRuntime) -> Result<(), Fail> {
+    let file = hasty(rt.alloc())?;
+    let want = ("breach 2 transaction 1\n", "", 1);
+    ends(&rt, &["check", PATH], file.as_str(), want)
+}
+
+#[test]
+fn tells_of_each_failure(rt: HostRuntime) -> Result<(), Fail> {
+    let file = registered(rt.alloc())?;
+    for words in [
+        ["check", "a log"].as_slice(),
+        ["show", ""].as_slice(),
+        ["states", " a log ", "1"].as_slice(),
+    ] {
+        ends(
+            &rt,
+            words,
+            file.as_str(),
+            ("", "siptrace: cannot read\n", 4),
+        )?;
+    }
+    for words in [
+        ["check"].as_slice(),
+        ["judge", PATH].as_slice(),
+        ["states", PATH, "0"].as_slice(),
+        ["states", PATH, "1", "1"].as_slice(),
+    ] {
+        ends(&rt, words, file.as_str(), ("", USAGE, 5))?;
+    }
+    Ok(())
+}
+
+#[test]
+fn tells_that_the_answer_cannot_be_written(rt: HostRuntime) -> Result<(), Fail> {
+    let file = registered(rt.alloc())?;
+    let mut told = Vec::new(rt.alloc());
+    let mut host = Host::new(
+        desk(rt.alloc(), &["check", PATH], file.as_str())?,
+        b"".as_slice(),
+    );
+    let mut room = [0; 30];
+    // The line of the verdict has 31 bytes.
+    let mut output = Output::new(rt.alloc(), room.as_mut_slice())?;
+    let mut errors = ToWrite::new(&mut told);
+    let status = program(rt.alloc(), &mut host, &mut output, &mut errors);
+    drop(output);
+    drop(errors);
+    assert!(rt; told.as_slice() == b"siptrace: cannot write\n".as_slice());
+    assert_eq!(rt; status, 4);
+    Ok(())
+}

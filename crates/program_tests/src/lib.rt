@@ -1,0 +1,7 @@
+//! Tests of `sip_program`: the program's forms on a platform of known words with a known file.
+#![tactic(auto)]
+
+#[cfg(test)]
+mod desk;
+#[cfg(test)]
+mod forms;

@@ -1,0 +1,22 @@
+use Rattle.std.proofs.Common.{◌≡◌, ◌∙◌, Ok, Err, true, false, not, decimal, ap, sym, arith}
+use Rattle.std.proofs.lemmas.Slice.Eq.{bytes_eq-Decides}
+use Rattle.std.proofs.lemmas.Fmt.{parse-decimal}
+use Rattle.sip_program.proofs.asked.entry_number.Goals.{then-number-lt-LEAST-via-then-number-lt-LEAST, then-number-lt-LEAST-via-else-number-lt-LEAST+then-number-gt-MOST, then-number-lt-LEAST-via-else-number-lt-LEAST+else-number-gt-MOST+then-ne}
+use Rattle.sip_program.proofs.asked.entry_number.Goals as goal
+
+pub returns-in_default : goal.returns-in_default
+returns-in_default c = λ entry is same.
+    let read = parse-decimal 32 entry c.args.word.now c.parse.result (omega (arith, is.1)) (omega (arith, is.1)) same c.parse.ensures.value.0 in
+    let never : Err c.in_default.field-0 ≡ Ok entry = sym c.in_default.is ∙ read in
+    cc
+
+pub returns-then-number-lt-LEAST : goal.returns-then-number-lt-LEAST
+returns-then-number-lt-LEAST c = λ entry is same.
+    let read = parse-decimal 32 entry c.args.word.now c.parse.result (omega (arith, is.1)) (omega (arith, is.1)) same c.parse.ensures.value.0 in
+    let one : c.in-Ok.number ≡ entry = (let both : Ok c.in-Ok.number ≡ Ok entry = sym c.in-Ok.is ∙ read in cc) in
+    elim c.then-number-lt-LEAST.branch [
+      | then-number-lt-LEAST-via-then-number-lt-LEAST w ↦ omega (arith, one, is.0, w.if-number-lt-LEAST.true)
+      | then-number-lt-LEAST-via-else-number-lt-LEAST+then-number-gt-MOST w ↦ omega (arith, one, is.1, w.if-number-gt-MOST.true)
+      | then-number-lt-LEAST-via-else-number-lt-LEAST+else-number-gt-MOST+then-ne w ↦
+          (let eq = (bytes_eq-Decides w.format.result.now c.args.word.now).1 (w.format.ensures.text ∙ ap decimal one ∙ sym same) in let never : true ≡ false = w.if-ne.ensures ∙ ap not eq in cc)
+    ]

@@ -1,0 +1,33 @@
+use Rattle.std.proofs.Common.{rules, ◌≡◌, IfSome, subst, map, string_bytes}
+use Rattle.std.specs.Io.Buffered.{writer_contents, writer_inner}
+use Rattle.std.specs.Io.KnownBytes.{Keeps}
+use Rattle.sip_program.specs.Answers.{IsAnswer, log_for}
+use Rattle.sip_program.proofs.AnswerLemmas.{IsAnswer-kept, IsAnswerTo-known}
+use Rattle.sip_program.proofs.running.run.Goals as goal
+
+-- src/running.rt
+pub returns-clause-answer : goal.returns-clause-answer
+returns-clause-answer g c =
+    let asked = c.in-Some.asked in
+    let status = c.in_ok-status.status in
+    let words = map string_bytes c.in_ok-words.words.items in
+    let known = g.S.System.words c.args.system.now in
+    let input = g.S.Source.left c.args.system.now in
+    let file = g.S.System.file c.args.system.now in
+    let before = writer_contents g.W.Write.contents c.args.output.now.writer in
+    let after = writer_contents g.W.Write.contents c.answer.new.writer.writer in
+    let got = g.W.Write.contents (writer_inner c.flush.new.self.writer) in
+    let kept : Keeps after got = search rules in
+    let told : IfSome known (λ theirs. words ≡ theirs) = search rules in
+    let same_input : g.S.Source.left c.words.new.self ≡ input = search rules in
+    let same_file : g.S.System.file c.words.new.self ≡ file = search rules in
+    let answered : IsAnswer asked (log_for asked (g.S.Source.left c.words.new.self) (g.S.System.file c.words.new.self)) before after status = c.in_ok-status.ensures.answer in
+    let of_file : IsAnswer asked (log_for asked (g.S.Source.left c.words.new.self) file) before after status =
+    subst (λ f. IsAnswer asked (log_for asked (g.S.Source.left c.words.new.self) f) before after status) same_file answered in
+    let of_input : IsAnswer asked (log_for asked input file) before after status =
+    subst (λ i. IsAnswer asked (log_for asked i file) before after status) same_input of_file in
+    IsAnswerTo-known known words input file before got status told (record {
+      asked = asked;
+      is_asked = search rules;
+      is = IsAnswer-kept asked (log_for asked input file) before after got status of_input kept;
+    })

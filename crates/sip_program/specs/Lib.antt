@@ -1,0 +1,7 @@
+pub mod Answers
+pub mod Asked
+pub mod Ending
+pub mod Failures
+pub mod Reading
+pub mod Sent
+pub mod Status

@@ -1,0 +1,101 @@
+//! Why the program ends without its answer.
+ghost use Rattle.std.specs.Prelude.{◌≡◌, ◌≢◌};
+ghost use Rattle.std.specs.IoError.{error_kind};
+ghost use Rattle.std.specs.declared.io.ErrorKind.TheVariants.{OutOfMemory};
+ghost use Rattle.sip_program.specs.declared.failure.Failure.TheVariants.{Memory, Read, Write};
+ghost use Rattle.sip_program.specs.Failures.{failure_of, failure_to_show, line_of, status_without};
+
+use sip_log::Broken;
+use sip_verdict::{JudgeError, ShowError};
+use std::alloc::AllocError;
+use std::io;
+
+/// Why the program ends without its answer.
+#[derive(Debug, Drop)]
+pub enum Failure {
+    /// What was asked for, or the log, cannot be read.
+    Read,
+    /// The answer cannot be written.
+    Write,
+    /// A growth was refused.
+    Memory,
+    /// The words ask for nothing that it can do.
+    Usage,
+}
+
+impl Failure {
+    /// The line that is told of it on the standard error.
+    pub fn line(&self) -> &'static [u8]
+        ensures { result.now ≡ line_of self.now }
+    {
+        match self {
+            Self::Read => b"siptrace: cannot read\n",
+            Self::Write => b"siptrace: cannot write\n",
+            Self::Memory => b"siptrace: out of memory\n",
+            Self::Usage => {
+                b"siptrace: usage: siptrace [check FILE | show FILE | states FILE ENTRY]\n"
+            }
+        }
+    }
+}
+
+impl From<AllocError> for Failure {
+    ghost from_gives = { λ _ failure. failure ≡ Memory };
+
+    fn from(_: AllocError) -> Failure {
+        Failure::Memory
+    }
+}
+
+impl From<Broken> for Failure {
+    ghost from_gives = { λ _ failure. failure ≡ Write };
+
+    fn from(_: Broken) -> Failure {
+        Failure::Write
+    }
+}
+
+impl From<JudgeError> for Failure {
+    ghost from_gives = { λ error failure. failure ≡ failure_of error };
+
+    fn from(error: JudgeError) -> Failure {
+        match error {
+            JudgeError::Io => Failure::Read,
+            JudgeError::Memory => Failure::Memory,
+        }
+    }
+}
+
+impl From<ShowError> for Failure {
+    ghost from_gives = { λ error failure. failure ≡ failure_to_show error };
+
+    fn from(error: ShowError) -> Failure {
+        match error {
+            ShowError::Read => Failure::Read,
+            ShowError::Write => Failure::Write,
+            ShowError::Memory => Failure::Memory,
+        }
+    }
+}
+
+/// The status that the program ends with where it has no answer.
+pub fn status_without(failure: &Failure) -> u8
+    ensures { result ≡ status_without failure.now }
+{
+    match failure {
+        Failure::Read | Failure::Write | Failure::Memory => 4,
+        Failure::Usage => 5,
+    }
+}
+
+/// What could not be had from the system.
+pub fn read_failure(error: io::Error) -> Failure
+    ensures memory { error_kind error ≡ OutOfMemory → result ≡ Memory }
+    ensures read { error_kind error ≢ OutOfMemory → result ≡ Read }
+{
+    if error.kind() == io::ErrorKind::OutOfMemory {
+        Failure::Memory
+    } else {
+        Failure::Read
+    }
+}

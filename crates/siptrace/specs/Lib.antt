@@ -1,6 +1,0 @@
-pub mod Answers
-pub mod Asked
-pub mod Failures
-pub mod Reading
-pub mod Sent
-pub mod Status

@@ -4,7 +4,6 @@ ghost use Rattle.sip_machine.specs.Texts.{Keeps};
 
 use sip_machine::{Book, Params};
 use std::alloc::{AllocError, Global};
-use std::process::Abort;
 use std::test::Fail;
 
 #[test]
@@ -60,33 +59,40 @@ fn keeps_messages_of_one_hash(rt: HostRuntime) -> Result<(), Fail> {
     Ok(())
 }
 
-/// Adds a message that is not kept yet, and a second time where memory was refused: until then the messages are as they were.
-fn add_again(rt: &impl Abort, book: &mut Book, number: u32, message: &[u8]) -> Result<(), Fail>
-    requires above { (n : ℕ) → Keeps book.old n → n < number }
-    ensures { OnOk result ((n : ℕ) → Keeps book.new n → n < number + 1) }
-{
-    let added = book.add(number, message);
+/// `tests/growths` refuses each growth in turn: the test then fails with want of memory, once it has seen that a refused add leaves the
+/// messages as they were, and that the same call is right with memory.
+#[test]
+fn a_new_book_goes_on_after_a_refused_growth(rt: HostRuntime) -> Result<(), Fail> {
+    let mut book = Book::new(rt.alloc());
+    let added = book.add(1, b"ACK");
     if added.is_err() {
-        assert_eq!(rt; book.bytes(number), None);
-        assert_eq!(rt; book.add(number, message)?, number);
+        assert_eq!(rt; book.bytes(1), None);
+        assert_eq!(rt; book.add(1, b"ACK")?, 1);
     }
-    assert_eq!(rt; book.bytes(number), Some(message));
-    assert_eq!(rt; added?, number);
+    assert_eq!(rt; book.add(2, b"BYE")?, 2);
+    assert_eq!(rt; book.bytes(1), Some(b"ACK".as_slice()));
+    assert_eq!(rt; book.bytes(2), Some(b"BYE".as_slice()));
+    assert_eq!(rt; added?, 1);
     Ok(())
 }
 
-/// `tests/growths` refuses each growth in turn: the test then fails with want of memory, once it has seen that the same call succeeds.
+/// With 64 messages, so that its lists are full.
 #[test]
 fn a_book_goes_on_after_a_refused_growth(rt: HostRuntime) -> Result<(), Fail> {
     let mut book = Book::new(rt.alloc());
-    for number in 0..20 {
-        let message = number.to_be_bytes();
-        add_again(&rt, &mut book, number, &message)?;
-    }
-    for number in 0..20 {
-        assert_eq!(rt; book.add(20, &number.to_be_bytes())?, number);
-    }
-    Ok(())
+    assert!(rt; are_numbered(rt.alloc(), &mut book, 0, 64, b" SIP/2.0 200 OK")?);
+    let Err(error) = book.add(64, b"ACK") else {
+        assert_eq!(rt; book.bytes(64), Some(b"ACK".as_slice()));
+        return Ok(());
+    };
+    assert_eq!(rt; book.bytes(64), None);
+    assert_eq!(rt; book.add(64, b"ACK")?, 64);
+    assert_eq!(rt; book.bytes(64), Some(b"ACK".as_slice()));
+    assert_eq!(rt;
+        book.bytes(63),
+        Some(b"\0\0\0\x3f SIP/2.0 200 OK".as_slice())
+    );
+    Err(error.into())
 }
 
 /// Adds messages that differ in their first four bytes alone, under the numbers from `first` on. Whether each is

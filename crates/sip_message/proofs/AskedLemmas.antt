@@ -6,7 +6,7 @@ use Rattle.sip_message.specs.declared.asked.Asked.{Asked}
 use Rattle.sip_message.specs.declared.field.Field.{Field as Code}
 use Rattle.sip_message.specs.declared.name.Known.{Known}
 use Rattle.sip_message.specs.declared.name.Known.TheVariants as known_name
-use Rattle.sip_message.specs.Name.{FieldName, known, other, is_named}
+use Rattle.sip_message.specs.Name.{known, other, is_named}
 use Rattle.sip_message.specs.Field.{Field}
 use Rattle.sip_message.specs.Message.{found, found_from, IsFirst, IsNotTwice}
 use Rattle.sip_message.specs.Outcome.{gives, passes}

@@ -1,4 +1,4 @@
-use Rattle.std.proofs.Common.{◌≡◌, ◌≤◌, length, map, refl, ap, arith}
+use Rattle.std.proofs.Common.{◌≤◌, length, refl, ap, arith}
 use Rattle.sip_message.specs.declared.name.Known.TheVariants as known_name
 use Rattle.sip_message.specs.Outcome.{passes}
 use Rattle.sip_message.specs.Views.{name_parts, slice_fields}

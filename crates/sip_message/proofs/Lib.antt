@@ -52,3 +52,4 @@ pub mod WordLemmas
 pub mod UriOneLemmas
 pub mod AddressLemmas
 pub mod QuickLemmas
+pub mod AskedLemmas

@@ -2,24 +2,23 @@
 use Rattle.std.proofs.Common.{◌≡◌, ◌⊎◌, ℕ, suc, ◌+◌, ◌-◌, ◌<◌, ◌≤◌, Bool, true, false, not, ◌&&◌, ◌||◌, ◌==◌, nat_le, List, [], ◌∷◌, ◌++◌, length, take, drop, get_or, refl, sym, ap, ap₂, ◌∙◌, subst, inl, inr, arith}
 use Rattle.std.specs.Prelude.{codes}
 use Rattle.std.specs.Char.{is_ascii_alphanumeric}
-use Rattle.std.specs.List.{AllByRecursion, flat_map, list_all, prefix_len}
-use Rattle.std.proofs.Math.Seq.{drop-cons, take-append_seam, take-append-add, drop-append_seam}
+use Rattle.std.specs.List.{AllByRecursion, flat_map, prefix_len}
+use Rattle.std.proofs.Math.Seq.{drop-cons, take-append_seam, take-append-add}
 use Rattle.std.proofs.lemmas.Bool.{both_ways, agree_below_at, and_parts, or_cases, cases_lt, eqb-true, le-leb, ne_eqb}
-use Rattle.std.proofs.lemmas.List.{take-append-drop, drop-drop, append_assoc, append-nil, length-append, length-drop, length-take-le, take-take, drop-append-le}
-use Rattle.std.proofs.lemmas.List.Sums.{prefix_len-le-length}
+use Rattle.std.proofs.lemmas.List.{take-append-drop, drop-drop, append_assoc, append-nil, length-append, length-drop, length-take-le}
 use Rattle.std.proofs.lemmas.Grind.{flat_map-append}
 use Rattle.sip_text.specs.Bytes.{is_one_of, crlf, colon, carriage_return, line_feed, is_wsp, is_token_byte}
-use Rattle.sip_text.specs.Text.{One, Many, ◌or◌, HasFront}
+use Rattle.sip_text.specs.Text.{One, ◌or◌}
 use Rattle.sip_text.specs.Grammar.{Token, Lws}
 use Rattle.sip_text.proofs.ManyLemmas.{AllByRecursion-append, many-nil, many-cons, many-map, some-many}
 use Rattle.sip_text.proofs.BlanksLemmas.{lws-blank}
-use Rattle.sip_text.proofs.RunLemmas.{run-front, run-list_all}
-use Rattle.sip_masks.specs.Marks.{is_control, is_plain}
-use Rattle.sip_message.specs.Lines.{is_inner_byte, IsHead, IsLines, BeginsBlank, with_end}
+use Rattle.sip_text.proofs.RunLemmas.{run-front}
+use Rattle.sip_masks.specs.Marks.{is_plain}
+use Rattle.sip_message.specs.Lines.{is_inner_byte, IsHead, BeginsBlank, with_end}
 use Rattle.sip_message.specs.Values.{is_value_byte, OtherText}
 use Rattle.sip_message.specs.Name.{name_of}
 use Rattle.sip_message.specs.StartLine.{StartLine, request, status, StartText}
-use Rattle.sip_message.specs.Field.{Field, Row, NameText, ValueText, FieldText, FieldsText}
+use Rattle.sip_message.specs.Field.{Field, NameText, ValueText, FieldText, FieldsText}
 use Rattle.sip_message.specs.inner.Quick.{is_open, IsOpen, AreOrdinary, IsOrdinary}
 use Rattle.sip_message.proofs.SplitLemmas.{All, all_left, all_right}
 use Rattle.sip_message.proofs.EachLemmas.{each-one, each-many, wsp-blank}

@@ -14,3 +14,4 @@ pub mod Settles
 pub mod Codes
 pub mod Names
 pub mod Quick
+pub mod Asked

@@ -2,6 +2,7 @@
 #![tactic(auto)]
 
 mod address;
+mod asked;
 mod canon;
 mod cursor;
 mod ends;

@@ -9,6 +9,7 @@ ghost use Rattle.sip_message.specs.ValueParts.{start_parts, address_parts, cseq_
 ghost use Rattle.sip_message.specs.ViaParts.{element};
 
 use crate::address::{Address, read_address};
+use crate::asked::find_asked;
 use crate::ends::is_clean;
 use crate::fault::{Fault, ReadError, Reason, Unit};
 use crate::field::{Field, read_fields};
@@ -93,7 +94,7 @@ impl<'a> Message<'a> {
         let Some((start, fields, kept, rest)) = read_ordinary(alloc, bytes) else {
             return None;
         };
-        let Ok(named) = find_named(&fields) else {
+        let Some(named) = find_asked(&fields) else {
             return None;
         };
         let via = kept.via.unwrap();

@@ -1,8 +1,8 @@
 -- What the quick reader finds.
-use Rattle.std.specs.Prelude.{◌≡◌, ℕ, ◌+◌, ◌≤◌, not, Bool, true, List, [], ◌∷◌, ◌++◌, length, drop}
+use Rattle.std.specs.Prelude.{◌≡◌, ℕ, ◌+◌, ◌≤◌, not, Bool, true, List, [], ◌++◌, length, drop}
 use Rattle.std.specs.List.{AllByRecursion, flat_map}
 use Rattle.sip_masks.specs.Marks.{is_control}
-use Rattle.sip_message.specs.Lines.{IsHead, HasNoBareEnd, IsLines, BeginsBlank, with_end}
+use Rattle.sip_message.specs.Lines.{IsHead, HasNoBareEnd, IsLines, with_end}
 use Rattle.sip_message.specs.StartLine.{StartLine, StartText}
 use Rattle.sip_message.specs.Field.{Field, FieldsText}
 

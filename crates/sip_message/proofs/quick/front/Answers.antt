@@ -1,4 +1,4 @@
-use Rattle.std.proofs.Common.{◌≡◌, take, length, sym, ap, arith}
+use Rattle.std.proofs.Common.{take, sym, ap, arith}
 use Rattle.std.proofs.lemmas.List.{length-take-le}
 use Rattle.sip_message.proofs.quick.front.Goals as goal
 

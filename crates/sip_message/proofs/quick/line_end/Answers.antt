@@ -1,6 +1,4 @@
-use Rattle.std.proofs.Common.{◌≡◌, ◌+◌, ◌-◌, ◌≤◌, ◌++◌, length, take, drop, get_or, sym, ap, subst, arith}
-use Rattle.sip_message.specs.Lines.{with_end}
-use Rattle.sip_message.specs.inner.Quick.{IsOpen}
+use Rattle.std.proofs.Common.{◌≡◌, ◌+◌, ◌≤◌, length, get_or, ap, subst, arith}
 use Rattle.sip_message.proofs.QuickLemmas.{open-line}
 use Rattle.sip_message.proofs.quick.line_end.Goals as goal
 

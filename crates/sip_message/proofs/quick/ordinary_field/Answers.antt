@@ -1,4 +1,4 @@
-use Rattle.std.proofs.Common.{◌≡◌, ◌+◌, ◌-◌, ◌<◌, ◌≤◌, length, take, drop, get_or, sym, ap, ap₂, ◌∙◌, subst, arith}
+use Rattle.std.proofs.Common.{◌≡◌, ◌+◌, ◌-◌, ◌<◌, take, drop, get_or, sym, ap, ap₂, ◌∙◌, subst, arith}
 use Rattle.sip_text.specs.Bytes.{colon}
 use Rattle.sip_message.specs.Views.{name_parts}
 use Rattle.sip_message.specs.Name.{name_of}

@@ -1,9 +1,8 @@
-use Rattle.std.proofs.Common.{◌≡◌, ◌+◌, ◌-◌, ◌≤◌, ◌++◌, length, take, drop, refl, sym, ap, ◌∙◌, subst, arith}
-use Rattle.std.proofs.lemmas.List.{take_rest, append_assoc, length-append, drop-append-le}
+use Rattle.std.proofs.Common.{◌≡◌, ◌+◌, ◌-◌, ◌++◌, length, take, drop, ap, ◌∙◌, subst, arith}
+use Rattle.std.proofs.lemmas.List.{take_rest, append_assoc, drop-append-le}
 use Rattle.sip_message.specs.StartLine.{StartText}
 use Rattle.sip_message.specs.Views.{fields_parts}
 use Rattle.sip_message.specs.ValueParts.{start_parts}
-use Rattle.sip_message.specs.inner.Quick.{IsOrdinary}
 use Rattle.sip_message.proofs.QuickLemmas.{ordinary-head, front-rest}
 use Rattle.sip_message.proofs.quick.read_ordinary.Goals as goal
 

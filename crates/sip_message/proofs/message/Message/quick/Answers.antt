@@ -23,44 +23,44 @@ read_body-requires-clause-rows c =
 
 pub unwrap-via-requires : goal.unwrap-via-requires
 unwrap-via-requires c =
-    via-some (fields_parts c.in-Some.fields) c.in-Some.kept c.in-Ok.named.via.now c.in-Some.ensures.kept (subst (λ xs. IsValueOf known_name.Via (map field_parts xs) c.in-Ok.named.via.now) c.deref.ensures.value c.in-Ok.ensures.stand.via)
+    via-some (fields_parts c.in-Some.fields) c.in-Some.kept c.in-Some-find_asked.named.via.now c.in-Some.ensures.kept (subst (λ xs. IsValueOf known_name.Via (map field_parts xs) c.in-Some-find_asked.named.via.now) c.deref.ensures.value c.in-Some-find_asked.ensures.stand.via)
 
 pub unwrap-cseq-requires : goal.unwrap-cseq-requires
 unwrap-cseq-requires c =
-    cseq-some (fields_parts c.in-Some.fields) c.in-Some.kept c.in-Ok.named.cseq.now c.in-Some.ensures.kept (subst (λ xs. IsValueOf known_name.CSeq (map field_parts xs) c.in-Ok.named.cseq.now) c.deref.ensures.value c.in-Ok.ensures.stand.cseq)
+    cseq-some (fields_parts c.in-Some.fields) c.in-Some.kept c.in-Some-find_asked.named.cseq.now c.in-Some.ensures.kept (subst (λ xs. IsValueOf known_name.CSeq (map field_parts xs) c.in-Some-find_asked.named.cseq.now) c.deref.ensures.value c.in-Some-find_asked.ensures.stand.cseq)
 
 pub read_body-requires-clause-via : goal.read_body-requires-clause-via
 read_body-requires-clause-via c =
-    via-is (fields_parts c.in-Some.fields) c.in-Some.kept c.in-Ok.named.via.now c.unwrap-via.result c.in-Some.ensures.kept (subst (λ xs. IsValueOf known_name.Via (map field_parts xs) c.in-Ok.named.via.now) c.deref.ensures.value c.in-Ok.ensures.stand.via) c.unwrap-via.ensures
+    via-is (fields_parts c.in-Some.fields) c.in-Some.kept c.in-Some-find_asked.named.via.now c.unwrap-via.result c.in-Some.ensures.kept (subst (λ xs. IsValueOf known_name.Via (map field_parts xs) c.in-Some-find_asked.named.via.now) c.deref.ensures.value c.in-Some-find_asked.ensures.stand.via) c.unwrap-via.ensures
 
 pub new-requires : goal.new-requires
 new-requires c =
     let h = c.in-Some.ensures.head in
-    let found : Found c.args.bytes.now c.in-Some.rest.now h.first (start_parts c.in-Some.start) (fields_parts c.in-Some.fields) c.in-Ok.named c.in-Ok-read_body.body.now = record {
+    let found : Found c.args.bytes.now c.in-Some.rest.now h.first (start_parts c.in-Some.start) (fields_parts c.in-Some.fields) c.in-Some-find_asked.named c.in-Ok.body.now = record {
       head = h.head;
       others = h.others;
       is_begun = record { head_is = h.is_head; clean = h.no_bare; are_lines = h.are_lines };
       is_start = h.is_start;
       are_fields = fields-read 1 h.others (fields_parts c.in-Some.fields) h.are_fields;
-      are_names = subst (λ xs. NamesOf (map field_parts xs) (gives (names_parts c.in-Ok.named))) c.deref.ensures.value c.in-Ok.ensures.names;
-      is_body = subst (λ xs. BodyOf (start_parts c.in-Some.start) ((names_parts c.in-Ok.named).1) ((names_parts c.in-Ok.named).0.1) (content_length (map field_parts xs)) c.in-Some.rest.now (gives c.in-Ok-read_body.body.now)) c.deref-2.ensures.value c.in-Ok-read_body.ensures;
-      stand = subst (λ xs. Stand (map field_parts xs) c.in-Ok.named) c.deref.ensures.value c.in-Ok.ensures.stand;
+      are_names = subst (λ xs. NamesOf (map field_parts xs) (gives (names_parts c.in-Some-find_asked.named))) c.deref.ensures.value c.in-Some-find_asked.ensures.names;
+      is_body = subst (λ xs. BodyOf (start_parts c.in-Some.start) ((names_parts c.in-Some-find_asked.named).1) ((names_parts c.in-Some-find_asked.named).0.1) (content_length (map field_parts xs)) c.in-Some.rest.now (gives c.in-Ok.body.now)) c.deref-2.ensures.value c.in-Ok.ensures;
+      stand = subst (λ xs. Stand (map field_parts xs) c.in-Some-find_asked.named) c.deref.ensures.value c.in-Some-find_asked.ensures.stand;
     } in
     found-keeps (element c.unwrap-via.result) (cseq_parts c.unwrap-cseq.result) found
-    (via-is (fields_parts c.in-Some.fields) c.in-Some.kept c.in-Ok.named.via.now c.unwrap-via.result c.in-Some.ensures.kept (subst (λ xs. IsValueOf known_name.Via (map field_parts xs) c.in-Ok.named.via.now) c.deref.ensures.value c.in-Ok.ensures.stand.via) c.unwrap-via.ensures)
-    (cseq-is (fields_parts c.in-Some.fields) c.in-Some.kept c.in-Ok.named.cseq.now c.unwrap-cseq.result c.in-Some.ensures.kept (subst (λ xs. IsValueOf known_name.CSeq (map field_parts xs) c.in-Ok.named.cseq.now) c.deref.ensures.value c.in-Ok.ensures.stand.cseq) c.unwrap-cseq.ensures)
+    (via-is (fields_parts c.in-Some.fields) c.in-Some.kept c.in-Some-find_asked.named.via.now c.unwrap-via.result c.in-Some.ensures.kept (subst (λ xs. IsValueOf known_name.Via (map field_parts xs) c.in-Some-find_asked.named.via.now) c.deref.ensures.value c.in-Some-find_asked.ensures.stand.via) c.unwrap-via.ensures)
+    (cseq-is (fields_parts c.in-Some.fields) c.in-Some.kept c.in-Some-find_asked.named.cseq.now c.unwrap-cseq.result c.in-Some.ensures.kept (subst (λ xs. IsValueOf known_name.CSeq (map field_parts xs) c.in-Some-find_asked.named.cseq.now) c.deref.ensures.value c.in-Some-find_asked.ensures.stand.cseq) c.unwrap-cseq.ensures)
 
 pub returns : goal.returns
 returns c =
     let h = c.in-Some.ensures.head in
-    let found : Found c.args.bytes.now c.in-Some.rest.now h.first (start_parts c.in-Some.start) (fields_parts c.in-Some.fields) c.in-Ok.named c.in-Ok-read_body.body.now = record {
+    let found : Found c.args.bytes.now c.in-Some.rest.now h.first (start_parts c.in-Some.start) (fields_parts c.in-Some.fields) c.in-Some-find_asked.named c.in-Ok.body.now = record {
       head = h.head;
       others = h.others;
       is_begun = record { head_is = h.is_head; clean = h.no_bare; are_lines = h.are_lines };
       is_start = h.is_start;
       are_fields = fields-read 1 h.others (fields_parts c.in-Some.fields) h.are_fields;
-      are_names = subst (λ xs. NamesOf (map field_parts xs) (gives (names_parts c.in-Ok.named))) c.deref.ensures.value c.in-Ok.ensures.names;
-      is_body = subst (λ xs. BodyOf (start_parts c.in-Some.start) ((names_parts c.in-Ok.named).1) ((names_parts c.in-Ok.named).0.1) (content_length (map field_parts xs)) c.in-Some.rest.now (gives c.in-Ok-read_body.body.now)) c.deref-2.ensures.value c.in-Ok-read_body.ensures;
-      stand = subst (λ xs. Stand (map field_parts xs) c.in-Ok.named) c.deref.ensures.value c.in-Ok.ensures.stand;
+      are_names = subst (λ xs. NamesOf (map field_parts xs) (gives (names_parts c.in-Some-find_asked.named))) c.deref.ensures.value c.in-Some-find_asked.ensures.names;
+      is_body = subst (λ xs. BodyOf (start_parts c.in-Some.start) ((names_parts c.in-Some-find_asked.named).1) ((names_parts c.in-Some-find_asked.named).0.1) (content_length (map field_parts xs)) c.in-Some.rest.now (gives c.in-Ok.body.now)) c.deref-2.ensures.value c.in-Ok.ensures;
+      stand = subst (λ xs. Stand (map field_parts xs) c.in-Some-find_asked.named) c.deref.ensures.value c.in-Some-find_asked.ensures.stand;
     } in
     found-reads c.new.result found c.new.ensures.message c.new.ensures.parts

@@ -1,0 +1,275 @@
+"""What the recipes share: the lines that from-* print, the parts of a SIP message, the log of one element, and the program.
+
+A line is a message that someone saw, `MOMENT FROM TO HEX` with single blanks: the moment in seconds with any fraction, ADDRESS:PORT
+twice (an IPv6 address stands without brackets: the last colon counts), and the bytes.
+"""
+import gzip
+import hashlib
+import os
+import re
+import shutil
+import subprocess
+import sys
+from decimal import Decimal, InvalidOperation
+
+MOST_ENTRIES = 1_000_000
+MOST_BYTES = 65_535
+COOKIE = b"z9hg4bk"
+
+START_LINE = re.compile(rb"\A(?:SIP/\d[^\r\n]*|[^\s]+ [^\r\n]*SIP/\d+\.\d+[ \t]*)[\r\n]", re.I)
+LATER_START = re.compile(rb"\r\n(?=SIP/2\.0 \d{3} |[^\s]+ [^\s]+ SIP/2\.0\r\n)", re.I)
+LENGTH = re.compile(rb"\r\n(?:content-length|l)[ \t]*:[ \t]*(\d+)", re.I)
+QUOTED = re.compile(rb'"(?:[^"\\]|\\.)*"', re.S)
+FOLD = re.compile(rb"\r?\n[ \t]+")
+
+
+def die(text, status=1):
+    """Ends the script with what is wrong, after its name."""
+    print("%s: %s" % (os.path.basename(sys.argv[0]), text), file=sys.stderr)
+    sys.exit(status)
+
+
+def say(text):
+    """Tells the user something beside the output."""
+    print("%s: %s" % (os.path.basename(sys.argv[0]), text), file=sys.stderr)
+
+
+def opened(name):
+    """The file of that name to be read as bytes: `-` is the standard input, and one that is gzipped is unpacked."""
+    try:
+        if name == "-":
+            return sys.stdin.buffer
+        file = open(name, "rb")
+        packed = file.peek(2)[:2] == b"\x1f\x8b"
+        return gzip.open(file) if packed else file
+    except OSError as error:
+        die("cannot read %s: %s" % (name, error.strerror), 4)
+
+
+def print_line(moment, source, target, data):
+    print(moment, source, target, data.hex(), flush=True)
+
+
+def read_lines(file):
+    """The number, moment, ends and bytes of each line."""
+    for number, line in enumerate(file, 1):
+        words = line.split()
+        try:
+            moment, source, target = Decimal(words[0]), words[1], words[2]
+            data = bytes.fromhex(words[3]) if len(words) > 3 else b""
+            if len(words) > 4 or not moment.is_finite():
+                raise ValueError
+        except (IndexError, ValueError, InvalidOperation):
+            die("line %d is not MOMENT FROM TO HEX" % number)
+        yield number, moment, source, target, data
+
+
+class Element:
+    """One element by its addresses: ADDRESS:PORT, or ADDRESS alone for all its ports."""
+
+    def __init__(self, names):
+        self.names = {name.replace("[", "").replace("]", "") for name in names}
+
+    def has(self, end):
+        return end in self.names or end.rpartition(":")[0] in self.names
+
+    def letters(self, source, target):
+        """S for a message that it sent, R for one that it received, both for one to itself."""
+        return "S" * self.has(source) + "R" * self.has(target)
+
+
+def looks_like_sip(data):
+    """Whether the first line is that of a SIP message of any version, well formed or not."""
+    return START_LINE.match(data) is not None
+
+
+def is_response(data):
+    return data[:4].upper() == b"SIP/"
+
+
+def first_line(data):
+    return data.split(b"\n", 1)[0].rstrip(b"\r").decode("latin-1")
+
+
+def method_of(request):
+    return request.split(b" ", 1)[0]
+
+
+def code_of(response):
+    return first_line(response).split()[1]
+
+
+def fields(data, *names):
+    """The values of the fields with one of these names in lower case, without their folds."""
+    head = FOLD.sub(b" ", re.split(rb"\r?\n\r?\n", data, maxsplit=1)[0])
+    parted = (line.partition(b":") for line in head.split(b"\n")[1:])
+    return [value.strip() for name, _, value in parted if name.strip().lower() in names]
+
+
+def field(data, *names):
+    return next(iter(fields(data, *names)), b"")
+
+
+def call_id(data):
+    return field(data, b"call-id", b"i")
+
+
+def cseq(data):
+    """The number and the method, as texts."""
+    words = field(data, b"cseq").split()
+    return (words[0], words[1]) if len(words) == 2 else (b"", b"")
+
+
+def top_via(data):
+    """The first element of the first Via, without the texts in quotes."""
+    return QUOTED.sub(b'""', field(data, b"via", b"v")).split(b",")[0]
+
+
+def spelled_branch(data):
+    """The branch of the top Via, empty where there is none."""
+    for parameter in top_via(data).split(b";")[1:]:
+        name, _, value = parameter.partition(b"=")
+        if name.strip().lower() == b"branch":
+            return value.strip()
+    return b""
+
+
+def branch_of(data):
+    """The branch in lower case, in which branches are compared."""
+    return spelled_branch(data).lower()
+
+
+def part_of(branch, count):
+    """The part, of so many, to which the messages with a branch go; the same on each machine."""
+    return int.from_bytes(hashlib.blake2b(branch, digest_size=8).digest(), "big") % count
+
+
+def sent_by_of(data):
+    """Host and port of the top Via, by which a server tells its clients apart."""
+    words = top_via(data).split(b";")[0].split(b"/", 2)[-1].split(None, 1)
+    host, port = re.fullmatch(rb"(\[[^]]*\]|[^:]*?)\s*(?::\s*(\d+))?\s*", words[1] if len(words) == 2 else b"").groups() or (b"", b"")
+    return host.lower() + b":%d" % int(port or 5060)
+
+
+def keys_of(letter, data):
+    """The transactions that a message concerns: role, branch, sent-by and method. None where the branch lacks the cookie."""
+    branch = branch_of(data)
+    if not branch.startswith(COOKIE):
+        return []
+    responding = is_response(data)
+    method = cseq(data)[1] if responding else method_of(data)
+    method = b"INVITE" if method == b"ACK" and not responding else method
+    if (letter in "SF") == responding:
+        return [("server", branch, sent_by_of(data), method)]
+    key = ("client", branch, b"", method)
+    is_cancel = letter in "SF" and method == b"CANCEL"
+    return [key, key[:3] + (b"INVITE",)] if is_cancel else [key]
+
+
+class Cutter:
+    """The bytes of a stream in their order, which are cut into messages at Content-Length."""
+
+    def __init__(self):
+        self.bytes = b""
+        self.skipped = 0
+
+    def messages(self):
+        """The messages that are whole now. Skips what stands between them: keep-alives, and the rest of a message that began before."""
+        while True:
+            self.bytes = self.bytes.lstrip(b"\r\n\0")
+            if b"\r\n" in self.bytes and not looks_like_sip(self.bytes):
+                if not self.find_later_start():
+                    return
+            end = self.bytes.find(b"\r\n\r\n")
+            if end < 0:
+                return
+            length = LENGTH.search(self.bytes, 0, end + 2)
+            total = end + 4 + (int(length[1]) if length else 0)
+            if len(self.bytes) < total:
+                return
+            yield self.bytes[:total]
+            self.bytes = self.bytes[total:]
+
+    def find_later_start(self):
+        """Drops the bytes before the next line that can begin a message; where there is none yet, all but the last that may become one."""
+        start = LATER_START.search(self.bytes)
+        kept = self.bytes[start.end():] if start else self.bytes[-MOST_BYTES:]
+        self.skipped += len(self.bytes) - len(kept)
+        self.bytes = kept
+        return start
+
+
+class Log:
+    """A log that is read entry by entry, from a name as `opened` takes it."""
+
+    def __init__(self, name):
+        self.file = opened(name)
+        self.header = self.file.readline() + self.file.readline()
+        words = self.header.split()
+        if words[:2] != [b"sip-trace", b"1"] or len(words) != 10:
+            die("this is no log: see recipes/why-no-log", 2)
+        self.times = {words[n].decode(): int(words[n + 1]) for n in range(2, 10, 2)}
+        self.last = 0
+
+    def __iter__(self):
+        """Number, letter, moment and bytes of each entry; a mark has none. Sets `last` to the last moment."""
+        for number, line in enumerate(iter(self.file.readline, b""), 1):
+            words = line.split()
+            if len(words) != (2 if words[:1] == [b"M"] else 3) or words[0] not in (b"S", b"R", b"F", b"M"):
+                die("entry %d cannot be read: see `siptrace check`" % number, 2)
+            data = b""
+            if words[0] != b"M":
+                data = self.file.read(int(words[2]) + 1)
+                if len(data) != int(words[2]) + 1 or data[-1:] != b"\n":
+                    die("entry %d is cut or has another length: see `siptrace check`" % number, 2)
+            self.last = int(words[1])
+            yield number, words[0].decode(), self.last, data[:-1]
+
+
+def header(t1, t2, t4, tolerance):
+    return b"sip-trace 1\nt1 %d t2 %d t4 %d tolerance %d\n" % (t1, t2, t4, tolerance)
+
+
+def entry(letter, moment, data):
+    return b"%s %d %d\n%s\n" % (letter.encode(), moment, len(data), data)
+
+
+def mark(moment):
+    return b"M %d\n" % moment
+
+
+def program():
+    """The program: the one that SIPTRACE names, else `siptrace` on the path, else ./siptrace of the checkout around the recipes."""
+    beside = os.path.join(os.path.dirname(os.path.realpath(__file__)), os.pardir, "siptrace")
+    found = os.environ.get("SIPTRACE") or shutil.which("siptrace") or (os.access(beside, os.X_OK) and os.path.realpath(beside))
+    if not found:
+        die("there is no siptrace: put it on the path, or name it in SIPTRACE", 70)
+    return found
+
+
+def ask(*words, log=b""):
+    """What the program says to these words and this standard input, and its status."""
+    try:
+        ran = subprocess.run([program(), *words], input=log, capture_output=True)
+    except OSError as error:
+        die("cannot run %s: %s" % (program(), error.strerror), 70)
+    if ran.returncode not in (0, 1, 2, 3):
+        die(ran.stderr.decode("latin-1").strip(), ran.returncode)
+    return ran.stdout.decode("latin-1").rstrip("\n"), ran.returncode
+
+
+def add_times(parser):
+    """The options for the times in a log's header."""
+    for name, value, what in (("t1", 500, "T1"), ("t2", 4000, "T2"), ("t4", 5000, "T4"), ("tolerance", 50, "how much sooner or later timers may fire")):
+        parser.add_argument("--" + name, type=int, default=value, metavar="MS", help="%s in milliseconds (%d)" % (what, value))
+
+
+def ends_quietly_without_reader(run):
+    """Runs `run`, and ends in silence where the program that reads our output went away, as siptrace does once it has its verdict."""
+    try:
+        run()
+        sys.stdout.flush()
+    except BrokenPipeError:
+        os.dup2(os.open(os.devnull, os.O_WRONLY), sys.stdout.fileno())
+    except KeyboardInterrupt:
+        sys.exit(130)

@@ -1,4 +1,4 @@
-use Rattle.std.specs.Prelude.{◌≡◌, ◌++◌, ℕ, List, [], ◌∷◌, codes}
+use Rattle.std.specs.Prelude.{◌≡◌, ◌++◌, ℕ, List, [], codes}
 use Rattle.std.proofs.Common.{refl, ap, ap₂}
 use Rattle.sip_machine.specs.declared.invite_client.InviteClientState.{InviteClientState}
 use Rattle.sip_machine.specs.declared.invite_client.InviteClientState.TheVariants as code

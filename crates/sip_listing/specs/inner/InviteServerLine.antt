@@ -1,4 +1,4 @@
-use Rattle.std.specs.Prelude.{◌≡◌, ◌++◌, ℕ, Some, None, List, [], ◌∷◌, codes}
+use Rattle.std.specs.Prelude.{◌≡◌, ℕ, Some, None, List, codes}
 use Rattle.std.proofs.Common.{refl, ap, ap₂}
 use Rattle.sip_machine.specs.declared.invite_server.InviteServerState.{InviteServerState}
 use Rattle.sip_machine.specs.declared.invite_server.InviteServerState.TheVariants as code

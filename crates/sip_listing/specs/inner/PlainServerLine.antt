@@ -1,5 +1,5 @@
-use Rattle.std.specs.Prelude.{◌≡◌, ◌++◌, ℕ, List, [], ◌∷◌, codes}
-use Rattle.std.proofs.Common.{refl, ap, ap₂}
+use Rattle.std.specs.Prelude.{◌≡◌, ◌++◌, ℕ, List, codes}
+use Rattle.std.proofs.Common.{refl, ap₂}
 use Rattle.sip_machine.specs.declared.plain_server.PlainServerState.{PlainServerState}
 use Rattle.sip_machine.specs.declared.plain_server.PlainServerState.TheVariants as code
 use Rattle.sip_machine.specs.Texts.{Texts}

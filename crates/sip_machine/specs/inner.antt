@@ -3,12 +3,12 @@ pub mod Single
 pub mod Both
 pub mod DebtLaws
 pub mod OwesLaws
-pub mod PlainServerAt
+pub mod FigureLaws
+pub mod OwingLaws
 pub mod PlainServerLaws
 pub mod InviteClientAt
 pub mod InviteClientLaws
 pub mod Acks
-pub mod InviteServerAt
 pub mod InviteServerLaws
 pub mod Outbox
 pub mod Runs

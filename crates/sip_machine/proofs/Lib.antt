@@ -1,7 +1,6 @@
-pub mod PlainSteps
-pub mod InviteClientSteps
 pub mod OwingSteps
 pub mod RepliesLemmas
+pub mod InviteClientRows
 pub mod InviteServerRows
 pub mod RuleLaws
 pub mod SingleLemmas

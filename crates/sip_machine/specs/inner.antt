@@ -1,4 +1,5 @@
-pub mod PlainLaws
+pub mod PlainClientLaws
+pub mod WaitingLaws
 pub mod Single
 pub mod Both
 pub mod DebtLaws
@@ -6,7 +7,6 @@ pub mod OwesLaws
 pub mod FigureLaws
 pub mod OwingLaws
 pub mod PlainServerLaws
-pub mod InviteClientAt
 pub mod InviteClientLaws
 pub mod Acks
 pub mod InviteServerLaws

@@ -18,3 +18,4 @@ pub mod PlainClient
 pub mod PlainServer
 pub mod InviteClient
 pub mod InviteServer
+pub mod Transaction

@@ -4,15 +4,9 @@ use Rattle.sip_machine.specs.Times.{Times}
 use Rattle.sip_machine.specs.NumberedEvent.{NumberedEvent}
 use Rattle.sip_machine.specs.Texts.{Texts, IsBook, Keeps}
 use Rattle.sip_machine.specs.Rules.{Knows}
-use Rattle.sip_machine.specs.InviteClient.{invite_client_names}
-use Rattle.sip_machine.specs.PlainClient.{plain_names}
-use Rattle.sip_machine.specs.InviteServer.{invite_server_names}
-use Rattle.sip_machine.specs.PlainServer.{plain_server_names}
-use Rattle.sip_machine.specs.declared.invite_client.InviteClientState.TheVariants as invite_client
-use Rattle.sip_machine.specs.declared.plain_client.PlainState.TheVariants as plain_client
-use Rattle.sip_machine.specs.declared.invite_server.InviteServerState.TheVariants as invite_server
-use Rattle.sip_machine.specs.declared.plain_server.PlainServerState.TheVariants as plain_server
-use Rattle.sip_states.specs.KeyMachine.{MachineKind, OfInviteClient, OfPlainClient, OfInviteServer, OfPlainServer, machine_of_key}
+use Rattle.sip_machine.specs.Owing.{owing_names}
+use Rattle.sip_machine.specs.Transaction.{idle_state}
+use Rattle.sip_states.specs.KeyMachine.{MachineKind, OfInviteClient, OfPlainClient, OfInviteServer, OfPlainServer, machine_of_key, transaction}
 use Rattle.sip_states.specs.declared.any_set.AnySet.{AnySet}
 use Rattle.sip_states.specs.declared.any_set.AnySet.TheVariants.{InviteClient, PlainClient, InviteServer, PlainServer}
 use Rattle.sip_states.specs.AnySet.{moment_of, start_of_machine, start_of, Waits, Takes, IsKnownSet}
@@ -64,12 +58,16 @@ known-alone : {S : Type 0} (names : S → List ℕ) (texts : Texts) (x : S) → 
 known-alone names texts x none zero d l = subst (All (Keeps texts)) (sym none) (λ i k low. absurd (omega (arith, low)))
 known-alone names texts x none (suc i) d l = absurd (omega (arith, l))
 
+idle_known : (texts : Texts) (machine : MachineKind) → owing_names (transaction machine).names (idle_state (transaction machine)) ≡ [] →
+    All (Knows (owing_names (transaction machine).names) texts) (idle_state (transaction machine) ∷ [])
+idle_known texts machine none = known-alone (owing_names (transaction machine).names) texts (idle_state (transaction machine)) none
+
 -- and names no message
 start_of_machine-known : (texts : Texts) (p : Times) (machine : MachineKind) → IsKnownSet texts (start_of_machine p machine)
-start_of_machine-known texts p OfInviteClient = known-alone invite_client_names texts invite_client.Idle refl
-start_of_machine-known texts p OfPlainClient = known-alone plain_names texts plain_client.Idle refl
-start_of_machine-known texts p OfInviteServer = known-alone invite_server_names texts invite_server.Idle refl
-start_of_machine-known texts p OfPlainServer = known-alone plain_server_names texts plain_server.Idle refl
+start_of_machine-known texts p OfInviteClient = idle_known texts OfInviteClient refl
+start_of_machine-known texts p OfPlainClient = idle_known texts OfPlainClient refl
+start_of_machine-known texts p OfInviteServer = idle_known texts OfInviteServer refl
+start_of_machine-known texts p OfPlainServer = idle_known texts OfPlainServer refl
 
 pub start_of-known : (texts : Texts) (p : Times) (key : KeyParts) → IsKnownSet texts (start_of p key)
 start_of-known texts p key = start_of_machine-known texts p (machine_of_key key)

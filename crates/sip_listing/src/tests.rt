@@ -2,8 +2,8 @@
 use crate::lines::lines_of;
 use crate::told::Told;
 use sip_machine::{
-    Debt, InviteClientState, InviteServerState, InviteWaiting, Outbox, PlainServerState,
-    PlainState, PlainWaiting,
+    Debt, InviteClientPhase, InviteServerPhase, Owes, Owing, PlainClientPhase, PlainServerPhase,
+    Waiting,
 };
 use std::alloc::Global;
 use std::test::Fail;
@@ -15,14 +15,14 @@ fn text_of<T: Told>(alloc: Global, state: &T) -> Result<String, Fail> {
 }
 
 /// The message 2 that may be sent until 530, and 3 that must be sent until 540.
-fn two_debts(alloc: Global) -> Result<Outbox, Fail> {
-    let mut owes = Outbox::new(alloc);
-    owes.push(Debt {
+fn two_debts(alloc: Global) -> Result<Owes, Fail> {
+    let mut owes = Owes::none();
+    owes.push(alloc, Debt {
         message: 2,
         deadline: 530,
         must: false,
     })?;
-    owes.push(Debt {
+    owes.push(alloc, Debt {
         message: 3,
         deadline: 540,
         must: true,
@@ -31,10 +31,10 @@ fn two_debts(alloc: Global) -> Result<Outbox, Fail> {
 }
 
 /// The message 2 three times, 3, 2 and 3, each of which must be sent until 540.
-fn six_debts(alloc: Global) -> Result<Outbox, Fail> {
-    let mut owes = Outbox::new(alloc);
+fn six_debts(alloc: Global) -> Result<Owes, Fail> {
+    let mut owes = Owes::none();
     for message in [2, 2, 2, 3, 2, 3] {
-        owes.push(Debt {
+        owes.push(alloc, Debt {
             message,
             deadline: 540,
             must: true,
@@ -43,8 +43,15 @@ fn six_debts(alloc: Global) -> Result<Outbox, Fail> {
     Ok(owes)
 }
 
-fn waiting(interval: u64) -> PlainWaiting {
-    PlainWaiting {
+fn quiet<P: Drop>(phase: P) -> Owing<P> {
+    Owing {
+        phase,
+        owes: Owes::none(),
+    }
+}
+
+fn waiting(interval: u64) -> Waiting {
+    Waiting {
         reliable: false,
         request: 1,
         start: 10,
@@ -56,23 +63,23 @@ fn waiting(interval: u64) -> PlainWaiting {
 #[test]
 fn tells_plain_clients(rt: HostRuntime) -> Result<(), Fail> {
     for (state, text) in [
-        (PlainState::Idle, "idle"),
+        (PlainClientPhase::Idle, "idle"),
         (
-            PlainState::Trying(waiting(1_000)),
+            PlainClientPhase::Trying(waiting(1_000)),
             "trying reliable=no request=1 start=10 set=510 interval=1000",
         ),
         (
-            PlainState::Proceeding(waiting(4_000)),
+            PlainClientPhase::Proceeding(waiting(4_000)),
             "proceeding reliable=no request=1 start=10 set=510 interval=4000",
         ),
         (
-            PlainState::Completed {
+            PlainClientPhase::Completed {
                 reliable: true,
                 set: 700,
             },
             "completed reliable=yes set=700",
         ),
-        (PlainState::Ended, "ended"),
+        (PlainClientPhase::Ended, "ended"),
     ] {
         assert_eq!(rt; text_of(rt.alloc(), &state)?.as_str(), text);
     }
@@ -83,44 +90,46 @@ fn tells_plain_clients(rt: HostRuntime) -> Result<(), Fail> {
 fn tells_invite_clients(rt: HostRuntime) -> Result<(), Fail> {
     let alloc = rt.alloc();
     for (state, text) in [
-        (InviteClientState::Idle, "idle"),
+        (quiet(InviteClientPhase::Idle), "idle"),
         (
-            InviteClientState::Calling(InviteWaiting {
+            quiet(InviteClientPhase::Calling(Waiting {
                 reliable: true,
                 request: 1,
                 start: 10,
                 set: 510,
                 interval: 1_000,
-            }),
+            })),
             "calling reliable=yes request=1 start=10 set=510 interval=1000",
         ),
         (
-            InviteClientState::Proceeding {
+            quiet(InviteClientPhase::Proceeding {
                 reliable: false,
                 request: 1,
                 cancel: None,
-            },
+            }),
             "proceeding reliable=no request=1 cancel=none",
         ),
         (
-            InviteClientState::Proceeding {
+            quiet(InviteClientPhase::Proceeding {
                 reliable: false,
                 request: 1,
                 cancel: Some(100),
-            },
+            }),
             "proceeding reliable=no request=1 cancel=100",
         ),
-        (InviteClientState::Accepted { set: 200 }, "accepted set=200"),
+        (quiet(InviteClientPhase::Accepted { set: 200 }), "accepted set=200"),
         (
-            InviteClientState::Completed {
-                reliable: false,
-                request: 1,
-                set: 490,
+            Owing {
+                phase: InviteClientPhase::Completed {
+                    reliable: false,
+                    request: 1,
+                    set: 490,
+                },
                 owes: two_debts(alloc)?,
             },
             "completed reliable=no request=1 set=490 owes=2/530/may owes=3/540/must",
         ),
-        (InviteClientState::Ended, "ended"),
+        (quiet(InviteClientPhase::Ended), "ended"),
     ] {
         assert_eq!(rt; text_of(alloc, &state)?.as_str(), text);
     }
@@ -131,48 +140,58 @@ fn tells_invite_clients(rt: HostRuntime) -> Result<(), Fail> {
 fn tells_invite_servers(rt: HostRuntime) -> Result<(), Fail> {
     let alloc = rt.alloc();
     for (state, text) in [
-        (InviteServerState::Idle, "idle"),
+        (quiet(InviteServerPhase::Idle), "idle"),
         (
-            InviteServerState::Proceeding {
-                reliable: false,
-                set: 5,
-                last: None,
-                owes: Outbox::new(alloc),
+            Owing {
+                phase: InviteServerPhase::Proceeding {
+                    reliable: false,
+                    set: 5,
+                    last: None,
+                },
+                owes: Owes::none(),
             },
             "proceeding reliable=no set=5 last=none",
         ),
         (
-            InviteServerState::Proceeding {
-                reliable: true,
-                set: 5,
-                last: Some(2),
+            Owing {
+                phase: InviteServerPhase::Proceeding {
+                    reliable: true,
+                    set: 5,
+                    last: Some(2),
+                },
                 owes: two_debts(alloc)?,
             },
             "proceeding reliable=yes set=5 last=2 owes=2/530/may owes=3/540/must",
         ),
         (
-            InviteServerState::Accepted {
-                set: 6,
+            Owing {
+                phase: InviteServerPhase::Accepted {
+                    set: 6,
+                },
                 owes: two_debts(alloc)?,
             },
             "accepted set=6 owes=2/530/may owes=3/540/must",
         ),
         (
-            InviteServerState::Completed {
-                reliable: false,
-                final_message: 2,
-                set: 0,
-                repeat: 490,
-                interval: 1_000,
+            Owing {
+                phase: InviteServerPhase::Completed {
+                    reliable: false,
+                    final_message: 2,
+                    set: 0,
+                    repeat: 490,
+                    interval: 1_000,
+                },
                 owes: two_debts(alloc)?,
             },
             "completed reliable=no final=2 set=0 repeat=490 interval=1000 owes=2/530/may owes=3/540/must",
         ),
         (
-            InviteServerState::Confirmed {
-                reliable: false,
-                set: 7,
-                owes: Outbox::new(alloc),
+            Owing {
+                phase: InviteServerPhase::Confirmed {
+                    reliable: false,
+                    set: 7,
+                },
+                owes: Owes::none(),
             },
             "confirmed reliable=no set=7",
         ),
@@ -186,33 +205,39 @@ fn tells_invite_servers(rt: HostRuntime) -> Result<(), Fail> {
 fn tells_plain_servers(rt: HostRuntime) -> Result<(), Fail> {
     let alloc = rt.alloc();
     for (state, text) in [
-        (PlainServerState::Idle, "idle"),
+        (quiet(PlainServerPhase::Idle), "idle"),
         (
-            PlainServerState::Trying { reliable: true },
+            quiet(PlainServerPhase::Trying { reliable: true }),
             "trying reliable=yes",
         ),
         (
-            PlainServerState::Proceeding {
-                reliable: false,
-                last: 2,
+            Owing {
+                phase: PlainServerPhase::Proceeding {
+                    reliable: false,
+                    last: 2,
+                },
                 owes: two_debts(alloc)?,
             },
             "proceeding reliable=no last=2 owes=2/530/may owes=3/540/must",
         ),
         (
-            PlainServerState::Proceeding {
-                reliable: false,
-                last: 3,
+            Owing {
+                phase: PlainServerPhase::Proceeding {
+                    reliable: false,
+                    last: 3,
+                },
                 owes: six_debts(alloc)?,
             },
             "proceeding reliable=no last=3 owes=2/540/must owes=2/540/must owes=2/540/must owes=3/540/must owes=2/540/must owes=3/540/must",
         ),
         (
-            PlainServerState::Completed {
-                reliable: false,
-                final_message: 2,
-                set: 10,
-                owes: Outbox::new(alloc),
+            Owing {
+                phase: PlainServerPhase::Completed {
+                    reliable: false,
+                    final_message: 2,
+                    set: 10,
+                },
+                owes: Owes::none(),
             },
             "completed reliable=no final=2 set=10",
         ),
@@ -226,9 +251,9 @@ fn tells_plain_servers(rt: HostRuntime) -> Result<(), Fail> {
 #[test]
 fn sorts_lines_as_bytes(rt: HostRuntime) -> Result<(), Fail> {
     let states = [
-        PlainState::Trying(waiting(500)),
-        PlainState::Idle,
-        PlainState::Trying(waiting(1_000)),
+        PlainClientPhase::Trying(waiting(500)),
+        PlainClientPhase::Idle,
+        PlainClientPhase::Trying(waiting(1_000)),
     ];
     let lines = lines_of(rt.alloc(), &states)?;
     assert_eq!(rt; lines.len(), 3);

@@ -1,4 +1,4 @@
-use Rattle.std.specs.Prelude.{◌≡◌, ◌++◌, ℕ, List, [], ◌∷◌, codes}
+use Rattle.std.specs.Prelude.{◌≡◌, ◌++◌, ℕ, List, [], codes}
 use Rattle.std.proofs.Common.{refl, ap}
 use Rattle.sip_machine.specs.declared.plain_client.PlainClientPhase.{PlainClientPhase}
 use Rattle.sip_machine.specs.declared.plain_client.PlainClientPhase.TheVariants as code

@@ -15,3 +15,5 @@ pub mod PlainClient
 pub mod PlainServer
 pub mod InviteClient
 pub mod InviteServer
+pub mod Naming
+pub mod Retained

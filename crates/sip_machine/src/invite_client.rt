@@ -11,6 +11,7 @@ use crate::event::Event;
 use crate::invite_client::ends::{until, window};
 use crate::invite_client::rows::next_state;
 use crate::machine::Machine;
+use crate::naming::{push_names, push_one};
 use crate::outbox::Outbox;
 use crate::params::Params;
 use std::alloc::AllocError;
@@ -136,6 +137,21 @@ impl Machine for InviteClient {
 
     fn until(&self, state: &InviteClientState) -> Option<u64> {
         until(&self.params, state)
+    }
+
+    fn names(&self, state: &InviteClientState, out: &mut Vec<u32>) -> Result<(), AllocError> {
+        match state {
+            InviteClientState::Calling(waiting) => push_one(out, waiting.request),
+            InviteClientState::Proceeding { request, .. } => push_one(out, *request),
+            InviteClientState::Completed { request, owes, .. } => push_names(
+                out,
+                Some(*request),
+                owes,
+            ),
+            InviteClientState::Idle
+            | InviteClientState::Accepted { .. }
+            | InviteClientState::Ended => Ok(()),
+        }
     }
 
     ghost lawful = { invite_client_lawful };

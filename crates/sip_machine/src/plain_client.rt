@@ -7,6 +7,7 @@ mod rows;
 use crate::book::Book;
 use crate::event::Event;
 use crate::machine::Machine;
+use crate::naming::push_one;
 use crate::params::Params;
 use crate::plain_client::ends::{until, window};
 use crate::plain_client::rows::next_state;
@@ -117,6 +118,14 @@ impl Machine for PlainClient {
 
     fn until(&self, state: &PlainState) -> Option<u64> {
         until(&self.params, state)
+    }
+
+    fn names(&self, state: &PlainState, out: &mut Vec<u32>) -> Result<(), AllocError> {
+        match state {
+            PlainState::Trying(waiting) => push_one(out, waiting.request),
+            PlainState::Proceeding(waiting) => push_one(out, waiting.request),
+            PlainState::Completed { .. } | PlainState::Idle | PlainState::Ended => Ok(()),
+        }
     }
 
     ghost lawful = { plain_lawful };

@@ -7,6 +7,9 @@ mod invite_server;
 mod lines;
 mod plain_client;
 mod plain_server;
+mod state;
+#[cfg(test)]
+mod tests;
 mod told;
 mod transaction;
 

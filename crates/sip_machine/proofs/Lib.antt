@@ -1,8 +1,7 @@
-pub mod PlainSteps
-pub mod PlainServerSteps
-pub mod InviteClientSteps
-pub mod InviteServerEnds
-pub mod InviteServerSteps
+pub mod OwingSteps
+pub mod RepliesLemmas
+pub mod InviteClientRows
+pub mod InviteServerRows
 pub mod RuleLaws
 pub mod SingleLemmas
 pub mod BothLemmas

@@ -76,6 +76,13 @@ impl Outbox {
         self.runs.as_slice()
     }
 
+    /// Whether nothing is owed.
+    pub(crate) fn is_empty(&self) -> bool
+        ensures { IsTrue result ↔ (self.now ≡ []) }
+    {
+        self.count == 0
+    }
+
     /// Adds a debt behind the others. On an error they are as before.
     pub fn push(&mut self, debt: Debt) -> Result<(), AllocError>
         ensures ok { OnOk result (self.new ≡ self.old ++ debt ∷ []) }

@@ -23,7 +23,8 @@ use Rattle.sip_verdict.specs.Keyed.{Observation, events_of, keys_of}
 use Rattle.sip_verdict.specs.Keyed as keyed
 use Rattle.sip_verdict.specs.MessageReading.{key_machines, message_reading, mark_observation}
 use Rattle.sip_verdict.specs.inner.Tracking.{IsReady, TracksBefore, IsJudged}
-use Rattle.sip_verdict.specs.inner.TablesTracking.{meaning_of, key_keeping, transactions_of, TablesTrack, TablesTrackBefore, AreTold, TouchesIf, HasIf, AreConcerned, hears, MayPass, MayHear, AreOnRecord, AllAreOnRecord, MayTake}
+use Rattle.sip_states.specs.AnySet.{meaning_of}
+use Rattle.sip_verdict.specs.inner.TablesTracking.{key_keeping, transactions_of, TablesTrack, TablesTrackBefore, AreTold, TouchesIf, HasIf, AreConcerned, hears, MayPass, MayHear, AreOnRecord, AllAreOnRecord, MayTake}
 use Rattle.sip_verdict.proofs.Leading.{Leads-grow}
 use Rattle.sip_verdict.proofs.ByMachine.{seen_by_names_of, some_machine, of_set, to_set}
 use Rattle.sip_verdict.proofs.TrackingLemmas.{AreKept, kept_tracked, before_none, before_touched}

@@ -22,7 +22,8 @@ use Rattle.sip_verdict.specs.Keyed.{Observation, events_of}
 use Rattle.sip_verdict.specs.Keyed as keyed
 use Rattle.sip_verdict.specs.MessageReading.{key_machines}
 use Rattle.sip_verdict.specs.inner.Tracking.{IsTouched}
-use Rattle.sip_verdict.specs.inner.TablesTracking.{meaning_of, LeadsOf, key_keeping, transactions_of, AreTold, TouchesIf, HasIf, MayPass, IsOnRecord, AreOnRecord}
+use Rattle.sip_states.specs.AnySet.{meaning_of}
+use Rattle.sip_verdict.specs.inner.TablesTracking.{LeadsOf, key_keeping, transactions_of, AreTold, TouchesIf, HasIf, MayPass, IsOnRecord, AreOnRecord}
 use Rattle.sip_verdict.proofs.Keys.{IsExact}
 use Rattle.sip_verdict.proofs.Leading.{Leads-start}
 use Rattle.sip_verdict.proofs.ByMachine.{first_of, first_is_of, first_knows, start_is, moment_is, to_set}

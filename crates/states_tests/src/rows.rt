@@ -3,7 +3,9 @@
 ghost use Rattle.std.specs.Prelude.{◌≤◌};
 
 use crate::played::{Entry, book, busy, invite, ok, play};
-use sip_machine::{InviteServer, InviteServerState, InviteWaiting, Params, PlainState};
+use sip_machine::{
+    InviteServer, InviteServerPhase, Owing, Params, PlainClientState, Waiting,
+};
 use sip_states::StateSet;
 use std::mem::size_of;
 use std::test::Fail;
@@ -57,7 +59,14 @@ fn waits_as_timers_fire(rt: HostRuntime) -> Result<(), Fail> {
         assert_eq!(rt; set.last_moment(), limit);
         assert!(rt; are_left(&mut set, last, waits)?, "{waits:?}");
         assert!(rt;
-            matches!(set.states(), [] | [InviteServerState::Idle]),
+            matches!(
+                set.states(),
+                []
+                    | [Owing {
+                        phase: InviteServerPhase::Idle,
+                        ..
+                    }]
+            ),
             "{waits:?}"
         );
     }
@@ -67,6 +76,6 @@ fn waits_as_timers_fire(rt: HostRuntime) -> Result<(), Fail> {
 /// A state that owes nothing takes less than 48 bytes.
 #[test]
 fn states_are_small(rt: HostRuntime) {
-    assert!(rt; size_of::<PlainState>() < 48);
-    assert!(rt; size_of::<InviteWaiting>() < 48);
+    assert!(rt; size_of::<PlainClientState>() < 48);
+    assert!(rt; size_of::<Waiting>() < 48);
 }

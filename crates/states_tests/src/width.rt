@@ -1,6 +1,7 @@
 //! How many states of an INVITE server are followed.
 ghost use Rattle.std.specs.Prelude.{◌≡◌, ◌≤◌, All, OnOk};
 ghost use Rattle.sip_machine.specs.Rules.{Knows};
+ghost use Rattle.sip_machine.specs.Owing.{owing_names};
 ghost use Rattle.sip_machine.specs.InviteServer.{invite_server_names};
 
 use crate::played::{Entry, book, invite, progress, ringing, take};
@@ -28,9 +29,9 @@ fn take_before_sends(
     book: &Book,
 ) -> Result<(), Fail>
     requires start { set.old.moment ≡ 0 }
-    requires known { All (Knows invite_server_names book.now) set.old.states }
+    requires known { All (Knows (owing_names invite_server_names) book.now) set.old.states }
     ensures order { OnOk result (set.new.moment ≤ 123) }
-    ensures known { OnOk result (All (Knows invite_server_names book.now) set.new.states) }
+    ensures known { OnOk result (All (Knows (owing_names invite_server_names) book.now) set.new.states) }
 {
     for moment in 0..123 {
         take(alloc, set, book, entry_at(moment))??;
@@ -41,9 +42,9 @@ fn take_before_sends(
 /// Lets the set take the next 23 entries, and tells whether each gives 41 states more.
 fn widens(alloc: Global, set: &mut StateSet<InviteServer>, book: &Book) -> Result<bool, Fail>
     requires order { set.old.moment ≤ 123 }
-    requires known { All (Knows invite_server_names book.now) set.old.states }
+    requires known { All (Knows (owing_names invite_server_names) book.now) set.old.states }
     ensures order { OnOk result (set.new.moment ≤ 146) }
-    ensures known { OnOk result (All (Knows invite_server_names book.now) set.new.states) }
+    ensures known { OnOk result (All (Knows (owing_names invite_server_names) book.now) set.new.states) }
 {
     for sends in 0..23 {
         take(alloc, set, book, entry_at(123 + sends))??;

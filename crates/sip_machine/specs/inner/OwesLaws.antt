@@ -17,7 +17,7 @@ use Rattle.sip_machine.specs.inner.DebtLaws.{filter-map, IsWithoutFirst-map, IsW
 -- Laws of what a machine owes: of the debts of the code, of what they stand for, and of moments up to their deadlines.
 
 -- where both hold, each does
-both_true : (a b : Bool) → (a && b) ≡ true → (a ≡ true) × (b ≡ true)
+pub both_true : (a b : Bool) → (a && b) ≡ true → (a ≡ true) × (b ≡ true)
 both_true true b e = (refl, e)
 both_true false b e = absurd (true≢false (sym e))
 
@@ -177,7 +177,7 @@ All-names P [] all = All-nil (λ d. P d.message)
 All-names P (d ∷ ds) all =
     All-cons (λ d. P d.message) d ds (All-head P d.message (owes_names ds) all) (All-names P ds (All-tail P d.message (owes_names ds) all))
 
-payables-seen : (texts : Texts) (n t : ℕ) (ds : List Debt) → IsBook texts → Keeps texts n → All (Keeps texts) (owes_names ds) →
+pub payables-seen : (texts : Texts) (n t : ℕ) (ds : List Debt) → IsBook texts → Keeps texts n → All (Keeps texts) (owes_names ds) →
     All (λ d. IsTrue (is_payable n t d) ↔ ((text_of texts d.message ≡ text_of texts n) × (t ≤ d.deadline))) ds
 payables-seen texts n t ds book kept known =
     All-weaker (λ d. Keeps texts d.message) (λ d. IsTrue (is_payable n t d) ↔ ((text_of texts d.message ≡ text_of texts n) × (t ≤ d.deadline)))

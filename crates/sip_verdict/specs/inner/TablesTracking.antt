@@ -6,19 +6,14 @@ use Rattle.sip_machine.specs.Times.{Times}
 use Rattle.sip_machine.specs.Texts.{Texts, Keeps}
 use Rattle.sip_machine.specs.NumberedEvent.{NumberedEvent}
 use Rattle.sip_machine.specs.Heard.{Heard, heard, FitsBook}
-use Rattle.sip_machine.specs.declared.invite_client.InviteClientState.{InviteClientState}
-use Rattle.sip_machine.specs.declared.plain_client.PlainState.{PlainState}
-use Rattle.sip_machine.specs.declared.invite_server.InviteServerState.{InviteServerState}
-use Rattle.sip_machine.specs.declared.plain_server.PlainServerState.{PlainServerState}
 use Rattle.sip_machine.specs.Rules.{StandFor}
 use Rattle.sip_states.specs.Runs.{After}
 use Rattle.sip_states.specs.Held.{Held}
-use Rattle.sip_states.specs.KeyMachine.{MachineKind, OfInviteClient, OfPlainClient, OfInviteServer, OfPlainServer, PhaseOf, rules_of, machine_of_key}
+use Rattle.sip_states.specs.KeyMachine.{MachineKind, rules_of, machine_of_key}
 use Rattle.sip_states.specs.Meaning.{Meaning}
-use Rattle.sip_states.specs.AnySet.{invite_client_meaning, plain_client_meaning, invite_server_meaning, plain_server_meaning, moment_of, IsKnownSet, IsAgendaOf}
+use Rattle.sip_states.specs.AnySet.{StateOf, meaning_of, set_of, moment_of, IsKnownSet, IsAgendaOf}
 use Rattle.sip_states.specs.Tables.{Tabled, IsGiven, Touches, with_set, with_record}
 use Rattle.sip_states.specs.declared.any_set.AnySet.{AnySet}
-use Rattle.sip_states.specs.declared.any_set.AnySet.TheVariants.{InviteClient, PlainClient, InviteServer, PlainServer}
 use Rattle.sip_verdict.specs.declared.passing.Hearing.{Hearing}
 use Rattle.sip_verdict.specs.declared.passing.Fate.{Fate}
 use Rattle.sip_verdict.specs.declared.passing.Fate.TheVariants.{Runs, NoRun, TooWide}
@@ -30,27 +25,6 @@ use Rattle.sip_verdict.specs.inner.Stepping.{LeadsTo, IsStepped}
 use Rattle.sip_verdict.specs.inner.Tracking.{Keeping, Tracks, TracksBefore, outcome_of}
 
 -- What is kept of the transactions of a log: the set of each key, by the machine of the key.
-
--- the states of each machine as the code has them
-abbrev pub StateOf : MachineKind → Type 0
-StateOf OfInviteClient = InviteClientState
-StateOf OfPlainClient = PlainState
-StateOf OfInviteServer = InviteServerState
-StateOf OfPlainServer = PlainServerState
-
--- what they mean
-abbrev pub meaning_of : (machine : MachineKind) → Meaning (PhaseOf machine) Times (StateOf machine)
-meaning_of OfInviteClient = invite_client_meaning
-meaning_of OfPlainClient = plain_client_meaning
-meaning_of OfInviteServer = invite_server_meaning
-meaning_of OfPlainServer = plain_server_meaning
-
--- a set of this machine
-abbrev pub set_of : (machine : MachineKind) → Held Times (StateOf machine) → AnySet
-set_of OfInviteClient s = InviteClient s
-set_of OfPlainClient s = PlainClient s
-set_of OfInviteServer s = InviteServer s
-set_of OfPlainServer s = PlainServer s
 
 -- a set leads, with these times, to where the runs over the events stand
 abbrev pub LeadsBy : {X S : Type 0} → Meaning X Times S → Texts → Times → List Heard → Held Times S → Type 0

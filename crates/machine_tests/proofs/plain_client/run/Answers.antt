@@ -1,5 +1,5 @@
 use Rattle.std.proofs.Common.{◌≡◌, ◌<◌, ◌∙◌, length}
-use Rattle.sip_machine.specs.declared.plain_client.PlainState.TheVariants.{Idle}
+use Rattle.sip_machine.specs.declared.plain_client.PlainClientPhase.TheVariants.{Idle}
 use Rattle.machine_tests.proofs.plain_client.run.Goals as goal
 
 pub loop-moment-preserved : goal.loop-moment-preserved

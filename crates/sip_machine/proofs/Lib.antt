@@ -13,3 +13,5 @@ pub mod RunsLemmas
 pub mod RunOrderLemmas
 pub mod ProvisionalLemmas
 pub mod AckLemmas
+pub mod RetainLemmas
+pub mod NamingLemmas

@@ -19,3 +19,5 @@ pub mod PlainServer
 pub mod InviteClient
 pub mod InviteServer
 pub mod Transaction
+pub mod Naming
+pub mod Retained

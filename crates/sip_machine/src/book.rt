@@ -1,10 +1,14 @@
 //! The messages of a log, each kept once.
-ghost use Rattle.std.specs.Prelude.{◌≡◌, ◌≢◌, ◌<◌, ◌≤◌, ◌⊎◌, ◌++◌, ◌∷◌, [], ℕ, length, map, MatchOption, IfOk, IfErr, OnOk, OnErr, All};
+ghost use Rattle.std.specs.Prelude.{◌≡◌, ◌≢◌, ◌<◌, ◌≤◌, ◌⊎◌, ◌++◌, ◌∷◌, [], ℕ, length, map, MatchOption, IfOk, IfErr, OnOk, OnErr, All, AllPairs};
 ghost use Rattle.std.specs.List.{insert, HoldsAt};
 ghost use Rattle.std.specs.List.Sorted.{IsSearchInRange, IsBinarySearchResult};
 ghost use Rattle.sip_machine.specs.Texts.{IsBook, Keeps, text_of};
+ghost use Rattle.sip_machine.specs.Retained.{only};
 ghost use Rattle.sip_machine.specs.inner.Order.{texts_of, hash_of, bytes_at, key_of, compare, begins_by, places_of, index_of, most_places, IsLed, IsInRuns, IsInside, IsGap};
 
+mod retain;
+
+use crate::book::retain::{keep_only, move_all};
 use std::alloc::{AllocError, Global};
 use std::cmp::Ordering;
 use std::hash::{FoldHasher, Hasher};
@@ -109,6 +113,23 @@ impl Book {
                 Ok(entry)
             }
         }
+    }
+
+    /// How many messages are kept.
+    pub fn len(&self) -> usize
+        ensures { result ≡ length self.now }
+    {
+        self.kept.len()
+    }
+
+    /// Keeps just the messages with these numbers, which rise. Their numbers and bytes stay. It takes no memory.
+    pub fn retain_only(&mut self, numbers: &[u32])
+        requires rising { AllPairs (λ a b. a < b) numbers.now }
+        requires kept { All (Keeps self.old) numbers.now }
+        ensures { self.new ≡ only numbers.now self.old }
+    {
+        move_all(&mut self.order, &self.kept, numbers);
+        keep_only(&mut self.kept, numbers);
     }
 }
 

@@ -277,6 +277,17 @@ impl Phases for InviteClient {
         }
     }
 
+    fn message(&self, phase: &InviteClientPhase) -> Option<u32> {
+        match *phase {
+            InviteClientPhase::Calling(waiting) => Some(waiting.request),
+            InviteClientPhase::Proceeding { request, .. } => Some(request),
+            InviteClientPhase::Completed { request, .. } => Some(request),
+            InviteClientPhase::Idle
+            | InviteClientPhase::Accepted { .. }
+            | InviteClientPhase::Ended => None,
+        }
+    }
+
     ghost lawful = { invite_client_is_figure };
 
     ghost idle_stands = { λ p texts. refl };

@@ -8,6 +8,7 @@ mod invite_server;
 pub mod laws;
 mod limit;
 mod machine;
+mod naming;
 mod outbox;
 mod owes;
 mod owing;

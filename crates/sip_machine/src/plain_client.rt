@@ -202,6 +202,16 @@ impl Phases for PlainClient {
         }
     }
 
+    fn message(&self, phase: &PlainClientPhase) -> Option<u32> {
+        match *phase {
+            PlainClientPhase::Trying(waiting) => Some(waiting.request),
+            PlainClientPhase::Proceeding(waiting) => Some(waiting.request),
+            PlainClientPhase::Completed { .. }
+            | PlainClientPhase::Idle
+            | PlainClientPhase::Ended => None,
+        }
+    }
+
     ghost lawful = { plain_client_is_figure };
 
     ghost idle_stands = { λ p texts. refl };

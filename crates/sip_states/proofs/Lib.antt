@@ -12,3 +12,5 @@ pub mod TablesLemmas
 pub mod Taking
 pub mod Twice
 pub mod Waiting
+pub mod NamesLemmas
+pub mod AdvanceLemmas

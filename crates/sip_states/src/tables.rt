@@ -1,11 +1,14 @@
 //! The states of every transaction, by key.
-ghost use Rattle.std.specs.Prelude.{◌≡◌, ◌≢◌, ◌<◌, ◌+◌, ◌++◌, ◌-◌, ◌∷◌, [], All, AllPairs, length, slice_get, IfOk, OnErr, OnOk, Some};
+ghost use Rattle.std.specs.Prelude.{◌≡◌, ◌≢◌, ◌<◌, ◌≤◌, ◌+◌, ◌++◌, ◌-◌, ◌∷◌, [], All, AllPairs, length, slice_get, IfOk, OnErr, OnOk, Some};
 ghost use Rattle.std.specs.Borrow.{sem};
 ghost use Rattle.indexmap.specs.IndexMap.{keys};
+ghost use Rattle.sip_states.specs.AnySet.{moment_of};
+ghost use Rattle.sip_states.specs.Sweep.{AdvancesAll, AdvancesSome, AppendsNamed};
 ghost use Rattle.sip_states.specs.Tables.{IsGiven, HasState, Settles, Touches, due_of, most_keys, with_key};
 
 use crate::agenda::Agenda;
 use crate::any_set::AnySet;
+use crate::each_once::keep_ascending;
 use indexmap::IndexMap;
 use sip_key::Key;
 use sip_machine::Params;
@@ -128,6 +131,32 @@ impl<H: BuildHasher> Tables<H> {
         ensures { result ≡ due_of self.now moment }
     {
         self.agenda.due(moment).map(|index| index as u32 + 1)
+    }
+
+    /// Lets the sets wait until the moment, in milliseconds; one that names no message may stay as it is. On an error some
+    /// have waited, and the others are as before.
+    pub fn advance_all(&mut self, moment: u64) -> Result<(), AllocError>
+        requires { All (λ set. moment_of set ≤ moment) self.old.sets }
+        ensures ok { OnOk result (AdvancesAll moment self.old self.new) }
+        ensures err { OnErr result (AdvancesSome moment self.old self.new) }
+    {
+        for index in 0..self.sets.len() {
+            self.sets[index].advance(moment)?;
+        }
+        Ok(())
+    }
+
+    /// Appends the numbers of the messages that the sets name, ascending, each once. On an error the vector is as before.
+    pub fn named(&self, out: &mut Vec<u32>) -> Result<(), AllocError>
+        ensures ok { OnOk result (AppendsNamed self.now out.old.items out.new.items) }
+        ensures err { OnErr result (out.new.items ≡ out.old.items) }
+    {
+        let mut found = Vec::new(*out.allocator());
+        for index in 0..self.sets.len() {
+            self.sets[index].names(&mut found)?;
+        }
+        keep_ascending(&mut found);
+        out.extend_from_slice(&found)
     }
 
     /// The key with this number.

@@ -14,6 +14,8 @@ mod rows;
 #[cfg(test)]
 mod sets;
 #[cfg(test)]
+mod sweep;
+#[cfg(test)]
 mod tables;
 #[cfg(test)]
 mod toy;

@@ -70,6 +70,10 @@ impl Machine for Toy {
         state.map(|since| since + 5_000)
     }
 
+    fn names(&self, _state: &Option<u64>, _out: &mut Vec<u32>) -> Result<(), AllocError> {
+        Ok(())
+    }
+
     ghost lawful = { λ m. toy_lawful m.ends };
 
     ghost first_stands = { λ m texts. refl };

@@ -14,3 +14,4 @@ pub mod Twice
 pub mod Waiting
 pub mod NamesLemmas
 pub mod AdvanceLemmas
+pub mod MarksLemmas

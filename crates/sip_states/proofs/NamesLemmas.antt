@@ -1,10 +1,11 @@
 -- Numbers that were appended, one state after another.
-use Rattle.std.specs.Prelude.{◌↔◌, ◌+◌, ◌<◌, ℕ, List, [], ◌∷◌, ◌++◌, Contains, flat_map, take, length}
-use Rattle.std.proofs.Common.{inl, inr, sym, ◌∙◌, ap, subst, append_assoc, get_or}
+use Rattle.std.specs.Prelude.{◌≡◌, ◌↔◌, ◌+◌, ◌<◌, ℕ, List, [], ◌∷◌, ◌++◌, Contains, flat_map, take, length}
+use Rattle.std.proofs.Common.{inl, inr, sym, ◌∙◌, ap, subst, append_assoc, get_or, refl, arith}
 use Rattle.std.proofs.lemmas.List.{append-nil, take_more}
 use Rattle.std.proofs.lemmas.List.Concat.{flat_map-append}
-use Rattle.std.proofs.lemmas.List.Elements.{Contains-append_left, Contains-append_right, Contains-append_cases}
+use Rattle.std.proofs.lemmas.List.Elements.{Contains-append_left, Contains-append_right, Contains-append_cases, Contains-get_or}
 use Rattle.sip_machine.specs.Naming.{AppendsAll}
+use Rattle.sip_machine.proofs.TextLaws.{Contains-nil, Contains-cons_cases}
 
 pub appends_none : (old : List ℕ) → AppendsAll [] old old
 appends_none old = ([], sym (append-nil old), (λ n. (λ h. h, λ h. h)))
@@ -26,3 +27,28 @@ appends_more names items i d old mid new low first second = (
       ∙ ap (λ ns. flat_map names (take i items) ++ ns) (append-nil (names (get_or items i d)))))
       (append_members first.0 second.0 (flat_map names (take i items)) (names (get_or items i d)) first.2 second.2 n),
 )
+
+-- numbers of which none was appended are none
+pub names_nothing : (numbers old new : List ℕ) → old ≡ [] → new ≡ [] → AppendsAll numbers old new → numbers ≡ []
+names_nothing [] old new none still appends = refl
+names_nothing (n ∷ ns) old new none still appends =
+    let added : appends.0 ≡ [] = ap (λ xs. xs ++ appends.0) (sym none) ∙ sym appends.1 ∙ still in
+    absurd (Contains-nil n (subst (λ xs. Contains xs n) added ((appends.2 n).1 (Contains-get_or (n ∷ ns) 0 n (omega arith)))))
+
+-- Elements of lists that are joined.
+
+pub Contains-flat_map : {X Y : Type 0} (f : X → List Y) (xs : List X) (x : X) (y : Y) → Contains xs x → Contains (f x) y → Contains (flat_map f xs) y
+Contains-flat_map f [] x y among has = absurd (Contains-nil x among)
+Contains-flat_map f (u ∷ xs) x y among has =
+    elim (Contains-cons_cases u xs x among) [
+      | inl same ↦ Contains-append_left (f u) (flat_map f xs) y (subst (λ v. Contains (f v) y) (sym same) has)
+      | inr rest ↦ Contains-append_right (f u) (flat_map f xs) y (Contains-flat_map f xs x y rest has)
+    ]
+
+pub Contains-from_flat_map : {X Y : Type 0} (f : X → List Y) (xs : List X) (y : Y) → Contains (flat_map f xs) y → (x : X) × Contains xs x × Contains (f x) y
+Contains-from_flat_map f [] y has = absurd (Contains-nil y has)
+Contains-from_flat_map f (u ∷ xs) y has =
+    elim (Contains-append_cases (f u) (flat_map f xs) y has) [
+      | inl here ↦ (u, Contains-get_or (u ∷ xs) 0 u (omega arith), here)
+      | inr later ↦ (let found = Contains-from_flat_map f xs y later in (found.0, Contains-append_right (u ∷ []) xs found.0 found.1, found.2))
+    ]

@@ -1,75 +1,69 @@
-use Rattle.std.proofs.Common.{◌≤◌, ◌∙◌, inl, refl, sym, ap, subst, arith, length, set, All}
+use Rattle.std.proofs.Common.{◌≤◌, ◌∙◌, inl, refl, sym, subst, get_or, true, arith}
 use Rattle.std.proofs.lemmas.Option.{slice_get_within}
 use Rattle.std.proofs.lemmas.Map.Entries.{length-values_of}
 use Rattle.indexmap.specs.IndexMap.{values}
-use Rattle.indexmap.proofs.CallerLemmas.{keys-with_value_at, index_map_len-with_value_at}
-use Rattle.sip_states.specs.AnySet.{moment_of}
 use Rattle.sip_states.specs.Tables.{most_keys}
-use Rattle.sip_states.proofs.TablesLemmas.{values_of-set_value_at}
-use Rattle.sip_states.proofs.AdvanceLemmas.{advances_none, advances_more, advances_some, advances_failed, all_at, always_err}
+use Rattle.sip_states.specs.inner.Marks.{IsMarked}
+use Rattle.sip_states.proofs.AdvanceLemmas.{place_among, marked_advance, some_advance, marked_still, always_ok, always_err}
 use Rattle.sip_states.proofs.tables.Tables.advance_all.Goals as goal
 
-pub loop-index-init : goal.loop-index-init
-loop-index-init g c = record { params = refl; agenda = refl; keys_are = refl; size = refl; up = advances_none c.args.moment (values c.self.inside.sets) }
-
-pub index_mut-requires : goal.index_mut-requires
-index_mut-requires g c = omega (arith, c.loop-index.invariant.size, c.len-index-end.ensures.len)
-
-pub advance-requires : goal.advance-requires
-advance-requires g c =
-    let here = sym (c.loop-index.invariant.up.others c.loop-index.index (omega arith)) ∙ c.index_mut.ensures.value in
-    all_at (λ set. moment_of set ≤ c.args.moment) (values c.self.inside.sets) c.loop-index.index c.index_mut.result.now (subst (All (λ set. moment_of set ≤ c.args.moment)) (sym (ap (λ t. t.sets) c.self.view_is)) c.requires) here
-
-pub invariant_of-self-in_err-advance : goal.invariant_of-self-in_err-advance
-invariant_of-self-in_err-advance g c =
-    let inv = c.loop-index.invariant in
-    rw (index_map_len-with_value_at c.loop-index.self-inside.sets c.loop-index.index c.advance.new.self)
-    (subst (λ n. n ≤ most_keys) (sym inv.size) c.self.invariant.0, ap length inv.agenda ∙ c.self.invariant.1 ∙ sym inv.size)
-
-pub returns-in_err-advance-clause-err : goal.returns-in_err-advance-clause-err
-returns-in_err-advance-clause-err g c =
-    let inv = c.loop-index.invariant in
-    let sets = c.loop-index.self-inside.sets in
-    let i = c.loop-index.index in
-    let w = c.advance.new.self in
-    let up = advances_failed c.args.moment (values c.self.inside.sets) (values sets) i c.index_mut.result.now w inv.up c.index_mut.ensures.value c.in_err-advance.ensures.err in
-    let is = values_of-set_value_at sets.entries i w in
-    always_err c.from_residual.result _ (rw (← c.self.view_is) (record {
-      times = inv.params;
-      keys = keys-with_value_at sets i w ∙ inv.keys_are;
-      records = inv.agenda;
-      long = ap length is ∙ up.long;
-      each = λ n a b was at. advances_some c.args.moment (values c.self.inside.sets) (set (values sets) i w) i up n a b was (rw is at at);
-    }))
-
-pub loop-index-preserved : goal.loop-index-preserved
-loop-index-preserved g c =
-    let inv = c.loop-index.invariant in
-    let sets = c.loop-index.self-inside.sets in
-    let i = c.loop-index.index in
-    let w = c.advance.new.self in
-    record {
-      params = inv.params;
-      agenda = inv.agenda;
-      keys_are = keys-with_value_at sets i w ∙ inv.keys_are;
-      size = index_map_len-with_value_at sets i w ∙ inv.size;
-      up = rw (values_of-set_value_at sets.entries i w)
-          (advances_more c.args.moment (values c.self.inside.sets) (values sets) i c.index_mut.result.now w inv.up c.index_mut.ensures.value c.in_ok-advance.ensures.ok);
-    }
+pub advance_each-requires-clause-inside : goal.advance_each-requires-clause-inside
+advance_each-requires-clause-inside g c =
+    λ k d low.
+    let marks = c.self.inside.marks in
+    let index = get_or c.marked.result.now k d in
+    let mark : IsMarked marks index = (c.marked.ensures.members index).0 (place_among c.marked.result.now k d low) in
+    let within = slice_get_within marks index true mark in
+    omega (arith, within, c.self.invariant.2)
 
 pub invariant_of-self : goal.invariant_of-self
 invariant_of-self g c =
-    let inv = c.loop-index.invariant in
-    (subst (λ n. n ≤ most_keys) (sym inv.size) c.self.invariant.0, ap length inv.agenda ∙ c.self.invariant.1 ∙ sym inv.size)
+    let inv = c.self.invariant in
+    let size = c.in_err-advance_each.ensures.size in
+    let some = c.in_err-advance_each.ensures.err in (
+      subst (λ n. n ≤ most_keys) (sym size) inv.0,
+      inv.1 ∙ sym size,
+      inv.2 ∙ sym size,
+      marked_still c.args.moment some.0 c.self.inside.marks (values c.self.inside.sets) (values c.advance_each.new.sets) inv.3 (λ n has. (c.marked.ensures.members n).0 (some.1 n has)) some.2,
+    )
+
+pub returns-in_err-advance_each-clause-err : goal.returns-in_err-advance_each-clause-err
+returns-in_err-advance_each-clause-err g c =
+    let some = c.in_err-advance_each.ensures.err in
+    always_err c.from_residual.result _ (rw (← c.self.view_is) (record {
+      times = refl;
+      keys = c.in_err-advance_each.ensures.keys;
+      records = refl;
+      long = some.2.long;
+      each = some_advance c.args.moment some.0 (values c.self.inside.sets) (values c.advance_each.new.sets) some.2;
+    }))
+
+pub unmark_silent-requires-clause-marked : goal.unmark_silent-requires-clause-marked
+unmark_silent-requires-clause-marked g c =
+    marked_still c.args.moment c.marked.result.now c.self.inside.marks (values c.self.inside.sets) (values c.advance_each.new.sets) c.self.invariant.3 (λ n has. (c.marked.ensures.members n).0 has) c.in_ok-advance_each.ensures.ok
 
 pub returns-clause-ok : goal.returns-clause-ok
 returns-clause-ok g c =
-    let inv = c.loop-index.invariant in
-    let size = length-values_of c.self.inside.sets.entries in
-    rw (← c.self.view_is) (record {
-      times = inv.params;
-      keys = inv.keys_are;
-      records = inv.agenda;
-      long = inv.up.long;
-      each = λ n a b was at. inl (inv.up.waited n a b (let low = slice_get_within (values c.self.inside.sets) n a was in omega (arith, low, size, c.len-index-end.ensures.len, c.loop-index-test.false)) was at);
-    })
+    let up = c.in_ok-advance_each.ensures.ok in
+    let sets = c.self.inside.sets in
+    always_ok c.unmark_silent.result _ (rw (← c.self.view_is) (record {
+      times = refl;
+      keys = c.in_ok-advance_each.ensures.keys;
+      records = refl;
+      long = up.long;
+      each = marked_advance c.args.moment c.marked.result.now c.self.inside.marks (values sets) (values c.advance_each.new.sets)
+          (c.self.invariant.2 ∙ sym (length-values_of sets.entries)) c.self.invariant.3 c.marked.ensures.members up;
+    }))
+
+pub returns-clause-err : goal.returns-clause-err
+returns-clause-err g c =
+    let up = c.in_ok-advance_each.ensures.ok in
+    let sets = c.self.inside.sets in
+    always_err c.unmark_silent.result _ (rw (← c.self.view_is) (record {
+      times = refl;
+      keys = c.in_ok-advance_each.ensures.keys;
+      records = refl;
+      long = up.long;
+      each = λ n a b was is. inl (marked_advance c.args.moment c.marked.result.now c.self.inside.marks (values sets) (values c.advance_each.new.sets)
+          (c.self.invariant.2 ∙ sym (length-values_of sets.entries)) c.self.invariant.3 c.marked.ensures.members up n a b was is);
+    }))

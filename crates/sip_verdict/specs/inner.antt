@@ -1,3 +1,4 @@
+pub mod Concerned
 pub mod Judging
 pub mod Leads
 pub mod Numbering

@@ -2,6 +2,7 @@
 //! one of them has no run.
 #![tactic(auto)]
 
+mod concerned;
 mod judge_error;
 mod judging;
 mod laws;

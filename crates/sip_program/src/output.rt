@@ -15,7 +15,7 @@ use std::io::{BufWriter, Write};
 const BUFFER: usize = 65_536;
 
 /// A sink that keeps up to 64 KiB for its writer. A write that was interrupted is tried again; any other error is a failure.
-#[derive(Drop)]
+#[derive(Debug, Drop)]
 pub struct Output<W: Write + Drop> {
     writer: BufWriter<W>,
     failed: bool,

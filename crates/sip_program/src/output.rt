@@ -35,7 +35,7 @@ impl<W: Write + Drop> Output<W> {
         })
     }
 
-    /// Hands its writer all that was put. A writer that fails has a front of it.
+    /// Hands its writer all that was put. On an error it is not said how much of it the writer has.
     pub fn flush(&mut self) -> Result<(), Broken>
         ensures sent { OnOk result (Keeps (⟦<Output<W> as Sink>⟧.written self.old) (sent W.contents self.new)) }
         ensures kept { Keeps (⟦<Output<W> as Sink>⟧.written self.old) (⟦<Output<W> as Sink>⟧.written self.new) }

@@ -34,6 +34,19 @@ def say(text):
     print("%s: %s" % (os.path.basename(sys.argv[0]), text), file=sys.stderr)
 
 
+def words_of(usage, page, are_right):
+    """The words behind the script's name, where they are right. Else it ends with its usage and its page: as its answer where they
+    ask for help, and as an error where they are wrong."""
+    words = sys.argv[1:]
+    text = "usage: %s %s\n\n%s" % (os.path.basename(sys.argv[0]), usage, page.rstrip("\n"))
+    if words[:1] in (["-h"], ["--help"]):
+        print(text, flush=True)
+        sys.exit()
+    if not are_right(words):
+        sys.exit(text)
+    return words
+
+
 def opened(name):
     """The file of that name to be read as bytes: `-` is the standard input, and one that is gzipped is unpacked."""
     try:

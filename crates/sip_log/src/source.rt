@@ -63,7 +63,7 @@ impl<'a> Source for &'a [u8] {
 }
 
 /// A source over a reader of std. A read that was interrupted is tried again; any other error is a failure.
-#[derive(Drop)]
+#[derive(Debug, Drop)]
 pub struct FromRead<R> {
     reader: R,
     failed: bool,

@@ -18,21 +18,21 @@ use std::marker::Model;
 /// their places stand in the order of hash and bytes, in runs, so that few places move for a new one. So a message
 /// is found by its number, and by its bytes, with a logarithm of comparisons, whatever the log is and however the
 /// hashes fall; its bytes are kept once.
-#[derive(Drop)]
+#[derive(Debug, Drop)]
 pub struct Book {
     kept: Vec<Kept>,
     order: Vec<Run>,
 }
 
 /// A message with the number of its first entry.
-#[derive(Drop)]
+#[derive(Debug, Drop)]
 struct Kept {
     number: u32,
     bytes: Vec<u8>,
 }
 
 /// Where a message stands among those that are kept, with the hash of its bytes.
-#[derive(Clone, Copy)]
+#[derive(Clone, Copy, Debug)]
 struct Place {
     hash: u64,
     position: usize,
@@ -40,7 +40,7 @@ struct Place {
 
 /// Some of the places, in their order: at least one, at most `MOST`. The first one stands here again, so that
 /// the run of a message is found without a look into other runs.
-#[derive(Drop)]
+#[derive(Debug, Drop)]
 struct Run {
     first: Place,
     places: Vec<Place>,

@@ -24,7 +24,7 @@ use std::alloc::Global;
 use std::marker::Model;
 
 /// A message (RFC 3261, section 7), in slices of its bytes.
-#[derive(Drop)]
+#[derive(Debug, Drop)]
 pub struct Message<'a> {
     start: StartLine<'a>,
     fields: Vec<Field<'a>>,

@@ -11,7 +11,7 @@ use sip_machine::{Book, Event, InviteClient, InviteServer, Params, PlainClient, 
 use std::alloc::{AllocError, Global};
 
 /// The states in which the runs of one of the four machines of RFC 3261 section 17 can stand.
-#[derive(Drop)]
+#[derive(Debug, Drop)]
 pub enum AnySet {
     /// Section 17.1.1.
     InviteClient(StateSet<InviteClient>),

@@ -14,15 +14,19 @@ use sip_machine::{Book, Event, Machine};
 use std::alloc::{AllocError, Global};
 use std::marker::Model;
 use std::mem;
+use thiserror::Error;
 
 /// How many states are followed after an event.
 const WIDEST: usize = 1_024;
 
 /// Why an event is not taken.
-#[derive(Clone, Copy, Debug, PartialEq, Eq)]
+#[derive(Clone, Copy, Debug, PartialEq, Eq, Error)]
 pub enum TakeError {
+    /// A growth was refused.
+    #[error("out of memory")]
     Memory,
     /// It leads to more than 1,024 states.
+    #[error("more than 1,024 possible states")]
     TooMany,
 }
 
@@ -39,6 +43,7 @@ impl From<AllocError> for TakeError {
 
 /// The states in which the runs of a machine can stand at a moment, in milliseconds.
 #[derive(Drop)]
+#[derive_where(Debug; M, M::State)]
 pub struct StateSet<M: Machine> {
     machine: M,
     moment: u64,

@@ -21,6 +21,7 @@ use std::marker::Model;
 
 /// The set of each key. Keys are numbered from 1 in order of first appearance.
 #[derive(Drop)]
+#[derive_where(Debug)]
 pub struct Tables<H: BuildHasher> {
     params: Params,
     sets: IndexMap<Key, AnySet, H>,

@@ -1,11 +1,23 @@
-"""The logs of bench/judge.sh, and its clock. Its words are the program and numbers of entries."""
+"""The logs of bench/judge.sh, what their entries are counted to cost, and its clock. Its words are the program and numbers of entries."""
 
+import heapq
+import os
+import random
+import re
+import shutil
 import subprocess
 import sys
 import tempfile
 import time
 from pathlib import Path
 
+# What is simulated: first-level caches of 32 KB, a last one of 4 MB, lines of 64 bytes.
+CALLGRIND = (
+    "valgrind --tool=callgrind --dump-instr=yes --compress-pos=no --compress-strings=no --cache-sim=yes --branch-sim=yes "
+    "--I1=32768,8,64 --D1=32768,8,64 --LL=4194304,16,64"
+).split()
+LINE = 64
+CODE_LIMIT = 24
 SDP = (
     "v=0\r\no=alice 2890844526 2890844526 IN IP4 pc33.atlanta.example.com\r\ns=-\r\n"
     "c=IN IP4 192.0.2.101\r\nt=0 0\r\nm=audio 49172 RTP/AVP 0\r\na=rtpmap:0 PCMU/8000\r\n"
@@ -14,42 +26,177 @@ OTHERS = (
     "Max-Forwards: 70\r\nUser-Agent: Example Phone 2.1 (build 20261122)\r\n"
     "Allow: INVITE, ACK, CANCEL, OPTIONS, BYE, REFER, NOTIFY\r\nSupported: replaces, timer\r\n"
 )
+ALICE = "\"Alice\" <sip:alice@atlanta.example.com>;tag=19283017"
+BOB = "Bob <sip:bob@biloxi.example.com>"
 
 
-def message(start, method, number, end="", tag="", body=""):
+def message(start, method, number, end="", tag="", body="", others=OTHERS):
     """A message of call or registration `number`, whose branch has this end."""
     return (
         f"{start}\r\nVia: SIP/2.0/UDP pc33.atlanta.example.com:5060;branch=z9hG4bK776as{number}{end};rport\r\n"
-        f"From: \"Alice\" <sip:alice@atlanta.example.com>;tag=19283017\r\nTo: Bob <sip:bob@biloxi.example.com>{tag}\r\n"
+        f"From: {ALICE}\r\nTo: {BOB}{tag}\r\n"
         f"Call-ID: a84b4c76e66710{number}@pc33.atlanta.example.com\r\nCSeq: 314159 {method}\r\n"
-        f"Contact: <sip:alice@pc33.atlanta.example.com:5060>\r\n{OTHERS}Content-Length: {len(body)}\r\n\r\n{body}"
+        f"Contact: <sip:alice@pc33.atlanta.example.com:5060>\r\n{others}Content-Length: {len(body)}\r\n\r\n{body}"
     )
 
 
-def request(method, number, end="", tag="", body=""):
-    return message(f"{method} sip:bob@biloxi.example.com SIP/2.0", method, number, end, tag, body)
+def request(method, number, end="", tag="", body="", others=OTHERS):
+    return message(f"{method} sip:bob@biloxi.example.com SIP/2.0", method, number, end, tag, body, others)
 
 
-def response(code, method, number, body=""):
-    return message(f"SIP/2.0 {code} Reply", method, number, tag=";tag=a6c85cf", body=body)
+def response(code, method, number, body="", end="", others=OTHERS):
+    return message(f"SIP/2.0 {code} Reply", method, number, end, ";tag=a6c85cf", body, others)
 
 
-def registrations(entries):
-    """One every 100 ms: a REGISTER, and its 200."""
-    for number in range(entries // 2):
-        yield "S", 100 * number, request("REGISTER", number)
-        yield "R", 100 * number + 20, response(200, "REGISTER", number)
+def small(start, method, number):
+    return (
+        f"{start}\r\nVia: SIP/2.0/UDP a.example.com;branch=z9hG4bK{number}\r\nFrom: <sip:a@example.com>;tag=1\r\n"
+        f"To: <sip:b@example.com>\r\nCall-ID: {number}@a\r\nCSeq: 1 {method}\r\n\r\n"
+    )
+
+
+def merged(transactions, step):
+    """The entries of transactions, one of which begins each `step` milliseconds, in the order of their moments."""
+    open_ones = []
+    for number, entries in enumerate(transactions):
+        start = step * number
+        while open_ones and open_ones[0][0] <= start:
+            yield heapq.heappop(open_ones)[2:]
+        for place, (moment, letter, text) in enumerate(entries):
+            heapq.heappush(open_ones, (start + moment, (number, place), letter, start + moment, text))
+    while open_ones:
+        yield heapq.heappop(open_ones)[2:]
+
+
+# What elements log. Each takes about so many entries.
 
 
 def calls(entries):
-    """One a second, of a client: INVITE, 100, 180, 200, and the ACK with its own branch."""
-    for number in range(entries // 5):
-        start = 1000 * number
-        yield "S", start, request("INVITE", number, body=SDP)
-        yield "R", start + 20, response(100, "INVITE", number)
-        yield "R", start + 200, response(180, "INVITE", number)
-        yield "R", start + 700, response(200, "INVITE", number, body=SDP)
-        yield "S", start + 710, request("ACK", number, "ack", ";tag=a6c85cf")
+    """Of a client over UDP, some 500 at once: INVITE, 100, 180, 200, and the ACK with its own branch."""
+
+    def call(number):
+        sdp = SDP + "".join(f"a=rtpmap:{it} CODEC{it}/8000\r\n" for it in range(96, 97 + number % 16))
+        return [
+            (0, "S", request("INVITE", number, body=sdp)),
+            (20, "R", response(100, "INVITE", number)),
+            (200, "R", response(180, "INVITE", number)),
+            (4900, "R", response(200, "INVITE", number, body=sdp)),
+            (4910, "S", request("ACK", number, "ack", ";tag=a6c85cf")),
+        ]
+
+    return merged((call(number) for number in range(entries // 5)), 10)
+
+
+def registers(entries):
+    """REGISTER, 401, REGISTER with another branch, 200."""
+    challenge = OTHERS + 'WWW-Authenticate: Digest realm="atlanta.example.com", nonce="84a4cc6f3082121f32b42a2187831a9e"\r\n'
+
+    def registration(number):
+        return [
+            (0, "S", request("REGISTER", number)),
+            (20, "R", response(401, "REGISTER", number, others=challenge)),
+            (30, "S", request("REGISTER", number, "b", others=challenge.replace("WWW-Authenticate", "Authorization"))),
+            (50, "R", response(200, "REGISTER", number, end="b")),
+        ]
+
+    return merged((registration(number) for number in range(entries // 4)), 10)
+
+
+def options(entries):
+    """OPTIONS and 200, as short as they may be."""
+
+    def ping(number):
+        return [(0, "S", small("OPTIONS sip:b@example.com SIP/2.0", "OPTIONS", number)), (20, "R", small("SIP/2.0 200 OK", "OPTIONS", number))]
+
+    return merged((ping(number) for number in range(entries // 2)), 10)
+
+
+def proxy(entries):
+    """Both sides of an INVITE through a proxy; one of eight is refused with 486."""
+
+    def call(number):
+        own = f"\r\nVia: SIP/2.0/UDP proxy.example.com;branch=z9hG4bKp{number}"
+        record = "\r\nRecord-Route: <sip:proxy.example.com;lr>"
+
+        def out(text, own=own):
+            return text.replace("\r\nVia:", f"{record}{own}\r\nVia:", 1)
+
+        def back(text):
+            return text.replace("\r\nVia:", f"{record}\r\nVia:", 1)
+
+        invite, trying, ringing = request("INVITE", number, body=SDP), response(100, "INVITE", number), response(180, "INVITE", number)
+        begun = [(0, "R", invite), (1, "S", trying), (2, "S", out(invite)), (20, "R", out(trying)), (200, "R", out(ringing)), (201, "S", back(ringing))]
+        if number % 8 == 0:
+            busy, ack = response(486, "INVITE", number), request("ACK", number, tag=";tag=a6c85cf")
+            hop = re.sub("\r\nVia:[^\r]*", own, ack, count=1)
+            return begun + [(900, "R", out(busy)), (901, "S", hop), (902, "S", busy), (920, "R", ack)]
+        answer, ack = response(200, "INVITE", number, body=SDP), request("ACK", number, "ack", ";tag=a6c85cf")
+        sent = out(ack, own.replace("bKp", "bKq"))
+        return begun + [(900, "R", out(answer)), (901, "S", back(answer)), (920, "R", ack), (921, "S", sent)]
+
+    return merged((call(number) for number in range(entries // 10)), 10)
+
+
+def keys(entries):
+    """Requests to a server, all of which it answers behind the last, in random order."""
+    numbers = list(range(entries // 2))
+    for number in numbers:
+        yield "R", number, request("OPTIONS", number)
+    random.Random(1).shuffle(numbers)
+    for place, number in enumerate(numbers):
+        yield "S", entries // 2 + place, response(200, "OPTIONS", number)
+
+
+def mixed(entries):
+    """Repeats, refusals, CANCELs, folds and compact names."""
+
+    def folded(text):
+        return text.replace(";branch=", "\r\n ;branch=", 1).replace("Supported: replaces, ", "Supported: replaces,\r\n\t")
+
+    def compact(text):
+        names = [("Via", "v"), ("From", "f"), ("To", "t"), ("Call-ID", "i"), ("Contact", "m"), ("Content-Length", "l"), ("Supported", "k")]
+        for name, short in names:
+            text = text.replace(f"\r\n{name}:", f"\r\n{short}:")
+        return text
+
+    def call(number):
+        form = [str, str, folded, compact][number % 4]
+        invite = form(request("INVITE", number, body=SDP))
+        ack = form(request("ACK", number, tag=";tag=a6c85cf"))
+        busy, ringing = form(response(486, "INVITE", number)), form(response(180, "INVITE", number))
+        if number % 5 == 0:  # repeats on both sides
+            return [(0, "S", invite), (500, "S", invite), (1500, "S", invite), (1520, "R", ringing), (2000, "R", busy), (2010, "S", ack), (2500, "R", busy), (2510, "S", ack)]
+        if number % 5 == 1:  # a call that is cancelled
+            cancel, over = form(request("CANCEL", number)), form(response(487, "INVITE", number))
+            return [(0, "S", invite), (20, "R", ringing), (900, "S", cancel), (920, "R", form(response(200, "CANCEL", number))), (930, "R", over), (940, "S", ack)]
+        if number % 5 == 2:  # a server that repeats what it sent
+            return [(0, "R", invite), (10, "S", ringing), (500, "R", invite), (510, "S", ringing), (900, "S", busy), (1400, "S", busy), (1420, "R", ack)]
+        if number % 5 == 3:  # a request that is repeated, and its response
+            bye = form(request("BYE", number, tag=";tag=a6c85cf"))
+            over = form(response(200, "BYE", number))
+            return [(0, "R", bye), (5, "S", over), (500, "R", bye), (505, "S", over)]
+        refresh, fine = form(request("REGISTER", number)), form(response(200, "REGISTER", number))
+        return [(0, "S", refresh), (500, "S", refresh), (600, "R", fine)]
+
+    return merged((call(number) for number in range(entries * 5 // 28)), 20)
+
+
+def widening(number):
+    """What leads a server to 1,024 states: two responses, each asked for 31 times and sent 31 times, within the tolerance."""
+    invite = request("INVITE", number, body=SDP)
+    ringing, progress = response(180, "INVITE", number), response(183, "INVITE", number)
+    texts = [("R", invite), ("S", ringing)] + 31 * [("R", invite)] + [("S", progress)] + 31 * [("R", invite)]
+    return texts + 31 * [("S", ringing)] + 31 * [("S", progress)]
+
+
+def wide(entries):
+    """Servers that stand in 1,024 states, with up to 62 debts, when they answer."""
+    for number in range(max(1, entries // 128)):
+        for place, (letter, text) in enumerate(widening(number) + [("S", response(200, "INVITE", number))]):
+            yield letter, 200 * number + place, text
+
+
+# What takes the most time or memory.
 
 
 def marks(entries):
@@ -60,11 +207,31 @@ def marks(entries):
         yield "M", moment, ""
 
 
+def idle_keys(entries):
+    """Requests that a server never answers, up to a thousand of them, and then a mark every millisecond."""
+    count = min(1000, entries // 10)
+    for number in range(count):
+        yield "R", 0, request("OPTIONS", number)
+    for moment in range(entries - count):
+        yield "M", moment, ""
+
+
 def one_long_key(entries):
     """A call that rings, with a 180 every second."""
     yield "R", 0, request("INVITE", 0, body=SDP)
     for number in range(entries - 1):
         yield "S", 1000 * number, response(180, "INVITE", 0)
+
+
+def tagged(code, number):
+    return message(f"SIP/2.0 {code} Reply", "INVITE", 0, tag=f";tag={number}")
+
+
+def other_messages(entries):
+    """A call that rings, with another 180 every second."""
+    yield "R", 0, request("INVITE", 0, body=SDP)
+    for number in range(entries - 1):
+        yield "S", 1000 * number, tagged(180, number)
 
 
 def many_live_keys(entries):
@@ -79,33 +246,137 @@ def many_due_keys(entries):
         yield "S", 400 * number // entries, request("OPTIONS", number)
 
 
-def other_messages(entries):
-    """A call that rings, with another 180 every second."""
+def repeats_at_once(entries):
+    """A server whose final response is asked for again and again at one moment, and then sent as often."""
+    ask, reply = request("OPTIONS", 0), response(200, "OPTIONS", 0)
+    yield "R", 0, ask
+    yield "S", 0, reply
+    for number in range(entries - 2):
+        yield ("R", 10, ask) if number < (entries - 2) // 2 else ("S", 10, reply)
+
+
+def many_owed(entries):
+    """A server that sends one 180 after another, and has each repeated: all of them are owed at the end."""
     yield "R", 0, request("INVITE", 0, body=SDP)
-    for number in range(entries - 1):
-        yield "S", 1000 * number, message("SIP/2.0 180 Reply", "INVITE", 0, tag=f";tag={number}")
+    for number in range(entries // 2):
+        yield "S", 0, tagged(180, number)
+        yield "R", 0, request("INVITE", 0, body=SDP)
 
 
-def idle_keys(entries):
-    """Requests that a server never answers, up to a thousand of them, and then a mark every millisecond."""
-    keys = min(1000, entries // 10)
-    for number in range(keys):
-        yield "R", 0, request("OPTIONS", number)
-    for moment in range(entries - keys):
-        yield "M", moment, ""
+def acks_first_first(entries):
+    """An INVITE that many refuse, each with a tag of its own, and the ACKs, that of the first response first."""
+    yield "S", 0, request("INVITE", 0, body=SDP)
+    for number in range(entries // 2):
+        yield "R", 10, tagged(486, number)
+    for number in range(entries // 2):
+        yield "S", 10, request("ACK", 0, tag=f";tag={number}")
 
 
-KINDS = [registrations, calls, marks, idle_keys, one_long_key, other_messages, many_live_keys, many_due_keys]
+def acks_last_first(entries):
+    """The same, that of the last response first."""
+    yield "S", 0, request("INVITE", 0, body=SDP)
+    for number in range(entries // 2):
+        yield "R", 10, tagged(486, number)
+    for number in reversed(range(entries // 2)):
+        yield "S", 10, request("ACK", 0, tag=f";tag={number}")
 
 
-def write_log(path, entries):
+def repeats_when_wide(entries):
+    """Repeats of the INVITE to a server that stands in 1,024 states."""
+    for place, (letter, text) in enumerate(widening(0) + max(0, entries - 127) * [("R", request("INVITE", 0, body=SDP))]):
+        yield letter, place, text
+
+
+def many_fields(entries):
+    """Messages of thousands of short fields."""
+    fields = "".join("a:\r\n" for _ in range(12000))
+    for number in range(entries):
+        yield "S", number, request("OPTIONS", number, others=fields)
+
+
+# The kinds with their limits in instructions an entry; and the two numbers of entries that are counted, whose difference is told.
+# The limits are what plain Rust reached with the same answers, with some room.
+KINDS = {calls: 5500, registers: 5500, options: 4000, proxy: 6000, keys: 5500, mixed: 8000, wide: 40000}
+COUNTED = (2000, 6000)
+COUNTED_WIDE = (128, 256)
+# The worst cases, with how many of the entries of the kinds they take.
+WORST = {
+    marks: 1, idle_keys: 1, one_long_key: 1, other_messages: 1, many_live_keys: 1, many_due_keys: 1, repeats_at_once: 1,
+    many_owed: 1 / 10, acks_first_first: 1 / 50, acks_last_first: 1 / 50, repeats_when_wide: 1 / 200, many_fields: 1 / 500,
+}
+# A long tolerance lets much be owed at once.
+LONG = (wide, many_owed, repeats_when_wide)
+
+
+def name_of(kind):
+    return kind.__name__.replace("_", " ")
+
+
+def write_log(path, kind, entries):
     count = 0
     with path.open("w", newline="") as file:
-        file.write("sip-trace 1\nt1 500 t2 4000 t4 5000 tolerance 50\n")
-        for letter, moment, text in entries:
+        file.write(f"sip-trace 1\nt1 500 t2 4000 t4 5000 tolerance {10000 if kind in LONG else 50}\n")
+        for letter, moment, text in kind(entries):
             file.write(f"{letter} {moment} {len(text)}\n{text}\n" if text else f"{letter} {moment}\n")
             count += 1
     return count
+
+
+def check_legal(kind, entries, text):
+    if not text.startswith(f"legal entries {entries} ".encode()):
+        sys.exit(f"{name_of(kind)}: {text.decode()}")
+
+
+def counted(program, log, out):
+    """What callgrind counts of a run: all events by their names, and how often each instruction ran."""
+    run = subprocess.run([*CALLGRIND, f"--callgrind-out-file={out}", program, "check", log], stdout=subprocess.PIPE, stderr=subprocess.DEVNULL, check=True)
+    events, totals, runs, is_call = [], {}, {}, False
+    with out.open() as lines:
+        for line in lines:
+            if line.startswith("0x"):
+                # the line behind a call has what the callee cost
+                if not is_call:
+                    address, _, instructions = line.split(maxsplit=3)[:3]
+                    place = int(address, 16)
+                    runs[place] = runs.get(place, 0) + int(instructions)
+                is_call = False
+            elif line.startswith("calls="):
+                is_call = True
+            elif line.startswith("events:"):
+                events = line.split()[1:]
+            elif line.startswith("totals:"):
+                totals = dict(zip(events, map(int, line.split()[1:])))
+    return run.stdout, totals, runs
+
+
+def print_counted(program, folder):
+    print(f"{'counted, an entry':<18} {'bytes':>6} {'instructions':>12} {'limit':>7} {'branches':>9} {'I1 misses':>9} {'D1 misses':>9} "
+          f"{'LL misses':>9} {'code KB':>8}")
+    above = []
+    for kind, limit in KINDS.items():
+        got, sizes = [], []
+        for entries in COUNTED_WIDE if kind is wide else COUNTED:
+            log = folder / "log"
+            count = write_log(log, kind, entries)
+            text, totals, runs = counted(program, log, folder / "counts")
+            check_legal(kind, count, text)
+            got.append((count, totals, runs))
+            sizes.append(log.stat().st_size)
+        (few, before, runs_before), (many, behind, runs) = got
+        entries = many - few
+
+        def each(*events):
+            return sum(behind.get(it, 0) - before.get(it, 0) for it in events) / entries
+
+        often = {place // LINE for place, count in runs.items() if count - runs_before.get(place, 0) >= entries / 10}
+        code = len(often) * LINE / 1024
+        print(f"{name_of(kind):<18} {(sizes[1] - sizes[0]) / entries:>6.0f} {each('Ir'):>12.0f} {limit:>7} {each('Bcm', 'Bim'):>9.1f} {each('I1mr'):>9.1f} "
+              f"{each('D1mr', 'D1mw'):>9.1f} {each('ILmr', 'DLmr', 'DLmw'):>9.1f} {code:>8.1f}", flush=True)
+        if each("Ir") > limit:
+            above.append(f"{name_of(kind)}: {each('Ir'):.0f} instructions an entry, limit {limit}")
+        if code > CODE_LIMIT:
+            above.append(f"{name_of(kind)}: {code:.1f} KB of code that one entry in ten runs through, limit {CODE_LIMIT}")
+    print("\n".join(f"above its limit: {it}" for it in above))
 
 
 def peak_of(pid):
@@ -118,37 +389,49 @@ def peak_of(pid):
 
 
 def measured(command):
-    """The text that a command writes, its seconds, and the most memory that it held."""
+    """The text that a command writes, its processor seconds, the most memory that it held, and its page faults."""
     with tempfile.TemporaryFile() as out:
-        start = time.perf_counter()
         process = subprocess.Popen(command, stdout=out, stderr=subprocess.STDOUT)
-        peak = 0
-        while process.poll() is None:
+        peak, ended = 0, 0
+        while not ended:
             # what it held a millisecond before its end counts as its most
             peak = max(peak, peak_of(process.pid))
             time.sleep(0.001)
-        seconds = time.perf_counter() - start
+            ended, status, usage = os.wait4(process.pid, os.WNOHANG)
+        process.returncode = os.waitstatus_to_exitcode(status)
         out.seek(0)
-        return out.read(100), seconds, peak
+        return out.read(100), usage.ru_utime + usage.ru_stime, peak, usage.ru_minflt
+
+
+def print_timed(program, folder, verb, kinds, size):
+    print(f"{verb:<18} {'entries':>8} {'MB':>7}   {'seconds':>8} {'entries/s':>10} {'MB/s':>7} {'peak MB':>8} {'faults/entry':>12}   "
+          f"{'cat: MB/s':>9} {'peak MB':>8}")
+    log = folder / "log"
+    for kind, share in kinds.items():
+        entries = write_log(log, kind, int(size * share))
+        megabytes = log.stat().st_size / 1e6
+        text, seconds, peak, faults = measured([program, verb, log])
+        if verb == "check":
+            check_legal(kind, entries, text)
+        _, others, cat_peak, _ = measured(["cat", log])
+        print(f"{name_of(kind):<18} {entries:>8} {megabytes:>7.2f}   {seconds:>8.3f} {entries / max(seconds, 1e-3):>10.0f} "
+              f"{megabytes / max(seconds, 1e-3):>7.2f} {peak / 1e3:>8.1f} {faults / entries:>12.3f}   "
+              f"{megabytes / max(others, 1e-3):>9.1f} {cat_peak / 1e3:>8.1f}", flush=True)
 
 
 def main():
     program, *sizes = sys.argv[1:]
-    print(f"{'log':<15} {'entries':>8} {'MB':>7}   {'seconds':>8} {'entries/s':>10} {'MB/s':>7} {'peak MB':>8}   "
-          f"{'cat: MB/s':>9} {'peak MB':>8}")
-    with tempfile.TemporaryDirectory() as folder:
-        log = Path(folder) / "log"
-        for size in sizes or ["10000", "100000"]:
-            for kind in KINDS:
-                entries = write_log(log, kind(int(size)))
-                megabytes = log.stat().st_size / 1e6
-                text, seconds, peak = measured([program, "check", str(log)])
-                if not text.startswith(f"legal entries {entries} ".encode()):
-                    sys.exit(f"{kind.__name__}: {text.decode()}")
-                _, others, cat_peak = measured(["cat", str(log)])
-                print(f"{kind.__name__.replace('_', ' '):<15} {entries:>8} {megabytes:>7.2f}   {seconds:>8.3f} "
-                      f"{entries / seconds:>10.0f} {megabytes / seconds:>7.2f} {peak / 1e3:>8.1f}   "
-                      f"{megabytes / others:>9.1f} {cat_peak / 1e3:>8.1f}", flush=True)
+    with tempfile.TemporaryDirectory() as name:
+        folder = Path(name)
+        if shutil.which("valgrind"):
+            print_counted(program, folder)
+        else:
+            print("not counted: there is no valgrind, which is a package of this name")
+        for size in map(int, sizes or ["10000", "100000"]):
+            print()
+            print_timed(program, folder, "check", {kind: 1 / 10 if kind is wide else 1 for kind in KINDS}, size)
+            print_timed(program, folder, "check", WORST, size)
+            print_timed(program, folder, "show", {calls: 1}, size)
 
 
 if __name__ == "__main__":

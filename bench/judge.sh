@@ -1,9 +1,13 @@
 #!/bin/sh
-# Makes logs of several kinds, and prints for each what `siptrace check` needs, and beside it what cat needs for the same file: entries
-# and MB a second, and the most memory that was held. With numbers, logs of about so many entries; else of 10,000 and of 100,000. To
-# measure on one processor, call it by taskset.
+# Makes logs of several kinds, and prints for each what `siptrace check` needs: counted by valgrind, where it is installed, with the limits that
+# are to be reached; and timed, beside what cat needs for the same file. With numbers, logs of about so many entries are timed; else of 10,000
+# and of 100,000. SIPTRACE names another program than the one of ./siptrace. To measure on one processor, call it by taskset.
 set -e
 unset CDPATH
-cd "$(dirname "$0")/../crates/siptrace"
-rt run <stdin >&2
-exec python3 ../../bench/judge.py ./out/siptrace "$@"
+if [ -n "$SIPTRACE" ]; then SIPTRACE=$(realpath -- "$SIPTRACE"); fi
+cd "$(dirname "$0")/.."
+if [ -z "$SIPTRACE" ]; then
+  ./siptrace <crates/siptrace/stdin >&2
+  SIPTRACE=$(bash -c 'source ./siptrace && find_sources && find_program && printf %s "$program"')
+fi
+exec python3 bench/judge.py "$SIPTRACE" "$@"

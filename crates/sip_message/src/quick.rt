@@ -11,7 +11,7 @@ ghost use Rattle.sip_message.specs.inner.Quick.{IsOpen, AreOrdinary, IsOrdinary}
 
 use crate::field::Field;
 use crate::kept::Kept;
-use crate::name::{Known, Name, read_name};
+use crate::name::{Known, Name, quick_name};
 use crate::row::{is_of_row, trim};
 use crate::start_line::{StartLine, read_start};
 use sip_masks::Masks;
@@ -130,9 +130,8 @@ fn ordinary_field<'a>(
     if len == 0 || len >= end - at || text[at + len] != b':' {
         return None;
     }
-    let colon = at + len;
-    let name = read_name(&text[at..colon]);
-    let Some(value) = trim(&text[colon + 1..end]) else {
+    let name = quick_name(&text[at..], len);
+    let Some(value) = trim(&text[at + len + 1..end]) else {
         return None;
     };
     if !is_ordinary_value(name, value, kept) {

@@ -5,6 +5,7 @@ pub mod Numbering
 pub mod Observing
 pub mod Showing
 pub mod Stepping
+pub mod Sweeping
 pub mod TablesTracking
 pub mod Tracking
 pub mod Walking

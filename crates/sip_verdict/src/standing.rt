@@ -3,11 +3,13 @@ ghost use Rattle.std.specs.Prelude.{◌≡◌, ◌≢◌, ◌≤◌, ◌<◌, �
 ghost use Rattle.std.specs.Option.{ForSome, option_copied};
 ghost use Rattle.sip_key.specs.Key.{KeyParts};
 ghost use Rattle.sip_machine.specs.Times.{last_moment};
+ghost use Rattle.sip_machine.specs.Texts.{Keeps};
 ghost use Rattle.sip_states.specs.Tables.{IsGiven, most_keys};
 ghost use Rattle.sip_log.specs.Log.{most_entries};
 ghost use Rattle.sip_log.specs.Spelling.{Item};
 ghost use Rattle.sip_log.specs.Told.{item};
-ghost use Rattle.sip_verdict.specs.Keyed.{Observation};
+ghost use Rattle.sip_verdict.specs.Keyed.{Observation, newest_moment};
+ghost use Rattle.sip_verdict.specs.Named.{AreMany, IsNamed, key_messages};
 ghost use Rattle.sip_verdict.specs.MessageReading.{key_machines, message_reading};
 ghost use Rattle.sip_verdict.specs.Listing.{first_entry};
 ghost use Rattle.sip_verdict.specs.ListingOf.{key_words};
@@ -79,6 +81,36 @@ impl<H: BuildHasher> Standing<H> {
         ensures { result ≡ length self.now.tables.keys }
     {
         self.tables.len()
+    }
+
+    /// How many messages are kept.
+    pub(crate) fn kept(&self) -> usize
+        ensures kept { result ≡ length self.now.book }
+        ensures few { (number : ℕ) → ((n : ℕ) → Keeps self.now.book n → n < number) → result ≤ number }
+    {
+        self.book.known();
+        self.book.len()
+    }
+
+    /// Lets the transactions wait until the moment, and forgets the messages that none of their states names then.
+    pub(crate) fn sweep(&mut self, alloc: Global, moment: u64) -> Result<(), AllocError>
+        requires may { MayPass self.old.book self.old.tables moment }
+        requires recorded { AllAreOnRecord self.old.tables }
+        ensures times { OnOk result (self.new.tables.times ≡ self.old.tables.times) }
+        ensures keys { OnOk result (self.new.tables.keys ≡ self.old.tables.keys) }
+        ensures may { OnOk result (MayPass self.new.book self.new.tables moment) }
+        ensures recorded { OnOk result (AllAreOnRecord self.new.tables) }
+        ensures fewer { OnOk result ((n : ℕ) → Keeps self.new.book n → Keeps self.old.book n) }
+        ensures tracks { OnOk result ((es : List (Observation KeyParts)) → TablesTrack self.old.book es self.old.tables → TablesTrack self.new.book es self.new.tables) }
+        ensures named { OnOk result ((es : List (Observation KeyParts)) → TablesTrack self.old.book es self.old.tables → newest_moment es ≡ moment
+            → AreMany (IsNamed (key_machines self.old.tables.times) key_messages es) (length self.new.book)) }
+    {
+        self.book.known();
+        self.tables.advance_all(moment)?;
+        let mut named = Vec::new(alloc);
+        self.tables.named(&mut named)?;
+        self.book.retain_only(&named);
+        Ok(())
     }
 
     /// Lets every transaction pass the entry, with the verdict if one is in trouble.

@@ -16,6 +16,8 @@ mod sets;
 #[cfg(test)]
 mod tables;
 #[cfg(test)]
+mod told;
+#[cfg(test)]
 mod toy;
 #[cfg(test)]
 mod width;

@@ -28,6 +28,8 @@ mod shows;
 #[cfg(test)]
 mod tests;
 #[cfg(test)]
+mod told;
+#[cfg(test)]
 mod verdicts;
 #[cfg(test)]
 mod widths;

@@ -18,6 +18,8 @@ mod sweep;
 #[cfg(test)]
 mod tables;
 #[cfg(test)]
+mod told;
+#[cfg(test)]
 mod toy;
 #[cfg(test)]
 mod width;

@@ -1,10 +1,10 @@
 //! The text of a state: its phase, and what is owed.
 use crate::fields::push_owes;
 use crate::told::Told;
-use sip_machine::Owing;
+use sip_machine::{Owing, Phase};
 use std::alloc::AllocError;
 
-impl<P: Told> Told for Owing<P> {
+impl<P: Told + Phase> Told for Owing<P> {
     ghost use Rattle.sip_machine.specs.Figure.{Owing as Holds};
     ghost use Rattle.sip_machine.specs.Owing.{owing_seen, owing_names};
     ghost use Rattle.sip_listing.specs.State.{owing_text};

@@ -29,7 +29,7 @@ pub data InviteClientPhase : Type 0 where
 abbrev pub timer_b : Times → ℕ
 timer_b p = 64 * p.t1
 
--- timer D, section 17.1.1.2: at least 32 seconds over an unreliable transport; over a reliable one it is 0
+-- timer D, section 17.1.1.2: at least 32 seconds over an unreliable transport, and 0 over a reliable one
 abbrev pub timer_d : ℕ
 timer_d = 32000
 
@@ -43,8 +43,7 @@ give_up p = 64 * p.t1
 
 -- the rows of a received response
 abbrev pub Receives : Times → InviteClientPhase → Kind → Heard → After InviteClientPhase → Type 0
--- 17.1.1.2: a provisional one leads to proceeding, and stops timers A and B; RFC 6026 section 7.2: a 2xx leads to accepted, and starts timer M;
--- 17.1.1.2: any other leads to completed, and starts timer D; an ACK for it must be sent
+-- 17.1.1.2: a provisional one stops timers A and B; RFC 6026: a 2xx starts timer M; 17.1.1.2: any other starts timer D, and is owed an ACK
 Receives p (Calling w) (Response code) e y =
     (IsProvisional code × (y ≡ (Proceeding w.reliable w.request None, keeps)))
     ⊎ (IsSuccess code × (y ≡ (Accepted e.moment, keeps)))
@@ -53,8 +52,7 @@ Receives p (Proceeding reliable request cancel) (Response code) e y =
     (IsSuccess code × (y ≡ (Accepted e.moment, keeps)))
     ⊎ (IsUnsuccessful code × (y ≡ (Completed reliable request e.moment, gains true e.text)))
 -- 17.1.1.2: an ACK must be sent for each one that comes in again too, and timer D stays
-Receives p (Completed reliable request set) (Response code) e y =
-    IsUnsuccessful code × (y ≡ (Completed reliable request set, gains true e.text))
+Receives p (Completed reliable request set) (Response code) e y = IsUnsuccessful code × (y ≡ (Completed reliable request set, gains true e.text))
 Receives p x k e y = ⊥
 
 -- the rows of a sent request
@@ -88,8 +86,7 @@ ends_refused x (Request Invite) = true
 ends_refused (Completed reliable request set) (Request Ack) = true
 ends_refused x k = false
 
--- when the timers of a phase let it end: timers B and M; giving up, only behind a CANCEL, and then from 64*T1 on, section 9.1; timer D, which is
--- at least 32 seconds over an unreliable transport, and 0 over a reliable one, section 17.1.1.2
+-- when the timers of a phase let it end: timers B and M; giving up behind a CANCEL, section 9.1; timer D, which has no last moment where it runs
 abbrev pub timer_window : Times → InviteClientPhase → Option (ℕ × Option ℕ)
 timer_window p (Calling w) = window_at p w.start (timer_b p)
 timer_window p (Proceeding reliable request (Some first)) = Some (open_at p first (give_up p), None)
@@ -107,16 +104,7 @@ closes p x = []
 -- the figure of the INVITE client
 abbrev pub invite_client : Figure InviteClientPhase
 invite_client =
-    record {
-      idle = Idle;
-      ended = Ended;
-      Receives = Receives;
-      Sends = Sends;
-      Satisfies = Satisfies;
-      ends_refused = ends_refused;
-      window = timer_window;
-      closes = closes;
-    }
+    record { idle = Idle; ended = Ended; Receives = Receives; Sends = Sends; Satisfies = Satisfies; ends_refused = ends_refused; window = timer_window; closes = closes }
 
 -- The phases of the code, whose messages are numbers of a book.
 

@@ -30,8 +30,7 @@ timer_f p = 64 * p.t1
 abbrev pub timer_k : Times → Bool → ℕ
 timer_k p reliable = if reliable then 0 else p.t4
 
--- the rows of a received response: a provisional one leads to proceeding, and leaves timer E as it is; a final one leads to completed, and
--- starts timer K
+-- the rows of a received response: a provisional one leaves timer E as it is, and a final one starts timer K
 abbrev pub Receives : Times → PlainClientPhase → Kind → Heard → After PlainClientPhase → Type 0
 Receives p (Trying w) (Response code) e y =
     (IsProvisional code × (y ≡ (Proceeding w, keeps))) ⊎ (IsFinal code × (y ≡ (Completed w.reliable e.moment, keeps)))
@@ -65,16 +64,7 @@ closes p x = []
 -- the figure of the non-INVITE client: it owes nothing, and a refused request ends it, section 17.1.4
 abbrev pub plain_client : Figure PlainClientPhase
 plain_client =
-    record {
-      idle = Idle;
-      ended = Ended;
-      Receives = Receives;
-      Sends = Sends;
-      Satisfies = λ x k e message. ⊥;
-      ends_refused = λ x k. true;
-      window = timer_window;
-      closes = closes;
-    }
+    record { idle = Idle; ended = Ended; Receives = Receives; Sends = Sends; Satisfies = λ x k e message. ⊥; ends_refused = λ x k. true; window = timer_window; closes = closes }
 
 -- The phases of the code, whose messages are numbers of a book.
 

@@ -13,13 +13,14 @@ ghost use Rattle.sip_machine.specs.InviteClient.{Sends, timer_b, timer_m, give_u
 mod acks;
 
 use crate::book::Book;
+use crate::debts::BoxedDebts;
 use crate::event::{Event, Kind, Method, is_provisional, is_success, is_unsuccessful};
 use crate::invite_client::acks::first_acked;
 use crate::owes::Owes;
 use crate::owing::Owing;
-use sip_times::Params;
-use crate::phases::{Change, Phases, Turn};
+use crate::phases::{Change, Phase, Phases, Turn};
 use crate::waiting::Waiting;
+use sip_times::Params;
 use std::alloc::{AllocError, Global};
 use std::marker::Model;
 
@@ -40,7 +41,9 @@ pub enum InviteClientPhase {
         cancel: Option<u64>,
     },
     /// A success came at the moment `set`, which starts timer M.
-    Accepted { set: u64 },
+    Accepted {
+        set: u64,
+    },
     /// Another final response came at the moment `set`, which starts timer D. It and each one that
     /// came after it are owed an ACK until that is sent.
     Completed {
@@ -49,6 +52,10 @@ pub enum InviteClientPhase {
         set: u64,
     },
     Ended,
+}
+
+impl Phase for InviteClientPhase {
+    type Debts = BoxedDebts;
 }
 
 /// A state of the INVITE client transaction: its phase, and the responses for which it owes an ACK.
@@ -158,7 +165,9 @@ impl Phases for InviteClient {
                 change: Change::Keeps,
             },
             InviteClientPhase::Proceeding {
-                reliable, request, ..
+                reliable,
+                request,
+                ..
             } if is_unsuccessful(code) => Turn {
                 phase: InviteClientPhase::Completed {
                     reliable,
@@ -212,7 +221,7 @@ impl Phases for InviteClient {
         book: &Book,
         phase: &InviteClientPhase,
         event: &Event,
-        owes: &mut Owes,
+        owes: &mut Owes<InviteClientPhase>,
     ) -> Result<bool, AllocError> {
         let Kind::Request(Method::Ack) = event.kind() else {
             return Ok(false);

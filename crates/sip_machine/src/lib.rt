@@ -2,6 +2,7 @@
 #![tactic(auto)]
 
 mod book;
+mod debts;
 mod event;
 mod invite_client;
 mod invite_server;
@@ -21,6 +22,7 @@ mod retransmits;
 mod waiting;
 
 pub use book::Book;
+pub use debts::{BoxedDebts, Debts, NoDebts};
 pub use event::{Event, Kind, Method};
 pub use invite_client::{InviteClient, InviteClientPhase, InviteClientState};
 pub use invite_server::{InviteServer, InviteServerPhase, InviteServerState};
@@ -28,7 +30,7 @@ pub use machine::Machine;
 pub use outbox::{Debt, Outbox, Run};
 pub use owes::Owes;
 pub use owing::Owing;
-pub use phases::{Change, Phases, Turn};
+pub use phases::{Change, Phase, Phases, Turn};
 pub use plain_client::{PlainClient, PlainClientPhase, PlainClientState};
 pub use plain_server::{PlainServer, PlainServerPhase, PlainServerState};
 pub use sip_times::{Action, Params};

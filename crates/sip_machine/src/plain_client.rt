@@ -3,12 +3,13 @@ ghost use Rattle.std.specs.Prelude.{◌≡◌, ◌≤◌};
 ghost use Rattle.sip_machine.specs.PlainClient.{timer_f, timer_k};
 
 use crate::book::Book;
+use crate::debts::NoDebts;
 use crate::event::{Event, Kind, is_final, is_provisional};
 use crate::owes::Owes;
 use crate::owing::Owing;
-use sip_times::Params;
-use crate::phases::{Change, Phases, Turn};
+use crate::phases::{Change, Phase, Phases, Turn};
 use crate::waiting::Waiting;
+use sip_times::Params;
 use std::alloc::{AllocError, Global};
 use std::marker::Model;
 
@@ -24,6 +25,10 @@ pub enum PlainClientPhase {
     /// A final response came at the moment `set`, which starts timer K.
     Completed { reliable: bool, set: u64 },
     Ended,
+}
+
+impl Phase for PlainClientPhase {
+    type Debts = NoDebts;
 }
 
 /// A state of the non-INVITE client transaction: its phase. It owes nothing.
@@ -168,7 +173,7 @@ impl Phases for PlainClient {
         _book: &Book,
         _phase: &PlainClientPhase,
         _event: &Event,
-        _owes: &mut Owes,
+        _owes: &mut Owes<PlainClientPhase>,
     ) -> Result<bool, AllocError> {
         Ok(false)
     }

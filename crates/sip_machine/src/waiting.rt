@@ -9,8 +9,8 @@ ghost use Rattle.sip_machine.specs.Waiting.{waiting_closes, waiting_seen, Waitin
 use crate::book::Book;
 use crate::event::Event;
 use crate::limit::earlier;
-use sip_times::Params;
 use crate::retransmits::retransmits;
+use sip_times::Params;
 
 /// A request that waits for its response. Moments and intervals are in milliseconds.
 #[derive(Clone, Copy, Debug, PartialEq, Eq, PartialOrd, Ord)]
@@ -37,7 +37,15 @@ impl Waiting {
             Retransmits params.now self.now.reliable (text_of book.now self.now.request) self.now.set self.now.interval
             (heard book.now event.now) }
     {
-        retransmits(params, book, self.reliable, self.request, self.set, self.interval, event)
+        retransmits(
+            params,
+            book,
+            self.reliable,
+            self.request,
+            self.set,
+            self.interval,
+            event,
+        )
     }
 
     /// The last moment of its timers: B or F, which was set for so long, and A or E over an unreliable transport.

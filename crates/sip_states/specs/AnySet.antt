@@ -1,13 +1,27 @@
 -- A set of states of one of the machines.
-use Rattle.std.specs.Prelude.{◌≡◌, ℕ, Option, [], ◌∷◌}
+use Rattle.std.specs.Prelude.{◌≡◌, ℕ, Option, List, [], ◌∷◌}
 use Rattle.sip_key.specs.Key.{KeyParts}
 use Rattle.sip_machine.specs.declared.owing.Owing.{Owing as CodeOwing}
+use Rattle.sip_machine.specs.declared.debts.NoDebts.{NoDebts}
+use Rattle.sip_machine.specs.declared.outbox.Debt.{Debt}
+use Rattle.sip_machine.specs.declared.invite_client.InviteClientPhase.{InviteClientPhase}
+use Rattle.sip_machine.specs.declared.invite_client.InviteClientPhase.TheVariants as invite_client
+use Rattle.sip_machine.specs.declared.plain_client.PlainClientPhase.{PlainClientPhase}
+use Rattle.sip_machine.specs.declared.plain_client.PlainClientPhase.TheVariants as plain_client
+use Rattle.sip_machine.specs.declared.invite_server.InviteServerPhase.{InviteServerPhase}
+use Rattle.sip_machine.specs.declared.invite_server.InviteServerPhase.TheVariants as invite_server
+use Rattle.sip_machine.specs.declared.plain_server.PlainServerPhase.{PlainServerPhase}
+use Rattle.sip_machine.specs.declared.plain_server.PlainServerPhase.TheVariants as plain_server
 use Rattle.sip_machine.specs.Times.{Times}
 use Rattle.sip_machine.specs.Texts.{Texts}
 use Rattle.sip_machine.specs.NumberedEvent.{NumberedEvent}
 use Rattle.sip_machine.specs.Figure.{rules_of as rules_of_figure, until_of}
 use Rattle.sip_machine.specs.Owing.{owing_seen, owing_names, OwingInRange}
-use Rattle.sip_machine.specs.Transaction.{idle_state, ended_state}
+use Rattle.sip_machine.specs.Transaction.{Coded, idle_state, ended_state}
+use Rattle.sip_machine.specs.InviteClient.{invite_client_seen, invite_client_names, InviteClientInRange}
+use Rattle.sip_machine.specs.PlainClient.{plain_client_seen, plain_client_names, PlainClientInRange}
+use Rattle.sip_machine.specs.InviteServer.{invite_server_seen, invite_server_names, InviteServerInRange}
+use Rattle.sip_machine.specs.PlainServer.{plain_server_seen, plain_server_names, PlainServerInRange}
 use Rattle.sip_states.specs.Runs.{IsWide}
 use Rattle.sip_states.specs.Held.{Held}
 use Rattle.sip_states.specs.KeyMachine.{MachineKind, OfInviteClient, OfPlainClient, OfInviteServer, OfPlainServer, machine_of_key, transaction, PhaseOf}
@@ -15,21 +29,65 @@ use Rattle.sip_states.specs.Meaning.{Meaning, IsKeptBy, IsKnown, Given, HasWaite
 use Rattle.sip_states.specs.declared.any_set.AnySet.{AnySet}
 use Rattle.sip_states.specs.declared.any_set.AnySet.TheVariants.{InviteClient, PlainClient, InviteServer, PlainServer}
 
+-- how the code has each machine
+abbrev pub coded : (machine : MachineKind) → Coded (transaction machine).Phase
+coded OfInviteClient =
+    record {
+      Code = InviteClientPhase;
+      Debts = List Debt;
+      seen = invite_client_seen;
+      names = invite_client_names;
+      InRange = InviteClientInRange;
+      idle = invite_client.Idle;
+      ended = invite_client.Ended;
+    }
+coded OfPlainClient =
+    record {
+      Code = PlainClientPhase;
+      Debts = NoDebts;
+      seen = plain_client_seen;
+      names = plain_client_names;
+      InRange = PlainClientInRange;
+      idle = plain_client.Idle;
+      ended = plain_client.Ended;
+    }
+coded OfInviteServer =
+    record {
+      Code = InviteServerPhase;
+      Debts = List Debt;
+      seen = invite_server_seen;
+      names = invite_server_names;
+      InRange = InviteServerInRange;
+      idle = invite_server.Idle;
+      ended = invite_server.Idle;
+    }
+coded OfPlainServer =
+    record {
+      Code = PlainServerPhase;
+      Debts = List Debt;
+      seen = plain_server_seen;
+      names = plain_server_names;
+      InRange = PlainServerInRange;
+      idle = plain_server.Idle;
+      ended = plain_server.Idle;
+    }
+
 -- the states of each machine as the code has them
 abbrev pub StateOf : MachineKind → Type 0
-StateOf machine = CodeOwing (transaction machine).Code
+StateOf machine = CodeOwing (coded machine).Code (coded machine).Debts
 
 -- what they mean
 abbrev pub meaning_of : (machine : MachineKind) → Meaning (PhaseOf machine) Times (StateOf machine)
 meaning_of machine =
-    let t = transaction machine in
+    let figure = (transaction machine).figure in
+    let c = coded machine in
     record {
-      names = owing_names t.names;
-      seen = owing_seen t.seen;
-      in_range = OwingInRange t.InRange;
-      rules = rules_of_figure t.figure;
-      until = λ p x. until_of t.figure p (owing_seen t.seen [] x);
-      ended = λ p. ended_state t;
+      names = owing_names c.names;
+      seen = owing_seen c.seen;
+      in_range = OwingInRange c.InRange;
+      rules = rules_of_figure figure;
+      until = λ p x. until_of figure p (owing_seen c.seen [] x);
+      ended = λ p. ended_state c;
     }
 
 -- a set of this machine
@@ -101,10 +159,10 @@ IsAgendaOf limit set = OfSet (λ X M S m s. HasAgenda m limit s) set
 
 -- the set that a machine starts with: its first state, at moment 0
 abbrev pub start_of_machine : Times → MachineKind → AnySet
-start_of_machine p OfInviteClient = InviteClient (record { machine = p; moment = 0; states = idle_state (transaction OfInviteClient) ∷ [] })
-start_of_machine p OfPlainClient = PlainClient (record { machine = p; moment = 0; states = idle_state (transaction OfPlainClient) ∷ [] })
-start_of_machine p OfInviteServer = InviteServer (record { machine = p; moment = 0; states = idle_state (transaction OfInviteServer) ∷ [] })
-start_of_machine p OfPlainServer = PlainServer (record { machine = p; moment = 0; states = idle_state (transaction OfPlainServer) ∷ [] })
+start_of_machine p OfInviteClient = InviteClient (record { machine = p; moment = 0; states = idle_state (coded OfInviteClient) ∷ [] })
+start_of_machine p OfPlainClient = PlainClient (record { machine = p; moment = 0; states = idle_state (coded OfPlainClient) ∷ [] })
+start_of_machine p OfInviteServer = InviteServer (record { machine = p; moment = 0; states = idle_state (coded OfInviteServer) ∷ [] })
+start_of_machine p OfPlainServer = PlainServer (record { machine = p; moment = 0; states = idle_state (coded OfPlainServer) ∷ [] })
 
 -- the set that a key starts with
 abbrev pub start_of : Times → KeyParts → AnySet

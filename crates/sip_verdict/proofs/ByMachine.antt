@@ -15,7 +15,7 @@ use Rattle.sip_machine.specs.inner.PlainServerLaws.{plain_server_is_figure, plai
 use Rattle.sip_states.specs.Held.{Held}
 use Rattle.sip_states.specs.KeyMachine.{MachineKind, OfInviteClient, OfPlainClient, OfInviteServer, OfPlainServer, transaction, PhaseOf, rules_of}
 use Rattle.sip_states.specs.Meaning.{Meaning}
-use Rattle.sip_states.specs.AnySet.{StateOf, meaning_of, set_of, OfSet, OfSets, moment_of, start_of_machine}
+use Rattle.sip_states.specs.AnySet.{coded, StateOf, meaning_of, set_of, OfSet, OfSets, moment_of, start_of_machine}
 use Rattle.sip_states.specs.declared.any_set.AnySet.{AnySet}
 use Rattle.sip_states.specs.declared.any_set.AnySet.TheVariants.{InviteClient, PlainClient, InviteServer, PlainServer}
 
@@ -27,15 +27,15 @@ is_figure OfInviteServer = invite_server_is_figure
 is_figure OfPlainServer = plain_server_is_figure
 
 -- its phases stand for the same beside any book that has the messages that they name
-phase_by_names : (machine : MachineKind) (a b : Texts) (x : (transaction machine).Code) →
-    ((n : ℕ) → Contains ((transaction machine).names x) n → text_of a n ≡ text_of b n) → (transaction machine).seen a x ≡ (transaction machine).seen b x
+phase_by_names : (machine : MachineKind) (a b : Texts) (x : (coded machine).Code) →
+    ((n : ℕ) → Contains ((coded machine).names x) n → text_of a n ≡ text_of b n) → (coded machine).seen a x ≡ (coded machine).seen b x
 phase_by_names OfInviteClient a b x h = invite_client_by_names a b x h
 phase_by_names OfPlainClient a b x h = plain_client_by_names a b x h
 phase_by_names OfInviteServer a b x h = invite_server_by_names a b x h
 phase_by_names OfPlainServer a b x h = plain_server_by_names a b x h
 
 -- its idle phase stands for that of the figure
-idle_is : (machine : MachineKind) (texts : Texts) → (transaction machine).seen texts (transaction machine).idle ≡ (transaction machine).figure.idle
+idle_is : (machine : MachineKind) (texts : Texts) → (coded machine).seen texts (coded machine).idle ≡ (transaction machine).figure.idle
 idle_is OfInviteClient texts = refl
 idle_is OfPlainClient texts = refl
 idle_is OfInviteServer texts = refl
@@ -52,15 +52,15 @@ lawful_of machine p = rules_lawful (transaction machine).figure (is_figure machi
 -- a state stands for the same beside any book that has the messages that it names
 pub seen_by_names_of : (machine : MachineKind) (a b : Texts) (x : StateOf machine)
     → ((n : ℕ) → Contains ((meaning_of machine).names x) n → text_of a n ≡ text_of b n) → (meaning_of machine).seen a x ≡ (meaning_of machine).seen b x
-seen_by_names_of machine a b x h = owing_by_names (transaction machine).names (transaction machine).seen a b (phase_by_names machine a b) x h
+seen_by_names_of machine a b x h = owing_by_names (coded machine).names (coded machine).seen a b (phase_by_names machine a b) x h
 
 -- the first state
 abbrev pub first_of : (machine : MachineKind) → StateOf machine
-first_of machine = idle_state (transaction machine)
+first_of machine = idle_state (coded machine)
 
 pub first_is_of : (machine : MachineKind) (texts : Texts) (p : Times) → (meaning_of machine).seen texts (first_of machine) ≡ ((meaning_of machine).rules p).first
 first_is_of machine texts p =
-    quiet_stands (transaction machine).seen texts (transaction machine).idle (transaction machine).figure.idle (idle_is machine texts)
+    quiet_stands (coded machine).seen texts (coded machine).idle (transaction machine).figure.idle (idle_is machine texts)
 
 -- it names no message
 pub first_knows : (machine : MachineKind) (texts : Texts) → Knows (meaning_of machine).names texts (first_of machine)

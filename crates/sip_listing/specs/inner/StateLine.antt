@@ -10,12 +10,12 @@ use Rattle.sip_listing.specs.State.{owing_text}
 use Rattle.sip_listing.specs.inner.FieldLaws.{debts_fields, debts_told}
 
 -- the text of a state of the code, by its numbers
-abbrev pub owing_line : {S : Type 0} → (S → List ℕ) → Owing S → List ℕ
+abbrev pub owing_line : {S D : Type 0} → (S → List ℕ) → Owing S D → List ℕ
 owing_line line x = line x.phase ++ debts_fields x.owes
 
 -- it is that of what the state stands for, if that of its phase is
-pub owing_told : {S X : Type 0} (seen : Texts → S → X) (names : S → List ℕ) (text : (List ℕ → ℕ) → X → List ℕ) (line : S → List ℕ) →
-    (number : List ℕ → ℕ) (texts : Texts) (x : Owing S) →
+pub owing_told : {S D X : Type 0} (seen : Texts → S → X) (names : S → List ℕ) (text : (List ℕ → ℕ) → X → List ℕ) (line : S → List ℕ) →
+    (number : List ℕ → ℕ) (texts : Texts) (x : Owing S D) →
     (Tells number texts (names x.phase) → text number (seen texts x.phase) ≡ line x.phase) → Tells number texts (owing_names names x) →
     owing_text text number (owing_seen seen texts x) ≡ owing_line line x
 owing_told seen names text line number texts x phase told =

@@ -184,7 +184,7 @@ sent p Idle (Request Ack) e y running h = rw h running
 sent p Idle (Request Cancel) e y running h = rw h running
 sent p Idle (Request Other) e y running h = absurd h
 sent p Idle (Response code) e y running h = absurd h
-sent p (Calling w) (Request Invite) e y running h = 
+sent p (Calling w) (Request Invite) e y running h =
     rw h.1 (repeat_starts p e.moment (close_at p w.start (timer_b p)) (2 * w.interval) w.reliable (patience_lasts p w e.moment (timer_b p) running))
 sent p (Calling w) (Request Ack) e y running h = absurd h
 sent p (Calling w) (Request Cancel) e y running h = absurd h

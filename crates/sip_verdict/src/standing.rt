@@ -3,11 +3,11 @@ ghost use Rattle.std.specs.Prelude.{◌≡◌, ◌≢◌, ◌≤◌, ◌<◌, �
 ghost use Rattle.std.specs.Option.{ForSome, option_copied};
 ghost use Rattle.sip_key.specs.Key.{KeyParts};
 ghost use Rattle.sip_machine.specs.Times.{last_moment};
-ghost use Rattle.sip_machine.specs.Texts.{Keeps};
 ghost use Rattle.sip_states.specs.Tables.{IsGiven, Tabled, most_keys};
 ghost use Rattle.sip_log.specs.Log.{most_entries};
 ghost use Rattle.sip_log.specs.Spelling.{Item};
 ghost use Rattle.sip_log.specs.Told.{item};
+ghost use Rattle.sip_machine.specs.Texts.{Keeps};
 ghost use Rattle.sip_verdict.specs.Keyed.{Observation, newest_moment};
 ghost use Rattle.sip_verdict.specs.Named.{AreMany, IsNamed, key_messages};
 ghost use Rattle.sip_verdict.specs.MessageReading.{key_machines, message_reading};

@@ -5,14 +5,15 @@ ghost use Rattle.sip_machine.specs.Naming.{AppendsAll};
 
 use crate::outbox::Run;
 use crate::owes::Owes;
+use crate::phases::Phase;
 use std::alloc::{AllocError, Global};
 
 /// Appends the number of a message, if there is one, and those of what is owed, each at least once. On
 /// an error the vector is as before.
-pub(crate) fn push_names(
+pub(crate) fn push_names<P: Phase>(
     out: &mut Vec<u32>,
     message: Option<u32>,
-    owes: &Owes,
+    owes: &Owes<P>,
 ) -> Result<(), AllocError>
     ensures ok { OnOk result (AppendsAll (option_to_list message ++ owes_names owes.now) out.old.items out.new.items) }
     ensures err { OnErr result (out.new.items ≡ out.old.items) }

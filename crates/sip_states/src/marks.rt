@@ -8,7 +8,7 @@ use std::marker::Model;
 
 /// Which of the indices are marked. Those stand first in `order`, which has every index once; `places` tells
 /// where each stands. So an index is marked, and taken off, in few steps and without memory.
-#[derive(Drop)]
+#[derive(Debug, Drop)]
 pub(crate) struct Marks {
     order: Vec<u32>,
     places: Vec<u32>,

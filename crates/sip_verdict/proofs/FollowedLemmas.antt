@@ -1,6 +1,6 @@
 -- Messages and sets that follow entries, with one entry more, and behind a sweep.
-use Rattle.std.proofs.Common.{◌≡◌, ◌<◌, ◌≤◌, ◌+◌, ◌*◌, ◌∙◌, ℕ, zero, suc, Option, Some, None, MatchOption, List, [], ◌∷◌, ◌++◌, AllPairs, length, get_or, refl, sym, ap, subst, append_assoc, arith}
-use Rattle.std.proofs.lemmas.List.{append-nil, length-map}
+use Rattle.std.proofs.Common.{◌≡◌, ◌<◌, ◌≤◌, ◌+◌, ◌∙◌, ℕ, zero, suc, Option, Some, None, MatchOption, List, [], ◌∷◌, ◌++◌, AllPairs, length, get_or, refl, sym, ap, subst, append_assoc, arith}
+use Rattle.std.proofs.lemmas.List.{append-nil}
 use Rattle.std.proofs.lemmas.List.Elements.{Contains-get_or}
 use Rattle.std.proofs.lemmas.Slice.Zip.{firsts-zip}
 use Rattle.sip_key.specs.declared.role.Direction.{Direction}

@@ -1,8 +1,7 @@
 -- What the sets of tables name once they have waited is what is named in the log.
-use Rattle.std.proofs.Common.{◌≡◌, ◌≢◌, ◌≤◌, ◌<◌, ◌↔◌, ◌⊎◌, inl, inr, ℕ, Bool, true, false, None, Some, List, [], ◌∷◌, All, AllPairs, Contains, map, length, slice_get, get_or, refl, sym, ap, ◌∙◌, subst, arith}
+use Rattle.std.proofs.Common.{◌≡◌, ◌≤◌, ◌<◌, ◌↔◌, ◌⊎◌, inl, inr, ℕ, Bool, true, false, Some, List, [], All, AllPairs, Contains, map, length, slice_get, get_or, refl, sym, ap, ◌∙◌, subst, arith}
 use Rattle.std.specs.List.{flat_map, list_any}
 use Rattle.std.proofs.lemmas.List.{length-map, get_or-map}
-use Rattle.std.proofs.lemmas.List.Elements.{All-contains, Contains-get_or}
 use Rattle.std.proofs.lemmas.Option.{slice_get_within, get_or_from_slice_get, slice_get-get_or}
 use Rattle.sip_key.specs.Key.{KeyParts, same_key}
 use Rattle.sip_key.specs.inner.KeyLaws.{same_key-decides}
@@ -15,7 +14,7 @@ use Rattle.sip_machine.proofs.RetainLemmas.{length-only}
 use Rattle.sip_states.specs.Runs.{Wait, Run}
 use Rattle.sip_states.specs.Held.{Held}
 use Rattle.sip_states.specs.KeyMachine.{MachineKind, OfInviteClient, OfPlainClient, OfInviteServer, OfPlainServer, PhaseOf, rules_of, machine_of_key}
-use Rattle.sip_states.specs.Meaning.{Meaning, HasWaited}
+use Rattle.sip_states.specs.Meaning.{HasWaited}
 use Rattle.sip_states.specs.AnySet.{StateOf, meaning_of, moment_of, Waits}
 use Rattle.sip_states.specs.Sweep.{numbers_of, IsAdvanced}
 use Rattle.sip_states.specs.Tables.{Tabled}

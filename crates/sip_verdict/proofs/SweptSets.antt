@@ -1,26 +1,22 @@
 -- A sweep: sets wait, and the book keeps what they name. They still lead to the same runs, and their last moments stay.
-use Rattle.std.proofs.Common.{◌≡◌, ◌≢◌, ◌≤◌, ◌<◌, ◌↔◌, ◌⊎◌, inl, inr, ℕ, Option, Some, None, List, [], ◌∷◌, All, AllPairs, Contains, map, length, slice_get, get_or, refl, sym, ap, ◌∙◌, subst, arith}
+use Rattle.std.proofs.Common.{◌≡◌, ◌≤◌, ◌<◌, ◌↔◌, ◌⊎◌, inl, inr, ℕ, Option, List, All, AllPairs, Contains, map, get_or, refl, sym, ap, ◌∙◌, subst, arith}
 use Rattle.std.specs.List.{flat_map}
-use Rattle.std.proofs.lemmas.List.Elements.{All-contains, All-from_get_or, Contains-get_or}
-use Rattle.std.proofs.lemmas.Option.{slice_get_within, get_or_from_slice_get, slice_get-get_or}
-use Rattle.sip_key.specs.Key.{KeyParts}
+use Rattle.std.proofs.lemmas.List.Elements.{Contains-get_or}
 use Rattle.sip_machine.specs.Times.{Times}
 use Rattle.sip_machine.specs.Texts.{Texts, IsBook, Keeps, text_of}
 use Rattle.sip_machine.specs.Retained.{only}
 use Rattle.sip_machine.specs.Heard.{Heard}
 use Rattle.sip_machine.specs.Limits.{IsWithin, IsOpenAt}
-use Rattle.sip_machine.specs.Rules.{Rules, IsLawful, Waits as StaysUntil, Hide, StandFor, Knows}
+use Rattle.sip_machine.specs.Rules.{Rules, IsLawful, StandFor}
 use Rattle.sip_machine.specs.inner.InviteClientLaws.{invite_client_window_same, invite_client_closes_same}
 use Rattle.sip_machine.specs.inner.PlainClientLaws.{plain_client_window_same, plain_client_closes_same}
 use Rattle.sip_machine.specs.inner.InviteServerLaws.{invite_server_window_same, invite_server_closes_same}
 use Rattle.sip_machine.specs.inner.PlainServerLaws.{plain_server_window_same, plain_server_closes_same}
 use Rattle.sip_machine.specs.inner.OwingLaws.{window_same, until_same}
-use Rattle.sip_machine.proofs.RuleLaws.{AgreeOn}
 use Rattle.sip_machine.proofs.RetainLemmas.{only-Keeps, text_of-only}
-use Rattle.sip_states.specs.Runs.{Wait, Run, IsAgenda}
-use Rattle.sip_states.specs.Held.{Held}
+use Rattle.sip_states.specs.Runs.{Wait, IsAgenda}
 use Rattle.sip_states.specs.KeyMachine.{MachineKind, OfInviteClient, OfPlainClient, OfInviteServer, OfPlainServer, transaction}
-use Rattle.sip_states.specs.Meaning.{Meaning, IsKnown, HasWaited, HasAgenda}
+use Rattle.sip_states.specs.Meaning.{IsKnown, HasWaited, HasAgenda}
 use Rattle.sip_states.specs.AnySet.{StateOf, meaning_of, moment_of, Waits, IsKnownSet, IsAgendaOf}
 use Rattle.sip_states.specs.Sweep.{numbers_of, IsAdvanced}
 use Rattle.sip_states.specs.declared.any_set.AnySet.{AnySet}

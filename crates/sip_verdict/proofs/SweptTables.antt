@@ -1,17 +1,15 @@
 -- A sweep of the tables and the book.
-use Rattle.std.proofs.Common.{◌≡◌, ◌≢◌, ◌≤◌, ◌<◌, ◌↔◌, ◌⊎◌, inl, inr, ℕ, true, false, Option, Some, None, List, [], ◌∷◌, ◌++◌, All, AllPairs, Contains, map, length, slice_get, get_or, refl, sym, ap, ◌∙◌, subst, arith}
+use Rattle.std.proofs.Common.{◌≡◌, ◌≤◌, ◌<◌, ◌↔◌, inl, inr, ℕ, false, Option, Some, None, List, [], ◌++◌, All, AllPairs, Contains, map, length, slice_get, get_or, sym, ap, ◌∙◌, subst, arith}
 use Rattle.std.specs.List.{flat_map}
 use Rattle.std.proofs.lemmas.List.Elements.{All-contains, Contains-get_or}
 use Rattle.std.proofs.lemmas.Option.{slice_get_within, get_or_from_slice_get, slice_get-get_or}
 use Rattle.sip_key.specs.Key.{KeyParts}
-use Rattle.sip_machine.specs.Times.{Times}
 use Rattle.sip_machine.specs.Texts.{Texts, IsBook, Keeps}
 use Rattle.sip_machine.specs.Retained.{only}
 use Rattle.sip_machine.specs.Rules.{Knows}
 use Rattle.sip_machine.proofs.RetainLemmas.{only-Keeps}
-use Rattle.sip_states.specs.Held.{Held}
-use Rattle.sip_states.specs.KeyMachine.{MachineKind, machine_of_key}
-use Rattle.sip_states.specs.Meaning.{Meaning, HasWaited, IsKnown}
+use Rattle.sip_states.specs.KeyMachine.{machine_of_key}
+use Rattle.sip_states.specs.Meaning.{HasWaited, IsKnown}
 use Rattle.sip_states.specs.AnySet.{meaning_of, moment_of, Waits, IsKnownSet}
 use Rattle.sip_states.specs.Sweep.{numbers_of, IsAdvanced, AdvancesAll, AppendsNamed}
 use Rattle.sip_states.specs.Tables.{Tabled}
@@ -20,7 +18,7 @@ use Rattle.sip_states.proofs.Listed.{Contains-none}
 use Rattle.sip_verdict.specs.Keyed.{Observation, events_of}
 use Rattle.sip_verdict.specs.MessageReading.{key_machines}
 use Rattle.sip_verdict.specs.inner.Tracking.{IsReady, Tracks}
-use Rattle.sip_verdict.specs.inner.TablesTracking.{key_keeping, transactions_of, TablesTrack, MayPass, IsOnRecord, AreOnRecord, AllAreOnRecord}
+use Rattle.sip_verdict.specs.inner.TablesTracking.{key_keeping, transactions_of, TablesTrack, MayPass, IsOnRecord, AllAreOnRecord}
 use Rattle.sip_verdict.proofs.ByMachine.{some_machine, moment_is, of_set, to_set, of_sets}
 use Rattle.sip_verdict.proofs.TablesPassing.{at_place, All-place, All-places, zip-place, place-zip, keys_are}
 use Rattle.sip_verdict.proofs.NamedLemmas.{numbers_are, Contains-flat_map, Contains-from_flat_map}

@@ -1,4 +1,4 @@
-use Rattle.std.proofs.Common.{◌≡◌, ◌∙◌, IfSome, refl, sym, ap, subst, arith}
+use Rattle.std.proofs.Common.{◌∙◌, IfSome, refl, sym, subst, arith}
 use Rattle.sip_log.specs.Reading as log
 use Rattle.sip_log.specs.Reading.{reading}
 use Rattle.sip_verdict.specs.VerdictOf.{IsVerdictOf}

@@ -1,5 +1,4 @@
-use Rattle.std.proofs.Common.{◌≡◌, ◌+◌, ◌∙◌, refl, sym, ap, subst}
-use Rattle.sip_verdict.specs.declared.stage.Stage.TheVariants.{Open}
+use Rattle.std.proofs.Common.{◌+◌, ◌∙◌, refl, sym, ap, subst}
 use Rattle.sip_verdict.specs.Judging.{Judging, AreFollowed}
 use Rattle.sip_verdict.proofs.JudgeLemmas.{may_take_next, stands_on}
 use Rattle.sip_verdict.proofs.stream.Judge.entry.Goals as goal

@@ -8,7 +8,6 @@ ghost use Rattle.sip_states.specs.Tables.{IsGiven, most_keys};
 ghost use Rattle.sip_log.specs.Log.{most_entries};
 ghost use Rattle.sip_log.specs.Spelling.{Item};
 ghost use Rattle.sip_log.specs.Told.{item};
-ghost use Rattle.sip_machine.specs.Texts.{Keeps};
 ghost use Rattle.sip_verdict.specs.Keyed.{Observation, newest_moment};
 ghost use Rattle.sip_verdict.specs.Named.{AreMany, IsNamed, key_messages};
 ghost use Rattle.sip_verdict.specs.MessageReading.{key_machines, message_reading};

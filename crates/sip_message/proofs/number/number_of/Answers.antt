@@ -1,9 +1,8 @@
-use Rattle.std.proofs.Common.{◌≡◌, ◌^◌, ◌*◌, ◌%◌, ◌-◌, map, take, w64, ap, ◌∙◌, arith}
+use Rattle.std.proofs.Common.{◌^◌, ◌*◌, ◌%◌, ◌-◌, w64, ap, ◌∙◌, arith}
 use Rattle.std.specs.Int.{from_le_bytes}
 use Rattle.std.proofs.lemmas.Simd.{zip2_splat, length-chunk}
 use lib.Bits.{bit_or}
 use lib.Lanes.{chunk}
-use Rattle.sip_message.specs.inner.Numbers.{small}
 use Rattle.sip_message.proofs.LaneLemmas.{number-front}
 use Rattle.sip_message.proofs.number.number_of.Goals as goal
 

@@ -1,4 +1,4 @@
-use Rattle.sip_message.proofs.FrontLemmas.{stops-behind}
+use Rattle.sip_message.proofs.lemmas.front.Cuts.{stops-behind}
 use Rattle.sip_message.proofs.cursor.skip_blanks.Goals as goal
 
 pub returns-else-may_begin_blank : goal.returns-else-may_begin_blank

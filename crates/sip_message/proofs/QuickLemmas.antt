@@ -26,12 +26,12 @@ use Rattle.sip_message.specs.StartLine.{StartLine, request, status, StartText}
 use Rattle.sip_message.specs.Field.{Field, NameText, ValueText, FieldText, FieldsText}
 use Rattle.sip_message.specs.inner.Quick.{is_open, IsOpen, AreOrdinary, IsOrdinary}
 use Rattle.sip_message.specs.inner.Numbers.{small, filled, number_of}
-use Rattle.sip_message.proofs.SplitLemmas.{All, all_left, all_right}
-use Rattle.sip_message.proofs.EachLemmas.{each-one, each-many, wsp-blank}
-use Rattle.sip_message.proofs.FieldLemmas.{each-token, blank-token, name_whole}
-use Rattle.sip_message.proofs.CanonLemmas.{Inner, AreInner, lines-head, inner-folds, inner-no_bare}
-use Rattle.sip_message.proofs.ReadLemmas.{fields-push}
-use Rattle.sip_message.proofs.StartLemmas.{length-folded}
+use Rattle.sip_message.proofs.lemmas.text.Cuts.{All, all_left, all_right}
+use Rattle.sip_message.proofs.lemmas.text.Each.{each-one, each-many, wsp-blank}
+use Rattle.sip_message.proofs.lemmas.field.OneWay.{each-token, blank-token, name_whole}
+use Rattle.sip_message.proofs.lemmas.canon.Spelling.{Inner, AreInner, lines-head, inner-folds, inner-no_bare}
+use Rattle.sip_message.proofs.lemmas.lines.Reading.{fields-push}
+use Rattle.sip_message.proofs.lemmas.start_line.OneWay.{length-folded}
 
 -- the text up to the first control
 open-front : (text : List ℕ) → All is_open (take (prefix_len is_open text) text)

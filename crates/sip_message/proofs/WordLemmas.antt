@@ -11,12 +11,12 @@ use Rattle.sip_text.proofs.BlanksLemmas.{units-blanks, blanks-units, blank-step}
 use Rattle.sip_message.specs.Unfold.{EndsSolid}
 use Rattle.sip_message.specs.inner.Fronts.{Stops, StopsBlank, Behind, IsOnlyBehind, TokenFront, BlanksFront}
 use Rattle.sip_message.specs.inner.AddressFronts.{Words, WordsFront}
-use Rattle.sip_message.proofs.EachLemmas.{each-sws, wsp-blank}
-use Rattle.sip_message.proofs.FieldLemmas.{blank-token, same_solid}
-use Rattle.sip_message.proofs.EndLemmas.{firm-then_right, end-firm, end-many, ends-both}
-use Rattle.sip_message.proofs.ParamLemmas.{some-run, firm-token}
-use Rattle.sip_message.proofs.FrontLemmas.{ReadAs, NotRead, token-cut, same-behind, longest-behind, longest-blanks_front}
-use Rattle.sip_message.proofs.OneFrontLemmas.{AtMostOne, read-one}
+use Rattle.sip_message.proofs.lemmas.text.Each.{each-sws, wsp-blank}
+use Rattle.sip_message.proofs.lemmas.field.OneWay.{blank-token, same_solid}
+use Rattle.sip_message.proofs.lemmas.text.Ends.{firm-then_right, end-firm, end-many, ends-both}
+use Rattle.sip_message.proofs.lemmas.params.Closed.{some-run, firm-token}
+use Rattle.sip_message.proofs.lemmas.front.Cuts.{ReadAs, NotRead, token-cut, same-behind, longest-behind, longest-blanks_front}
+use Rattle.sip_message.proofs.lemmas.front.OneWay.{AtMostOne, read-one}
 
 -- a byte of a token, or a blank
 abbrev WordItem : List ℕ → Type 0

@@ -3,8 +3,8 @@ use Rattle.std.specs.List.{AllByRecursion}
 use Rattle.sip_message.specs.declared.name.Known.TheVariants as known_name
 use Rattle.sip_message.specs.Field.{Row}
 use Rattle.sip_message.specs.Reading.{IsValueOf}
-use Rattle.sip_message.proofs.CanonLaw.{fields-rows}
-use Rattle.sip_message.proofs.FaultLemmas.{fields-read}
+use Rattle.sip_message.proofs.lemmas.canon.Law.{fields-rows}
+use Rattle.sip_message.proofs.lemmas.message.Faults.{fields-read}
 use Rattle.sip_message.specs.Outcome.{gives}
 use Rattle.sip_message.specs.Faults.{NamesOf, BodyOf}
 use Rattle.sip_message.specs.Message.{content_length}
@@ -12,8 +12,8 @@ use Rattle.sip_message.specs.Views.{field_parts, fields_parts}
 use Rattle.sip_message.specs.ValueParts.{start_parts, cseq_parts}
 use Rattle.sip_message.specs.ViaParts.{element}
 use Rattle.sip_message.specs.inner.Stages.{names_parts, Stand}
-use Rattle.sip_message.proofs.KeptLemmas.{via-some, via-is, cseq-some, cseq-is}
-use Rattle.sip_message.proofs.ChainLemmas.{Found, found-keeps, found-reads}
+use Rattle.sip_message.proofs.lemmas.asked.Kept.{via-some, via-is, cseq-some, cseq-is}
+use Rattle.sip_message.proofs.lemmas.message.Stages.{Found, found-keeps, found-reads}
 use Rattle.sip_message.proofs.message.Message.quick.Goals as goal
 
 pub read_body-requires-clause-rows : goal.read_body-requires-clause-rows

@@ -5,7 +5,7 @@ use Rattle.sip_machine.proofs.NamingLemmas.{runs_name, front_members, appends_if
 use Rattle.sip_machine.proofs.naming.push_names.Goals as goal
 
 pub returns-clause-ok : goal.returns-clause-ok
-returns-clause-ok c =
+returns-clause-ok g c =
     let first : List ℕ = option_to_list c.args.message in
     let runs : List Run = c.runs.result.now in
     let found : c.push_owed.new.found.items ≡ first ++ map (λ run. run.debt.message) runs = c.in_ok-push_owed.ensures ∙ ap (λ xs. xs ++ map (λ run. run.debt.message) runs) c.in_ok-found.ensures in

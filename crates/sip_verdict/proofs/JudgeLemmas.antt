@@ -27,11 +27,8 @@ use Rattle.sip_verdict.proofs.JudgingLemmas.{observed-push, judged_ends, judged_
 use Rattle.sip_verdict.proofs.FollowedLemmas.{observed_moment, followed_keys}
 
 -- an entry may be taken that may come next
-pub may_take_next : (texts : Texts) (t : Tabled) (count last : ℕ) (j : Judging) → count ≡ j.number → last ≡ j.moment → (number moment : ℕ) → MayComeNext j number moment → MayTake texts t (count + 1) last
-    → MayTake texts t number moment
-may_take_next texts t count last j counts newest number moment next may =
-    subst (λ n. MayTake texts t n moment) (ap (λ n. n + 1) counts ∙ sym next.next)
-    (may_later texts t (count + 1) last moment (subst (λ m. m ≤ moment) (sym newest) next.order) may)
+pub may_take_next : (texts : Texts) (t : Tabled) (count last number moment : ℕ) → MayComeNext count last number moment → MayTake texts t (count + 1) last → MayTake texts t number moment
+may_take_next texts t count last number moment next may = subst (λ n. MayTake texts t n moment) (sym next.next) (may_later texts t (count + 1) last moment next.order may)
 
 -- the verdict where all entries are legal
 pub legal_is : (j : Judging) (es : List (Observation KeyParts)) → StandsFor j es → length j.tables.sets ≡ length j.tables.keys → (count many : ℕ) → count ≡ j.number → many ≡ length j.tables.keys

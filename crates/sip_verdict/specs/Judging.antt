@@ -40,11 +40,11 @@ pub record StandsFor (j : Judging) (es : List (Observation KeyParts)) : Type 0 w
   pub moment : j.moment ≡ newest_moment es
   pub follows : AreFollowed j.texts j.tables j.left es
 
--- an entry of this number and moment may come next
-pub record MayComeNext (j : Judging) (number moment : ℕ) : Type 0 where
-  pub next : number ≡ j.number + 1
-  pub order : j.moment ≤ moment
-  pub count : number ≤ most_entries
+-- an entry of this number and moment may come behind one of the number count and the moment last
+pub record MayComeNext (count last number moment : ℕ) : Type 0 where
+  pub next : number ≡ count + 1
+  pub order : last ≤ moment
+  pub within : number ≤ most_entries
   pub limit : moment ≤ last_moment
 
 -- what is judged of an entry behind those that the judge stood for: it stands for this one too, or this is the verdict of the entry

@@ -1,5 +1,5 @@
 //! A judge that takes the entries of a log as they come.
-ghost use Rattle.std.specs.Prelude.{◌≡◌, [], Some, List, IfOk, IfNone, OnOk, length};
+ghost use Rattle.std.specs.Prelude.{◌≡◌, ◌↔◌, [], Some, List, IsTrue, IfOk, IfNone, OnOk, length};
 ghost use Rattle.sip_key.specs.Key.{KeyParts};
 ghost use Rattle.sip_log.specs.Told.{item};
 ghost use Rattle.sip_verdict.specs.declared.stage.Stage.TheVariants.{Open};
@@ -45,6 +45,22 @@ impl<H: BuildHasher> Model for Judge<H> {
     ghost invariant = { λ j. j.stage ≡ Open → MayTake j.standing.book j.standing.tables (j.number + 1) j.moment × (j.left ≤ most_entries + 1) };
 }
 
+/// The most entries of a log.
+const MOST_ENTRIES: u32 = 1_000_000;
+
+/// The last moment of a log.
+const LAST_MOMENT: u64 = 9_999_999_999_999;
+
+/// Whether the entry may come behind one of this number and moment.
+fn may_come_next(number: u32, moment: u64, entry: &Entry) -> bool
+    ensures { IsTrue result ↔ MayComeNext number moment entry.now.number entry.now.moment }
+{
+    if number >= MOST_ENTRIES || entry.number != number + 1 {
+        return false;
+    }
+    moment <= entry.moment && entry.moment <= LAST_MOMENT
+}
+
 impl<H: BuildHasher + Drop> Judge<H> {
     /// No entry was judged yet. It takes no memory.
     pub fn new(alloc: Global, params: Params, hasher: H) -> Judge<H>
@@ -61,11 +77,21 @@ impl<H: BuildHasher + Drop> Judge<H> {
         }
     }
 
-    /// Judges the next entry, with the verdict if it is in trouble, which later calls answer again. Its number is one above
-    /// that of the entry before, counted from 1, and its moment is not below that one's. After an error every call answers
-    /// `StepError::Failed`.
+    /// Whether the entry may come next: its number is one above that of the entry before, counted from 1, its moment is not
+    /// below that one's, and both are within the limits of a log. Behind a verdict and behind an error any entry may.
+    pub fn may_take(&self, entry: &Entry) -> bool
+        ensures { IsTrue result ↔ (self.now.stage ≡ Open → MayComeNext self.now.number self.now.moment entry.now.number entry.now.moment) }
+    {
+        match self.stage {
+            Stage::Open => may_come_next(self.number, self.moment, entry),
+            Stage::Told(_) | Stage::Failed => true,
+        }
+    }
+
+    /// Judges the next entry, with the verdict if it is in trouble. Later calls answer that verdict again. After an error every
+    /// call answers `StepError::Failed`.
     pub fn entry(&mut self, entry: &Entry) -> Result<Option<Verdict>, StepError>
-        requires { self.old.stage ≡ Open → MayComeNext self.old entry.now.number entry.now.moment }
+        requires { self.old.stage ≡ Open → MayComeNext self.old.number self.old.moment entry.now.number entry.now.moment }
         ensures judged { IfOk result (λ verdict. (es : List (Observation KeyParts)) → StandsFor self.old es
             → (e : Observation KeyParts) × message_reading.Observes es (item entry.now) e × IsNext self.new es e verdict) }
         ensures answers { CanAnswer self.old.stage result }

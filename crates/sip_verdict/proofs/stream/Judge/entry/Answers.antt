@@ -1,5 +1,5 @@
 use Rattle.std.proofs.Common.{◌+◌, ◌∙◌, refl, sym, ap, subst}
-use Rattle.sip_verdict.specs.Judging.{Judging, AreFollowed}
+use Rattle.sip_verdict.specs.Judging.{Judging, AreFollowed, MayComeNext}
 use Rattle.sip_verdict.proofs.JudgeLemmas.{may_take_next, stands_on}
 use Rattle.sip_verdict.proofs.stream.Judge.entry.Goals as goal
 
@@ -8,8 +8,8 @@ judge_next-requires-clause-may g c =
     let s = c.self.inside in
     let e = c.args.entry.now in
     let is = c.self.view_is in
-    let next = c.requires (ap (λ j. j.stage) (sym is) ∙ c.in-Open.is) in
-    may_take_next s.standing.book s.standing.tables s.number s.moment c.args.self.now (ap (λ j. j.number) is) (ap (λ j. j.moment) is) e.number e.moment next (c.self.invariant c.in-Open.is).0
+    let next = subst (λ j. MayComeNext j.number j.moment e.number e.moment) (sym is) (c.requires (ap (λ j. j.stage) (sym is) ∙ c.in-Open.is)) in
+    may_take_next s.standing.book s.standing.tables s.number s.moment e.number e.moment next (c.self.invariant c.in-Open.is).0
 
 pub returns-in-Ok-None-clause-judged : goal.returns-in-Ok-None-clause-judged
 returns-in-Ok-None-clause-judged g c es stands =

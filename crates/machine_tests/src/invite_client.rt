@@ -96,14 +96,8 @@ fn is_wanted(state: &InviteClientState, want: Want) -> bool {
             Want::Proceeding(first),
         ) => *request == INVITE && *cancel == first,
         (InviteClientPhase::Accepted { set }, Want::Accepted(moment)) => *set == moment,
-        (
-            InviteClientPhase::Completed {
-                request,
-                set,
-                ..
-            },
-            Want::Completed(moment, debt),
-        ) => *request == INVITE && *set == moment && is_owed(state.owes.runs(), debt),
+        (InviteClientPhase::Completed { request, set, .. }, Want::Completed(moment, debt)) =>
+            *request == INVITE && *set == moment && is_owed(state.owes.runs(), debt),
         _ => false,
     }
 }

@@ -52,10 +52,7 @@ impl Told for InviteServerPhase {
                 push_number(out, "repeat", *repeat)?;
                 push_number(out, "interval", *interval)
             }
-            InviteServerPhase::Confirmed {
-                reliable,
-                set,
-            } => {
+            InviteServerPhase::Confirmed { reliable, set } => {
                 out.push_str("confirmed")?;
                 push_flag(out, "reliable", *reliable)?;
                 push_number(out, "set", *set)

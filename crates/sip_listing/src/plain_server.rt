@@ -28,10 +28,7 @@ impl Told for PlainServerPhase {
                 out.push_str("trying")?;
                 push_flag(out, "reliable", *reliable)
             }
-            PlainServerPhase::Proceeding {
-                reliable,
-                last,
-            } => {
+            PlainServerPhase::Proceeding { reliable, last } => {
                 out.push_str("proceeding")?;
                 push_flag(out, "reliable", *reliable)?;
                 push_number(out, "last", (*last).into())

@@ -211,9 +211,8 @@ impl Phases for PlainClient {
         match *phase {
             PlainClientPhase::Trying(waiting) => Some(waiting.request),
             PlainClientPhase::Proceeding(waiting) => Some(waiting.request),
-            PlainClientPhase::Completed { .. }
-            | PlainClientPhase::Idle
-            | PlainClientPhase::Ended => None,
+            PlainClientPhase::Completed { .. } | PlainClientPhase::Idle | PlainClientPhase::Ended =>
+                None,
         }
     }
 

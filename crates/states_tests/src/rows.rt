@@ -3,9 +3,7 @@
 ghost use Rattle.std.specs.Prelude.{◌≤◌};
 
 use crate::played::{Entry, book, busy, invite, ok, play};
-use sip_machine::{
-    InviteServer, InviteServerPhase, Owing, Params, PlainClientState, Waiting,
-};
+use sip_machine::{InviteServer, InviteServerPhase, Owing, Params, PlainClientState, Waiting};
 use sip_states::StateSet;
 use std::mem::size_of;
 use std::test::Fail;
@@ -61,11 +59,10 @@ fn waits_as_timers_fire(rt: HostRuntime) -> Result<(), Fail> {
         assert!(rt;
             matches!(
                 set.states(),
-                []
-                    | [Owing {
-                        phase: InviteServerPhase::Idle,
-                        ..
-                    }]
+                [] | [Owing {
+                    phase: InviteServerPhase::Idle,
+                    ..
+                }]
             ),
             "{waits:?}"
         );

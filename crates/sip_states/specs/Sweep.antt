@@ -3,15 +3,15 @@ use Rattle.std.specs.Prelude.{◌≡◌, ◌<◌, ◌⊎◌, ◌↔◌, ◌++◌
 use Rattle.sip_machine.specs.Times.{Times}
 use Rattle.sip_machine.specs.Owing.{owing_names}
 use Rattle.sip_states.specs.Held.{Held}
-use Rattle.sip_states.specs.KeyMachine.{MachineKind, OfInviteClient, OfPlainClient, OfInviteServer, OfPlainServer, transaction}
+use Rattle.sip_states.specs.KeyMachine.{MachineKind, OfInviteClient, OfPlainClient, OfInviteServer, OfPlainServer}
 use Rattle.sip_states.specs.declared.any_set.AnySet.{AnySet}
 use Rattle.sip_states.specs.declared.any_set.AnySet.TheVariants.{InviteClient, PlainClient, InviteServer, PlainServer}
-use Rattle.sip_states.specs.AnySet.{StateOf, Waits}
+use Rattle.sip_states.specs.AnySet.{StateOf, Waits, coded}
 use Rattle.sip_states.specs.Tables.{Tabled}
 
 -- the numbers of the messages that the states of a set of this machine name
 abbrev pub names_of : (machine : MachineKind) → Held Times (StateOf machine) → List ℕ
-names_of machine s = flat_map (owing_names (transaction machine).names) s.states
+names_of machine s = flat_map (owing_names (coded machine).names) s.states
 
 -- and those of any set
 abbrev pub numbers_of : AnySet → List ℕ

@@ -121,6 +121,6 @@ module _ (texts : Texts) (book : IsBook texts) (t u : Tabled) (moment : ℕ) (ad
         (recorded.each n old r was there);
   }
     where
-      go : (r : Option (Option ℕ)) (old new : AnySet) → moment_of old ≤ moment → IsKnownSet texts old → IsAdvanced moment old new → IsOnRecord (λ number. false) 0 old r → IsOnRecord (λ number. false) 0 new r
+      go : (r : Option (Option ℕ)) (old new : AnySet) → moment_of old ≤ moment → IsKnownSet texts old → IsAdvanced moment old new → IsOnRecord [] 0 old r → IsOnRecord [] 0 new r
       go None old new low known advanced h = h
       go (Some limit) old new low known advanced h = swept_agenda texts book moment old new low advanced known limit h

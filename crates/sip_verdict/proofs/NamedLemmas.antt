@@ -16,8 +16,8 @@ use Rattle.sip_machine.specs.Rules.{Rules, IsLawful, StandFor}
 use Rattle.sip_machine.proofs.TextLaws.{Contains-nil, Contains-cons_cases}
 use Rattle.sip_states.specs.Runs.{Wait, Run}
 use Rattle.sip_states.specs.Held.{Held}
-use Rattle.sip_states.specs.KeyMachine.{MachineKind, OfInviteClient, OfPlainClient, OfInviteServer, OfPlainServer, transaction}
-use Rattle.sip_states.specs.AnySet.{StateOf, meaning_of, set_of}
+use Rattle.sip_states.specs.KeyMachine.{MachineKind, OfInviteClient, OfPlainClient, OfInviteServer, OfPlainServer}
+use Rattle.sip_states.specs.AnySet.{StateOf, coded, meaning_of, set_of}
 use Rattle.sip_states.specs.Sweep.{numbers_of}
 use Rattle.sip_states.proofs.Listed.{Contains-map, Contains-from_map, Contains-here, Contains-there, Contains-none}
 use Rattle.sip_states.proofs.Waiting.{StaysFrom, EndsFrom, Wait-cases}
@@ -89,7 +89,7 @@ owed_named texts [] = refl
 owed_named texts (debt ∷ owes) = ap (λ rest. text_of texts debt.message ∷ rest) (owed_named texts owes)
 
 -- what a phase names is what it stands for, whatever its machine
-phase_named : (machine : MachineKind) (texts : Texts) (x : (transaction machine).Code) → phase_messages machine ((transaction machine).seen texts x) ≡ map (text_of texts) ((transaction machine).names x)
+phase_named : (machine : MachineKind) (texts : Texts) (x : (coded machine).Code) → phase_messages machine ((coded machine).seen texts x) ≡ map (text_of texts) ((coded machine).names x)
 phase_named OfInviteClient texts invite_client.Idle = refl
 phase_named OfInviteClient texts (invite_client.Calling w) = refl
 phase_named OfInviteClient texts (invite_client.Proceeding reliable request cancel) = refl
@@ -116,7 +116,7 @@ phase_named OfPlainServer texts (plain_server.Completed reliable final set) = re
 pub named_of : (machine : MachineKind) (texts : Texts) (x : StateOf machine) → messages_of machine ((meaning_of machine).seen texts x) ≡ map (text_of texts) ((meaning_of machine).names x)
 named_of machine texts x =
     ap₂ (λ of_phase owed. of_phase ++ owed) (phase_named machine texts x.phase) (owed_named texts x.owes)
-    ∙ sym (map-append (text_of texts) ((transaction machine).names x.phase) (owes_names x.owes))
+    ∙ sym (map-append (text_of texts) ((coded machine).names x.phase) (owes_names x.owes))
 
 -- the numbers of a set
 pub numbers_are : (machine : MachineKind) (s : Held Times (StateOf machine)) → numbers_of (set_of machine s) ≡ flat_map (meaning_of machine).names s.states

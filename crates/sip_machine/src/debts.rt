@@ -49,9 +49,8 @@ pub trait Debts: Debug + Drop {
         ensures unpaid { OnFalse result ((listed self.new ≡ listed self.old)
             × All (λ debt. ¬ (IsTrue (is_payable message moment debt))) (listed self.old)) };
 
-    /// Takes out the debt at the index.
+    /// Takes out the debt at the index, if there is one.
     fn remove(&mut self, index: usize)
-        requires { index < length (listed self.old) }
         ensures { listed self.new ≡ remove (listed self.old) index };
 
     /// The least deadline of what must be sent.

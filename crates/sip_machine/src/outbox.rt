@@ -154,11 +154,13 @@ impl Outbox {
         }
     }
 
-    /// Takes out the debt at the index.
+    /// Takes out the debt at the index, if there is one.
     pub(crate) fn remove(&mut self, index: usize)
-        requires { index < length self.old }
         ensures { self.new ≡ remove self.old index }
     {
+        if index >= self.count {
+            return;
+        }
         let at = run_at(&self.runs, index);
         take_one(&mut self.runs, at);
         self.count -= 1;

@@ -26,6 +26,8 @@ mod rows;
 #[cfg(test)]
 mod shows;
 #[cfg(test)]
+mod streams;
+#[cfg(test)]
 mod tests;
 #[cfg(test)]
 mod told;

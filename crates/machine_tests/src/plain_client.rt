@@ -1,11 +1,14 @@
 //! The non-INVITE client, with moments worked out by hand for T1 500, T2 4000, T4 5000 and a tolerance of 50.
-ghost use Rattle.std.specs.Prelude.{◌≡◌, false};
-ghost use Rattle.sip_machine.specs.PlainClient.{PlainClientInRange};
+ghost use Rattle.std.specs.Prelude.{◌≡◌, false, All, IfOk};
+ghost use Rattle.sip_machine.specs.Heard.{FitsBook};
+ghost use Rattle.sip_machine.specs.Rules.{Knows};
+ghost use Rattle.sip_machine.specs.Owing.{owing_names, OwingInRange};
+ghost use Rattle.sip_machine.specs.PlainClient.{plain_client_names, PlainClientInRange};
 
 use crate::messages::{Numbered, Start, book_of, event_of};
 use sip_machine::{
-    Action, Book, Machine, Owes, Owing, Params, PlainClient, PlainClientPhase, PlainClientState,
-    Waiting,
+    Action, Book, Event, Machine, Owes, Owing, Params, PlainClient, PlainClientPhase,
+    PlainClientState, Waiting,
 };
 use std::alloc::Global;
 use std::test::Fail;
@@ -60,29 +63,48 @@ fn client() -> Result<PlainClient, Fail> {
 /// The phase after the entries, None where one of them has no step.
 fn phase_after(alloc: Global, entries: &[Entry]) -> Result<Option<PlainClientPhase>, Fail> {
     let book = book_of(alloc, &MESSAGES, "OPTIONS", "UDP")?;
-    run(alloc, &client()?, &book, entries)
+    let states = run(alloc, &client()?, &book, entries)?;
+    match states.as_slice() {
+        [only] => Ok(Some(only.phase)),
+        _ => Ok(None),
+    }
 }
 
+/// The states after the entries, of all steps.
 fn run(
     alloc: Global,
     client: &PlainClient,
     book: &Book,
     entries: &[Entry],
-) -> Result<Option<PlainClientPhase>, Fail> {
-    let mut state = client.first();
+) -> Result<Vec<PlainClientState>, Fail> {
+    let mut states = Vec::new(alloc);
+    states.push(client.first())?;
     for &(moment, action, number) in entries {
         let event = event_of(alloc, book, moment, action, number)?;
-        let mut next = Vec::new(alloc);
-        client.successors(book, &state, &event, &mut next)?;
-        let [only] = next.as_slice() else {
-            return Ok(None);
-        };
-        state = Owing {
-            phase: only.phase,
-            owes: Owes::none(),
-        };
+        states = step(alloc, client, book, &states, &event)?;
     }
-    Ok(Some(state.phase))
+    Ok(states)
+}
+
+/// The states that the event gives.
+fn step(
+    alloc: Global,
+    client: &PlainClient,
+    book: &Book,
+    states: &[PlainClientState],
+    event: &Event,
+) -> Result<Vec<PlainClientState>, Fail>
+    requires fits { FitsBook book.now event.now }
+    requires known { All (Knows (owing_names plain_client_names) book.now) states.now }
+    requires in_range { All (OwingInRange PlainClientInRange) states.now }
+    ensures known { IfOk result (λ next. All (Knows (owing_names plain_client_names) book.now) next.items) }
+    ensures in_range { IfOk result (λ next. All (OwingInRange PlainClientInRange) next.items) }
+{
+    let mut next = Vec::new(alloc);
+    for state in states {
+        client.successors(book, state, event, &mut next)?;
+    }
+    Ok(next)
 }
 
 #[test]

@@ -8,8 +8,6 @@ mod lines;
 mod plain_client;
 mod plain_server;
 mod state;
-#[cfg(test)]
-mod tests;
 mod told;
 mod transaction;
 

@@ -20,6 +20,4 @@ mod tables;
 #[cfg(test)]
 mod told;
 #[cfg(test)]
-mod toy;
-#[cfg(test)]
 mod width;

@@ -30,14 +30,32 @@ fn are_left(
     Ok(true)
 }
 
+/// When a transaction began, later than 32 bits can count.
+const LATE: u64 = 9_000_000_000_000;
+
 /// Entries, the last moment to which one can then wait, and how many states there are after waits.
 #[test]
 fn waits_as_timers_fire(rt: HostRuntime) -> Result<(), Fail> {
-    let rows: [(&[Entry], Option<u64>, &[(u64, usize)]); 2] = [
+    let rows: [(&[Entry], Option<u64>, &[(u64, usize)]); 3] = [
         (
             &[invite(0), busy(0), invite(480), busy(490)],
             Some(1_540),
             &[(490, 2), (550, 2), (551, 1), (1_541, 0)],
+        ),
+        (
+            &[
+                invite(LATE),
+                busy(LATE),
+                invite(LATE + 480),
+                busy(LATE + 490),
+            ],
+            Some(LATE + 1_540),
+            &[
+                (LATE + 490, 2),
+                (LATE + 550, 2),
+                (LATE + 551, 1),
+                (LATE + 1_541, 0),
+            ],
         ),
         (
             &[invite(0), ok(0)],

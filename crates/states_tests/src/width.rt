@@ -1,5 +1,5 @@
 //! How many states of an INVITE server are followed.
-ghost use Rattle.std.specs.Prelude.{◌≡◌, ◌≤◌, All, OnOk};
+ghost use Rattle.std.specs.Prelude.{◌≡◌, ◌≤◌, ◌+◌, ◌*◌, All, OnOk};
 ghost use Rattle.sip_machine.specs.Rules.{Knows};
 ghost use Rattle.sip_machine.specs.Owing.{owing_names};
 ghost use Rattle.sip_machine.specs.InviteServer.{invite_server_names};

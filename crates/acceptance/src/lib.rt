@@ -26,7 +26,11 @@ mod rows;
 #[cfg(test)]
 mod shows;
 #[cfg(test)]
+mod streams;
+#[cfg(test)]
 mod tests;
+#[cfg(test)]
+mod told;
 #[cfg(test)]
 mod verdicts;
 #[cfg(test)]

@@ -7,3 +7,5 @@ mod devices;
 mod retries;
 #[cfg(test)]
 mod tests;
+#[cfg(test)]
+mod told;

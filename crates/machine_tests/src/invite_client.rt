@@ -2,11 +2,13 @@
 ghost use Rattle.std.specs.Prelude.{All, IfOk};
 ghost use Rattle.sip_machine.specs.Heard.{FitsBook};
 ghost use Rattle.sip_machine.specs.Rules.{Knows};
+ghost use Rattle.sip_machine.specs.Owing.{owing_names, OwingInRange};
 ghost use Rattle.sip_machine.specs.InviteClient.{invite_client_names, InviteClientInRange};
 
 use crate::messages::{Numbered, Start, book_of, event_of};
 use sip_machine::{
-    Action, Book, Debt, Event, InviteClient, InviteClientState, Machine, Params, Run,
+    Action, Book, Debt, Event, InviteClient, InviteClientPhase, InviteClientState, Machine, Params,
+    Run,
 };
 use std::alloc::Global;
 use std::test::Fail;
@@ -80,29 +82,22 @@ fn is_owed(runs: &[Run], want: Option<Debt>) -> bool {
 }
 
 fn is_wanted(state: &InviteClientState, want: Want) -> bool {
-    match (state, want) {
-        (InviteClientState::Idle, Want::Idle) | (InviteClientState::Ended, Want::Ended) => true,
-        (InviteClientState::Calling(waiting), Want::Calling(set, interval)) => {
+    match (&state.phase, want) {
+        (InviteClientPhase::Idle, Want::Idle) | (InviteClientPhase::Ended, Want::Ended) => true,
+        (InviteClientPhase::Calling(waiting), Want::Calling(set, interval)) => {
             waiting.request == INVITE && waiting.set == set && waiting.interval == interval
         }
         (
-            InviteClientState::Proceeding {
+            InviteClientPhase::Proceeding {
                 request,
                 cancel,
                 ..
             },
             Want::Proceeding(first),
         ) => *request == INVITE && *cancel == first,
-        (InviteClientState::Accepted { set }, Want::Accepted(moment)) => *set == moment,
-        (
-            InviteClientState::Completed {
-                request,
-                set,
-                owes,
-                ..
-            },
-            Want::Completed(moment, debt),
-        ) => *request == INVITE && *set == moment && is_owed(owes.runs(), debt),
+        (InviteClientPhase::Accepted { set }, Want::Accepted(moment)) => *set == moment,
+        (InviteClientPhase::Completed { request, set, .. }, Want::Completed(moment, debt)) =>
+            *request == INVITE && *set == moment && is_owed(state.owes.runs(), debt),
         _ => false,
     }
 }
@@ -142,7 +137,7 @@ fn states_after(
     transport: &str,
     entries: &[Entry],
 ) -> Result<Vec<InviteClientState>, Fail>
-    ensures { IfOk result (λ states. All InviteClientInRange states.items) }
+    ensures { IfOk result (λ states. All (OwingInRange InviteClientInRange) states.items) }
 {
     let book = book_of(alloc, &MESSAGES, "INVITE", transport)?;
     run(alloc, client, &book, entries)
@@ -154,7 +149,7 @@ fn run(
     book: &Book,
     entries: &[Entry],
 ) -> Result<Vec<InviteClientState>, Fail>
-    ensures { IfOk result (λ states. All InviteClientInRange states.items) }
+    ensures { IfOk result (λ states. All (OwingInRange InviteClientInRange) states.items) }
 {
     let mut states = Vec::new(alloc);
     states.push(client.first())?;
@@ -174,10 +169,10 @@ fn step(
     event: &Event,
 ) -> Result<Vec<InviteClientState>, Fail>
     requires fits { FitsBook book.now event.now }
-    requires known { All (Knows invite_client_names book.now) states.now }
-    requires in_range { All InviteClientInRange states.now }
-    ensures known { IfOk result (λ next. All (Knows invite_client_names book.now) next.items) }
-    ensures in_range { IfOk result (λ next. All InviteClientInRange next.items) }
+    requires known { All (Knows (owing_names invite_client_names) book.now) states.now }
+    requires in_range { All (OwingInRange InviteClientInRange) states.now }
+    ensures known { IfOk result (λ next. All (Knows (owing_names invite_client_names) book.now) next.items) }
+    ensures in_range { IfOk result (λ next. All (OwingInRange InviteClientInRange) next.items) }
 {
     let mut next = Vec::new(alloc);
     for state in states {
@@ -404,7 +399,7 @@ fn over_a_reliable_transport(rt: HostRuntime) -> Result<(), Fail> {
 type Ends = (Option<(u64, Option<u64>)>, Option<u64>);
 
 fn ends_of(client: &InviteClient, state: &InviteClientState) -> Ends
-    requires { InviteClientInRange state.now }
+    requires { OwingInRange InviteClientInRange state.now }
 {
     (client.end_window(state), client.until(state))
 }

@@ -2,11 +2,13 @@
 ghost use Rattle.std.specs.Prelude.{All, IfOk};
 ghost use Rattle.sip_machine.specs.Heard.{FitsBook};
 ghost use Rattle.sip_machine.specs.Rules.{Knows};
+ghost use Rattle.sip_machine.specs.Owing.{owing_names, OwingInRange};
 ghost use Rattle.sip_machine.specs.InviteServer.{invite_server_names, InviteServerInRange};
 
 use crate::messages::{Numbered, Start, book_of, event_of};
 use sip_machine::{
-    Action, Book, Debt, Event, InviteServer, InviteServerState, Machine, Outbox, Params,
+    Action, Book, Debt, Event, InviteServer, InviteServerPhase, InviteServerState, Machine, Owes,
+    Owing, Params, Run,
 };
 use std::alloc::Global;
 use std::test::Fail;
@@ -90,10 +92,10 @@ fn may(message: u32, deadline: u64) -> Debt {
 }
 
 /// Up to one debt that is wanted.
-type Owes = Option<Debt>;
+type Debts = Option<Debt>;
 
-fn are_owed(owes: &Outbox, want: Owes) -> bool {
-    match owes.runs() {
+fn are_owed(runs: &[Run], want: Debts) -> bool {
+    match runs {
         [] => want.is_none(),
         [only] => only.count == 1 && want == Some(only.debt),
         _ => false,
@@ -104,36 +106,34 @@ fn are_owed(owes: &Outbox, want: Owes) -> bool {
 #[derive(Clone, Copy, Debug)]
 enum Want {
     Idle,
-    Proceeding(u64, Option<u32>, Owes),
-    Accepted(u64, Owes),
+    Proceeding(u64, Option<u32>, Debts),
+    Accepted(u64, Debts),
     /// When the final response was sent, when timer G was set last, and for how long.
-    Completed(u64, u64, u64, Owes),
-    Confirmed(u64, Owes),
+    Completed(u64, u64, u64, Debts),
+    Confirmed(u64, Debts),
 }
 
 fn is_wanted(state: &InviteServerState, want: Want) -> bool {
-    match (state, want) {
-        (InviteServerState::Idle, Want::Idle) => true,
+    match (&state.phase, want) {
+        (InviteServerPhase::Idle, Want::Idle) => true,
         (
-            InviteServerState::Proceeding {
+            InviteServerPhase::Proceeding {
                 reliable,
                 set,
                 last,
-                owes,
             },
             Want::Proceeding(moment, number, debts),
-        ) => !*reliable && *set == moment && *last == number && are_owed(owes, debts),
-        (InviteServerState::Accepted { set, owes }, Want::Accepted(moment, debts)) => {
-            *set == moment && are_owed(owes, debts)
+        ) => !*reliable && *set == moment && *last == number && are_owed(state.owes.runs(), debts),
+        (InviteServerPhase::Accepted { set }, Want::Accepted(moment, debts)) => {
+            *set == moment && are_owed(state.owes.runs(), debts)
         }
         (
-            InviteServerState::Completed {
+            InviteServerPhase::Completed {
                 reliable,
                 final_message,
                 set,
                 repeat,
                 interval,
-                owes,
             },
             Want::Completed(moment, again, length, debts),
         ) => {
@@ -142,16 +142,10 @@ fn is_wanted(state: &InviteServerState, want: Want) -> bool {
                 && *set == moment
                 && *repeat == again
                 && *interval == length
-                && are_owed(owes, debts)
+                && are_owed(state.owes.runs(), debts)
         }
-        (
-            InviteServerState::Confirmed {
-                reliable,
-                set,
-                owes,
-            },
-            Want::Confirmed(moment, debts),
-        ) => !*reliable && *set == moment && are_owed(owes, debts),
+        (InviteServerPhase::Confirmed { reliable, set }, Want::Confirmed(moment, debts)) =>
+            !*reliable && *set == moment && are_owed(state.owes.runs(), debts),
         _ => false,
     }
 }
@@ -171,7 +165,7 @@ fn server() -> Result<InviteServer, Fail> {
 
 /// The states after the entries, of all steps.
 fn states_after(alloc: Global, entries: &[Entry]) -> Result<Vec<InviteServerState>, Fail>
-    ensures { IfOk result (λ states. All InviteServerInRange states.items) }
+    ensures { IfOk result (λ states. All (OwingInRange InviteServerInRange) states.items) }
 {
     let book = book_of(alloc, &MESSAGES, "INVITE", "UDP")?;
     run(alloc, &server()?, &book, entries)
@@ -183,7 +177,7 @@ fn run(
     book: &Book,
     entries: &[Entry],
 ) -> Result<Vec<InviteServerState>, Fail>
-    ensures { IfOk result (λ states. All InviteServerInRange states.items) }
+    ensures { IfOk result (λ states. All (OwingInRange InviteServerInRange) states.items) }
 {
     let mut states = Vec::new(alloc);
     states.push(server.first())?;
@@ -203,10 +197,10 @@ fn step(
     event: &Event,
 ) -> Result<Vec<InviteServerState>, Fail>
     requires fits { FitsBook book.now event.now }
-    requires known { All (Knows invite_server_names book.now) states.now }
-    requires in_range { All InviteServerInRange states.now }
-    ensures known { IfOk result (λ next. All (Knows invite_server_names book.now) next.items) }
-    ensures in_range { IfOk result (λ next. All InviteServerInRange next.items) }
+    requires known { All (Knows (owing_names invite_server_names) book.now) states.now }
+    requires in_range { All (OwingInRange InviteServerInRange) states.now }
+    ensures known { IfOk result (λ next. All (Knows (owing_names invite_server_names) book.now) next.items) }
+    ensures in_range { IfOk result (λ next. All (OwingInRange InviteServerInRange) next.items) }
 {
     let mut next = Vec::new(alloc);
     for state in states {
@@ -412,7 +406,7 @@ fn ends_of(
     server: &InviteServer,
     state: &InviteServerState,
 ) -> (Option<(u64, Option<u64>)>, Option<u64>)
-    requires { InviteServerInRange state.now }
+    requires { OwingInRange InviteServerInRange state.now }
 {
     (server.end_window(state), server.until(state))
 }
@@ -453,19 +447,23 @@ fn ends(rt: HostRuntime) -> Result<(), Fail> {
 #[test]
 fn ends_over_tcp(rt: HostRuntime) -> Result<(), Fail> {
     let server = server()?;
-    let completed = InviteServerState::Completed {
-        reliable: true,
-        final_message: BUSY,
-        set: 700,
-        repeat: 700,
-        interval: 500,
-        owes: Outbox::new(rt.alloc()),
+    let completed = Owing {
+        phase: InviteServerPhase::Completed {
+            reliable: true,
+            final_message: BUSY,
+            set: 700,
+            repeat: 700,
+            interval: 500,
+        },
+        owes: Owes::none(),
     };
     assert!(rt; ends_of(&server, &completed) == (Some((32_650, Some(32_750))), Some(32_750)));
-    let confirmed = InviteServerState::Confirmed {
-        reliable: true,
-        set: 700,
-        owes: Outbox::new(rt.alloc()),
+    let confirmed = Owing {
+        phase: InviteServerPhase::Confirmed {
+            reliable: true,
+            set: 700,
+        },
+        owes: Owes::none(),
     };
     assert!(rt; ends_of(&server, &confirmed) == (Some((700, Some(750))), Some(750)));
     Ok(())

@@ -1,9 +1,15 @@
 //! The non-INVITE client, with moments worked out by hand for T1 500, T2 4000, T4 5000 and a tolerance of 50.
-ghost use Rattle.std.specs.Prelude.{◌≡◌, false};
-ghost use Rattle.sip_machine.specs.PlainClient.{PlainInRange};
+ghost use Rattle.std.specs.Prelude.{◌≡◌, false, All, IfOk};
+ghost use Rattle.sip_machine.specs.Heard.{FitsBook};
+ghost use Rattle.sip_machine.specs.Rules.{Knows};
+ghost use Rattle.sip_machine.specs.Owing.{owing_names, OwingInRange};
+ghost use Rattle.sip_machine.specs.PlainClient.{plain_client_names, PlainClientInRange};
 
 use crate::messages::{Numbered, Start, book_of, event_of};
-use sip_machine::{Action, Book, Machine, Params, PlainClient, PlainState, PlainWaiting};
+use sip_machine::{
+    Action, Book, Event, Machine, Owes, Owing, Params, PlainClient, PlainClientPhase,
+    PlainClientState, Waiting,
+};
 use std::alloc::Global;
 use std::test::Fail;
 
@@ -37,10 +43,10 @@ fn received(moment: u64, code: u32) -> Entry {
 }
 
 /// The request of moment 0 that waits, with timer E set then for so long.
-fn waiting(set: u64, interval: u64) -> PlainWaiting
+fn waiting(set: u64, interval: u64) -> Waiting
     ensures { result ≡ record { reliable = false; request = 1; start = 0; set = set; interval = interval } }
 {
-    PlainWaiting {
+    Waiting {
         reliable: false,
         request: REQUEST,
         start: 0,
@@ -54,37 +60,59 @@ fn client() -> Result<PlainClient, Fail> {
     Ok(PlainClient::new(params))
 }
 
-/// The state after the entries, None where one of them has no step.
-fn state_after(alloc: Global, entries: &[Entry]) -> Result<Option<PlainState>, Fail> {
+/// The phase after the entries, None where one of them has no step.
+fn phase_after(alloc: Global, entries: &[Entry]) -> Result<Option<PlainClientPhase>, Fail> {
     let book = book_of(alloc, &MESSAGES, "OPTIONS", "UDP")?;
-    run(alloc, &client()?, &book, entries)
+    let states = run(alloc, &client()?, &book, entries)?;
+    match states.as_slice() {
+        [only] => Ok(Some(only.phase)),
+        _ => Ok(None),
+    }
 }
 
+/// The states after the entries, of all steps.
 fn run(
     alloc: Global,
     client: &PlainClient,
     book: &Book,
     entries: &[Entry],
-) -> Result<Option<PlainState>, Fail> {
-    let mut state = client.first();
+) -> Result<Vec<PlainClientState>, Fail> {
+    let mut states = Vec::new(alloc);
+    states.push(client.first())?;
     for &(moment, action, number) in entries {
         let event = event_of(alloc, book, moment, action, number)?;
-        let mut next = Vec::new(alloc);
-        client.successors(book, &state, &event, &mut next)?;
-        let [only] = next.as_slice() else {
-            return Ok(None);
-        };
-        state = *only;
+        states = step(alloc, client, book, &states, &event)?;
     }
-    Ok(Some(state))
+    Ok(states)
+}
+
+/// The states that the event gives.
+fn step(
+    alloc: Global,
+    client: &PlainClient,
+    book: &Book,
+    states: &[PlainClientState],
+    event: &Event,
+) -> Result<Vec<PlainClientState>, Fail>
+    requires fits { FitsBook book.now event.now }
+    requires known { All (Knows (owing_names plain_client_names) book.now) states.now }
+    requires in_range { All (OwingInRange PlainClientInRange) states.now }
+    ensures known { IfOk result (λ next. All (Knows (owing_names plain_client_names) book.now) next.items) }
+    ensures in_range { IfOk result (λ next. All (OwingInRange PlainClientInRange) next.items) }
+{
+    let mut next = Vec::new(alloc);
+    for state in states {
+        client.successors(book, state, event, &mut next)?;
+    }
+    Ok(next)
 }
 
 #[test]
 fn before_the_final_response(rt: HostRuntime) -> Result<(), Fail> {
-    let trying = |set, interval| Some(PlainState::Trying(waiting(set, interval)));
-    let proceeding = |set, interval| Some(PlainState::Proceeding(waiting(set, interval)));
-    let rows: [(&[Entry], Option<PlainState>); 13] = [
-        (&[], Some(PlainState::Idle)),
+    let trying = |set, interval| Some(PlainClientPhase::Trying(waiting(set, interval)));
+    let proceeding = |set, interval| Some(PlainClientPhase::Proceeding(waiting(set, interval)));
+    let rows: [(&[Entry], Option<PlainClientPhase>); 13] = [
+        (&[], Some(PlainClientPhase::Idle)),
         (&[sent(0)], trying(0, 500)),
         (&[sent(0), sent(449)], None),
         (&[sent(0), sent(450)], trying(450, 1_000)),
@@ -111,18 +139,18 @@ fn before_the_final_response(rt: HostRuntime) -> Result<(), Fail> {
         ),
     ];
     for (entries, want) in rows {
-        assert!(rt; state_after(rt.alloc(), entries)? == want, "{entries:?}");
+        assert!(rt; phase_after(rt.alloc(), entries)? == want, "{entries:?}");
     }
     Ok(())
 }
 
 #[test]
 fn final_responses_and_failures(rt: HostRuntime) -> Result<(), Fail> {
-    let completed = |set| Some(PlainState::Completed {
+    let completed = |set| Some(PlainClientPhase::Completed {
         reliable: false,
         set,
     });
-    let rows: [(&[Entry], Option<PlainState>); 8] = [
+    let rows: [(&[Entry], Option<PlainClientPhase>); 8] = [
         (&[sent(0), received(550, 200)], completed(550)),
         (&[sent(0), received(551, 200)], None),
         (
@@ -130,44 +158,51 @@ fn final_responses_and_failures(rt: HostRuntime) -> Result<(), Fail> {
             completed(100),
         ),
         (&[sent(0), received(100, 200), sent(500)], None),
-        (&[failed(0)], Some(PlainState::Ended)),
-        (&[sent(0), failed(500)], Some(PlainState::Ended)),
+        (&[failed(0)], Some(PlainClientPhase::Ended)),
+        (&[sent(0), failed(500)], Some(PlainClientPhase::Ended)),
         (&[sent(0), failed(449)], None),
-        (&[received(100, 200)], Some(PlainState::Idle)),
+        (&[received(100, 200)], Some(PlainClientPhase::Idle)),
     ];
     for (entries, want) in rows {
-        assert!(rt; state_after(rt.alloc(), entries)? == want, "{entries:?}");
+        assert!(rt; phase_after(rt.alloc(), entries)? == want, "{entries:?}");
     }
     Ok(())
 }
 
 /// When the state may end, and its last moment.
-fn ends_of(client: &PlainClient, state: PlainState) -> (Option<(u64, Option<u64>)>, Option<u64>)
-    requires { PlainInRange state }
+fn ends_of(
+    client: &PlainClient,
+    phase: PlainClientPhase,
+) -> (Option<(u64, Option<u64>)>, Option<u64>)
+    requires { PlainClientInRange phase }
 {
+    let state: PlainClientState = Owing {
+        phase,
+        owes: Owes::none(),
+    };
     (client.end_window(&state), client.until(&state))
 }
 
 #[test]
 fn ends(rt: HostRuntime) -> Result<(), Fail> {
     let client = client()?;
-    assert!(rt; ends_of(&client, PlainState::Idle) == (None, None));
+    assert!(rt; ends_of(&client, PlainClientPhase::Idle) == (None, None));
     // Timer E fires by 550, timer F from 31950 to 32050.
     let timer_f = Some((31_950, Some(32_050)));
-    let trying = PlainState::Trying(waiting(0, 500));
+    let trying = PlainClientPhase::Trying(waiting(0, 500));
     assert!(rt; ends_of(&client, trying) == (timer_f, Some(550)));
-    let proceeding = PlainState::Proceeding(waiting(31_500, 4_000));
+    let proceeding = PlainClientPhase::Proceeding(waiting(31_500, 4_000));
     assert!(rt; ends_of(&client, proceeding) == (timer_f, Some(32_050)));
-    let completed = PlainState::Completed {
+    let completed = PlainClientPhase::Completed {
         reliable: false,
         set: 700,
     };
     assert!(rt; ends_of(&client, completed) == (Some((5_650, Some(5_750))), Some(5_750)));
-    let completed = PlainState::Completed {
+    let completed = PlainClientPhase::Completed {
         reliable: true,
         set: 700,
     };
     assert!(rt; ends_of(&client, completed) == (Some((700, Some(750))), Some(750)));
-    assert!(rt; ends_of(&client, client.ended()) == (None, None));
+    assert!(rt; ends_of(&client, client.ended().phase) == (None, None));
     Ok(())
 }

@@ -2,11 +2,13 @@
 ghost use Rattle.std.specs.Prelude.{All, IfOk};
 ghost use Rattle.sip_machine.specs.Heard.{FitsBook};
 ghost use Rattle.sip_machine.specs.Rules.{Knows};
+ghost use Rattle.sip_machine.specs.Owing.{owing_names, OwingInRange};
 ghost use Rattle.sip_machine.specs.PlainServer.{plain_server_names, PlainServerInRange};
 
 use crate::messages::{Numbered, Start, book_of, event_of};
 use sip_machine::{
-    Action, Book, Debt, Event, Machine, Outbox, Params, PlainServer, PlainServerState, Run,
+    Action, Book, Debt, Event, Machine, Owes, Owing, Params, PlainServer, PlainServerPhase,
+    PlainServerState, Run,
 };
 use std::alloc::Global;
 use std::test::Fail;
@@ -65,19 +67,19 @@ fn may(message: u32, deadline: u64) -> Debt {
 }
 
 /// Up to two debts that are wanted, and differ.
-type Owes = [Option<Debt>; 2];
+type Debts = [Option<Debt>; 2];
 
-const NOTHING: Owes = [None, None];
+const NOTHING: Debts = [None, None];
 
-fn one(debt: Debt) -> Owes {
+fn one(debt: Debt) -> Debts {
     [Some(debt), None]
 }
 
-fn two(first: Debt, second: Debt) -> Owes {
+fn two(first: Debt, second: Debt) -> Debts {
     [Some(first), Some(second)]
 }
 
-fn are_owed(runs: &[Run], want: Owes) -> bool {
+fn are_owed(runs: &[Run], want: Debts) -> bool {
     let debts = match runs {
         [] => NOTHING,
         [only] => one(only.debt),
@@ -92,34 +94,27 @@ fn are_owed(runs: &[Run], want: Owes) -> bool {
 enum Want {
     Idle,
     Trying,
-    Proceeding(u32, Owes),
-    Completed(u32, u64, Owes),
+    Proceeding(u32, Debts),
+    Completed(u32, u64, Debts),
 }
 
 fn is_wanted(state: &PlainServerState, want: Want) -> bool {
-    match (state, want) {
-        (PlainServerState::Idle, Want::Idle) => true,
-        (PlainServerState::Trying { reliable }, Want::Trying) => !*reliable,
+    match (&state.phase, want) {
+        (PlainServerPhase::Idle, Want::Idle) => true,
+        (PlainServerPhase::Trying { reliable }, Want::Trying) => !*reliable,
+        (PlainServerPhase::Proceeding { reliable, last }, Want::Proceeding(number, debts)) =>
+            !*reliable && *last == number && are_owed(state.owes.runs(), debts),
         (
-            PlainServerState::Proceeding {
-                reliable,
-                last,
-                owes,
-            },
-            Want::Proceeding(number, debts),
-        ) => !*reliable && *last == number && are_owed(owes.runs(), debts),
-        (
-            PlainServerState::Completed {
+            PlainServerPhase::Completed {
                 reliable,
                 final_message,
                 set,
-                owes,
             },
             Want::Completed(number, moment, debts),
         ) => !*reliable
             && *final_message == number
             && *set == moment
-            && are_owed(owes.runs(), debts),
+            && are_owed(state.owes.runs(), debts),
         _ => false,
     }
 }
@@ -139,7 +134,7 @@ fn server() -> Result<PlainServer, Fail> {
 
 /// The states after the entries, of all steps.
 fn states_after(alloc: Global, entries: &[Entry]) -> Result<Vec<PlainServerState>, Fail>
-    ensures { IfOk result (λ states. All PlainServerInRange states.items) }
+    ensures { IfOk result (λ states. All (OwingInRange PlainServerInRange) states.items) }
 {
     let book = book_of(alloc, &MESSAGES, "OPTIONS", "UDP")?;
     run(alloc, &server()?, &book, entries)
@@ -151,7 +146,7 @@ fn run(
     book: &Book,
     entries: &[Entry],
 ) -> Result<Vec<PlainServerState>, Fail>
-    ensures { IfOk result (λ states. All PlainServerInRange states.items) }
+    ensures { IfOk result (λ states. All (OwingInRange PlainServerInRange) states.items) }
 {
     let mut states = Vec::new(alloc);
     states.push(server.first())?;
@@ -171,10 +166,10 @@ fn step(
     event: &Event,
 ) -> Result<Vec<PlainServerState>, Fail>
     requires fits { FitsBook book.now event.now }
-    requires known { All (Knows plain_server_names book.now) states.now }
-    requires in_range { All PlainServerInRange states.now }
-    ensures known { IfOk result (λ next. All (Knows plain_server_names book.now) next.items) }
-    ensures in_range { IfOk result (λ next. All PlainServerInRange next.items) }
+    requires known { All (Knows (owing_names plain_server_names) book.now) states.now }
+    requires in_range { All (OwingInRange PlainServerInRange) states.now }
+    ensures known { IfOk result (λ next. All (Knows (owing_names plain_server_names) book.now) next.items) }
+    ensures in_range { IfOk result (λ next. All (OwingInRange PlainServerInRange) next.items) }
 {
     let mut next = Vec::new(alloc);
     for state in states {
@@ -355,9 +350,9 @@ fn are_turns(runs: &[Run], want: Turns) -> bool {
 
 /// Whether the state is proceeding with this last response, and owes these.
 fn proceeds(state: &PlainServerState, (number, turns): (u32, Turns)) -> bool {
-    match state {
-        PlainServerState::Proceeding { last, owes, .. } => {
-            *last == number && are_turns(owes.runs(), turns)
+    match &state.phase {
+        PlainServerPhase::Proceeding { last, .. } => {
+            *last == number && are_turns(state.owes.runs(), turns)
         }
         _ => false,
     }
@@ -420,7 +415,7 @@ fn ends_of(
     server: &PlainServer,
     state: &PlainServerState,
 ) -> (Option<(u64, Option<u64>)>, Option<u64>)
-    requires { PlainServerInRange state.now }
+    requires { OwingInRange PlainServerInRange state.now }
 {
     (server.end_window(state), server.until(state))
 }
@@ -454,11 +449,13 @@ fn ends(rt: HostRuntime) -> Result<(), Fail> {
         };
         assert!(rt; ends_of(&server, only) == (window, until), "{entries:?}");
     }
-    let over_tcp = PlainServerState::Completed {
-        reliable: true,
-        final_message: FINAL,
-        set: 700,
-        owes: Outbox::new(rt.alloc()),
+    let over_tcp = Owing {
+        phase: PlainServerPhase::Completed {
+            reliable: true,
+            final_message: FINAL,
+            set: 700,
+        },
+        owes: Owes::none(),
     };
     assert!(rt; ends_of(&server, &over_tcp) == (Some((700, Some(750))), Some(750)));
     Ok(())

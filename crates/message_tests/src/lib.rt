@@ -16,4 +16,6 @@ mod rows;
 #[cfg(test)]
 mod tests;
 #[cfg(test)]
+mod told;
+#[cfg(test)]
 mod torture;

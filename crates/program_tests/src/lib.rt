@@ -5,3 +5,5 @@
 mod desk;
 #[cfg(test)]
 mod forms;
+#[cfg(test)]
+mod told;

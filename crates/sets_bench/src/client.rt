@@ -1,6 +1,7 @@
 //! Sets of states of an INVITE client that owes as many ACKs as one likes.
 ghost use Rattle.std.specs.Prelude.{◌≡◌, All, IfOk};
 ghost use Rattle.sip_machine.specs.Rules.{Knows};
+ghost use Rattle.sip_machine.specs.Owing.{owing_names};
 ghost use Rattle.sip_machine.specs.InviteClient.{invite_client_names};
 
 use crate::hear::{What, event_of, hear, hear_often};
@@ -59,7 +60,7 @@ pub fn book(alloc: Global) -> Result<Book, AllocError> {
 /// The set of a client that owes so many ACKs: the last one to the last response, the others to one before it.
 pub fn set_of(alloc: Global, book: &Book, debts: u32) -> io::Result<StateSet<InviteClient>>
     ensures start { IfOk result (λ set. set.moment ≡ 0) }
-    ensures known { IfOk result (λ set. All (Knows invite_client_names book.now) set.states) }
+    ensures known { IfOk result (λ set. All (Knows (owing_names invite_client_names) book.now) set.states) }
 {
     let invite = event_of(alloc, book, (Action::Sent, INVITE))?;
     let busy = event_of(alloc, book, (Action::Received, BUSY))?;

@@ -1,6 +1,7 @@
 //! Sets of states of a non-INVITE server, with as many states and debts as one likes.
 ghost use Rattle.std.specs.Prelude.{◌≡◌, All, IfOk, OnOk};
 ghost use Rattle.sip_machine.specs.Rules.{Knows};
+ghost use Rattle.sip_machine.specs.Owing.{owing_names};
 ghost use Rattle.sip_machine.specs.PlainServer.{plain_server_names};
 
 use crate::hear::{What, event_of, hear, hear_often};
@@ -122,9 +123,9 @@ fn owe(
     times: u32,
 ) -> io::Result<()>
     requires start { set.old.moment ≡ 0 }
-    requires known { All (Knows plain_server_names book.now) set.old.states }
+    requires known { All (Knows (owing_names plain_server_names) book.now) set.old.states }
     ensures start { OnOk result (set.new.moment ≡ 0) }
-    ensures known { OnOk result (All (Knows plain_server_names book.now) set.new.states) }
+    ensures known { OnOk result (All (Knows (owing_names plain_server_names) book.now) set.new.states) }
 {
     hear(set, book, sent)?;
     hear_often(set, book, again, times)
@@ -133,9 +134,9 @@ fn owe(
 /// Sends the response so often, and once more.
 fn pay(set: &mut StateSet<PlainServer>, book: &Book, sent: &Event, times: u32) -> io::Result<()>
     requires start { set.old.moment ≡ 0 }
-    requires known { All (Knows plain_server_names book.now) set.old.states }
+    requires known { All (Knows (owing_names plain_server_names) book.now) set.old.states }
     ensures start { OnOk result (set.new.moment ≡ 0) }
-    ensures known { OnOk result (All (Knows plain_server_names book.now) set.new.states) }
+    ensures known { OnOk result (All (Knows (owing_names plain_server_names) book.now) set.new.states) }
 {
     hear(set, book, sent)?;
     hear_often(set, book, sent, times)
@@ -144,7 +145,7 @@ fn pay(set: &mut StateSet<PlainServer>, book: &Book, sent: &Event, times: u32) -
 /// The set of this shape.
 pub fn set_of(alloc: Global, book: &Book, shape: Shape) -> io::Result<StateSet<PlainServer>>
     ensures start { IfOk result (λ set. set.moment ≡ 0) }
-    ensures known { IfOk result (λ set. All (Knows plain_server_names book.now) set.states) }
+    ensures known { IfOk result (λ set. All (Knows (owing_names plain_server_names) book.now) set.states) }
 {
     let request = event_of(alloc, book, (Action::Received, REQUEST))?;
     let first = event_of(alloc, book, (Action::Sent, FIRST))?;

@@ -11,7 +11,7 @@ use Rattle.sip_message.specs.StartLine.{StartLine, request}
 use Rattle.sip_key.specs.Solid.{solid}
 use Rattle.sip_message.specs.Reading.{Reading}
 use Rattle.sip_message.specs.Reads.{Reads}
-use Rattle.sip_message.proofs.MessageLemmas.{same_reading}
+use Rattle.sip_message.proofs.lemmas.message.Views.{same_reading}
 use Rattle.sip_key.specs.AckOf.{IsAckLine, IsAckOf, AckOf}
 
 -- a request whose method is ACK, and another with the same URI

@@ -12,8 +12,8 @@ use Rattle.sip_text.specs.Grammar.{Token}
 use Rattle.sip_message.specs.StartLine.{StartLine, request, status, StartText}
 use Rattle.sip_message.specs.Reading.{Reading}
 use Rattle.sip_message.specs.Reads.{Reads}
-use Rattle.sip_message.proofs.SplitLemmas as each
-use Rattle.sip_message.proofs.FieldLemmas.{each-token}
+use Rattle.sip_message.proofs.lemmas.text.Cuts as each
+use Rattle.sip_message.proofs.lemmas.field.OneWay.{each-token}
 use Rattle.sip_key.specs.declared.role.Role.TheVariants.{Client}
 use Rattle.sip_key.specs.declared.role.Direction.{Direction}
 use Rattle.sip_key.specs.Key.{KeyParts}

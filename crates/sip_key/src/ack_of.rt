@@ -8,9 +8,9 @@ use crate::solid::{next_solid, same_solid};
 use sip_message::{Message, Routes, StartLine};
 use std::marker::Model;
 
-/// Whether the first message is the ACK for the third, a response to the second, which is an INVITE
-/// (RFC 3261, section 17.1.1.3). From, To, Via and Route are compared but for blanks, the rest byte for
-/// byte. It takes no memory.
+/// Whether the first message is the ACK for the third, where that is a response to the second, an INVITE
+/// (RFC 3261, section 17.1.1.3); whether they are such is not asked. From, To, Via and Route are compared
+/// but for blanks, the rest byte for byte. It takes no memory.
 pub fn is_ack_of(ack: &Message<'_>, invite: &Message<'_>, response: &Message<'_>) -> bool
     ensures { IsTrue result ↔ IsAckOf ack.now invite.now response.now }
 {

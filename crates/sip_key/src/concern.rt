@@ -16,13 +16,16 @@ use crate::sent_by::sent_by;
 use sip_message::{Message, StartLine, Via};
 use sip_text::Host;
 use std::alloc::{AllocError, Global};
+use thiserror::Error;
 
 /// Why no key is answered.
-#[derive(Clone, Copy, Debug, PartialEq, Eq)]
+#[derive(Clone, Copy, Debug, PartialEq, Eq, Error)]
 pub enum KeyError {
     /// A growth was refused.
+    #[error("out of memory")]
     Memory,
     /// A request is sent whose top branch lacks the cookie.
+    #[error("the top branch of a sent request lacks the cookie")]
     NoCookie,
 }
 

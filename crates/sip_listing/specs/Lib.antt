@@ -3,6 +3,7 @@ pub mod InviteClient
 pub mod PlainClient
 pub mod InviteServer
 pub mod PlainServer
+pub mod State
 pub mod Lines
 pub mod Transaction
 pub mod inner

@@ -3,19 +3,18 @@ use Rattle.sip_key.specs.declared.role.Role.{Role}
 use Rattle.sip_key.specs.declared.role.Role.TheVariants.{Client, Server}
 use Rattle.sip_key.specs.Key.{KeyParts}
 use Rattle.sip_machine.specs.Texts.{Texts}
-use Rattle.sip_machine.specs.InviteClient.{invite_client_seen}
-use Rattle.sip_machine.specs.PlainClient.{plain_seen}
-use Rattle.sip_machine.specs.InviteServer.{invite_server_seen}
-use Rattle.sip_machine.specs.PlainServer.{plain_server_seen}
-use Rattle.sip_states.specs.KeyMachine.{MachineKind, OfInviteClient, OfPlainClient, OfInviteServer, OfPlainServer, PhaseOf}
+use Rattle.sip_machine.specs.Times.{Times}
+use Rattle.sip_states.specs.Held.{Held}
+use Rattle.sip_states.specs.KeyMachine.{MachineKind, OfInviteClient, OfPlainClient, OfInviteServer, OfPlainServer, transaction, PhaseOf}
 use Rattle.sip_states.specs.declared.any_set.AnySet.{AnySet}
 use Rattle.sip_states.specs.declared.any_set.AnySet.TheVariants as sets
-use Rattle.sip_states.specs.AnySet.{OfSet}
+use Rattle.sip_states.specs.AnySet.{StateOf, meaning_of, OfSet}
 use Rattle.sip_listing.specs.Fields.{Tells}
 use Rattle.sip_listing.specs.InviteClient.{invite_client_text}
 use Rattle.sip_listing.specs.PlainClient.{plain_client_text}
 use Rattle.sip_listing.specs.InviteServer.{invite_server_text}
 use Rattle.sip_listing.specs.PlainServer.{plain_server_text}
+use Rattle.sip_listing.specs.State.{owing_text}
 use Rattle.sip_listing.specs.Lines.{AreInOrder, indented}
 
 -- A transaction in a listing: its number, its key in words, and its states.
@@ -38,12 +37,16 @@ transaction_line number key count =
 abbrev pub transaction_text : ℕ → KeyParts → List (List ℕ) → List ℕ
 transaction_text number key lines = transaction_line number key (length lines) ++ indented lines
 
--- the text of a state of a machine, whose messages are told by these numbers
+-- the text of a phase of a machine, whose messages are told by these numbers
+abbrev pub phase_text : (machine : MachineKind) → (List ℕ → ℕ) → (transaction machine).Phase → List ℕ
+phase_text OfInviteClient number x = invite_client_text number x
+phase_text OfPlainClient number x = plain_client_text number x
+phase_text OfInviteServer number x = invite_server_text number x
+phase_text OfPlainServer number x = plain_server_text number x
+
+-- and of a state
 abbrev pub state_text : (machine : MachineKind) → (List ℕ → ℕ) → PhaseOf machine → List ℕ
-state_text OfInviteClient number x = invite_client_text number x
-state_text OfPlainClient number x = plain_client_text number x
-state_text OfInviteServer number x = invite_server_text number x
-state_text OfPlainServer number x = plain_server_text number x
+state_text machine number x = owing_text (phase_text machine) number x
 
 -- What the code lists, whose messages are numbers of a book.
 
@@ -51,12 +54,16 @@ state_text OfPlainServer number x = plain_server_text number x
 abbrev pub TellsSet : (List ℕ → ℕ) → Texts → AnySet → Type 0
 TellsSet number texts set = OfSet (λ X M S m s. All (λ x. Tells number texts (m.names x)) s.states) set
 
+-- the lines are those of the states of a set of this machine
+abbrev pub AreLinesOfHeld : (List ℕ → ℕ) → Texts → (machine : MachineKind) → Held Times (StateOf machine) → List (List ℕ) → Type 0
+AreLinesOfHeld number texts machine s lines = AreInOrder (map (λ x. state_text machine number ((meaning_of machine).seen texts x)) s.states) lines
+
 -- the lines are those of the set's states
 abbrev pub AreLinesOfSet : (List ℕ → ℕ) → Texts → AnySet → List (List ℕ) → Type 0
-AreLinesOfSet number texts (sets.InviteClient s) lines = AreInOrder (map (λ x. invite_client_text number (invite_client_seen texts x)) s.states) lines
-AreLinesOfSet number texts (sets.PlainClient s) lines = AreInOrder (map (λ x. plain_client_text number (plain_seen texts x)) s.states) lines
-AreLinesOfSet number texts (sets.InviteServer s) lines = AreInOrder (map (λ x. invite_server_text number (invite_server_seen texts x)) s.states) lines
-AreLinesOfSet number texts (sets.PlainServer s) lines = AreInOrder (map (λ x. plain_server_text number (plain_server_seen texts x)) s.states) lines
+AreLinesOfSet number texts (sets.InviteClient s) lines = AreLinesOfHeld number texts OfInviteClient s lines
+AreLinesOfSet number texts (sets.PlainClient s) lines = AreLinesOfHeld number texts OfPlainClient s lines
+AreLinesOfSet number texts (sets.InviteServer s) lines = AreLinesOfHeld number texts OfInviteServer s lines
+AreLinesOfSet number texts (sets.PlainServer s) lines = AreLinesOfHeld number texts OfPlainServer s lines
 
 -- the lines list the set, wherever its messages are told by their numbers in the book
 abbrev pub Lists : AnySet → List (List ℕ) → Type 0

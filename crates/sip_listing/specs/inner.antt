@@ -1,4 +1,5 @@
 pub mod FieldLaws
+pub mod StateLine
 pub mod InviteClientLine
 pub mod PlainClientLine
 pub mod InviteServerLine

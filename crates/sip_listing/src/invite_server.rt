@@ -1,15 +1,15 @@
-//! The text of a state of the INVITE server.
-use crate::fields::{push_flag, push_number, push_optional, push_owes};
+//! The text of a phase of the INVITE server.
+use crate::fields::{push_flag, push_number, push_optional};
 use crate::told::Told;
-use sip_machine::InviteServerState;
+use sip_machine::InviteServerPhase;
 use std::alloc::AllocError;
 
-impl Told for InviteServerState {
-    ghost use Rattle.sip_machine.specs.InviteServer.{InviteServerPhase, invite_server_seen, invite_server_names};
+impl Told for InviteServerPhase {
+    ghost use Rattle.sip_machine.specs.InviteServer.{InviteServerPhase as Seen, invite_server_seen, invite_server_names};
     ghost use Rattle.sip_listing.specs.InviteServer.{invite_server_text};
     ghost use Rattle.sip_listing.specs.inner.InviteServerLine.{invite_server_line, invite_server_told};
 
-    ghost Seen = { InviteServerPhase };
+    ghost Seen = { Seen };
 
     ghost seen = { invite_server_seen };
 
@@ -23,49 +23,39 @@ impl Told for InviteServerState {
 
     fn push_text(&self, out: &mut String) -> Result<(), AllocError> {
         match self {
-            InviteServerState::Idle => out.push_str("idle"),
-            InviteServerState::Proceeding {
+            InviteServerPhase::Idle => out.push_str("idle"),
+            InviteServerPhase::Proceeding {
                 reliable,
                 set,
                 last,
-                owes,
             } => {
                 out.push_str("proceeding")?;
                 push_flag(out, "reliable", *reliable)?;
                 push_number(out, "set", *set)?;
-                push_optional(out, "last", last.map(u64::from))?;
-                push_owes(out, owes.runs())
+                push_optional(out, "last", last.map(u64::from))
             }
-            InviteServerState::Accepted { set, owes } => {
+            InviteServerPhase::Accepted { set } => {
                 out.push_str("accepted")?;
-                push_number(out, "set", *set)?;
-                push_owes(out, owes.runs())
+                push_number(out, "set", *set)
             }
-            InviteServerState::Completed {
+            InviteServerPhase::Completed {
                 reliable,
                 final_message,
                 set,
                 repeat,
                 interval,
-                owes,
             } => {
                 out.push_str("completed")?;
                 push_flag(out, "reliable", *reliable)?;
                 push_number(out, "final", (*final_message).into())?;
                 push_number(out, "set", *set)?;
                 push_number(out, "repeat", *repeat)?;
-                push_number(out, "interval", *interval)?;
-                push_owes(out, owes.runs())
+                push_number(out, "interval", *interval)
             }
-            InviteServerState::Confirmed {
-                reliable,
-                set,
-                owes,
-            } => {
+            InviteServerPhase::Confirmed { reliable, set } => {
                 out.push_str("confirmed")?;
                 push_flag(out, "reliable", *reliable)?;
-                push_number(out, "set", *set)?;
-                push_owes(out, owes.runs())
+                push_number(out, "set", *set)
             }
         }
     }

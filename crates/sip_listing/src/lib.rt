@@ -7,6 +7,7 @@ mod invite_server;
 mod lines;
 mod plain_client;
 mod plain_server;
+mod state;
 mod told;
 mod transaction;
 

@@ -1,11 +1,11 @@
-//! States that have a text.
+//! Phases and states that have a text.
 ghost use Rattle.std.specs.Prelude.{◌≡◌, ◌++◌, ℕ, List, OnOk, string_bytes};
 ghost use Rattle.sip_machine.specs.Texts.{Texts};
 ghost use Rattle.sip_listing.specs.Fields.{Tells};
 
 use std::alloc::AllocError;
 
-/// A state of a machine, whose text is its phase with its data as ` name=value`.
+/// A phase of a machine, whose text is its name with its data as ` name=value`; or a state, whose text tells what is owed too.
 pub trait Told: Drop {
     /// A state as the rules see it.
     ghost Seen: { Type 0 };

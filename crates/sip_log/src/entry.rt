@@ -23,7 +23,7 @@ const LONGEST_LINE: usize = 32;
 const MOST_ENTRIES: u32 = 1_000_000;
 
 /// An entry: what was done at a moment, in milliseconds, and with which message. A mark has no message.
-#[derive(Drop)]
+#[derive(Debug, Drop)]
 pub struct Entry {
     pub number: u32,
     pub moment: u64,

@@ -15,7 +15,7 @@ use std::marker::Model;
 use std::mem;
 
 /// What is read next, if anything is.
-#[derive(Drop)]
+#[derive(Debug, Drop)]
 enum Stage {
     Fresh,
     Entries(Window),
@@ -24,7 +24,7 @@ enum Stage {
 }
 
 /// How far a log was read from a source that someone else holds.
-#[derive(Drop)]
+#[derive(Debug, Drop)]
 pub struct Progress {
     alloc: Global,
     stage: Stage,

@@ -11,7 +11,7 @@ use std::alloc::Global;
 use std::marker::Model;
 
 /// Reads a log, entry by entry, from a source that hands out its bytes in pieces of any size.
-#[derive(Drop)]
+#[derive(Debug, Drop)]
 pub struct LogReader<R: Source> {
     source: R,
     progress: Progress,

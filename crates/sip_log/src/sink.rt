@@ -13,7 +13,7 @@ pub trait Sink {
     // Whether a call has failed.
     ghost has_failed: { Self → Bool };
 
-    /// Takes all of the bytes.
+    /// Takes all of the bytes. On an error it is not said how many it has taken.
     fn put(&mut self, bytes: &[u8]) -> Result<(), Broken>
         ensures appends { OnOk result (Appends (written self.old) (written self.new) bytes.now) }
         ensures ok { OnOk result (has_failed self.new ≡ has_failed self.old) }
@@ -40,7 +40,7 @@ impl<S: Sink> Sink for &mut S {
 }
 
 /// A sink over a writer of std. A write that was interrupted is tried again; any other error is a failure.
-#[derive(Drop)]
+#[derive(Debug, Drop)]
 pub struct ToWrite<W> {
     writer: W,
     failed: bool,

@@ -1,12 +1,11 @@
 //! Where a log's bytes come from.
-ghost use Rattle.std.specs.Prelude.{◌≡◌, ◌≢◌, ℕ, Bool, true, false, List, Option, Some, OnOk, OnErr, IfErr};
-ghost use Rattle.std.specs.IoError.{error_kind};
+ghost use Rattle.std.specs.Prelude.{◌≡◌, ◌≢◌, ℕ, Bool, true, false, List, Option, Some, OnOk, OnErr, is_some};
+ghost use Rattle.std.specs.Option.{ForSome};
 ghost use Rattle.std.specs.declared.io.ErrorKind.TheVariants.{Interrupted};
 ghost use Rattle.sip_log.specs.Source.{Fills};
 
 use crate::broken::Broken;
-use std::io;
-use std::io::Read;
+use std::io::{ErrorKind, Read};
 
 /// What hands out the bytes of a log, in pieces of any size.
 pub trait Source {
@@ -62,11 +61,11 @@ impl<'a> Source for &'a [u8] {
     }
 }
 
-/// A source over a reader of std. A read that was interrupted is tried again; any other error is a failure.
-#[derive(Drop)]
+/// A source over a reader of std. A read that was interrupted is tried again; any other error is a failure, and its kind is kept.
+#[derive(Debug, Drop)]
 pub struct FromRead<R> {
     reader: R,
-    failed: bool,
+    failure: Option<ErrorKind>,
 }
 
 impl<R: Read> FromRead<R> {
@@ -77,41 +76,42 @@ impl<R: Read> FromRead<R> {
     {
         FromRead {
             reader,
-            failed: false,
+            failure: None,
         }
     }
-}
 
-/// Reads once, and again where the read was interrupted.
-fn read_on<R: Read>(reader: &mut R, buf: &mut [u8]) -> io::Result<usize>
-    ensures bytes { Fills (R.remaining reader.old) (R.remaining reader.new) result buf.new }
-    ensures retried { IfErr result (λ e. error_kind e ≢ Interrupted) }
-{
-    for _ in 0..u64::MAX {
-        match reader.read(buf) {
-            Err(e) if e.kind() == io::ErrorKind::Interrupted => {}
-            result => return result,
+    /// Reads once, and again where the read was interrupted.
+    fn read_on(&mut self, buf: &mut [u8]) -> Result<usize, Broken>
+        ensures bytes { Fills (R.remaining self.old.reader) (R.remaining self.new.reader) result buf.new }
+        ensures ok { OnOk result (self.new.failure ≡ self.old.failure) }
+        ensures err { OnErr result (is_some self.new.failure ≡ true) }
+        ensures retried { OnErr result (ForSome self.new.failure (λ kind. kind ≢ Interrupted)) }
+    {
+        for _ in 0..u64::MAX {
+            match self.reader.read(buf) {
+                Ok(count) => return Ok(count),
+                Err(e) if e.kind() == ErrorKind::Interrupted => {}
+                Err(e) => {
+                    self.failure = Some(e.kind());
+                    return Err(Broken);
+                }
+            }
         }
+        self.failure = Some(ErrorKind::TimedOut);
+        Err(Broken)
     }
-    Err(io::Error::from(io::ErrorKind::TimedOut))
 }
 
 impl<R: Read> Source for FromRead<R> {
     ghost left = { λ s. R.remaining s.reader };
 
-    ghost has_failed = { λ s. s.failed };
+    ghost has_failed = { λ s. is_some s.failure };
 
     fn fill(&mut self, buf: &mut [u8]) -> Result<usize, Broken> {
-        match read_on(&mut self.reader, buf) {
-            Ok(count) => Ok(count),
-            Err(_) => {
-                self.failed = true;
-                Err(Broken)
-            }
-        }
+        self.read_on(buf)
     }
 
     fn has_failed(&self) -> bool {
-        self.failed
+        self.failure.is_some()
     }
 }

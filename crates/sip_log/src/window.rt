@@ -13,9 +13,11 @@ use std::alloc::{AllocError, Global};
 /// The bytes that a window has room for. The longest entry's message fits.
 const SIZE: usize = 128 * 1024;
 
-/// Bytes that were read and not yet taken.
+/// Bytes that were read and not yet taken. `Debug` tells where they stand, and leaves them out.
 #[derive(Drop)]
+#[derive_where(Debug)]
 pub(crate) struct Window {
+    #[derive_where(skip)]
     bytes: Vec<u8>,
     start: usize,
     end: usize,

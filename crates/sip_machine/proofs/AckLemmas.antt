@@ -5,8 +5,8 @@ use Rattle.sip_message.specs.Message.{message_of}
 use Rattle.sip_message.specs.Reading.{Reading}
 use Rattle.sip_message.specs.Reads.{Reads}
 use Rattle.sip_message.specs.Faults.{FaultOf}
-use Rattle.sip_message.proofs.FaultLemmas.{spells-no_fault, same_fault}
-use Rattle.sip_message.proofs.MessageLemmas.{same_reading}
+use Rattle.sip_message.proofs.lemmas.message.Faults.{spells-no_fault, same_fault}
+use Rattle.sip_message.proofs.lemmas.message.Views.{same_reading}
 use Rattle.sip_key.specs.AckOf.{AckOf, IsAckOf}
 use Rattle.sip_machine.specs.declared.outbox.Debt.{Debt}
 use Rattle.sip_machine.specs.Texts.{Texts, text_of}

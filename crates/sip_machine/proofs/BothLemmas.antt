@@ -28,10 +28,6 @@ module _ {X S : Type 0} (names : S → List ℕ) (InRange : S → Type 0) (seen 
   AnswersBoth-one P None none = StandFor-none names InRange seen texts P none
   AnswersBoth-one P (Some s) one = StandFor-one names InRange seen texts P s one
 
-  pub AnswersBoth-other : (P : X → Type 0) (a : Option S) → AnswersOne names InRange seen texts P a → AnswersBoth names InRange seen texts P (None, a)
-  AnswersBoth-other P None none = StandFor-none names InRange seen texts P none
-  AnswersBoth-other P (Some s) one = StandFor-one names InRange seen texts P s one
-
   -- two that exclude each other
   pub AnswersBoth-two : (P Q : X → Type 0) → ((x : X) → P x → Q x → ⊥) → (a b : Option S) → AnswersOne names InRange seen texts P a →
       AnswersOne names InRange seen texts Q b → AnswersBoth names InRange seen texts (λ x. P x ⊎ Q x) (a, b)
@@ -81,7 +77,3 @@ OrStays-one P x z only y = (
   λ h. elim h [ inl p ↦ (only y).0 p | inr stays ↦ absurd (stays.0 z ((only z).1 refl)) ],
   λ e. inl ((only y).1 e),
 )
-
--- where it holds of none, it changes nothing
-pub OrStays-none : {X : Type 0} (P : X → Type 0) (x : X) → ((y : X) → P y → ⊥) → (y : X) → OrStays P x y ↔ (y ≡ x)
-OrStays-none P x none y = (λ h. elim h [ inl p ↦ absurd (none y p) | inr stays ↦ stays.1 ], λ e. inr (none, e))

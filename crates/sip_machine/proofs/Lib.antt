@@ -1,8 +1,7 @@
-pub mod PlainSteps
-pub mod PlainServerSteps
-pub mod InviteClientSteps
-pub mod InviteServerEnds
-pub mod InviteServerSteps
+pub mod OwingSteps
+pub mod RepliesLemmas
+pub mod InviteClientRows
+pub mod InviteServerRows
 pub mod RuleLaws
 pub mod SingleLemmas
 pub mod BothLemmas
@@ -14,3 +13,5 @@ pub mod RunsLemmas
 pub mod RunOrderLemmas
 pub mod ProvisionalLemmas
 pub mod AckLemmas
+pub mod RetainLemmas
+pub mod NamingLemmas

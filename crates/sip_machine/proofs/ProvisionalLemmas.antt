@@ -7,7 +7,7 @@ use Rattle.sip_message.specs.Message.{message_of}
 use Rattle.sip_message.specs.Reading.{Reading}
 use Rattle.sip_message.specs.Reads.{Reads}
 use Rattle.sip_message.specs.Faults.{FaultOf}
-use Rattle.sip_message.proofs.FaultLemmas.{spells-no_fault, same_message, same_fault}
+use Rattle.sip_message.proofs.lemmas.message.Faults.{spells-no_fault, same_message, same_fault}
 use Rattle.sip_machine.specs.Provisional.{Is100}
 use Rattle.sip_machine.specs.inner.Start.{IsStatus100}
 

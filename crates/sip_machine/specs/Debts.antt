@@ -11,14 +11,6 @@ pub record Owed : Type 0 where
   pub deadline : ℕ
   pub must : Bool
 
--- the message has to be sent as soon as the tolerance allows, from t on
-abbrev pub must_owe : Times → ℕ → List ℕ → Owed
-must_owe p t message = record { message = message; deadline = close_at p t 0; must = true }
-
--- the message may be sent as soon
-abbrev pub may_owe : Times → ℕ → List ℕ → Owed
-may_owe p t message = record { message = message; deadline = close_at p t 0; must = false }
-
 -- what is still owed at t: what may be sent is dropped when its deadline has passed
 abbrev pub unexpired : ℕ → List Owed → List Owed
 unexpired t owes = filter (λ owed. owed.must || nat_le t owed.deadline) owes

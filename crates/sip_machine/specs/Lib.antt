@@ -10,8 +10,14 @@ pub mod Rules
 pub mod Provisional
 pub mod Debts
 pub mod Owes
+pub mod Figure
+pub mod Owing
+pub mod Replies
 pub mod inner
 pub mod PlainClient
 pub mod PlainServer
 pub mod InviteClient
 pub mod InviteServer
+pub mod Transaction
+pub mod Naming
+pub mod Retained

@@ -1,29 +1,26 @@
-use Rattle.std.specs.Prelude.{◌≡◌, ◌≤◌, ◌<◌, ◌*◌, ◌^◌, ◌⊎◌, ℕ, Bool, Option, Some, None, List, [], ◌∷◌, if◌then◌else◌, min}
-use Rattle.sip_times.specs.declared.action.Action.{Action}
-use Rattle.sip_times.specs.declared.action.Action.TheVariants.{Sent, Received, Failed, Mark}
+use Rattle.std.specs.Prelude.{◌≡◌, ◌≤◌, ◌*◌, ◌⊎◌, ℕ, Bool, true, Option, None, List, [], ◌∷◌, if◌then◌else◌, min}
 use Rattle.sip_machine.specs.declared.event.Kind.{Kind}
 use Rattle.sip_machine.specs.declared.event.Kind.TheVariants.{Request, Response}
-use Rattle.sip_machine.specs.declared.plain_client.PlainWaiting.{PlainWaiting}
-use Rattle.sip_machine.specs.declared.plain_client.PlainState.{PlainState}
-use Rattle.sip_machine.specs.declared.plain_client.PlainState.TheVariants as code
+use Rattle.sip_machine.specs.declared.plain_client.PlainClientPhase.{PlainClientPhase as CodePhase}
+use Rattle.sip_machine.specs.declared.plain_client.PlainClientPhase.TheVariants as code
 use Rattle.sip_machine.specs.Times.{Times, last_moment}
-use Rattle.sip_machine.specs.Limits.{close_at, window_at, IsWithin}
-use Rattle.sip_machine.specs.Texts.{Texts, text_of}
+use Rattle.sip_machine.specs.Limits.{close_at, window_at}
+use Rattle.sip_machine.specs.Texts.{Texts}
 use Rattle.sip_machine.specs.Heard.{Heard}
 use Rattle.sip_machine.specs.Retransmits.{Retransmits}
-use Rattle.sip_machine.specs.Waiting.{Waiting}
+use Rattle.sip_machine.specs.Waiting.{Waiting, waiting_closes, waiting_seen, WaitingInRange}
 use Rattle.sip_machine.specs.Message.{IsProvisional, IsFinal}
-use Rattle.sip_machine.specs.Rules.{Rules, OrStays}
+use Rattle.sip_machine.specs.Figure.{Figure, After, keeps}
 
 -- The non-INVITE client transaction, RFC 3261 section 17.1.2 and its figure 6.
 
 -- the phases of section 17.1.2.2, with the one before the request and the one after the end
-pub data PlainPhase : Type 0 where
-  Idle : PlainPhase
-  Trying : Waiting → PlainPhase
-  Proceeding : Waiting → PlainPhase
-  Completed : Bool → ℕ → PlainPhase
-  Ended : PlainPhase
+pub data PlainClientPhase : Type 0 where
+  Idle : PlainClientPhase
+  Trying : Waiting → PlainClientPhase
+  Proceeding : Waiting → PlainClientPhase
+  Completed : (reliable : Bool) (set : ℕ) → PlainClientPhase
+  Ended : PlainClientPhase
 
 -- timer F, section 17.1.2.2: 64*T1 from the first request on
 abbrev pub timer_f : Times → ℕ
@@ -33,96 +30,61 @@ timer_f p = 64 * p.t1
 abbrev pub timer_k : Times → Bool → ℕ
 timer_k p reliable = if reliable then 0 else p.t4
 
--- the rows of a sent request: timer E starts at T1, doubles up to T2 in trying, and is T2 in proceeding
-abbrev pub Sends : Times → PlainPhase → Heard → PlainPhase → Type 0
-Sends p Idle e y =
-    y ≡ Trying (record { reliable = e.reliable; request = e.text; start = e.moment; set = e.moment; interval = p.t1 })
-Sends p (Trying w) e y =
-    Retransmits p w.reliable w.request w.set w.interval e × (y ≡ Trying (record w { set = e.moment; interval = min (2 * w.interval) p.t2 }))
-Sends p (Proceeding w) e y =
-    Retransmits p w.reliable w.request w.set w.interval e × (y ≡ Proceeding (record w { set = e.moment; interval = p.t2 }))
-Sends p (Completed reliable set) e y = ⊥
-Sends p Ended e y = ⊥
+-- the rows of a received response: a provisional one leaves timer E as it is, and a final one starts timer K
+abbrev pub Receives : Times → PlainClientPhase → Kind → Heard → After PlainClientPhase → Type 0
+Receives p (Trying w) (Response code) e y =
+    (IsProvisional code × (y ≡ (Proceeding w, keeps))) ⊎ (IsFinal code × (y ≡ (Completed w.reliable e.moment, keeps)))
+Receives p (Proceeding w) (Response code) e y = IsFinal code × (y ≡ (Completed w.reliable e.moment, keeps))
+Receives p x k e y = ⊥
 
--- the rows of a response received at t: a provisional one leads to proceeding and leaves timer E as it is, a final one to completed
-abbrev pub Hears : PlainPhase → ℕ → ℕ → PlainPhase → Type 0
-Hears Idle code t y = ⊥
-Hears (Trying w) code t y = (IsProvisional code × (y ≡ Proceeding w)) ⊎ (IsFinal code × (y ≡ Completed w.reliable t))
-Hears (Proceeding w) code t y = IsFinal code × (y ≡ Completed w.reliable t)
-Hears (Completed reliable set) code t y = ⊥
-Hears Ended code t y = ⊥
+-- the rows of a sent request: timers E and F start, E at T1; E fires, and starts again at twice its interval up to T2, in proceeding at T2
+abbrev pub Sends : Times → PlainClientPhase → Kind → Heard → After PlainClientPhase → Type 0
+Sends p Idle (Request method) e y =
+    y ≡ (Trying (record { reliable = e.reliable; request = e.text; start = e.moment; set = e.moment; interval = p.t1 }), keeps)
+Sends p (Trying w) (Request method) e y =
+    Retransmits p w.reliable w.request w.set w.interval e × (y ≡ (Trying (record w { set = e.moment; interval = min (2 * w.interval) p.t2 }), keeps))
+Sends p (Proceeding w) (Request method) e y =
+    Retransmits p w.reliable w.request w.set w.interval e × (y ≡ (Proceeding (record w { set = e.moment; interval = p.t2 }), keeps))
+Sends p x k e y = ⊥
 
--- a visible step, by what was sent or received: a refused request ends the machine where a sent one would have a row;
--- a received message without a row changes nothing, and a sent one without a row has no step
-abbrev pub Steps : Times → PlainPhase → Action → Kind → Heard → PlainPhase → Type 0
-Steps p x Sent (Request method) e y = Sends p x e y
-Steps p x Sent (Response code) e y = ⊥
-Steps p x Failed (Request method) e y = ((z : PlainPhase) × Sends p x e z) × (y ≡ Ended)
-Steps p x Failed (Response code) e y = ⊥
-Steps p x Received (Request method) e y = y ≡ x
-Steps p x Received (Response code) e y = OrStays (Hears x code e.moment) x y
-Steps p x Mark kind e y = ⊥
+-- when the timers of a phase let it end: timers F and K
+abbrev pub timer_window : Times → PlainClientPhase → Option (ℕ × Option ℕ)
+timer_window p (Trying w) = window_at p w.start (timer_f p)
+timer_window p (Proceeding w) = window_at p w.start (timer_f p)
+timer_window p (Completed reliable set) = window_at p set (timer_k p reliable)
+timer_window p x = None
 
--- when a machine may end: timers F and K
-abbrev pub plain_window : Times → PlainPhase → Option (ℕ × Option ℕ)
-plain_window p Idle = None
-plain_window p (Trying w) = window_at p w.start (timer_f p)
-plain_window p (Proceeding w) = window_at p w.start (timer_f p)
-plain_window p (Completed reliable set) = window_at p set (timer_k p reliable)
-plain_window p Ended = None
+-- until when they let it last: timer F, and E over an unreliable transport; timer K
+abbrev pub closes : Times → PlainClientPhase → List ℕ
+closes p (Trying w) = waiting_closes p w (timer_f p)
+closes p (Proceeding w) = waiting_closes p w (timer_f p)
+closes p (Completed reliable set) = close_at p set (timer_k p reliable) ∷ []
+closes p x = []
 
--- the last moment of a request that waits: timer F fires by then, and over an unreliable transport timer E too
-abbrev pub waiting_until : Times → Waiting → ℕ
-waiting_until p w =
-    if w.reliable then close_at p w.start (timer_f p) else min (close_at p w.start (timer_f p)) (close_at p w.set w.interval)
+-- the figure of the non-INVITE client: it owes nothing, and a refused request ends it, section 17.1.4
+abbrev pub plain_client : Figure PlainClientPhase
+plain_client =
+    record { idle = Idle; ended = Ended; Receives = Receives; Sends = Sends; Satisfies = λ x k e message. ⊥; ends_refused = λ x k. true; window = timer_window; closes = closes }
 
--- how long a phase may be waited in
-abbrev pub plain_until : Times → PlainPhase → Option ℕ
-plain_until p Idle = None
-plain_until p (Trying w) = Some (waiting_until p w)
-plain_until p (Proceeding w) = Some (waiting_until p w)
-plain_until p (Completed reliable set) = Some (close_at p set (timer_k p reliable))
-plain_until p Ended = None
+-- The phases of the code, whose messages are numbers of a book.
 
--- a visible step of a phase that has lasted until then
-abbrev pub PlainTake : Times → PlainPhase → Heard → PlainPhase → Type 0
-PlainTake p x e y = IsWithin e.moment (plain_until p x) × Steps p x e.action e.kind e y
+-- the phase that a phase of the code stands for
+abbrev pub plain_client_seen : Texts → CodePhase → PlainClientPhase
+plain_client_seen texts code.Idle = Idle
+plain_client_seen texts (code.Trying w) = Trying (waiting_seen texts w)
+plain_client_seen texts (code.Proceeding w) = Proceeding (waiting_seen texts w)
+plain_client_seen texts (code.Completed reliable set) = Completed reliable set
+plain_client_seen texts code.Ended = Ended
 
--- the rules of the non-INVITE client
-abbrev pub plain_rules : Times → Rules PlainPhase
-plain_rules p = record { first = Idle; ended = Ended; Take = PlainTake p; window = plain_window p; until = plain_until p }
+-- the numbers of the messages that it names
+abbrev pub plain_client_names : CodePhase → List ℕ
+plain_client_names (code.Trying w) = w.request ∷ []
+plain_client_names (code.Proceeding w) = w.request ∷ []
+plain_client_names x = []
 
--- The states of the code, whose messages are numbers of a book.
-
--- the code's waiting request beside the texts of a book
-abbrev pub waiting_seen : Texts → PlainWaiting → Waiting
-waiting_seen texts w =
-    record { reliable = w.reliable; request = text_of texts w.request; start = w.start; set = w.set; interval = w.interval }
-
--- the phase that a state of the code stands for
-abbrev pub plain_seen : Texts → PlainState → PlainPhase
-plain_seen texts code.Idle = Idle
-plain_seen texts (code.Trying w) = Trying (waiting_seen texts w)
-plain_seen texts (code.Proceeding w) = Proceeding (waiting_seen texts w)
-plain_seen texts (code.Completed reliable set) = Completed reliable set
-plain_seen texts code.Ended = Ended
-
--- the numbers of the messages that a state names
-abbrev pub plain_names : PlainState → List ℕ
-plain_names code.Idle = []
-plain_names (code.Trying w) = w.request ∷ []
-plain_names (code.Proceeding w) = w.request ∷ []
-plain_names (code.Completed reliable set) = []
-plain_names code.Ended = []
-
--- the moments of a waiting request are within the limits, and its interval is below 2^50
-abbrev pub WaitingInRange : PlainWaiting → Type 0
-WaitingInRange w = (w.start ≤ last_moment) × (w.set ≤ last_moment) × (w.interval < 2 ^ 50)
-
--- a state's moments are within the limits, and its interval is below 2^50, so that no sum wraps
-abbrev pub PlainInRange : PlainState → Type 0
-PlainInRange code.Idle = Unit {0}
-PlainInRange (code.Trying w) = WaitingInRange w
-PlainInRange (code.Proceeding w) = WaitingInRange w
-PlainInRange (code.Completed reliable set) = set ≤ last_moment
-PlainInRange code.Ended = Unit {0}
+-- its moments are within the limits, and its interval is below 2^50, so that no sum wraps
+abbrev pub PlainClientInRange : CodePhase → Type 0
+PlainClientInRange (code.Trying w) = WaitingInRange w
+PlainClientInRange (code.Proceeding w) = WaitingInRange w
+PlainClientInRange (code.Completed reliable set) = set ≤ last_moment
+PlainClientInRange x = Unit {0}

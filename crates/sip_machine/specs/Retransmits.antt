@@ -4,8 +4,7 @@ use Rattle.sip_machine.specs.Limits.{open_at}
 use Rattle.sip_machine.specs.Heard.{Heard}
 
 -- e is the message again, byte for byte, as its timer fires, which was set at this moment for this interval and runs over an unreliable
--- transport alone: timer A of an INVITE, timer E of any other request, timer G of a final response of 300 to 699
--- (RFC 3261 sections 17.1.1.2, 17.1.2.2 and 17.2.1)
+-- transport alone: timer A of an INVITE, E of any other request, G of a final response (RFC 3261 sections 17.1.1.2, 17.1.2.2 and 17.2.1)
 pub record Retransmits (p : Times) (reliable : Bool) (message : List ℕ) (set : ℕ) (interval : ℕ) (e : Heard) : Type 0 where
   pub same : e.text ≡ message
   pub unreliable : reliable ≡ false

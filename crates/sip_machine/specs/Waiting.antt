@@ -1,10 +1,28 @@
-use Rattle.std.specs.Prelude.{ℕ, Bool, List}
+use Rattle.std.specs.Prelude.{◌≤◌, ◌<◌, ◌^◌, ℕ, Bool, List, [], ◌∷◌, if◌then◌else◌}
+use Rattle.sip_machine.specs.declared.waiting.Waiting.{Waiting as CodeWaiting}
+use Rattle.sip_machine.specs.Times.{Times, last_moment}
+use Rattle.sip_machine.specs.Limits.{close_at}
+use Rattle.sip_machine.specs.Texts.{Texts, text_of}
 
--- a request that a client sent and that waits for its response, RFC 3261 sections 17.1.1.2 and 17.1.2.2: when it was first sent, which
--- starts timer B of an INVITE and timer F of any other; when timer A or E was set, which sends it again, and for how long
+-- a request that waits for its response, sections 17.1.1.2 and 17.1.2.2: when timer B or F started, and when timer A or E was set, and for how long
 pub record Waiting : Type 0 where
   pub reliable : Bool
   pub request : List ℕ
   pub start : ℕ
   pub set : ℕ
   pub interval : ℕ
+
+-- until when its timers let it wait: timer B or F, which was set for so long, and over an unreliable transport timer A or E
+abbrev pub waiting_closes : Times → Waiting → ℕ → List ℕ
+waiting_closes p w patience = close_at p w.start patience ∷ (if w.reliable then [] else close_at p w.set w.interval ∷ [])
+
+-- The waiting requests of the code, whose messages are numbers of a book.
+
+-- what it stands for, beside the texts of a book
+abbrev pub waiting_seen : Texts → CodeWaiting → Waiting
+waiting_seen texts w =
+    record { reliable = w.reliable; request = text_of texts w.request; start = w.start; set = w.set; interval = w.interval }
+
+-- its moments are within the limits, and its interval is below 2^50
+abbrev pub WaitingInRange : CodeWaiting → Type 0
+WaitingInRange w = (w.start ≤ last_moment) × (w.set ≤ last_moment) × (w.interval < 2 ^ 50)

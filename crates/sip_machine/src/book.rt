@@ -1,10 +1,14 @@
 //! The messages of a log, each kept once.
-ghost use Rattle.std.specs.Prelude.{◌≡◌, ◌≢◌, ◌<◌, ◌≤◌, ◌⊎◌, ◌++◌, ◌∷◌, [], ℕ, length, map, MatchOption, IfOk, IfErr, OnOk, OnErr, All};
+ghost use Rattle.std.specs.Prelude.{◌≡◌, ◌≢◌, ◌<◌, ◌≤◌, ◌⊎◌, ◌++◌, ◌∷◌, [], ℕ, length, map, MatchOption, IfOk, IfErr, OnOk, OnErr, All, AllPairs};
 ghost use Rattle.std.specs.List.{insert, HoldsAt};
 ghost use Rattle.std.specs.List.Sorted.{IsSearchInRange, IsBinarySearchResult};
 ghost use Rattle.sip_machine.specs.Texts.{IsBook, Keeps, text_of};
+ghost use Rattle.sip_machine.specs.Retained.{only};
 ghost use Rattle.sip_machine.specs.inner.Order.{texts_of, hash_of, bytes_at, key_of, compare, begins_by, places_of, index_of, most_places, IsLed, IsInRuns, IsInside, IsGap};
 
+mod retain;
+
+use crate::book::retain::{keep_only, move_all};
 use std::alloc::{AllocError, Global};
 use std::cmp::Ordering;
 use std::hash::{FoldHasher, Hasher};
@@ -14,21 +18,21 @@ use std::marker::Model;
 /// their places stand in the order of hash and bytes, in runs, so that few places move for a new one. So a message
 /// is found by its number, and by its bytes, with a logarithm of comparisons, whatever the log is and however the
 /// hashes fall; its bytes are kept once.
-#[derive(Drop)]
+#[derive(Debug, Drop)]
 pub struct Book {
     kept: Vec<Kept>,
     order: Vec<Run>,
 }
 
 /// A message with the number of its first entry.
-#[derive(Drop)]
+#[derive(Debug, Drop)]
 struct Kept {
     number: u32,
     bytes: Vec<u8>,
 }
 
 /// Where a message stands among those that are kept, with the hash of its bytes.
-#[derive(Clone, Copy)]
+#[derive(Clone, Copy, Debug)]
 struct Place {
     hash: u64,
     position: usize,
@@ -36,7 +40,7 @@ struct Place {
 
 /// Some of the places, in their order: at least one, at most `MOST`. The first one stands here again, so that
 /// the run of a message is found without a look into other runs.
-#[derive(Drop)]
+#[derive(Debug, Drop)]
 struct Run {
     first: Place,
     places: Vec<Place>,
@@ -109,6 +113,23 @@ impl Book {
                 Ok(entry)
             }
         }
+    }
+
+    /// How many messages are kept.
+    pub fn len(&self) -> usize
+        ensures { result ≡ length self.now }
+    {
+        self.kept.len()
+    }
+
+    /// Keeps just the messages with these numbers, which rise. Their numbers and bytes stay. It takes no memory.
+    pub fn retain_only(&mut self, numbers: &[u32])
+        requires rising { AllPairs (λ a b. a < b) numbers.now }
+        requires kept { All (Keeps self.old) numbers.now }
+        ensures { self.new ≡ only numbers.now self.old }
+    {
+        move_all(&mut self.order, &self.kept, numbers);
+        keep_only(&mut self.kept, numbers);
     }
 }
 

@@ -1,42 +1,39 @@
 //! The INVITE client transaction (RFC 3261 section 17.1.1, with the accepted state of RFC 6026).
-ghost use Rattle.std.specs.Prelude.{◌≡◌};
+ghost use Rattle.std.specs.Prelude.{◌≡◌, ◌≤◌};
+ghost use Rattle.sip_machine.specs.declared.event.Method.TheVariants.{Invite, Cancel};
+ghost use Rattle.sip_machine.specs.declared.event.Kind.TheVariants.{Request};
+ghost use Rattle.sip_machine.specs.Times.{Times, last_moment};
+ghost use Rattle.sip_machine.specs.Texts.{Texts};
+ghost use Rattle.sip_machine.specs.Rules.{Knows};
+ghost use Rattle.sip_machine.specs.Owing.{turn_seen, turn_names, TurnInRange};
+ghost use Rattle.sip_machine.specs.inner.Single.{AnswersOne};
+ghost use Rattle.sip_machine.specs.Heard.{FitsBook, heard};
+ghost use Rattle.sip_machine.specs.InviteClient.{Sends, timer_b, timer_m, give_up, invite_client_seen, invite_client_names, InviteClientInRange};
 
 mod acks;
-mod class;
-mod ends;
-mod rows;
 
 use crate::book::Book;
-use crate::event::Event;
-use crate::invite_client::ends::{until, window};
-use crate::invite_client::rows::next_state;
-use crate::machine::Machine;
-use crate::outbox::Outbox;
+use crate::debts::BoxedDebts;
+use crate::event::{Event, Kind, Method, is_provisional, is_success, is_unsuccessful};
+use crate::invite_client::acks::first_acked;
+use crate::owes::Owes;
+use crate::owing::Owing;
+use crate::phases::{Change, Phase, Phases, Turn};
+use crate::waiting::Waiting;
 use sip_times::Params;
-use std::alloc::AllocError;
+use std::alloc::{AllocError, Global};
 use std::marker::Model;
 
-/// An INVITE that waits for a response. Moments and intervals are in milliseconds.
-#[derive(Clone, Copy, Debug, PartialEq, Eq, PartialOrd, Ord)]
-pub struct InviteWaiting {
-    /// Whether its transport is reliable.
-    pub reliable: bool,
-    /// Its number in the `Book`.
-    pub request: u32,
-    /// When it was first sent: timer B runs from here.
-    pub start: u64,
-    /// When timer A was set last.
-    pub set: u64,
-    /// What timer A was set to.
-    pub interval: u64,
-}
+/// Timer D over an unreliable transport, in milliseconds.
+const TIMER_D: u64 = 32_000;
 
-/// A state of the INVITE client transaction. Moments are in milliseconds, and messages are numbers of the `Book`.
-#[derive(Debug, PartialEq, Eq, PartialOrd, Ord, Drop)]
-pub enum InviteClientState {
+/// A phase of the INVITE client transaction. Moments are in milliseconds, and messages are numbers of the `Book`.
+#[derive(Clone, Copy, Debug, PartialEq, Eq, PartialOrd, Ord)]
+pub enum InviteClientPhase {
     /// No INVITE was sent yet.
     Idle,
-    Calling(InviteWaiting),
+    /// The INVITE waits for a response: timer B gives it up, and timer A sends it again.
+    Calling(Waiting),
     /// A provisional response came, and `cancel` is when the INVITE was first cancelled.
     Proceeding {
         reliable: bool,
@@ -53,10 +50,16 @@ pub enum InviteClientState {
         reliable: bool,
         request: u32,
         set: u64,
-        owes: Outbox,
     },
     Ended,
 }
+
+impl Phase for InviteClientPhase {
+    type Debts = BoxedDebts;
+}
+
+/// A state of the INVITE client transaction: its phase, and the responses for which it owes an ACK.
+pub type InviteClientState = Owing<InviteClientPhase>;
 
 /// The INVITE client transaction.
 #[derive(Clone, Copy, Debug)]
@@ -82,15 +85,19 @@ impl InviteClient {
     }
 }
 
-impl Machine for InviteClient {
+impl Phases for InviteClient {
     ghost use Rattle.std.specs.Prelude.{refl, []};
-    ghost use Rattle.sip_machine.specs.declared.invite_client.InviteClientState.TheVariants.{Idle, Ended};
-    ghost use Rattle.sip_machine.specs.InviteClient.{InviteClientPhase, invite_client_rules, invite_client_seen, invite_client_names, InviteClientInRange, invite_client_window, invite_client_until};
-    ghost use Rattle.sip_machine.specs.inner.InviteClientLaws.{invite_client_lawful, invite_client_first_is, invite_client_ended_is, invite_client_window_same, invite_client_until_same, invite_client_exact, invite_client_apart, invite_client_seen_by_names};
+    ghost use Rattle.sip_machine.specs.declared.invite_client.InviteClientPhase.TheVariants.{Idle, Ended};
+    ghost use Rattle.sip_machine.specs.InviteClient.{InviteClientPhase as Seen, invite_client, invite_client_seen, invite_client_names, InviteClientInRange};
+    ghost use Rattle.sip_machine.specs.inner.InviteClientLaws.{invite_client_is_figure, invite_client_window_same, invite_client_closes_same, invite_client_exact, invite_client_apart, invite_client_by_names};
 
-    type State = InviteClientState;
+    type Phase = InviteClientPhase;
 
-    ghost Seen = { InviteClientPhase };
+    ghost Seen = { Seen };
+
+    ghost figure = { invite_client };
+
+    ghost times = { λ p. p };
 
     ghost seen = { invite_client_seen };
 
@@ -98,63 +105,308 @@ impl Machine for InviteClient {
 
     ghost in_range = { InviteClientInRange };
 
-    ghost rules = { invite_client_rules };
-
-    ghost first = { λ p. Idle };
+    ghost idle = { λ p. Idle };
 
     ghost ended = { λ p. Ended };
 
-    ghost end_window = { λ p x. invite_client_window p (invite_client_seen [] x) };
-
-    ghost until = { λ p x. invite_client_until p (invite_client_seen [] x) };
-
-    fn first(&self) -> InviteClientState {
-        InviteClientState::Idle
+    fn params(&self) -> &Params {
+        &self.params
     }
 
-    fn ended(&self) -> InviteClientState {
-        InviteClientState::Ended
+    fn idle(&self) -> InviteClientPhase {
+        InviteClientPhase::Idle
     }
 
-    fn successors(
+    fn ended(&self) -> InviteClientPhase {
+        InviteClientPhase::Ended
+    }
+
+    fn receives(
         &self,
-        book: &Book,
-        state: &InviteClientState,
+        _alloc: Global,
+        _book: &Book,
+        phase: &InviteClientPhase,
         event: &Event,
-        out: &mut Vec<InviteClientState>,
-    ) -> Result<(), AllocError> {
-        let alloc = *out.allocator();
-        if let Some(next) = next_state(alloc, &self.params, book, state, event)? {
-            out.push(next)?;
+    ) -> Result<Option<Turn<InviteClientPhase>>, AllocError> {
+        let Kind::Response(code) = event.kind() else {
+            return Ok(None);
+        };
+        let unacked = Change::Gains {
+            must: true,
+            message: event.number(),
+        };
+        let turn = match *phase {
+            InviteClientPhase::Calling(waiting) if is_provisional(code) => Turn {
+                phase: InviteClientPhase::Proceeding {
+                    reliable: waiting.reliable,
+                    request: waiting.request,
+                    cancel: None,
+                },
+                change: Change::Keeps,
+            },
+            InviteClientPhase::Calling(_) if is_success(code) => Turn {
+                phase: InviteClientPhase::Accepted {
+                    set: event.moment(),
+                },
+                change: Change::Keeps,
+            },
+            InviteClientPhase::Calling(waiting) if is_unsuccessful(code) => Turn {
+                phase: InviteClientPhase::Completed {
+                    reliable: waiting.reliable,
+                    request: waiting.request,
+                    set: event.moment(),
+                },
+                change: unacked,
+            },
+            InviteClientPhase::Proceeding { .. } if is_success(code) => Turn {
+                phase: InviteClientPhase::Accepted {
+                    set: event.moment(),
+                },
+                change: Change::Keeps,
+            },
+            InviteClientPhase::Proceeding {
+                reliable,
+                request,
+                ..
+            } if is_unsuccessful(code) => Turn {
+                phase: InviteClientPhase::Completed {
+                    reliable,
+                    request,
+                    set: event.moment(),
+                },
+                change: unacked,
+            },
+            InviteClientPhase::Completed {
+                reliable,
+                request,
+                set,
+            } if is_unsuccessful(code) => Turn {
+                phase: InviteClientPhase::Completed {
+                    reliable,
+                    request,
+                    set,
+                },
+                change: unacked,
+            },
+            _ => return Ok(None),
+        };
+        Ok(Some(turn))
+    }
+
+    fn sends(
+        &self,
+        _alloc: Global,
+        book: &Book,
+        phase: &InviteClientPhase,
+        event: &Event,
+    ) -> Result<Option<Turn<InviteClientPhase>>, AllocError> {
+        let Kind::Request(method) = event.kind() else {
+            return Ok(None);
+        };
+        let turn = match (method, *phase) {
+            (Method::Invite, _) => invites(&self.params, book, phase, event),
+            (Method::Ack, InviteClientPhase::Idle) => Some(Turn {
+                phase: InviteClientPhase::Idle,
+                change: Change::Keeps,
+            }),
+            (Method::Cancel, _) => cancels(phase, event),
+            (Method::Ack | Method::Other, _) => None,
+        };
+        Ok(turn)
+    }
+
+    fn pays(
+        &self,
+        alloc: Global,
+        book: &Book,
+        phase: &InviteClientPhase,
+        event: &Event,
+        owes: &mut Owes<InviteClientPhase>,
+    ) -> Result<bool, AllocError> {
+        let Kind::Request(Method::Ack) = event.kind() else {
+            return Ok(false);
+        };
+        let InviteClientPhase::Completed { request, .. } = *phase else {
+            return Ok(false);
+        };
+        match first_acked(alloc, book, request, owes.runs(), event)? {
+            Some(index) => {
+                owes.remove(index);
+                Ok(true)
+            }
+            None => Ok(false),
         }
-        Ok(())
     }
 
-    fn end_window(&self, state: &InviteClientState) -> Option<(u64, Option<u64>)> {
-        window(&self.params, state)
+    fn ends_refused(&self, phase: &InviteClientPhase, kind: Kind) -> bool {
+        match (kind, *phase) {
+            (Kind::Request(Method::Invite), _) => true,
+            (Kind::Request(Method::Ack), InviteClientPhase::Completed { .. }) => true,
+            _ => false,
+        }
     }
 
-    fn until(&self, state: &InviteClientState) -> Option<u64> {
-        until(&self.params, state)
+    fn timer_window(&self, phase: &InviteClientPhase) -> Option<(u64, Option<u64>)> {
+        let params = &self.params;
+        match *phase {
+            InviteClientPhase::Calling(waiting) => {
+                Some(params.window(waiting.start, timer_b(params)))
+            }
+            InviteClientPhase::Proceeding { cancel, .. } => match cancel {
+                Some(first) => Some((params.opens(first, give_up(params)), None)),
+                None => None,
+            },
+            InviteClientPhase::Accepted { set } => Some(params.window(set, timer_m(params))),
+            InviteClientPhase::Completed { reliable, set, .. } => {
+                if reliable {
+                    Some(params.window(set, 0))
+                } else {
+                    Some((params.opens(set, TIMER_D), None))
+                }
+            }
+            InviteClientPhase::Idle | InviteClientPhase::Ended => None,
+        }
     }
 
-    ghost lawful = { invite_client_lawful };
+    fn closes(&self, phase: &InviteClientPhase) -> Option<u64> {
+        let params = &self.params;
+        match *phase {
+            InviteClientPhase::Calling(waiting) => Some(waiting.closes(params, timer_b(params))),
+            InviteClientPhase::Accepted { set } => Some(params.closes(set, timer_m(params))),
+            InviteClientPhase::Completed { reliable, set, .. } => {
+                if reliable {
+                    Some(params.closes(set, 0))
+                } else {
+                    None
+                }
+            }
+            InviteClientPhase::Idle
+            | InviteClientPhase::Proceeding { .. }
+            | InviteClientPhase::Ended => None,
+        }
+    }
 
-    ghost first_stands = { λ p texts. invite_client_first_is texts p };
+    fn message(&self, phase: &InviteClientPhase) -> Option<u32> {
+        match *phase {
+            InviteClientPhase::Calling(waiting) => Some(waiting.request),
+            InviteClientPhase::Proceeding { request, .. } => Some(request),
+            InviteClientPhase::Completed { request, .. } => Some(request),
+            InviteClientPhase::Idle
+            | InviteClientPhase::Accepted { .. }
+            | InviteClientPhase::Ended => None,
+        }
+    }
 
-    ghost ended_stands = { λ p texts. invite_client_ended_is texts p };
+    ghost lawful = { invite_client_is_figure };
 
-    ghost first_fits = { λ p. (refl, tt) };
+    ghost idle_stands = { λ p texts. refl };
+
+    ghost ended_stands = { λ p texts. refl };
+
+    ghost idle_fits = { λ p. (refl, tt) };
 
     ghost ended_fits = { λ p. (refl, tt) };
 
-    ghost window_stands = { λ p texts x. invite_client_window_same texts [] p x };
+    ghost window_stands = { invite_client_window_same };
 
-    ghost until_stands = { λ p texts x. invite_client_until_same texts [] p x };
+    ghost closes_stand = { invite_client_closes_same };
 
     ghost exact = { invite_client_exact };
 
     ghost apart = { invite_client_apart };
 
-    ghost by_names = { invite_client_seen_by_names };
+    ghost by_names = { invite_client_by_names };
+}
+
+/// Where an INVITE that is sent leads: the first one starts timer A at T1, and each repeat starts it again, at
+/// twice its interval.
+fn invites(
+    params: &Params,
+    book: &Book,
+    phase: &InviteClientPhase,
+    event: &Event,
+) -> Option<Turn<InviteClientPhase>>
+    requires fits { FitsBook book.now event.now }
+    requires known { Knows invite_client_names book.now phase.now }
+    requires in_range { InviteClientInRange phase.now }
+    ensures { AnswersOne (turn_names invite_client_names) (TurnInRange InviteClientInRange) (turn_seen invite_client_seen) book.now
+        (Sends params.now (invite_client_seen book.now phase.now) (Request Invite) (heard book.now event.now)) result }
+{
+    let t1 = params.t1();
+    let waiting = match *phase {
+        InviteClientPhase::Idle => Waiting {
+            reliable: event.reliable(),
+            request: event.number(),
+            start: event.moment(),
+            set: event.moment(),
+            interval: t1,
+        },
+        InviteClientPhase::Calling(waiting) if waiting.repeats(params, book, event) => Waiting {
+            set: event.moment(),
+            interval: 2 * waiting.interval,
+            ..waiting
+        },
+        _ => return None,
+    };
+    Some(Turn {
+        phase: InviteClientPhase::Calling(waiting),
+        change: Change::Keeps,
+    })
+}
+
+/// Where a CANCEL that is sent leads: in proceeding the moment of the first one counts, and in calling none is sent.
+fn cancels(phase: &InviteClientPhase, event: &Event) -> Option<Turn<InviteClientPhase>>
+    requires in_range { InviteClientInRange phase.now }
+    requires limit { event.now.moment ≤ last_moment }
+    ensures { (p : Times) (texts : Texts) → Knows invite_client_names texts phase.now →
+        AnswersOne (turn_names invite_client_names) (TurnInRange InviteClientInRange) (turn_seen invite_client_seen) texts
+        (Sends p (invite_client_seen texts phase.now) (Request Cancel) (heard texts event.now)) result }
+{
+    let phase = match *phase {
+        InviteClientPhase::Calling(_) => return None,
+        InviteClientPhase::Proceeding {
+            reliable,
+            request,
+            cancel,
+        } => match cancel {
+            None => InviteClientPhase::Proceeding {
+                reliable,
+                request,
+                cancel: Some(event.moment()),
+            },
+            Some(_) => *phase,
+        },
+        InviteClientPhase::Idle
+        | InviteClientPhase::Accepted { .. }
+        | InviteClientPhase::Completed { .. }
+        | InviteClientPhase::Ended => *phase,
+    };
+    Some(Turn {
+        phase,
+        change: Change::Keeps,
+    })
+}
+
+/// Timer B: how long an INVITE waits for a response.
+fn timer_b(params: &Params) -> u64
+    ensures value { result ≡ timer_b params.now }
+    ensures small { result ≤ 640000 }
+{
+    64 * params.t1()
+}
+
+/// Timer M: how long further successes may come in.
+fn timer_m(params: &Params) -> u64
+    ensures value { result ≡ timer_m params.now }
+    ensures small { result ≤ 640000 }
+{
+    64 * params.t1()
+}
+
+/// How long an INVITE waits for its final response behind a CANCEL.
+fn give_up(params: &Params) -> u64
+    ensures value { result ≡ give_up params.now }
+    ensures small { result ≤ 640000 }
+{
+    64 * params.t1()
 }

@@ -2,24 +2,37 @@
 #![tactic(auto)]
 
 mod book;
+mod debts;
 mod event;
 mod invite_client;
 mod invite_server;
 pub mod laws;
 mod limit;
 mod machine;
+mod naming;
 mod outbox;
+mod owes;
+mod owing;
+mod paying;
+mod phases;
 mod plain_client;
 mod plain_server;
 mod provisional;
 mod push;
+mod retransmits;
+mod waiting;
 
 pub use book::Book;
+pub use debts::{BoxedDebts, Debts, NoDebts};
 pub use event::{Event, Kind, Method};
-pub use invite_client::{InviteClient, InviteClientState, InviteWaiting};
-pub use invite_server::{InviteServer, InviteServerState};
+pub use invite_client::{InviteClient, InviteClientPhase, InviteClientState};
+pub use invite_server::{InviteServer, InviteServerPhase, InviteServerState};
 pub use machine::Machine;
 pub use outbox::{Debt, Outbox, Run};
-pub use plain_client::{PlainClient, PlainState, PlainWaiting};
-pub use plain_server::{PlainServer, PlainServerState};
+pub use owes::Owes;
+pub use owing::Owing;
+pub use phases::{Change, Phase, Phases, Turn};
+pub use plain_client::{PlainClient, PlainClientPhase, PlainClientState};
+pub use plain_server::{PlainServer, PlainServerPhase, PlainServerState};
 pub use sip_times::{Action, Params};
+pub use waiting::Waiting;

@@ -3,6 +3,7 @@ ghost use Rattle.std.specs.Prelude.{◌≡◌, ◌++◌, [], ℕ, List, Option, 
 ghost use Rattle.sip_machine.specs.Heard.{FitsBook, heard};
 ghost use Rattle.sip_machine.specs.Texts.{Texts, IsBook, text_of};
 ghost use Rattle.sip_machine.specs.Rules.{Rules, IsLawful, Knows, StandFor};
+ghost use Rattle.sip_machine.specs.Naming.{AppendsAll};
 
 use crate::book::Book;
 use crate::event::Event;
@@ -75,6 +76,11 @@ pub trait Machine: Drop {
     fn until(&self, state: &Self::State) -> Option<u64>
         requires { in_range state.now }
         ensures { result ≡ until self.now state.now };
+
+    /// Appends the numbers of the messages that the state names, each at least once. On an error the vector is as before.
+    fn names(&self, state: &Self::State, out: &mut Vec<u32>) -> Result<(), AllocError>
+        ensures ok { OnOk result (AppendsAll (names state.now) out.old.items out.new.items) }
+        ensures err { OnErr result (out.new.items ≡ out.old.items) };
 
     /// The first and the ended state stay for ever, and an event gives states that can wait at its moment.
     ghost lawful: { (m : Self) → IsLawful (rules m) };

@@ -76,6 +76,13 @@ impl Outbox {
         self.runs.as_slice()
     }
 
+    /// Whether nothing is owed.
+    pub(crate) fn is_empty(&self) -> bool
+        ensures { IsTrue result ↔ (self.now ≡ []) }
+    {
+        self.count == 0
+    }
+
     /// Adds a debt behind the others. On an error they are as before.
     pub fn push(&mut self, debt: Debt) -> Result<(), AllocError>
         ensures ok { OnOk result (self.new ≡ self.old ++ debt ∷ []) }
@@ -147,11 +154,13 @@ impl Outbox {
         }
     }
 
-    /// Takes out the debt at the index.
+    /// Takes out the debt at the index, if there is one.
     pub(crate) fn remove(&mut self, index: usize)
-        requires { index < length self.old }
         ensures { self.new ≡ remove self.old index }
     {
+        if index >= self.count {
+            return;
+        }
         let at = run_at(&self.runs, index);
         take_one(&mut self.runs, at);
         self.count -= 1;

@@ -1,44 +1,38 @@
 //! The non-INVITE client transaction (RFC 3261 section 17.1.2).
-ghost use Rattle.std.specs.Prelude.{◌≡◌};
-
-mod ends;
-mod rows;
+ghost use Rattle.std.specs.Prelude.{◌≡◌, ◌≤◌};
+ghost use Rattle.sip_machine.specs.PlainClient.{timer_f, timer_k};
 
 use crate::book::Book;
-use crate::event::Event;
-use crate::machine::Machine;
-use crate::plain_client::ends::{until, window};
-use crate::plain_client::rows::next_state;
+use crate::debts::NoDebts;
+use crate::event::{Event, Kind, is_final, is_provisional};
+use crate::owes::Owes;
+use crate::owing::Owing;
+use crate::phases::{Change, Phase, Phases, Turn};
+use crate::waiting::Waiting;
 use sip_times::Params;
-use std::alloc::AllocError;
+use std::alloc::{AllocError, Global};
 use std::marker::Model;
 
-/// A request that waits for its final response. Moments and intervals are in milliseconds.
+/// A phase of the non-INVITE client transaction. Moments are in milliseconds.
 #[derive(Clone, Copy, Debug, PartialEq, Eq, PartialOrd, Ord)]
-pub struct PlainWaiting {
-    /// Whether its transport is reliable.
-    pub reliable: bool,
-    /// Its number in the `Book`.
-    pub request: u32,
-    /// When it was first sent: timer F runs from here.
-    pub start: u64,
-    /// When timer E was set last.
-    pub set: u64,
-    /// What timer E was set to.
-    pub interval: u64,
-}
-
-/// A state of the non-INVITE client transaction.
-#[derive(Clone, Copy, Debug, PartialEq, Eq, PartialOrd, Ord)]
-pub enum PlainState {
+pub enum PlainClientPhase {
     /// Nothing was sent yet.
     Idle,
-    Trying(PlainWaiting),
-    Proceeding(PlainWaiting),
+    /// The request waits for a response: timer F gives it up, and timer E sends it again.
+    Trying(Waiting),
+    /// A provisional response came, and timers E and F run on.
+    Proceeding(Waiting),
     /// A final response came at the moment `set`, which starts timer K.
     Completed { reliable: bool, set: u64 },
     Ended,
 }
+
+impl Phase for PlainClientPhase {
+    type Debts = NoDebts;
+}
+
+/// A state of the non-INVITE client transaction: its phase. It owes nothing.
+pub type PlainClientState = Owing<PlainClientPhase>;
 
 /// The non-INVITE client transaction.
 #[derive(Clone, Copy, Debug)]
@@ -64,78 +58,197 @@ impl PlainClient {
     }
 }
 
-impl Machine for PlainClient {
+impl Phases for PlainClient {
     ghost use Rattle.std.specs.Prelude.{refl, []};
-    ghost use Rattle.sip_machine.specs.declared.plain_client.PlainState.TheVariants.{Idle, Ended};
-    ghost use Rattle.sip_machine.specs.PlainClient.{PlainPhase, plain_rules, plain_seen, plain_names, PlainInRange, plain_window, plain_until};
-    ghost use Rattle.sip_machine.specs.inner.PlainLaws.{plain_lawful, plain_first_is, plain_ended_is, plain_window_same, plain_until_same, plain_exact, plain_apart, plain_seen_by_names};
+    ghost use Rattle.sip_machine.specs.declared.plain_client.PlainClientPhase.TheVariants.{Idle, Ended};
+    ghost use Rattle.sip_machine.specs.PlainClient.{PlainClientPhase as Seen, plain_client, plain_client_seen, plain_client_names, PlainClientInRange};
+    ghost use Rattle.sip_machine.specs.inner.PlainClientLaws.{plain_client_is_figure, plain_client_window_same, plain_client_closes_same, plain_client_exact, plain_client_apart, plain_client_by_names};
 
-    type State = PlainState;
+    type Phase = PlainClientPhase;
 
-    ghost Seen = { PlainPhase };
+    ghost Seen = { Seen };
 
-    ghost seen = { plain_seen };
+    ghost figure = { plain_client };
 
-    ghost names = { plain_names };
+    ghost times = { λ p. p };
 
-    ghost in_range = { PlainInRange };
+    ghost seen = { plain_client_seen };
 
-    ghost rules = { plain_rules };
+    ghost names = { plain_client_names };
 
-    ghost first = { λ p. Idle };
+    ghost in_range = { PlainClientInRange };
+
+    ghost idle = { λ p. Idle };
 
     ghost ended = { λ p. Ended };
 
-    ghost end_window = { λ p x. plain_window p (plain_seen [] x) };
-
-    ghost until = { λ p x. plain_until p (plain_seen [] x) };
-
-    fn first(&self) -> PlainState {
-        PlainState::Idle
+    fn params(&self) -> &Params {
+        &self.params
     }
 
-    fn ended(&self) -> PlainState {
-        PlainState::Ended
+    fn idle(&self) -> PlainClientPhase {
+        PlainClientPhase::Idle
     }
 
-    fn successors(
+    fn ended(&self) -> PlainClientPhase {
+        PlainClientPhase::Ended
+    }
+
+    fn receives(
         &self,
-        book: &Book,
-        state: &PlainState,
+        _alloc: Global,
+        _book: &Book,
+        phase: &PlainClientPhase,
         event: &Event,
-        out: &mut Vec<PlainState>,
-    ) -> Result<(), AllocError> {
-        if let Some(next) = next_state(&self.params, book, state, event) {
-            out.push(next)?;
+    ) -> Result<Option<Turn<PlainClientPhase>>, AllocError> {
+        let Kind::Response(code) = event.kind() else {
+            return Ok(None);
+        };
+        let phase = match *phase {
+            PlainClientPhase::Trying(waiting) if is_provisional(code) => {
+                PlainClientPhase::Proceeding(waiting)
+            }
+            PlainClientPhase::Trying(waiting) if is_final(code) => PlainClientPhase::Completed {
+                reliable: waiting.reliable,
+                set: event.moment(),
+            },
+            PlainClientPhase::Proceeding(waiting) if is_final(code) => {
+                PlainClientPhase::Completed {
+                    reliable: waiting.reliable,
+                    set: event.moment(),
+                }
+            }
+            _ => return Ok(None),
+        };
+        Ok(Some(Turn {
+            phase,
+            change: Change::Keeps,
+        }))
+    }
+
+    fn sends(
+        &self,
+        _alloc: Global,
+        book: &Book,
+        phase: &PlainClientPhase,
+        event: &Event,
+    ) -> Result<Option<Turn<PlainClientPhase>>, AllocError> {
+        let Kind::Request(_) = event.kind() else {
+            return Ok(None);
+        };
+        let params = &self.params;
+        let phase = match *phase {
+            PlainClientPhase::Idle => PlainClientPhase::Trying(Waiting {
+                reliable: event.reliable(),
+                request: event.number(),
+                start: event.moment(),
+                set: event.moment(),
+                interval: params.t1(),
+            }),
+            PlainClientPhase::Trying(waiting) if waiting.repeats(params, book, event) => {
+                PlainClientPhase::Trying(Waiting {
+                    set: event.moment(),
+                    interval: (2 * waiting.interval).min(params.t2()),
+                    ..waiting
+                })
+            }
+            PlainClientPhase::Proceeding(waiting) if waiting.repeats(params, book, event) => {
+                PlainClientPhase::Proceeding(Waiting {
+                    set: event.moment(),
+                    interval: params.t2(),
+                    ..waiting
+                })
+            }
+            _ => return Ok(None),
+        };
+        Ok(Some(Turn {
+            phase,
+            change: Change::Keeps,
+        }))
+    }
+
+    fn pays(
+        &self,
+        _alloc: Global,
+        _book: &Book,
+        _phase: &PlainClientPhase,
+        _event: &Event,
+        _owes: &mut Owes<PlainClientPhase>,
+    ) -> Result<bool, AllocError> {
+        Ok(false)
+    }
+
+    fn ends_refused(&self, _phase: &PlainClientPhase, _kind: Kind) -> bool {
+        true
+    }
+
+    fn timer_window(&self, phase: &PlainClientPhase) -> Option<(u64, Option<u64>)> {
+        let params = &self.params;
+        match *phase {
+            PlainClientPhase::Trying(waiting) | PlainClientPhase::Proceeding(waiting) => {
+                Some(params.window(waiting.start, timer_f(params)))
+            }
+            PlainClientPhase::Completed { reliable, set } => {
+                Some(params.window(set, timer_k(params, reliable)))
+            }
+            PlainClientPhase::Idle | PlainClientPhase::Ended => None,
         }
-        Ok(())
     }
 
-    fn end_window(&self, state: &PlainState) -> Option<(u64, Option<u64>)> {
-        window(&self.params, state)
+    fn closes(&self, phase: &PlainClientPhase) -> Option<u64> {
+        let params = &self.params;
+        match *phase {
+            PlainClientPhase::Trying(waiting) => Some(waiting.closes(params, timer_f(params))),
+            PlainClientPhase::Proceeding(waiting) => Some(waiting.closes(params, timer_f(params))),
+            PlainClientPhase::Completed { reliable, set } => {
+                Some(params.closes(set, timer_k(params, reliable)))
+            }
+            PlainClientPhase::Idle | PlainClientPhase::Ended => None,
+        }
     }
 
-    fn until(&self, state: &PlainState) -> Option<u64> {
-        until(&self.params, state)
+    fn message(&self, phase: &PlainClientPhase) -> Option<u32> {
+        match *phase {
+            PlainClientPhase::Trying(waiting) => Some(waiting.request),
+            PlainClientPhase::Proceeding(waiting) => Some(waiting.request),
+            PlainClientPhase::Completed { .. } | PlainClientPhase::Idle | PlainClientPhase::Ended =>
+                None,
+        }
     }
 
-    ghost lawful = { plain_lawful };
+    ghost lawful = { plain_client_is_figure };
 
-    ghost first_stands = { λ p texts. plain_first_is texts p };
+    ghost idle_stands = { λ p texts. refl };
 
-    ghost ended_stands = { λ p texts. plain_ended_is texts p };
+    ghost ended_stands = { λ p texts. refl };
 
-    ghost first_fits = { λ p. (refl, tt) };
+    ghost idle_fits = { λ p. (refl, tt) };
 
     ghost ended_fits = { λ p. (refl, tt) };
 
-    ghost window_stands = { λ p texts x. plain_window_same texts [] p x };
+    ghost window_stands = { plain_client_window_same };
 
-    ghost until_stands = { λ p texts x. plain_until_same texts [] p x };
+    ghost closes_stand = { plain_client_closes_same };
 
-    ghost exact = { plain_exact };
+    ghost exact = { plain_client_exact };
 
-    ghost apart = { plain_apart };
+    ghost apart = { plain_client_apart };
 
-    ghost by_names = { plain_seen_by_names };
+    ghost by_names = { plain_client_by_names };
+}
+
+/// Timer F: how long a request waits for its final response.
+fn timer_f(params: &Params) -> u64
+    ensures value { result ≡ timer_f params.now }
+    ensures small { result ≤ 640000 }
+{
+    64 * params.t1()
+}
+
+/// Timer K: how long repeats of the final response may come in.
+fn timer_k(params: &Params, reliable: bool) -> u64
+    ensures value { result ≡ timer_k params.now reliable }
+    ensures small { result ≤ 60000 }
+{
+    if reliable { 0 } else { params.t4() }
 }

@@ -9,7 +9,7 @@ use std::marker::Model;
 use std::simd::prelude::*;
 
 /// A text with its masks: it is seen as the text.
-#[derive(Drop)]
+#[derive(Debug, Drop)]
 pub struct Masks<'t, 'm> {
     text: &'t [u8],
     others: &'m [u64],

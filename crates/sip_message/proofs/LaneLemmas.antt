@@ -1,9 +1,13 @@
 -- From the empty mask of one load to the bytes that pass a test.
-use Rattle.std.proofs.Common.{◌≡◌, ℕ, ◌+◌, ◌-◌, ◌%◌, ◌^◌, ◌<◌, ◌≤◌, eqb, Bool, true, false, not, cond, ◌||◌, List, [], ◌∷◌, map, length, get_or, Fits, w8, refl, sym, ap, ap₂, ◌∙◌, subst, arith}
+use Rattle.std.proofs.Common.{◌≡◌, ℕ, zero, suc, ◌+◌, ◌-◌, ◌*◌, ◌%◌, ◌^◌, ◌<◌, ◌≤◌, eqb, Bool, true, false, not, cond, ◌||◌, List, [], ◌∷◌, map, length, take, get_or, Fits, w8, w64, refl, sym, ap, ap₂, ◌∙◌, subst, arith}
 use Rattle.std.proofs.lemmas.Bool.{both_ways, agree_below, agree_below_at, not-true, eqb-true}
 use Rattle.std.proofs.lemmas.Simd.{map-map, mask_l-mod, length-chunk, length-zip2, get_or-chunk, get_or-zip2, leading_from_mask_l}
 use Rattle.std.proofs.lemmas.List.{length-map, get_or-map}
 use Rattle.std.proofs.lemmas.List.Sums.{prefix_len_passes}
+use Rattle.std.specs.Int.{from_le_bytes}
+use Rattle.std.proofs.lemmas.Nat.{or_of_8}
+use Rattle.std.proofs.lemmas.List.{take-map, take-take}
+use Rattle.sip_message.specs.inner.Numbers.{small, filled, number_of}
 use lib.Bits.{bit_xor}
 use lib.Lanes.{chunk, zip2, mask_l, top}
 
@@ -54,3 +58,31 @@ lanes_agree true true none = refl
 lanes_agree false false none = refl
 lanes_agree true false none = absurd (both_ways true none refl)
 lanes_agree false true none = absurd (both_ways true none refl)
+
+-- the front of eight bytes, moved up to the end of a word
+moved-up : (b0 b1 b2 b3 b4 b5 b6 b7 k : ℕ) → b0 < 256 → b1 < 256 → b2 < 256 → b3 < 256 → b4 < 256 → b5 < 256 → b6 < 256 → b7 < 256 → 1 ≤ k → k ≤ 8
+    → from_le_bytes w64 (b0 ∷ b1 ∷ b2 ∷ b3 ∷ b4 ∷ b5 ∷ b6 ∷ b7 ∷ []) * 2 ^ (64 - 8 * k) % 2 ^ 64 ≡ from_le_bytes w64 (filled (take k (b0 ∷ b1 ∷ b2 ∷ b3 ∷ b4 ∷ b5 ∷ b6 ∷ b7 ∷ [])))
+moved-up b0 b1 b2 b3 b4 b5 b6 b7 zero h0 h1 h2 h3 h4 h5 h6 h7 some few = absurd (omega (arith, some))
+moved-up b0 b1 b2 b3 b4 b5 b6 b7 (suc zero) h0 h1 h2 h3 h4 h5 h6 h7 some few = omega (arith, h0, h1, h2, h3, h4, h5, h6, h7)
+moved-up b0 b1 b2 b3 b4 b5 b6 b7 (suc (suc zero)) h0 h1 h2 h3 h4 h5 h6 h7 some few = omega (arith, h0, h1, h2, h3, h4, h5, h6, h7)
+moved-up b0 b1 b2 b3 b4 b5 b6 b7 (suc (suc (suc zero))) h0 h1 h2 h3 h4 h5 h6 h7 some few = omega (arith, h0, h1, h2, h3, h4, h5, h6, h7)
+moved-up b0 b1 b2 b3 b4 b5 b6 b7 (suc (suc (suc (suc zero)))) h0 h1 h2 h3 h4 h5 h6 h7 some few = omega (arith, h0, h1, h2, h3, h4, h5, h6, h7)
+moved-up b0 b1 b2 b3 b4 b5 b6 b7 (suc (suc (suc (suc (suc zero))))) h0 h1 h2 h3 h4 h5 h6 h7 some few = omega (arith, h0, h1, h2, h3, h4, h5, h6, h7)
+moved-up b0 b1 b2 b3 b4 b5 b6 b7 (suc (suc (suc (suc (suc (suc zero)))))) h0 h1 h2 h3 h4 h5 h6 h7 some few = omega (arith, h0, h1, h2, h3, h4, h5, h6, h7)
+moved-up b0 b1 b2 b3 b4 b5 b6 b7 (suc (suc (suc (suc (suc (suc (suc zero))))))) h0 h1 h2 h3 h4 h5 h6 h7 some few = omega (arith, h0, h1, h2, h3, h4, h5, h6, h7)
+moved-up b0 b1 b2 b3 b4 b5 b6 b7 (suc (suc (suc (suc (suc (suc (suc (suc zero)))))))) h0 h1 h2 h3 h4 h5 h6 h7 some few = omega (arith, h0, h1, h2, h3, h4, h5, h6, h7)
+moved-up b0 b1 b2 b3 b4 b5 b6 b7 (suc (suc (suc (suc (suc (suc (suc (suc (suc k))))))))) h0 h1 h2 h3 h4 h5 h6 h7 some few = absurd (omega (arith, few))
+
+-- the number of the front of a window
+pub number-front : (window : List ℕ) (k : ℕ) → 8 ≤ length window → ((i : ℕ) → Fits w8 (get_or window i 0)) → 1 ≤ k → k ≤ 8
+    → from_le_bytes w64 (map small (take 8 window)) * 2 ^ (64 - 8 * k) % 2 ^ 64 ≡ number_of (take k window)
+number-front [] k room fits some few = absurd (omega (arith, room))
+number-front (b0 ∷ []) k room fits some few = absurd (omega (arith, room))
+number-front (b0 ∷ b1 ∷ []) k room fits some few = absurd (omega (arith, room))
+number-front (b0 ∷ b1 ∷ b2 ∷ []) k room fits some few = absurd (omega (arith, room))
+number-front (b0 ∷ b1 ∷ b2 ∷ b3 ∷ []) k room fits some few = absurd (omega (arith, room))
+number-front (b0 ∷ b1 ∷ b2 ∷ b3 ∷ b4 ∷ []) k room fits some few = absurd (omega (arith, room))
+number-front (b0 ∷ b1 ∷ b2 ∷ b3 ∷ b4 ∷ b5 ∷ []) k room fits some few = absurd (omega (arith, room))
+number-front (b0 ∷ b1 ∷ b2 ∷ b3 ∷ b4 ∷ b5 ∷ b6 ∷ []) k room fits some few = absurd (omega (arith, room))
+number-front (b0 ∷ b1 ∷ b2 ∷ b3 ∷ b4 ∷ b5 ∷ b6 ∷ b7 ∷ rest) k room fits some few =
+    moved-up (small b0) (small b1) (small b2) (small b3) (small b4) (small b5) (small b6) (small b7) k (or_of_8 b0 32 (fits 0).fits (omega arith)) (or_of_8 b1 32 (fits 1).fits (omega arith)) (or_of_8 b2 32 (fits 2).fits (omega arith)) (or_of_8 b3 32 (fits 3).fits (omega arith)) (or_of_8 b4 32 (fits 4).fits (omega arith)) (or_of_8 b5 32 (fits 5).fits (omega arith)) (or_of_8 b6 32 (fits 6).fits (omega arith)) (or_of_8 b7 32 (fits 7).fits (omega arith)) some few ∙ ap (λ t. from_le_bytes w64 (filled t)) (take-map small k (b0 ∷ b1 ∷ b2 ∷ b3 ∷ b4 ∷ b5 ∷ b6 ∷ b7 ∷ []) ∙ ap (map small) (take-take k 8 (b0 ∷ b1 ∷ b2 ∷ b3 ∷ b4 ∷ b5 ∷ b6 ∷ b7 ∷ rest) few))

@@ -1,11 +1,14 @@
 -- Lines that end at their first control, and what they are read as.
-use Rattle.std.proofs.Common.{◌≡◌, ◌⊎◌, ℕ, suc, ◌+◌, ◌-◌, ◌<◌, ◌≤◌, Bool, true, false, not, ◌&&◌, ◌||◌, ◌==◌, nat_le, List, [], ◌∷◌, ◌++◌, length, take, drop, get_or, refl, sym, ap, ap₂, ◌∙◌, subst, inl, inr, arith}
-use Rattle.std.specs.Prelude.{codes}
-use Rattle.std.specs.Char.{is_ascii_alphanumeric}
-use Rattle.std.specs.List.{AllByRecursion, flat_map, prefix_len}
+use Rattle.std.proofs.Common.{◌≡◌, ◌⊎◌, ℕ, zero, suc, ◌+◌, ◌-◌, ◌<◌, ◌≤◌, Bool, true, false, not, ◌&&◌, ◌||◌, ◌==◌, nat_le, nat_lt, ltb, cond, List, [], ◌∷◌, ◌++◌, map, length, take, drop, get_or, Fits, w8, w64, refl, sym, ap, ap₂, ◌∙◌, subst, inl, inr, arith}
+use Rattle.std.specs.Prelude.{codes, bytes_eq, replicate}
+use Rattle.std.specs.Char.{is_ascii_alphanumeric, to_ascii_lowercase}
+use Rattle.std.specs.Int.{from_le_bytes, to_le_bytes}
+use Rattle.std.specs.List.{AllByRecursion, filter, flat_map, list_all, prefix_len}
 use Rattle.std.proofs.Math.Seq.{drop-cons, take-append_seam, take-append-add}
-use Rattle.std.proofs.lemmas.Bool.{both_ways, agree_below_at, and_parts, or_cases, cases_lt, eqb-true, le-leb, ne_eqb}
-use Rattle.std.proofs.lemmas.List.{take-append-drop, drop-drop, append_assoc, append-nil, length-append, length-drop, length-take-le}
+use Rattle.std.proofs.lemmas.Bool.{both_ways, agree_below_at, and_parts, or_cases, cases_lt, eqb-true, ltb-true, le-leb, ne_eqb}
+use Rattle.std.proofs.lemmas.List.{take-append-drop, drop-drop, append_assoc, append-nil, length-append, length-drop, length-take-le, length-map, length-replicate, map-append, take-map, drop-map}
+use Rattle.std.proofs.lemmas.Nat.{le_bytes_8, or_of_8}
+use Rattle.std.proofs.lemmas.Slice.Eq.{bytes_eq-Decides}
 use Rattle.std.proofs.lemmas.Grind.{flat_map-append}
 use Rattle.sip_text.specs.Bytes.{is_one_of, crlf, colon, carriage_return, line_feed, is_wsp, is_token_byte}
 use Rattle.sip_text.specs.Text.{One, ◌or◌}
@@ -16,15 +19,19 @@ use Rattle.sip_text.proofs.RunLemmas.{run-front}
 use Rattle.sip_masks.specs.Marks.{is_plain}
 use Rattle.sip_message.specs.Lines.{is_inner_byte, IsHead, BeginsBlank, with_end}
 use Rattle.sip_message.specs.Values.{is_value_byte, OtherText}
-use Rattle.sip_message.specs.Name.{name_of}
+use Rattle.sip_text.specs.Case.{folded}
+use Rattle.sip_message.specs.declared.name.Known.{Known}
+use Rattle.sip_message.specs.Name.{FieldName, known, other, spellings, name_by, name_of}
 use Rattle.sip_message.specs.StartLine.{StartLine, request, status, StartText}
 use Rattle.sip_message.specs.Field.{Field, NameText, ValueText, FieldText, FieldsText}
 use Rattle.sip_message.specs.inner.Quick.{is_open, IsOpen, AreOrdinary, IsOrdinary}
-use Rattle.sip_message.proofs.SplitLemmas.{All, all_left, all_right}
-use Rattle.sip_message.proofs.EachLemmas.{each-one, each-many, wsp-blank}
-use Rattle.sip_message.proofs.FieldLemmas.{each-token, blank-token, name_whole}
-use Rattle.sip_message.proofs.CanonLemmas.{Inner, AreInner, lines-head, inner-folds, inner-no_bare}
-use Rattle.sip_message.proofs.ReadLemmas.{fields-push}
+use Rattle.sip_message.specs.inner.Numbers.{small, filled, number_of}
+use Rattle.sip_message.proofs.lemmas.text.Cuts.{All, all_left, all_right}
+use Rattle.sip_message.proofs.lemmas.text.Each.{each-one, each-many, wsp-blank}
+use Rattle.sip_message.proofs.lemmas.field.OneWay.{each-token, blank-token, name_whole}
+use Rattle.sip_message.proofs.lemmas.canon.Spelling.{Inner, AreInner, lines-head, inner-folds, inner-no_bare}
+use Rattle.sip_message.proofs.lemmas.lines.Reading.{fields-push}
+use Rattle.sip_message.proofs.lemmas.start_line.OneWay.{length-folded}
 
 -- the text up to the first control
 open-front : (text : List ℕ) → All is_open (take (prefix_len is_open text) text)
@@ -119,7 +126,7 @@ plain-token b is =
     low = (omega arith, (omega arith, (omega arith, (omega arith, (omega arith, (omega arith, (omega arith, (omega arith, tt))))))))
 
 -- the run of plain bytes at a place is a token
-plain-run : (text : List ℕ) (n : ℕ) → n ≡ prefix_len is_plain text → 0 < n → Token (take n text)
+pub plain-run : (text : List ℕ) (n : ℕ) → n ≡ prefix_len is_plain text → 0 < n → Token (take n text)
 plain-run text n is some =
     let front = run-front is_plain text in
     let same : take n text ≡ front.0 = ap₂ take (is ∙ front.4) front.3 ∙ take-append_seam front.0 front.1 in
@@ -247,3 +254,167 @@ ordinary-head bytes text more rest start fields end at bytes_is clear is is_star
       is_start = is_start;
       are_fields = are.are;
     }
+
+-- each is a byte
+abbrev pub Bytes : List ℕ → Type 0
+Bytes text = (i : ℕ) → get_or text i 0 < 256
+
+-- a byte of a known name in small letters
+abbrev pub is_name_byte : ℕ → Bool
+is_name_byte b = (nat_le 97 b && nat_le b 122) || b == 45
+
+-- of the bytes of a token those are the bytes with one bit set
+token-small : (b : ℕ) → b < 256 → is_token_byte b ≡ true → is_name_byte (small b) ≡ true → to_ascii_lowercase b ≡ small b
+token-small b low token name =
+    eqb-true _ _ (by (is_token_byte b) (is_name_byte (small b)) _ token name (agree_below_at (λ x. not (is_token_byte x && is_name_byte (small x)) || to_ascii_lowercase x == small x) (λ _. true) 256 b refl low))
+  where
+    by : (x y z : Bool) → x ≡ true → y ≡ true → (not (x && y) || z) ≡ true → z ≡ true
+    by true true z one two is = is
+    by true false z one two is = absurd (both_ways false refl two)
+    by false y z one two is = absurd (both_ways false refl one)
+
+lower-small : (b : ℕ) → b < 256 → is_name_byte (to_ascii_lowercase b) ≡ true → small b ≡ to_ascii_lowercase b
+lower-small b low name =
+    eqb-true _ _ (by (is_name_byte (to_ascii_lowercase b)) _ name (agree_below_at (λ x. not (is_name_byte (to_ascii_lowercase x)) || small x == to_ascii_lowercase x) (λ _. true) 256 b refl low))
+  where
+    by : (x z : Bool) → x ≡ true → (not x || z) ≡ true → z ≡ true
+    by true z one is = is
+    by false z one is = absurd (both_ways false refl one)
+
+-- so a token whose bytes with that bit are those of a name is that name
+small-folded : (text : List ℕ) → Bytes text → All is_token_byte text → list_all is_name_byte (map small text) ≡ true → folded text ≡ map small text
+small-folded [] fits token name = refl
+small-folded (b ∷ text) fits token name =
+    let parts = and_parts (is_name_byte (small b)) (list_all is_name_byte (map small text)) name in
+    ap₂ (λ x t. x ∷ t) (token-small b (fits 0) token.0 parts.0) (small-folded text (λ i. fits (suc i)) token.1 parts.1)
+
+folded-small : (text : List ℕ) → Bytes text → list_all is_name_byte (folded text) ≡ true → map small text ≡ folded text
+folded-small [] fits name = refl
+folded-small (b ∷ text) fits name =
+    let parts = and_parts (is_name_byte (to_ascii_lowercase b)) (list_all is_name_byte (folded text)) name in
+    ap₂ (λ x t. x ∷ t) (lower-small b (fits 0) parts.0) (folded-small text (λ i. fits (suc i)) parts.1)
+
+-- a byte that is not NUL
+abbrev pub is_some_byte : ℕ → Bool
+is_some_byte b = nat_lt 0 b
+
+-- what stands in a number behind its NULs
+without-nul : (n : ℕ) (text : List ℕ) → filter is_some_byte (replicate n 0 ++ text) ≡ filter is_some_byte text
+without-nul zero text = refl
+without-nul (suc n) text = without-nul n text
+
+no-nul : (text : List ℕ) → Bytes text → filter is_some_byte (map small text) ≡ map small text
+no-nul [] fits = refl
+no-nul (b ∷ text) fits =
+    ap (λ some. cond some (small b ∷ filter is_some_byte (map small text)) (filter is_some_byte (map small text))) (agree_below_at (λ x. is_some_byte (small x)) (λ _. true) 256 b refl (fits 0))
+    ∙ ap (λ t. small b ∷ t) (no-nul text (λ i. fits (suc i)))
+
+small-fits : (text : List ℕ) (n : ℕ) → Bytes text → (i : ℕ) → get_or (replicate n 0 ++ map small text) i 0 < 256
+small-fits text (suc n) fits zero = omega arith
+small-fits text (suc n) fits (suc i) = small-fits text n fits i
+small-fits [] zero fits i = omega arith
+small-fits (b ∷ text) zero fits zero = or_of_8 b 32 (fits 0) (omega arith)
+small-fits (b ∷ text) zero fits (suc i) = small-fits text zero (λ j. fits (suc j)) i
+
+-- a number gives back what writes it
+number-bytes : (text : List ℕ) (n : ℕ) → Bytes text → length text ≤ 8 → n ≡ number_of text → filter is_some_byte (to_le_bytes w64 n) ≡ map small text
+number-bytes text n fits few is =
+    let lower = map small text in
+    let long : length (filled lower) ≡ 8 = omega (arith, few, length-map text small, length-append (replicate (8 - length lower) 0) lower, length-replicate {A = ℕ} (8 - length lower) 0) in
+    ap (filter is_some_byte) (le_bytes_8 (filled lower) n long (small-fits text (8 - length lower) fits) is) ∙ without-nul (8 - length lower) lower ∙ no-nul text fits
+
+-- the bytes of a number without its NULs
+abbrev pub spelled : ℕ → List ℕ
+spelled n = filter is_some_byte (to_le_bytes w64 n)
+
+-- the name that a text without case spells by a list
+abbrev pub spelled_by : List (List ℕ × Known) → List ℕ → List ℕ → FieldName
+spelled_by [] lower text = other text
+spelled_by ((s, k) ∷ more) lower text = cond (bytes_eq lower s) (known k) (spelled_by more lower text)
+
+-- a token whose bytes are those of a known name is that name
+known-by : (text s : List ℕ) (k : Known) → Bytes text → Token text → map small text ≡ s → list_all is_name_byte s ≡ true → spelled_by spellings s text ≡ known k → known k ≡ name_of text
+known-by text s k fits token is name found =
+    let lower = small-folded text fits (each-token text token) (ap (list_all is_name_byte) is ∙ name) ∙ is in
+    sym (ap (λ t. spelled_by spellings t text) lower ∙ found)
+
+pub short-known : (text : List ℕ) (n : ℕ) (k : Known) → ((i : ℕ) → Fits w8 (get_or text i 0)) → Token text → length text ≤ 8 → n ≡ number_of text
+    → list_all is_name_byte (spelled n) ≡ true → spelled_by spellings (spelled n) text ≡ known k → known k ≡ name_of text
+short-known text n k fits token few is name found =
+    let bytes : Bytes text = λ i. (fits i).fits in
+    known-by text (spelled n) k bytes token (sym (number-bytes text n bytes few is)) name found
+
+few-front : (n : ℕ) (text : List ℕ) → length (take n text) ≤ n
+few-front zero text = omega arith
+few-front (suc n) [] = omega arith
+few-front (suc n) (b ∷ text) = omega (arith, few-front n text)
+
+bytes-take : (n : ℕ) (text : List ℕ) → Bytes text → Bytes (take n text)
+bytes-take zero text fits i = omega arith
+bytes-take (suc n) [] fits i = omega arith
+bytes-take (suc n) (b ∷ text) fits zero = fits 0
+bytes-take (suc n) (b ∷ text) fits (suc i) = bytes-take n text (λ j. fits (suc j)) i
+
+bytes-drop : (n : ℕ) (text : List ℕ) → Bytes text → Bytes (drop n text)
+bytes-drop zero text fits = fits
+bytes-drop (suc n) [] fits = fits
+bytes-drop (suc n) (b ∷ text) fits = bytes-drop n text (λ j. fits (suc j))
+
+pub halved-known : (text : List ℕ) (m n : ℕ) (k : Known) → ((i : ℕ) → Fits w8 (get_or text i 0)) → Token text → length text ≤ 16 → m ≡ number_of (take 8 text) → n ≡ number_of (drop 8 text)
+    → list_all is_name_byte (spelled m ++ spelled n) ≡ true → spelled_by spellings (spelled m ++ spelled n) text ≡ known k → known k ≡ name_of text
+halved-known text m n k fits token few first second name found =
+    let bytes : Bytes text = λ i. (fits i).fits in
+    let front = number-bytes (take 8 text) m (bytes-take 8 text bytes) (few-front 8 text) first in
+    let rest = number-bytes (drop 8 text) n (bytes-drop 8 text bytes) (omega (arith, few, length-drop 8 text)) second in
+    let whole : map small text ≡ spelled m ++ spelled n =
+    ap (map small) (sym (take-append-drop 8 text)) ∙ map-append small (take 8 text) (drop 8 text) ∙ ap₂ (λ a b. a ++ b) (sym front) (sym rest) in
+    known-by text (spelled m ++ spelled n) k bytes token whole name found
+
+-- a text that is none of a list
+unlisted : (list : List (List ℕ × Known)) (text : List ℕ) → AllByRecursion (λ s. folded text ≡ s.0 → ⊥) list → name_by list text ≡ other text
+unlisted [] text none = refl
+unlisted ((s, k) ∷ more) text none =
+    ap (λ is. cond is (known k) (name_by more text)) (not_equal (bytes_eq (folded text) s) refl) ∙ unlisted more text none.1
+  where
+    not_equal : (equal : Bool) → bytes_eq (folded text) s ≡ equal → bytes_eq (folded text) s ≡ false
+    not_equal true is = absurd (none.0 ((bytes_eq-Decides (folded text) s).0 is))
+    not_equal false is = is
+
+-- a text of 2 to 8 bytes whose number is that of no known name
+pub short-other : (text : List ℕ) → ((i : ℕ) → Fits w8 (get_or text i 0)) → 2 ≤ length text → length text ≤ 8
+    → AllByRecursion (λ s. number_of text ≡ from_le_bytes w64 (filled s) → ⊥) (codes "via" ∷ codes "from" ∷ codes "to" ∷ codes "call-id" ∷ codes "cseq" ∷ codes "contact" ∷ codes "subject" ∷ codes "route" ∷ [])
+    → other text ≡ name_of text
+short-other text fits some few (via, (from, (to, (call_id, (cseq, (contact, (subject, (route, end)))))))) =
+    sym (unlisted spellings text (name refl via, (one refl, (name refl from, (one refl, (name refl to, (one refl, (name refl call_id, (one refl, (name refl cseq, (long refl, (one refl, (name refl contact, (one refl, (long refl, (one refl, (long refl, (one refl, (name refl subject, (one refl, (long refl, (one refl, (name refl route, tt)))))))))))))))))))))))
+  where
+    name : {s : List ℕ} → list_all is_name_byte s ≡ true → (number_of text ≡ from_le_bytes w64 (filled s) → ⊥) → folded text ≡ s → ⊥
+    name {s = s} all differs is = differs (ap (λ t. from_le_bytes w64 (filled t)) (folded-small text (λ i. (fits i).fits) (ap (list_all is_name_byte) is ∙ all) ∙ is))
+
+    one : {s : List ℕ} → length s ≡ 1 → folded text ≡ s → ⊥
+    one short is = omega (arith, some, short, ap length is, length-folded text)
+
+    long : {s : List ℕ} → ltb 8 (length s) ≡ true → folded text ≡ s → ⊥
+    long {s = s} more is = omega (arith, few, ltb-true 8 (length s) more, ap length is, length-folded text)
+
+-- a text of 9 to 16 bytes whose halves are those of no known name
+pub halved-other : (text : List ℕ) → ((i : ℕ) → Fits w8 (get_or text i 0)) → 9 ≤ length text
+    → AllByRecursion (λ s. number_of (take 8 text) ≡ from_le_bytes w64 (filled (take 8 s)) → number_of (drop 8 text) ≡ from_le_bytes w64 (filled (drop 8 s)) → ⊥)
+    (codes "content-length" ∷ codes "content-encoding" ∷ codes "content-type" ∷ codes "supported" ∷ [])
+    → other text ≡ name_of text
+halved-other text fits some (content_length, (content_encoding, (content_type, (supported, end)))) =
+    sym (unlisted spellings text (short refl, (short refl, (short refl, (short refl, (short refl, (short refl, (short refl, (short refl, (short refl, (name refl content_length, (short refl, (short refl, (short refl, (name refl content_encoding, (short refl, (name refl content_type, (short refl, (short refl, (short refl, (name refl supported, (short refl, (short refl, tt)))))))))))))))))))))))
+  where
+    name : {s : List ℕ} → list_all is_name_byte s ≡ true
+        → (number_of (take 8 text) ≡ from_le_bytes w64 (filled (take 8 s)) → number_of (drop 8 text) ≡ from_le_bytes w64 (filled (drop 8 s)) → ⊥) → folded text ≡ s → ⊥
+    name {s = s} all differs is =
+        let same = folded-small text (λ i. (fits i).fits) (ap (list_all is_name_byte) is ∙ all) ∙ is in
+        differs (ap (λ t. from_le_bytes w64 (filled t)) (sym (take-map small 8 text) ∙ ap (take 8) same))
+        (ap (λ t. from_le_bytes w64 (filled t)) (sym (drop-map small 8 text) ∙ ap (drop 8) same))
+
+    short : {s : List ℕ} → ltb (length s) 9 ≡ true → folded text ≡ s → ⊥
+    short {s = s} less is = omega (arith, some, ltb-true (length s) 9 less, ap length is, length-folded text)
+
+-- one of two does not hold
+pub one-fails : {A B : Type 0} → (A × (B → ⊥)) ⊎ (A → ⊥) → A → B → ⊥
+one-fails (inl first) a b = first.1 b
+one-fails (inr none) a b = none a

@@ -2,21 +2,21 @@
 use Rattle.std.proofs.Common.{◌≡◌, ℕ, zero, suc, ◌+◌, ◌<◌, ◌≤◌, ◌⊎◌, Bool, true, false, cond, if◌then◌else◌, List, [], ◌∷◌, ◌++◌, length, take, drop, slice_index, refl, sym, ap, ◌∙◌, subst, inl, inr, arith}
 use Rattle.std.proofs.lemmas.List.{append-nil, append_assoc, append_cancel_left, length-append, length-drop, take-append-drop, length-take-le}
 use Rattle.std.proofs.Math.Seq.{take-append_seam, drop-append_seam}
-use Rattle.sip_text.specs.Bytes.{crlf, is_token_byte}
+use Rattle.sip_text.specs.Bytes.{space, crlf, is_token_byte}
 use Rattle.sip_text.specs.Text.{One, ◌then◌, ◌or◌, Many, HasFront, IsLongestFront}
 use Rattle.sip_text.specs.Grammar.{Token, Sws, Blanks}
 use Rattle.sip_text.specs.Blanks.{Blank, blank_len}
-use Rattle.sip_text.proofs.ManyLemmas.{many-nil, many-append, many-push, many-map, many-flat, many-some, IsStep, same_many}
-use Rattle.sip_text.proofs.BlanksLemmas.{units-blanks, blank-step}
+use Rattle.sip_text.proofs.ManyLemmas.{many-nil, many-cons, many-append, many-push, many-map, many-flat, many-some, IsStep, same_many}
+use Rattle.sip_text.proofs.BlanksLemmas.{units-blanks, blanks-units, blank-step}
 use Rattle.sip_message.specs.Unfold.{EndsSolid}
-use Rattle.sip_message.specs.inner.Fronts.{Stops, StopsBlank, TokenFront, BlanksFront}
+use Rattle.sip_message.specs.inner.Fronts.{Stops, StopsBlank, Behind, IsOnlyBehind, TokenFront, BlanksFront}
 use Rattle.sip_message.specs.inner.AddressFronts.{Words, WordsFront}
-use Rattle.sip_message.proofs.EachLemmas.{each-sws, wsp-blank}
-use Rattle.sip_message.proofs.FieldLemmas.{blank-token, same_solid}
-use Rattle.sip_message.proofs.EndLemmas.{firm-then_right, end-firm, end-many, ends-both}
-use Rattle.sip_message.proofs.ParamLemmas.{some-run, firm-token}
-use Rattle.sip_message.proofs.FrontLemmas.{ReadAs, NotRead, token-cut, longest-behind, longest-blanks_front}
-use Rattle.sip_message.proofs.OneFrontLemmas.{AtMostOne, read-one}
+use Rattle.sip_message.proofs.lemmas.text.Each.{each-sws, wsp-blank}
+use Rattle.sip_message.proofs.lemmas.field.OneWay.{blank-token, same_solid}
+use Rattle.sip_message.proofs.lemmas.text.Ends.{firm-then_right, end-firm, end-many, ends-both}
+use Rattle.sip_message.proofs.lemmas.params.Closed.{some-run, firm-token}
+use Rattle.sip_message.proofs.lemmas.front.Cuts.{ReadAs, NotRead, token-cut, same-behind, longest-behind, longest-blanks_front}
+use Rattle.sip_message.proofs.lemmas.front.OneWay.{AtMostOne, read-one}
 
 -- a byte of a token, or a blank
 abbrev WordItem : List ℕ → Type 0
@@ -182,3 +182,11 @@ no-words text n longest none (w, r) ((t, more, token, many, w_is), no_word, whol
     at : (u : List ℕ) → length u ≡ 0 → u ≡ []
     at [] is = refl
     at (b ∷ u) is = absurd (omega (arith, is))
+
+-- one blank is passed where none stands behind it
+pub one-blank : (text rest : List ℕ) → text ≡ space ∷ rest → StopsBlank rest → IsOnlyBehind text rest
+one-blank text rest is stops =
+    let blank : Blank (space ∷ []) = ([], space ∷ [], inl refl, (space, refl, refl), refl) in
+    let blanks = blanks-units (space ∷ []) (many-cons Blank (space ∷ []) [] blank (many-nil Blank)) in
+    let behind : Behind text rest = (stops, (space ∷ [], rest, blanks, refl, is)) in
+    (behind, (λ other front. same-behind text other rest front behind))

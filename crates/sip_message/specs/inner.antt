@@ -15,3 +15,4 @@ pub mod Codes
 pub mod Names
 pub mod Quick
 pub mod Asked
+pub mod Numbers

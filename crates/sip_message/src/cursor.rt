@@ -43,15 +43,17 @@ pub fn read_protocol(text: &[u8]) -> Option<(&[u8], &[u8], &[u8], &[u8])>
     Some((protocol, version, transport, &rest[blanks..]))
 }
 
-/// What is behind the blanks at the front. Before most texts there is none.
+/// What is behind the blanks at the front. Before most texts there is none, or one SP.
 #[inline]
 pub(crate) fn skip_blanks(text: &[u8]) -> &[u8]
     ensures { IsOnlyBehind text.now result.now }
 {
-    if may_begin_blank(text) {
-        past_blanks(text)
-    } else {
-        text
+    if !may_begin_blank(text) {
+        return text;
+    }
+    match past(text, b' ') {
+        Some(rest) if !may_begin_blank(rest) => rest,
+        _ => past_blanks(text),
     }
 }
 

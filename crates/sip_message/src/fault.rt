@@ -3,6 +3,8 @@ ghost use Rattle.std.specs.Prelude.{◌≡◌};
 ghost use Rattle.sip_message.specs.Reason.{reason_number, reason_name};
 
 use std::alloc::AllocError;
+use std::fmt;
+use thiserror::Error;
 
 /// Where a fault is.
 #[derive(Clone, Copy, Debug, PartialEq, Eq)]
@@ -13,6 +15,16 @@ pub enum Unit {
     Line(usize),
     /// The body.
     Body,
+}
+
+impl fmt::Display for Unit {
+    fn fmt<W: fmt::Write>(&self, f: &mut fmt::Formatter<W>) -> fmt::Result {
+        match self {
+            Unit::Head => f.write_str("head"),
+            Unit::Line(number) => write!(f, "line {number}"),
+            Unit::Body => f.write_str("body"),
+        }
+    }
 }
 
 /// What is wrong.
@@ -86,8 +98,28 @@ impl Reason {
     }
 }
 
+impl fmt::Display for Reason {
+    fn fmt<W: fmt::Write>(&self, f: &mut fmt::Formatter<W>) -> fmt::Result {
+        f.write_str(match self {
+            Reason::NoHeadEnd => "no empty line ends the head",
+            Reason::BareLineEnd => "a CR stands without LF, or an LF without CR",
+            Reason::StartLine => "neither a request line nor a status line",
+            Reason::FieldLine => "no field name and colon",
+            Reason::Value => "the value is not of its field's form",
+            Reason::Repeated => "the field stands twice, and may stand once",
+            Reason::Missing => "Via, From, To, Call-ID or CSeq is missing",
+            Reason::MethodMismatch => "the method of CSeq is not that of the request",
+            Reason::NoLength => "a stream has no Content-Length",
+            Reason::ShortBody => "shorter than Content-Length says",
+            Reason::LongBody => "longer than Content-Length says",
+            Reason::NoCookie => "the top branch of a sent request lacks the cookie",
+        })
+    }
+}
+
 /// A fault of a message.
-#[derive(Clone, Copy, Debug, PartialEq, Eq)]
+#[derive(Clone, Copy, Debug, PartialEq, Eq, Error)]
+#[error("{unit}: {reason} ({} {})", .reason.number(), .reason.name())]
 pub struct Fault {
     /// Where it is.
     pub unit: Unit,
@@ -96,11 +128,13 @@ pub struct Fault {
 }
 
 /// Why bytes are no message.
-#[derive(Clone, Copy, Debug, PartialEq, Eq)]
+#[derive(Clone, Copy, Debug, PartialEq, Eq, Error)]
 pub enum ReadError {
     /// A growth was refused.
+    #[error("out of memory")]
     Memory,
     /// The first fault.
+    #[error(transparent)]
     Fault(Fault),
 }
 

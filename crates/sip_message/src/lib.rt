@@ -12,6 +12,7 @@ mod kept;
 pub mod laws;
 mod message;
 mod name;
+mod number;
 mod other;
 mod params;
 mod quick;

@@ -20,11 +20,11 @@ use crate::values::CSeq;
 use crate::via::Via;
 use crate::vias::{Routes, Vias};
 use sip_text::same_text;
-use std::alloc::Global;
+use std::alloc::{AllocError, Global};
 use std::marker::Model;
 
 /// A message (RFC 3261, section 7), in slices of its bytes.
-#[derive(Drop)]
+#[derive(Debug, Drop)]
 pub struct Message<'a> {
     start: StartLine<'a>,
     fields: Vec<Field<'a>>,
@@ -46,7 +46,7 @@ impl<'a> Model for Message<'a> {
 }
 
 impl<'a> Message<'a> {
-    ghost use Rattle.std.specs.Prelude.{IfSome};
+    ghost use Rattle.std.specs.Prelude.{IfOk, IfSome};
     ghost use Rattle.sip_message.specs.Reads.{Reads, ReadsTo};
     ghost use Rattle.sip_message.specs.Message.{Message as Text};
 
@@ -81,28 +81,28 @@ impl<'a> Message<'a> {
     pub fn read(alloc: Global, bytes: &'a [u8]) -> Result<Self, ReadError>
         ensures { ReadsTo bytes.entry.now result }
     {
-        match Message::quick(alloc, bytes) {
+        match Message::quick(alloc, bytes)? {
             Some(message) => Ok(message),
             None => Message::whole(alloc, bytes),
         }
     }
 
     // The message that the bytes spell, where its head is an ordinary one.
-    fn quick(alloc: Global, bytes: &'a [u8]) -> Option<Self>
-        ensures { IfSome result (λ m. Reads bytes.entry.now m) }
+    fn quick(alloc: Global, bytes: &'a [u8]) -> Result<Option<Self>, AllocError>
+        ensures { IfOk result (λ found. IfSome found (λ m. Reads bytes.entry.now m)) }
     {
-        let Some((start, fields, kept, rest)) = read_ordinary(alloc, bytes) else {
-            return None;
+        let Some((start, fields, kept, rest)) = read_ordinary(alloc, bytes)? else {
+            return Ok(None);
         };
         let Some(named) = find_asked(&fields) else {
-            return None;
+            return Ok(None);
         };
         let via = kept.via.unwrap();
         let cseq = kept.cseq.unwrap();
         let Ok(body) = read_body(start, named, &via, cseq, &fields, rest) else {
-            return None;
+            return Ok(None);
         };
-        Some(Message::new(
+        Ok(Some(Message::new(
             start,
             fields,
             body,
@@ -111,7 +111,7 @@ impl<'a> Message<'a> {
             named.to,
             named.call_id,
             cseq,
-        ))
+        )))
     }
 
     // The same for any message.

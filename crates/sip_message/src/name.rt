@@ -1,9 +1,12 @@
 //! The names of fields.
-ghost use Rattle.std.specs.Prelude.{◌≡◌, ◌≢◌, ◌∷◌, [], length};
+ghost use Rattle.std.specs.Prelude.{◌≡◌, ◌≢◌, ◌≤◌, ◌∷◌, [], length, take, drop};
 ghost use Rattle.sip_message.specs.Name.{name_of, long_name};
 ghost use Rattle.sip_message.specs.Views.{name_parts};
+ghost use Rattle.sip_text.specs.Grammar.{Token};
 ghost use Rattle.sip_message.specs.inner.Names.{name_or};
+ghost use Rattle.sip_message.specs.inner.Numbers.{number_of};
 
+use crate::number::number_of;
 use sip_text::same_text;
 
 /// A field name that the reader knows.
@@ -70,6 +73,107 @@ pub(crate) fn read_name(text: &[u8]) -> Name<'_>
     match name {
         Some(name) => Name::Known(name),
         None => Name::Other(text),
+    }
+}
+
+// The numbers of the known names, and of the halves of those with more than 8 bytes: the last letter
+// is the highest byte.
+const VIA: u64 = 0x6169_7600_0000_0000;
+
+const FROM: u64 = 0x6d6f_7266_0000_0000;
+
+const TO: u64 = 0x6f74_0000_0000_0000;
+
+const CALL_ID: u64 = 0x6469_2d6c_6c61_6300;
+
+const CSEQ: u64 = 0x7165_7363_0000_0000;
+
+const CONTACT: u64 = 0x7463_6174_6e6f_6300;
+
+const SUBJECT: u64 = 0x7463_656a_6275_7300;
+
+const ROUTE: u64 = 0x6574_756f_7200_0000;
+
+const SUPPORTE: u64 = 0x6574_726f_7070_7573;
+
+const D: u64 = 0x6400_0000_0000_0000;
+
+const CONTENT: u64 = 0x2d74_6e65_746e_6f63;
+
+const LENGTH: u64 = 0x6874_676e_656c_0000;
+
+const TYPE: u64 = 0x6570_7974_0000_0000;
+
+const ENCODING: u64 = 0x676e_6964_6f63_6e65;
+
+/// The name that the first bytes of the window spell, a token. Where the window is long enough, it is
+/// found by its numbers.
+#[inline(always)]
+pub(crate) fn quick_name(window: &[u8], len: usize) -> Name<'_>
+    requires within { len ≤ length window.now }
+    requires token { Token (take len window.now) }
+    ensures { name_parts result ≡ name_of (take len window.now) }
+{
+    let text = &window[..len];
+    if len < 2 || len > 16 || window.len() < 16 {
+        return read_name(text);
+    }
+    if len <= 8 {
+        return short_name(text, number_of(window, len));
+    }
+    let first = number_of(window, 8);
+    let second = number_of(&window[8..], len - 8);
+    halved_name(text, first, second)
+}
+
+// The name that the text spells, which writes this number.
+#[inline(always)]
+fn short_name(text: &[u8], number: u64) -> Name<'_>
+    requires token { Token text.now }
+    requires length { (2 ≤ length text.now) × (length text.now ≤ 8) }
+    requires number { number ≡ number_of text.now }
+    ensures { name_parts result ≡ name_of text.now }
+{
+    if number == VIA {
+        Name::Known(Known::Via)
+    } else if number == FROM {
+        Name::Known(Known::From)
+    } else if number == TO {
+        Name::Known(Known::To)
+    } else if number == CALL_ID {
+        Name::Known(Known::CallId)
+    } else if number == CSEQ {
+        Name::Known(Known::CSeq)
+    } else if number == CONTACT {
+        Name::Known(Known::Contact)
+    } else if number == SUBJECT {
+        Name::Known(Known::Subject)
+    } else if number == ROUTE {
+        Name::Known(Known::Route)
+    } else {
+        Name::Other(text)
+    }
+}
+
+// The name that the text spells, whose first 8 bytes and others write these numbers.
+#[inline(always)]
+fn halved_name(text: &[u8], first: u64, second: u64) -> Name<'_>
+    requires token { Token text.now }
+    requires length { (9 ≤ length text.now) × (length text.now ≤ 16) }
+    requires first { first ≡ number_of (take 8 text.now) }
+    requires second { second ≡ number_of (drop 8 text.now) }
+    ensures { name_parts result ≡ name_of text.now }
+{
+    if first == CONTENT && second == LENGTH {
+        Name::Known(Known::ContentLength)
+    } else if first == CONTENT && second == TYPE {
+        Name::Known(Known::ContentType)
+    } else if first == CONTENT && second == ENCODING {
+        Name::Known(Known::ContentEncoding)
+    } else if first == SUPPORTE && second == D {
+        Name::Known(Known::Supported)
+    } else {
+        Name::Other(text)
     }
 }
 

@@ -1,7 +1,7 @@
 //! The quick reader of ordinary heads: no line of theirs is folded, and no blank stands before a colon.
 //! It finds the ends of lines and of names in masks of the text. What is not ordinary it leaves to the
 //! reader of all heads.
-ghost use Rattle.std.specs.Prelude.{◌≡◌, ◌+◌, ◌-◌, ◌^◌, ◌≤◌, ◌<◌, ◌++◌, IsTrue, IfSome, length, take, drop};
+ghost use Rattle.std.specs.Prelude.{◌≡◌, ◌+◌, ◌-◌, ◌^◌, ◌≤◌, ◌<◌, ◌++◌, IsTrue, IfOk, IfSome, length, take, drop};
 ghost use Rattle.sip_message.specs.Lines.{with_end};
 ghost use Rattle.sip_message.specs.Field.{Row, FieldText};
 ghost use Rattle.sip_message.specs.Views.{name_parts, field_parts, fields_parts};
@@ -11,11 +11,11 @@ ghost use Rattle.sip_message.specs.inner.Quick.{IsOpen, AreOrdinary, IsOrdinary}
 
 use crate::field::Field;
 use crate::kept::Kept;
-use crate::name::{Known, Name, read_name};
+use crate::name::{Known, Name, quick_name};
 use crate::row::{is_of_row, trim};
 use crate::start_line::{StartLine, read_start};
 use sip_masks::Masks;
-use std::alloc::Global;
+use std::alloc::{AllocError, Global};
 
 // How many bytes of a message are looked at, and how many words their masks take.
 const LONGEST: usize = 2047;
@@ -30,23 +30,23 @@ const ROOM: usize = 16;
 pub(crate) fn read_ordinary(
     alloc: Global,
     bytes: &[u8],
-) -> Option<(StartLine<'_>, Vec<Field<'_>>, Kept<'_>, &[u8])>
-    ensures head { IfSome result (λ read. IsOrdinary bytes.now (start_parts read.0) (fields_parts read.1) read.3.now) }
-    ensures kept { IfSome result (λ read. KeptOf (fields_parts read.1) read.2) }
+) -> Result<Option<(StartLine<'_>, Vec<Field<'_>>, Kept<'_>, &[u8])>, AllocError>
+    ensures head { IfOk result (λ found. IfSome found (λ read. IsOrdinary bytes.now (start_parts read.0) (fields_parts read.1) read.3.now)) }
+    ensures kept { IfOk result (λ found. IfSome found (λ read. KeptOf (fields_parts read.1) read.2)) }
 {
     let mut others = [0; WORDS];
     let mut controls = [0; WORDS];
     let masks = Masks::of(front(bytes), &mut others, &mut controls);
     let Some(end) = line_end(&masks, 0) else {
-        return None;
+        return Ok(None);
     };
     let Some(start) = read_start(&masks.text()[..end]) else {
-        return None;
+        return Ok(None);
     };
-    let Some((fields, kept, at)) = ordinary_fields(alloc, &masks, end + 2) else {
-        return None;
+    let Some((fields, kept, at)) = ordinary_fields(alloc, &masks, end + 2)? else {
+        return Ok(None);
     };
-    Some((start, fields, kept, &bytes[at + 2..]))
+    Ok(Some((start, fields, kept, &bytes[at + 2..])))
 }
 
 // The front of the bytes that is looked at.
@@ -68,29 +68,27 @@ fn ordinary_fields<'a>(
     alloc: Global,
     masks: &Masks<'a, '_>,
     from: usize,
-) -> Option<(Vec<Field<'a>>, Kept<'a>, usize)>
+) -> Result<Option<(Vec<Field<'a>>, Kept<'a>, usize)>, AllocError>
     requires { from ≤ length masks.now }
-    ensures lines { IfSome result (λ read. AreOrdinary masks.now from read.2 (fields_parts read.0)) }
-    ensures kept { IfSome result (λ read. KeptOf (fields_parts read.0) read.1) }
+    ensures lines { IfOk result (λ found. IfSome found (λ read. AreOrdinary masks.now from read.2 (fields_parts read.0))) }
+    ensures kept { IfOk result (λ found. IfSome found (λ read. KeptOf (fields_parts read.0) read.1)) }
 {
     let mut kept = Kept::new();
-    let Ok(mut fields) = Vec::with_capacity(alloc, ROOM) else {
-        return None;
-    };
+    let mut fields = Vec::with_capacity(alloc, ROOM)?;
     let mut at = from;
     'lines: loop {
         let Some(end) = line_end(masks, at) else {
-            return None;
+            return Ok(None);
         };
         if end == at {
-            return Some((fields, kept, at));
+            return Ok(Some((fields, kept, at)));
         }
         let Some(field) = ordinary_field(masks, at, end, &mut kept) else {
-            return None;
+            return Ok(None);
         };
-        let Ok(()) = fields.push(field) else {
-            return None;
-        };
+        if let Err(e) = fields.push(field) {
+            return Err(AllocError::from(e));
+        }
         at = end + 2;
     }
 }
@@ -132,9 +130,8 @@ fn ordinary_field<'a>(
     if len == 0 || len >= end - at || text[at + len] != b':' {
         return None;
     }
-    let colon = at + len;
-    let name = read_name(&text[at..colon]);
-    let Some(value) = trim(&text[colon + 1..end]) else {
+    let name = quick_name(&text[at..], len);
+    let Some(value) = trim(&text[at + len + 1..end]) else {
         return None;
     };
     if !is_ordinary_value(name, value, kept) {

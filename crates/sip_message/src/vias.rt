@@ -15,7 +15,7 @@ use crate::via::{Via, read_via};
 use std::marker::Model;
 
 /// The elements of all Via fields, in order.
-#[derive(Drop)]
+#[derive(Debug, Drop)]
 pub struct Vias<'s, 'a> {
     fields: &'s [Field<'a>],
     at: usize,
@@ -78,7 +78,7 @@ fn next_text<'a>(fields: &[Field<'a>], at: usize, rest: &'a [u8]) -> Option<(&'a
 }
 
 /// The values of the Route fields, in order.
-#[derive(Drop)]
+#[derive(Debug, Drop)]
 pub struct Routes<'s, 'a> {
     fields: &'s [Field<'a>],
     at: usize,

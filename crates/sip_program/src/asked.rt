@@ -11,7 +11,7 @@ const LEAST: u32 = 1;
 const MOST: u32 = 1_000_000;
 
 /// What the program is asked to do.
-#[derive(Clone, Copy)]
+#[derive(Clone, Copy, Debug)]
 pub enum Asked<'a> {
     /// To judge the standard input.
     Input,

@@ -9,17 +9,22 @@ use sip_log::Broken;
 use sip_verdict::{JudgeError, ShowError};
 use std::alloc::AllocError;
 use std::io;
+use thiserror::Error;
 
 /// Why the program ends without its answer.
-#[derive(Debug, Drop)]
+#[derive(Debug, Drop, Error)]
 pub enum Failure {
     /// What was asked for, or the log, cannot be read.
+    #[error("cannot read")]
     Read,
     /// The answer cannot be written.
+    #[error("cannot write")]
     Write,
     /// A growth was refused.
+    #[error("out of memory")]
     Memory,
     /// The words ask for nothing that it can do.
+    #[error("usage: siptrace [check FILE | show FILE | states FILE ENTRY]")]
     Usage,
 }
 

@@ -9,7 +9,7 @@ use std::io;
 use std::io::Read;
 
 /// What is read.
-#[derive(Drop)]
+#[derive(Debug, Drop)]
 enum Log<I, F> {
     Input(FromRead<I>),
     File(FromRead<F>),
@@ -17,6 +17,7 @@ enum Log<I, F> {
 
 /// The system that a platform makes, with a reader as its standard input.
 #[derive(Drop)]
+#[derive_where(Debug; P, I, P::File)]
 pub struct Host<P: Platform + Drop, I: Drop> {
     platform: P,
     log: Log<I, P::File>,

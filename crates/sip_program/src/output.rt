@@ -15,7 +15,7 @@ use std::io::{BufWriter, Write};
 const BUFFER: usize = 65_536;
 
 /// A sink that keeps up to 64 KiB for its writer. A write that was interrupted is tried again; any other error is a failure.
-#[derive(Drop)]
+#[derive(Debug, Drop)]
 pub struct Output<W: Write + Drop> {
     writer: BufWriter<W>,
     failed: bool,
@@ -35,7 +35,7 @@ impl<W: Write + Drop> Output<W> {
         })
     }
 
-    /// Hands its writer all that was put. A writer that fails has a front of it.
+    /// Hands its writer all that was put. On an error it is not said how much of it the writer has.
     pub fn flush(&mut self) -> Result<(), Broken>
         ensures sent { OnOk result (Keeps (⟦<Output<W> as Sink>⟧.written self.old) (sent W.contents self.new)) }
         ensures kept { Keeps (⟦<Output<W> as Sink>⟧.written self.old) (⟦<Output<W> as Sink>⟧.written self.new) }

@@ -12,3 +12,6 @@ pub mod TablesLemmas
 pub mod Taking
 pub mod Twice
 pub mod Waiting
+pub mod NamesLemmas
+pub mod AdvanceLemmas
+pub mod MarksLemmas

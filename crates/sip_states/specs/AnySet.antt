@@ -1,89 +1,126 @@
 -- A set of states of one of the machines.
-use Rattle.std.specs.Prelude.{◌≡◌, ℕ, Option, [], ◌∷◌}
+use Rattle.std.specs.Prelude.{◌≡◌, ℕ, Option, List, [], ◌∷◌}
 use Rattle.sip_key.specs.Key.{KeyParts}
-use Rattle.sip_machine.specs.declared.invite_client.InviteClientState.{InviteClientState}
-use Rattle.sip_machine.specs.declared.invite_client.InviteClientState.TheVariants as invite_client
-use Rattle.sip_machine.specs.declared.plain_client.PlainState.{PlainState}
-use Rattle.sip_machine.specs.declared.plain_client.PlainState.TheVariants as plain_client
-use Rattle.sip_machine.specs.declared.invite_server.InviteServerState.{InviteServerState}
-use Rattle.sip_machine.specs.declared.invite_server.InviteServerState.TheVariants as invite_server
-use Rattle.sip_machine.specs.declared.plain_server.PlainServerState.{PlainServerState}
-use Rattle.sip_machine.specs.declared.plain_server.PlainServerState.TheVariants as plain_server
+use Rattle.sip_machine.specs.declared.owing.Owing.{Owing as CodeOwing}
+use Rattle.sip_machine.specs.declared.debts.NoDebts.{NoDebts}
+use Rattle.sip_machine.specs.declared.outbox.Debt.{Debt}
+use Rattle.sip_machine.specs.declared.invite_client.InviteClientPhase.{InviteClientPhase}
+use Rattle.sip_machine.specs.declared.invite_client.InviteClientPhase.TheVariants as invite_client
+use Rattle.sip_machine.specs.declared.plain_client.PlainClientPhase.{PlainClientPhase}
+use Rattle.sip_machine.specs.declared.plain_client.PlainClientPhase.TheVariants as plain_client
+use Rattle.sip_machine.specs.declared.invite_server.InviteServerPhase.{InviteServerPhase}
+use Rattle.sip_machine.specs.declared.invite_server.InviteServerPhase.TheVariants as invite_server
+use Rattle.sip_machine.specs.declared.plain_server.PlainServerPhase.{PlainServerPhase}
+use Rattle.sip_machine.specs.declared.plain_server.PlainServerPhase.TheVariants as plain_server
 use Rattle.sip_machine.specs.Times.{Times}
 use Rattle.sip_machine.specs.Texts.{Texts}
 use Rattle.sip_machine.specs.NumberedEvent.{NumberedEvent}
-use Rattle.sip_machine.specs.InviteClient.{InviteClientPhase, InviteClientInRange, invite_client_names, invite_client_seen, invite_client_rules, invite_client_until}
-use Rattle.sip_machine.specs.PlainClient.{PlainPhase, PlainInRange, plain_names, plain_seen, plain_rules, plain_until}
-use Rattle.sip_machine.specs.InviteServer.{InviteServerPhase, InviteServerInRange, invite_server_names, invite_server_seen, invite_server_rules, invite_server_until}
-use Rattle.sip_machine.specs.PlainServer.{PlainServerPhase, PlainServerInRange, plain_server_names, plain_server_seen, plain_server_rules, plain_server_until}
+use Rattle.sip_machine.specs.Figure.{rules_of as rules_of_figure, until_of}
+use Rattle.sip_machine.specs.Owing.{owing_seen, owing_names, OwingInRange}
+use Rattle.sip_machine.specs.Transaction.{Coded, idle_state, ended_state}
+use Rattle.sip_machine.specs.InviteClient.{invite_client_seen, invite_client_names, InviteClientInRange}
+use Rattle.sip_machine.specs.PlainClient.{plain_client_seen, plain_client_names, PlainClientInRange}
+use Rattle.sip_machine.specs.InviteServer.{invite_server_seen, invite_server_names, InviteServerInRange}
+use Rattle.sip_machine.specs.PlainServer.{plain_server_seen, plain_server_names, PlainServerInRange}
 use Rattle.sip_states.specs.Runs.{IsWide}
 use Rattle.sip_states.specs.Held.{Held}
-use Rattle.sip_states.specs.KeyMachine.{MachineKind, OfInviteClient, OfPlainClient, OfInviteServer, OfPlainServer, machine_of_key}
+use Rattle.sip_states.specs.KeyMachine.{MachineKind, OfInviteClient, OfPlainClient, OfInviteServer, OfPlainServer, machine_of_key, transaction, PhaseOf}
 use Rattle.sip_states.specs.Meaning.{Meaning, IsKeptBy, IsKnown, Given, HasWaited, HasTaken, HasAgenda}
 use Rattle.sip_states.specs.declared.any_set.AnySet.{AnySet}
 use Rattle.sip_states.specs.declared.any_set.AnySet.TheVariants.{InviteClient, PlainClient, InviteServer, PlainServer}
 
-abbrev pub invite_client_meaning : Meaning InviteClientPhase Times InviteClientState
-invite_client_meaning =
+-- how the code has each machine
+abbrev pub coded : (machine : MachineKind) → Coded (transaction machine).Phase
+coded OfInviteClient =
     record {
-      names = invite_client_names;
+      Code = InviteClientPhase;
+      Debts = List Debt;
       seen = invite_client_seen;
-      in_range = InviteClientInRange;
-      rules = invite_client_rules;
-      until = λ p x. invite_client_until p (invite_client_seen [] x);
-      ended = λ p. invite_client.Ended;
+      names = invite_client_names;
+      InRange = InviteClientInRange;
+      idle = invite_client.Idle;
+      ended = invite_client.Ended;
     }
-
-abbrev pub plain_client_meaning : Meaning PlainPhase Times PlainState
-plain_client_meaning =
+coded OfPlainClient =
     record {
-      names = plain_names;
-      seen = plain_seen;
-      in_range = PlainInRange;
-      rules = plain_rules;
-      until = λ p x. plain_until p (plain_seen [] x);
-      ended = λ p. plain_client.Ended;
+      Code = PlainClientPhase;
+      Debts = NoDebts;
+      seen = plain_client_seen;
+      names = plain_client_names;
+      InRange = PlainClientInRange;
+      idle = plain_client.Idle;
+      ended = plain_client.Ended;
     }
-
-abbrev pub invite_server_meaning : Meaning InviteServerPhase Times InviteServerState
-invite_server_meaning =
+coded OfInviteServer =
     record {
-      names = invite_server_names;
+      Code = InviteServerPhase;
+      Debts = List Debt;
       seen = invite_server_seen;
-      in_range = InviteServerInRange;
-      rules = invite_server_rules;
-      until = λ p x. invite_server_until p (invite_server_seen [] x);
-      ended = λ p. invite_server.Idle;
+      names = invite_server_names;
+      InRange = InviteServerInRange;
+      idle = invite_server.Idle;
+      ended = invite_server.Idle;
     }
-
-abbrev pub plain_server_meaning : Meaning PlainServerPhase Times PlainServerState
-plain_server_meaning =
+coded OfPlainServer =
     record {
-      names = plain_server_names;
+      Code = PlainServerPhase;
+      Debts = List Debt;
       seen = plain_server_seen;
-      in_range = PlainServerInRange;
-      rules = plain_server_rules;
-      until = λ p x. plain_server_until p (plain_server_seen [] x);
-      ended = λ p. plain_server.Idle;
+      names = plain_server_names;
+      InRange = PlainServerInRange;
+      idle = plain_server.Idle;
+      ended = plain_server.Idle;
     }
 
--- P of the set, by its machine
-abbrev pub OfSet : ((X M S : Type 0) → Meaning X M S → Held M S → Type 0) → AnySet → Type 0
-OfSet P (InviteClient s) = P InviteClientPhase Times InviteClientState invite_client_meaning s
-OfSet P (PlainClient s) = P PlainPhase Times PlainState plain_client_meaning s
-OfSet P (InviteServer s) = P InviteServerPhase Times InviteServerState invite_server_meaning s
-OfSet P (PlainServer s) = P PlainServerPhase Times PlainServerState plain_server_meaning s
+-- the states of each machine as the code has them
+abbrev pub StateOf : MachineKind → Type 0
+StateOf machine = CodeOwing (coded machine).Code (coded machine).Debts
 
--- the new set is of the old one's machine, and P of the two
-abbrev pub OfSets : ((X M S : Type 0) → Meaning X M S → Held M S → Held M S → Type 0) → AnySet → AnySet → Type 0
-OfSets P (InviteClient s) new =
-    (t : Held Times InviteClientState) × (new ≡ InviteClient t) × P InviteClientPhase Times InviteClientState invite_client_meaning s t
-OfSets P (PlainClient s) new =
-    (t : Held Times PlainState) × (new ≡ PlainClient t) × P PlainPhase Times PlainState plain_client_meaning s t
-OfSets P (InviteServer s) new =
-    (t : Held Times InviteServerState) × (new ≡ InviteServer t) × P InviteServerPhase Times InviteServerState invite_server_meaning s t
-OfSets P (PlainServer s) new =
-    (t : Held Times PlainServerState) × (new ≡ PlainServer t) × P PlainServerPhase Times PlainServerState plain_server_meaning s t
+-- what they mean
+abbrev pub meaning_of : (machine : MachineKind) → Meaning (PhaseOf machine) Times (StateOf machine)
+meaning_of machine =
+    let figure = (transaction machine).figure in
+    let c = coded machine in
+    record {
+      names = owing_names c.names;
+      seen = owing_seen c.seen;
+      in_range = OwingInRange c.InRange;
+      rules = rules_of_figure figure;
+      until = λ p x. until_of figure p (owing_seen c.seen [] x);
+      ended = λ p. ended_state c;
+    }
+
+-- a set of this machine
+abbrev pub set_of : (machine : MachineKind) → Held Times (StateOf machine) → AnySet
+set_of OfInviteClient s = InviteClient s
+set_of OfPlainClient s = PlainClient s
+set_of OfInviteServer s = InviteServer s
+set_of OfPlainServer s = PlainServer s
+
+module _ (P : (X M S : Type 0) → Meaning X M S → Held M S → Type 0) where
+  -- P of a set of this machine
+  abbrev pub OfHeld : (machine : MachineKind) → Held Times (StateOf machine) → Type 0
+  OfHeld machine s = P (PhaseOf machine) Times (StateOf machine) (meaning_of machine) s
+
+  -- P of the set, by its machine
+  abbrev pub OfSet : AnySet → Type 0
+  OfSet (InviteClient s) = OfHeld OfInviteClient s
+  OfSet (PlainClient s) = OfHeld OfPlainClient s
+  OfSet (InviteServer s) = OfHeld OfInviteServer s
+  OfSet (PlainServer s) = OfHeld OfPlainServer s
+
+module _ (P : (X M S : Type 0) → Meaning X M S → Held M S → Held M S → Type 0) where
+  -- the new set is of this machine, as the old one is, and P of the two
+  abbrev pub OfHelds : (machine : MachineKind) → Held Times (StateOf machine) → AnySet → Type 0
+  OfHelds machine s new =
+      (t : Held Times (StateOf machine)) × (new ≡ set_of machine t) × P (PhaseOf machine) Times (StateOf machine) (meaning_of machine) s t
+
+  -- the new set is of the old one's machine, and P of the two
+  abbrev pub OfSets : AnySet → AnySet → Type 0
+  OfSets (InviteClient s) new = OfHelds OfInviteClient s new
+  OfSets (PlainClient s) new = OfHelds OfPlainClient s new
+  OfSets (InviteServer s) new = OfHelds OfInviteServer s new
+  OfSets (PlainServer s) new = OfHelds OfPlainServer s new
 
 -- the moment of the set
 abbrev pub moment_of : AnySet → ℕ
@@ -122,10 +159,10 @@ IsAgendaOf limit set = OfSet (λ X M S m s. HasAgenda m limit s) set
 
 -- the set that a machine starts with: its first state, at moment 0
 abbrev pub start_of_machine : Times → MachineKind → AnySet
-start_of_machine p OfInviteClient = InviteClient (record { machine = p; moment = 0; states = invite_client.Idle ∷ [] })
-start_of_machine p OfPlainClient = PlainClient (record { machine = p; moment = 0; states = plain_client.Idle ∷ [] })
-start_of_machine p OfInviteServer = InviteServer (record { machine = p; moment = 0; states = invite_server.Idle ∷ [] })
-start_of_machine p OfPlainServer = PlainServer (record { machine = p; moment = 0; states = plain_server.Idle ∷ [] })
+start_of_machine p OfInviteClient = InviteClient (record { machine = p; moment = 0; states = idle_state (coded OfInviteClient) ∷ [] })
+start_of_machine p OfPlainClient = PlainClient (record { machine = p; moment = 0; states = idle_state (coded OfPlainClient) ∷ [] })
+start_of_machine p OfInviteServer = InviteServer (record { machine = p; moment = 0; states = idle_state (coded OfInviteServer) ∷ [] })
+start_of_machine p OfPlainServer = PlainServer (record { machine = p; moment = 0; states = idle_state (coded OfPlainServer) ∷ [] })
 
 -- the set that a key starts with
 abbrev pub start_of : Times → KeyParts → AnySet

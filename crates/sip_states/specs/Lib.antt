@@ -7,3 +7,4 @@ pub mod AnySet
 pub mod Agenda
 pub mod Tables
 pub mod TablesLends
+pub mod Sweep

@@ -1,2 +1,4 @@
 pub mod Lines
 pub mod Ways
+pub mod Marks
+pub mod Advance

@@ -9,7 +9,7 @@ use std::collections::BTreeSet;
 use std::marker::Model;
 
 /// The last moment on record of each index, if it was settled, and these moments in their order.
-#[derive(Drop)]
+#[derive(Debug, Drop)]
 pub(crate) struct Agenda {
     records: Vec<Option<Option<u64>>>,
     order: BTreeSet<(u64, usize)>,

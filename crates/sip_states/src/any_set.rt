@@ -1,7 +1,9 @@
 //! The states of one transaction, whichever machine it has.
 ghost use Rattle.std.specs.Prelude.{◌≡◌, ◌↔◌, ◌≤◌, IfOk, IsErrOf, IsTrue, OnErr, OnOk};
 ghost use Rattle.sip_machine.specs.Heard.{FitsBook};
+ghost use Rattle.sip_machine.specs.Naming.{AppendsAll};
 ghost use Rattle.sip_states.specs.AnySet.{moment_of, start_of, IsEmpty, IsKeptSet, IsKnownSet, Waits, Takes, IsTooWide, IsAgendaOf};
+ghost use Rattle.sip_states.specs.Sweep.{numbers_of};
 
 use crate::state_set::{StateSet, TakeError};
 use sip_key::{Key, Role};
@@ -9,7 +11,7 @@ use sip_machine::{Book, Event, InviteClient, InviteServer, Params, PlainClient, 
 use std::alloc::{AllocError, Global};
 
 /// The states in which the runs of one of the four machines of RFC 3261 section 17 can stand.
-#[derive(Drop)]
+#[derive(Debug, Drop)]
 pub enum AnySet {
     /// Section 17.1.1.
     InviteClient(StateSet<InviteClient>),
@@ -98,6 +100,18 @@ impl AnySet {
             AnySet::PlainClient(set) => set.last_moment(),
             AnySet::InviteServer(set) => set.last_moment(),
             AnySet::PlainServer(set) => set.last_moment(),
+        }
+    }
+
+    /// Appends the numbers of the messages that its states name, each at least once.
+    pub(crate) fn names(&self, out: &mut Vec<u32>) -> Result<(), AllocError>
+        ensures { OnOk result (AppendsAll (numbers_of self.now) out.old.items out.new.items) }
+    {
+        match self {
+            AnySet::InviteClient(set) => set.names(out),
+            AnySet::PlainClient(set) => set.names(out),
+            AnySet::InviteServer(set) => set.names(out),
+            AnySet::PlainServer(set) => set.names(out),
         }
     }
 

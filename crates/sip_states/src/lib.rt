@@ -6,6 +6,7 @@ mod any_set;
 mod each_once;
 mod ends;
 mod laws;
+mod marks;
 mod state_set;
 mod steps;
 mod tables;

@@ -1,7 +1,8 @@
 //! The states in which the runs of a machine can stand at a moment.
-ghost use Rattle.std.specs.Prelude.{◌≡◌, ◌≢◌, ◌↔◌, ◌+◌, [], ◌∷◌, ◌≤◌, OnOk, OnErr, All, Contains, IfOk, IsErrOf, IsTrue, length, map};
+ghost use Rattle.std.specs.Prelude.{◌≡◌, ◌≢◌, ◌↔◌, ◌+◌, [], ◌∷◌, ◌≤◌, OnOk, OnErr, All, Contains, IfOk, IsErrOf, IsTrue, flat_map, length, map};
 ghost use Rattle.sip_machine.specs.Texts.{Texts, IsBook};
 ghost use Rattle.sip_machine.specs.Heard.{FitsBook, heard};
+ghost use Rattle.sip_machine.specs.Naming.{AppendsAll};
 ghost use Rattle.sip_machine.specs.Rules.{Knows, StandFor};
 ghost use Rattle.sip_states.specs.Held.{IsKept};
 ghost use Rattle.sip_states.specs.Runs.{Wait, Gives, IsAgenda, IsWide, widest};
@@ -13,15 +14,19 @@ use sip_machine::{Book, Event, Machine};
 use std::alloc::{AllocError, Global};
 use std::marker::Model;
 use std::mem;
+use thiserror::Error;
 
 /// How many states are followed after an event.
 const WIDEST: usize = 1_024;
 
 /// Why an event is not taken.
-#[derive(Clone, Copy, Debug, PartialEq, Eq)]
+#[derive(Clone, Copy, Debug, PartialEq, Eq, Error)]
 pub enum TakeError {
+    /// A growth was refused.
+    #[error("out of memory")]
     Memory,
     /// It leads to more than 1,024 states.
+    #[error("more than 1,024 possible states")]
     TooMany,
 }
 
@@ -38,6 +43,7 @@ impl From<AllocError> for TakeError {
 
 /// The states in which the runs of a machine can stand at a moment, in milliseconds.
 #[derive(Drop)]
+#[derive_where(Debug; M, M::State)]
 pub struct StateSet<M: Machine> {
     machine: M,
     moment: u64,
@@ -136,6 +142,16 @@ impl<M: Machine> StateSet<M> {
         ensures { (texts : Texts) → IsAgenda (M.rules self.now.machine) (Contains (map (M.seen texts) self.now.states)) self.now.moment result }
     {
         last_of_all(&self.machine, self.states.as_slice(), self.moment)
+    }
+
+    /// Appends the numbers of the messages that the states name, each at least once.
+    pub(crate) fn names(&self, out: &mut Vec<u32>) -> Result<(), AllocError>
+        ensures { OnOk result (AppendsAll (flat_map M.names self.now.states) out.old.items out.new.items) }
+    {
+        for state in &self.states {
+            self.machine.names(state, out)?;
+        }
+        Ok(())
     }
 
     /// Whether no run is left.

@@ -1,11 +1,17 @@
 //! The states of every transaction, by key.
-ghost use Rattle.std.specs.Prelude.{◌≡◌, ◌≢◌, ◌<◌, ◌+◌, ◌++◌, ◌-◌, ◌∷◌, [], All, AllPairs, length, slice_get, IfOk, OnErr, OnOk, Some};
+ghost use Rattle.std.specs.Prelude.{◌≡◌, ◌≢◌, ◌<◌, ◌≤◌, ◌+◌, ◌++◌, ◌-◌, ◌∷◌, [], All, AllPairs, length, slice_get, IfOk, OnErr, OnOk, Some};
 ghost use Rattle.std.specs.Borrow.{sem};
-ghost use Rattle.indexmap.specs.IndexMap.{keys};
+ghost use Rattle.indexmap.specs.IndexMap.{keys, values, index_map_len};
+ghost use Rattle.sip_states.specs.AnySet.{moment_of};
+ghost use Rattle.sip_states.specs.Sweep.{AdvancesAll, AdvancesSome, AppendsNamed};
+ghost use Rattle.sip_states.specs.inner.Advance.{AdvancesAt, AdvancesSomeAt};
+ghost use Rattle.sip_states.specs.inner.Marks.{AreMarked};
 ghost use Rattle.sip_states.specs.Tables.{IsGiven, HasState, Settles, Touches, due_of, most_keys, with_key};
 
 use crate::agenda::Agenda;
 use crate::any_set::AnySet;
+use crate::each_once::keep_ascending;
+use crate::marks::Marks;
 use indexmap::IndexMap;
 use sip_key::Key;
 use sip_machine::Params;
@@ -15,22 +21,27 @@ use std::marker::Model;
 
 /// The set of each key. Keys are numbered from 1 in order of first appearance.
 #[derive(Drop)]
+#[derive_where(Debug)]
 pub struct Tables<H: BuildHasher> {
     params: Params,
     sets: IndexMap<Key, AnySet, H>,
     agenda: Agenda,
+    /// The sets that may name a message.
+    marks: Marks,
 }
 
 impl<H: BuildHasher> Model for Tables<H> {
     ghost use Rattle.std.specs.Prelude.{◌≡◌, ◌≤◌, length};
     ghost use Rattle.indexmap.specs.IndexMap.{keys, values, index_map_len};
     ghost use Rattle.sip_states.specs.Tables.{Tabled, most_keys};
+    ghost use Rattle.sip_states.specs.inner.Marks.{AreMarked};
 
     ghost Value = { Tabled };
 
     ghost view = { λ t. record { times = t.params; keys = keys t.sets; sets = values t.sets; records = t.agenda } };
 
-    ghost invariant = { λ t. (index_map_len t.sets ≤ most_keys) × (length t.agenda ≡ index_map_len t.sets) };
+    ghost invariant = { λ t. (index_map_len t.sets ≤ most_keys) × (length t.agenda ≡ index_map_len t.sets)
+        × (length t.marks ≡ index_map_len t.sets) × AreMarked t.marks (values t.sets) };
 }
 
 /// Puts a new key and its set behind the others. On an error nothing changes, and both are dropped.
@@ -47,6 +58,50 @@ fn append<H: BuildHasher>(
     Ok(())
 }
 
+/// Lets the sets at these indices wait until the moment. On an error some have, and the others are as before.
+fn advance_each<H: BuildHasher>(
+    sets: &mut IndexMap<Key, AnySet, H>,
+    indices: &[u32],
+    moment: u64,
+) -> Result<(), AllocError>
+    requires once { AllPairs (λ a b. a ≢ b) indices.now }
+    requires inside { All (λ index. index < index_map_len sets.old) indices.now }
+    requires early { All (λ set. moment_of set ≤ moment) (values sets.old) }
+    ensures keys { keys sets.new ≡ keys sets.old }
+    ensures size { index_map_len sets.new ≡ index_map_len sets.old }
+    ensures ok { OnOk result (AdvancesAt moment indices.now (values sets.old) (values sets.new)) }
+    ensures err { OnErr result (AdvancesSomeAt moment indices.now (values sets.old) (values sets.new)) }
+{
+    for index in indices {
+        sets[*index as usize].advance(moment)?;
+    }
+    Ok(())
+}
+
+/// Takes the marks off those sets that name no message. On an error some are still marked.
+fn unmark_silent<H: BuildHasher>(
+    marks: &mut Marks,
+    sets: &IndexMap<Key, AnySet, H>,
+) -> Result<(), AllocError>
+    requires long { length marks.old ≡ index_map_len sets.now }
+    requires marked { AreMarked marks.old (values sets.now) }
+    ensures long { length marks.new ≡ length marks.old }
+    ensures marked { AreMarked marks.new (values sets.now) }
+{
+    let mut numbers = Vec::new(*sets.allocator());
+    for place in (0..marks.marked().len()).rev() {
+        if let Some(index) = marks.marked().get(place).copied() {
+            let index = index as usize;
+            numbers.clear();
+            sets[index].names(&mut numbers)?;
+            if numbers.is_empty() {
+                marks.unmark(index);
+            }
+        }
+    }
+    Ok(())
+}
+
 impl<H: BuildHasher> Tables<H> {
     ghost use Rattle.sip_states.specs.TablesLends.{LendsSet};
 
@@ -58,6 +113,7 @@ impl<H: BuildHasher> Tables<H> {
             params,
             sets: IndexMap::with_hasher(alloc, hasher),
             agenda: Agenda::new(alloc),
+            marks: Marks::new(alloc),
         }
     }
 
@@ -85,7 +141,12 @@ impl<H: BuildHasher> Tables<H> {
     {
         let set = AnySet::start(*self.sets.allocator(), self.params, &key)?;
         self.agenda.push()?;
+        if let Err(refused) = self.marks.push() {
+            self.agenda.pop();
+            return Err(refused);
+        }
         if let Err(refused) = append(&mut self.sets, key, set) {
+            self.marks.pop();
             self.agenda.pop();
             return Err(refused);
         }
@@ -106,7 +167,9 @@ impl<H: BuildHasher> Tables<H> {
         ensures* writes_back { sem 𝓛 (LendsSet H.row H.Hasher.row H.BuildHasher H.Hasher.Hasher self.entry number result) }
         ensures value { slice_get self.old.sets (number - 1) ≡ Some result.now }
     {
-        &mut self.sets[number as usize - 1]
+        let index = number as usize - 1;
+        self.marks.mark(index);
+        &mut self.sets[index]
     }
 
     /// Puts the last moment of the set of this number on record, in place of an older one. On an error
@@ -128,6 +191,30 @@ impl<H: BuildHasher> Tables<H> {
         ensures { result ≡ due_of self.now moment }
     {
         self.agenda.due(moment).map(|index| index as u32 + 1)
+    }
+
+    /// Lets the sets wait until the moment, in milliseconds; one that names no message may stay as it is. On an error some
+    /// have waited, and the others are as before.
+    pub fn advance_all(&mut self, moment: u64) -> Result<(), AllocError>
+        requires { All (λ set. moment_of set ≤ moment) self.old.sets }
+        ensures ok { OnOk result (AdvancesAll moment self.old self.new) }
+        ensures err { OnErr result (AdvancesSome moment self.old self.new) }
+    {
+        advance_each(&mut self.sets, self.marks.marked(), moment)?;
+        unmark_silent(&mut self.marks, &self.sets)
+    }
+
+    /// Appends the numbers of the messages that the sets name, ascending, each once. On an error the vector is as before.
+    pub fn named(&self, out: &mut Vec<u32>) -> Result<(), AllocError>
+        ensures ok { OnOk result (AppendsNamed self.now out.old.items out.new.items) }
+        ensures err { OnErr result (out.new.items ≡ out.old.items) }
+    {
+        let mut found = Vec::new(*out.allocator());
+        for index in self.marks.marked() {
+            self.sets[*index as usize].names(&mut found)?;
+        }
+        keep_ascending(&mut found);
+        out.extend_from_slice(&found)
     }
 
     /// The key with this number.

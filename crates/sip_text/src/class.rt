@@ -4,7 +4,7 @@ ghost use Rattle.std.specs.List.{list_all, prefix_len};
 ghost use Rattle.sip_text.specs.Class.{bit_of, is_in};
 
 /// A class of bytes: its bit in the table. Those of a URI's parts leave the `%` of an escape aside.
-#[derive(Clone, Copy)]
+#[derive(Clone, Copy, Debug)]
 pub enum Class {
     /// A byte of a token.
     Token = 0x0001,

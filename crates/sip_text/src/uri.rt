@@ -1,8 +1,9 @@
 //! URIs: those of SIP in their parts, and any other by its scheme.
 ghost use Rattle.std.specs.Prelude.{◌≡◌, ◌↔◌, false, IsTrue, option_copied};
-ghost use Rattle.sip_text.specs.Bytes.{percent, semicolon};
+ghost use Rattle.sip_text.specs.Bytes.{colon, percent, semicolon};
 ghost use Rattle.sip_text.specs.Text.{Many, OneOrMore, Joined, IsOnlyValue};
 ghost use Rattle.sip_text.specs.Class.{is_in};
+ghost use Rattle.sip_text.specs.Cut.{before, behind};
 ghost use Rattle.sip_text.specs.Uri.{Port, UriParameter, UriParameters, Header, Headers, Scheme, UriText, uri_parts};
 ghost use Rattle.sip_text.specs.UriCut.{Char, behind_escape, IsInfoCut, IsPortCut, cut_parts, IsSipCut, InfoFits, TailFits, SipText};
 
@@ -50,7 +51,7 @@ pub enum Uri<'a> {
 pub fn read_uri(text: &[u8]) -> Option<Uri<'_>>
     ensures { IsOnlyValue UriText uri_parts text.now result }
 {
-    let (scheme, rest) = cut(text, b':');
+    let (scheme, rest) = cut_scheme(text);
     let rest = rest?;
     let is_sip = same_text(scheme, b"sip");
     if is_sip || same_text(scheme, b"sips") {
@@ -60,6 +61,19 @@ pub fn read_uri(text: &[u8]) -> Option<Uri<'_>>
         Some(Uri::Other { scheme, rest })
     } else {
         None
+    }
+}
+
+// The text before the first colon, and the text behind it if there is one. Most URIs begin with
+// `sip:`.
+#[inline]
+fn cut_scheme(text: &[u8]) -> (&[u8], Option<&[u8]>)
+    ensures front { result.0.now ≡ before colon text.now }
+    ensures rest { option_copied result.1 ≡ behind colon text.now }
+{
+    match text {
+        [b's', b'i', b'p', b':', rest @ ..] => (&text[..3], Some(rest)),
+        _ => cut(text, b':'),
     }
 }
 

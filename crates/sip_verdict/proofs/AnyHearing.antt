@@ -13,7 +13,8 @@ use Rattle.sip_states.specs.AnySet.{moment_of, IsEmpty, IsKnownSet, Takes, IsToo
 use Rattle.sip_states.specs.declared.any_set.AnySet.{AnySet}
 use Rattle.sip_verdict.specs.declared.passing.Fate.TheVariants.{Runs, NoRun, TooWide}
 use Rattle.sip_verdict.specs.inner.Stepping.{RunsUntil, IsStepped}
-use Rattle.sip_verdict.specs.inner.TablesTracking.{StateOf, meaning_of, set_of, LeadsOf, StandsOf}
+use Rattle.sip_states.specs.AnySet.{StateOf, meaning_of, set_of}
+use Rattle.sip_verdict.specs.inner.TablesTracking.{LeadsOf, StandsOf}
 use Rattle.sip_verdict.proofs.Hearing.{heard_none, heard_some, heard_wide}
 use Rattle.sip_verdict.proofs.ByMachine.{rules_are, lawful_of, moment_is, some_machine, of_set, to_set, of_sets}
 

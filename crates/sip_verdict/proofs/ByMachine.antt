@@ -4,56 +4,63 @@ use Rattle.std.proofs.lemmas.List.Elements.{All-nil}
 use Rattle.sip_machine.specs.Times.{Times}
 use Rattle.sip_machine.specs.Texts.{Texts, Keeps, text_of}
 use Rattle.sip_machine.specs.Rules.{IsLawful, Knows}
-use Rattle.sip_machine.specs.declared.invite_client.InviteClientState.TheVariants as invite_client
-use Rattle.sip_machine.specs.declared.plain_client.PlainState.TheVariants as plain_client
-use Rattle.sip_machine.specs.declared.invite_server.InviteServerState.TheVariants as invite_server
-use Rattle.sip_machine.specs.declared.plain_server.PlainServerState.TheVariants as plain_server
-use Rattle.sip_machine.specs.inner.InviteClientLaws.{invite_client_lawful, invite_client_first_is, invite_client_seen_by_names}
-use Rattle.sip_machine.specs.inner.PlainLaws.{plain_lawful, plain_first_is, plain_seen_by_names}
-use Rattle.sip_machine.specs.inner.InviteServerLaws.{invite_server_lawful, invite_server_first_is, invite_server_seen_by_names}
-use Rattle.sip_machine.specs.inner.PlainServerLaws.{plain_server_lawful, plain_server_first_is, plain_server_seen_by_names}
+use Rattle.sip_machine.specs.Figure.{IsFigure}
+use Rattle.sip_machine.specs.Transaction.{idle_state}
+use Rattle.sip_machine.specs.inner.FigureLaws.{rules_lawful}
+use Rattle.sip_machine.specs.inner.OwingLaws.{owing_by_names, quiet_stands}
+use Rattle.sip_machine.specs.inner.InviteClientLaws.{invite_client_is_figure, invite_client_by_names}
+use Rattle.sip_machine.specs.inner.PlainClientLaws.{plain_client_is_figure, plain_client_by_names}
+use Rattle.sip_machine.specs.inner.InviteServerLaws.{invite_server_is_figure, invite_server_by_names}
+use Rattle.sip_machine.specs.inner.PlainServerLaws.{plain_server_is_figure, plain_server_by_names}
 use Rattle.sip_states.specs.Held.{Held}
-use Rattle.sip_states.specs.KeyMachine.{MachineKind, OfInviteClient, OfPlainClient, OfInviteServer, OfPlainServer, PhaseOf, rules_of}
+use Rattle.sip_states.specs.KeyMachine.{MachineKind, OfInviteClient, OfPlainClient, OfInviteServer, OfPlainServer, transaction, PhaseOf, rules_of}
 use Rattle.sip_states.specs.Meaning.{Meaning}
-use Rattle.sip_states.specs.AnySet.{OfSet, OfSets, moment_of, start_of_machine}
+use Rattle.sip_states.specs.AnySet.{coded, StateOf, meaning_of, set_of, OfSet, OfSets, moment_of, start_of_machine}
 use Rattle.sip_states.specs.declared.any_set.AnySet.{AnySet}
 use Rattle.sip_states.specs.declared.any_set.AnySet.TheVariants.{InviteClient, PlainClient, InviteServer, PlainServer}
-use Rattle.sip_verdict.specs.inner.TablesTracking.{StateOf, meaning_of, set_of}
+
+-- each has a lawful figure
+is_figure : (machine : MachineKind) → IsFigure (transaction machine).figure
+is_figure OfInviteClient = invite_client_is_figure
+is_figure OfPlainClient = plain_client_is_figure
+is_figure OfInviteServer = invite_server_is_figure
+is_figure OfPlainServer = plain_server_is_figure
+
+-- its phases stand for the same beside any book that has the messages that they name
+phase_by_names : (machine : MachineKind) (a b : Texts) (x : (coded machine).Code) →
+    ((n : ℕ) → Contains ((coded machine).names x) n → text_of a n ≡ text_of b n) → (coded machine).seen a x ≡ (coded machine).seen b x
+phase_by_names OfInviteClient a b x h = invite_client_by_names a b x h
+phase_by_names OfPlainClient a b x h = plain_client_by_names a b x h
+phase_by_names OfInviteServer a b x h = invite_server_by_names a b x h
+phase_by_names OfPlainServer a b x h = plain_server_by_names a b x h
+
+-- its idle phase stands for that of the figure
+idle_is : (machine : MachineKind) (texts : Texts) → (coded machine).seen texts (coded machine).idle ≡ (transaction machine).figure.idle
+idle_is OfInviteClient texts = refl
+idle_is OfPlainClient texts = refl
+idle_is OfInviteServer texts = refl
+idle_is OfPlainServer texts = refl
 
 -- its rules are those of its machine
 pub rules_are : (p : Times) (machine : MachineKind) → (meaning_of machine).rules p ≡ rules_of p machine
-rules_are p OfInviteClient = refl
-rules_are p OfPlainClient = refl
-rules_are p OfInviteServer = refl
-rules_are p OfPlainServer = refl
+rules_are p machine = refl
 
 -- which are lawful
 pub lawful_of : (machine : MachineKind) (p : Times) → IsLawful ((meaning_of machine).rules p)
-lawful_of OfInviteClient p = invite_client_lawful p
-lawful_of OfPlainClient p = plain_lawful p
-lawful_of OfInviteServer p = invite_server_lawful p
-lawful_of OfPlainServer p = plain_server_lawful p
+lawful_of machine p = rules_lawful (transaction machine).figure (is_figure machine) p
 
 -- a state stands for the same beside any book that has the messages that it names
 pub seen_by_names_of : (machine : MachineKind) (a b : Texts) (x : StateOf machine)
     → ((n : ℕ) → Contains ((meaning_of machine).names x) n → text_of a n ≡ text_of b n) → (meaning_of machine).seen a x ≡ (meaning_of machine).seen b x
-seen_by_names_of OfInviteClient a b x h = invite_client_seen_by_names a b x h
-seen_by_names_of OfPlainClient a b x h = plain_seen_by_names a b x h
-seen_by_names_of OfInviteServer a b x h = invite_server_seen_by_names a b x h
-seen_by_names_of OfPlainServer a b x h = plain_server_seen_by_names a b x h
+seen_by_names_of machine a b x h = owing_by_names (coded machine).names (coded machine).seen a b (phase_by_names machine a b) x h
 
 -- the first state
 abbrev pub first_of : (machine : MachineKind) → StateOf machine
-first_of OfInviteClient = invite_client.Idle
-first_of OfPlainClient = plain_client.Idle
-first_of OfInviteServer = invite_server.Idle
-first_of OfPlainServer = plain_server.Idle
+first_of machine = idle_state (coded machine)
 
 pub first_is_of : (machine : MachineKind) (texts : Texts) (p : Times) → (meaning_of machine).seen texts (first_of machine) ≡ ((meaning_of machine).rules p).first
-first_is_of OfInviteClient texts p = invite_client_first_is texts p
-first_is_of OfPlainClient texts p = plain_first_is texts p
-first_is_of OfInviteServer texts p = invite_server_first_is texts p
-first_is_of OfPlainServer texts p = plain_server_first_is texts p
+first_is_of machine texts p =
+    quiet_stands (coded machine).seen texts (coded machine).idle (transaction machine).figure.idle (idle_is machine texts)
 
 -- it names no message
 pub first_knows : (machine : MachineKind) (texts : Texts) → Knows (meaning_of machine).names texts (first_of machine)

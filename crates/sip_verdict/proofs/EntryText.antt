@@ -1,8 +1,8 @@
 -- The text of an entry.
-use Rattle.std.proofs.Common.{◌≡◌, ◌≢◌, ◌∙◌, ◌<◌, ◌+◌, ◌-◌, inl, inr, ℕ, zero, suc, true, Option, Some, None, MatchOption, List, [], ◌∷◌, ◌++◌, All, AllPairs, Contains, length, slice_get, option_to_list, refl, sym, ap, subst, arith, append_assoc}
+use Rattle.std.proofs.Common.{◌≡◌, ◌≢◌, ◌∙◌, ◌<◌, ◌+◌, ◌-◌, ℕ, zero, suc, true, Option, Some, None, MatchOption, List, [], ◌∷◌, ◌++◌, All, AllPairs, length, slice_get, refl, sym, ap, subst, arith, append_assoc}
 use Rattle.std.specs.Prelude.{IsAscii}
 use Rattle.std.proofs.lemmas.List.{append-nil}
-use Rattle.std.proofs.lemmas.List.Elements.{All-nil, All-cons, Contains-get_or, Contains-append_left, Contains-append_right, All-contains}
+use Rattle.std.proofs.lemmas.List.Elements.{All-nil, All-cons, All-head, All-tail, Contains-get_or}
 use Rattle.std.proofs.lemmas.Option.{slice_get_within, get_or_from_slice_get}
 use Rattle.sip_key.specs.Key.{KeyParts, same_key}
 use Rattle.sip_key.specs.inner.KeyLaws.{same_key-decides}
@@ -20,8 +20,8 @@ use Rattle.sip_verdict.specs.MessageReading.{key_machines, message_reading, dire
 use Rattle.sip_verdict.specs.Listing.{IsKeyText, AreKeyTexts, IsEntryText}
 use Rattle.sip_verdict.specs.ListingOf.{key_words}
 use Rattle.sip_verdict.specs.inner.Tracking.{IsJudged, IsStanding}
-use Rattle.sip_verdict.specs.inner.TablesTracking.{key_keeping, transactions_of, HasIf, AreConcerned}
-use Rattle.sip_verdict.specs.inner.Numbering.{Appends, IsTextOf}
+use Rattle.sip_verdict.specs.inner.TablesTracking.{key_keeping, transactions_of, HaveNumbers}
+use Rattle.sip_verdict.specs.inner.Numbering.{Appends, AppendsEach, IsTextOf}
 use Rattle.sip_verdict.proofs.Keys.{contains-among}
 use Rattle.sip_verdict.proofs.TablesPassing.{All-place, zip-place, keys_are}
 use Rattle.sip_verdict.proofs.TablesTouching.{keys_exact}
@@ -71,7 +71,7 @@ module _ (number : List ℕ → ℕ) (texts : Texts) (tells : TellsBook number t
     (known : All (IsKnownSet texts) t.sets) (long : length t.sets ≡ length t.keys) (apart : AllPairs (λ a b. a ≢ b) t.keys)
     (judged : IsJudged (key_machines p) (key_keeping texts p) es e (transactions_of t) None) where
   -- a transaction that was appended
-  key_text : (key : KeyParts) (n : ℕ) (old new : List ℕ) → concerns (key_machines p) key e ≡ true → IsAscii key.method → 0 < n → slice_get t.keys (n - 1) ≡ Some key → Appends t (Some n) old new
+  key_text : (key : KeyParts) (n : ℕ) (old new : List ℕ) → concerns (key_machines p) key e ≡ true → IsAscii key.method → 0 < n → slice_get t.keys (n - 1) ≡ Some key → Appends t n old new
       → (text : List ℕ) × IsKeyText (key_machines p) (key_words p) number es e key text × (new ≡ old ++ text)
   key_text key n old new concerned ascii low at (k, set, lines, key_at, set_at, lists, is) =
       let same : k ≡ key = (let both : Some k ≡ Some key = sym key_at ∙ at in cc) in
@@ -90,52 +90,27 @@ module _ (number : List ℕ → ℕ) (texts : Texts) (tells : TellsBook number t
         subst (λ x. new ≡ old ++ transaction_text n x lines) same (is (subst (λ x. IsAscii x.method) (sym same) ascii)),
       )
 
-  -- the same where there may be none
-  one_text : (key : Option KeyParts) (n : Option ℕ) (old new : List ℕ) → All (λ k. (concerns (key_machines p) k e ≡ true) × IsAscii k.method) (option_to_list key) → HasIf key n t.keys → Appends t n old new
-      → (text : List ℕ) × AreKeyTexts (key_machines p) (key_words p) number es e (option_to_list key) text × (new ≡ old ++ text)
-  one_text None n old new good none more = ([], refl, subst (λ o. Appends t o old new) none more ∙ sym (append-nil old))
-  one_text (Some key) n old new good (i, is, low, at) more =
-      let here = All-contains (λ k. (concerns (key_machines p) k e ≡ true) × IsAscii k.method) (key ∷ []) key good (0, omega arith, refl) in
-      let one = key_text key i old new here.0 here.1 low at (subst (λ o. Appends t o old new) is more) in
-      (one.0, (one.0, [], one.1, refl, sym (append-nil one.0)), one.2)
-
-  -- texts behind others
-  more_texts : (xs ys : List KeyParts) (a b : List ℕ) → AreKeyTexts (key_machines p) (key_words p) number es e xs a → AreKeyTexts (key_machines p) (key_words p) number es e ys b
-      → AreKeyTexts (key_machines p) (key_words p) number es e (xs ++ ys) (a ++ b)
-  more_texts [] ys a b none more = subst (λ z. AreKeyTexts (key_machines p) (key_words p) number es e ys (z ++ b)) (sym none) more
-  more_texts (x ∷ xs) ys a b (first, rest, one, others, is) more =
-      (first, rest ++ b, one, more_texts xs ys rest b others more, ap (λ z. z ++ b) is ∙ append_assoc first rest b)
+  -- and others behind it
+  key_texts : (ks : List KeyParts) (ns : List ℕ) (old new : List ℕ) → All (λ k. (concerns (key_machines p) k e ≡ true) × IsAscii k.method) ks → HaveNumbers t.keys ns ks → AppendsEach t ns old new
+      → (text : List ℕ) × AreKeyTexts (key_machines p) (key_words p) number es e ks text × (new ≡ old ++ text)
+  key_texts [] [] old new good have same = ([], refl, same ∙ sym (append-nil old))
+  key_texts [] (n ∷ ns) old new good have more = absurd have
+  key_texts (k ∷ ks) [] old new good have more = absurd have
+  key_texts (k ∷ ks) (n ∷ ns) old new good (low, at, rest) (between, first, more) =
+      let here = All-head (λ x. (concerns (key_machines p) x e ≡ true) × IsAscii x.method) k ks good in
+      let one = key_text k n old between here.0 here.1 low at first in
+      let others = key_texts ks ns between new (All-tail (λ x. (concerns (key_machines p) x e ≡ true) × IsAscii x.method) k ks good) rest more in
+      (one.0 ++ others.0, (one.0, others.0, one.1, others.1, refl), others.2 ∙ ap (λ z. z ++ others.0) one.2 ∙ append_assoc old one.0 others.0)
 
   -- the text of the entry
-  all_texts : (mine other : Option KeyParts) (own cancelled : Option ℕ) (text : List ℕ) → All (λ k. (concerns (key_machines p) k e ≡ true) × IsAscii k.method) (option_to_list mine)
-      → All (λ k. (concerns (key_machines p) k e ≡ true) × IsAscii k.method) (option_to_list other) → HasIf mine own t.keys → HasIf other cancelled t.keys
-      → (between : List ℕ) × Appends t own [] between × Appends t cancelled between text
-      → AreKeyTexts (key_machines p) (key_words p) number es e (option_to_list mine ++ option_to_list other) text
-  all_texts mine other own cancelled text good_mine good_other has_mine has_other (between, first, second) =
-      let one = one_text mine own [] between good_mine has_mine first in
-      let two = one_text other cancelled between text good_other has_other second in
-      subst (AreKeyTexts (key_machines p) (key_words p) number es e (option_to_list mine ++ option_to_list other)) (sym (two.2 ∙ ap (λ z. z ++ two.0) one.2))
-      (more_texts (option_to_list mine) (option_to_list other) one.0 two.0 one.1 two.1)
+  texts_of : (ks : List KeyParts) (ns : List ℕ) (text : List ℕ) → All (λ k. (concerns (key_machines p) k e ≡ true) × IsAscii k.method) ks → HaveNumbers t.keys ns ks → IsTextOf t ns text
+      → IsEntryText (key_machines p) (key_words p) number es e ks text
+  texts_of [] [] text good have is = is
+  texts_of [] (n ∷ ns) text good have is = absurd have
+  texts_of (k ∷ ks) [] text good have is = absurd have
+  texts_of (k ∷ ks) (n ∷ ns) text good have is =
+      let all = key_texts (k ∷ ks) (n ∷ ns) [] text good have is in
+      subst (AreKeyTexts (key_machines p) (key_words p) number es e (k ∷ ks)) (sym all.2) all.1
 
-  both_texts : (mine other : Option KeyParts) (own cancelled : Option ℕ) (text : List ℕ) → All (λ k. (concerns (key_machines p) k e ≡ true) × IsAscii k.method) (option_to_list mine)
-      → All (λ k. (concerns (key_machines p) k e ≡ true) × IsAscii k.method) (option_to_list other) → HasIf mine own t.keys → HasIf other cancelled t.keys
-      → IsTextOf t own cancelled text → IsEntryText (key_machines p) (key_words p) number es e (option_to_list mine ++ option_to_list other) text
-  both_texts None None own cancelled text good_mine good_other no_mine no_other (inl is) = is.2
-  both_texts None None own cancelled text good_mine good_other no_mine no_other (inr is) = absurd (is.0 no_mine no_other)
-  both_texts None (Some b) own cancelled text good_mine good_other no_mine (n, has, low, at) (inl is) = absurd (let never : None ≡ Some n = sym is.1 ∙ has in cc)
-  both_texts None (Some b) own cancelled text good_mine good_other has_mine has_other (inr is) = all_texts None (Some b) own cancelled text good_mine good_other has_mine has_other is.1
-  both_texts (Some a) other own cancelled text good_mine good_other (n, has, low, at) has_other (inl is) = absurd (let never : None ≡ Some n = sym is.0 ∙ has in cc)
-  both_texts (Some a) other own cancelled text good_mine good_other has_mine has_other (inr is) = all_texts (Some a) other own cancelled text good_mine good_other has_mine has_other is.1
-
-  pub entry_text : (own cancelled : Option ℕ) (text : List ℕ) → All (λ k. IsAscii k.method) e.keys → AreConcerned own cancelled t.keys e.keys → IsTextOf t own cancelled text
-      → IsEntryText (key_machines p) (key_words p) number es e e.keys text
-  entry_text own cancelled text ascii (mine, other, keys, has_mine, has_other) is =
-      subst (λ ks. IsEntryText (key_machines p) (key_words p) number es e ks text) (sym keys)
-      (both_texts mine other own cancelled text
-      (λ i d low. good (Contains-append_left (option_to_list mine) (option_to_list other) _ (Contains-get_or (option_to_list mine) i d low)))
-      (λ i d low. good (Contains-append_right (option_to_list mine) (option_to_list other) _ (Contains-get_or (option_to_list other) i d low))) has_mine has_other is)
-    where
-      good : {k : KeyParts} → Contains (option_to_list mine ++ option_to_list other) k → (concerns (key_machines p) k e ≡ true) × IsAscii k.method
-      good {k} among =
-          let there = subst (λ ks. Contains ks k) (sym keys) among in
-          (contains-among (key_machines p) (keys_exact p) k e.keys there, All-contains (λ x. IsAscii x.method) e.keys k ascii there)
+  pub entry_text : (ns : List ℕ) (text : List ℕ) → All (λ k. IsAscii k.method) e.keys → HaveNumbers t.keys ns e.keys → IsTextOf t ns text → IsEntryText (key_machines p) (key_words p) number es e e.keys text
+  entry_text ns text ascii have is = texts_of e.keys ns text (λ i d low. (contains-among (key_machines p) (keys_exact p) _ e.keys (Contains-get_or e.keys i d low), ascii i d low)) have is

@@ -1,8 +1,10 @@
 pub mod AnyHearing
 pub mod ByMachine
 pub mod EntryText
+pub mod FollowedLemmas
 pub mod Halfway
 pub mod Hearing
+pub mod JudgeLemmas
 pub mod JudgeTables
 pub mod JudgingLemmas
 pub mod Keys
@@ -11,6 +13,8 @@ pub mod LegalMessages
 pub mod LegalRuns
 pub mod ListingLemmas
 pub mod MessageUnique
+pub mod NamedLemmas
+pub mod NamedTables
 pub mod NumberingLemmas
 pub mod ObservingLemmas
 pub mod OneMachine
@@ -21,6 +25,8 @@ pub mod ShowingLemmas
 pub mod Splitting
 pub mod StandingLemmas
 pub mod Stepped
+pub mod SweptSets
+pub mod SweptTables
 pub mod TablesPassing
 pub mod TablesTouching
 pub mod TrackingLemmas

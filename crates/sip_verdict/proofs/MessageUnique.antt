@@ -5,8 +5,8 @@ use Rattle.sip_message.specs.declared.fault.Fault.{Fault}
 use Rattle.sip_message.specs.Reading as message
 use Rattle.sip_message.specs.Reads.{Reads}
 use Rattle.sip_message.specs.Faults.{FaultOf}
-use Rattle.sip_message.proofs.FaultLemmas.{text-read, same_fault}
-use Rattle.sip_message.proofs.MessageLemmas.{same_reading}
+use Rattle.sip_message.proofs.lemmas.message.Faults.{text-read, same_fault}
+use Rattle.sip_message.proofs.lemmas.message.Views.{same_reading}
 use Rattle.sip_key.specs.declared.role.Direction.{Direction}
 use Rattle.sip_key.specs.Key.{KeyParts}
 use Rattle.sip_key.specs.Concerns.{Concerns, lacks_cookie, own_key, cancelled_key}

@@ -1,6 +1,5 @@
 -- What the judge is told of an entry is what is observed of it.
-use Rattle.std.proofs.Common.{◌≡◌, ◌≤◌, ℕ, true, false, Option, Some, None, MatchOption, List, ◌++◌, refl, sym, ap, ◌∙◌, subst}
-use Rattle.std.specs.Prelude.{option_to_list}
+use Rattle.std.proofs.Common.{◌≡◌, ◌≤◌, ℕ, true, false, Some, None, MatchOption, List, refl, sym, ap, ◌∙◌, subst}
 use Rattle.sip_message.specs.declared.fault.Fault.{Fault}
 use Rattle.sip_message.specs.Transport.{is_reliable}
 use Rattle.sip_message.specs.Reading as message
@@ -8,7 +7,7 @@ use Rattle.sip_message.specs.Reads.{Reads}
 use Rattle.sip_message.specs.Faults.{FaultOf}
 use Rattle.sip_key.specs.declared.role.Direction.{Direction}
 use Rattle.sip_key.specs.Key.{KeyParts}
-use Rattle.sip_key.specs.Concerns.{own_key, cancelled_key, lacks_cookie}
+use Rattle.sip_key.specs.Concerns.{Concerns, lacks_cookie}
 use Rattle.sip_times.specs.declared.action.Action.{Action}
 use Rattle.sip_times.specs.declared.action.Action.TheVariants.{Sent, Received, Failed, Mark}
 use Rattle.sip_machine.specs.Message.{kind_of}
@@ -51,14 +50,11 @@ abbrev pub event_of : Item → message.Reading → ℕ → NumberedEvent
 event_of item r number = record { moment = item.moment; action = item.action; number = number; kind = kind_of r.message.start; reliable = is_reliable r.parts.via.1.transport }
 
 -- its event and its keys
-pub observes_heard : (item : Item) (direction : Direction) (text : List ℕ) (r : message.Reading) (texts : Texts) (event : NumberedEvent) (number : ℕ) (own cancelled : Option KeyParts)
-    → text ≡ item.text → Reads text r → lacks_cookie r direction ≡ false → own ≡ own_key r direction → cancelled ≡ cancelled_key r direction
-    → event ≡ event_of item r number → text_of texts number ≡ item.text
-    → ObservesMessage direction item (record { fault = None; event = heard texts event; keys = option_to_list own ++ option_to_list cancelled })
-observes_heard item direction text r texts event number own cancelled same reads has own_is cancelled_is event_is kept =
-    is_heard r (option_to_list own ++ option_to_list cancelled) (subst (λ t. Reads t r) same reads) has
-    (ap (λ k. option_to_list k ++ option_to_list cancelled) own_is ∙ ap (λ k. option_to_list (own_key r direction) ++ option_to_list k) cancelled_is)
-    (ap (λ h. record { fault = None; event = h; keys = option_to_list own ++ option_to_list cancelled }) (ap (heard texts) event_is ∙ alike))
+pub observes_heard : (item : Item) (direction : Direction) (text : List ℕ) (r : message.Reading) (texts : Texts) (event : NumberedEvent) (number : ℕ) (keys : List KeyParts) → text ≡ item.text → Reads text r
+    → lacks_cookie r direction ≡ false → Concerns r direction keys → event ≡ event_of item r number → text_of texts number ≡ item.text
+    → ObservesMessage direction item (record { fault = None; event = heard texts event; keys = keys })
+observes_heard item direction text r texts event number keys same reads has concerns event_is kept =
+    is_heard r keys (subst (λ t. Reads t r) same reads) has concerns (ap (λ h. record { fault = None; event = h; keys = keys }) (ap (heard texts) event_is ∙ alike))
   where
     alike : heard texts (event_of item r number) ≡ heard_message item r
     alike = ap (λ t. record { moment = item.moment; action = item.action; text = t; kind = kind_of r.message.start; reliable = is_reliable r.parts.via.1.transport }) kept

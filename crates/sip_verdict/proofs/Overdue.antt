@@ -14,7 +14,8 @@ use Rattle.sip_states.specs.Agenda.{is_overdue}
 use Rattle.sip_states.specs.declared.any_set.AnySet.{AnySet}
 use Rattle.sip_states.proofs.RunLemmas.{Run-wait, After-run}
 use Rattle.sip_verdict.specs.inner.Stepping.{RunsUntil}
-use Rattle.sip_verdict.specs.inner.TablesTracking.{meaning_of, LeadsOf}
+use Rattle.sip_states.specs.AnySet.{meaning_of}
+use Rattle.sip_verdict.specs.inner.TablesTracking.{LeadsOf}
 use Rattle.sip_verdict.proofs.ByMachine.{rules_are, moment_is, of_set}
 
 -- a run over one event more holds one that stands at its moment

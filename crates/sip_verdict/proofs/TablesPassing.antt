@@ -1,25 +1,24 @@
 -- The sets of the tables hear the event of an entry, one after another.
-use Rattle.std.proofs.Common.{◌≡◌, ◌≢◌, ◌<◌, ◌+◌, ◌-◌, ◌⊎◌, ◌||◌, inl, inr, ℕ, zero, suc, Bool, true, false, cond, nat_eq, Option, Some, None, List, [], ◌∷◌, All, map, length, set, slice_get, refl, sym, ap, ◌∙◌, subst, arith}
+use Rattle.std.proofs.Common.{◌≡◌, ◌≢◌, ◌<◌, ◌+◌, ◌-◌, ◌⊎◌, ◌||◌, inl, inr, ℕ, zero, suc, Bool, true, false, nat_eq, Option, Some, None, List, [], ◌∷◌, All, AllPairs, map, length, set, slice_get, refl, sym, ap, ◌∙◌, subst, arith}
 use Rattle.std.specs.List.{zip}
-use Rattle.std.specs.Option.{option_eq, ForSome}
 use Rattle.std.specs.Cmp.{unsigned_Decides}
-use Rattle.std.proofs.lemmas.Bool.{false≢true}
 use Rattle.std.proofs.lemmas.List.{length-set}
+use Rattle.std.proofs.lemmas.List.Elements.{All-head, All-tail, All-weaker}
+use Rattle.std.proofs.lemmas.List.Folds.{list_any_none}
 use Rattle.std.proofs.lemmas.Option.{slice_get_within, get_or_from_slice_get}
 use Rattle.std.proofs.lemmas.Slice.Zip.{firsts-zip}
 use Rattle.sip_machine.specs.Texts.{Texts}
 use Rattle.sip_machine.specs.NumberedEvent.{NumberedEvent}
-use Rattle.sip_machine.specs.Heard.{heard}
 use Rattle.sip_states.specs.AnySet.{IsAgendaOf}
 use Rattle.sip_states.specs.Tables.{Tabled, IsGiven, Settles, with_set}
 use Rattle.sip_states.specs.declared.any_set.AnySet.{AnySet}
 use Rattle.sip_verdict.specs.declared.passing.Fate.{Fate}
 use Rattle.sip_verdict.specs.declared.passing.Fate.TheVariants.{Runs, NoRun, TooWide}
-use Rattle.sip_verdict.specs.declared.passing.Hearing.{Hearing}
 use Rattle.sip_verdict.specs.declared.passing.Outcome.{Outcome}
 use Rattle.sip_verdict.specs.declared.passing.Outcome.TheVariants as all
-use Rattle.sip_verdict.specs.inner.Tracking.{outcome_of}
-use Rattle.sip_verdict.specs.inner.TablesTracking.{transactions_of, hears, IsOnRecord, AreOnRecord, AllAreOnRecord, AreOnRecordIf, Leaves, Hears, HearsIf}
+use Rattle.sip_verdict.specs.inner.Tracking.{outcome_of, first_of}
+use Rattle.sip_verdict.specs.inner.TablesTracking.{transactions_of, is_among, IsOnRecord, AreOnRecord, AllAreOnRecord, AreOnRecordIf, Leaves, Hears, HearsOne, HearsEach}
+use Rattle.sip_verdict.proofs.Outcomes.{both_fine}
 
 -- a list has an element at each place
 pub at_place : {A : Type 0} (xs : List A) (n : ℕ) → n < length xs → (x : A) × (slice_get xs n ≡ Some x)
@@ -61,48 +60,43 @@ set-place (u ∷ xs) (suc i) (suc n) a x at =
 pub keys_are : (t : Tabled) → length t.sets ≡ length t.keys → map (λ x. x.0) (transactions_of t) ≡ t.keys
 keys_are t long = firsts-zip t.keys t.sets long
 
--- those that wait but for one, if it is there, which has heard its event
-abbrev pub without : (ℕ → Bool) → Option ℕ → ℕ → Bool
-without waits None n = waits n
-without waits (Some i) n = cond (nat_eq i n) false (waits n)
-
--- all of them but that one wait
-pub still_waits : (b w : Bool) → cond b false w ≡ true → (b ≡ false) × (w ≡ true)
-still_waits true w h = absurd (false≢true h)
-still_waits false w h = (refl, h)
-
--- one that does not wait is that one, or did not before
-pub waits_no_more : (b w : Bool) → cond b false w ≡ false → (b ≡ true) ⊎ (w ≡ false)
-waits_no_more true w h = inl refl
-waits_no_more false w h = inr h
-
--- none but the two of an event waited for it
-pub none_waits : (h : Hearing) (n : ℕ) → without (without (hears (Some h)) h.own) h.cancelled n ≡ false
-none_waits h n = go h.own h.cancelled
+-- a number that is this one or among these
+pub among_one : (n number : ℕ) (ns : List ℕ) → is_among (number ∷ ns) n ≡ true → n ≢ number → is_among ns n ≡ true
+among_one n number ns h differ = go (nat_eq n number) refl
   where
-    one : (b : Bool) → cond b false (b || false) ≡ false
-    one true = refl
-    one false = refl
+    go : (b : Bool) → nat_eq n number ≡ b → is_among ns n ≡ true
+    go true same = absurd (differ ((unsigned_Decides n number).0 same))
+    go false same = sym (ap (λ b. b || is_among ns n) same) ∙ h
 
-    two : (a b : Bool) → cond b false (cond a false (a || b)) ≡ false
-    two true true = refl
-    two true false = refl
-    two false true = refl
-    two false false = refl
-
-    go : (own cancelled : Option ℕ) → without (without (λ i. option_eq nat_eq own (Some i) || option_eq nat_eq cancelled (Some i)) own) cancelled n ≡ false
-    go None None = refl
-    go None (Some c) = two false (nat_eq c n)
-    go (Some o) None = one (nat_eq o n)
-    go (Some o) (Some c) = two (nat_eq o n) (nat_eq c n)
-
--- two numbers that differ are told apart
-apart : (i n : ℕ) → i ≢ n → nat_eq i n ≡ false
-apart i n differ = go (nat_eq i n) refl
+-- and one that is not
+pub among_not : (n number : ℕ) (ns : List ℕ) → is_among ns n ≡ false → (is_among (number ∷ ns) n ≡ false) ⊎ (n ≡ number)
+among_not n number ns h = go (nat_eq n number) refl
   where
-    go : (b : Bool) → nat_eq i n ≡ b → b ≡ false
-    go true same = absurd (differ ((unsigned_Decides i n).0 same))
-    go false same = refl
+    go : (b : Bool) → nat_eq n number ≡ b → (is_among (number ∷ ns) n ≡ false) ⊎ (n ≡ number)
+    go true same = inr ((unsigned_Decides n number).0 same)
+    go false same = inl (ap (λ b. b || is_among ns n) same ∙ h)
+
+-- the first of these is among them, and so is each of the others
+pub among_first : (n number : ℕ) (ns : List ℕ) → n ≡ number → is_among (number ∷ ns) n ≡ true
+among_first n number ns same = ap (λ b. b || is_among ns n) ((unsigned_Decides n number).1 same)
+
+pub among_rest : (n number : ℕ) (ns : List ℕ) → is_among ns n ≡ true → is_among (number ∷ ns) n ≡ true
+among_rest n number ns h = go (nat_eq n number)
+  where
+    go : (b : Bool) → (b || is_among ns n) ≡ true
+    go true = refl
+    go false = h
+
+-- where all differ, the first is not among the others
+pub first_apart : (number : ℕ) (ns : List ℕ) → AllPairs (λ a b. a ≢ b) (number ∷ ns) → is_among ns number ≡ false
+first_apart number ns apart = list_any_none (nat_eq number) ns (λ k d low. differ _ (apart 0 (suc k) d (omega arith) (omega arith)))
+  where
+    differ : (n : ℕ) → number ≢ n → nat_eq number n ≡ false
+    differ n apart_from = go (nat_eq number n) refl
+      where
+        go : (b : Bool) → nat_eq number n ≡ b → b ≡ false
+        go true same = absurd (apart_from ((unsigned_Decides number n).0 same))
+        go false same = refl
 
 -- a set that has heard leaves the keys and the other sets as they were
 pub leaves_keys : (number : ℕ) (after : AnySet) (fate : Fate) (t u : Tabled) → Leaves number after fate t u → u.keys ≡ t.keys
@@ -122,51 +116,61 @@ settles_leaves number after t u s = (s.limit, subst (IsAgendaOf s.limit) same s.
     same : s.set ≡ after
     same = elim (set-place t.sets (number - 1) (number - 1) after s.set s.at) [ inl h ↦ sym h.1 | inr h ↦ absurd (h.0 refl) ]
 
--- the last moments stay on record where more wait
-on_record_more : (waits more : ℕ → Bool) → ((n : ℕ) → waits n ≡ true → more n ≡ true) → (n : ℕ) (set : AnySet) (recorded : Option (Option ℕ)) → IsOnRecord waits n set recorded → IsOnRecord more n set recorded
-on_record_more waits more all n set None h = all n h
-on_record_more waits more all n set (Some limit) h = h
-
-pub are_on_record_more : (waits more : ℕ → Bool) (t : Tabled) → ((n : ℕ) → waits n ≡ true → more n ≡ true) → AreOnRecord waits t → AreOnRecord more t
-are_on_record_more waits more t all h = record { long = h.long; each = λ n set r at here. on_record_more waits more all (n + 1) set r (h.each n set r at here) }
+-- a number that was given still is
+pub given_still : (number : ℕ) (t u : Tabled) → u.keys ≡ t.keys → IsGiven t number → IsGiven u number
+given_still number t u keys g = record { low = g.low; high = (let same = ap length keys in let high = g.high in omega arith) }
 
 -- once a set has heard its event and has a state, its last moment is on record
-module _ (waits : ℕ → Bool) (t : Tabled) (number : ℕ) (low : 0 < number) (after : AnySet) (limit : Option ℕ) (agenda : IsAgendaOf limit after) (old : AreOnRecord waits t) where
-  recorded_at : (n : ℕ) (s : AnySet) (r : Option (Option ℕ)) → slice_get (set t.sets (number - 1) after) n ≡ Some s → slice_get (set t.records (number - 1) (Some limit)) n ≡ Some r
-      → IsOnRecord (without waits (Some number)) (n + 1) s r
+module _ (t : Tabled) (number : ℕ) (ns : List ℕ) (low : 0 < number) (after : AnySet) (limit : Option ℕ) (agenda : IsAgendaOf limit after) (old : AreOnRecord (number ∷ ns) t) where
+  recorded_at : (n : ℕ) (s : AnySet) (r : Option (Option ℕ)) → slice_get (set t.sets (number - 1) after) n ≡ Some s → slice_get (set t.records (number - 1) (Some limit)) n ≡ Some r → IsOnRecord ns (n + 1) s r
   recorded_at n s r at here = go (set-place t.sets (number - 1) n after s at) (set-place t.records (number - 1) n (Some limit) r here)
     where
       go : ((n ≡ number - 1) × (after ≡ s)) ⊎ ((n ≢ number - 1) × (slice_get t.sets n ≡ Some s)) → ((n ≡ number - 1) × (Some limit ≡ r)) ⊎ ((n ≢ number - 1) × (slice_get t.records n ≡ Some r))
-          → IsOnRecord (without waits (Some number)) (n + 1) s r
-      go (inl a) (inl b) = subst (IsOnRecord (without waits (Some number)) (n + 1) s) b.1 (subst (IsAgendaOf limit) a.1 agenda)
+          → IsOnRecord ns (n + 1) s r
+      go (inl a) (inl b) = subst (IsOnRecord ns (n + 1) s) b.1 (subst (IsAgendaOf limit) a.1 agenda)
       go (inl a) (inr b) = absurd (b.0 a.0)
       go (inr a) (inl b) = absurd (a.0 b.0)
       go (inr a) (inr b) = only r (old.each n s r a.1 b.1)
         where
-          other : nat_eq number (n + 1) ≡ false
-          other = apart number (n + 1) (λ same. a.0 (omega (arith, same)))
-
-          only : (x : Option (Option ℕ)) → IsOnRecord waits (n + 1) s x → IsOnRecord (without waits (Some number)) (n + 1) s x
-          only None h = ap (λ b. cond b false (waits (n + 1))) other ∙ h
+          only : (x : Option (Option ℕ)) → IsOnRecord (number ∷ ns) (n + 1) s x → IsOnRecord ns (n + 1) s x
+          only None h = among_one (n + 1) number ns h (λ same. a.0 (omega (arith, same)))
           only (Some l) h = h
 
-  settled : (u : Tabled) → u.keys ≡ t.keys → u.sets ≡ set t.sets (number - 1) after → u.records ≡ set t.records (number - 1) (Some limit) → AreOnRecord (without waits (Some number)) u
+  settled : (u : Tabled) → u.keys ≡ t.keys → u.sets ≡ set t.sets (number - 1) after → u.records ≡ set t.records (number - 1) (Some limit) → AreOnRecord ns u
   settled u keys sets records = record {
     long = ap length records ∙ length-set t.records (number - 1) (Some limit) ∙ old.long ∙ ap length (sym keys);
     each = λ n s r at here. recorded_at n s r (ap (λ xs. slice_get xs n) (sym sets) ∙ at) (ap (λ xs. slice_get xs n) (sym records) ∙ here);
   }
 
-pub heard_record : (texts : Texts) (event : NumberedEvent) (waits : ℕ → Bool) (number : Option ℕ) (t u : Tabled) (outcome : Outcome) → ForSome number (IsGiven t) → AreOnRecord waits t
-    → HearsIf texts event number t u outcome → outcome ≡ all.Fine → AreOnRecord (without waits number) u
-heard_record texts event waits None t u outcome given old h fine = subst (AreOnRecord waits) (sym h.0) old
-heard_record texts event waits (Some number) t u outcome given old (fate, h, is) fine = go fate h (sym is ∙ fine)
+heard_record : (texts : Texts) (event : NumberedEvent) (number : ℕ) (ns : List ℕ) (t u : Tabled) (outcome : Outcome) → IsGiven t number → AreOnRecord (number ∷ ns) t → HearsOne texts event number t u outcome → outcome ≡ all.Fine
+    → AreOnRecord ns u
+heard_record texts event number ns t u outcome given old (fate, h, is) fine = go fate h (sym is ∙ fine)
   where
-    go : (f : Fate) → Hears texts event number t u f → outcome_of number f ≡ all.Fine → AreOnRecord (without waits (Some number)) u
+    go : (f : Fate) → Hears texts event number t u f → outcome_of number f ≡ all.Fine → AreOnRecord ns u
     go Runs heard same =
         let (limit, agenda, left) = heard.leaves in
-        settled waits t number (given number refl).low heard.after limit agenda old u (ap (λ x. x.keys) left) (ap (λ x. x.sets) left) (ap (λ x. x.records) left)
+        settled t number ns given.low heard.after limit agenda old u (ap (λ x. x.keys) left) (ap (λ x. x.sets) left) (ap (λ x. x.records) left)
     go NoRun heard same = absurd cc
     go TooWide heard same = absurd cc
+
+-- a set that has heard leaves the numbers as they were given
+pub heard_given : (texts : Texts) (event : NumberedEvent) (number : ℕ) (t u : Tabled) (outcome : Outcome) → HearsOne texts event number t u outcome → (ns : List ℕ) → All (IsGiven t) ns → All (IsGiven u) ns
+heard_given texts event number t u outcome (fate, h, is) ns given =
+    let keys = leaves_keys number h.after fate t u h.leaves in
+    All-weaker (IsGiven t) (IsGiven u) (λ n g. given_still n t u keys g) ns given
+
+-- those before were fine where those after are
+each_fine : (texts : Texts) (event : NumberedEvent) (ns : List ℕ) (t u : Tabled) (before after : Outcome) → HearsEach texts event ns t before u after → after ≡ all.Fine → before ≡ all.Fine
+each_fine texts event [] t u before after h fine = sym h.1 ∙ fine
+each_fine texts event (n ∷ ns) t u before after (between, one, first, rest) fine = (both_fine before one (each_fine texts event ns between u (first_of before one) after rest fine)).0
+
+-- once each has heard its event and none is in trouble, all last moments are on record
+heard_records : (texts : Texts) (event : NumberedEvent) (ns : List ℕ) (t u : Tabled) (before after : Outcome) → All (IsGiven t) ns → AreOnRecord ns t → HearsEach texts event ns t before u after → after ≡ all.Fine → AllAreOnRecord u
+heard_records texts event [] t u before after given old h fine = subst AllAreOnRecord (sym h.0) old
+heard_records texts event (n ∷ ns) t u before after given old (between, one, first, rest) fine =
+    let one_fine = (both_fine before one (each_fine texts event ns between u (first_of before one) after rest fine)).1 in
+    heard_records texts event ns between u (first_of before one) after (heard_given texts event n t between one first ns (All-tail (IsGiven t) n ns given))
+    (heard_record texts event n ns t between one (All-head (IsGiven t) n ns given) old first one_fine) rest fine
 
 -- all are on record after an entry in no trouble
 pub on_record_if : (outcome : Outcome) (t : Tabled) → (outcome ≡ all.Fine → AllAreOnRecord t) → AreOnRecordIf outcome t
@@ -174,6 +178,5 @@ on_record_if all.Fine t h = h refl
 on_record_if (all.NoRun number) t h = tt
 on_record_if (all.TooWide number) t h = tt
 
--- a number that was given still is
-pub given_still : (number : Option ℕ) (t u : Tabled) → u.keys ≡ t.keys → ForSome number (IsGiven t) → ForSome number (IsGiven u)
-given_still number t u keys given = λ n is. let g = given n is in record { low = g.low; high = (let same = ap length keys in let high = g.high in omega arith) }
+pub heard_recorded : (texts : Texts) (event : NumberedEvent) (ns : List ℕ) (t u : Tabled) (before after : Outcome) → All (IsGiven t) ns → AreOnRecord ns t → HearsEach texts event ns t before u after → AreOnRecordIf after u
+heard_recorded texts event ns t u before after given old h = on_record_if after u (heard_records texts event ns t u before after given old h)

@@ -1,11 +1,9 @@
--- Keys that an event names are looked up in the tables.
-use Rattle.std.proofs.Common.{◌≡◌, ◌≢◌, ◌≤◌, ◌+◌, ◌-◌, ◌⊎◌, ◌||◌, inl, inr, ℕ, zero, suc, Bool, true, false, nat_eq, Option, Some, None, List, [], ◌∷◌, ◌++◌, All, AllPairs, Contains, length, slice_get, option_to_list, refl, sym, ap, ◌∙◌, subst, arith, length-append}
+-- Keys that an entry concerns are looked up in the tables.
+use Rattle.std.proofs.Common.{◌≡◌, ◌≢◌, ◌≤◌, ◌<◌, ◌+◌, ◌-◌, ◌⊎◌, ◌||◌, inl, inr, ℕ, zero, suc, Bool, true, false, nat_eq, Option, Some, None, List, [], ◌∷◌, ◌++◌, All, AllPairs, Contains, length, slice_get, refl, sym, ap, ◌∙◌, subst, arith, length-append}
 use Rattle.std.specs.Prelude.{fold}
 use Rattle.std.specs.List.{list_any, zip}
-use Rattle.std.specs.Option.{option_eq}
 use Rattle.std.specs.Cmp.{unsigned_Decides}
 use Rattle.std.proofs.lemmas.List.Elements.{All-push}
-use Rattle.std.proofs.lemmas.List.Folds.{list_any-append}
 use Rattle.std.proofs.lemmas.Option.{slice_get_within, get_or_from_slice_get}
 use Rattle.sip_key.specs.Key.{KeyParts, same_key}
 use Rattle.sip_key.specs.inner.KeyLaws.{same_key-decides}
@@ -22,37 +20,45 @@ use Rattle.sip_verdict.specs.Keyed.{Observation, events_of}
 use Rattle.sip_verdict.specs.Keyed as keyed
 use Rattle.sip_verdict.specs.MessageReading.{key_machines}
 use Rattle.sip_verdict.specs.inner.Tracking.{IsTouched}
-use Rattle.sip_verdict.specs.inner.TablesTracking.{meaning_of, LeadsOf, key_keeping, transactions_of, AreTold, TouchesIf, HasIf, MayPass, IsOnRecord, AreOnRecord}
+use Rattle.sip_states.specs.AnySet.{meaning_of}
+use Rattle.sip_verdict.specs.inner.TablesTracking.{LeadsOf, key_keeping, transactions_of, AreTold, TouchesEach, HaveNumbers, is_among, MayPass, IsOnRecord, AreOnRecord}
+use Rattle.sip_verdict.specs.inner.Concerned.{each}
 use Rattle.sip_verdict.proofs.Keys.{IsExact}
 use Rattle.sip_verdict.proofs.Leading.{Leads-start}
 use Rattle.sip_verdict.proofs.ByMachine.{first_of, first_is_of, first_knows, start_is, moment_is, to_set}
-use Rattle.sip_verdict.proofs.TablesPassing.{keys_are, are_on_record_more}
+use Rattle.sip_verdict.proofs.TablesPassing.{keys_are, among_first, among_rest}
 use Rattle.sip_verdict.proofs.TrackingLemmas.{AreKept, kept_touched}
 
--- what holds of the tables before and of them with any key more, holds after
-touches_elim : (Q : Tabled → Type 0) (old new : Tabled) → Q old → ((key : KeyParts) → Q (with_key old key)) → (key : Option KeyParts) (number : Option ℕ) → TouchesIf key number old new → Q new
-touches_elim Q old new same more None number h = subst Q (sym h.1) same
-touches_elim Q old new same more (Some key) number (n, is, inl h) = subst Q (sym h.1) same
-touches_elim Q old new same more (Some key) number (n, is, inr h) = subst Q (sym h.2) (more key)
+-- what holds of tables, and of them with any key more, holds after keys were looked up
+touched_elim : (Q : Tabled → Type 0) → ((t : Tabled) (key : KeyParts) → Q t → Q (with_key t key)) → (key : KeyParts) (number : ℕ) (old new : Tabled) → Q old → Touches key number old new → Q new
+touched_elim Q more key number old new holds (inl h) = subst Q (sym h.1) holds
+touched_elim Q more key number old new holds (inr h) = subst Q (sym h.2) (more old key holds)
+
+touches_elim : (Q : Tabled → Type 0) → ((t : Tabled) (key : KeyParts) → Q t → Q (with_key t key)) → (ks : List KeyParts) (ns : List ℕ) (old new : Tabled) → Q old → TouchesEach ks ns old new → Q new
+touches_elim Q more [] [] old new holds same = subst Q (sym same) holds
+touches_elim Q more [] (n ∷ ns) old new holds h = absurd h
+touches_elim Q more (k ∷ ks) [] old new holds h = absurd h
+touches_elim Q more (k ∷ ks) (n ∷ ns) old new holds (between, one, rest) = touches_elim Q more ks ns between new (touched_elim Q more k n old between holds one) rest
 
 -- the times stay
-pub touches_times : (key : Option KeyParts) (number : Option ℕ) (old new : Tabled) → TouchesIf key number old new → new.times ≡ old.times
-touches_times key number old new h = touches_elim (λ t. t.times ≡ old.times) old new refl (λ k. refl) key number h
+pub touches_times : (ks : List KeyParts) (ns : List ℕ) (old new : Tabled) → TouchesEach ks ns old new → new.times ≡ old.times
+touches_times ks ns old new h = touches_elim (λ t. t.times ≡ old.times) (λ t key same. same) ks ns old new refl h
 
 -- each key has a set
-pub touches_long : (key : Option KeyParts) (number : Option ℕ) (old new : Tabled) → length old.sets ≡ length old.keys → TouchesIf key number old new → length new.sets ≡ length new.keys
-touches_long key number old new long h =
-    touches_elim (λ t. length t.sets ≡ length t.keys) old new long
-    (λ k. length-append old.sets (start_of old.times k ∷ []) ∙ ap (λ n. n + 1) long ∙ sym (length-append old.keys (k ∷ []))) key number h
+long_more : (t : Tabled) (key : KeyParts) → length t.sets ≡ length t.keys → length (t.sets ++ start_of t.times key ∷ []) ≡ length (t.keys ++ key ∷ [])
+long_more t key long = length-append t.sets (start_of t.times key ∷ []) ∙ ap (λ n. n + 1) long ∙ sym (length-append t.keys (key ∷ []))
 
--- there is at most one key more
-pub touches_few : (key : Option KeyParts) (number : Option ℕ) (old new : Tabled) → TouchesIf key number old new → length new.keys ≤ length old.keys + 1
-touches_few key number old new h =
-    touches_elim (λ t. length t.keys ≤ length old.keys + 1) old new (omega arith) (λ k. let long = length-append old.keys (k ∷ []) in omega arith) key number h
+pub touches_long : (ks : List KeyParts) (ns : List ℕ) (old new : Tabled) → length old.sets ≡ length old.keys → TouchesEach ks ns old new → length new.sets ≡ length new.keys
+touches_long ks ns old new long h = touches_elim (λ t. length t.sets ≡ length t.keys) long_more ks ns old new long h
 
--- what holds of each set, and of those with which keys start, holds of each
-touches_sets : (P : AnySet → Type 0) (old new : Tabled) → ((key : KeyParts) → P (start_of old.times key)) → (key : Option KeyParts) (number : Option ℕ) → All P old.sets → TouchesIf key number old new → All P new.sets
-touches_sets P old new starts key number all h = touches_elim (λ t. All P t.sets) old new all (λ k. All-push P old.sets (start_of old.times k) all (starts k)) key number h
+-- there is at most one key more for each
+pub touches_few : (ks : List KeyParts) (ns : List ℕ) (old new : Tabled) → TouchesEach ks ns old new → length new.keys ≤ length old.keys + length ks
+touches_few [] [] old new same = let long = ap (λ t. length t.keys) same in omega arith
+touches_few [] (n ∷ ns) old new h = absurd h
+touches_few (k ∷ ks) [] old new h = absurd h
+touches_few (k ∷ ks) (n ∷ ns) old new (between, one, rest) =
+    let more = touches_few ks ns between new rest in
+    elim one [ inl h ↦ (let long = ap (λ t. length t.keys) h.1 in omega arith) | inr h ↦ (let long = ap (λ t. length t.keys) h.2 ∙ length-append old.keys (k ∷ []) in omega arith) ]
 
 -- a set starts at moment 0, and names no message
 start_at : (p : Times) (key : KeyParts) → moment_of (start_of p key) ≡ 0
@@ -71,12 +77,15 @@ start_known texts p key =
     known_one machine = All-push (λ x. All (Keeps texts) ((meaning_of machine).names x)) [] (first_of machine) (λ k d l. absurd (omega (arith, l))) (first_knows machine texts)
 
 -- an entry may still pass
-pub touches_may : (texts : Texts) (moment : ℕ) (key : Option KeyParts) (number : Option ℕ) (old new : Tabled) → MayPass texts old moment → TouchesIf key number old new → MayPass texts new moment
-touches_may texts moment key number old new may h = record {
-  order = touches_sets (λ set. moment_of set ≤ moment) old new (λ k. let at = start_at old.times k in omega arith) key number may.order h;
-  known = touches_sets (IsKnownSet texts) old new (start_known texts old.times) key number may.known h;
-  long = touches_long key number old new may.long h;
-}
+pub touches_may : (texts : Texts) (moment : ℕ) (ks : List KeyParts) (ns : List ℕ) (old new : Tabled) → MayPass texts old moment → TouchesEach ks ns old new → MayPass texts new moment
+touches_may texts moment ks ns old new may h = touches_elim (λ t. MayPass texts t moment) more ks ns old new may h
+  where
+    more : (t : Tabled) (key : KeyParts) → MayPass texts t moment → MayPass texts (with_key t key) moment
+    more t key m = record {
+      order = All-push (λ set. moment_of set ≤ moment) t.sets (start_of t.times key) m.order (let at = start_at t.times key in omega arith);
+      known = All-push (IsKnownSet texts) t.sets (start_of t.times key) m.known (start_known texts t.times key);
+      long = long_more t key m.long;
+    }
 
 -- an element of a list with one more
 push-place : {A : Type 0} (xs : List A) (a : A) (n : ℕ) (x : A) → slice_get (xs ++ a ∷ []) n ≡ Some x → (slice_get xs n ≡ Some x) ⊎ ((n ≡ length xs) × (a ≡ x))
@@ -85,47 +94,32 @@ push-place [] a (suc n) x at = absurd cc
 push-place (u ∷ xs) a zero x at = inl at
 push-place (u ∷ xs) a (suc n) x at = elim (push-place xs a n x at) [ inl h ↦ inl h | inr h ↦ inr (ap suc h.0, h.1) ]
 
-or_first : (a b : Bool) → a ≡ true → (a || b) ≡ true
-or_first a b h = ap (λ x. x || b) h
+-- each last moment stays on record, and there is none yet of a key that waits
+module _ (waits : List ℕ) where
+  with_key_recorded : (key : KeyParts) (number : ℕ) (old : Tabled) → length old.sets ≡ length old.keys → number ≡ length old.keys + 1 → is_among waits number ≡ true → AreOnRecord waits old → AreOnRecord waits (with_key old key)
+  with_key_recorded key number old long counts waiting h = record {
+    long = length-append old.records (None ∷ []) ∙ ap (λ i. i + 1) h.long ∙ sym (length-append old.keys (key ∷ []));
+    each = λ i s r at here. go i s r (push-place old.sets (start_of old.times key) i s at) (push-place old.records None i r here);
+  }
+    where
+      go : (i : ℕ) (s : AnySet) (r : Option (Option ℕ)) → (slice_get old.sets i ≡ Some s) ⊎ ((i ≡ length old.sets) × (start_of old.times key ≡ s))
+          → (slice_get old.records i ≡ Some r) ⊎ ((i ≡ length old.records) × (None ≡ r)) → IsOnRecord waits (i + 1) s r
+      go i s r (inl a) (inl b) = h.each i s r a b
+      go i s r (inl a) (inr b) = (let within = slice_get_within old.sets i s a in let same = h.long in absurd (omega (arith, b.0)))
+      go i s r (inr a) (inl b) = (let within = slice_get_within old.records i r b in let same = h.long in absurd (omega (arith, a.0)))
+      go i s r (inr a) (inr b) = subst (IsOnRecord waits (i + 1) s) b.1 (subst (λ n. is_among waits n ≡ true) (let same = h.long in omega (arith, counts, b.0)) waiting)
 
-or_second : (a b : Bool) → b ≡ true → (a || b) ≡ true
-or_second true b h = refl
-or_second false b h = h
-
--- each last moment is on record, but that of the key, if it is new
-module _ (waits : ℕ → Bool) (number : Option ℕ) where
-  abbrev AreOnRecordBut : Tabled → Type 0
-  AreOnRecordBut t = AreOnRecord (λ n. waits n || option_eq nat_eq number (Some n)) t
-
-  stay_on_record : (t : Tabled) → AreOnRecord waits t → AreOnRecordBut t
-  stay_on_record t h = are_on_record_more waits (λ n. waits n || option_eq nat_eq number (Some n)) t (λ n own. or_first (waits n) (option_eq nat_eq number (Some n)) own) h
-
-  module _ (key : KeyParts) (n : ℕ) (is : number ≡ Some n) (old : Tabled) (long : length old.sets ≡ length old.keys) (counts : n ≡ length old.keys + 1) (h : AreOnRecord waits old) where
-    new_record : (i : ℕ) (s : AnySet) (r : Option (Option ℕ)) → slice_get (old.sets ++ start_of old.times key ∷ []) i ≡ Some s → slice_get (old.records ++ None ∷ []) i ≡ Some r
-        → IsOnRecord (λ j. waits j || option_eq nat_eq number (Some j)) (i + 1) s r
-    new_record i s r at here = go (push-place old.sets (start_of old.times key) i s at) (push-place old.records None i r here)
-      where
-        own : i ≡ length old.records → option_eq nat_eq number (Some (i + 1)) ≡ true
-        own last = subst (λ o. option_eq nat_eq o (Some (i + 1)) ≡ true) (sym is) ((unsigned_Decides n (i + 1)).1 (let same = h.long in omega arith))
-
-        go : (slice_get old.sets i ≡ Some s) ⊎ ((i ≡ length old.sets) × (start_of old.times key ≡ s)) → (slice_get old.records i ≡ Some r) ⊎ ((i ≡ length old.records) × (None ≡ r))
-            → IsOnRecord (λ j. waits j || option_eq nat_eq number (Some j)) (i + 1) s r
-        go (inl a) (inl b) = (stay_on_record old h).each i s r a b
-        go (inl a) (inr b) = (let within = slice_get_within old.sets i s a in let same = h.long in absurd (omega (arith, b.0)))
-        go (inr a) (inl b) = (let within = slice_get_within old.records i r b in let same = h.long in absurd (omega (arith, a.0)))
-        go (inr a) (inr b) =
-            subst (IsOnRecord (λ j. waits j || option_eq nat_eq number (Some j)) (i + 1) s) b.1 (or_second (waits (i + 1)) (option_eq nat_eq number (Some (i + 1))) (own b.0))
-
-    with_key_recorded : AreOnRecordBut (with_key old key)
-    with_key_recorded = record {
-      long = length-append old.records (None ∷ []) ∙ ap (λ i. i + 1) h.long ∙ sym (length-append old.keys (key ∷ []));
-      each = new_record;
-    }
-
-  pub touches_recorded : (key : Option KeyParts) (old new : Tabled) → length old.sets ≡ length old.keys → AreOnRecord waits old → TouchesIf key number old new → AreOnRecordBut new
-  touches_recorded None old new long h touched = subst AreOnRecordBut (sym touched.1) (stay_on_record old h)
-  touches_recorded (Some key) old new long h (n, is, inl same) = subst AreOnRecordBut (sym same.1) (stay_on_record old h)
-  touches_recorded (Some key) old new long h (n, is, inr new_one) = subst AreOnRecordBut (sym new_one.2) (with_key_recorded key n is old long new_one.1 h)
+  pub touches_recorded : (ks : List KeyParts) (ns : List ℕ) (old new : Tabled) → ((n : ℕ) → is_among ns n ≡ true → is_among waits n ≡ true) → length old.sets ≡ length old.keys → AreOnRecord waits old → TouchesEach ks ns old new
+      → AreOnRecord waits new
+  touches_recorded [] [] old new wait long h same = subst (AreOnRecord waits) (sym same) h
+  touches_recorded [] (n ∷ ns) old new wait long h touched = absurd touched
+  touches_recorded (k ∷ ks) [] old new wait long h touched = absurd touched
+  touches_recorded (k ∷ ks) (n ∷ ns) old new wait long h (between, one, rest) =
+      touches_recorded ks ns between new (λ i more. wait i (among_rest i n ns more)) (touched_elim (λ t. length t.sets ≡ length t.keys) long_more k n old between long one) (recorded one) rest
+    where
+      recorded : Touches k n old between → AreOnRecord waits between
+      recorded (inl same) = subst (AreOnRecord waits) (sym same.1) h
+      recorded (inr new_one) = subst (AreOnRecord waits) (sym new_one.2) (with_key_recorded k n old long new_one.1 (wait n (among_first n n ns refl)) h)
 
 -- lists side by side with one more pair
 zip-push : {A B : Type 0} (xs : List A) (ys : List B) (x : A) (y : B) → length ys ≡ length xs → zip (xs ++ x ∷ []) (ys ++ y ∷ []) ≡ zip xs ys ++ (x, y) ∷ []
@@ -164,13 +158,16 @@ module _ (texts : Texts) (p : Times) where
       absent : ¬ Contains old.keys key
       absent (i, low, is) = h.0 i key low is
 
-  -- are kept with it
-  pub kept_if : (es : List (Observation KeyParts)) (keys : List KeyParts) (key : Option KeyParts) (number : Option ℕ) (old new : Tabled) → old.times ≡ p → length old.sets ≡ length old.keys
-      → TouchesIf key number old new → AreKept (key_machines p) (key_keeping texts p) es keys (transactions_of old)
-      → AreKept (key_machines p) (key_keeping texts p) es (fold (keyed.with_key same_key) keys (option_to_list key)) (transactions_of new)
-  kept_if es keys None number old new times long h kept = subst (λ t. AreKept (key_machines p) (key_keeping texts p) es keys (transactions_of t)) (sym h.1) kept
-  kept_if es keys (Some key) number old new times long (n, is, h) kept =
-      kept_touched (key_machines p) (key_keeping texts p) es (keys_exact p) (key, start_of p key) (starts key) keys (transactions_of old) (transactions_of new) kept (touched key n old new times long h)
+  -- and of all that are
+  pub kept_each : (es : List (Observation KeyParts)) (keys ks : List KeyParts) (ns : List ℕ) (old new : Tabled) → old.times ≡ p → length old.sets ≡ length old.keys → TouchesEach ks ns old new
+      → AreKept (key_machines p) (key_keeping texts p) es keys (transactions_of old) → AreKept (key_machines p) (key_keeping texts p) es (fold (keyed.with_key same_key) keys ks) (transactions_of new)
+  kept_each es keys [] [] old new times long same kept = subst (λ t. AreKept (key_machines p) (key_keeping texts p) es keys (transactions_of t)) (sym same) kept
+  kept_each es keys [] (n ∷ ns) old new times long h kept = absurd h
+  kept_each es keys (k ∷ ks) [] old new times long h kept = absurd h
+  kept_each es keys (k ∷ ks) (n ∷ ns) old new times long (between, one, rest) kept =
+      kept_each es (keyed.with_key same_key keys k) ks ns between new (touched_elim (λ t. t.times ≡ p) (λ t key same. same) k n old between times one)
+      (touched_elim (λ t. length t.sets ≡ length t.keys) long_more k n old between long one) rest
+      (kept_touched (key_machines p) (key_keeping texts p) es (keys_exact p) (k, start_of p k) (starts k) keys (transactions_of old) (transactions_of between) kept (touched k n old between times long one))
 
 -- an element of a list stays where it is
 slice_get-more : {A : Type 0} (xs ys : List A) (n : ℕ) (x : A) → slice_get xs n ≡ Some x → slice_get (xs ++ ys) n ≡ Some x
@@ -183,19 +180,20 @@ slice_get-last : {A : Type 0} (xs : List A) (x : A) → slice_get (xs ++ x ∷ [
 slice_get-last [] x = refl
 slice_get-last (u ∷ xs) x = slice_get-last xs x
 
--- a key that was looked up has its number
-pub has_number : (key : Option KeyParts) (number : Option ℕ) (old new : Tabled) → TouchesIf key number old new → HasIf key number new.keys
-has_number None number old new h = h.0
-has_number (Some key) number old new (n, is, inl h) = (n, is, h.0.0, subst (λ t. slice_get t.keys (n - 1) ≡ Some key) (sym h.1) h.0.1)
-has_number (Some key) number old new (n, is, inr h) =
-    let last : length old.keys ≡ n - 1 = omega (arith, h.1) in
-    (n, is, omega (arith, h.1), subst (λ t. slice_get t.keys (n - 1) ≡ Some key) (sym h.2) (subst (λ i. slice_get (old.keys ++ key ∷ []) i ≡ Some key) last (slice_get-last old.keys key)))
-
--- and keeps it when another is
-pub has_still : (own : Option KeyParts) (mine : Option ℕ) (key : Option KeyParts) (number : Option ℕ) (old new : Tabled) → TouchesIf key number old new → HasIf own mine old.keys → HasIf own mine new.keys
-has_still None mine key number old new h none = none
-has_still (Some own) mine key number old new h (n, is, some, at) =
-    (n, is, some, touches_elim (λ t. slice_get t.keys (n - 1) ≡ Some own) old new at (λ k. slice_get-more old.keys (k ∷ []) (n - 1) own at) key number h)
+-- keys that were looked up have their numbers
+pub have_numbers : (ks : List KeyParts) (ns : List ℕ) (old new : Tabled) → TouchesEach ks ns old new → HaveNumbers new.keys ns ks
+have_numbers [] [] old new h = tt
+have_numbers [] (n ∷ ns) old new h = absurd h
+have_numbers (k ∷ ks) [] old new h = absurd h
+have_numbers (k ∷ ks) (n ∷ ns) old new (between, one, rest) =
+    let here = has_number one in
+    (here.0, touches_elim (λ t. slice_get t.keys (n - 1) ≡ Some k) (λ t key at. slice_get-more t.keys (key ∷ []) (n - 1) k at) ks ns between new here.1 rest, have_numbers ks ns between new rest)
+  where
+    has_number : Touches k n old between → (0 < n) × (slice_get between.keys (n - 1) ≡ Some k)
+    has_number (inl h) = (h.0.0, subst (λ t. slice_get t.keys (n - 1) ≡ Some k) (sym h.1) h.0.1)
+    has_number (inr h) =
+        let last : length old.keys ≡ n - 1 = omega (arith, h.1) in
+        (omega (arith, h.1), subst (λ t. slice_get t.keys (n - 1) ≡ Some k) (sym h.2) (subst (λ i. slice_get (old.keys ++ k ∷ []) i ≡ Some k) last (slice_get-last old.keys k)))
 
 -- two tests that hold alike are the same
 same_test : (a b : Bool) → (a ≡ true → b ≡ true) → (b ≡ true → a ≡ true) → a ≡ b
@@ -216,36 +214,26 @@ same_place (u ∷ xs) apart (suc i) zero x a b =
 same_place (u ∷ xs) apart (suc i) (suc k) x a b =
     ap suc (same_place xs (λ m n d low within. apart (suc m) (suc n) d (omega arith) (omega arith)) i k x a b)
 
-or_none : (b : Bool) → (b || false) ≡ b
-or_none true = refl
-or_none false = refl
-
--- a key is the one of an event just where its number is
-own_number : (keys : List KeyParts) → AllPairs (λ a b. a ≢ b) keys → (key : Option KeyParts) (number : Option ℕ) → HasIf key number keys
-    → (n : ℕ) (k : KeyParts) → slice_get keys n ≡ Some k → list_any (same_key k) (option_to_list key) ≡ option_eq nat_eq number (Some (n + 1))
-own_number keys apart None number none n k at = subst (λ o. false ≡ option_eq nat_eq o (Some (n + 1))) (sym none) refl
-own_number keys apart (Some key) number (i, is, some, there) n k at =
-    or_none (same_key k key)
-    ∙ subst (λ o. same_key k key ≡ option_eq nat_eq o (Some (n + 1))) (sym is)
-    (same_test (same_key k key) (nat_eq i (n + 1))
-    (λ same. (let place : n ≡ i - 1 = same_place keys apart n (i - 1) key (at ∙ ap Some ((same_key-decides k key).0 same)) there in (unsigned_Decides i (n + 1)).1 (omega (arith, place, some))))
-    (λ same. (let place : i - 1 ≡ n = omega (arith, (unsigned_Decides i (n + 1)).0 same) in
-    let one : Some key ≡ Some k = sym there ∙ ap (slice_get keys) place ∙ at in
-    (same_key-decides k key).1 (let own : k ≡ key = cc in own))))
+-- a key is one of those of an event just where its number is
+same_numbers : (all : List KeyParts) → AllPairs (λ a b. a ≢ b) all → (ns : List ℕ) (ks : List KeyParts) → HaveNumbers all ns ks → (n : ℕ) (k : KeyParts) → slice_get all n ≡ Some k → list_any (same_key k) ks ≡ is_among ns (n + 1)
+same_numbers all apart [] [] h n k at = refl
+same_numbers all apart [] (key ∷ ks) h n k at = absurd h
+same_numbers all apart (i ∷ ns) [] h n k at = absurd h
+same_numbers all apart (i ∷ ns) (key ∷ ks) (some, there, rest) n k at = λ j. one j || same_numbers all apart ns ks rest n k at j
+  where
+    one : same_key k key ≡ nat_eq (n + 1) i
+    one =
+        same_test (same_key k key) (nat_eq (n + 1) i)
+        (λ same. (let place : n ≡ i - 1 = same_place all apart n (i - 1) key (at ∙ ap Some ((same_key-decides k key).0 same)) there in (unsigned_Decides (n + 1) i).1 (omega (arith, place, some))))
+        (λ same. (let place : i - 1 ≡ n = omega (arith, (unsigned_Decides (n + 1) i).0 same) in
+        let both : Some key ≡ Some k = sym there ∙ ap (slice_get all) place ∙ at in
+        (same_key-decides k key).1 (let own : k ≡ key = cc in own)))
 
 -- a mark tells each key its moment
 pub told_mark : (texts : Texts) (keys : List KeyParts) (moment : ℕ) (e : Observation KeyParts) → e.event.moment ≡ moment → e.keys ≡ [] → AreTold texts keys moment None e
 told_mark texts keys moment e at none n k there = record { at = at; event = tt; concerned = λ p. ap (list_any (same_key k)) none }
 
--- an event is told to its own key and the one that it cancels
-pub told_event : (texts : Texts) (keys : List KeyParts) (moment : ℕ) (h : Hearing) (own cancelled : Option KeyParts) (e : Observation KeyParts) → AllPairs (λ a b. a ≢ b) keys
-    → HasIf own h.own keys → HasIf cancelled h.cancelled keys → e.event.moment ≡ moment → e.event ≡ heard texts h.event → e.keys ≡ option_to_list own ++ option_to_list cancelled
-    → AreTold texts keys moment (Some h) e
-told_event texts keys moment h own cancelled e apart has_own has_cancelled at event keys_are n k there = record {
-  at = at;
-  event = event;
-  concerned = λ p.
-      ap (list_any (same_key k)) keys_are ∙ list_any-append (same_key k) (option_to_list own) (option_to_list cancelled)
-      ∙ ap (λ b. b || list_any (same_key k) (option_to_list cancelled)) (own_number keys apart own h.own has_own n k there)
-      ∙ ap (λ b. option_eq nat_eq h.own (Some (n + 1)) || b) (own_number keys apart cancelled h.cancelled has_cancelled n k there);
-}
+-- an event is told to the keys that it concerns
+pub told_event : (texts : Texts) (keys : List KeyParts) (moment : ℕ) (h : Hearing) (e : Observation KeyParts) → AllPairs (λ a b. a ≢ b) keys → HaveNumbers keys (each h.concerned) e.keys → e.event.moment ≡ moment
+    → e.event ≡ heard texts h.event → AreTold texts keys moment (Some h) e
+told_event texts keys moment h e apart numbers at event n k there = record { at = at; event = event; concerned = λ p. same_numbers keys apart (each h.concerned) e.keys numbers n k there }

@@ -1,9 +1,11 @@
+pub mod Judging
 pub mod Keyed
 pub mod LegalLog
 pub mod Listing
 pub mod ListingOf
 pub mod LogReason
 pub mod MessageReading
+pub mod Named
 pub mod Reading
 pub mod Rendering
 pub mod Showing

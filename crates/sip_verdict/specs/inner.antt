@@ -1,9 +1,11 @@
+pub mod Concerned
 pub mod Judging
 pub mod Leads
 pub mod Numbering
 pub mod Observing
 pub mod Showing
 pub mod Stepping
+pub mod Sweeping
 pub mod TablesTracking
 pub mod Tracking
 pub mod Walking

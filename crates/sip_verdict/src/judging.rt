@@ -1,11 +1,14 @@
 //! Judges a log from its first byte to its verdict.
-ghost use Rattle.std.specs.Prelude.{◌≡◌, true, false, IfSome, IfOk, OnOk, IsErrOf};
+ghost use Rattle.std.specs.Prelude.{◌≡◌, true, false, List, Option, ℕ, IfSome, IfOk, OnOk, IsErrOf};
+ghost use Rattle.sip_log.specs.Reading.{reading};
 ghost use Rattle.sip_verdict.specs.VerdictOf.{IsVerdictOf};
+ghost use Rattle.sip_verdict.specs.inner.Sweeping.{IsAt, StandsForRead};
 
 use crate::judge_error::JudgeError;
+use crate::reading::{Next, read_header, read_next};
+use crate::stream::Judge;
 use crate::verdict::Verdict;
-use crate::walking::Walk;
-use sip_log::Source;
+use sip_log::{Progress, Source};
 use std::alloc::Global;
 use std::hash::BuildHasher;
 
@@ -25,9 +28,47 @@ pub fn judge<R: Source, H: BuildHasher + Drop>(
     ensures ok { OnOk result (R.has_failed reader.new ≡ false) }
     ensures io { IsErrOf result JudgeError.Io → R.has_failed reader.new ≡ true }
 {
-    match Walk::open(alloc, reader, hasher)? {
-        Ok(mut walk) => walk.verdict(reader),
+    match read_header(alloc, reader)? {
+        Ok((params, mut progress)) => judge_entries(
+            Judge::new(alloc, params, hasher),
+            &mut progress,
+            reader,
+        ),
         Err(verdict) => Ok(verdict),
+    }
+}
+
+/// Reads on behind the header, to the end of the log or the first entry in trouble: the verdict.
+fn judge_entries<R: Source, H: BuildHasher + Drop>(
+    mut judge: Judge<H>,
+    progress: &mut Progress,
+    reader: &mut R,
+) -> Result<Verdict, JudgeError>
+    requires at { IsAt judge progress.old }
+    requires first { judge.number ≡ 0 }
+    ensures verdict { IfOk result (λ verdict. (start : Option (List ℕ))
+        → StandsForRead judge start (reading progress.old (R.left reader.old) (R.has_failed reader.old))
+        → IfSome start (λ input. IsVerdictOf input verdict)) }
+    ensures ok { OnOk result (R.has_failed reader.new ≡ R.has_failed reader.old) }
+    ensures io { IsErrOf result JudgeError.Io → R.has_failed reader.new ≡ true }
+{
+    let mut count = 0;
+    loop {
+        match read_next(progress, reader)? {
+            Next::Entry(entry) => {
+                count = entry.number;
+                if let Some(verdict) = judge.entry(&entry)? {
+                    return Ok(verdict);
+                }
+            }
+            Next::End => return Ok(judge.end().unwrap()),
+            Next::Fault(reason) => {
+                return Ok(Verdict::LogFault {
+                    entry: count + 1,
+                    reason,
+                });
+            }
+        }
     }
 }
 

@@ -2,6 +2,7 @@
 //! one of them has no run.
 #![tactic(auto)]
 
+mod concerned;
 mod judge_error;
 mod judging;
 mod laws;
@@ -14,7 +15,11 @@ mod rendering;
 mod show_error;
 mod showing;
 mod shown;
+mod stage;
 mod standing;
+mod step_error;
+mod stream;
+mod sweeping;
 mod verdict;
 mod walking;
 
@@ -28,4 +33,6 @@ pub use show_error::ShowError;
 pub use showing::show;
 pub use shown::Shown;
 pub use sip_message::{Fault, Reason, Unit};
+pub use step_error::StepError;
+pub use stream::Judge;
 pub use verdict::Verdict;

@@ -37,8 +37,8 @@ impl Listing {
 /// first, the line `transaction T ROLE METHOD states COUNT`, and for each state a line behind two blanks, in ascending order
 /// of their bytes; `no transaction` where it concerns none. A message is told by the number of the first entry with its bytes.
 ///
-/// Entries are numbered from 1. Nothing behind the entry is read. `JudgeError::Io` is answered only if the reader failed in
-/// this call, and after an error the reader is used up to a place that is not said.
+/// Entries are numbered from 1. That nothing behind it is read is tested and not proved. `JudgeError::Io` is answered only
+/// if the reader failed in this call, and after an error the reader is used up to a place that is not said.
 pub fn states_at<R: Source, H: BuildHasher + Drop>(
     alloc: Global,
     reader: &mut R,

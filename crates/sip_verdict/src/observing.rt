@@ -6,8 +6,9 @@ ghost use Rattle.sip_key.specs.Key.{KeyParts};
 ghost use Rattle.sip_log.specs.Told.{item};
 ghost use Rattle.sip_verdict.specs.Keyed.{Observation};
 ghost use Rattle.sip_verdict.specs.MessageReading.{direction_of, message_reading};
-ghost use Rattle.sip_verdict.specs.inner.Observing.{observation_of, IsKept, IsHeard};
+ghost use Rattle.sip_verdict.specs.inner.Observing.{observation_of, AreKeysOf, IsKept, IsHeard};
 
+use crate::concerned::Concerned;
 use sip_key::{Direction, Key, KeyError, cancelled_key, key_of};
 use sip_log::Entry;
 use sip_machine::{Action, Book, Event};
@@ -21,12 +22,10 @@ pub(crate) enum Told {
     Mark,
     /// The message has this fault.
     Fault(Fault),
-    /// The event of a message that is kept in the book, and the keys of the transactions that it concerns: its own, and for
-    /// a CANCEL that is sent that of the request which it cancels.
+    /// The event of a message that is kept in the book, and the keys of the transactions that it concerns.
     Heard {
         event: Event,
-        own: Option<Key>,
-        cancelled: Option<Key>,
+        concerned: Concerned<Key>,
     },
 }
 
@@ -47,6 +46,24 @@ fn direction_of(action: Action) -> Option<Direction>
     }
 }
 
+/// The keys of the transactions that a message concerns: its own, and for a CANCEL that is sent that of the request which it
+/// cancels.
+fn keys_of(
+    alloc: Global,
+    message: &Message<'_>,
+    direction: Direction,
+) -> Result<Concerned<Key>, KeyError>
+    ensures { AreKeysOf message.now direction result }
+{
+    let Some(own) = key_of(alloc, message, direction)? else {
+        return Ok(Concerned::None);
+    };
+    Ok(match cancelled_key(alloc, message, direction)? {
+        Some(cancelled) => Concerned::OwnAndCancelled(own, cancelled),
+        None => Concerned::Own(own),
+    })
+}
+
 /// Reads the message of an entry, and keeps it in the book if it has no fault. The book is as before on an error.
 pub(crate) fn observe(alloc: Global, book: &mut Book, entry: &Entry) -> Result<Told, AllocError>
     requires limit { entry.now.moment ≤ last_moment }
@@ -64,17 +81,12 @@ pub(crate) fn observe(alloc: Global, book: &mut Book, entry: &Entry) -> Result<T
         Err(ReadError::Fault(fault)) => return Ok(Told::Fault(fault)),
         Err(ReadError::Memory) => return Err(AllocError),
     };
-    let own = match key_of(alloc, &message, direction) {
-        Ok(own) => own,
+    let concerned = match keys_of(alloc, &message, direction) {
+        Ok(concerned) => concerned,
         Err(KeyError::NoCookie) => return Ok(Told::Fault(NO_COOKIE)),
         Err(KeyError::Memory) => return Err(AllocError),
     };
-    let cancelled = cancelled_key(alloc, &message, direction)?;
     let number = book.add(entry.number, entry.bytes.as_slice())?;
     let event = Event::of(entry.moment, entry.action, number, &message);
-    Ok(Told::Heard {
-        event,
-        own,
-        cancelled,
-    })
+    Ok(Told::Heard { event, concerned })
 }

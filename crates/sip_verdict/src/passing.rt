@@ -9,21 +9,22 @@ ghost use Rattle.sip_states.specs.AnySet.{moment_of, IsEmpty, IsKnownSet};
 ghost use Rattle.sip_states.specs.Tables.{IsGiven, due_of};
 ghost use Rattle.sip_verdict.specs.Keyed.{Observation};
 ghost use Rattle.sip_verdict.specs.MessageReading.{key_machines};
+ghost use Rattle.sip_verdict.specs.inner.Concerned.{each};
 ghost use Rattle.sip_verdict.specs.inner.Stepping.{IsStepped};
 ghost use Rattle.sip_verdict.specs.inner.Tracking.{IsReady, IsOutcome, overdue_outcome, first_of};
-ghost use Rattle.sip_verdict.specs.inner.TablesTracking.{LeadsOf, StandsOf, key_keeping, transactions_of, hears, AreTold, MayPass, MayHear, AreOnRecord, AreOnRecordIf, HearsIf};
+ghost use Rattle.sip_verdict.specs.inner.TablesTracking.{LeadsOf, StandsOf, key_keeping, transactions_of, hearers, AreTold, MayPass, MayHear, AreOnRecord, AreOnRecordIf, HearsOne, HearsEach};
 
+use crate::concerned::Concerned;
 use sip_machine::{Book, Event};
 use sip_states::{AnySet, Tables, TakeError};
 use std::alloc::AllocError;
 use std::hash::BuildHasher;
 
-/// An event, with the numbers of the transactions that it concerns: its own, and the one that it cancels.
+/// An event, with the numbers of the transactions that it concerns.
 #[derive(Clone, Copy)]
 pub(crate) struct Hearing {
     pub(crate) event: Event,
-    pub(crate) own: Option<u32>,
-    pub(crate) cancelled: Option<u32>,
+    pub(crate) concerned: Concerned<u32>,
 }
 
 /// What an entry leaves of the runs of one transaction: some, none, or more last states than are followed.
@@ -75,25 +76,21 @@ fn hear(set: &mut AnySet, book: &Book, event: &Event) -> Result<Fate, AllocError
     }
 }
 
-/// Lets the transaction with this number, if there is one, hear the event, and puts on record until when it can wait
-/// then.
+/// Lets the transaction with this number hear the event, and puts on record until when it can wait then.
 fn hear_one<H: BuildHasher>(
     tables: &mut Tables<H>,
     book: &Book,
-    number: Option<u32>,
+    number: u32,
     event: &Event,
 ) -> Result<Outcome, AllocError>
-    requires given { ForSome number (IsGiven tables.old) }
+    requires given { IsGiven tables.old number }
     requires fits { FitsBook book.now event.now }
     requires may { MayPass book.now tables.old event.now.moment }
     ensures times { OnOk result (tables.new.times ≡ tables.old.times) }
     ensures keys { OnOk result (tables.new.keys ≡ tables.old.keys) }
     ensures may { OnOk result (MayPass book.now tables.new event.now.moment) }
-    ensures heard { IfOk result (HearsIf book.now event.now number tables.old tables.new) }
+    ensures heard { IfOk result (HearsOne book.now event.now number tables.old tables.new) }
 {
-    let Some(number) = number else {
-        return Ok(Outcome::Fine);
-    };
     match hear(tables.set_mut(number), book, event)? {
         Fate::Runs => {
             tables.settle(number)?;
@@ -101,6 +98,32 @@ fn hear_one<H: BuildHasher>(
         }
         Fate::NoRun => Ok(Outcome::NoRun(number)),
         Fate::TooWide => Ok(Outcome::TooWide(number)),
+    }
+}
+
+/// Lets each transaction that the event concerns hear it, and adds what is left of them to what is left of others.
+fn hear_each<H: BuildHasher>(
+    tables: &mut Tables<H>,
+    book: &Book,
+    hearing: &Hearing,
+    others: Outcome,
+) -> Result<Outcome, AllocError>
+    requires given { All (IsGiven tables.old) (each hearing.now.concerned) }
+    requires fits { FitsBook book.now hearing.now.event }
+    requires may { MayPass book.now tables.old hearing.now.event.moment }
+    ensures times { OnOk result (tables.new.times ≡ tables.old.times) }
+    ensures keys { OnOk result (tables.new.keys ≡ tables.old.keys) }
+    ensures heard { IfOk result (λ outcome. MayPass book.now tables.new hearing.now.event.moment
+        × HearsEach book.now hearing.now.event (each hearing.now.concerned) tables.old others tables.new outcome) }
+{
+    let event = &hearing.event;
+    match hearing.concerned {
+        Concerned::None => Ok(others),
+        Concerned::Own(own) => Ok(others.first(hear_one(tables, book, own, event)?)),
+        Concerned::OwnAndCancelled(own, cancelled) => {
+            let others = others.first(hear_one(tables, book, own, event)?);
+            Ok(others.first(hear_one(tables, book, cancelled, event)?))
+        }
     }
 }
 
@@ -123,7 +146,7 @@ pub(crate) fn pass_all<H: BuildHasher>(
 ) -> Result<Outcome, AllocError>
     requires may { MayPass book.now tables.old moment }
     requires hear { ForSome hearing (λ h. MayHear book.now tables.old moment h.now) }
-    requires recorded { AreOnRecord (hears (option_copied hearing)) tables.old }
+    requires recorded { AreOnRecord (hearers (option_copied hearing)) tables.old }
     ensures times { OnOk result (tables.new.times ≡ tables.old.times) }
     ensures keys { OnOk result (tables.new.keys ≡ tables.old.keys) }
     ensures may { OnOk result (MayPass book.now tables.new moment) }
@@ -137,7 +160,5 @@ pub(crate) fn pass_all<H: BuildHasher>(
     let Some(hearing) = hearing else {
         return Ok(overdue);
     };
-    let own = hear_one(tables, book, hearing.own, &hearing.event)?;
-    let cancelled = hear_one(tables, book, hearing.cancelled, &hearing.event)?;
-    Ok(overdue.first(own).first(cancelled))
+    hear_each(tables, book, hearing, overdue)
 }

@@ -1,13 +1,18 @@
 //! Reads a log entry by entry, for those who answer the fault that ends it.
-ghost use Rattle.std.specs.Prelude.{◌≡◌, true, Option, List, ℕ, IfOk, OnOk, IsErrOf};
+ghost use Rattle.std.specs.Prelude.{◌≡◌, true, Some, [], Option, List, ℕ, IfOk, IfErr, IfSome, OnOk, IsErrOf};
 ghost use Rattle.sip_machine.specs.Times.{Times};
 ghost use Rattle.sip_log.specs.Reading.{entries, reading};
 ghost use Rattle.sip_log.specs.Spelling.{Item};
+ghost use Rattle.sip_verdict.specs.VerdictOf.{IsVerdictOf};
+ghost use Rattle.sip_verdict.specs.Listing.{trouble_of};
 ghost use Rattle.sip_verdict.specs.inner.Walking.{HasRead, Gives, MovesOn};
 
 use crate::judge_error::JudgeError;
 use crate::log_reason::{LogReason, reason_of};
+use crate::verdict::Verdict;
 use sip_log::{Entry, Progress, Source};
+use sip_machine::Params;
+use std::alloc::Global;
 
 /// What a log has behind the entries that were read.
 #[derive(Drop)]
@@ -18,6 +23,28 @@ pub(crate) enum Next {
     End,
     /// Something that is no entry.
     Fault(LogReason),
+}
+
+/// Reads the header, and no entry yet. In its place the verdict if it has a fault.
+pub(crate) fn read_header<R: Source>(
+    alloc: Global,
+    reader: &mut R,
+) -> Result<Result<(Params, Progress), Verdict>, JudgeError>
+    ensures first { IfOk result (λ opened. IfOk opened (λ read. (read.1.count ≡ 0) × (read.1.last ≡ 0))) }
+    ensures reads { IfOk result (λ opened. IfOk opened (λ read. HasRead (R.left reader.old) read.0 []
+        (reading read.1 (R.left reader.new) (R.has_failed reader.new)))) }
+    ensures fault { IfOk result (λ opened. IfErr opened (λ verdict. IfSome (R.left reader.old) (λ input. IsVerdictOf input verdict)
+        × (trouble_of verdict ≡ Some 0))) }
+    ensures ok { OnOk result (R.has_failed reader.new ≡ R.has_failed reader.old) }
+    ensures io { IsErrOf result JudgeError.Io → R.has_failed reader.new ≡ true }
+{
+    match Progress::open(alloc, reader) {
+        Ok(opened) => Ok(Ok(opened)),
+        Err(error) => {
+            let reason = reason_of(error)?;
+            Ok(Err(Verdict::LogFault { entry: 0, reason }))
+        }
+    }
 }
 
 /// Reads on behind the header or an entry.

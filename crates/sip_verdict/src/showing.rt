@@ -20,8 +20,9 @@ use std::alloc::Global;
 /// Writes each entry of the reader's log with its number, and with its message in the canonical form, and then a last line:
 /// `end N`, or the verdict on the first entry that cannot be read or whose message has a fault. It judges no transaction.
 ///
-/// `ShowError::Read` is answered only if the reader has failed, and `ShowError::Write` only if the writer has. It
-/// writes as it reads, and holds no more than one entry at a time.
+/// `ShowError::Read` is answered only if the reader has failed, and `ShowError::Write` only if the writer has. After an
+/// error it is not said what was written, nor how far was read. It writes as it reads, and holds no more than one entry at a
+/// time: no contract says so.
 pub fn show<R: Source, W: Sink>(
     alloc: Global,
     reader: &mut R,

@@ -1,20 +1,24 @@
 //! What is kept of the entries of a log that were judged.
-ghost use Rattle.std.specs.Prelude.{◌≡◌, ◌≢◌, ◌≤◌, ◌<◌, ◌+◌, ◌++◌, ◌∷◌, [], ℕ, None, List, AllPairs, IfOk, IfNone, OnOk, codes, length, string_bytes};
+ghost use Rattle.std.specs.Prelude.{◌≡◌, ◌≢◌, ◌≤◌, ◌<◌, ◌+◌, ◌++◌, ◌∷◌, [], ℕ, None, List, All, AllPairs, IfOk, IfNone, OnOk, length, string_bytes};
 ghost use Rattle.std.specs.Option.{ForSome, option_copied};
 ghost use Rattle.sip_key.specs.Key.{KeyParts};
 ghost use Rattle.sip_machine.specs.Times.{last_moment};
-ghost use Rattle.sip_states.specs.Tables.{IsGiven, Tabled, most_keys};
+ghost use Rattle.sip_machine.specs.Texts.{Keeps};
+ghost use Rattle.sip_states.specs.Tables.{IsGiven, most_keys};
 ghost use Rattle.sip_log.specs.Log.{most_entries};
 ghost use Rattle.sip_log.specs.Spelling.{Item};
 ghost use Rattle.sip_log.specs.Told.{item};
-ghost use Rattle.sip_verdict.specs.Keyed.{Observation};
+ghost use Rattle.sip_verdict.specs.Keyed.{Observation, newest_moment};
+ghost use Rattle.sip_verdict.specs.Named.{AreMany, IsNamed, key_messages};
 ghost use Rattle.sip_verdict.specs.MessageReading.{key_machines, message_reading};
 ghost use Rattle.sip_verdict.specs.Listing.{first_entry};
 ghost use Rattle.sip_verdict.specs.ListingOf.{key_words};
+ghost use Rattle.sip_verdict.specs.inner.Concerned.{each};
 ghost use Rattle.sip_verdict.specs.inner.Numbering.{AreNumbered, StaysNumbered, IsListedEntry, Appends, IsTextOf};
 ghost use Rattle.sip_verdict.specs.inner.Tracking.{IsJudged};
-ghost use Rattle.sip_verdict.specs.inner.TablesTracking.{key_keeping, transactions_of, TablesTrack, TablesTrackBefore, AreTold, TouchesIf, AreConcerned, hears, MayPass, MayHear, AreOnRecord, AllAreOnRecord, MayTake};
+ghost use Rattle.sip_verdict.specs.inner.TablesTracking.{key_keeping, transactions_of, TablesTrack, TablesTrackBefore, AreTold, TouchesEach, HaveNumbers, hearers, MayPass, MayHear, AreOnRecord, AllAreOnRecord, MayTake};
 
+use crate::concerned::Concerned;
 use crate::listing::Listing;
 use crate::observing::{Told, observe};
 use crate::passing::{Hearing, Outcome, pass_all};
@@ -35,43 +39,29 @@ pub(crate) struct Standing<H: BuildHasher> {
     tables: Tables<H>,
 }
 
-/// What was judged of an entry: its verdict if it is in trouble, and the numbers of the transactions that it concerns, its
-/// own first.
+/// What was judged of an entry: its verdict if it is in trouble, and the numbers of the transactions that it concerns.
 #[derive(Drop)]
 struct Taken {
     verdict: Option<Verdict>,
-    own: Option<u32>,
-    cancelled: Option<u32>,
+    concerned: Concerned<u32>,
 }
 
-/// The number of the key's transaction, which starts if the key is new.
-fn touch<H: BuildHasher>(
+/// The number of each key's transaction, which starts if the key is new.
+fn touch_each<H: BuildHasher>(
     tables: &mut Tables<H>,
-    key: Option<Key>,
-) -> Result<Option<u32>, AllocError>
-    requires { length tables.old.keys < most_keys }
-    ensures { IfOk result (λ number. TouchesIf key number tables.old tables.new) }
-{
-    match key {
-        Some(key) => Ok(Some(tables.touch(key)?)),
-        None => Ok(None),
-    }
-}
-
-/// The numbers of the transactions of both keys, the own one first.
-fn touch_both<H: BuildHasher>(
-    tables: &mut Tables<H>,
-    own: Option<Key>,
-    cancelled: Option<Key>,
-) -> Result<(Option<u32>, Option<u32>), AllocError>
+    keys: Concerned<Key>,
+) -> Result<Concerned<u32>, AllocError>
     requires { length tables.old.keys + 2 ≤ most_keys }
-    ensures touched { IfOk result (λ numbers. (between : Tabled) × TouchesIf own numbers.0 tables.old between × TouchesIf cancelled numbers.1 between tables.new) }
-    ensures apart { OnOk result (AllPairs (λ a b. a ≢ b) tables.new.keys) }
+    ensures { IfOk result (λ numbers. TouchesEach (each keys) (each numbers) tables.old tables.new) }
 {
-    let own = touch(tables, own)?;
-    let cancelled = touch(tables, cancelled)?;
-    tables.known();
-    Ok((own, cancelled))
+    Ok(match keys {
+        Concerned::None => Concerned::None,
+        Concerned::Own(own) => Concerned::Own(tables.touch(own)?),
+        Concerned::OwnAndCancelled(own, cancelled) => {
+            let own = tables.touch(own)?;
+            Concerned::OwnAndCancelled(own, tables.touch(cancelled)?)
+        }
+    })
 }
 
 impl<H: BuildHasher> Standing<H> {
@@ -93,6 +83,36 @@ impl<H: BuildHasher> Standing<H> {
         self.tables.len()
     }
 
+    /// How many messages are kept.
+    pub(crate) fn kept(&self) -> usize
+        ensures kept { result ≡ length self.now.book }
+        ensures few { (number : ℕ) → ((n : ℕ) → Keeps self.now.book n → n < number) → result ≤ number }
+    {
+        self.book.known();
+        self.book.len()
+    }
+
+    /// Lets the transactions wait until the moment, and forgets the messages that none of their states names then.
+    pub(crate) fn sweep(&mut self, alloc: Global, moment: u64) -> Result<(), AllocError>
+        requires may { MayPass self.old.book self.old.tables moment }
+        requires recorded { AllAreOnRecord self.old.tables }
+        ensures times { OnOk result (self.new.tables.times ≡ self.old.tables.times) }
+        ensures keys { OnOk result (self.new.tables.keys ≡ self.old.tables.keys) }
+        ensures may { OnOk result (MayPass self.new.book self.new.tables moment) }
+        ensures recorded { OnOk result (AllAreOnRecord self.new.tables) }
+        ensures fewer { OnOk result ((n : ℕ) → Keeps self.new.book n → Keeps self.old.book n) }
+        ensures tracks { OnOk result ((es : List (Observation KeyParts)) → TablesTrack self.old.book es self.old.tables → TablesTrack self.new.book es self.new.tables) }
+        ensures named { OnOk result ((es : List (Observation KeyParts)) → TablesTrack self.old.book es self.old.tables → newest_moment es ≡ moment
+            → AreMany (IsNamed (key_machines self.old.tables.times) key_messages es) (length self.new.book)) }
+    {
+        self.book.known();
+        self.tables.advance_all(moment)?;
+        let mut named = Vec::new(alloc);
+        self.tables.named(&mut named)?;
+        self.book.retain_only(&named);
+        Ok(())
+    }
+
     /// Lets every transaction pass the entry, with the verdict if one is in trouble.
     fn pass(
         &mut self,
@@ -102,7 +122,7 @@ impl<H: BuildHasher> Standing<H> {
     ) -> Result<Option<Verdict>, AllocError>
         requires may { MayPass self.old.book self.old.tables moment }
         requires hear { ForSome hearing (λ h. MayHear self.old.book self.old.tables moment h.now) }
-        requires recorded { AreOnRecord (hears (option_copied hearing)) self.old.tables }
+        requires recorded { AreOnRecord (hearers (option_copied hearing)) self.old.tables }
         ensures times { OnOk result (self.new.tables.times ≡ self.old.tables.times) }
         ensures keys { OnOk result (self.new.tables.keys ≡ self.old.tables.keys) }
         ensures book { OnOk result (self.new.book ≡ self.old.book) }
@@ -160,7 +180,7 @@ impl<H: BuildHasher> Standing<H> {
         let taken = self.take(alloc, entry)?;
         match taken.verdict {
             Some(verdict) => Ok(Listing::Stopped(verdict)),
-            None => Ok(Listing::Text(self.text(alloc, taken.own, taken.cancelled)?)),
+            None => Ok(Listing::Text(self.text(alloc, taken.concerned)?)),
         }
     }
 
@@ -172,12 +192,12 @@ impl<H: BuildHasher> Standing<H> {
         ensures times { OnOk result (self.new.tables.times ≡ self.old.tables.times) }
         ensures may { IfOk result (λ taken. IfNone taken.verdict (MayTake self.new.book self.new.tables (entry.now.number + 1) entry.now.moment)) }
         ensures numbered { IfOk result (λ taken. IfNone taken.verdict (StaysNumbered (item entry.now) entry.now.number self.old.book self.new.book)) }
-        ensures given { IfOk result (λ taken. ForSome taken.own (IsGiven self.new.tables) × ForSome taken.cancelled (IsGiven self.new.tables)) }
+        ensures given { IfOk result (λ taken. All (IsGiven self.new.tables) (each taken.concerned)) }
         ensures judged { IfOk result (λ taken. (es : List (Observation KeyParts)) → TablesTrack self.old.book es self.old.tables
             → entry.now.number ≡ length es + 1
             → (e : Observation KeyParts) × message_reading.Observes es (item entry.now) e
             × IsJudged (key_machines self.old.tables.times) (key_keeping self.new.book self.old.tables.times) es e (transactions_of self.new.tables) taken.verdict
-            × AreConcerned taken.own taken.cancelled self.new.tables.keys e.keys) }
+            × HaveNumbers self.new.tables.keys (each taken.concerned) e.keys) }
     {
         let told = observe(alloc, &mut self.book, entry)?;
         self.book.known();
@@ -186,8 +206,7 @@ impl<H: BuildHasher> Standing<H> {
                 let verdict = self.pass(entry.number, entry.moment, None)?;
                 Ok(Taken {
                     verdict,
-                    own: None,
-                    cancelled: None,
+                    concerned: Concerned::None,
                 })
             }
             Told::Fault(fault) => Ok(Taken {
@@ -195,75 +214,43 @@ impl<H: BuildHasher> Standing<H> {
                     entry: entry.number,
                     fault,
                 }),
-                own: None,
-                cancelled: None,
+                concerned: Concerned::None,
             }),
-            Told::Heard {
-                event,
-                own,
-                cancelled,
-            } => {
-                let (own, cancelled) = touch_both(&mut self.tables, own, cancelled)?;
-                let hearing = Hearing {
-                    event,
-                    own,
-                    cancelled,
-                };
+            Told::Heard { event, concerned } => {
+                let concerned = touch_each(&mut self.tables, concerned)?;
+                self.tables.known();
+                let hearing = Hearing { event, concerned };
                 let verdict = self.pass(entry.number, entry.moment, Some(&hearing))?;
-                Ok(Taken {
-                    verdict,
-                    own,
-                    cancelled,
-                })
+                Ok(Taken { verdict, concerned })
             }
         }
     }
 
     /// The transactions with these numbers, or that there is none.
-    fn text(
-        &self,
-        alloc: Global,
-        own: Option<u32>,
-        cancelled: Option<u32>,
-    ) -> Result<String, AllocError>
-        requires own { ForSome own (IsGiven self.now.tables) }
-        requires cancelled { ForSome cancelled (IsGiven self.now.tables) }
-        ensures text { IfOk result (λ text. IsTextOf self.now.tables own cancelled (string_bytes text)) }
+    fn text(&self, alloc: Global, numbers: Concerned<u32>) -> Result<String, AllocError>
+        requires { All (IsGiven self.now.tables) (each numbers) }
+        ensures text { IfOk result (λ text. IsTextOf self.now.tables (each numbers) (string_bytes text)) }
         ensures apart { OnOk result (AllPairs (λ a b. a ≢ b) self.now.tables.keys) }
     {
         self.tables.known();
-        if own.is_none() && cancelled.is_none() {
-            return no_transaction(alloc);
-        }
         let mut text = String::new(alloc);
-        self.push_one(alloc, &mut text, own)?;
-        self.push_one(alloc, &mut text, cancelled)?;
+        match numbers {
+            Concerned::None => text.push_str("no transaction\n")?,
+            Concerned::Own(own) => self.push_one(alloc, &mut text, own)?,
+            Concerned::OwnAndCancelled(own, cancelled) => {
+                self.push_one(alloc, &mut text, own)?;
+                self.push_one(alloc, &mut text, cancelled)?;
+            }
+        }
         Ok(text)
     }
 
-    /// Appends the transaction with this number, if there is one.
-    fn push_one(
-        &self,
-        alloc: Global,
-        text: &mut String,
-        number: Option<u32>,
-    ) -> Result<(), AllocError>
-        requires { ForSome number (IsGiven self.now.tables) }
+    /// Appends the transaction with this number.
+    fn push_one(&self, alloc: Global, text: &mut String, number: u32) -> Result<(), AllocError>
+        requires { IsGiven self.now.tables number }
         ensures { OnOk result (Appends self.now.tables number (string_bytes text.old) (string_bytes text.new)) }
     {
-        match number {
-            Some(number) => {
-                let key = self.tables.key(number);
-                push_transaction(alloc, text, number, key, self.tables.set(number))
-            }
-            None => Ok(()),
-        }
+        let key = self.tables.key(number);
+        push_transaction(alloc, text, number, key, self.tables.set(number))
     }
-}
-
-/// The text of an entry that concerns no transaction.
-fn no_transaction(alloc: Global) -> Result<String, AllocError>
-    ensures { IfOk result (λ text. string_bytes text ≡ codes "no transaction\n") }
-{
-    String::from_str(alloc, "no transaction\n")
 }

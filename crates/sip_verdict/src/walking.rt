@@ -1,4 +1,4 @@
-//! One walk over a log, whose entries are judged as they are read.
+//! A walk over a log to the entry whose transactions are listed. Every message is kept, since its number is that of its first entry.
 ghost use Rattle.std.specs.Prelude.{◌≡◌, ◌+◌, ◌≤◌, true, Some, Option, List, ℕ, IfOk, IfErr, IfSome, IfNone, OnOk, IsErrOf};
 ghost use Rattle.sip_log.specs.Log.{most_entries};
 ghost use Rattle.sip_log.specs.Reading.{reading};
@@ -10,8 +10,8 @@ ghost use Rattle.sip_verdict.specs.inner.Walking.{Walks, WalksOn, MayStep};
 
 use crate::judge_error::JudgeError;
 use crate::listing::Listing;
-use crate::log_reason::{LogReason, reason_of};
-use crate::reading::{Next, read_next};
+use crate::log_reason::LogReason;
+use crate::reading::{Next, read_header, read_next};
 use crate::standing::Standing;
 use crate::verdict::Verdict;
 use sip_log::{Progress, Source};
@@ -43,12 +43,9 @@ impl<H: BuildHasher + Drop> Walk<H> {
         ensures ok { OnOk result (R.has_failed reader.new ≡ R.has_failed reader.old) }
         ensures io { IsErrOf result JudgeError.Io → R.has_failed reader.new ≡ true }
     {
-        let (params, progress) = match Progress::open(alloc, reader) {
+        let (params, progress) = match read_header(alloc, reader)? {
             Ok(opened) => opened,
-            Err(error) => {
-                let reason = reason_of(error)?;
-                return Ok(Err(Verdict::LogFault { entry: 0, reason }));
-            }
+            Err(verdict) => return Ok(Err(verdict)),
         };
         Ok(Ok(Walk {
             alloc,
@@ -56,22 +53,6 @@ impl<H: BuildHasher + Drop> Walk<H> {
             standing: Standing::new(alloc, params, hasher),
             count: 0,
         }))
-    }
-
-    /// The verdict on the log: that on the first entry in trouble, or that there is none.
-    pub(crate) fn verdict<R: Source>(&mut self, reader: &mut R) -> Result<Verdict, JudgeError>
-        requires { MayStep self.old.count self.old.progress self.old.standing.book self.old.standing.tables }
-        ensures verdict { IfOk result (λ verdict. (start : Option (List ℕ))
-            → Walks start (reading self.old.progress (R.left reader.old) (R.has_failed reader.old)) self.old.standing.book self.old.standing.tables
-            → IfSome start (λ input. IsVerdictOf input verdict)) }
-        ensures ok { OnOk result (R.has_failed reader.new ≡ R.has_failed reader.old) }
-        ensures io { IsErrOf result JudgeError.Io → R.has_failed reader.new ≡ true }
-    {
-        loop {
-            if let Some(verdict) = self.step(reader)? {
-                return Ok(verdict);
-            }
-        }
     }
 
     /// What is listed of the entry with this number, before any entry was read.

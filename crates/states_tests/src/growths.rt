@@ -2,6 +2,7 @@
 //! has seen that the call left all as it was, and that the same call succeeds with memory.
 ghost use Rattle.std.specs.Prelude.{◌≡◌, ◌≤◌, All, OnOk};
 ghost use Rattle.sip_machine.specs.Rules.{Knows};
+ghost use Rattle.sip_machine.specs.Owing.{owing_names};
 ghost use Rattle.sip_machine.specs.InviteServer.{invite_server_names};
 
 use crate::agenda::{put, settle};
@@ -24,12 +25,12 @@ fn take_again(
 ) -> Result<(), Fail>
     requires order { set.old.moment ≤ entry.0 }
     requires order_of_twin { twin.old.moment ≤ entry.0 }
-    requires known { All (Knows invite_server_names book.now) set.old.states }
-    requires known_of_twin { All (Knows invite_server_names book.now) twin.old.states }
+    requires known { All (Knows (owing_names invite_server_names) book.now) set.old.states }
+    requires known_of_twin { All (Knows (owing_names invite_server_names) book.now) twin.old.states }
     ensures order { OnOk result (set.new.moment ≤ entry.0) }
     ensures order_of_twin { OnOk result (twin.new.moment ≤ entry.0) }
-    ensures known { OnOk result (All (Knows invite_server_names book.now) set.new.states) }
-    ensures known_of_twin { OnOk result (All (Knows invite_server_names book.now) twin.new.states) }
+    ensures known { OnOk result (All (Knows (owing_names invite_server_names) book.now) set.new.states) }
+    ensures known_of_twin { OnOk result (All (Knows (owing_names invite_server_names) book.now) twin.new.states) }
 {
     let alloc = rt.alloc();
     if let Err(error) = take(alloc, set, book, entry)? {
@@ -64,8 +65,8 @@ fn take_all_again(
 ) -> Result<(), Fail>
     requires start { set.old.moment ≡ 0 }
     requires start_of_twin { twin.old.moment ≡ 0 }
-    requires known { All (Knows invite_server_names book.now) set.old.states }
-    requires known_of_twin { All (Knows invite_server_names book.now) twin.old.states }
+    requires known { All (Knows (owing_names invite_server_names) book.now) set.old.states }
+    requires known_of_twin { All (Knows (owing_names invite_server_names) book.now) twin.old.states }
 {
     for moment in 0..10 {
         take_again(rt, set, twin, book, entry_at(moment))?;

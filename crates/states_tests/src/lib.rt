@@ -14,8 +14,10 @@ mod rows;
 #[cfg(test)]
 mod sets;
 #[cfg(test)]
+mod sweep;
+#[cfg(test)]
 mod tables;
 #[cfg(test)]
-mod toy;
+mod told;
 #[cfg(test)]
 mod width;

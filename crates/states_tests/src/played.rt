@@ -2,6 +2,7 @@
 ghost use Rattle.std.specs.Prelude.{◌≡◌, ◌≤◌, ℕ, All, IfOk, OnOk};
 ghost use Rattle.sip_machine.specs.Rules.{Knows};
 ghost use Rattle.sip_machine.specs.Texts.{Keeps};
+ghost use Rattle.sip_machine.specs.Owing.{owing_names};
 ghost use Rattle.sip_machine.specs.InviteServer.{invite_server_names};
 
 use sip_machine::{Action, Book, Event, InviteServer};
@@ -90,9 +91,9 @@ pub(crate) fn take(
     entry: Entry,
 ) -> Result<Result<(), TakeError>, Fail>
     requires order { set.old.moment ≤ entry.0 }
-    requires known { All (Knows invite_server_names book.now) set.old.states }
+    requires known { All (Knows (owing_names invite_server_names) book.now) set.old.states }
     ensures order { OnOk result (set.new.moment ≤ entry.0) }
-    ensures known { OnOk result (All (Knows invite_server_names book.now) set.new.states) }
+    ensures known { OnOk result (All (Knows (owing_names invite_server_names) book.now) set.new.states) }
 {
     let (moment, action, number) = entry;
     if moment > 9_999_999_999_999 || action == Action::Mark {
@@ -114,9 +115,9 @@ pub(crate) fn play(
     entries: &[Entry],
 ) -> Result<u64, Fail>
     requires start { set.old.moment ≡ 0 }
-    requires known { All (Knows invite_server_names book.now) set.old.states }
+    requires known { All (Knows (owing_names invite_server_names) book.now) set.old.states }
     ensures order { IfOk result (λ last. set.new.moment ≤ last) }
-    ensures known { OnOk result (All (Knows invite_server_names book.now) set.new.states) }
+    ensures known { OnOk result (All (Knows (owing_names invite_server_names) book.now) set.new.states) }
 {
     let mut last = 0;
     for entry in entries {

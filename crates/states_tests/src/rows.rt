@@ -3,7 +3,7 @@
 ghost use Rattle.std.specs.Prelude.{◌≤◌};
 
 use crate::played::{Entry, book, busy, invite, ok, play};
-use sip_machine::{InviteServer, InviteServerState, InviteWaiting, Params, PlainState};
+use sip_machine::{InviteServer, InviteServerPhase, Owing, Params, PlainClientState, Waiting};
 use sip_states::StateSet;
 use std::mem::size_of;
 use std::test::Fail;
@@ -30,14 +30,32 @@ fn are_left(
     Ok(true)
 }
 
+/// When a transaction began, later than 32 bits can count.
+const LATE: u64 = 9_000_000_000_000;
+
 /// Entries, the last moment to which one can then wait, and how many states there are after waits.
 #[test]
 fn waits_as_timers_fire(rt: HostRuntime) -> Result<(), Fail> {
-    let rows: [(&[Entry], Option<u64>, &[(u64, usize)]); 2] = [
+    let rows: [(&[Entry], Option<u64>, &[(u64, usize)]); 3] = [
         (
             &[invite(0), busy(0), invite(480), busy(490)],
             Some(1_540),
             &[(490, 2), (550, 2), (551, 1), (1_541, 0)],
+        ),
+        (
+            &[
+                invite(LATE),
+                busy(LATE),
+                invite(LATE + 480),
+                busy(LATE + 490),
+            ],
+            Some(LATE + 1_540),
+            &[
+                (LATE + 490, 2),
+                (LATE + 550, 2),
+                (LATE + 551, 1),
+                (LATE + 1_541, 0),
+            ],
         ),
         (
             &[invite(0), ok(0)],
@@ -57,7 +75,13 @@ fn waits_as_timers_fire(rt: HostRuntime) -> Result<(), Fail> {
         assert_eq!(rt; set.last_moment(), limit);
         assert!(rt; are_left(&mut set, last, waits)?, "{waits:?}");
         assert!(rt;
-            matches!(set.states(), [] | [InviteServerState::Idle]),
+            matches!(
+                set.states(),
+                [] | [Owing {
+                    phase: InviteServerPhase::Idle,
+                    ..
+                }]
+            ),
             "{waits:?}"
         );
     }
@@ -67,6 +91,6 @@ fn waits_as_timers_fire(rt: HostRuntime) -> Result<(), Fail> {
 /// A state that owes nothing takes less than 48 bytes.
 #[test]
 fn states_are_small(rt: HostRuntime) {
-    assert!(rt; size_of::<PlainState>() < 48);
-    assert!(rt; size_of::<InviteWaiting>() < 48);
+    assert!(rt; size_of::<PlainClientState>() < 48);
+    assert!(rt; size_of::<Waiting>() < 48);
 }

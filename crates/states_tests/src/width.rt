@@ -1,6 +1,7 @@
 //! How many states of an INVITE server are followed.
-ghost use Rattle.std.specs.Prelude.{◌≡◌, ◌≤◌, All, OnOk};
+ghost use Rattle.std.specs.Prelude.{◌≡◌, ◌≤◌, ◌+◌, ◌*◌, All, OnOk};
 ghost use Rattle.sip_machine.specs.Rules.{Knows};
+ghost use Rattle.sip_machine.specs.Owing.{owing_names};
 ghost use Rattle.sip_machine.specs.InviteServer.{invite_server_names};
 
 use crate::played::{Entry, book, invite, progress, ringing, take};
@@ -9,15 +10,19 @@ use sip_states::{StateSet, TakeError};
 use std::alloc::Global;
 use std::test::Fail;
 
-/// The entry with this number, which is one more than its moment: an INVITE, a 180, 40 repeats, a
-/// 183, 40 repeats, 40 times the 180, and then the 183.
-fn entry_at(moment: u64) -> Entry
+/// The entry with this number, which is one more than its moment: an INVITE, a 180, so many repeats, a
+/// 183, 40 repeats, as many times the 180 as it is owed, and then the 183.
+fn entry_at(repeats: u64, moment: u64) -> Entry
+    requires { repeats ≤ 40 }
     ensures { result.0 ≡ moment }
 {
-    match moment {
-        1 | 83..=122 => ringing(moment),
-        42 | 123.. => progress(moment),
-        _ => invite(moment),
+    let sends = 43 + repeats;
+    if moment == 1 || (sends <= moment && moment < sends + repeats) {
+        ringing(moment)
+    } else if moment == 2 + repeats || sends <= moment {
+        progress(moment)
+    } else {
+        invite(moment)
     }
 }
 
@@ -26,50 +31,69 @@ fn take_before_sends(
     alloc: Global,
     set: &mut StateSet<InviteServer>,
     book: &Book,
+    repeats: u64,
 ) -> Result<(), Fail>
+    requires few { repeats ≤ 40 }
     requires start { set.old.moment ≡ 0 }
-    requires known { All (Knows invite_server_names book.now) set.old.states }
-    ensures order { OnOk result (set.new.moment ≤ 123) }
-    ensures known { OnOk result (All (Knows invite_server_names book.now) set.new.states) }
+    requires known { All (Knows (owing_names invite_server_names) book.now) set.old.states }
+    ensures order { OnOk result (set.new.moment ≤ 43 + 2 * repeats) }
+    ensures known { OnOk result (All (Knows (owing_names invite_server_names) book.now) set.new.states) }
 {
-    for moment in 0..123 {
-        take(alloc, set, book, entry_at(moment))??;
+    for moment in 0..43 + 2 * repeats {
+        take(alloc, set, book, entry_at(repeats, moment))??;
     }
     Ok(())
 }
 
-/// Lets the set take the next 23 entries, and tells whether each gives 41 states more.
-fn widens(alloc: Global, set: &mut StateSet<InviteServer>, book: &Book) -> Result<bool, Fail>
-    requires order { set.old.moment ≤ 123 }
-    requires known { All (Knows invite_server_names book.now) set.old.states }
-    ensures order { OnOk result (set.new.moment ≤ 146) }
-    ensures known { OnOk result (All (Knows invite_server_names book.now) set.new.states) }
+/// Lets the set take so many sends of the 183, and tells whether each gives as many states more as there were before the first.
+fn widens(
+    alloc: Global,
+    set: &mut StateSet<InviteServer>,
+    book: &Book,
+    repeats: u64,
+    count: u64,
+) -> Result<bool, Fail>
+    requires few { repeats ≤ 40 }
+    requires short { count ≤ 40 }
+    requires order { set.old.moment ≤ 43 + 2 * repeats }
+    requires known { All (Knows (owing_names invite_server_names) book.now) set.old.states }
+    ensures order { OnOk result (set.new.moment ≤ 43 + 2 * repeats + count) }
+    ensures known { OnOk result (All (Knows (owing_names invite_server_names) book.now) set.new.states) }
 {
-    for sends in 0..23 {
-        take(alloc, set, book, entry_at(123 + sends))??;
-        if set.states().len() as u64 != 41 * (sends + 2) {
+    let first = 43 + 2 * repeats;
+    for sends in 0..count {
+        take(alloc, set, book, entry_at(repeats, first + sends))??;
+        if set.states().len() as u64 != (repeats + 1) * (sends + 2) {
             return Ok(false);
         }
     }
     Ok(true)
 }
 
-/// With a tolerance of ten seconds each repeat stays owed. A 180 may pay for one of the first 40 repeats
-/// or not, and so may a 183 for one of the others. So there are 41 states for each number of paid 183s.
+/// With a tolerance of ten seconds each repeat stays owed. A 180 may pay for one of the first repeats or
+/// not, and so may a 183 for one of the other 40. So there is one state more than repeats for each number
+/// of paid 183s: with 40 repeats 984 states behind 23 sends of the 183, and not 1,025 behind 24; with 31
+/// repeats 1,024 behind 31, and not 1,056 behind 32.
 #[test]
-fn follows_984_states_and_not_1_025(rt: HostRuntime) -> Result<(), Fail> {
+fn follows_1_024_states_and_no_more(rt: HostRuntime) -> Result<(), Fail> {
     let alloc = rt.alloc();
     let book = book(alloc)?;
-    let params = Params::new(500, 4_000, 5_000, 10_000).ok_or("refused")?;
-    let mut set = StateSet::start(alloc, InviteServer::new(params))?;
-    take_before_sends(alloc, &mut set, &book)?;
-    assert_eq!(rt; set.states().len(), 41);
-    assert!(rt; widens(alloc, &mut set, &book)?);
-    assert_eq!(rt; set.states().len(), 984);
-    assert_eq!(rt;
-        take(alloc, &mut set, &book, entry_at(146))?,
-        Err(TakeError::TooMany)
-    );
-    assert_eq!(rt; set.states().len(), 984);
+    for (repeats, sends, most) in [(40, 23, 984), (31, 31, 1_024)] {
+        let params = Params::new(500, 4_000, 5_000, 10_000).ok_or("refused")?;
+        let mut set = StateSet::start(alloc, InviteServer::new(params))?;
+        if repeats > 40 || sends > 40 {
+            return Err("not a row".into());
+        }
+        take_before_sends(alloc, &mut set, &book, repeats)?;
+        assert_eq!(rt; set.states().len() as u64, repeats + 1);
+        assert!(rt; widens(alloc, &mut set, &book, repeats, sends)?);
+        assert_eq!(rt; set.states().len(), most);
+        let next = entry_at(repeats, 43 + 2 * repeats + sends);
+        assert_eq!(rt;
+            take(alloc, &mut set, &book, next)?,
+            Err(TakeError::TooMany)
+        );
+        assert_eq!(rt; set.states().len(), most);
+    }
     Ok(())
 }

@@ -1,5 +1,5 @@
-use Rattle.std.specs.Prelude.{◌≡◌, ◌≤◌, ◌↔◌, ℕ, Bool, true, false, Some, option_to_list, List, [], ◌∷◌, ◌++◌, All, filter, map, min}
-use Rattle.std.specs.List.{fold}
+use Rattle.std.specs.Prelude.{◌≡◌, ◌≤◌, ◌↔◌, ℕ, Bool, true, false, Some, None, option_to_list, List, [], ◌∷◌, ◌++◌, All, filter, map, min}
+use Rattle.std.specs.List.{fold, list_any}
 use Rattle.std.proofs.Common.{refl, sym, ◌∙◌, ap, ap₂, subst, arith, cond}
 use Rattle.std.proofs.lemmas.List.{map-append}
 use Rattle.std.proofs.lemmas.List.Elements.{All-head, All-tail, All-nil, All-cons, All-map, All-append, All-weaker}
@@ -122,3 +122,35 @@ fold-min a b (m ∷ ms) =
 pub earliest-option : (m : ℕ) (ms : List ℕ) → earliest (m ∷ option_to_list (earliest ms)) ≡ earliest (m ∷ ms)
 earliest-option m [] = refl
 earliest-option m (n ∷ ms) = ap Some (sym (fold-min m n ms))
+
+-- the least of a moment and two lists
+fold-append : (a : ℕ) (xs ys : List ℕ) → fold min a (xs ++ ys) ≡ fold min (fold min a xs) ys
+fold-append a [] ys = refl
+fold-append a (x ∷ xs) ys = fold-append (min a x) xs ys
+
+-- the earliest of two lists is the earlier of theirs
+pub earliest-some : (m : ℕ) (xs ys : List ℕ) → Some m ≡ earliest xs → earliest (m ∷ option_to_list (earliest ys)) ≡ earliest (xs ++ ys)
+earliest-some m [] ys e = cc
+earliest-some m (x ∷ xs) ys e =
+    let same : m ≡ fold min x xs = cc in
+    earliest-option m ys ∙ ap (λ n. Some (fold min n ys)) same ∙ ap Some (sym (fold-append x xs ys))
+
+pub earliest-none : (xs ys : List ℕ) → None ≡ earliest xs → earliest ys ≡ earliest (xs ++ ys)
+earliest-none [] ys e = refl
+earliest-none (x ∷ xs) ys e = cc
+
+-- a list without its first element of a kind is one without that of a kind alike
+pub IsWithoutFirst-alike : {X : Type 0} (Q P : X → Type 0) (xs ys : List X) → All (λ x. Q x ↔ P x) xs → IsWithoutFirst Q xs ys → IsWithoutFirst P xs ys
+IsWithoutFirst-alike Q P xs ys same a =
+    let halves : All (λ x. Q x ↔ P x) (a.before ++ a.first ∷ a.after) = subst (All (λ x. Q x ↔ P x)) a.whole same in
+    let here = All-head (λ x. Q x ↔ P x) a.first a.after (All-back (λ x. Q x ↔ P x) a.before (a.first ∷ a.after) halves) in
+    let front = All-front (λ x. Q x ↔ P x) a.before (a.first ∷ a.after) halves in
+    record {
+      before = a.before;
+      first = a.first;
+      after = a.after;
+      whole = a.whole;
+      holds = here.0 a.holds;
+      none_before = both (λ x. ¬ (Q x)) (λ x. Q x ↔ P x) (λ x. ¬ (P x)) (λ x none iff p. none (iff.1 p)) a.before a.none_before front;
+      rest = a.rest;
+    }

@@ -9,7 +9,7 @@ use Rattle.sip_machine.specs.contracts.outbox.DebtPartialEq.TheImpl as debt_eq
 use Rattle.sip_machine.specs.Times.{Times}
 use Rattle.sip_machine.specs.Limits.{IsWithin}
 use Rattle.sip_machine.specs.Texts.{Texts, IsBook, Keeps, text_of}
-use Rattle.sip_machine.specs.Debts.{Owed, must_owe, may_owe, unexpired, softened, IsWithoutFirst, Pays, must_deadlines, earliest}
+use Rattle.sip_machine.specs.Debts.{Owed, unexpired, softened, IsWithoutFirst, Pays, must_deadlines, earliest}
 use Rattle.sip_machine.specs.Owes.{owed_seen, owes_seen, owes_names}
 use Rattle.sip_machine.specs.inner.Outbox.{counts_at, softened_debt, is_payable, debt_deadlines}
 use Rattle.sip_machine.specs.inner.DebtLaws.{filter-map, IsWithoutFirst-map, IsWithoutFirst-same, IsWithoutFirst-none, All-front, All-back, All-without, IsWithin-earliest}
@@ -17,7 +17,7 @@ use Rattle.sip_machine.specs.inner.DebtLaws.{filter-map, IsWithoutFirst-map, IsW
 -- Laws of what a machine owes: of the debts of the code, of what they stand for, and of moments up to their deadlines.
 
 -- where both hold, each does
-both_true : (a b : Bool) → (a && b) ≡ true → (a ≡ true) × (b ≡ true)
+pub both_true : (a b : Bool) → (a && b) ≡ true → (a ≡ true) × (b ≡ true)
 both_true true b e = (refl, e)
 both_true false b e = absurd (true≢false (sym e))
 
@@ -127,15 +127,6 @@ pub AreDue-unexpired : (t : ℕ) (owes : List Owed) → AreDue t owes → AreDue
 AreDue-unexpired t owes due =
     All-filter (λ owed. owed.must || nat_le t owed.deadline) (λ owed. owed.must ≡ true → t ≤ owed.deadline) owes due
 
--- with what is owed from now on,
-pub AreDue-must : (p : Times) (t : ℕ) (message : List ℕ) (owes : List Owed) → AreDue t owes → AreDue t (owes ++ must_owe p t message ∷ [])
-AreDue-must p t message owes due =
-    All-push (λ owed. owed.must ≡ true → t ≤ owed.deadline) owes (must_owe p t message) due (λ _. omega arith)
-
-pub AreDue-may : (p : Times) (t : ℕ) (message : List ℕ) (owes : List Owed) → AreDue t owes → AreDue t (owes ++ may_owe p t message ∷ [])
-AreDue-may p t message owes due =
-    All-push (λ owed. owed.must ≡ true → t ≤ owed.deadline) owes (may_owe p t message) due (λ _. omega arith)
-
 -- without what is paid,
 pub AreDue-paid : (Satisfies : List ℕ → Type 0) (t : ℕ) (owes left : List Owed) → Pays Satisfies t owes left → AreDue t owes → AreDue t left
 AreDue-paid Satisfies t owes left pays due =
@@ -177,27 +168,8 @@ All-names P [] all = All-nil (λ d. P d.message)
 All-names P (d ∷ ds) all =
     All-cons (λ d. P d.message) d ds (All-head P d.message (owes_names ds) all) (All-names P ds (All-tail P d.message (owes_names ds) all))
 
-payables-seen : (texts : Texts) (n t : ℕ) (ds : List Debt) → IsBook texts → Keeps texts n → All (Keeps texts) (owes_names ds) →
+pub payables-seen : (texts : Texts) (n t : ℕ) (ds : List Debt) → IsBook texts → Keeps texts n → All (Keeps texts) (owes_names ds) →
     All (λ d. IsTrue (is_payable n t d) ↔ ((text_of texts d.message ≡ text_of texts n) × (t ≤ d.deadline))) ds
 payables-seen texts n t ds book kept known =
     All-weaker (λ d. Keeps texts d.message) (λ d. IsTrue (is_payable n t d) ↔ ((text_of texts d.message ≡ text_of texts n) × (t ≤ d.deadline)))
     (payable-seen texts n t book kept) ds (All-names (Keeps texts) ds known)
-
--- what a send pays, by its number
-pub Pays-seen : (texts : Texts) (n t : ℕ) (ds left : List Debt) → IsBook texts → Keeps texts n → All (Keeps texts) (owes_names ds) →
-    IsWithoutFirst (λ d. IsTrue (is_payable n t d)) ds left → (ys : List Owed) →
-    Pays (λ message. message ≡ text_of texts n) t (owes_seen texts ds) ys ↔ (ys ≡ owes_seen texts left)
-Pays-seen texts n t ds left book kept known paid ys =
-    let P = λ (owed : Owed). (owed.message ≡ text_of texts n) × (t ≤ owed.deadline) in
-    let seen = IsWithoutFirst-map (owed_seen texts) (λ d. IsTrue (is_payable n t d)) P ds left (payables-seen texts n t ds book kept known) paid in (
-      λ pays. IsWithoutFirst-same P (owes_seen texts ds) ys (owes_seen texts left) pays seen,
-      λ e. subst (IsWithoutFirst P (owes_seen texts ds)) (sym e) seen,
-    )
-
--- a send that pays no debt, by its number
-pub Pays-none : (texts : Texts) (n t : ℕ) (ds : List Debt) → IsBook texts → Keeps texts n → All (Keeps texts) (owes_names ds) →
-    All (λ d. ¬ (IsTrue (is_payable n t d))) ds → (ys : List Owed) → Pays (λ message. message ≡ text_of texts n) t (owes_seen texts ds) ys → ⊥
-Pays-none texts n t ds book kept known none ys =
-    IsWithoutFirst-none (λ owed. (owed.message ≡ text_of texts n) × (t ≤ owed.deadline)) (owes_seen texts ds) ys
-    (All-map (λ owed. ¬ ((owed.message ≡ text_of texts n) × (t ≤ owed.deadline))) (owed_seen texts) ds
-    (λ k d low pays. none k d low ((payables-seen texts n t ds book kept known k d low).1 pays)))

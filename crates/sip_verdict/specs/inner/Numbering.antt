@@ -1,5 +1,5 @@
 -- The book of a log's messages, and what is listed of one entry.
-use Rattle.std.specs.Prelude.{◌≡◌, ◌<◌, ◌+◌, ◌-◌, ◌⊎◌, ◌++◌, ◌∷◌, [], ℕ, true, Option, Some, None, List, All, IsAscii, codes, length, slice_get, string_bytes}
+use Rattle.std.specs.Prelude.{◌≡◌, ◌<◌, ◌+◌, ◌-◌, ◌++◌, ◌∷◌, [], ℕ, true, Some, List, All, IsAscii, codes, length, slice_get, string_bytes}
 use Rattle.sip_key.specs.Key.{KeyParts}
 use Rattle.sip_machine.specs.Texts.{Texts, Keeps, text_of}
 use Rattle.sip_states.specs.Tables.{Tabled}
@@ -22,18 +22,21 @@ pub record AreNumbered (items : List Item) (texts : Texts) : Type 0 where
 abbrev pub StaysNumbered : Item → ℕ → Texts → Texts → Type 0
 StaysNumbered item number old new = (items : List Item) → AreNumbered items old → number ≡ length items + 1 → AreNumbered (items ++ item ∷ []) new
 
--- the transaction with this number, if there is one, was appended to a text
-abbrev pub Appends : Tabled → Option ℕ → List ℕ → List ℕ → Type 0
-Appends t None old new = new ≡ old
-Appends t (Some n) old new =
+-- the transaction with this number was appended to a text
+abbrev pub Appends : Tabled → ℕ → List ℕ → List ℕ → Type 0
+Appends t n old new =
     (key : KeyParts) × (set : AnySet) × (lines : List (List ℕ)) × (slice_get t.keys (n - 1) ≡ Some key) × (slice_get t.sets (n - 1) ≡ Some set) × Lists set lines
     × (IsAscii key.method → new ≡ old ++ transaction_text n key lines)
 
+-- those with these numbers were, one behind another
+abbrev pub AppendsEach : Tabled → List ℕ → List ℕ → List ℕ → Type 0
+AppendsEach t [] old new = new ≡ old
+AppendsEach t (n ∷ ns) old new = (between : List ℕ) × Appends t n old between × AppendsEach t ns between new
+
 -- the text of the transactions with these numbers, or that there is none
-abbrev pub IsTextOf : Tabled → Option ℕ → Option ℕ → List ℕ → Type 0
-IsTextOf t own cancelled text =
-    ((own ≡ None) × (cancelled ≡ None) × (text ≡ codes "no transaction\n"))
-    ⊎ (((own ≡ None) → (cancelled ≡ None) → ⊥) × ((between : List ℕ) × Appends t own [] between × Appends t cancelled between text))
+abbrev pub IsTextOf : Tabled → List ℕ → List ℕ → Type 0
+IsTextOf t [] text = text ≡ codes "no transaction\n"
+IsTextOf t (n ∷ ns) text = AppendsEach t (n ∷ ns) [] text
 
 -- what is listed of the entry behind these: its text if it is in no trouble, else its verdict
 abbrev pub IsListedEntry : {K : Type 0} (m : Machines K) → Words K m → (List ℕ → ℕ) → List (Observation K) → Observation K → Listing → Type 0

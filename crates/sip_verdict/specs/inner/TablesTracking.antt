@@ -1,24 +1,18 @@
-use Rattle.std.specs.Prelude.{◌≡◌, ◌≢◌, ◌≤◌, ◌<◌, ◌+◌, ◌-◌, ◌||◌, ◌++◌, ℕ, nat_eq, Bool, true, false, Option, Some, None, List, All, IfSome, length, slice_get, option_to_list}
-use Rattle.std.specs.List.{zip}
-use Rattle.std.specs.Option.{ForSome, option_eq}
+use Rattle.std.specs.Prelude.{◌≡◌, ◌≢◌, ◌≤◌, ◌<◌, ◌+◌, ◌-◌, [], ◌∷◌, ℕ, nat_eq, Bool, true, Option, Some, None, List, All, AllPairs, IfSome, length, slice_get}
+use Rattle.std.specs.List.{zip, list_any}
 use Rattle.sip_key.specs.Key.{KeyParts}
 use Rattle.sip_machine.specs.Times.{Times}
 use Rattle.sip_machine.specs.Texts.{Texts, Keeps}
 use Rattle.sip_machine.specs.NumberedEvent.{NumberedEvent}
 use Rattle.sip_machine.specs.Heard.{Heard, heard, FitsBook}
-use Rattle.sip_machine.specs.declared.invite_client.InviteClientState.{InviteClientState}
-use Rattle.sip_machine.specs.declared.plain_client.PlainState.{PlainState}
-use Rattle.sip_machine.specs.declared.invite_server.InviteServerState.{InviteServerState}
-use Rattle.sip_machine.specs.declared.plain_server.PlainServerState.{PlainServerState}
 use Rattle.sip_machine.specs.Rules.{StandFor}
 use Rattle.sip_states.specs.Runs.{After}
 use Rattle.sip_states.specs.Held.{Held}
-use Rattle.sip_states.specs.KeyMachine.{MachineKind, OfInviteClient, OfPlainClient, OfInviteServer, OfPlainServer, PhaseOf, rules_of, machine_of_key}
+use Rattle.sip_states.specs.KeyMachine.{MachineKind, rules_of, machine_of_key}
 use Rattle.sip_states.specs.Meaning.{Meaning}
-use Rattle.sip_states.specs.AnySet.{invite_client_meaning, plain_client_meaning, invite_server_meaning, plain_server_meaning, moment_of, IsKnownSet, IsAgendaOf}
+use Rattle.sip_states.specs.AnySet.{StateOf, meaning_of, set_of, moment_of, IsKnownSet, IsAgendaOf}
 use Rattle.sip_states.specs.Tables.{Tabled, IsGiven, Touches, with_set, with_record}
 use Rattle.sip_states.specs.declared.any_set.AnySet.{AnySet}
-use Rattle.sip_states.specs.declared.any_set.AnySet.TheVariants.{InviteClient, PlainClient, InviteServer, PlainServer}
 use Rattle.sip_verdict.specs.declared.passing.Hearing.{Hearing}
 use Rattle.sip_verdict.specs.declared.passing.Fate.{Fate}
 use Rattle.sip_verdict.specs.declared.passing.Fate.TheVariants.{Runs, NoRun, TooWide}
@@ -27,30 +21,10 @@ use Rattle.sip_verdict.specs.declared.passing.Outcome.TheVariants as all
 use Rattle.sip_verdict.specs.Keyed.{Observation, concerns}
 use Rattle.sip_verdict.specs.MessageReading.{key_machines}
 use Rattle.sip_verdict.specs.inner.Stepping.{LeadsTo, IsStepped}
-use Rattle.sip_verdict.specs.inner.Tracking.{Keeping, Tracks, TracksBefore, outcome_of}
+use Rattle.sip_verdict.specs.inner.Tracking.{Keeping, Tracks, TracksBefore, outcome_of, first_of}
+use Rattle.sip_verdict.specs.inner.Concerned.{each}
 
 -- What is kept of the transactions of a log: the set of each key, by the machine of the key.
-
--- the states of each machine as the code has them
-abbrev pub StateOf : MachineKind → Type 0
-StateOf OfInviteClient = InviteClientState
-StateOf OfPlainClient = PlainState
-StateOf OfInviteServer = InviteServerState
-StateOf OfPlainServer = PlainServerState
-
--- what they mean
-abbrev pub meaning_of : (machine : MachineKind) → Meaning (PhaseOf machine) Times (StateOf machine)
-meaning_of OfInviteClient = invite_client_meaning
-meaning_of OfPlainClient = plain_client_meaning
-meaning_of OfInviteServer = invite_server_meaning
-meaning_of OfPlainServer = plain_server_meaning
-
--- a set of this machine
-abbrev pub set_of : (machine : MachineKind) → Held Times (StateOf machine) → AnySet
-set_of OfInviteClient s = InviteClient s
-set_of OfPlainClient s = PlainClient s
-set_of OfInviteServer s = InviteServer s
-set_of OfPlainServer s = PlainServer s
 
 -- a set leads, with these times, to where the runs over the events stand
 abbrev pub LeadsBy : {X S : Type 0} → Meaning X Times S → Texts → Times → List Heard → Held Times S → Type 0
@@ -81,39 +55,38 @@ TablesTrack texts es t = Tracks (key_machines t.times) (key_keeping texts t.time
 abbrev pub TablesTrackBefore : Texts → List (Observation KeyParts) → Observation KeyParts → Tabled → Type 0
 TablesTrackBefore texts es e t = TracksBefore (key_machines t.times) (key_keeping texts t.times) es e (transactions_of t)
 
--- whether the event is one of the transaction with this number
-abbrev pub is_own : Hearing → ℕ → Bool
-is_own h number = option_eq nat_eq h.own (Some number) || option_eq nat_eq h.cancelled (Some number)
+-- the numbers of the transactions that hear an event, if there is one
+abbrev pub hearers : Option Hearing → List ℕ
+hearers None = []
+hearers (Some h) = each h.concerned
 
--- the same where there may be no event
-abbrev pub hears : Option Hearing → ℕ → Bool
-hears None number = false
-hears (Some h) number = is_own h number
+-- whether the number is one of these
+abbrev pub is_among : List ℕ → ℕ → Bool
+is_among numbers number = list_any (nat_eq number) numbers
 
 -- what is observed of an entry of this moment, as far as the key with this number goes: it hears the event, or waits
 pub record IsTold (texts : Texts) (moment : ℕ) (hearing : Option Hearing) (number : ℕ) (key : KeyParts) (e : Observation KeyParts) : Type 0 where
   pub at : e.event.moment ≡ moment
   pub event : IfSome hearing (λ h. e.event ≡ heard texts h.event)
-  pub concerned : (p : Times) → concerns (key_machines p) key e ≡ hears hearing number
+  pub concerned : (p : Times) → concerns (key_machines p) key e ≡ is_among (hearers hearing) number
 
 -- the entry tells this to each of the keys
 abbrev pub AreTold : Texts → List KeyParts → ℕ → Option Hearing → Observation KeyParts → Type 0
 AreTold texts keys moment hearing e = (n : ℕ) (key : KeyParts) → slice_get keys n ≡ Some key → IsTold texts moment hearing (n + 1) key e
 
--- the key of an event, if it has one, was looked up and has this number
-abbrev pub TouchesIf : Option KeyParts → Option ℕ → Tabled → Tabled → Type 0
-TouchesIf None number old new = (number ≡ None) × (new ≡ old)
-TouchesIf (Some key) number old new = (n : ℕ) × (number ≡ Some n) × Touches key n old new
+-- these keys were looked up one after another, and have these numbers
+abbrev pub TouchesEach : List KeyParts → List ℕ → Tabled → Tabled → Type 0
+TouchesEach [] [] old new = new ≡ old
+TouchesEach [] (n ∷ ns) old new = ⊥
+TouchesEach (k ∷ ks) [] old new = ⊥
+TouchesEach (k ∷ ks) (n ∷ ns) old new = (between : Tabled) × Touches k n old between × TouchesEach ks ns between new
 
--- the key, if there is one, has this number among these
-abbrev pub HasIf : Option KeyParts → Option ℕ → List KeyParts → Type 0
-HasIf None number keys = number ≡ None
-HasIf (Some key) number keys = (n : ℕ) × (number ≡ Some n) × (0 < n) × (slice_get keys (n - 1) ≡ Some key)
-
--- the keys that an entry concerns, its own first, have these numbers among these
-abbrev pub AreConcerned : Option ℕ → Option ℕ → List KeyParts → List KeyParts → Type 0
-AreConcerned own cancelled keys concerned =
-    (mine : Option KeyParts) × (other : Option KeyParts) × (concerned ≡ option_to_list mine ++ option_to_list other) × HasIf mine own keys × HasIf other cancelled keys
+-- these keys have these numbers among all
+abbrev pub HaveNumbers : List KeyParts → List ℕ → List KeyParts → Type 0
+HaveNumbers all [] [] = Unit {0}
+HaveNumbers all [] (k ∷ ks) = ⊥
+HaveNumbers all (n ∷ ns) [] = ⊥
+HaveNumbers all (n ∷ ns) (k ∷ ks) = (0 < n) × (slice_get all (n - 1) ≡ Some k) × HaveNumbers all ns ks
 
 -- an entry of this moment may pass: no set is later, the book keeps what they name, and each key has one
 pub record MayPass (texts : Texts) (t : Tabled) (moment : ℕ) : Type 0 where
@@ -125,23 +98,22 @@ pub record MayPass (texts : Texts) (t : Tabled) (moment : ℕ) : Type 0 where
 pub record MayHear (texts : Texts) (t : Tabled) (moment : ℕ) (h : Hearing) : Type 0 where
   pub fits : FitsBook texts h.event
   pub at : h.event.moment ≡ moment
-  pub own : ForSome h.own (IsGiven t)
-  pub cancelled : ForSome h.cancelled (IsGiven t)
-  pub apart : IfSome h.cancelled (λ number. h.own ≢ Some number)
+  pub given : All (IsGiven t) (each h.concerned)
+  pub apart : AllPairs (λ a b. a ≢ b) (each h.concerned)
 
 -- what is on record of the set with this number: until when a wait in it can last; or nothing, if it is among those that are still to hear an event
-abbrev pub IsOnRecord : (ℕ → Bool) → ℕ → AnySet → Option (Option ℕ) → Type 0
+abbrev pub IsOnRecord : List ℕ → ℕ → AnySet → Option (Option ℕ) → Type 0
 IsOnRecord waits number set (Some limit) = IsAgendaOf limit set
-IsOnRecord waits number set None = waits number ≡ true
+IsOnRecord waits number set None = is_among waits number ≡ true
 
 -- each last moment is on record, but those of sets that are still to hear an event
-pub record AreOnRecord (waits : ℕ → Bool) (t : Tabled) : Type 0 where
+pub record AreOnRecord (waits : List ℕ) (t : Tabled) : Type 0 where
   pub long : length t.records ≡ length t.keys
   pub each : (n : ℕ) (set : AnySet) (recorded : Option (Option ℕ)) → slice_get t.sets n ≡ Some set → slice_get t.records n ≡ Some recorded → IsOnRecord waits (n + 1) set recorded
 
 -- the same where none is still to hear one
 abbrev pub AllAreOnRecord : Tabled → Type 0
-AllAreOnRecord t = AreOnRecord (λ number. false) t
+AllAreOnRecord t = AreOnRecord [] t
 
 -- the same after an entry, unless it is in trouble
 abbrev pub AreOnRecordIf : Outcome → Tabled → Type 0
@@ -164,10 +136,15 @@ pub record Hears (texts : Texts) (e : NumberedEvent) (number : ℕ) (old new : T
   pub stepped : (p : Times) (machine : MachineKind) (events : List Heard) → LeadsOf texts p machine events before
       → IsStepped (rules_of p machine) events (heard texts e) (λ es. LeadsOf texts p machine es after) (λ f. StandsOf texts p machine events f after) fate
 
--- the same if there is such a set, with the outcome
-abbrev pub HearsIf : Texts → NumberedEvent → Option ℕ → Tabled → Tabled → Outcome → Type 0
-HearsIf texts e None old new outcome = (new ≡ old) × (outcome ≡ all.Fine)
-HearsIf texts e (Some number) old new outcome = (fate : Fate) × Hears texts e number old new fate × (outcome ≡ outcome_of number fate)
+-- the same, with the outcome
+abbrev pub HearsOne : Texts → NumberedEvent → ℕ → Tabled → Tabled → Outcome → Type 0
+HearsOne texts e number old new outcome = (fate : Fate) × Hears texts e number old new fate × (outcome ≡ outcome_of number fate)
+
+-- those with these numbers have heard it one after another; the outcome before it, and with theirs
+abbrev pub HearsEach : Texts → NumberedEvent → List ℕ → Tabled → Outcome → Tabled → Outcome → Type 0
+HearsEach texts e [] old before new after = (new ≡ old) × (after ≡ before)
+HearsEach texts e (n ∷ ns) old before new after =
+    (between : Tabled) × (one : Outcome) × HearsOne texts e n old between one × HearsEach texts e ns between (first_of before one) new after
 
 -- an entry with this number and moment may come next: each last moment is on record, and at most two keys came with each entry before it
 pub record MayTake (texts : Texts) (t : Tabled) (number moment : ℕ) : Type 0 where

@@ -1,4 +1,4 @@
-use Rattle.sip_message.proofs.AddressLemmas.{decides-scheme, scheme-short}
+use Rattle.sip_message.proofs.lemmas.address.Reading.{decides-scheme, scheme-short}
 use Rattle.sip_message.proofs.address.has_scheme.Goals as goal
 
 pub returns-then-len-text : goal.returns-then-len-text

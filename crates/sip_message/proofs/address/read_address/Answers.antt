@@ -2,8 +2,8 @@ use Rattle.std.proofs.Common.{sym, subst}
 use Rattle.sip_text.specs.Text.{IsOnlyValue}
 use Rattle.sip_message.specs.Reading.{AddressValue}
 use Rattle.sip_message.specs.ValueParts.{address_parts}
-use Rattle.sip_message.proofs.FrontLemmas.{stop, go-stop, go, last}
-use Rattle.sip_message.proofs.AddressLemmas.{read-address, no-address}
+use Rattle.sip_message.proofs.lemmas.front.Cuts.{stop, go-stop, go, last}
+use Rattle.sip_message.proofs.lemmas.address.Reading.{read-address, no-address}
 use Rattle.sip_message.proofs.address.read_address.Goals as goal
 
 pub returns-in_err-cuts : goal.returns-in_err-cuts

@@ -1,6 +1,6 @@
 use Rattle.std.proofs.Common.{sym, ◌∙◌}
 use Rattle.std.proofs.lemmas.Bool.{both_ways}
-use Rattle.sip_message.proofs.AddressLemmas.{tail-is, tail-empty, tail-no_params}
+use Rattle.sip_message.proofs.lemmas.address.Reading.{tail-is, tail-empty, tail-no_params}
 use Rattle.sip_message.proofs.address.read_tail.Goals as goal
 use Rattle.sip_message.proofs.address.read_tail.Goals.{then-is_empty-2-via-then-is_empty-2, then-is_empty-2-via-else-is_empty-2+then-not-are_params}
 

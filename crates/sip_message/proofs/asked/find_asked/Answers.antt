@@ -2,9 +2,9 @@ use Rattle.std.proofs.Common.{◌≤◌, length, refl, ap, arith}
 use Rattle.sip_message.specs.declared.name.Known.TheVariants as known_name
 use Rattle.sip_message.specs.Outcome.{passes}
 use Rattle.sip_message.specs.Views.{name_parts, slice_fields}
-use Rattle.sip_message.proofs.PartLemmas.{first-value}
-use Rattle.sip_message.proofs.NamedLemmas.{once-first}
-use Rattle.sip_message.proofs.AskedLemmas.{asked-none, asked-known, asked-other, once-kept, not_twice-kept, first-kept}
+use Rattle.sip_message.proofs.lemmas.asked.Parts.{first-value}
+use Rattle.sip_message.proofs.lemmas.field.Named.{once-first}
+use Rattle.sip_message.proofs.lemmas.asked.Asked.{asked-none, asked-known, asked-other, once-kept, not_twice-kept, first-kept}
 use Rattle.sip_message.proofs.asked.find_asked.Goals as goal
 
 pub loop-at-init : goal.loop-at-init

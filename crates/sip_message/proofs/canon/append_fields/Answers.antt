@@ -2,7 +2,7 @@ use Rattle.std.proofs.Common.{sym, arith}
 use Rattle.std.proofs.lemmas.List.{append-nil}
 use Rattle.sip_message.specs.inner.Appends.{fields_text}
 use Rattle.sip_message.specs.Views.{slice_fields}
-use Rattle.sip_message.proofs.AppendLemmas.{appended-more, appended-part, appended-all}
+use Rattle.sip_message.proofs.lemmas.canon.Fields.{appended-more, appended-part, appended-all}
 use Rattle.sip_message.proofs.canon.append_fields.Goals as goal
 
 pub fields-init : goal.fields-init

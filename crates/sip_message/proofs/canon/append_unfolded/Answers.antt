@@ -1,9 +1,9 @@
 use Rattle.std.proofs.Common.{sym, ◌∙◌, subst}
 use Rattle.sip_message.specs.Unfold.{unfolded}
 use Rattle.sip_message.specs.inner.Appends.{Appends}
-use Rattle.sip_message.proofs.CanonLemmas.{unfolded-same}
-use Rattle.sip_message.proofs.HeadLemmas.{inner-none}
-use Rattle.sip_message.proofs.UnfoldReads.{unfold-start, unfold-blank, unfold-solid, unfold-part, part-more}
+use Rattle.sip_message.proofs.lemmas.canon.Spelling.{unfolded-same}
+use Rattle.sip_message.proofs.lemmas.lines.HeadEnd.{inner-none}
+use Rattle.sip_message.proofs.lemmas.canon.Unfolding.{unfold-start, unfold-blank, unfold-solid, unfold-part, part-more}
 use Rattle.sip_message.proofs.canon.append_unfolded.Goals as goal
 
 pub returns-in_default : goal.returns-in_default

@@ -1,4 +1,4 @@
-use Rattle.sip_message.proofs.UnfoldReads.{Unfolding}
+use Rattle.sip_message.proofs.lemmas.canon.Unfolding.{Unfolding}
 use Rattle.sip_message.proofs.canon.append_unfolded.Given as goal
 
 abbrev pub invariant-bytes : goal.invariant-bytes

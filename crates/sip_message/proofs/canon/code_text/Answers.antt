@@ -1,4 +1,4 @@
-use Rattle.sip_message.proofs.UnfoldReads.{three-digits}
+use Rattle.sip_message.proofs.lemmas.canon.Unfolding.{three-digits}
 use Rattle.sip_message.proofs.canon.code_text.Goals as goal
 
 pub returns : goal.returns

@@ -4,7 +4,7 @@ use Rattle.sip_text.specs.Bytes.{line_feed}
 use Rattle.sip_text.specs.Cut.{before, behind}
 use Rattle.sip_text.specs.Text.{IsOnlyValue}
 use Rattle.sip_message.specs.inner.Fronts.{LineFront, pair_parts}
-use Rattle.sip_message.proofs.ScanLemmas.{scan-nothing, cut-none, line-found, line-on, lf-within}
+use Rattle.sip_message.proofs.lemmas.lines.Scan.{scan-nothing, cut-none, line-found, line-on, lf-within}
 use Rattle.sip_message.proofs.cursor.cut_line.Goals as goal
 
 pub ends-init : goal.ends-init

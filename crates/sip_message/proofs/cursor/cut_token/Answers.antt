@@ -3,7 +3,7 @@ use Rattle.std.proofs.lemmas.List.{take_rest}
 use Rattle.sip_text.specs.Text.{IsLongestFront}
 use Rattle.sip_text.specs.Grammar.{Token}
 use Rattle.sip_message.specs.inner.Fronts.{TokenFront}
-use Rattle.sip_message.proofs.FrontLemmas.{token-cut, no-token, same-token}
+use Rattle.sip_message.proofs.lemmas.front.Cuts.{token-cut, no-token, same-token}
 use Rattle.sip_message.proofs.cursor.cut_token.Goals as goal
 
 pub returns-then-len-eq0 : goal.returns-then-len-eq0

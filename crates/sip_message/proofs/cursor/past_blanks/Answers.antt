@@ -1,7 +1,7 @@
 use Rattle.std.proofs.Common.{sym, subst}
 use Rattle.std.proofs.lemmas.List.{take_rest}
 use Rattle.sip_message.specs.inner.Fronts.{IsOnlyBehind}
-use Rattle.sip_message.proofs.FrontLemmas.{longest-behind}
+use Rattle.sip_message.proofs.lemmas.front.Cuts.{longest-behind}
 use Rattle.sip_message.proofs.cursor.past_blanks.Goals as goal
 
 pub returns : goal.returns

@@ -1,6 +1,6 @@
 use Rattle.std.proofs.Common.{false, refl, arith}
 use Rattle.std.proofs.lemmas.Bool.{both_ways, not-true}
-use Rattle.sip_message.proofs.HeadLemmas.{clean-each, clean-opens, each-clean, is_not}
+use Rattle.sip_message.proofs.lemmas.lines.HeadEnd.{clean-each, clean-opens, each-clean, is_not}
 use Rattle.sip_message.proofs.ends.is_clean.Goals as goal
 
 pub returns-then-not-is_paired : goal.returns-then-not-is_paired

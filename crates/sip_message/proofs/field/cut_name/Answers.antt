@@ -4,8 +4,8 @@ use Rattle.sip_text.specs.Cut.{past}
 use Rattle.sip_text.specs.Text.{IsOnlyValue}
 use Rattle.sip_message.specs.Faults.{IsNamed}
 use Rattle.sip_message.specs.inner.Names.{named_parts}
-use Rattle.sip_message.proofs.FrontLemmas.{ReadAs}
-use Rattle.sip_message.proofs.FieldReads.{named-no_token, named-no_colon, named-read}
+use Rattle.sip_message.proofs.lemmas.front.Cuts.{ReadAs}
+use Rattle.sip_message.proofs.lemmas.field.Name.{named-no_token, named-no_colon, named-read}
 use Rattle.sip_message.proofs.field.cut_name.Goals as goal
 
 pub returns-in_err-name : goal.returns-in_err-name

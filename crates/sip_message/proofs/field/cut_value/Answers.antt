@@ -1,6 +1,6 @@
 use Rattle.std.proofs.Common.{◌∙◌, sym, arith}
-use Rattle.sip_message.proofs.ViewLemmas.{values-found, values-passed, values-end}
-use Rattle.sip_message.proofs.NamedLemmas.{found-here, found-passed, found-end}
+use Rattle.sip_message.proofs.lemmas.via.Elements.{values-found, values-passed, values-end}
+use Rattle.sip_message.proofs.lemmas.field.Named.{found-here, found-passed, found-end}
 use Rattle.sip_message.proofs.field.cut_value.Goals as goal
 
 pub returns-then-is-clause-values : goal.returns-then-is-clause-values

@@ -8,7 +8,7 @@ use Rattle.std.specs.Global.{Vec}
 use Rattle.sip_message.specs.declared.field.Field.{Field as Code}
 use Rattle.sip_message.specs.declared.kept.Kept.{Kept}
 use Rattle.sip_message.specs.inner.Kept.{KeptOf}
-use Rattle.sip_message.proofs.ReadLemmas.{SoFar, so_far-all, so_far-more, so_far-stops, settles-fault}
+use Rattle.sip_message.proofs.lemmas.lines.Reading.{SoFar, so_far-all, so_far-more, so_far-stops, settles-fault}
 use Rattle.sip_message.proofs.field.read_fields.Goals as goal
 
 pub returns-in_err-field-clause-fields : goal.returns-in_err-field-clause-fields

@@ -1,6 +1,6 @@
 use Rattle.std.proofs.Common.{false, refl}
 use Rattle.std.proofs.lemmas.Bool.{both_ways}
-use Rattle.sip_message.proofs.NameLemmas.{unknown}
+use Rattle.sip_message.proofs.lemmas.field.FullName.{unknown}
 use Rattle.sip_message.proofs.name.full_name.Goals as goal
 
 pub returns-in_default : goal.returns-in_default

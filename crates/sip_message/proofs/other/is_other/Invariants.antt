@@ -1,6 +1,6 @@
 use Rattle.std.proofs.Common.{◌≤◌, ◌-◌, length}
 use Rattle.sip_text.specs.Text.{Many, HasFront}
-use Rattle.sip_message.proofs.OtherLemmas.{OtherItem}
+use Rattle.sip_message.proofs.lemmas.value.Other.{OtherItem}
 use Rattle.sip_message.proofs.other.is_other.Given as goal
 
 -- the front so far is pieces

@@ -1,5 +1,5 @@
 use Rattle.std.proofs.Common.{◌↔◌, IsTrue, sym, subst}
-use Rattle.sip_message.proofs.ParamsLemmas.{AreParams, params-some, params-none}
+use Rattle.sip_message.proofs.lemmas.params.Reading.{AreParams, params-some, params-none}
 use Rattle.sip_message.proofs.params.are_params.Goals as goal
 
 pub returns-in-Some : goal.returns-in-Some

@@ -1,7 +1,7 @@
 use Rattle.std.proofs.Common.{◌≡◌, List, ℕ, Bor, Option, Some, None, option_copied, false, refl, sym, ◌∙◌}
 use Rattle.std.specs.Prelude.{is_some}
 use Rattle.std.proofs.lemmas.Bool.{both_ways}
-use Rattle.sip_message.proofs.ValueLemmas.{bare-token_front}
+use Rattle.sip_message.proofs.lemmas.params.Value.{bare-token_front}
 use Rattle.sip_message.proofs.params.cut_bare.Goals as goal
 
 copied-none : (o : Option (Bor (List ℕ))) → is_some o ≡ false → option_copied o ≡ None

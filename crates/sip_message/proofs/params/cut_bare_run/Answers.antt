@@ -1,6 +1,6 @@
 use Rattle.std.proofs.Common.{refl}
 use Rattle.std.proofs.lemmas.Bool.{both_ways}
-use Rattle.sip_message.proofs.ValueLemmas.{bare-found, bare-missing, rest-short}
+use Rattle.sip_message.proofs.lemmas.params.Value.{bare-found, bare-missing, rest-short}
 use Rattle.sip_message.proofs.params.cut_bare_run.Goals as goal
 
 pub slice_bounds-value-count : goal.slice_bounds-value-count

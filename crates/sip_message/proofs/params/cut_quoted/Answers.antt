@@ -3,8 +3,8 @@ use Rattle.std.proofs.lemmas.List.{take_rest}
 use Rattle.sip_text.specs.Text.{IsOnlyValue}
 use Rattle.sip_message.specs.inner.Fronts.{pair_parts}
 use Rattle.sip_message.specs.inner.ParamFronts.{QuotedFront}
-use Rattle.sip_message.proofs.FrontLemmas.{ReadAs}
-use Rattle.sip_message.proofs.ValueLemmas.{no-open, no-quoted, one-quoted_string}
+use Rattle.sip_message.proofs.lemmas.front.Cuts.{ReadAs}
+use Rattle.sip_message.proofs.lemmas.params.Value.{no-open, no-quoted, one-quoted_string}
 use Rattle.sip_message.proofs.params.cut_quoted.Goals as goal
 
 pub returns-in_err-past : goal.returns-in_err-past

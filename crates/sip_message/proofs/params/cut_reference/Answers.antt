@@ -3,8 +3,8 @@ use Rattle.sip_text.specs.Text.{IsOnlyValue}
 use Rattle.sip_text.specs.Host.{host_parts}
 use Rattle.sip_message.specs.inner.Fronts.{pair_parts}
 use Rattle.sip_message.specs.inner.ParamFronts.{ReferenceFront}
-use Rattle.sip_message.proofs.OneFrontLemmas.{reference-bracket}
-use Rattle.sip_message.proofs.ValueLemmas.{one-host_reference, no-host_reference}
+use Rattle.sip_message.proofs.lemmas.front.OneWay.{reference-bracket}
+use Rattle.sip_message.proofs.lemmas.params.Value.{one-host_reference, no-host_reference}
 use Rattle.sip_message.proofs.params.cut_reference.Goals as goal
 
 pub returns-in_err-part : goal.returns-in_err-part

@@ -1,5 +1,5 @@
 use Rattle.sip_message.specs.inner.Fronts.{pair_parts}
-use Rattle.sip_message.proofs.ValueLemmas.{value-quoted, value-reference, value-bare}
+use Rattle.sip_message.proofs.lemmas.params.Value.{value-quoted, value-reference, value-bare}
 use Rattle.sip_message.proofs.params.cut_value.Goals as goal
 
 pub returns-in-Some : goal.returns-in-Some

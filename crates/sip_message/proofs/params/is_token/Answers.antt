@@ -1,6 +1,6 @@
 use Rattle.std.proofs.Common.{ap, nat_eq, length, sym}
 use Rattle.std.proofs.lemmas.Bool.{both_ways, eqb-true, eq-eqb}
-use Rattle.sip_message.proofs.ValueLemmas.{token-whole, whole-token}
+use Rattle.sip_message.proofs.lemmas.params.Value.{token-whole, whole-token}
 use Rattle.sip_message.proofs.params.is_token.Goals as goal
 
 pub returns-then-not-is_empty : goal.returns-then-not-is_empty

@@ -1,5 +1,5 @@
 use Rattle.std.proofs.Common.{sym}
-use Rattle.sip_message.proofs.ValueLemmas.{bare-none, bare-more, bare-smaller, bare-end}
+use Rattle.sip_message.proofs.lemmas.params.Value.{bare-none, bare-more, bare-smaller, bare-end}
 use Rattle.sip_message.proofs.params.past_bare.Goals as goal
 
 pub colons-init : goal.colons-init

@@ -1,5 +1,5 @@
 use Rattle.std.proofs.Common.{length}
-use Rattle.sip_message.proofs.ValueLemmas.{BareSoFar}
+use Rattle.sip_message.proofs.lemmas.params.Value.{BareSoFar}
 use Rattle.sip_message.proofs.params.past_bare.Given as goal
 
 -- so far all are bytes of tokens and colons

@@ -1,6 +1,6 @@
 use Rattle.std.proofs.Common.{[], ◌∷◌, ◌++◌, option_copied, refl}
 use Rattle.sip_message.specs.inner.ParamFronts.{Param}
-use Rattle.sip_message.proofs.ParamsLemmas.{params-more, param-shorter}
+use Rattle.sip_message.proofs.lemmas.params.Reading.{params-more, param-shorter}
 use Rattle.sip_message.proofs.params.past_params.Goals as goal
 
 pub params-init : goal.params-init

@@ -2,7 +2,7 @@ use Rattle.std.proofs.Common.{sym, subst}
 use Rattle.std.proofs.lemmas.List.{take_rest}
 use Rattle.sip_text.specs.Bytes.{is_token_byte}
 use Rattle.sip_message.specs.inner.ParamFronts.{PastRun}
-use Rattle.sip_message.proofs.ValueLemmas.{past-token}
+use Rattle.sip_message.proofs.lemmas.params.Value.{past-token}
 use Rattle.sip_message.proofs.params.past_token.Goals as goal
 
 pub returns : goal.returns

@@ -3,7 +3,7 @@ use Rattle.sip_message.specs.declared.name.Known.TheVariants as known_name
 use Rattle.sip_message.specs.Name.{is_named}
 use Rattle.sip_message.specs.Values.{OtherText}
 use Rattle.sip_message.specs.Views.{name_parts}
-use Rattle.sip_message.proofs.KeptLemmas.{other-keeps}
+use Rattle.sip_message.proofs.lemmas.asked.Kept.{other-keeps}
 use Rattle.sip_message.proofs.QuickLemmas.{open-other}
 use Rattle.sip_message.proofs.quick.is_ordinary_value.Goals as goal
 

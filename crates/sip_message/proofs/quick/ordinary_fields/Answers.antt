@@ -7,7 +7,7 @@ use Rattle.sip_message.proofs.quick.ordinary_fields.Goals as goal
 
 pub lines-init : goal.lines-init
 lines-init c =
-    let none = sym (ap (map field_parts) c.in-Ok.ensures.items) in (
+    let none = sym (ap (map field_parts) c.in_ok-fields.ensures.items) in (
       subst (LinesSoFar c.args.masks.now c.args.from c.args.from) none (so_far-none c.args.masks.now c.args.from c.requires),
       subst (λ fs. KeptOf fs c.new-kept.result) none c.new-kept.ensures,
     )
@@ -28,7 +28,7 @@ lines-smaller c = omega (arith, c.in-Some.ensures.line.0, c.in-Some.ensures.line
 pub lines-preserved : goal.lines-preserved
 lines-preserved c =
     let field = field_parts c.in-Some-ordinary_field.field in
-    let more = sym (ap (map field_parts) c.in-Ok-push.ensures.items ∙ map-append field_parts c.lines.fields.items (c.in-Some-ordinary_field.field ∷ [])) in (
+    let more = sym (ap (map field_parts) c.in_default-push.ensures.items ∙ map-append field_parts c.lines.fields.items (c.in-Some-ordinary_field.field ∷ [])) in (
       subst (LinesSoFar c.args.masks.now c.args.from (c.in-Some.end + 2)) more
           (so_far-more c.args.masks.now c.args.from c.lines.at c.in-Some.end (fields_parts c.lines.fields) field c.lines.invariant.0 c.in-Some.ensures.line.1 c.in-Some.ensures.line.2 c.in-Some.ensures.line.3 c.in-Some-ordinary_field.ensures.field),
       subst (λ fs. KeptOf fs c.ordinary_field.new.kept) more (c.in-Some-ordinary_field.ensures.kept (fields_parts c.lines.fields) c.lines.invariant.1),

@@ -2,7 +2,7 @@ use Rattle.std.proofs.Common.{refl}
 use Rattle.std.proofs.lemmas.Bool.Decides.{Decides-like}
 use Rattle.sip_message.specs.Reading.{AddressValue}
 use Rattle.sip_message.specs.ValueParts.{address_parts}
-use Rattle.sip_message.proofs.TrimLemmas.{read-decides}
+use Rattle.sip_message.proofs.lemmas.value.Trimmed.{read-decides}
 use Rattle.sip_message.proofs.row.is_address.Goals as goal
 
 pub returns : goal.returns

@@ -4,7 +4,7 @@ use Rattle.sip_message.specs.declared.name.Known.TheVariants as known_name
 use Rattle.sip_message.specs.Name.{known, is_named}
 use Rattle.sip_message.specs.Field.{Row}
 use Rattle.sip_message.specs.Views.{name_parts}
-use Rattle.sip_message.proofs.KeptLemmas.{via-row, via-keeps, cseq-row, cseq-keeps, named-keeps, other-keeps}
+use Rattle.sip_message.proofs.lemmas.asked.Kept.{via-row, via-keeps, cseq-row, cseq-keeps, named-keeps, other-keeps}
 use Rattle.sip_message.proofs.row.is_of_row.Goals as goal
 
 pub returns-in-Known-Via-clause-row : goal.returns-in-Known-Via-clause-row

@@ -1,4 +1,4 @@
-use Rattle.sip_message.proofs.TrimLemmas.{sws-whole}
+use Rattle.sip_message.proofs.lemmas.value.Trimmed.{sws-whole}
 use Rattle.sip_message.proofs.row.is_sws.Goals as goal
 
 pub returns : goal.returns

@@ -2,8 +2,8 @@ use Rattle.std.proofs.Common.{sym, subst}
 use Rattle.std.proofs.lemmas.Bool.{both_ways}
 use Rattle.std.proofs.lemmas.List.{take_rest}
 use Rattle.sip_text.specs.Grammar.{Sws}
-use Rattle.sip_message.proofs.FieldLemmas.{same_value}
-use Rattle.sip_message.proofs.TrimLemmas.{trimmed, trimmed-value, value-trimmed}
+use Rattle.sip_message.proofs.lemmas.field.OneWay.{same_value}
+use Rattle.sip_message.proofs.lemmas.value.Trimmed.{trimmed, trimmed-value, value-trimmed}
 use Rattle.sip_message.proofs.row.trim_blanks.Goals as goal
 use Rattle.sip_message.proofs.row.trim_blanks.Goals.{else-is_sws-via-then-is_sws+else-is_sws-2, else-is_sws-via-else-is_sws}
 

@@ -1,4 +1,4 @@
-use Rattle.sip_message.proofs.HeadLemmas.{first-cut, first-none}
+use Rattle.sip_message.proofs.lemmas.lines.HeadEnd.{first-cut, first-none}
 use Rattle.sip_message.proofs.stages.cut_first.Goals as goal
 
 pub returns-in-Some : goal.returns-in-Some

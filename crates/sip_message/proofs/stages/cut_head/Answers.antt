@@ -3,8 +3,8 @@ use Rattle.std.proofs.lemmas.List.{take_rest}
 use Rattle.sip_text.specs.Text.{IsOnlyValue}
 use Rattle.sip_message.specs.Faults.{IsCut}
 use Rattle.sip_message.specs.inner.Fronts.{pair_parts}
-use Rattle.sip_message.proofs.FrontLemmas.{ReadAs}
-use Rattle.sip_message.proofs.HeadLemmas.{no-head, one-head}
+use Rattle.sip_message.proofs.lemmas.front.Cuts.{ReadAs}
+use Rattle.sip_message.proofs.lemmas.lines.HeadEnd.{no-head, one-head}
 use Rattle.sip_message.proofs.stages.cut_head.Goals as goal
 
 pub returns-in_err-at : goal.returns-in_err-at

@@ -2,7 +2,7 @@ use Rattle.std.proofs.Common.{◌+◌, length, false, refl, sym, ap, subst, arit
 use Rattle.std.proofs.lemmas.Bool.{both_ways}
 use Rattle.std.proofs.lemmas.List.{take_rest, length-drop}
 use Rattle.memchr.specs.Find.{FindsNeedle}
-use Rattle.sip_message.proofs.HeadLemmas.{double_end, nowhere-double, none-before, first-double, none-more}
+use Rattle.sip_message.proofs.lemmas.lines.HeadEnd.{double_end, nowhere-double, none-before, first-double, none-more}
 use Rattle.sip_message.proofs.stages.find_double_end.Goals as goal
 
 pub returns-in_err-at : goal.returns-in_err-at

@@ -1,5 +1,5 @@
 use Rattle.std.proofs.Common.{◌-◌, ◌≤◌, length}
-use Rattle.sip_message.proofs.HeadLemmas.{NoneSoFar}
+use Rattle.sip_message.proofs.lemmas.lines.HeadEnd.{NoneSoFar}
 use Rattle.sip_message.proofs.stages.find_double_end.Given as goal
 
 -- no empty line stands before

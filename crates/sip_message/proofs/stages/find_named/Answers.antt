@@ -4,8 +4,8 @@ use Rattle.sip_message.specs.Outcome.{passes, stopped}
 use Rattle.sip_message.specs.Faults.{NamesOf}
 use Rattle.sip_message.specs.inner.Stages.{names_parts}
 use Rattle.sip_message.specs.Views.{slice_fields}
-use Rattle.sip_message.proofs.PartLemmas.{first-value}
-use Rattle.sip_message.proofs.NamedLemmas.{stops-there, once-first}
+use Rattle.sip_message.proofs.lemmas.asked.Parts.{first-value}
+use Rattle.sip_message.proofs.lemmas.field.Named.{stops-there, once-first}
 use Rattle.sip_message.proofs.stages.find_named.Goals as goal
 
 pub returns-in_err-via-clause-names : goal.returns-in_err-via-clause-names

@@ -1,7 +1,7 @@
 use Rattle.sip_message.specs.Faults.{Once}
 use Rattle.sip_message.specs.inner.Finds.{found_parts}
 use Rattle.sip_message.specs.Views.{slice_fields}
-use Rattle.sip_message.proofs.NamedLemmas.{stops-there, once-absent, once-twice, once-one}
+use Rattle.sip_message.proofs.lemmas.field.Named.{stops-there, once-absent, once-twice, once-one}
 use Rattle.sip_message.proofs.stages.find_once.Goals as goal
 
 pub returns-in_err-value : goal.returns-in_err-value

@@ -1,6 +1,6 @@
 use Rattle.sip_message.specs.ValueParts.{cseq_parts}
-use Rattle.sip_message.proofs.BodyLemmas.{method-some}
-use Rattle.sip_message.proofs.CSeqLemmas.{same-cseq}
+use Rattle.sip_message.proofs.lemmas.message.Body.{method-some}
+use Rattle.sip_message.proofs.lemmas.value.CSeq.{same-cseq}
 use Rattle.sip_message.proofs.stages.fits_method.Goals as goal
 
 pub returns-in-Request : goal.returns-in-Request

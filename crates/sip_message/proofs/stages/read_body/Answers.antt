@@ -6,8 +6,8 @@ use Rattle.sip_message.specs.Message.{content_length}
 use Rattle.sip_message.specs.Views.{slice_fields}
 use Rattle.sip_message.specs.ValueParts.{start_parts}
 use Rattle.sip_message.specs.ViaParts.{element}
-use Rattle.sip_message.proofs.PartLemmas.{row-of, first-value}
-use Rattle.sip_message.proofs.BodyLemmas.{stream-first, length-none, length-some, body-method, body-no_length, body-all, body-short, body-long, body-cut, body-whole}
+use Rattle.sip_message.proofs.lemmas.asked.Parts.{row-of, first-value}
+use Rattle.sip_message.proofs.lemmas.message.Body.{stream-first, length-none, length-some, body-method, body-no_length, body-all, body-short, body-long, body-cut, body-whole}
 use Rattle.sip_message.proofs.stages.read_body.Goals as goal
 
 pub returns-then-not-fits_method : goal.returns-then-not-fits_method

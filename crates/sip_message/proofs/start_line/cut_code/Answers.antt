@@ -6,7 +6,7 @@ use Rattle.sip_text.specs.Bytes.{space}
 use Rattle.sip_text.specs.Cut.{past}
 use Rattle.sip_message.specs.Values.{Digits}
 use Rattle.sip_message.specs.inner.StartFronts.{CodeFront, status_parts}
-use Rattle.sip_message.proofs.StartReads.{code-short, code-no_space, code-no_digits, code-high, code-low, code-read}
+use Rattle.sip_message.proofs.lemmas.start_line.Reading.{code-short, code-no_space, code-no_digits, code-high, code-low, code-read}
 use Rattle.sip_message.proofs.start_line.cut_code.Goals as goal
 
 pub returns-then-text-lt3 : goal.returns-then-text-lt3

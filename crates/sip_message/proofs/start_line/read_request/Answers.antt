@@ -6,8 +6,8 @@ use Rattle.std.specs.Prelude.{codes}
 use Rattle.sip_text.specs.Uri.{UriText, uri_parts}
 use Rattle.sip_message.specs.inner.StartFronts.{RequestLine}
 use Rattle.sip_message.specs.inner.Fronts.{pair_parts}
-use Rattle.sip_message.proofs.FrontLemmas.{ReadAs, NotRead}
-use Rattle.sip_message.proofs.StartReads.{request-no_token, request-no_space, request-short, request-no_version, request-no_uri, request-read}
+use Rattle.sip_message.proofs.lemmas.front.Cuts.{ReadAs, NotRead}
+use Rattle.sip_message.proofs.lemmas.start_line.Reading.{request-no_token, request-no_space, request-short, request-no_version, request-no_uri, request-read}
 use Rattle.sip_message.proofs.start_line.read_request.Goals as goal
 
 pub returns-in_err-method : goal.returns-in_err-method

@@ -4,8 +4,8 @@ use Rattle.std.proofs.lemmas.Bool.{both_ways}
 use Rattle.sip_text.specs.Text.{IsOnlyValue}
 use Rattle.sip_text.specs.Case.{SameText}
 use Rattle.sip_message.specs.inner.StartFronts.{StatusLine, CodeFront, status_parts}
-use Rattle.sip_message.proofs.FrontLemmas.{ReadAs, NotRead}
-use Rattle.sip_message.proofs.StartReads.{status-short, status-no_version, status-no_code, status-no_reason, status-read}
+use Rattle.sip_message.proofs.lemmas.front.Cuts.{ReadAs, NotRead}
+use Rattle.sip_message.proofs.lemmas.start_line.Reading.{status-short, status-no_version, status-no_code, status-no_reason, status-read}
 use Rattle.sip_message.proofs.start_line.read_status.Goals as goal
 
 pub returns-then-line-lt8 : goal.returns-then-line-lt8

@@ -2,7 +2,7 @@ use Rattle.std.proofs.Common.{sym, ◌∙◌}
 use Rattle.std.specs.Char.{is_ascii_digit}
 use Rattle.sip_text.specs.Text.{One}
 use Rattle.sip_text.proofs.UriCharLemmas.{some-decides}
-use Rattle.sip_message.proofs.NumberLemmas.{all-decides}
+use Rattle.sip_message.proofs.lemmas.value.Number.{all-decides}
 use Rattle.sip_message.proofs.values.is_length.Goals as goal
 
 pub returns-then-not-is_empty : goal.returns-then-not-is_empty

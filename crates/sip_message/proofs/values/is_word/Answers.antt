@@ -4,8 +4,8 @@ use Rattle.std.proofs.lemmas.List.{take_rest}
 use Rattle.sip_message.specs.Values.{is_word_byte}
 use Rattle.sip_text.specs.Text.{One}
 use Rattle.sip_text.proofs.UriCharLemmas.{some-decides}
-use Rattle.sip_message.proofs.NumberLemmas.{all-decides}
-use Rattle.sip_message.proofs.CallIdLemmas.{words-behind}
+use Rattle.sip_message.proofs.lemmas.value.Number.{all-decides}
+use Rattle.sip_message.proofs.lemmas.value.CallId.{words-behind}
 use Rattle.sip_message.proofs.values.is_word.Goals as goal
 
 pub returns-then-not-is_empty : goal.returns-then-not-is_empty

@@ -1,7 +1,7 @@
 use Rattle.std.proofs.Common.{◌+◌, ◌*◌, ◌<◌, sym, ap, ◌∙◌, arith}
 use Rattle.std.specs.Str.Parse.{digits_value}
 use Rattle.std.proofs.lemmas.List.{take_all}
-use Rattle.sip_message.proofs.NumberLemmas.{digits-at, number-more, number-large}
+use Rattle.sip_message.proofs.lemmas.value.Number.{digits-at, number-more, number-large}
 use Rattle.sip_message.proofs.values.number_at_most.Goals as goal
 use Rattle.sip_message.proofs.values.number_at_most.Goals.{then-digit-most-via-then-digit-most, then-digit-most-via-else-digit-most+then-number-most}
 

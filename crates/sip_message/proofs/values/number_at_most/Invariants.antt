@@ -1,4 +1,4 @@
-use Rattle.sip_message.proofs.NumberLemmas.{ReadsNumber}
+use Rattle.sip_message.proofs.lemmas.value.Number.{ReadsNumber}
 use Rattle.sip_message.proofs.values.number_at_most.Given as goal
 
 -- the digits so far write the number

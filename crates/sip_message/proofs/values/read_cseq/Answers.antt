@@ -4,7 +4,7 @@ use Rattle.std.proofs.lemmas.List.{take_rest}
 use Rattle.sip_text.specs.Text.{IsOnlyValue}
 use Rattle.sip_message.specs.Reading.{CSeqValue}
 use Rattle.sip_message.specs.ValueParts.{cseq_parts}
-use Rattle.sip_message.proofs.CSeqLemmas.{same-cseq, cseq-large, cseq-no_digit, cseq-no_blank, cseq-method, cseq-is}
+use Rattle.sip_message.proofs.lemmas.value.CSeq.{same-cseq, cseq-large, cseq-no_digit, cseq-no_blank, cseq-method, cseq-is}
 use Rattle.sip_message.proofs.values.read_cseq.Goals as goal
 use Rattle.sip_message.proofs.values.read_cseq.Goals.{then-len-eq0-via-then-len-eq0, then-len-eq0-via-else-len-eq0+then-blanks-eq0, then-len-eq0-via-else-len-eq0+else-blanks-eq0+then-not-is_token}
 

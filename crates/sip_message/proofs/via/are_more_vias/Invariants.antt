@@ -1,5 +1,5 @@
 use Rattle.std.proofs.Common.{◌↔◌, length}
-use Rattle.sip_message.proofs.ViasLemmas.{AreMore}
+use Rattle.sip_message.proofs.lemmas.via.Value.{AreMore}
 use Rattle.sip_message.proofs.via.are_more_vias.Given as goal
 
 -- the rest decides

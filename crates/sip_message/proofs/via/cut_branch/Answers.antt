@@ -2,8 +2,8 @@ use Rattle.std.proofs.Common.{sym, ap, ◌∙◌, subst, option_copied}
 use Rattle.sip_text.specs.Text.{IsOnlyValue}
 use Rattle.sip_message.specs.inner.ParamFronts.{Param, led_parts}
 use Rattle.sip_message.specs.inner.ViaFronts.{BranchFront}
-use Rattle.sip_message.proofs.ParamsLemmas.{param-shorter}
-use Rattle.sip_message.proofs.BranchLemmas.{Decides, copied-or, decides-none, decides-more, decides-not, decides-all}
+use Rattle.sip_message.proofs.lemmas.params.Reading.{param-shorter}
+use Rattle.sip_message.proofs.lemmas.params.Branch.{Decides, copied-or, decides-none, decides-more, decides-not, decides-all}
 use Rattle.sip_message.proofs.via.cut_branch.Goals as goal
 
 pub params-init : goal.params-init

@@ -1,5 +1,5 @@
 use Rattle.std.proofs.Common.{length, option_copied}
-use Rattle.sip_message.proofs.BranchLemmas.{Decides}
+use Rattle.sip_message.proofs.lemmas.params.Branch.{Decides}
 use Rattle.sip_message.proofs.via.cut_branch.Given as goal
 
 -- what is still to be read decides

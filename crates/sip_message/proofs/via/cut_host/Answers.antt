@@ -2,8 +2,8 @@ use Rattle.std.proofs.Common.{sym, subst}
 use Rattle.sip_text.specs.Text.{IsOnlyValue}
 use Rattle.sip_text.specs.Host.{host_parts}
 use Rattle.sip_message.specs.inner.ViaFronts.{HostFront, host_front_parts}
-use Rattle.sip_message.proofs.FrontLemmas.{stop, go-stop, go}
-use Rattle.sip_message.proofs.HostFrontLemmas.{host-last}
+use Rattle.sip_message.proofs.lemmas.front.Cuts.{stop, go-stop, go}
+use Rattle.sip_message.proofs.lemmas.via.Host.{host-last}
 use Rattle.sip_message.proofs.via.cut_host.Goals as goal
 
 pub returns-in_err-part : goal.returns-in_err-part

@@ -1,5 +1,5 @@
 use Rattle.sip_message.specs.inner.Fronts.{pair_parts}
-use Rattle.sip_message.proofs.HostFrontLemmas.{host-bracket, host-token}
+use Rattle.sip_message.proofs.lemmas.via.Host.{host-bracket, host-token}
 use Rattle.sip_message.proofs.via.cut_host_text.Goals as goal
 
 pub returns-in-Some : goal.returns-in-Some

@@ -3,8 +3,8 @@ use Rattle.sip_text.specs.Text.{IsOnlyValue}
 use Rattle.sip_text.specs.Bytes.{colon}
 use Rattle.sip_message.specs.inner.ParamFronts.{LedFront, led_parts}
 use Rattle.sip_message.specs.inner.ViaFronts.{PortFront}
-use Rattle.sip_message.proofs.HostFrontLemmas.{one-port}
-use Rattle.sip_message.proofs.LedLemmas.{no-led, led-none, led-some}
+use Rattle.sip_message.proofs.lemmas.via.Host.{one-port}
+use Rattle.sip_message.proofs.lemmas.front.Led.{no-led, led-none, led-some}
 use Rattle.sip_message.proofs.via.cut_led_port.Goals as goal
 
 pub returns-in_default : goal.returns-in_default

@@ -3,7 +3,7 @@ use Rattle.std.proofs.lemmas.Bool.{both_ways}
 use Rattle.sip_text.specs.Text.{IsOnlyValue}
 use Rattle.sip_message.specs.inner.Fronts.{pair_parts}
 use Rattle.sip_message.specs.inner.ViaFronts.{PortFront}
-use Rattle.sip_message.proofs.HostFrontLemmas.{port-found, port-missing}
+use Rattle.sip_message.proofs.lemmas.via.Host.{port-found, port-missing}
 use Rattle.sip_message.proofs.via.cut_port.Goals as goal
 
 pub returns-in_err-port : goal.returns-in_err-port

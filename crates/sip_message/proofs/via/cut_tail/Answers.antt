@@ -1,8 +1,8 @@
 use Rattle.std.proofs.Common.{sym, subst, option_copied}
 use Rattle.sip_text.specs.Text.{IsOnlyValue}
 use Rattle.sip_message.specs.inner.ViaFronts.{TailFront, tail_parts}
-use Rattle.sip_message.proofs.ValueLemmas.{rest-short}
-use Rattle.sip_message.proofs.BranchLemmas.{branch-whole, tail-found, tail-missing}
+use Rattle.sip_message.proofs.lemmas.params.Value.{rest-short}
+use Rattle.sip_message.proofs.lemmas.params.Branch.{branch-whole, tail-found, tail-missing}
 use Rattle.sip_message.proofs.via.cut_tail.Goals as goal
 
 pub returns-in_err-branch : goal.returns-in_err-branch

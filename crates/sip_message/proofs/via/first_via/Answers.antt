@@ -3,7 +3,7 @@ use Rattle.std.proofs.lemmas.Bool.{both_ways}
 use Rattle.sip_text.specs.Text.{IsOnlyValue}
 use Rattle.sip_message.specs.ViaParts.{element}
 use Rattle.sip_message.specs.inner.ElementFronts.{FirstVia}
-use Rattle.sip_message.proofs.ViasLemmas.{vias-behind, first-is}
+use Rattle.sip_message.proofs.lemmas.via.Value.{vias-behind, first-is}
 use Rattle.sip_message.proofs.via.first_via.Goals as goal
 
 pub returns-in_err-first : goal.returns-in_err-first

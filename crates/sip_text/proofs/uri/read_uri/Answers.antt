@@ -11,13 +11,13 @@ use Rattle.sip_text.proofs.uri.read_uri.Goals.{then-is_sip-via-then-is_sip, then
 pub returns-in_err-rest : goal.returns-in_err-rest
 returns-in_err-rest c =
     subst (IsOnlyValue UriText uri_parts c.args.text.now) (sym c.from_residual.ensures)
-    (λ x. no-colon c.args.text.now x (ap option_copied (sym c.in_err-rest.was) ∙ c.cut.ensures.rest))
+    (λ x. no-colon c.args.text.now x (ap option_copied (sym c.in_err-rest.was) ∙ c.cut_scheme.ensures.rest))
 
 pub returns-then-is_sip : goal.returns-then-is_sip
 returns-then-is_sip c =
     let is_sip = c.same_text-is_sip.result in
-    let scheme = c.cut.result.0.now in
-    let cut = scheme-at c.args.text.now scheme c.cut.result.1 c.in_ok-rest.rest c.cut.ensures.front c.cut.ensures.rest c.in_ok-rest.was in
+    let scheme = c.cut_scheme.result.0.now in
+    let cut = scheme-at c.args.text.now scheme c.cut_scheme.result.1 c.in_ok-rest.rest c.cut_scheme.ensures.front c.cut_scheme.ensures.rest c.in_ok-rest.was in
     let sips_named : is_sip ≡ false → SameText scheme (scheme_name true) =
     λ no. elim c.then-is_sip.branch [
       | then-is_sip-via-then-is_sip w ↦ absurd (both_ways is_sip no w.if-is_sip.true)
@@ -28,23 +28,23 @@ returns-then-is_sip c =
 
 pub returns-then-is_some_chars : goal.returns-then-is_some_chars
 returns-then-is_some_chars c =
-    let cut = scheme-at c.args.text.now c.cut.result.0.now c.cut.result.1 c.in_ok-rest.rest c.cut.ensures.front c.cut.ensures.rest c.in_ok-rest.was in
-    let neither = not-sip c.cut.result.0.now
+    let cut = scheme-at c.args.text.now c.cut_scheme.result.0.now c.cut_scheme.result.1 c.in_ok-rest.rest c.cut_scheme.ensures.front c.cut_scheme.ensures.rest c.in_ok-rest.was in
+    let neither = not-sip c.cut_scheme.result.0.now
     (λ same. both_ways c.same_text-is_sip.result c.if-is_sip.false (c.same_text-is_sip.ensures.1 same))
     (λ same. both_ways c.same_text.result c.if-same_text.false (c.same_text.ensures.1 same)) in
     let uric = decides-uric c.in_ok-rest.rest.now c.is_some_chars.result c.is_some_chars.ensures in (
-      other-fits c.args.text.now c.cut.result.0.now c.in_ok-rest.rest.now cut neither
+      other-fits c.args.text.now c.cut_scheme.result.0.now c.in_ok-rest.rest.now cut neither
           (c.is_scheme.ensures.0 c.if-is_scheme.true) (uric.0 c.if-is_some_chars.true),
-      λ x fits. (other-only c.args.text.now c.cut.result.0.now c.in_ok-rest.rest.now x cut neither fits).2,
+      λ x fits. (other-only c.args.text.now c.cut_scheme.result.0.now c.in_ok-rest.rest.now x cut neither fits).2,
     )
 
 pub returns-else-is_scheme : goal.returns-else-is_scheme
 returns-else-is_scheme c = λ x is.
-    let cut = scheme-at c.args.text.now c.cut.result.0.now c.cut.result.1 c.in_ok-rest.rest c.cut.ensures.front c.cut.ensures.rest c.in_ok-rest.was in
-    let neither = not-sip c.cut.result.0.now
+    let cut = scheme-at c.args.text.now c.cut_scheme.result.0.now c.cut_scheme.result.1 c.in_ok-rest.rest c.cut_scheme.ensures.front c.cut_scheme.ensures.rest c.in_ok-rest.was in
+    let neither = not-sip c.cut_scheme.result.0.now
     (λ same. both_ways c.same_text-is_sip.result c.if-is_sip.false (c.same_text-is_sip.ensures.1 same))
     (λ same. both_ways c.same_text.result c.if-same_text.false (c.same_text.ensures.1 same)) in
-    let fits = other-only c.args.text.now c.cut.result.0.now c.in_ok-rest.rest.now x cut neither is in
+    let fits = other-only c.args.text.now c.cut_scheme.result.0.now c.in_ok-rest.rest.now x cut neither is in
     elim c.else-is_scheme.branch [
       | else-is_scheme-via-then-is_scheme+else-is_some_chars w ↦
           let uric = decides-uric c.in_ok-rest.rest.now w.is_some_chars.result w.is_some_chars.ensures in

@@ -1,5 +1,6 @@
-use Rattle.std.proofs.Common.{inl, inr, Some, ◌≢◌, IfSome, sym, ◌∙◌, subst}
+use Rattle.std.proofs.Common.{inl, inr, sym, ◌∙◌}
 use Rattle.sip_log.specs.Told.{item}
+use Rattle.sip_verdict.specs.inner.Concerned.{each}
 use Rattle.sip_verdict.proofs.ObservingLemmas.{going, observes, observes_fault, observes_no_cookie, observes_heard, event_fits, going_says, event_kept}
 use Rattle.sip_verdict.proofs.observing.observe.Goals as goal
 
@@ -22,13 +23,13 @@ pub returns-clause-observed : goal.returns-clause-observed
 returns-clause-observed c es =
     let i = item c.args.entry.now in
     observes es i _ c.in-Some.direction (sym c.direction_of.ensures ∙ c.in-Some.is)
-    (observes_heard i c.in-Some.direction c.as_slice.result.now c.in-Ok.message c.add.new.self c.of-event.result c.in_ok-number.number c.in-Ok-key_of.own c.in_ok-cancelled.cancelled
-    c.as_slice.ensures.value c.in-Ok.ensures c.in-Ok-key_of.ensures.1 c.in-Ok-key_of.ensures.0 c.in_ok-cancelled.ensures.key c.of-event.ensures (c.in_ok-number.ensures.ok.1 ∙ c.as_slice-2.ensures.value))
+    (observes_heard i c.in-Some.direction c.as_slice.result.now c.in-Ok.message c.add.new.self c.of-event.result c.in_ok-number.number (each c.in-Ok-keys_of.concerned)
+    c.as_slice.ensures.value c.in-Ok.ensures c.in-Ok-keys_of.ensures.0 c.in-Ok-keys_of.ensures.1 c.of-event.ensures (c.in_ok-number.ensures.ok.1 ∙ c.as_slice-2.ensures.value))
 
 pub returns-clause-heard : goal.returns-clause-heard
 returns-clause-heard c =
     let fits = event_fits (item c.args.entry.now) c.in-Ok.message c.add.new.self c.of-event.result c.in_ok-number.number c.of-event.ensures c.in_ok-number.ensures.ok.0 c.requires.limit in
-    (fits.0, fits.1, subst (λ own. IfSome c.in_ok-cancelled.cancelled (λ key. own ≢ Some key)) (sym c.in-Ok-key_of.ensures.0) c.in_ok-cancelled.ensures.other)
+    (fits.0, fits.1, c.in-Ok-keys_of.ensures.2)
 
 pub returns-clause-kept : goal.returns-clause-kept
 returns-clause-kept c =

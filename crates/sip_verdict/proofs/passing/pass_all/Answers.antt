@@ -1,10 +1,11 @@
-use Rattle.std.proofs.Common.{◌≡◌, sym, ap, ◌∙◌, subst}
-use Rattle.sip_verdict.specs.inner.Tracking.{IsOutcome, overdue_outcome, first_of}
-use Rattle.sip_verdict.specs.inner.TablesTracking.{key_keeping, transactions_of, MayPass, AreOnRecordIf}
+use Rattle.std.proofs.Common.{sym, refl, subst}
+use Rattle.std.proofs.lemmas.Result.{IfOk-weaker}
+use Rattle.sip_verdict.specs.inner.Tracking.{IsOutcome}
+use Rattle.sip_verdict.specs.inner.TablesTracking.{key_keeping, transactions_of, MayPass, HearsEach}
+use Rattle.sip_verdict.specs.inner.Concerned.{each}
 use Rattle.sip_verdict.specs.MessageReading.{key_machines}
-use Rattle.sip_states.specs.Tables.{due_of}
-use Rattle.sip_verdict.proofs.Halfway.{mark_outcome, heard_recorded, heard_outcome}
-use Rattle.sip_verdict.proofs.TablesPassing.{on_record_if, given_still}
+use Rattle.sip_verdict.proofs.Halfway.{mark_outcome, heard_outcome}
+use Rattle.sip_verdict.proofs.TablesPassing.{on_record_if, heard_recorded}
 use Rattle.sip_verdict.proofs.passing.pass_all.Goals as goal
 
 pub returns-in_default-clause-recorded : goal.returns-in_default-clause-recorded
@@ -14,48 +15,37 @@ pub returns-in_default-clause-outcome : goal.returns-in_default-clause-outcome
 returns-in_default-clause-outcome g c = λ p es e told ready.
     let t = c.args.tables.now in
     subst (IsOutcome (key_machines p) (key_keeping c.args.book.now p) es e (transactions_of t)) (sym c.overdue-overdue.ensures)
-    (mark_outcome c.args.book.now c.args.moment t c.requires.may (rw c.in_default.is at c.requires.recorded) p es e (rw c.in_default.is at told) ready)
+    (mark_outcome c.args.book.now p es e c.args.moment _ t c.requires.may (rw c.in_default.is at c.requires.recorded) (rw c.in_default.is at told) ready refl)
 
-pub hear_one-requires-clause-given : goal.hear_one-requires-clause-given
-hear_one-requires-clause-given g c = (c.requires.hear c.in-Some.hearing c.in-Some.is).own
+pub hear_each-requires-clause-given : goal.hear_each-requires-clause-given
+hear_each-requires-clause-given g c = (c.requires.hear c.in-Some.hearing c.in-Some.is).given
 
-pub hear_one-requires-clause-fits : goal.hear_one-requires-clause-fits
-hear_one-requires-clause-fits g c = (c.requires.hear c.in-Some.hearing c.in-Some.is).fits
+pub hear_each-requires-clause-fits : goal.hear_each-requires-clause-fits
+hear_each-requires-clause-fits g c = (c.requires.hear c.in-Some.hearing c.in-Some.is).fits
 
-pub hear_one-requires-clause-may : goal.hear_one-requires-clause-may
-hear_one-requires-clause-may g c =
+pub hear_each-requires-clause-may : goal.hear_each-requires-clause-may
+hear_each-requires-clause-may g c =
     subst (MayPass c.args.book.now c.args.tables.now) (sym (c.requires.hear c.in-Some.hearing c.in-Some.is).at) c.requires.may
-
-pub hear_one-requires-2-clause-given : goal.hear_one-requires-2-clause-given
-hear_one-requires-2-clause-given g c =
-    let h = c.in-Some.hearing in
-    given_still h.now.cancelled c.args.tables.now c.hear_one.new.tables c.in_ok-own.ensures.keys (c.requires.hear h c.in-Some.is).cancelled
-
-pub hear_one-requires-2-clause-fits : goal.hear_one-requires-2-clause-fits
-hear_one-requires-2-clause-fits g c = (c.requires.hear c.in-Some.hearing c.in-Some.is).fits
 
 pub returns-clause-may : goal.returns-clause-may
 returns-clause-may g c =
-    subst (MayPass c.args.book.now c.hear_one-2.new.tables) (c.requires.hear c.in-Some.hearing c.in-Some.is).at c.in_ok-cancelled.ensures.may
+    IfOk-weaker c.hear_each.result _ _ (λ outcome h. subst (MayPass c.args.book.now c.hear_each.new.tables) (c.requires.hear c.in-Some.hearing c.in-Some.is).at h.0) c.hear_each.ensures.heard
 
 pub returns-clause-recorded : goal.returns-clause-recorded
 returns-clause-recorded g c =
-    let h = c.in-Some.hearing in
-    let own = c.in_ok-own.own in
-    let cancelled = c.in_ok-cancelled.cancelled in
-    subst (λ o. AreOnRecordIf o c.hear_one-2.new.tables) (ap (λ o. first_of o cancelled) (sym c.first.ensures) ∙ sym c.first-2.ensures)
-    (heard_recorded c.args.book.now c.args.moment h.now c.args.tables.now c.hear_one.new.tables c.hear_one-2.new.tables c.requires.may (c.requires.hear h c.in-Some.is) (rw c.in-Some.is at c.requires.recorded)
-    c.in_ok-own.ensures.keys own cancelled c.in_ok-own.ensures.heard c.in_ok-cancelled.ensures.heard c.overdue-overdue.result)
+    let h = c.in-Some.hearing.now in
+    let given = (c.requires.hear c.in-Some.hearing c.in-Some.is).given in
+    IfOk-weaker c.hear_each.result _ _
+    (λ outcome heard. heard_recorded c.args.book.now h.event (each h.concerned) c.args.tables.now c.hear_each.new.tables c.overdue-overdue.result outcome given (rw c.in-Some.is at c.requires.recorded) heard.1) c.hear_each.ensures.heard
 
 pub returns-clause-outcome : goal.returns-clause-outcome
-returns-clause-outcome g c = λ p es e told ready.
-    let h = c.in-Some.hearing in
+returns-clause-outcome g c =
+    let h = c.in-Some.hearing.now in
     let t = c.args.tables.now in
-    let v = c.hear_one-2.new.tables in
-    let own = c.in_ok-own.own in
-    let cancelled = c.in_ok-cancelled.cancelled in
-    let outcome : c.first-2.result ≡ first_of (first_of (overdue_outcome (due_of t c.args.moment)) own) cancelled =
-    c.first-2.ensures ∙ ap (λ o. first_of o cancelled) (c.first.ensures ∙ ap (λ o. first_of o own) c.overdue-overdue.ensures) in
-    subst (IsOutcome (key_machines p) (key_keeping c.args.book.now p) es e (transactions_of v)) (sym outcome)
-    (heard_outcome c.args.book.now c.args.moment h.now t c.hear_one.new.tables v c.requires.may (c.requires.hear h c.in-Some.is) (rw c.in-Some.is at c.requires.recorded)
-    c.in_ok-own.ensures.keys own cancelled c.in_ok-own.ensures.heard c.in_ok-cancelled.ensures.heard c.in_ok-cancelled.ensures.may.long p es e (rw c.in-Some.is at told) ready)
+    let u = c.hear_each.new.tables in
+    let hear = c.requires.hear c.in-Some.hearing c.in-Some.is in
+    IfOk-weaker c.hear_each.result _ _
+    (λ outcome heard p es e told ready.
+    let told_it = rw c.in-Some.is at told in
+    heard_outcome c.args.book.now p es e c.args.moment _ t c.requires.may (rw c.in-Some.is at c.requires.recorded) told_it ready h.event (λ n key at. (told_it n key at).event) hear.given hear.apart u heard.0.long outcome
+    (subst (λ o. HearsEach c.args.book.now h.event (each h.concerned) t o u outcome) c.overdue-overdue.ensures heard.1)) c.hear_each.ensures.heard

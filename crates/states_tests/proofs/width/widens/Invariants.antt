@@ -1,7 +1,8 @@
 use Rattle.std.proofs.Common.{◌≤◌, ◌+◌, All}
 use Rattle.sip_machine.specs.Rules.{Knows}
+use Rattle.sip_machine.specs.Owing.{owing_names}
 use Rattle.sip_machine.specs.InviteServer.{invite_server_names}
 use Rattle.states_tests.proofs.width.widens.Given as goal
 
 abbrev pub invariant-loop-sends : goal.invariant-loop-sends
-invariant-loop-sends l = (l.set.moment ≤ 123 + l.sends) × All (Knows invite_server_names l.book) l.set.states
+invariant-loop-sends l = (l.set.moment ≤ l.first + l.sends) × All (Knows (owing_names invite_server_names) l.book) l.set.states

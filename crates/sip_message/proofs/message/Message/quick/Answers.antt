@@ -3,8 +3,8 @@ use Rattle.std.specs.List.{AllByRecursion}
 use Rattle.sip_message.specs.declared.name.Known.TheVariants as known_name
 use Rattle.sip_message.specs.Field.{Row}
 use Rattle.sip_message.specs.Reading.{IsValueOf}
-use Rattle.sip_message.proofs.CanonLaw.{fields-rows}
-use Rattle.sip_message.proofs.FaultLemmas.{fields-read}
+use Rattle.sip_message.proofs.lemmas.canon.Law.{fields-rows}
+use Rattle.sip_message.proofs.lemmas.message.Faults.{fields-read}
 use Rattle.sip_message.specs.Outcome.{gives}
 use Rattle.sip_message.specs.Faults.{NamesOf, BodyOf}
 use Rattle.sip_message.specs.Message.{content_length}
@@ -12,30 +12,30 @@ use Rattle.sip_message.specs.Views.{field_parts, fields_parts}
 use Rattle.sip_message.specs.ValueParts.{start_parts, cseq_parts}
 use Rattle.sip_message.specs.ViaParts.{element}
 use Rattle.sip_message.specs.inner.Stages.{names_parts, Stand}
-use Rattle.sip_message.proofs.KeptLemmas.{via-some, via-is, cseq-some, cseq-is}
-use Rattle.sip_message.proofs.ChainLemmas.{Found, found-keeps, found-reads}
+use Rattle.sip_message.proofs.lemmas.asked.Kept.{via-some, via-is, cseq-some, cseq-is}
+use Rattle.sip_message.proofs.lemmas.message.Stages.{Found, found-keeps, found-reads}
 use Rattle.sip_message.proofs.message.Message.quick.Goals as goal
 
 pub read_body-requires-clause-rows : goal.read_body-requires-clause-rows
 read_body-requires-clause-rows c =
-    let h = c.in-Some.ensures.head in
+    let h = rw c.in-Some.is at c.in_ok-start.ensures.head in
     subst (λ xs. AllByRecursion (λ f. Row f.name f.value) (map field_parts xs)) (sym c.deref-2.ensures.value) (fields-rows h.others (fields_parts c.in-Some.fields) h.are_fields)
 
 pub unwrap-via-requires : goal.unwrap-via-requires
 unwrap-via-requires c =
-    via-some (fields_parts c.in-Some.fields) c.in-Some.kept c.in-Some-find_asked.named.via.now c.in-Some.ensures.kept (subst (λ xs. IsValueOf known_name.Via (map field_parts xs) c.in-Some-find_asked.named.via.now) c.deref.ensures.value c.in-Some-find_asked.ensures.stand.via)
+    via-some (fields_parts c.in-Some.fields) c.in-Some.kept c.in-Some-find_asked.named.via.now (rw c.in-Some.is at c.in_ok-start.ensures.kept) (subst (λ xs. IsValueOf known_name.Via (map field_parts xs) c.in-Some-find_asked.named.via.now) c.deref.ensures.value c.in-Some-find_asked.ensures.stand.via)
 
 pub unwrap-cseq-requires : goal.unwrap-cseq-requires
 unwrap-cseq-requires c =
-    cseq-some (fields_parts c.in-Some.fields) c.in-Some.kept c.in-Some-find_asked.named.cseq.now c.in-Some.ensures.kept (subst (λ xs. IsValueOf known_name.CSeq (map field_parts xs) c.in-Some-find_asked.named.cseq.now) c.deref.ensures.value c.in-Some-find_asked.ensures.stand.cseq)
+    cseq-some (fields_parts c.in-Some.fields) c.in-Some.kept c.in-Some-find_asked.named.cseq.now (rw c.in-Some.is at c.in_ok-start.ensures.kept) (subst (λ xs. IsValueOf known_name.CSeq (map field_parts xs) c.in-Some-find_asked.named.cseq.now) c.deref.ensures.value c.in-Some-find_asked.ensures.stand.cseq)
 
 pub read_body-requires-clause-via : goal.read_body-requires-clause-via
 read_body-requires-clause-via c =
-    via-is (fields_parts c.in-Some.fields) c.in-Some.kept c.in-Some-find_asked.named.via.now c.unwrap-via.result c.in-Some.ensures.kept (subst (λ xs. IsValueOf known_name.Via (map field_parts xs) c.in-Some-find_asked.named.via.now) c.deref.ensures.value c.in-Some-find_asked.ensures.stand.via) c.unwrap-via.ensures
+    via-is (fields_parts c.in-Some.fields) c.in-Some.kept c.in-Some-find_asked.named.via.now c.unwrap-via.result (rw c.in-Some.is at c.in_ok-start.ensures.kept) (subst (λ xs. IsValueOf known_name.Via (map field_parts xs) c.in-Some-find_asked.named.via.now) c.deref.ensures.value c.in-Some-find_asked.ensures.stand.via) c.unwrap-via.ensures
 
 pub new-requires : goal.new-requires
 new-requires c =
-    let h = c.in-Some.ensures.head in
+    let h = rw c.in-Some.is at c.in_ok-start.ensures.head in
     let found : Found c.args.bytes.now c.in-Some.rest.now h.first (start_parts c.in-Some.start) (fields_parts c.in-Some.fields) c.in-Some-find_asked.named c.in-Ok.body.now = record {
       head = h.head;
       others = h.others;
@@ -47,12 +47,12 @@ new-requires c =
       stand = subst (λ xs. Stand (map field_parts xs) c.in-Some-find_asked.named) c.deref.ensures.value c.in-Some-find_asked.ensures.stand;
     } in
     found-keeps (element c.unwrap-via.result) (cseq_parts c.unwrap-cseq.result) found
-    (via-is (fields_parts c.in-Some.fields) c.in-Some.kept c.in-Some-find_asked.named.via.now c.unwrap-via.result c.in-Some.ensures.kept (subst (λ xs. IsValueOf known_name.Via (map field_parts xs) c.in-Some-find_asked.named.via.now) c.deref.ensures.value c.in-Some-find_asked.ensures.stand.via) c.unwrap-via.ensures)
-    (cseq-is (fields_parts c.in-Some.fields) c.in-Some.kept c.in-Some-find_asked.named.cseq.now c.unwrap-cseq.result c.in-Some.ensures.kept (subst (λ xs. IsValueOf known_name.CSeq (map field_parts xs) c.in-Some-find_asked.named.cseq.now) c.deref.ensures.value c.in-Some-find_asked.ensures.stand.cseq) c.unwrap-cseq.ensures)
+    (via-is (fields_parts c.in-Some.fields) c.in-Some.kept c.in-Some-find_asked.named.via.now c.unwrap-via.result (rw c.in-Some.is at c.in_ok-start.ensures.kept) (subst (λ xs. IsValueOf known_name.Via (map field_parts xs) c.in-Some-find_asked.named.via.now) c.deref.ensures.value c.in-Some-find_asked.ensures.stand.via) c.unwrap-via.ensures)
+    (cseq-is (fields_parts c.in-Some.fields) c.in-Some.kept c.in-Some-find_asked.named.cseq.now c.unwrap-cseq.result (rw c.in-Some.is at c.in_ok-start.ensures.kept) (subst (λ xs. IsValueOf known_name.CSeq (map field_parts xs) c.in-Some-find_asked.named.cseq.now) c.deref.ensures.value c.in-Some-find_asked.ensures.stand.cseq) c.unwrap-cseq.ensures)
 
 pub returns : goal.returns
 returns c =
-    let h = c.in-Some.ensures.head in
+    let h = rw c.in-Some.is at c.in_ok-start.ensures.head in
     let found : Found c.args.bytes.now c.in-Some.rest.now h.first (start_parts c.in-Some.start) (fields_parts c.in-Some.fields) c.in-Some-find_asked.named c.in-Ok.body.now = record {
       head = h.head;
       others = h.others;

@@ -3,8 +3,8 @@ use Rattle.std.specs.List.{AllByRecursion}
 use Rattle.sip_message.specs.declared.name.Known.TheVariants as known_name
 use Rattle.sip_message.specs.Field.{Row}
 use Rattle.sip_message.specs.Reading.{IsValueOf}
-use Rattle.sip_message.proofs.CanonLaw.{fields-rows}
-use Rattle.sip_message.proofs.FaultLemmas.{read-fields}
+use Rattle.sip_message.proofs.lemmas.canon.Law.{fields-rows}
+use Rattle.sip_message.proofs.lemmas.message.Faults.{read-fields}
 use Rattle.sip_message.specs.Outcome.{stops, gives, passes, stopped}
 use Rattle.sip_message.specs.Faults.{FieldsOf, NamesOf, BodyOf}
 use Rattle.sip_message.specs.Message.{content_length}
@@ -15,8 +15,8 @@ use Rattle.std.specs.Global.{Vec}
 use Rattle.sip_message.specs.declared.field.Field.{Field as Code}
 use Rattle.sip_message.specs.declared.kept.Kept.{Kept}
 use Rattle.sip_message.specs.inner.Stages.{names_parts, Stand}
-use Rattle.sip_message.proofs.KeptLemmas.{via-some, via-is, cseq-some, cseq-is}
-use Rattle.sip_message.proofs.ChainLemmas.{begun, begins, settled, faulted, Found, found-keeps, found-reads}
+use Rattle.sip_message.proofs.lemmas.asked.Kept.{via-some, via-is, cseq-some, cseq-is}
+use Rattle.sip_message.proofs.lemmas.message.Stages.{begun, begins, settled, faulted, Found, found-keeps, found-reads}
 use Rattle.sip_message.proofs.message.Message.whole.Goals as goal
 
 pub returns-in_default : goal.returns-in_default

@@ -2,7 +2,7 @@ use Rattle.std.proofs.Common.{[], sym, subst, refl}
 use Rattle.sip_message.specs.Only.{IsOnly}
 use Rattle.sip_message.specs.inner.ElementFronts.{AreLeft}
 use Rattle.sip_message.specs.inner.Codes.{elements_code}
-use Rattle.sip_message.proofs.ViewLemmas.{One-is, One-of, nothing-left, left-of_nothing}
+use Rattle.sip_message.proofs.lemmas.via.Elements.{One-is, One-of, nothing-left, left-of_nothing}
 use Rattle.sip_message.proofs.vias.Vias.new.Goals as goal
 
 pub invariant_of-result : goal.invariant_of-result

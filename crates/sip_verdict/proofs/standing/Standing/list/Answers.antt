@@ -1,6 +1,7 @@
 use Rattle.std.proofs.Common.{[], ◌∷◌, ◌++◌, ◌+◌, sym, ◌∙◌, ap, string_bytes}
 use Rattle.sip_log.specs.Told.{item}
 use Rattle.sip_verdict.specs.Listing.{first_entry}
+use Rattle.sip_verdict.specs.inner.Concerned.{each}
 use Rattle.sip_verdict.proofs.NumberingLemmas.{stay_numbered}
 use Rattle.sip_verdict.proofs.EntryText.{observed_ascii, entry_text}
 use Rattle.sip_verdict.proofs.standing.Standing.list.Goals as goal
@@ -21,7 +22,7 @@ returns-in_ok-text-in-None g c = record {
         (
           judged.0.good,
           entry_text (first_entry ((items ++ item e ∷ []) ++ more)) new.book (stay_numbered (items ++ item e ∷ []) more new.book grown) s.tables.times es seen.0 new.tables may.passes.known may.passes.long c.in_ok-text-in-None.ensures.apart judged
-              taken.taken.own taken.taken.cancelled (string_bytes c.in_ok-text-in-None.field-0) (observed_ascii es (item e) seen.0 seen.1) seen.3 c.in_ok-text-in-None.ensures.text,
+              (each taken.taken.concerned) (string_bytes c.in_ok-text-in-None.field-0) (observed_ascii es (item e) seen.0 seen.1) seen.3 c.in_ok-text-in-None.ensures.text,
         ),
       );
 }

@@ -1,36 +1,33 @@
-use Rattle.std.proofs.Common.{◌∙◌, ap, inl, refl, arith, None, subst, sym}
+use Rattle.std.proofs.Common.{◌∙◌, ap, inl, refl, arith, subst, sym}
 use Rattle.sip_log.specs.Told.{item}
 use Rattle.sip_verdict.specs.MessageReading.{fault_observation}
 use Rattle.sip_verdict.specs.inner.Numbering.{StaysNumbered}
-use Rattle.sip_verdict.specs.inner.TablesTracking.{MayHear}
+use Rattle.sip_verdict.specs.inner.TablesTracking.{HaveNumbers, MayHear}
+use Rattle.sip_verdict.specs.inner.Concerned.{each}
 use Rattle.sip_verdict.proofs.NumberingLemmas.{numbered_mark, numbered_heard, unless_trouble}
-use Rattle.sip_verdict.proofs.StandingLemmas.{grown_may, both_few, both_may, both_recorded, both_may_hear, same_some, both_given, may_next, mark_judged, heard_judged}
+use Rattle.sip_verdict.proofs.StandingLemmas.{grown_may, touched_recorded, few_keys, are_given, may_hear, same_some, may_next, mark_judged, heard_judged}
+use Rattle.sip_verdict.proofs.TablesTouching.{touches_may, have_numbers}
 use Rattle.sip_verdict.proofs.standing.Standing.take.Goals as goal
 
 pub pass-requires-in-Heard-clause-may : goal.pass-requires-in-Heard-clause-may
 pass-requires-in-Heard-clause-may g c =
     let s = c.args.self.now in
     let e = c.args.entry.now in
-    let touched = c.in_ok-own-in-Heard.ensures.touched in
-    both_may c.in-Heard.own c.in-Heard.cancelled c.in_ok-own-in-Heard.own c.in_ok-own-in-Heard.cancelled s.tables touched.0 c.touch_both.new.tables touched.1 touched.2 c.observe.new.book e.moment
-    (grown_may s.book c.observe.new.book e.number e.bytes.items (rw c.in-Heard.is at c.in_ok-told.ensures.kept).3 s.tables e.moment c.requires.may.passes)
+    touches_may c.observe.new.book e.moment (each c.in-Heard.concerned) (each c.in_ok-concerned-in-Heard.concerned) s.tables c.touch_each.new.tables
+    (grown_may s.book c.observe.new.book e.number e.bytes.items (rw c.in-Heard.is at c.in_ok-told.ensures.kept).3 s.tables e.moment c.requires.may.passes) c.in_ok-concerned-in-Heard.ensures
 
 pub pass-requires-in-Heard-clause-hear : goal.pass-requires-in-Heard-clause-hear
 pass-requires-in-Heard-clause-hear g c =
-    let s = c.args.self.now in
     let e = c.args.entry.now in
-    let touched = c.in_ok-own-in-Heard.ensures.touched in
     let is_heard = rw c.in-Heard.is at c.in_ok-told.ensures.heard in
-    λ h is. subst (MayHear c.observe.new.book c.touch_both.new.tables e.moment) (ap (λ b. b.now) (same_some _ h is))
-    (both_may_hear c.observe.new.book e.moment c.in-Heard.event c.in-Heard.own c.in-Heard.cancelled c.in_ok-own-in-Heard.own c.in_ok-own-in-Heard.cancelled s.tables touched.0 c.touch_both.new.tables touched.1 touched.2
+    λ h is. subst (MayHear c.observe.new.book c.touch_each.new.tables e.moment) (ap (λ b. b.now) (same_some _ h is))
+    (may_hear c.observe.new.book e.moment c.in-Heard.event c.in-Heard.concerned c.in_ok-concerned-in-Heard.concerned c.args.self.now.tables c.touch_each.new.tables c.in_ok-concerned-in-Heard.ensures
     is_heard.0 is_heard.1 is_heard.2)
 
 pub pass-requires-in-Heard-clause-recorded : goal.pass-requires-in-Heard-clause-recorded
 pass-requires-in-Heard-clause-recorded g c =
-    let s = c.args.self.now in
-    let touched = c.in_ok-own-in-Heard.ensures.touched in
-    both_recorded c.in-Heard.own c.in-Heard.cancelled c.in_ok-own-in-Heard.own c.in_ok-own-in-Heard.cancelled s.tables touched.0 c.touch_both.new.tables touched.1 touched.2
-    c.in-Heard.event c.requires.may.passes.long c.requires.may.recorded
+    touched_recorded (each c.in-Heard.concerned) (each c.in_ok-concerned-in-Heard.concerned) c.args.self.now.tables c.touch_each.new.tables c.in_ok-concerned-in-Heard.ensures
+    c.requires.may.passes.long c.requires.may.recorded
 
 pub returns-in_ok-verdict-in-Mark-clause-may : goal.returns-in_ok-verdict-in-Mark-clause-may
 returns-in_ok-verdict-in-Mark-clause-may g c =
@@ -61,18 +58,17 @@ returns-in-Fault-clause-judged g c = λ es tracks counts. (
   fault_observation (item c.args.entry.now) c.in-Fault.fault,
   (rw c.in-Fault.is at c.in_ok-told.ensures.observed) es,
   (counts, refl),
-  (None, None, refl, refl, refl),
+  tt,
 )
 
 pub returns-in_ok-verdict-in-Heard-clause-may : goal.returns-in_ok-verdict-in-Heard-clause-may
 returns-in_ok-verdict-in-Heard-clause-may g c =
     let s = c.args.self.now in
     let e = c.args.entry.now in
-    let touched = c.in_ok-own-in-Heard.ensures.touched in
     let passed = c.in_ok-verdict-in-Heard in
-    may_next passed.verdict s.book c.observe.new.book c.pass-in-Heard.new.self.book s.tables c.touch_both.new.tables c.pass-in-Heard.new.self.tables e.number e.moment e.bytes.items c.requires.may
+    may_next passed.verdict s.book c.observe.new.book c.pass-in-Heard.new.self.book s.tables c.touch_each.new.tables c.pass-in-Heard.new.self.tables e.number e.moment e.bytes.items c.requires.may
     (rw c.in-Heard.is at c.in_ok-told.ensures.kept).3
-    (both_few c.in-Heard.own c.in-Heard.cancelled c.in_ok-own-in-Heard.own c.in_ok-own-in-Heard.cancelled s.tables touched.0 c.touch_both.new.tables touched.1 touched.2)
+    (few_keys c.in-Heard.concerned (each c.in_ok-concerned-in-Heard.concerned) s.tables c.touch_each.new.tables c.in_ok-concerned-in-Heard.ensures)
     passed.ensures.keys passed.ensures.book passed.ensures.may passed.ensures.recorded
 
 pub returns-in_ok-verdict-in-Heard-clause-numbered : goal.returns-in_ok-verdict-in-Heard-clause-numbered
@@ -88,16 +84,17 @@ returns-in_ok-verdict-in-Heard-clause-numbered g c =
 
 pub returns-in_ok-verdict-in-Heard-clause-given : goal.returns-in_ok-verdict-in-Heard-clause-given
 returns-in_ok-verdict-in-Heard-clause-given g c =
-    let touched = c.in_ok-own-in-Heard.ensures.touched in
-    both_given c.in-Heard.own c.in-Heard.cancelled c.in_ok-own-in-Heard.own c.in_ok-own-in-Heard.cancelled c.args.self.now.tables touched.0 c.touch_both.new.tables c.pass-in-Heard.new.self.tables
-    touched.1 touched.2 c.in_ok-verdict-in-Heard.ensures.keys
+    let keys = each c.in-Heard.concerned in
+    let numbers = each c.in_ok-concerned-in-Heard.concerned in
+    are_given c.pass-in-Heard.new.self.tables numbers keys
+    (subst (λ all. HaveNumbers all numbers keys) (sym c.in_ok-verdict-in-Heard.ensures.keys)
+    (have_numbers keys numbers c.args.self.now.tables c.touch_each.new.tables c.in_ok-concerned-in-Heard.ensures))
 
 pub returns-in_ok-verdict-in-Heard-clause-judged : goal.returns-in_ok-verdict-in-Heard-clause-judged
 returns-in_ok-verdict-in-Heard-clause-judged g c =
     let s = c.args.self.now in
     let e = c.args.entry.now in
-    let touched = c.in_ok-own-in-Heard.ensures.touched in
     heard_judged c.in_ok-verdict-in-Heard.verdict s.book c.observe.new.book c.pass-in-Heard.new.self.book e.number e.bytes.items (rw c.in-Heard.is at c.in_ok-told.ensures.kept).3 (item e) e.moment e.number
-    c.in-Heard.event c.in-Heard.own c.in-Heard.cancelled c.in_ok-own-in-Heard.own c.in_ok-own-in-Heard.cancelled s.tables touched.0 c.touch_both.new.tables c.pass-in-Heard.new.self.tables
-    c.requires.may.passes.long touched.1 touched.2 c.in_ok-own-in-Heard.ensures.apart c.in_ok-verdict-in-Heard.ensures.keys (rw c.in-Heard.is at c.in_ok-told.ensures.heard).1
+    c.in-Heard.event c.in-Heard.concerned c.in_ok-concerned-in-Heard.concerned s.tables c.touch_each.new.tables c.pass-in-Heard.new.self.tables
+    c.requires.may.passes.long c.in_ok-concerned-in-Heard.ensures c.known-in-Heard.ensures.unique c.in_ok-verdict-in-Heard.ensures.keys (rw c.in-Heard.is at c.in_ok-told.ensures.heard).1
     (rw c.in-Heard.is at c.in_ok-told.ensures.observed) c.in_ok-verdict-in-Heard.ensures.judged

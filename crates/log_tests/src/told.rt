@@ -1,0 +1,61 @@
+//! What the errors of `sip_log` say, and how its readers and writers look to who debugs them.
+
+use sip_log::{Broken, FromRead, LogError, LogReader, ToWrite, WriteError};
+use std::test::Fail;
+
+#[test]
+fn errors_say_what_is_wrong(rt: HostRuntime) -> Result<(), Fail> {
+    let rows = [
+        (LogError::Header, "no header"),
+        (LogError::EntryLine, "no entry line"),
+        (LogError::Truncated, "truncated"),
+        (LogError::Order, "out of order"),
+        (LogError::Limit, "outside the limits"),
+        (LogError::Io, "cannot read"),
+        (LogError::Memory, "out of memory"),
+        (LogError::Failed, "failed before"),
+    ];
+    for (error, told) in rows {
+        assert_eq!(rt; error.to_string(rt.alloc())?.as_str(), told);
+    }
+    let rows = [
+        (WriteError::Limit, "outside the limits"),
+        (WriteError::Io, "cannot write"),
+    ];
+    for (error, told) in rows {
+        assert_eq!(rt; error.to_string(rt.alloc())?.as_str(), told);
+    }
+    assert_eq!(rt; Broken.to_string(rt.alloc())?.as_str(), "failed");
+    Ok(())
+}
+
+/// A reader tells where it stands in its buffer, and not the 128 KiB that the buffer has.
+#[test]
+fn readers_and_writers_look(rt: HostRuntime) -> Result<(), Fail> {
+    let bytes: &[u8] = b"sip-trace 1\nt1 1 t2 2 t4 3 tolerance 4\nM 5\nS";
+    let reader = LogReader::new(rt.alloc(), FromRead::new(&bytes[..2]));
+    let told = format!(in rt.alloc(); "{reader:?}")?;
+    assert_eq!(rt;
+        told.as_str(),
+        "LogReader { source: FromRead { reader: [115, 105], failure: None }, \
+         progress: Progress { alloc: Global, stage: Fresh, params: None, count: 0, last: 0 } }"
+    );
+    let mut reader = LogReader::new(rt.alloc(), bytes);
+    let entry = reader.next().ok().flatten().ok_or("no entry")?;
+    let told = format!(in rt.alloc(); "{entry:?}")?;
+    assert_eq!(rt;
+        told.as_str(),
+        "Entry { number: 1, moment: 5, action: Mark, bytes: [] }"
+    );
+    let told = format!(in rt.alloc(); "{reader:?}")?;
+    assert_eq!(rt;
+        told.as_str(),
+        "LogReader { source: [], progress: Progress { alloc: Global, \
+         stage: Entries(Window { start: 43, end: 44, .. }), \
+         params: Some(Params { t1: 1, t2: 2, t4: 3, tolerance: 4 }), count: 1, last: 5 } }"
+    );
+    let writer = ToWrite::new(Vec::<u8>::new(rt.alloc()));
+    let told = format!(in rt.alloc(); "{writer:?}")?;
+    assert_eq!(rt; told.as_str(), "ToWrite { writer: [], failed: false }");
+    Ok(())
+}

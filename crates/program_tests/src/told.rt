@@ -1,0 +1,23 @@
+//! What the failures of the program say: the line that the standard error has, without the program's name.
+
+use sip_program::Failure;
+use std::test::Fail;
+
+#[test]
+fn failures_say_what_the_program_tells(rt: HostRuntime) -> Result<(), Fail> {
+    let rows = [
+        (Failure::Read, "cannot read"),
+        (Failure::Write, "cannot write"),
+        (Failure::Memory, "out of memory"),
+        (
+            Failure::Usage,
+            "usage: siptrace [check FILE | show FILE | states FILE ENTRY]",
+        ),
+    ];
+    for (failure, told) in rows {
+        assert_eq!(rt; failure.to_string(rt.alloc())?.as_str(), told);
+        let line = format!(in rt.alloc(); "siptrace: {failure}\n")?;
+        assert!(rt; failure.line() == line.as_bytes());
+    }
+    Ok(())
+}

@@ -1,0 +1,30 @@
+use Rattle.std.proofs.Common.{◌∙◌, sym, ap, subst, All}
+use Rattle.sip_machine.specs.Texts.{IsBook, Keeps}
+use Rattle.sip_machine.specs.Retained.{only}
+use Rattle.sip_machine.specs.inner.Order.{texts_of, places_of, IsOrder}
+use Rattle.sip_machine.proofs.RetainLemmas.{merged_is, IsBook-only, IsOrder-only}
+use Rattle.sip_machine.proofs.book.Book.retain_only.Goals as goal
+
+pub invariant_of-self : goal.invariant_of-self
+invariant_of-self c =
+    let texts = texts_of c.self.inside.kept.items in
+    let numbers = c.args.numbers.now in
+    let book = c.self.invariant.0 in
+    let kept : All (Keeps texts) numbers = rw c.self.view_is c.requires.kept in
+    let is = c.keep_only.ensures ∙ merged_is numbers texts c.requires.rising book.rising kept in
+    let places = rw c.deref.ensures.value at c.move_all.ensures.places in
+    let order = IsOrder-only texts numbers book c.requires.rising kept (places_of c.self.inside.order.items) c.self.invariant.1.order in (
+      subst IsBook (sym is) (IsBook-only texts numbers book c.requires.rising kept),
+      record {
+        order = subst (λ ts. IsOrder ts (places_of c.move_all.new.runs.items)) (sym is) (subst (IsOrder (only numbers texts)) (sym places) order);
+        led = c.move_all.ensures.led;
+        short = c.move_all.ensures.short;
+      },
+    )
+
+pub returns : goal.returns
+returns c =
+    let texts = texts_of c.self.inside.kept.items in
+    let numbers = c.args.numbers.now in
+    let kept : All (Keeps texts) numbers = rw c.self.view_is c.requires.kept in
+    c.keep_only.ensures ∙ merged_is numbers texts c.requires.rising c.self.invariant.0.rising kept ∙ ap (only numbers) c.self.view_is

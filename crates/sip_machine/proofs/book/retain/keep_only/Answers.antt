@@ -1,0 +1,34 @@
+use Rattle.std.proofs.Common.{◌∙◌, ◌<◌, ℕ, List, ap, length, arith}
+use Rattle.sip_machine.specs.declared.book.Kept.{Kept}
+use Rattle.sip_machine.specs.inner.Order.{texts_of}
+use Rattle.sip_machine.proofs.RetainLemmas.{keeps_more, keeps_less, keeps_end, keeps_all}
+use Rattle.sip_machine.proofs.book.retain.keep_only.Goals as goal
+use Rattle.sip_machine.proofs.book.retain.keep_only.Goals.{then-left-numbers+then-index-numbers, else-left-numbers, else-left-numbers-via-then-left-numbers+else-index-numbers, else-left-numbers-via-else-left-numbers}
+
+abbrev text : Kept → ℕ × List ℕ
+text k = (k.number, k.bytes.items)
+
+pub loop-i-preserved : goal.loop-i-preserved
+loop-i-preserved c =
+    let old = c.args.kept.now.items in
+    let now = c.loop-i.kept.items in
+    let numbers = c.args.numbers.now in
+    let left = c.loop-i.left in
+    let i = c.loop-i.i in
+    let low : i < length now = omega arith in
+    elim c.if-left-numbers.branch [
+      | then-left-numbers+then-index-numbers w ↦
+          rw (w.kept-is, w.left-is)
+          (keeps_more text numbers old now left i c.loop-i.invariant w.index.result.now low w.index.ensures w.if-left-numbers.true w.if-index-numbers.true w.swap.new.self.items w.swap.ensures.by_index)
+      | else-left-numbers w ↦ rw (w.kept-is, w.left-is) (elim w.else-left-numbers.branch [
+        | else-left-numbers-via-then-left-numbers+else-index-numbers u ↦
+            keeps_less text numbers old now left i c.loop-i.invariant u.index.result.now low u.index.ensures u.if-left-numbers.true u.if-index-numbers.false
+        | else-left-numbers-via-else-left-numbers u ↦
+            keeps_end text numbers old now left i c.loop-i.invariant low u.if-left-numbers.false
+      ])
+    ]
+
+pub returns : goal.returns
+returns c =
+    ap (λ ks. texts_of ks) c.truncate.ensures.items
+    ∙ keeps_all text c.args.numbers.now c.args.kept.now.items c.loop-i.kept.items c.loop-i.left c.loop-i.i c.loop-i.invariant (omega arith)

@@ -1,0 +1,5 @@
+use Rattle.sip_machine.proofs.RetainLemmas.{KeepsInPlace}
+use Rattle.sip_machine.proofs.book.retain.keep_only.Given as goal
+
+abbrev pub invariant-loop-i : goal.invariant-loop-i
+invariant-loop-i l = KeepsInPlace (λ k. (k.number, k.bytes.items)) l.numbers l.initial.kept.items l.kept.items l.left l.i

@@ -1,0 +1,7 @@
+use Rattle.sip_machine.specs.inner.Order.{texts_of, most_places}
+use Rattle.sip_machine.specs.inner.Retain.{moved}
+use Rattle.sip_machine.proofs.RetainLemmas.{MovesRuns}
+use Rattle.sip_machine.proofs.book.retain.move_all.Given as goal
+
+abbrev pub invariant-loop-i : goal.invariant-loop-i
+invariant-loop-i l = MovesRuns (moved (texts_of l.kept) l.numbers) most_places l.initial.runs.items l.runs.items l.i

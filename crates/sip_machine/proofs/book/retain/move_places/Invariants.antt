@@ -1,0 +1,7 @@
+use Rattle.sip_machine.specs.inner.Order.{texts_of}
+use Rattle.sip_machine.specs.inner.Retain.{moved}
+use Rattle.sip_machine.proofs.RetainLemmas.{MovesInPlace}
+use Rattle.sip_machine.proofs.book.retain.move_places.Given as goal
+
+abbrev pub invariant-loop-i : goal.invariant-loop-i
+invariant-loop-i l = MovesInPlace (moved (texts_of l.kept) l.numbers) l.initial.places.items l.places.items l.left l.i

@@ -1,0 +1,52 @@
+use Rattle.std.specs.Prelude.{◌≡◌, ◌≤◌, ℕ, Bool, true, false, List, [], ◌∷◌, All, Contains, if◌then◌else◌}
+use Rattle.std.proofs.Common.{refl, ap, arith}
+use Rattle.std.proofs.lemmas.Bool.Decides.{nat_tests}
+use Rattle.std.proofs.lemmas.List.Elements.{All-head, All-nil, All-cons}
+use Rattle.sip_machine.specs.declared.waiting.Waiting.{Waiting as CodeWaiting}
+use Rattle.sip_machine.specs.contracts.waiting.WaitingPartialEq.TheImpl as derived
+use Rattle.sip_machine.specs.Times.{Times}
+use Rattle.sip_machine.specs.Limits.{close_at}
+use Rattle.sip_machine.specs.Texts.{Texts, IsBook, Keeps, text_of}
+use Rattle.sip_machine.specs.Waiting.{Waiting, waiting_closes, waiting_seen}
+
+-- Laws of requests that wait, and of timers that start.
+
+-- waiting requests with the same data are the same one
+waiting_same : (v w : CodeWaiting) → v.reliable ≡ w.reliable → v.request ≡ w.request → v.start ≡ w.start →
+    v.set ≡ w.set → v.interval ≡ w.interval → v ≡ w
+waiting_same v w reliable request start set interval =
+    let e : record { reliable = v.reliable; request = v.request; start = v.start; set = v.set; interval = v.interval } ≡ w = rw (reliable, request, start, set, interval) in e
+
+-- equal waiting requests of the code are the same one
+pub waiting_exact : (v w : CodeWaiting) → derived.ghosts.eq v w ≡ true → v ≡ w
+waiting_exact v w e =
+    waiting_same v w (grind (arith, nat_tests)) (grind (arith, nat_tests)) (grind (arith, nat_tests)) (grind (arith, nat_tests)) (grind (arith, nat_tests))
+
+-- waiting requests that stand for the same beside one book are the same one
+pub waiting_apart : (texts : Texts) (v w : CodeWaiting) → IsBook texts → All (Keeps texts) (v.request ∷ []) →
+    All (Keeps texts) (w.request ∷ []) → waiting_seen texts v ≡ waiting_seen texts w → v ≡ w
+waiting_apart texts v w book v_known w_known e =
+    let v_kept = All-head (Keeps texts) v.request [] v_known in
+    let w_kept = All-head (Keeps texts) w.request [] w_known in
+    let request = book.apart v.request w.request v_kept w_kept (ap (λ x. x.request) e) in
+    waiting_same v w (ap (λ x. x.reliable) e) request (ap (λ x. x.start) e) (ap (λ x. x.set) e) (ap (λ x. x.interval) e)
+
+-- a waiting request stands for the same beside books that agree on its message
+pub waiting_by_names : (a b : Texts) (w : CodeWaiting) → ((n : ℕ) → Contains (w.request ∷ []) n → text_of a n ≡ text_of b n) →
+    waiting_seen a w ≡ waiting_seen b w
+waiting_by_names a b w agree =
+    ap (λ (text : List ℕ). record { reliable = w.reliable; request = text; start = w.start; set = w.set; interval = w.interval }) (agree w.request (0, omega arith, refl))
+
+-- a timer that starts is not past
+pub timer_starts : (p : Times) (t duration : ℕ) → All (λ m. t ≤ m) (close_at p t duration ∷ [])
+timer_starts p t duration = All-cons (λ m. t ≤ m) (close_at p t duration) [] (omega arith) (All-nil (λ m. t ≤ m))
+
+-- nor is one that sends again over an unreliable transport, beside one that is not past
+pub repeat_starts : (p : Times) (t m interval : ℕ) (reliable : Bool) → t ≤ m → All (λ m. t ≤ m) (m ∷ (if reliable then [] else close_at p t interval ∷ []))
+repeat_starts p t m interval true low = All-cons (λ m. t ≤ m) m [] low (All-nil (λ m. t ≤ m))
+repeat_starts p t m interval false low = All-cons (λ m. t ≤ m) m (close_at p t interval ∷ []) low (timer_starts p t interval)
+
+-- the timer that gives a waiting request up is not past while its timers are not
+pub patience_lasts : (p : Times) (w : Waiting) (t patience : ℕ) → All (λ m. t ≤ m) (waiting_closes p w patience) → t ≤ close_at p w.start patience
+patience_lasts p w t patience running =
+    All-head (λ m. t ≤ m) (close_at p w.start patience) (if w.reliable then [] else close_at p w.set w.interval ∷ []) running

@@ -1,0 +1,86 @@
+//! What forgets messages: places move, and messages go.
+ghost use Rattle.std.specs.Prelude.{◌≡◌, ◌<◌, ◌≤◌, length, All, AllPairs};
+ghost use Rattle.std.specs.List.{filter_map};
+ghost use Rattle.sip_machine.specs.inner.Retain.{number_at, moved, merged};
+ghost use Rattle.sip_machine.specs.inner.Order.{texts_of, places_of, most_places, IsLed};
+
+use super::{Kept, Place, Run};
+
+/// The number of the message at a position, 0 past the last one.
+fn number_at(kept: &[Kept], position: usize) -> u32
+    ensures { result ≡ number_at (texts_of kept.now) position }
+{
+    match kept.get(position) {
+        Some(kept) => kept.number,
+        None => 0,
+    }
+}
+
+/// Where the message at a place goes once these numbers alone are kept.
+fn moved(kept: &[Kept], place: Place, numbers: &[u32]) -> Option<Place>
+    requires { AllPairs (λ a b. a < b) numbers.now }
+    ensures { result ≡ moved (texts_of kept.now) numbers.now place }
+{
+    let number = number_at(kept, place.position);
+    match numbers.binary_search(&number) {
+        Ok(position) => Some(Place { position, ..place }),
+        Err(_) => None,
+    }
+}
+
+/// Moves the places of the messages with these numbers, and forgets the others.
+fn move_places(places: &mut Vec<Place>, kept: &[Kept], numbers: &[u32])
+    requires { AllPairs (λ a b. a < b) numbers.now }
+    ensures places { places.new.items ≡ filter_map (moved (texts_of kept.now) numbers.now) places.old.items }
+    ensures fewer { length places.new.items ≤ length places.old.items }
+{
+    let mut left = 0;
+    for i in 0..places.len() {
+        if let Some(place) = moved(kept, places[i], numbers) {
+            places[left] = place;
+            left += 1;
+        }
+    }
+    places.truncate(left);
+}
+
+/// The same in one run, which may be left with no place.
+fn move_run(run: &mut Run, kept: &[Kept], numbers: &[u32])
+    requires { AllPairs (λ a b. a < b) numbers.now }
+    ensures places { run.new.places.items ≡ filter_map (moved (texts_of kept.now) numbers.now) run.old.places.items }
+    ensures fewer { length run.new.places.items ≤ length run.old.places.items }
+    ensures led { 0 < length run.new.places.items → IsLed run.new }
+{
+    move_places(&mut run.places, kept, numbers);
+    if !run.places.is_empty() {
+        run.first = run.places[0];
+    }
+}
+
+/// The same in all runs, of which those that are left with no place go.
+pub(super) fn move_all(runs: &mut Vec<Run>, kept: &[Kept], numbers: &[u32])
+    requires rising { AllPairs (λ a b. a < b) numbers.now }
+    requires short { All (λ run. length run.places.items ≤ most_places) runs.old.items }
+    ensures places { places_of runs.new.items ≡ filter_map (moved (texts_of kept.now) numbers.now) (places_of runs.old.items) }
+    ensures led { All IsLed runs.new.items }
+    ensures short { All (λ run. length run.places.items ≤ most_places) runs.new.items }
+{
+    for i in 0..runs.len() {
+        move_run(&mut runs[i], kept, numbers);
+    }
+    runs.retain(|run| !run.places.is_empty());
+}
+
+/// Forgets the messages but those with these numbers.
+pub(super) fn keep_only(kept: &mut Vec<Kept>, numbers: &[u32])
+    ensures { texts_of kept.new.items ≡ merged numbers.now (texts_of kept.old.items) }
+{
+    let mut left = 0;
+    for i in 0..kept.len() {
+        if left < numbers.len() && kept[i].number == numbers[left] {
+            kept.swap(left, i);
+            left += 1;
+        }
+    }
+    kept.truncate(left);
+}

@@ -1,0 +1,235 @@
+//! How debts lie beside a phase: in a box where some are owed, and not at all where a transaction owes nothing.
+ghost use Rattle.std.specs.Prelude.{◌≡◌, ◌<◌, ◌++◌, ◌∷◌, [], List, IfOk, OnOk, OnErr, IsTrue, All, filter, length, map, flat_map, remove, replicate};
+ghost use Rattle.std.specs.Bool.{OnTrue, OnFalse};
+ghost use Rattle.std.specs.Cmp.Lexicographic.{pointwise, slice_cmp};
+ghost use Rattle.sip_machine.specs.Debts.{IsWithoutFirst, earliest};
+ghost use Rattle.sip_machine.specs.inner.Outbox.{counts_at, softened_debt, is_payable, debt_deadlines};
+ghost use Rattle.sip_machine.specs.declared.outbox.Debt.{Debt};
+
+use crate::outbox::{Debt, Outbox, Run};
+use std::alloc::{AllocError, Global};
+use std::cmp::Ordering;
+use std::fmt::Debug;
+use std::marker::Model;
+
+/// Debts beside a phase.
+pub trait Debts: Debug + Drop {
+    /// The debts, oldest cause first.
+    ghost listed: { Self → List Debt };
+
+    /// Nothing is owed.
+    fn none() -> Self
+        ensures { listed result ≡ [] };
+
+    /// The debts, in runs of equal ones.
+    fn runs(&self) -> &[Run]
+        ensures debts { flat_map (λ run. replicate run.count run.debt) result.now ≡ listed self.now }
+        ensures filled { All (λ run. 0 < run.count) result.now };
+
+    /// A copy.
+    fn try_clone(&self, alloc: Global) -> Result<Self, AllocError>
+        ensures { IfOk result (λ copy. listed copy ≡ listed self.now) };
+
+    /// A copy without what may be sent and whose deadline is below the moment.
+    fn unexpired(&self, alloc: Global, moment: u64) -> Result<Self, AllocError>
+        ensures { IfOk result (λ copy. listed copy ≡ filter (counts_at moment) (listed self.now)) };
+
+    /// A copy of which all may be sent, and none has to be.
+    fn softened(&self, alloc: Global) -> Result<Self, AllocError>
+        ensures { IfOk result (λ copy. listed copy ≡ map softened_debt (listed self.now)) };
+
+    /// Adds a debt behind the others. On an error they are as before.
+    fn push(&mut self, alloc: Global, debt: Debt) -> Result<(), AllocError>
+        ensures ok { OnOk result (listed self.new ≡ listed self.old ++ debt ∷ []) }
+        ensures err { OnErr result (listed self.new ≡ listed self.old) };
+
+    /// Takes out the first debt that a send of the message at the moment pays, and tells whether there was one.
+    fn pay(&mut self, message: u32, moment: u64) -> bool
+        ensures paid { OnTrue result (IsWithoutFirst (λ debt. IsTrue (is_payable message moment debt)) (listed self.old) (listed self.new)) }
+        ensures unpaid { OnFalse result ((listed self.new ≡ listed self.old)
+            × All (λ debt. ¬ (IsTrue (is_payable message moment debt))) (listed self.old)) };
+
+    /// Takes out the debt at the index, if there is one.
+    fn remove(&mut self, index: usize)
+        ensures { listed self.new ≡ remove (listed self.old) index };
+
+    /// The least deadline of what must be sent.
+    fn earliest_must(&self) -> Option<u64>
+        ensures { result ≡ earliest (debt_deadlines (listed self.now)) };
+
+    /// Whether the debts are the same.
+    fn equals(&self, other: &Self) -> bool
+        ensures { result ≡ pointwise ⟦<Debt as PartialEq>⟧.eq (listed self.now) (listed other.now) };
+
+    /// Compares them as lists of debts.
+    fn compare(&self, other: &Self) -> Ordering
+        ensures { result ≡ slice_cmp ⟦<Debt as Ord>⟧.cmp (listed self.now) (listed other.now) };
+}
+
+/// Debts of a transaction that owes messages. Where nothing is owed, nothing is allocated. Contracts see the list.
+#[derive(Debug, Drop)]
+pub struct BoxedDebts {
+    outbox: Option<Box<Outbox>>,
+}
+
+impl Model for BoxedDebts {
+    ghost use Rattle.std.specs.Prelude.{List, [], unwrap_or};
+    ghost use Rattle.std.specs.Option.{option_map};
+    ghost use Rattle.sip_machine.specs.declared.outbox.Debt.{Debt};
+
+    ghost Value = { List Debt };
+
+    ghost view = { λ o. unwrap_or (option_map (λ boxed. boxed.value) o.outbox) [] };
+}
+
+impl Debts for BoxedDebts {
+    ghost listed = { λ debts. debts };
+
+    fn none() -> BoxedDebts {
+        BoxedDebts { outbox: None }
+    }
+
+    fn runs(&self) -> &[Run] {
+        match &self.outbox {
+            Some(outbox) => outbox.runs(),
+            None => &[],
+        }
+    }
+
+    fn try_clone(&self, alloc: Global) -> Result<BoxedDebts, AllocError> {
+        let outbox = match &self.outbox {
+            Some(outbox) => Some(Box::new(alloc, outbox.try_clone()?)?),
+            None => None,
+        };
+        Ok(BoxedDebts { outbox })
+    }
+
+    fn unexpired(&self, alloc: Global, moment: u64) -> Result<BoxedDebts, AllocError> {
+        let outbox = match &self.outbox {
+            Some(outbox) => Some(Box::new(alloc, outbox.unexpired(moment)?)?),
+            None => None,
+        };
+        Ok(BoxedDebts { outbox })
+    }
+
+    fn softened(&self, alloc: Global) -> Result<BoxedDebts, AllocError> {
+        let outbox = match &self.outbox {
+            Some(outbox) => Some(Box::new(alloc, outbox.softened()?)?),
+            None => None,
+        };
+        Ok(BoxedDebts { outbox })
+    }
+
+    fn push(&mut self, alloc: Global, debt: Debt) -> Result<(), AllocError> {
+        match &mut self.outbox {
+            Some(outbox) => outbox.push(debt),
+            None => {
+                let mut outbox = Outbox::new(alloc);
+                outbox.push(debt)?;
+                self.outbox = Some(Box::new(alloc, outbox)?);
+                Ok(())
+            }
+        }
+    }
+
+    fn pay(&mut self, message: u32, moment: u64) -> bool {
+        match &mut self.outbox {
+            Some(outbox) => outbox.pay(message, moment),
+            None => false,
+        }
+    }
+
+    fn remove(&mut self, index: usize) {
+        if let Some(outbox) = &mut self.outbox {
+            outbox.remove(index);
+        }
+    }
+
+    fn earliest_must(&self) -> Option<u64> {
+        match &self.outbox {
+            Some(outbox) => outbox.earliest_must(),
+            None => None,
+        }
+    }
+
+    fn equals(&self, other: &BoxedDebts) -> bool {
+        match (&self.outbox, &other.outbox) {
+            (Some(one), Some(another)) => **one == **another,
+            (Some(some), None) | (None, Some(some)) => some.is_empty(),
+            (None, None) => true,
+        }
+    }
+
+    fn compare(&self, other: &BoxedDebts) -> Ordering {
+        match (&self.outbox, &other.outbox) {
+            (Some(one), Some(another)) => Outbox::cmp(one, another),
+            (Some(some), None) => {
+                if some.is_empty() {
+                    Ordering::Equal
+                } else {
+                    Ordering::Greater
+                }
+            }
+            (None, Some(some)) => {
+                if some.is_empty() {
+                    Ordering::Equal
+                } else {
+                    Ordering::Less
+                }
+            }
+            (None, None) => Ordering::Equal,
+        }
+    }
+}
+
+/// Debts of a transaction that owes nothing. They take no memory, and a debt is refused.
+#[derive(Clone, Copy, Debug)]
+pub struct NoDebts;
+
+impl Debts for NoDebts {
+    ghost use Rattle.std.specs.Prelude.{[]};
+
+    ghost listed = { λ debts. [] };
+
+    fn none() -> NoDebts {
+        NoDebts
+    }
+
+    fn runs(&self) -> &[Run] {
+        &[]
+    }
+
+    fn try_clone(&self, _alloc: Global) -> Result<NoDebts, AllocError> {
+        Ok(NoDebts)
+    }
+
+    fn unexpired(&self, _alloc: Global, _moment: u64) -> Result<NoDebts, AllocError> {
+        Ok(NoDebts)
+    }
+
+    fn softened(&self, _alloc: Global) -> Result<NoDebts, AllocError> {
+        Ok(NoDebts)
+    }
+
+    fn push(&mut self, _alloc: Global, _debt: Debt) -> Result<(), AllocError> {
+        Err(AllocError)
+    }
+
+    fn pay(&mut self, _message: u32, _moment: u64) -> bool {
+        false
+    }
+
+    fn remove(&mut self, _index: usize) {}
+
+    fn earliest_must(&self) -> Option<u64> {
+        None
+    }
+
+    fn equals(&self, _other: &NoDebts) -> bool {
+        true
+    }
+
+    fn compare(&self, _other: &NoDebts) -> Ordering {
+        Ordering::Equal
+    }
+}

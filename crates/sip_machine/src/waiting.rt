@@ -1,0 +1,64 @@
+//! A request that a client sent, and that waits for its response (RFC 3261 sections 17.1.1.2 and 17.1.2.2).
+ghost use Rattle.std.specs.Prelude.{◌≡◌, ◌≤◌, ◌↔◌, IsTrue, Some};
+ghost use Rattle.sip_machine.specs.Texts.{Texts, Keeps, text_of};
+ghost use Rattle.sip_machine.specs.Heard.{FitsBook, heard};
+ghost use Rattle.sip_machine.specs.Retransmits.{Retransmits};
+ghost use Rattle.sip_machine.specs.Debts.{earliest};
+ghost use Rattle.sip_machine.specs.Waiting.{waiting_closes, waiting_seen, WaitingInRange};
+
+use crate::book::Book;
+use crate::event::Event;
+use crate::limit::earlier;
+use crate::retransmits::retransmits;
+use sip_times::Params;
+
+/// A request that waits for its response. Moments and intervals are in milliseconds.
+#[derive(Clone, Copy, Debug, PartialEq, Eq, PartialOrd, Ord)]
+pub struct Waiting {
+    /// Whether its transport is reliable.
+    pub reliable: bool,
+    /// Its number in the `Book`.
+    pub request: u32,
+    /// When it was first sent: timer B of an INVITE, and F of any other, runs from here.
+    pub start: u64,
+    /// When timer A of an INVITE, and E of any other, was set last.
+    pub set: u64,
+    /// What it was set to.
+    pub interval: u64,
+}
+
+impl Waiting {
+    /// Whether the event is the request again, as timer A or E fires.
+    pub(crate) fn repeats(&self, params: &Params, book: &Book, event: &Event) -> bool
+        requires fits { FitsBook book.now event.now }
+        requires known { Keeps book.now self.now.request }
+        requires in_range { WaitingInRange self.now }
+        ensures { IsTrue result ↔
+            Retransmits params.now self.now.reliable (text_of book.now self.now.request) self.now.set self.now.interval
+            (heard book.now event.now) }
+    {
+        retransmits(
+            params,
+            book,
+            self.reliable,
+            self.request,
+            self.set,
+            self.interval,
+            event,
+        )
+    }
+
+    /// The last moment of its timers: B or F, which was set for so long, and A or E over an unreliable transport.
+    pub(crate) fn closes(&self, params: &Params, patience: u64) -> u64
+        requires in_range { WaitingInRange self.now }
+        requires patience { patience ≤ 640000 }
+        ensures { (texts : Texts) → Some result ≡ earliest (waiting_closes params.now (waiting_seen texts self.now) patience) }
+    {
+        let given_up = params.closes(self.start, patience);
+        if self.reliable {
+            given_up
+        } else {
+            earlier(given_up, Some(params.closes(self.set, self.interval)))
+        }
+    }
+}

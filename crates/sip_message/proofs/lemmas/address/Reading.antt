@@ -1,0 +1,386 @@
+-- An address is read step by step, and what is read is the grammar's text.
+use Rattle.std.proofs.Common.{◌≡◌, ℕ, zero, suc, ◌<◌, ◌≤◌, Bool, true, false, ◌||◌, not, nat_eq, nat_lt, List, [], ◌∷◌, ◌++◌, Option, Some, None, IfSome, length, take, drop, get_or, slice_index, refl, sym, ap, ◌∙◌, subst, inl, inr, arith}
+use Rattle.std.specs.Prelude.{codes}
+use Rattle.std.specs.Bool.{Decides}
+use Rattle.std.specs.List.{prefix_len}
+use Rattle.std.proofs.Math.Seq.{drop-cons}
+use Rattle.std.proofs.lemmas.Bool.{both_ways, eqb-true, eq-eqb, or_parts, and_parts, and_from, ltb-true}
+use Rattle.std.proofs.lemmas.List.{append_assoc, length-drop, take-append-drop}
+use Rattle.sip_text.specs.Bytes.{colon, dquote, semicolon, is_token_byte, is_one_of}
+use Rattle.sip_text.specs.Text.{◌then◌, Many, led, IsLongestFront}
+use Rattle.sip_text.specs.Grammar.{Token, Sws, Blanks}
+use Rattle.sip_text.specs.Cut.{before, behind, past}
+use Rattle.sip_text.specs.Uri.{UriText}
+use Rattle.sip_text.proofs.CutLemmas.{cut-whole, past-some, before-led, behind-led}
+use Rattle.sip_text.proofs.ManyLemmas.{some-many}
+use Rattle.sip_text.proofs.LacksLemmas.{Lacks}
+use Rattle.sip_message.specs.Unfold.{is_blank}
+use Rattle.sip_message.specs.Params.{left_angle, right_angle, Mark, ParamsPart, BehindBlanks}
+use Rattle.sip_message.specs.Address.{AddressParts, AddressText, name_addr, addr_spec, BeforeUri, DisplayName}
+use Rattle.sip_message.specs.inner.Fronts.{Stops, Behind, IsOnlyBehind, both}
+use Rattle.sip_message.specs.Reading.{AddressValue}
+use Rattle.sip_message.specs.inner.AddressFronts.{Words, WordsFront, NameFront, DisplayFront, HasScheme, is_plain_byte, CutParts, AddressCut, named, plain, TailText, AddressSteps}
+use Rattle.sip_message.proofs.lemmas.text.Cuts.{All, same_front}
+use Rattle.sip_message.proofs.lemmas.text.Each.{each-one, each-many, blank_is}
+use Rattle.sip_message.proofs.lemmas.field.OneWay.{each-token}
+use Rattle.sip_message.proofs.lemmas.text.Solid.{solid-uri}
+use Rattle.sip_message.proofs.lemmas.via.Transport.{Fails, fail-then, fail-blanks, fail-mark}
+use Rattle.sip_message.proofs.lemmas.params.Closed.{some-run}
+use Rattle.sip_message.proofs.lemmas.front.Cuts.{ReadAs, NotRead, token-cut, stops-byte, same-behind}
+use Rattle.sip_message.proofs.lemmas.front.Prefix.{prefix-at, all-run}
+use Rattle.sip_message.proofs.lemmas.front.OneWay.{AtMostOne, read-one, one-seq, one-last, one-quoted, quoted-whole, quoted-first, first-all, first-fails}
+use Rattle.sip_message.proofs.WordLemmas.{one-words, longest-stops}
+use Rattle.sip_message.proofs.lemmas.address.Uri.{uri-scheme, uri-lacks, one-uri}
+
+-- the longest token at the front, or nothing
+token-all : (text : List ℕ) (n : ℕ) → IsLongestFront Token text n → All is_token_byte (take n text)
+token-all text zero longest = tt
+token-all text (suc n) longest = each-token _ (token-cut text (suc n) longest (λ none. absurd (omega (arith, none)))).0
+
+scheme-behind : (text : List ℕ) (n : ℕ) → IsLongestFront Token text n → HasScheme text → (rest : List ℕ) × (drop n text ≡ colon ∷ rest)
+scheme-behind text n longest (scheme, rest, all, whole) =
+    let same = same_front is_token_byte scheme (colon ∷ rest) (take n text) (drop n text) all (token-all text n longest) refl (longest-stops text n longest) (sym whole ∙ sym (take-append-drop n text)) in
+    (rest, sym same.1)
+
+-- a text begins with a scheme exactly if a colon stands behind its longest token
+pub decides-scheme : (text : List ℕ) (n : ℕ) → IsLongestFront Token text n → n < length text → Decides (nat_eq (get_or text n 0) colon) (HasScheme text)
+decides-scheme text n longest within = (
+  λ same.
+      (take n text, drop (suc n) text, token-all text n longest, sym (take-append-drop n text) ∙ ap (λ t. take n text ++ t) (drop-cons text n 0 within ∙ ap (λ b. b ∷ drop (suc n) text) (eqb-true (get_or text n 0) colon same))),
+  λ has.
+      let behind = scheme-behind text n longest has in
+      let heads : get_or text n 0 ∷ drop (suc n) text ≡ colon ∷ behind.0 = sym (drop-cons text n 0 within) ∙ behind.1 in
+      let byte : get_or text n 0 ≡ colon = cc in
+      eq-eqb (get_or text n 0) colon byte,
+)
+
+-- a token that reaches the end has no scheme behind it
+pub scheme-short : (text : List ℕ) (n : ℕ) → IsLongestFront Token text n → length text ≤ n → Decides (nat_lt n (length text)) (HasScheme text)
+scheme-short text n longest short = (
+  λ less. absurd (omega (arith, ltb-true n (length text) less, short)),
+  λ has. absurd (omega (arith, ap length (scheme-behind text n longest has).1, length-drop n text, short)),
+)
+
+-- a text that begins with another byte has no scheme
+no_scheme : (b : ℕ) (t : List ℕ) → is_token_byte b ≡ false → nat_eq b colon ≡ false → HasScheme (b ∷ t) → ⊥
+no_scheme b t token apart ([], rest, all, whole) = let byte : b ≡ colon = cc in both_ways (nat_eq b colon) apart (eq-eqb b colon byte)
+no_scheme b t token apart (c ∷ s, rest, all, whole) =
+    let byte : c ≡ b = cc in
+    both_ways (is_token_byte b) token (subst (λ x. is_token_byte x ≡ true) byte all.0)
+
+-- a byte of a token, or the colon of a scheme
+abbrev is_scheme_front : ℕ → Bool
+is_scheme_front b = is_token_byte b || nat_eq b colon
+
+blank-front : (b : ℕ) → is_blank b ≡ true → is_scheme_front b ≡ false
+blank-front = blank_is (λ b. is_scheme_front b ≡ false) refl refl refl refl
+
+fails-more : (test : ℕ → Bool) (u v : List ℕ) → Fails test u → Fails test (u ++ v)
+fails-more test [] v fails = absurd fails
+fails-more test (b ∷ u) v fails = fails
+
+-- behind a word stand blanks or "<"
+after-word : (more rest inner : List ℕ) → Many (Blanks then Token) more → Behind rest (left_angle ∷ inner) → Fails is_scheme_front (more ++ rest)
+after-word more rest inner many (stops, (k, y, sws, y_is, r_is)) = elim (some-many (Blanks then Token) more many) [
+  | inl none ↦ subst (Fails is_scheme_front) (sym (ap (λ t. t ++ rest) none ∙ r_is ∙ ap (λ t. k ++ t) y_is)) (at sws)
+  | inr some ↦
+      subst (λ t. Fails is_scheme_front (t ++ rest)) (sym some.4)
+      (fails-more is_scheme_front (some.0 ++ some.1) rest (fails-more is_scheme_front some.0 some.1 (fail-then is_scheme_front Blanks Token (fail-blanks is_scheme_front blank-front) some.0 some.2)))
+]
+  where
+    at : Sws k → Fails is_scheme_front (k ++ (left_angle ∷ inner))
+    at (inl none) = subst (λ t. Fails is_scheme_front (t ++ (left_angle ∷ inner))) (sym none) refl
+    at (inr blanks) = fails-more is_scheme_front k (left_angle ∷ inner) (fail-blanks is_scheme_front blank-front k blanks)
+
+fails-token : (u : List ℕ) → Fails is_scheme_front u → Stops is_token_byte u
+fails-token [] fails = absurd fails
+fails-token (b ∷ u) fails = (or_parts (is_token_byte b) (nat_eq b colon) fails).0
+
+words_no_scheme : (w rest inner : List ℕ) → Words w → Behind rest (left_angle ∷ inner) → HasScheme (w ++ rest) → ⊥
+words_no_scheme w rest inner (t, more, token, many, w_is) behind (scheme, r, all, whole) =
+    let fails = after-word more rest inner many behind in
+    let same = same_front is_token_byte scheme (colon ∷ r) t (more ++ rest) all (each-token t token) refl (fails-token (more ++ rest) fails)
+    (sym whole ∙ ap (λ x. x ++ rest) w_is ∙ append_assoc t more rest) in
+    both_ways true (subst (Fails is_scheme_front) (sym same.1) fails) refl
+
+-- behind a scheme there is no display name
+pub no-display : (text : List ℕ) → HasScheme text → NotRead (DisplayFront text)
+no-display text has (None, inner) is = no_scheme left_angle inner refl refl (subst HasScheme is has)
+no-display text has (Some name, inner) (rest, inl (q, whole), behind) =
+    no_scheme dquote (q.3.0 ++ dquote ∷ rest) refl refl (subst HasScheme (whole ∙ quoted-whole name rest q) has)
+no-display text has (Some name, inner) (rest, inr (words, no_word, whole), behind) =
+    words_no_scheme name rest inner words behind (subst HasScheme whole has)
+
+-- words begin with a byte of a token
+words-first_byte : (text : List ℕ) (x : List ℕ × List ℕ) → WordsFront text x → is_token_byte (slice_index text 0) ≡ true
+words-first_byte text (w, r) ((t, more, token, many, w_is), no_word, whole) =
+    ap (λ x. is_token_byte (slice_index x 0)) (whole ∙ ap (λ x. x ++ r) w_is ∙ append_assoc t more r)
+    ∙ first-all is_token_byte t (more ++ r) (each-token t token) (some-run is_token_byte t token)
+
+-- a display name is read in one way
+pub one-name : (text : List ℕ) → AtMostOne (NameFront text)
+one-name text x y (inl a) (inl b) = one-quoted text x y a b
+one-name text x y (inl a) (inr b) = absurd (first-fails is_token_byte (slice_index text 0) dquote refl (quoted-first text x a) (words-first_byte text y b))
+one-name text x y (inr a) (inl b) = absurd (first-fails is_token_byte (slice_index text 0) dquote refl (quoted-first text y b) (words-first_byte text x a))
+one-name text x y (inr a) (inr b) = one-words text x y a b
+
+-- it begins with no "<"
+name-angle : (text : List ℕ) (x : List ℕ × List ℕ) → NameFront text x → slice_index text 0 ≡ left_angle → ⊥
+name-angle text x (inl is) angle = absurd (omega (arith, quoted-first text x is, angle))
+name-angle text x (inr is) angle = first-fails is_token_byte (slice_index text 0) left_angle refl angle (words-first_byte text x is)
+
+-- the front up to the angle is read in one way
+pub one-display : (text : List ℕ) → AtMostOne (DisplayFront text)
+one-display text (None, i) (None, j) a b =
+    let wholes : left_angle ∷ i ≡ left_angle ∷ j = sym a ∙ b in
+    let same : i ≡ j = cc in
+    ap (λ x. (None, x)) same
+one-display text (None, i) (Some n, j) a (s, name, behind) = absurd (name-angle text (n, s) name (ap (λ t. slice_index t 0) a))
+one-display text (Some m, i) (None, j) (r, name, behind) b = absurd (name-angle text (m, r) name (ap (λ t. slice_index t 0) b))
+one-display text (Some m, i) (Some n, j) (r, name, behind) (s, name_too, behind_too) =
+    let same : ◌≡◌ {A = List ℕ × List ℕ} (m, r) (n, s) = one-name text (m, r) (n, s) name name_too in
+    let angles : left_angle ∷ i ≡ left_angle ∷ j = same-behind s (left_angle ∷ i) (left_angle ∷ j) (subst (λ t. Behind t (left_angle ∷ i)) (ap (λ x. x.1) same) behind) behind_too in
+    let inner : i ≡ j = cc in
+    ap (λ x. (Some (x.0), i)) same ∙ ap (λ x. (Some n, x)) inner
+
+-- "<" at once
+pub display-none : (text inner : List ℕ) → past left_angle text ≡ Some inner → ReadAs (DisplayFront text) (None, inner)
+display-none text inner found = read-one (DisplayFront text) (None, inner) (one-display text) (past-some left_angle text inner found)
+
+-- a name, and "<" behind it
+pub display-some : (text name rest stop inner : List ℕ) → ReadAs (NameFront text) (name, rest) → IsOnlyBehind rest stop → past left_angle stop ≡ Some inner → ReadAs (DisplayFront text) (Some name, inner)
+display-some text name rest stop inner is behind found =
+    read-one (DisplayFront text) (Some name, inner) (one-display text) (rest, is.0, subst (Behind rest) (past-some left_angle stop inner found) behind.0)
+
+-- neither
+pub display-no_name : (text : List ℕ) → past left_angle text ≡ None → NotRead (NameFront text) → NotRead (DisplayFront text)
+display-no_name text missing none (None, inner) is = let found : past left_angle text ≡ Some inner = ap (past left_angle) is in cc
+display-no_name text missing none (Some name, inner) (rest, is, behind) = none (name, rest) is
+
+-- without an angle behind the name there is no such front
+pub display-no_angle : (text name rest stop : List ℕ) → past left_angle text ≡ None → ReadAs (NameFront text) (name, rest) → IsOnlyBehind rest stop → past left_angle stop ≡ None → NotRead (DisplayFront text)
+display-no_angle text name rest stop missing is behind no_angle (None, inner) begins = let found : past left_angle text ≡ Some inner = ap (past left_angle) begins in cc
+display-no_angle text name rest stop missing is behind no_angle (Some m, inner) (r, name_is, angle) =
+    let same : ◌≡◌ {A = List ℕ × List ℕ} (m, r) (name, rest) = is.1 (m, r) name_is in
+    let stop_is = behind.1 (left_angle ∷ inner) (subst (λ t. Behind t (left_angle ∷ inner)) (ap (λ x. x.1) same) angle) in
+    let found : past left_angle stop ≡ Some inner = ap (past left_angle) (sym stop_is) in
+    cc
+
+-- cuts of these parts
+abbrev make : Option (List ℕ) → List ℕ → List ℕ → CutParts
+make d u r = record { display = d; uri = u; rest = r }
+
+cut_same : (c d : CutParts) → c.display ≡ d.display → c.uri ≡ d.uri → c.rest ≡ d.rest → c ≡ d
+cut_same c d displays uris rests =
+    ap (λ x. make x c.uri c.rest) displays ∙ ap (λ x. make d.display x c.rest) uris ∙ ap (λ x. make d.display d.uri x) rests
+
+one-cut : (text : List ℕ) → AtMostOne (AddressCut text)
+one-cut text c d (named i display uri rest) (named j display_too uri_too rest_too) =
+    let same : ◌≡◌ {A = Option (List ℕ) × List ℕ} (c.display, i) (d.display, j) = one-display text (c.display, i) (d.display, j) display display_too in
+    let inner = ap (λ x. x.1) same in
+    let rests : Some c.rest ≡ Some d.rest = sym rest ∙ ap (behind right_angle) inner ∙ rest_too in
+    let one : c.rest ≡ d.rest = cc in
+    cut_same c d (ap (λ x. x.0) same) (uri ∙ ap (before right_angle) inner ∙ sym uri_too) one
+one-cut text c d (named i display uri rest) (plain has none all stops whole) = absurd (no-display text has (c.display, i) display)
+one-cut text c d (plain has none all stops whole) (named j display uri rest) = absurd (no-display text has (d.display, j) display)
+one-cut text c d (plain has none all stops whole) (plain has_too none_too all_too stops_too whole_too) =
+    let same = same_front is_plain_byte c.uri c.rest d.uri d.rest all all_too stops stops_too (sym whole ∙ whole_too) in
+    cut_same c d (none ∙ sym none_too) same.0 same.1
+
+-- a URI without "<"
+pub cut-plain : (text rest : List ℕ) (n : ℕ) → HasScheme text → n ≡ prefix_len is_plain_byte text → rest ≡ drop n text → ReadAs (AddressCut text) (make None (take n text) rest)
+cut-plain text rest n has n_is rest_is =
+    let cut = prefix-at is_plain_byte text n n_is in
+    read-one (AddressCut text) (make None (take n text) rest) (one-cut text)
+    (plain has refl cut.0 (subst (Stops is_plain_byte) (sym rest_is) cut.1) (sym (take-append-drop n text) ∙ ap (λ t. take n text ++ t) (sym rest_is)))
+
+-- a URI in "<" and ">"
+pub cut-named : (text inner uri rest : List ℕ) (d : Option (List ℕ)) → ReadAs (DisplayFront text) (d, inner) → uri ≡ before right_angle inner → Some rest ≡ behind right_angle inner → ReadAs (AddressCut text) (make d uri rest)
+cut-named text inner uri rest d is uri_is rest_is =
+    read-one (AddressCut text) (make d uri rest) (one-cut text) (named inner is.0 uri_is (sym rest_is))
+
+-- a text that is neither a URI nor has a display name is no address
+pub cut-no_display : (text : List ℕ) → (HasScheme text → ⊥) → NotRead (DisplayFront text) → NotRead (AddressCut text)
+cut-no_display text no_has none c (named inner display uri rest) = none (c.display, inner) display
+cut-no_display text no_has none c (plain has is all stops whole) = no_has has
+
+-- nor is one whose angle is not closed
+pub cut-open : (text inner : List ℕ) (d : Option (List ℕ)) → (HasScheme text → ⊥) → ReadAs (DisplayFront text) (d, inner) → None ≡ behind right_angle inner → NotRead (AddressCut text)
+cut-open text inner d no_has is missing c (named i display uri rest) =
+    let same : ◌≡◌ {A = Option (List ℕ) × List ℕ} (c.display, i) (d, inner) = is.1 (c.display, i) display in
+    let found : behind right_angle inner ≡ Some c.rest = ap (λ x. behind right_angle (x.1)) (sym same) ∙ rest in
+    cc
+cut-open text inner d no_has is missing c (plain has none all stops whole) = no_has has
+
+-- the parameters stand behind the blanks
+tail-behind : (text params : List ℕ) → TailText text params → Behind text params
+tail-behind text [] (is, part) = (refl, ([], [], inl refl, refl, is))
+tail-behind text (b ∷ params) (is, (ps, (opens, whole))) = (stops-byte b params opens, is)
+
+-- what follows an address is read in one way
+pub one-tail : (text : List ℕ) → AtMostOne (TailText text)
+one-tail text p q a b = same-behind text p q (tail-behind text p a) (tail-behind text q b)
+
+-- parameters that are there follow it
+pub tail-is : (text params : List ℕ) → IsOnlyBehind text params → nat_eq (length params) 0 ≡ false → ((ps : List (List ℕ × Option (List ℕ))) × ParamsPart params ps) → ReadAs (TailText text) params
+tail-is text params behind some part = read-one (TailText text) params (one-tail text) (at params behind.0 some, part)
+  where
+    at : (p : List ℕ) → Behind text p → nat_eq (length p) 0 ≡ false → BehindBlanks p text
+    at [] is full = absurd (both_ways true full refl)
+    at (b ∷ p) is full = is.1
+
+-- blanks alone do not
+pub tail-empty : (text params : List ℕ) → IsOnlyBehind text params → nat_eq (length text) 0 ≡ false → nat_eq (length params) 0 ≡ true → NotRead (TailText text)
+tail-empty text params behind some none p is =
+    let p_is : p ≡ params = behind.1 p (tail-behind text p is) in
+    let empty : length params ≡ 0 = eqb-true (length params) 0 none in
+    at p (ap length p_is ∙ empty) is.0
+  where
+    at : (q : List ℕ) → length q ≡ 0 → BehindBlanks q text → ⊥
+    at [] e whole = both_ways (nat_eq (length text) 0) some (ap (λ t. nat_eq (length t) 0) whole)
+    at (b ∷ q) e whole = absurd (omega (arith, e))
+
+-- nor does what is no parameters
+pub tail-no_params : (text params : List ℕ) → IsOnlyBehind text params → (((ps : List (List ℕ × Option (List ℕ))) × ParamsPart params ps) → ⊥) → NotRead (TailText text)
+tail-no_params text params behind none p is =
+    none (is.1.0, subst (λ t. ParamsPart t is.1.0) (behind.1 p (tail-behind text p is)) is.1.1)
+
+-- where the grammar's text begins with a display name, it is read
+before-display : (display : Option (List ℕ)) (d text inner : List ℕ) → IfSome display DisplayName → BeforeUri display d → text ≡ d ++ inner → DisplayFront text (display, inner)
+before-display None d text inner fits is whole = whole ∙ ap (λ t. t ++ inner) is
+before-display (Some name) d text inner fits (e, t, e_is, (s, l, sws, l_is, t_is), d_is) whole = (
+  s ++ (left_angle ∷ inner),
+  at fits,
+  behind_is,
+)
+  where
+    flat : text ≡ name ++ (s ++ (left_angle ∷ inner))
+    flat =
+        whole ∙ ap (λ x. x ++ inner) (d_is ∙ ap (λ x. x ++ t) e_is ∙ ap (λ x. name ++ x) (t_is ∙ ap (λ x. s ++ x) l_is))
+        ∙ append_assoc name (s ++ (left_angle ∷ [])) inner ∙ ap (λ x. name ++ x) (append_assoc s (left_angle ∷ []) inner)
+
+    behind_is : Behind (s ++ (left_angle ∷ inner)) (left_angle ∷ inner)
+    behind_is = (stops-byte left_angle inner refl, (s, left_angle ∷ inner, sws, refl, refl))
+
+    at : DisplayName name → NameFront text (name, s ++ (left_angle ∷ inner))
+    at (inl quoted) = inl (quoted, flat)
+    at (inr words) = inr (words, (left_angle ∷ inner, behind_is, refl), flat)
+
+-- and back
+display-before : (display : Option (List ℕ)) (text inner : List ℕ) → DisplayFront text (display, inner) → (d : List ℕ) × BeforeUri display d × (text ≡ d ++ inner)
+display-before None text inner is = (left_angle ∷ [], refl, is)
+display-before (Some name) text inner (rest, is, (stops, (s, y, sws, y_is, rest_is))) = (
+  name ++ (s ++ (left_angle ∷ [])),
+  (name, s ++ (left_angle ∷ []), refl, (s, left_angle ∷ [], sws, refl, refl), refl),
+  front is ∙ ap (λ t. name ++ t) (rest_is ∙ ap (λ t. s ++ t) y_is ∙ sym (append_assoc s (left_angle ∷ []) inner)) ∙ sym (append_assoc name (s ++ (left_angle ∷ [])) inner),
+)
+  where
+    front : NameFront text (name, rest) → text ≡ name ++ rest
+    front (inl quoted) = quoted.1
+    front (inr words) = words.2
+
+display-fits : (display : Option (List ℕ)) (text inner : List ℕ) → DisplayFront text (display, inner) → IfSome display DisplayName
+display-fits None text inner is = tt
+display-fits (Some name) text inner (rest, inl quoted, behind) = inl quoted.0
+display-fits (Some name) text inner (rest, inr words, behind) = inr words.0
+
+-- a byte of a URI without "<"
+not-plain : (b : ℕ) → is_blank b ≡ true → is_plain_byte b ≡ false
+not-plain = blank_is (λ b. is_plain_byte b ≡ false) refl refl refl refl
+
+plain-all : (u : List ℕ) → All (λ b. not (is_blank b)) u → All (λ b. not (is_one_of (codes ",?;") b)) u → All is_plain_byte u
+plain-all [] solid other = tt
+plain-all (b ∷ u) solid other = (and_from (not (is_blank b)) (not (is_one_of (codes ",?;") b)) solid.0 other.0, plain-all u solid.1 other.1)
+
+all-other : (u : List ℕ) → All is_plain_byte u → All (λ b. not (is_one_of (codes ",?;") b)) u
+all-other [] all = tt
+all-other (b ∷ u) all = ((and_parts (not (is_blank b)) (not (is_one_of (codes ",?;") b)) all.0).1, all-other u all.1)
+
+fails-plain : (u : List ℕ) → Fails is_plain_byte u → Stops is_plain_byte u
+fails-plain [] fails = absurd fails
+fails-plain (b ∷ u) fails = fails
+
+-- such a URI ends where the parameters begin, or their blanks
+tail-stops : (text params : List ℕ) → TailText text params → Stops is_plain_byte text
+tail-stops text [] (is, part) = subst (Stops is_plain_byte) (sym is) tt
+tail-stops text (b ∷ params) ((k, y, sws, y_is, whole), ([], (opens, part))) = absurd (omega (arith, ap length part))
+tail-stops text (b ∷ params) ((k, y, sws, y_is, whole), (p ∷ ps, (opens, part))) =
+    fails-plain text (subst (Fails is_plain_byte) (sym (whole ∙ ap (λ t. k ++ t) y_is)) (at sws))
+  where
+    begins : Fails is_plain_byte (b ∷ params)
+    begins = fail-then is_plain_byte (Mark semicolon) _ (fail-mark is_plain_byte semicolon not-plain refl) (b ∷ params) part
+
+    at : Sws k → Fails is_plain_byte (k ++ (b ∷ params))
+    at (inl none) = subst (λ t. Fails is_plain_byte (t ++ (b ∷ params))) (sym none) begins
+    at (inr blanks) = fails-more is_plain_byte k (b ∷ params) (fail-blanks is_plain_byte not-plain k blanks)
+
+-- the grammar's text is read by the steps
+pub address-steps : (text : List ℕ) (a : AddressParts) → AddressText text a → AddressSteps text (text, a)
+address-steps text a (name_addr fits (d, w1, before_is, (u, w2, u_is, (g, w3, g_is, tail, w2_is), w1_is), whole)) =
+    both (make a.display a.uri_text w3)
+    (named w1 (before-display a.display d text w1 fits.display before_is whole)
+    (sym (ap (before right_angle) inner ∙ before-led right_angle a.uri_text (Some w3) lacks))
+    (ap (behind right_angle) inner ∙ behind-led right_angle a.uri_text (Some w3) lacks))
+    (both a.uri fits.uri (both a.params (tail, fits.params) refl))
+  where
+    inner : w1 ≡ a.uri_text ++ (right_angle ∷ w3)
+    inner = w1_is ∙ ap (λ t. t ++ w2) u_is ∙ ap (λ t. a.uri_text ++ t) (w2_is ∙ ap (λ t. t ++ w3) g_is)
+
+    lacks : Lacks right_angle a.uri_text
+    lacks = uri-lacks a.uri_text a.uri fits.uri
+address-steps text a (addr_spec fits none plain_is (u, w, u_is, tail, whole)) =
+    both (make a.display a.uri_text w)
+    (plain (has.0, has.1 ++ w, has.2, flat ∙ ap (λ t. t ++ w) has.3 ∙ append_assoc has.0 (colon ∷ has.1) w) none
+    (plain-all a.uri_text (solid-uri a.uri_text a.uri fits.uri) (each-many (λ b. not (is_one_of (codes ",?;") b)) _ (each-one (λ b. not (is_one_of (codes ",?;") b)) (λ b. not (is_one_of (codes ",?;") b)) (λ b is. is)) a.uri_text plain_is))
+    (tail-stops w a.params (tail, fits.params)) flat)
+    (both a.uri fits.uri (both a.params (tail, fits.params) refl))
+  where
+    flat : text ≡ a.uri_text ++ w
+    flat = whole ∙ ap (λ t. t ++ w) u_is
+
+    has : HasScheme a.uri_text
+    has = uri-scheme a.uri_text a.uri fits.uri
+
+-- what the steps read is the grammar's
+pub steps-address : (text : List ℕ) (x : List ℕ × AddressParts) → AddressSteps text x → AddressValue text x
+steps-address text x (both c (named inner display uri_is rest_is) (both uri is_uri (both params tail is))) =
+    subst (AddressValue text) (sym is) (
+      name_addr (record { display = display-fits c.display text inner display; uri = is_uri; params = tail.1 })
+          (front.0, inner, front.1, (c.uri, right_angle ∷ c.rest, refl, (right_angle ∷ [], c.rest, refl, tail.0, refl), inner_is), front.2),
+      refl,
+    )
+  where
+    front : (d : List ℕ) × BeforeUri c.display d × (text ≡ d ++ inner)
+    front = display-before c.display text inner display
+
+    inner_is : inner ≡ c.uri ++ (right_angle ∷ c.rest)
+    inner_is = cut-whole right_angle inner ∙ ap (λ t. t ++ led right_angle (behind right_angle inner)) (sym uri_is) ∙ ap (λ o. c.uri ++ led right_angle o) rest_is
+steps-address text x (both c (plain has none all stops whole) (both uri is_uri (both params tail is))) =
+    subst (AddressValue text) (sym is) (
+      addr_spec (record { display = subst (λ d. IfSome d DisplayName) (sym none) tt; uri = is_uri; params = tail.1 }) none
+          (all-run (λ b. not (is_one_of (codes ",?;") b)) c.uri (all-other c.uri all)) (c.uri, c.rest, refl, tail.0, whole),
+      refl,
+    )
+
+-- an address is read in one way, step by step
+pub one-steps : (text : List ℕ) → AtMostOne (AddressSteps text)
+one-steps text =
+    one-seq (AddressCut text) _ (one-cut text) (λ c.
+    one-seq (UriText c.uri) _ (one-uri c.uri) (λ uri.
+    one-seq (TailText c.rest) _ (one-tail c.rest) (λ params.
+    one-last (text, record { display = c.display; uri_text = c.uri; uri = uri; params = params }))))
+
+-- and in one way by the grammar
+pub one-address : (text : List ℕ) (a b : AddressParts) → AddressText text a → AddressText text b → a ≡ b
+one-address text a b one other = ap (λ x. x.1) (one-steps text (text, a) (text, b) (address-steps text a one) (address-steps text b other))
+
+-- what the steps read, the grammar has
+pub read-address : (text : List ℕ) (x : List ℕ × AddressParts) → ReadAs (AddressSteps text) x → ReadAs (AddressValue text) x
+read-address text x is = (steps-address text x is.0, (λ y value. is.1 y (value-steps y value)))
+  where
+    value-steps : (y : List ℕ × AddressParts) → AddressValue text y → AddressSteps text y
+    value-steps (whole, a) (value, whole_is) = subst (λ w. AddressSteps text (w, a)) (sym whole_is) (address-steps text a value)
+
+-- where the steps read nothing, there is no address
+pub no-address : (text : List ℕ) → NotRead (AddressSteps text) → NotRead (AddressValue text)
+no-address text none (whole, a) (value, whole_is) = none (text, a) (address-steps text a value)

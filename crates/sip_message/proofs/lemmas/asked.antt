@@ -1,0 +1,4 @@
+pub mod Asked
+pub mod Kept
+pub mod Parts
+pub mod OneWay

@@ -1,0 +1,122 @@
+-- What is kept of fields, and of a further field.
+use Rattle.std.proofs.Common.{◌≡◌, ◌↔◌, ℕ, List, [], ◌∷◌, ◌++◌, Bool, true, false, cond, Option, None, Some, refl, sym, ap, ◌∙◌, subst}
+use Rattle.std.specs.Prelude.{IsTrue, IsSome, is_some}
+use Rattle.std.specs.Option.{option_map, option_or}
+use Rattle.std.proofs.lemmas.Bool.{false≢true}
+use Rattle.std.proofs.lemmas.List.{append-nil}
+use Rattle.sip_text.specs.Text.{IsOnlyValue}
+use Rattle.sip_message.specs.declared.kept.Kept.{Kept}
+use Rattle.sip_message.specs.declared.via.Via.{Via}
+use Rattle.sip_message.specs.declared.values.CSeq.{CSeq}
+use Rattle.sip_message.specs.declared.name.Known.{Known}
+use Rattle.sip_message.specs.declared.name.Known.TheVariants as known_name
+use Rattle.sip_message.specs.Name.{known, is_named}
+use Rattle.sip_message.specs.Field.{Field, Row}
+use Rattle.sip_message.specs.Elements.{values}
+use Rattle.sip_message.specs.Reading.{IsValueOf, CSeqValue}
+use Rattle.sip_message.specs.ViaParts.{element}
+use Rattle.sip_message.specs.ValueParts.{cseq_parts}
+use Rattle.sip_message.specs.inner.ElementFronts.{FirstVia}
+use Rattle.sip_message.specs.inner.Kept.{SaysFirst, KeptOf, KeepsMore}
+use Rattle.sip_message.proofs.lemmas.via.Value.{first-none}
+
+-- the values with a further field
+values-more : (k : Known) (fields : List Field) (f : Field) → values k (fields ++ f ∷ []) ≡ values k fields ++ values k (f ∷ [])
+values-more k [] f = refl
+values-more k (g ∷ fields) f = at (is_named k g.name) (values-more k fields f)
+  where
+    at : (b : Bool) → values k (fields ++ f ∷ []) ≡ values k fields ++ values k (f ∷ []) → cond b (g.value ∷ values k (fields ++ f ∷ [])) (values k (fields ++ f ∷ [])) ≡ cond b (g.value ∷ values k fields) (values k fields) ++ values k (f ∷ [])
+    at true later = ap (λ t. g.value ∷ t) later
+    at false later = later
+
+-- a field of another name says nothing
+says-passed : {X : Type 0} (R : List ℕ → X → Type 0) (k : Known) (fields : List Field) (f : Field) (old new : Option X) → is_named k f.name ≡ false → new ≡ old → SaysFirst R (values k fields) old → SaysFirst R (values k (fields ++ f ∷ [])) new
+says-passed R k fields f old new other same says =
+    subst (λ o. SaysFirst R (values k (fields ++ f ∷ [])) o) (sym same)
+    (subst (λ vs. SaysFirst R vs old) (sym (values-more k fields f ∙ ap (λ b. values k fields ++ cond b (f.value ∷ []) []) other ∙ append-nil (values k fields))) says)
+
+-- a field of the name says something, and is the first that does or is not
+says-found : {X : Type 0} (R : List ℕ → X → Type 0) (k : Known) (fields : List Field) (f : Field) (old new : Option X) (x : X) → is_named k f.name ≡ true → R f.value x → new ≡ option_or old (Some x) → SaysFirst R (values k fields) old → SaysFirst R (values k (fields ++ f ∷ [])) new
+says-found {X = X} R k fields f old new x named said is says =
+    subst (λ vs. SaysFirst R vs new) (sym (values-more k fields f ∙ ap (λ b. values k fields ++ cond b (f.value ∷ []) []) named)) (at (values k fields) old says is)
+  where
+    at : (vs : List (List ℕ)) (o : Option X) → SaysFirst R vs o → new ≡ option_or o (Some x) → SaysFirst R (vs ++ f.value ∷ []) new
+    at [] o none new_is = (x, said, new_is ∙ ap (λ p. option_or p (Some x)) none)
+    at (v ∷ vs) o (y, says_y, o_is) new_is = (y, says_y, new_is ∙ ap (λ p. option_or p (Some x)) o_is)
+
+map-or : {A X : Type 0} (parts : A → X) (o p : Option A) → option_map parts (option_or o p) ≡ option_or (option_map parts o) (option_map parts p)
+map-or parts None p = refl
+map-or parts (Some a) p = refl
+
+-- a Via
+pub via-row : (text : List ℕ) (r : Option Via) (b : Bool) → b ≡ is_some r → IsOnlyValue FirstVia element text r → IsTrue b ↔ Row (known known_name.Via) text
+via-row text None b is none = (λ so. absurd (false≢true (sym is ∙ so)), λ row. absurd (first-none text none row))
+via-row text (Some v) b is read = (λ _. read.0.0, λ _. is)
+
+-- a further Via keeps the first element
+pub via-keeps : (f : Field) (r : Option Via) (b : Bool) (old new : Kept) → f.name ≡ known known_name.Via → b ≡ is_some r → IsOnlyValue FirstVia element f.value r → new.via ≡ option_or old.via r → new.cseq ≡ old.cseq → IsTrue b → KeepsMore f old new
+via-keeps f None b old new named is none via cseq so fields kept = absurd (false≢true (sym is ∙ so))
+via-keeps f (Some v) b old new named is read via cseq so fields kept = record {
+  via = says-found FirstVia known_name.Via fields f (option_map element old.via) (option_map element new.via) (element v) (ap (is_named known_name.Via) named) read.0 (ap (option_map element) via ∙ map-or element old.via (Some v)) kept.via;
+  cseq = says-passed CSeqValue known_name.CSeq fields f (option_map cseq_parts old.cseq) (option_map cseq_parts new.cseq) (ap (is_named known_name.CSeq) named) (ap (option_map cseq_parts) cseq) kept.cseq;
+}
+
+-- a CSeq
+pub cseq-row : (text : List ℕ) (r : Option CSeq) (b : Bool) → b ≡ is_some r → IsOnlyValue CSeqValue cseq_parts text r → IsTrue b ↔ Row (known known_name.CSeq) text
+cseq-row text None b is none = (λ so. absurd (false≢true (sym is ∙ so)), λ row. absurd (none (row.0, row.1) row.2))
+cseq-row text (Some c) b is read = (λ _. (c.number, c.method.now, read.0), λ _. is)
+
+-- a further CSeq keeps the first value
+pub cseq-keeps : (f : Field) (r : Option CSeq) (b : Bool) (old new : Kept) → f.name ≡ known known_name.CSeq → b ≡ is_some r → IsOnlyValue CSeqValue cseq_parts f.value r → new.cseq ≡ option_or old.cseq r → new.via ≡ old.via → IsTrue b → KeepsMore f old new
+cseq-keeps f None b old new named is none cseq via so fields kept = absurd (false≢true (sym is ∙ so))
+cseq-keeps f (Some c) b old new named is read cseq via so fields kept = record {
+  via = says-passed FirstVia known_name.Via fields f (option_map element old.via) (option_map element new.via) (ap (is_named known_name.Via) named) (ap (option_map element) via) kept.via;
+  cseq = says-found CSeqValue known_name.CSeq fields f (option_map cseq_parts old.cseq) (option_map cseq_parts new.cseq) (cseq_parts c) (ap (is_named known_name.CSeq) named) read.0 (ap (option_map cseq_parts) cseq ∙ map-or cseq_parts old.cseq (Some c)) kept.cseq;
+}
+
+-- any other field
+pub other-keeps : (f : Field) (kept : Kept) → (is_named known_name.Via f.name ≡ false) × (is_named known_name.CSeq f.name ≡ false) → KeepsMore f kept kept
+other-keeps f kept other fields of = record {
+  via = says-passed FirstVia known_name.Via fields f (option_map element kept.via) (option_map element kept.via) other.0 refl of.via;
+  cseq = says-passed CSeqValue known_name.CSeq fields f (option_map cseq_parts kept.cseq) (option_map cseq_parts kept.cseq) other.1 refl of.cseq;
+}
+
+-- a field of another known name
+pub named-keeps : (k : Known) (f : Field) (kept : Kept) → f.name ≡ known k → (is_named known_name.Via (known k) ≡ false) × (is_named known_name.CSeq (known k) ≡ false) → KeepsMore f kept kept
+named-keeps k f kept named other = other-keeps f kept (ap (is_named known_name.Via) named ∙ other.0, ap (is_named known_name.CSeq) named ∙ other.1)
+
+-- what the first value of a name says
+says-some : {A X : Type 0} (R : List ℕ → X → Type 0) (parts : A → X) (vs more : List (List ℕ)) (text : List ℕ) (o : Option A) → SaysFirst R vs (option_map parts o) → vs ≡ text ∷ more → (x : X) × R text x × (option_map parts o ≡ Some x)
+says-some R parts vs more text o says is = subst (λ l. SaysFirst R l (option_map parts o)) is says
+
+is-some : {A X : Type 0} (parts : A → X) (o : Option A) (x : X) → option_map parts o ≡ Some x → IsSome o
+is-some parts None x is = absurd (false≢true (ap is_some is))
+is-some parts (Some a) x is = refl
+
+some-is : {A X : Type 0} (R : X → Type 0) (parts : A → X) (o : Option A) (a : A) (x : X) → o ≡ Some a → option_map parts o ≡ Some x → R x → R (parts a)
+some-is R parts o a x o_is is said =
+    let same : Some x ≡ Some (parts a) = sym is ∙ ap (option_map parts) o_is in
+    subst R (some-same x (parts a) same) said
+  where
+    some-same : {X : Type 0} (x y : X) → Some x ≡ Some y → x ≡ y
+    some-same x y same = cc
+
+-- where there is a Via, an element is kept
+pub via-some : (fields : List Field) (kept : Kept) (text : List ℕ) → KeptOf fields kept → IsValueOf known_name.Via fields text → IsSome kept.via
+via-some fields kept text of first = let said = says-some FirstVia element _ first.0 text kept.via of.via first.1 in is-some element kept.via said.0 said.2
+
+-- and it is the top one
+pub via-is : (fields : List Field) (kept : Kept) (text : List ℕ) (v : Via) → KeptOf fields kept → IsValueOf known_name.Via fields text → kept.via ≡ Some v → FirstVia text (element v)
+via-is fields kept text v of first is =
+    let said = says-some FirstVia element _ first.0 text kept.via of.via first.1 in
+    some-is (FirstVia text) element kept.via v said.0 is said.2 said.1
+
+-- where there is a CSeq, a value is kept
+pub cseq-some : (fields : List Field) (kept : Kept) (text : List ℕ) → KeptOf fields kept → IsValueOf known_name.CSeq fields text → IsSome kept.cseq
+cseq-some fields kept text of first = let said = says-some CSeqValue cseq_parts _ first.0 text kept.cseq of.cseq first.1 in is-some cseq_parts kept.cseq said.0 said.2
+
+-- and it is that of the field
+pub cseq-is : (fields : List Field) (kept : Kept) (text : List ℕ) (c : CSeq) → KeptOf fields kept → IsValueOf known_name.CSeq fields text → kept.cseq ≡ Some c → CSeqValue text (cseq_parts c)
+cseq-is fields kept text c of first is =
+    let said = says-some CSeqValue cseq_parts _ first.0 text kept.cseq of.cseq first.1 in
+    some-is (CSeqValue text) cseq_parts kept.cseq c said.0 is said.2 said.1

@@ -1,0 +1,81 @@
+-- Fields have their parts in one way, since their rows are read in one way.
+use Rattle.std.proofs.Common.{◌≡◌, ℕ, List, [], ◌∷◌, ◌++◌, refl, sym, ap, ◌∙◌, subst}
+use Rattle.sip_message.specs.declared.name.Known.{Known}
+use Rattle.sip_message.specs.declared.name.Known.TheVariants as known_name
+use Rattle.sip_message.specs.Params.{comma}
+use Rattle.sip_message.specs.Address.{AddressParts, AddressText}
+use Rattle.sip_message.specs.Field.{Field}
+use Rattle.sip_message.specs.inner.Fronts.{Behind, MarkFront}
+use Rattle.sip_message.specs.Elements.{Element, MoreElements, ElementsText, AreElements, values}
+use Rattle.sip_message.specs.Reading.{IsValueOf, AddressValue, CSeqValue, Parts, HasParts}
+use Rattle.sip_message.proofs.lemmas.front.Cuts.{mark-parts, same-behind}
+use Rattle.sip_message.proofs.lemmas.via.Elements.{more-mark, no_mark-nil, ends-more}
+use Rattle.sip_message.proofs.lemmas.message.Views.{same-value}
+use Rattle.sip_message.proofs.lemmas.value.CSeq.{same-cseq}
+use Rattle.sip_message.proofs.lemmas.via.Steps.{one-via}
+use Rattle.sip_message.proofs.lemmas.address.Reading.{one-address}
+
+-- behind a comma stands one text
+same-mark : (text r s : List ℕ) → MarkFront comma text r → MarkFront comma text s → r ≡ s
+same-mark text r s one other =
+    let a = mark-parts comma text r refl one in
+    let b = mark-parts comma text s refl other in
+    let marks : ◌≡◌ {A = List ℕ} (comma ∷ a.0) (comma ∷ b.0) = same-behind text (comma ∷ a.0) (comma ∷ b.0) a.1 b.1 in
+    let inner : a.0 ≡ b.0 = cc in
+    same-behind b.0 r s (subst (λ t. Behind t r) inner a.2) b.2
+
+-- parts of these
+abbrev make : Element → List Element → List ℕ × AddressParts → List ℕ × AddressParts → List ℕ → ℕ × List ℕ → Parts
+make v o f t i c = record { via = v; others = o; from = f; to = t; call_id = i; cseq = c }
+
+same-more : (es fs : List Element) (rest : List ℕ) → MoreElements es rest → MoreElements fs rest → es ≡ fs
+same-more [] [] rest a b = refl
+same-more [] (f ∷ fs) rest a b = let m = more-mark f fs rest b in absurd (no_mark-nil comma m.0 (subst (λ t. MarkFront comma t m.0) a m.1))
+same-more (e ∷ es) [] rest a b = let m = more-mark e es rest a in absurd (no_mark-nil comma m.0 (subst (λ t. MarkFront comma t m.0) b m.1))
+same-more (e ∷ es) (f ∷ fs) rest a b =
+    let m = more-mark e es rest a in
+    let n = more-mark f fs rest b in
+    at m.0 m.2 (subst (λ t. ElementsText t (f ∷ fs)) (same-mark rest n.0 m.0 n.1 m.1) n.2) (same-more es fs)
+  where
+    at : (text : List ℕ) → ElementsText text (e ∷ es) → ElementsText text (f ∷ fs) → ((x : List ℕ) → MoreElements es x → MoreElements fs x → es ≡ fs) → e ∷ es ≡ f ∷ fs
+    at text (via, (u, x, u_is, more, is)) (via_too, (w, y, w_is, more_too, is_too)) later =
+        let same : ◌≡◌ {A = Element × List ℕ} (e, x) (f, y) = one-via text (e, x) (f, y) (via, is ∙ ap (λ t. t ++ x) u_is, ends-more es x more) (via_too, is_too ∙ ap (λ t. t ++ y) w_is, ends-more fs y more_too) in
+        let first : e ≡ f = ap (λ p. p.0) same in
+        let others : es ≡ fs = later x more (subst (MoreElements fs) (sym (ap (λ p. p.1) same)) more_too) in
+        cc
+
+same-now : (text : List ℕ) (es fs : List Element) → ElementsText text es → ElementsText text fs → es ≡ fs
+same-now text [] fs a b = absurd a
+same-now text (e ∷ es) [] a b = absurd b
+same-now text (e ∷ es) (f ∷ fs) (via, (u, x, u_is, more, is)) (via_too, (w, y, w_is, more_too, is_too)) =
+    let same : ◌≡◌ {A = Element × List ℕ} (e, x) (f, y) = one-via text (e, x) (f, y) (via, is ∙ ap (λ t. t ++ x) u_is, ends-more es x more) (via_too, is_too ∙ ap (λ t. t ++ y) w_is, ends-more fs y more_too) in
+    let first : e ≡ f = ap (λ p. p.0) same in
+    let others : es ≡ fs = same-more es fs x more (subst (MoreElements fs) (sym (ap (λ p. p.1) same)) more_too) in
+    cc
+
+same-elements : (texts : List (List ℕ)) (es fs : List Element) → AreElements texts es → AreElements texts fs → es ≡ fs
+same-elements [] es fs a b = a ∙ sym b
+same-elements (text ∷ texts) es fs (now, more, is, are, whole) (now_too, more_too, is_too, are_too, whole_too) =
+    whole ∙ ap (λ t. t ++ more) (same-now text now now_too is is_too) ∙ ap (λ t. now_too ++ t) (same-elements texts more more_too are are_too) ∙ sym whole_too
+
+same-address : (known : Known) (fields : List Field) (a b : List ℕ × AddressParts) → (text : List ℕ) × IsValueOf known fields text × AddressValue text a → (text : List ℕ) × IsValueOf known fields text × AddressValue text b → a ≡ b
+same-address known fields (w, a) (x, b) (t, t_is, (a_is, w_is)) (u, u_is, (b_is, x_is)) =
+    let same : u ≡ t = same-value known fields u_is t_is in
+    let parts : a ≡ b = one-address t a b a_is (subst (λ y. AddressText y b) same b_is) in
+    let whole : w ≡ x = w_is ∙ sym same ∙ sym x_is in
+    cc
+
+-- fields have their parts in one way
+pub parts-one : (fields : List Field) (p q : Parts) → HasParts fields p → HasParts fields q → p ≡ q
+parts-one fields p q a b =
+    let vias : ◌≡◌ {A = List Element} (p.via ∷ p.others) (q.via ∷ q.others) = same-elements (values known_name.Via fields) _ _ a.vias b.vias in
+    let via : p.via ≡ q.via = cc in
+    let others : p.others ≡ q.others = cc in
+    let from = same-address known_name.From fields p.from q.from a.from b.from in
+    let to = same-address known_name.To fields p.to q.to a.to b.to in
+    let call_id = same-value known_name.CallId fields a.call_id b.call_id in
+    let text : b.cseq.0 ≡ a.cseq.0 = same-value known_name.CSeq fields b.cseq.1 a.cseq.1 in
+    let cseq : p.cseq ≡ q.cseq = same-cseq a.cseq.0 p.cseq q.cseq a.cseq.2 (subst (λ t. CSeqValue t q.cseq) text b.cseq.2) in
+    ap (λ v. make v p.others p.from p.to p.call_id p.cseq) via ∙ ap (λ o. make q.via o p.from p.to p.call_id p.cseq) others
+    ∙ ap (λ f. make q.via q.others f p.to p.call_id p.cseq) from ∙ ap (λ t. make q.via q.others q.from t p.call_id p.cseq) to
+    ∙ ap (λ i. make q.via q.others q.from q.to i p.cseq) call_id ∙ ap (λ c. make q.via q.others q.from q.to q.call_id c) cseq

@@ -1,0 +1,110 @@
+-- A message has parts: its fields are of their rows.
+use Rattle.std.proofs.Common.{◌≡◌, ℕ, ◌+◌, Bool, true, false, List, [], ◌∷◌, ◌++◌, map, cond, refl, sym, ap, ◌∙◌, subst}
+use Rattle.std.specs.List.{AllByRecursion}
+use Rattle.std.proofs.lemmas.Slice.Eq.{bytes_eq-Decides}
+use Rattle.std.proofs.lemmas.Bool.{both_ways}
+use Rattle.sip_message.specs.declared.name.Known.{Known}
+use Rattle.sip_message.specs.declared.name.Known.TheVariants as known_name
+use Rattle.sip_message.specs.Via.{ViaParts, MoreVias}
+use Rattle.sip_message.specs.Name.{FieldName, known, other, name_of, long_name, is_named}
+use Rattle.sip_message.specs.Field.{Field, Row}
+use Rattle.sip_message.specs.Message.{Message, found_from, IsFirst, MessageText}
+use Rattle.sip_message.specs.Elements.{Element, MoreElements, ElementsText, AreElements, values}
+use Rattle.sip_message.specs.Reading.{IsValueOf, Parts, HasParts}
+use Rattle.sip_message.proofs.lemmas.canon.Law.{fields-rows}
+
+-- a name is the one that its long form spells
+spelled-known : (k : Known) → name_of (long_name k) ≡ known k
+spelled-known known_name.Via = refl
+spelled-known known_name.From = refl
+spelled-known known_name.To = refl
+spelled-known known_name.CallId = refl
+spelled-known known_name.CSeq = refl
+spelled-known known_name.ContentLength = refl
+spelled-known known_name.Contact = refl
+spelled-known known_name.ContentEncoding = refl
+spelled-known known_name.ContentType = refl
+spelled-known known_name.Subject = refl
+spelled-known known_name.Supported = refl
+spelled-known known_name.Route = refl
+
+-- a field of the name has the name
+pub named-known : (k : Known) (n : FieldName) → is_named k n ≡ true → n ≡ known k
+named-known k (known j) is = sym (spelled-known j) ∙ ap name_of (sym ((bytes_eq-Decides (long_name k) (long_name j)).0 is)) ∙ spelled-known k
+named-known k (other text) is = absurd (both_ways false refl is)
+
+-- the values of a name are of its row
+pub row-values : (k : Known) (fs : List Field) → AllByRecursion (λ f. Row f.name f.value) fs → AllByRecursion (Row (known k)) (values k fs)
+row-values k [] rows = tt
+row-values k (f ∷ fs) rows = at (is_named k f.name) refl (row-values k fs rows.1)
+  where
+    at : (b : Bool) → is_named k f.name ≡ b → AllByRecursion (Row (known k)) (values k fs) → AllByRecursion (Row (known k)) (cond b (f.value ∷ values k fs) (values k fs))
+    at true is later = (subst (λ n. Row n f.value) (named-known k f.name is) rows.0, later)
+    at false is later = later
+
+-- the values of a name are those that were found
+found-values : (n : ℕ) (k : Known) (fs : List Field) → values k fs ≡ map (λ x. x.1) (found_from n k fs)
+found-values n k [] = refl
+found-values n k (f ∷ fs) = at (is_named k f.name) (found-values (n + 1) k fs)
+  where
+    at : (b : Bool) → values k fs ≡ map (λ x. x.1) (found_from (n + 1) k fs) → cond b (f.value ∷ values k fs) (values k fs) ≡ map (λ x. x.1) (cond b ((n, f.value) ∷ found_from (n + 1) k fs) (found_from (n + 1) k fs))
+    at true later = ap (λ t. f.value ∷ t) later
+    at false later = later
+
+-- the first field of a name has its first value
+pub first-value : (k : Known) (fs : List Field) (one : ℕ × List ℕ) → IsFirst k fs one → IsValueOf k fs (one.1)
+first-value k fs one first = (map (λ x. x.1) first.0, found-values 1 k fs ∙ ap (map (λ x. x.1)) first.1)
+
+-- further elements of the grammar
+pub more-elements : (vias : List ViaParts) (text : List ℕ) → MoreVias vias text → (es : List Element) × MoreElements es text
+more-elements [] text is = ([], is)
+more-elements (v ∷ vias) text (u, w, mark, (x, y, via, more, w_is), text_is) =
+    let later = more-elements vias y more in
+    ((x, v) ∷ later.0, (via, (u, w, mark, (x, y, refl, later.1, w_is), text_is)))
+
+-- the elements of a value of its row
+via-elements : (text : List ℕ) → Row (known known_name.Via) text → (e : Element) × (es : List Element) × ElementsText text (e ∷ es)
+via-elements text (v, vias, (x, y, via, more, text_is)) =
+    let later = more-elements vias y more in
+    ((x, v), later.0, (via, (x, y, refl, later.1, text_is)))
+
+-- the elements of the values
+are-elements : (texts : List (List ℕ)) → AllByRecursion (Row (known known_name.Via)) texts → (es : List Element) × AreElements texts es
+are-elements [] rows = ([], refl)
+are-elements (text ∷ texts) rows =
+    let now = via-elements text rows.0 in
+    let later = are-elements texts rows.1 in
+    ((now.0 ∷ now.1) ++ later.0, (now.0 ∷ now.1, later.0, now.2, later.1, refl))
+
+first-elements : (text : List ℕ) (texts : List (List ℕ)) → AllByRecursion (Row (known known_name.Via)) (text ∷ texts) → (e : Element) × (es : List Element) × AreElements (text ∷ texts) (e ∷ es)
+first-elements text texts rows =
+    let now = via-elements text rows.0 in
+    let later = are-elements texts rows.1 in
+    (now.0, now.1 ++ later.0, (now.0 ∷ now.1, later.0, now.2, later.1, refl))
+
+-- a value of the name, of its row
+pub row-of : (k : Known) (fs : List Field) (text : List ℕ) → AllByRecursion (λ f. Row f.name f.value) fs → IsValueOf k fs text → Row (known k) text
+row-of k fs text rows is = (subst (AllByRecursion (Row (known k))) is.1 (row-values k fs rows)).0
+
+-- a message has parts
+pub has-parts : (bytes : List ℕ) (m : Message) → MessageText bytes m → (p : Parts) × HasParts m.fields p
+has-parts bytes m text =
+    let rows = fields-rows text.others m.fields text.are_fields in
+    let via = first-value known_name.Via m.fields text.fits.via.0 text.fits.via.1 in
+    let from = first-value known_name.From m.fields text.fits.from.0 text.fits.from.1 in
+    let to = first-value known_name.To m.fields text.fits.to.0 text.fits.to.1 in
+    let call_id = first-value known_name.CallId m.fields text.fits.call_id.0 text.fits.call_id.1 in
+    let cseq = first-value known_name.CSeq m.fields text.fits.cseq.0 text.fits.cseq.1 in
+    let vias = first-elements _ via.0 (subst (AllByRecursion (Row (known known_name.Via))) via.1 (row-values known_name.Via m.fields rows)) in
+    let from_row = row-of known_name.From m.fields _ rows from in
+    let to_row = row-of known_name.To m.fields _ rows to in
+    let cseq_row = row-of known_name.CSeq m.fields _ rows cseq in (
+      record { via = vias.0; others = vias.1; from = (text.fits.from.0.1, from_row.0); to = (text.fits.to.0.1, to_row.0); call_id = text.fits.call_id.0.1; cseq = (cseq_row.0, cseq_row.1) },
+      record {
+        vias = subst (λ t. AreElements t (vias.0 ∷ vias.1)) (sym via.1) vias.2;
+        from = (text.fits.from.0.1, from, (from_row.1, refl));
+        to = (text.fits.to.0.1, to, (to_row.1, refl));
+        call_id = call_id;
+        cseq = (text.fits.cseq.0.1, cseq, cseq_row.2);
+      },
+    )

@@ -1,0 +1,4 @@
+pub mod Unfolding
+pub mod Fields
+pub mod Spelling
+pub mod Law

@@ -1,0 +1,440 @@
+-- The law of the canonical form.
+use Rattle.std.proofs.Common.{◌≡◌, ℕ, ◌+◌, ◌≤◌, ◌<◌, Bool, true, false, not, ◌&&◌, List, [], ◌∷◌, ◌++◌, length, take, map, cond, nat_eq, Option, Some, None, refl, sym, ap, ◌∙◌, subst, inl, inr, arith}
+use Rattle.std.specs.Prelude.{is_some, get_or, ◌^◌, codes, decimal, IsTrue, bytes_eq}
+use Rattle.std.specs.Char.{is_ascii_digit}
+use Rattle.std.specs.Str.Parse.{digits_value}
+use Rattle.std.specs.List.{AllByRecursion, concat, flat_map}
+use Rattle.std.proofs.lemmas.Bool.{both_ways, and_from, and_parts, eqb-true}
+use Rattle.std.specs.List.{list_all}
+use Rattle.std.proofs.lemmas.Str.Parse.{numerals_by_value, tells_all_ascii_digits}
+use Rattle.std.proofs.lemmas.Fmt.{decimal-digits_value}
+use Rattle.std.proofs.lemmas.Int.Digits.{digits_value-lt}
+use Rattle.std.specs.Str.{all_ascii_digits}
+use Rattle.std.proofs.Math.Seq.{take-length}
+use Rattle.sip_text.proofs.RunLemmas.{list_all-run}
+use Rattle.sip_message.proofs.lemmas.start_line.OneWay.{length-code, status_parts}
+use Rattle.std.proofs.lemmas.List.{append_assoc, append-nil, length-append, length-take-le, length-map}
+use Rattle.sip_text.specs.Bytes.{carriage_return, line_feed, space, colon, is_wsp, is_token_byte}
+use Rattle.sip_text.specs.Text.{One}
+use Rattle.sip_text.specs.Case.{folded}
+use Rattle.sip_text.specs.Grammar.{Token}
+use Rattle.sip_text.proofs.ManyLemmas.{many-nil}
+use Rattle.sip_message.specs.declared.name.Known.{Known}
+use Rattle.sip_message.specs.declared.name.Known.TheVariants as known_name
+use Rattle.sip_message.specs.Lines.{is_inner_byte, BeginsBlank, with_end}
+use Rattle.sip_message.specs.Unfold.{is_blank, OpensSolid, EndsSolid, unfolded}
+use Rattle.sip_message.specs.Name.{FieldName, known, other, spellings, name_by, name_of, long_name, name_text, is_named}
+use Rattle.sip_message.specs.StartLine.{StartLine, request, status, StartText, CodeText, is_reason_byte}
+use Rattle.sip_message.specs.Values.{Digits}
+use Rattle.sip_message.specs.Field.{Field, Row, FieldText, FieldsText}
+use Rattle.sip_message.specs.Message.{Message, found_from, found, Stands, IsNotTwice, IsStream, MethodFits, is_stream, length_in, content_length, IsEnough, IsNoMore, body_of, MessageFits, MessageText, unfolded_field, message_of, Spells}
+use Rattle.sip_message.specs.Canon.{start_text, field_text, canon}
+use Rattle.sip_message.proofs.lemmas.text.Cuts.{All, all_both}
+use Rattle.sip_message.proofs.lemmas.text.Each.{each-many, each-one, each-between, is_solid, solid_class, wsp-blank}
+use Rattle.sip_message.proofs.lemmas.field.OneWay.{each-token, blank-token}
+use Rattle.sip_message.proofs.lemmas.text.Solid.{solid-token, solid-uri, solid-digits}
+use Rattle.sip_message.proofs.lemmas.text.Closed.{Closed, closed-unfolded, solid_is}
+use Rattle.sip_message.proofs.lemmas.params.Closed.{blanks-space, some-run}
+use Rattle.sip_message.proofs.lemmas.via.Transport.{same_transport}
+use Rattle.sip_message.proofs.lemmas.via.Closed.{unfolded-via}
+use Rattle.sip_message.proofs.RowLemmas.{unfolded-solid, unfolded-cseq, unfolded-row}
+use Rattle.sip_message.proofs.lemmas.canon.Spelling.{Inner, AreInner, unfolded-inner, unfolded-twice, solid-inner, lines-head, inner-folds, inner-no_bare}
+use Rattle.sip_message.proofs.lemmas.message.Faults.{same_message}
+
+-- solid texts have no line end
+solid-inners : (text : List ℕ) → All is_solid text → Inner text
+solid-inners [] all = tt
+solid-inners (b ∷ text) all = (solid-inner b (solid_is b all.0), solid-inners text all.1)
+
+-- trimmed texts
+abbrev Trimmed : List ℕ → Type 0
+Trimmed text = OpensSolid text × EndsSolid text
+
+ends-append : (u : List ℕ) (b : ℕ) (z : List ℕ) → EndsSolid (b ∷ z) → EndsSolid (u ++ b ∷ z)
+ends-append [] b z ends = ends
+ends-append (a ∷ []) b z ends = ends
+ends-append (a ∷ c ∷ u) b z ends = ends-append (c ∷ u) b z ends
+
+ends-part : (u : List ℕ) (b : ℕ) (z : List ℕ) → EndsSolid (u ++ b ∷ z) → EndsSolid (b ∷ z)
+ends-part [] b z ends = ends
+ends-part (a ∷ []) b z ends = ends
+ends-part (a ∷ c ∷ u) b z ends = ends-part (c ∷ u) b z ends
+
+ends_no_blank : (u : List ℕ) (b : ℕ) (z : List ℕ) → EndsSolid (u ++ b ∷ z) → All is_blank (b ∷ z) → ⊥
+ends_no_blank [] b [] ends all = both_ways (is_blank b) ends all.0
+ends_no_blank [] b (c ∷ z) ends all = ends_no_blank [] c z ends all.1
+ends_no_blank (a ∷ []) b z ends all = ends_no_blank [] b z ends all
+ends_no_blank (a ∷ c ∷ u) b z ends all = ends_no_blank (c ∷ u) b z ends all
+
+closed-trimmed : Closed Trimmed
+closed-trimmed [] v b w ends opens blanks is = absurd (both_ways (is_blank b) is.0 blanks.0)
+closed-trimmed (a ∷ u) [] b w ends opens blanks is =
+    absurd (ends_no_blank (a ∷ u) b w (subst EndsSolid (ap (λ t. a ∷ (u ++ t)) (append-nil (b ∷ w))) is.1) blanks)
+closed-trimmed (a ∷ u) (c ∷ v) b w ends opens blanks is =
+    (is.0, ends-append (a ∷ u) space (c ∷ v) (tail (subst EndsSolid (sym (append_assoc (a ∷ u) (b ∷ w) (c ∷ v))) is.1)))
+  where
+    tail : EndsSolid (((a ∷ u) ++ (b ∷ w)) ++ c ∷ v) → EndsSolid (space ∷ c ∷ v)
+    tail e = ends-part ((a ∷ u) ++ (b ∷ w)) c v e
+
+-- each known name is spelled by its long form
+name-known : (k : Known) → name_of (long_name k) ≡ known k
+name-known known_name.Via = refl
+name-known known_name.From = refl
+name-known known_name.To = refl
+name-known known_name.CallId = refl
+name-known known_name.CSeq = refl
+name-known known_name.ContentLength = refl
+name-known known_name.Contact = refl
+name-known known_name.ContentEncoding = refl
+name-known known_name.ContentType = refl
+name-known known_name.Subject = refl
+name-known known_name.Supported = refl
+name-known known_name.Route = refl
+
+-- another name is as it is spelled
+name-other : (xs : List (List ℕ × Known)) (text t : List ℕ) → name_by xs text ≡ other t → text ≡ t
+name-other [] text t is = ap text_in is
+  where
+    text_in : FieldName → List ℕ
+    text_in (known k) = []
+    text_in (other u) = u
+name-other (x ∷ xs) text t is = at (name-other xs text t) (bytes_eq (folded text) x.0) is
+  where
+    is_other : FieldName → Bool
+    is_other (known k) = false
+    is_other (other u) = true
+
+    at : (name_by xs text ≡ other t → text ≡ t) → (same : Bool) → cond same (known x.1) (name_by xs text) ≡ other t → text ≡ t
+    at later true e = absurd (both_ways false refl (ap is_other e))
+    at later false e = later e
+
+-- bytes of a token are a token
+token_text : (b : ℕ) (text : List ℕ) → list_all is_token_byte (b ∷ text) ≡ true → Token (b ∷ text)
+token_text b text all =
+    let parts = and_parts (is_token_byte b) (list_all is_token_byte text) all in
+    (b ∷ [], text, (b, parts.0, refl), list_all-run is_token_byte text parts.1, refl)
+
+long-token : (k : Known) → Token (long_name k)
+long-token known_name.Via = token_text _ _ refl
+long-token known_name.From = token_text _ _ refl
+long-token known_name.To = token_text _ _ refl
+long-token known_name.CallId = token_text _ _ refl
+long-token known_name.CSeq = token_text _ _ refl
+long-token known_name.ContentLength = token_text _ _ refl
+long-token known_name.Contact = token_text _ _ refl
+long-token known_name.ContentEncoding = token_text _ _ refl
+long-token known_name.ContentType = token_text _ _ refl
+long-token known_name.Subject = token_text _ _ refl
+long-token known_name.Supported = token_text _ _ refl
+long-token known_name.Route = token_text _ _ refl
+
+-- a name that a token spells is spelled by its text, a token
+name-text : (n : FieldName) (spelled : List ℕ) → Token spelled → n ≡ name_of spelled → Token (name_text n) × (n ≡ name_of (name_text n))
+name-text (known k) spelled token is = (long-token k, sym (name-known k))
+name-text (other t) spelled token is =
+    let same = name-other spellings spelled t (sym is) in
+    (subst Token same token, is ∙ ap name_of same)
+
+-- a code of three digits is written as it was spelled
+pub code-decimal : (text : List ℕ) (code : ℕ) → CodeText text code → decimal code ≡ text
+code-decimal text code is =
+    ap decimal is.code_is
+    ∙ decimal-digits_value (numerals_by_value (λ ds. all_ascii_digits ds ≡ true) tells_all_ascii_digits) text digits
+    (omega (arith, len)) (λ zero_first. absurd (first text digits len zero_first (omega (arith, is.low, is.code_is)))) (omega (arith, is.high, is.code_is))
+  where
+    len : length text ≡ 3
+    len = length-code text code is
+
+    each : (us : List (List ℕ)) → AllByRecursion (One is_ascii_digit) us → all_ascii_digits (concat us) ≡ true
+    each [] all = refl
+    each (u ∷ us) all = ap (λ t. all_ascii_digits (t ++ concat us)) all.0.2 ∙ and_from _ _ all.0.1 (each us all.1)
+
+    digits : all_ascii_digits text ≡ true
+    digits = ap all_ascii_digits is.digits.2 ∙ each is.digits.0 is.digits.1
+
+    first : (ds : List ℕ) → all_ascii_digits ds ≡ true → length ds ≡ 3 → get_or ds 0 0 ≡ 48 → 100 ≤ digits_value 10 ds → ⊥
+    first [] all three zero_first low = omega (arith, three)
+    first (a ∷ []) all three zero_first low = omega (arith, three)
+    first (a ∷ b ∷ []) all three zero_first low = omega (arith, three)
+    first (a ∷ b ∷ c ∷ d ∷ ds) all three zero_first low = omega (arith, three)
+    first (a ∷ b ∷ c ∷ []) all three zero_first low =
+        let told = (numerals_by_value (λ ds. all_ascii_digits ds ≡ true) tells_all_ascii_digits).to (a ∷ b ∷ c ∷ []) all in
+        let small : digits_value 10 (b ∷ c ∷ []) < 10 ^ 2 = digits_value-lt 10 (b ∷ c ∷ []) told.1 in
+        let same : digits_value 10 (a ∷ b ∷ c ∷ []) ≡ digits_value 10 (b ∷ c ∷ []) = ap (λ x. digits_value 10 (x ∷ b ∷ c ∷ [])) zero_first in
+        omega (arith, small, same, low)
+
+-- the start line's canonical form is the start line
+start-canon : (line : List ℕ) (s : StartLine) → StartText line s → StartText (start_text s) s
+start-canon line (request method uri) (token, is_uri, whole) =
+    (token, is_uri, (method, space ∷ (uri ++ space ∷ codes "SIP/2.0"), refl, (space ∷ [], uri ++ space ∷ codes "SIP/2.0", refl, (uri, space ∷ codes "SIP/2.0", refl, (space ∷ [], codes "SIP/2.0", refl, refl, refl), refl), refl), refl))
+start-canon line (status code reason) (bytes, whole) =
+    let parts = status_parts line code reason (bytes, whole) in (
+      bytes,
+      (
+        codes "SIP/2.0",
+        space ∷ (decimal code ++ space ∷ reason),
+        refl,
+        (
+          space ∷ [],
+          decimal code ++ space ∷ reason,
+          refl,
+          (decimal code, space ∷ reason, subst (λ t. CodeText t code) (sym (code-decimal parts.digits code parts.is_code)) parts.is_code, (space ∷ [], reason, refl, refl, refl), refl),
+          refl,
+        ),
+        refl,
+      ),
+    )
+
+-- a class without CR and LF
+inner_class : (class : ℕ → Bool) → class carriage_return ≡ false → class line_feed ≡ false → (b : ℕ) → class b ≡ true → is_inner_byte b ≡ true
+inner_class class cr lf b is = at (nat_eq b carriage_return) (nat_eq b line_feed) refl refl
+  where
+    at : (x y : Bool) → nat_eq b carriage_return ≡ x → nat_eq b line_feed ≡ y → (not x && not y) ≡ true
+    at true y x_is y_is = absurd (both_ways (class b) (ap class (eqb-true b carriage_return x_is) ∙ cr) is)
+    at false true x_is y_is = absurd (both_ways (class b) (ap class (eqb-true b line_feed y_is) ∙ lf) is)
+    at false false x_is y_is = refl
+
+version-inner : Inner (codes "SIP/2.0")
+version-inner = (refl, (refl, (refl, (refl, (refl, (refl, (refl, tt)))))))
+
+-- it has no line end, and is not empty
+start-inner : (line : List ℕ) (s : StartLine) → StartText line s → Inner (start_text s) × (start_text s ≡ [] → ⊥)
+start-inner line (request method uri) (token, is_uri, whole) = (
+  all_both is_inner_byte method (space ∷ (uri ++ space ∷ codes "SIP/2.0")) (solid-inners method (solid-token method token))
+      (refl, all_both is_inner_byte uri (space ∷ codes "SIP/2.0") (solid-inners uri (solid-uri uri is_uri.0 is_uri.1)) (refl, version-inner)),
+  (λ none. absurd (omega (arith, ap length none, length-append method (space ∷ (uri ++ space ∷ codes "SIP/2.0"))))),
+)
+start-inner line (status code reason) (bytes, whole) =
+    let parts = status_parts line code reason (bytes, whole) in
+    let digits = subst Inner (sym (code-decimal parts.digits code parts.is_code)) (solid-inners parts.digits (each-between is_solid 3 3 (One is_ascii_digit) (each-one is_solid is_ascii_digit (solid_class is_ascii_digit refl refl refl refl)) parts.digits parts.is_code.digits)) in (
+      all_both is_inner_byte (codes "SIP/2.0") (space ∷ (decimal code ++ space ∷ reason)) version-inner
+          (refl, all_both is_inner_byte (decimal code) (space ∷ reason) digits (refl, each-many is_inner_byte (One is_reason_byte) (each-one is_inner_byte is_reason_byte (inner_class is_reason_byte refl refl)) reason bytes)),
+      (λ none. absurd (omega (arith, ap length none))),
+    )
+
+-- a field's canonical form is the field with its value unfolded
+field-canon : (line : List ℕ) (f : Field) → FieldText line f → FieldText (field_text (unfolded_field f)) (unfolded_field f)
+field-canon line f is =
+    let spelled = name-text f.name is.named.spelled is.named.is_token is.named.name_is in
+    let trimmed = closed-unfolded Trimmed closed-trimmed f.value (is.valued.opens, is.valued.ends) in
+    record {
+      rest = space ∷ unfolded f.value;
+      named = record {
+        spelled = name_text f.name;
+        is_token = spelled.0;
+        name_is = spelled.1;
+        whole = (name_text f.name, colon ∷ space ∷ unfolded f.value, refl, ([], colon ∷ space ∷ unfolded f.value, many-nil (One is_wsp), (colon ∷ [], space ∷ unfolded f.value, refl, refl, refl), refl), refl);
+      };
+      valued = record {
+        opens = trimmed.0;
+        ends = trimmed.1;
+        whole = (space ∷ [], unfolded f.value, inr blanks-space, (unfolded f.value, [], refl, inl refl, sym (append-nil (unfolded f.value))), refl);
+      };
+      row = unfolded-row f.name f.value is.row;
+    }
+
+-- it has no line end, is not empty, and begins with no blank
+field-inner : (line : List ℕ) (f : Field) → FieldText line f → Inner (field_text (unfolded_field f)) × (field_text (unfolded_field f) ≡ [] → ⊥)
+field-inner line f is =
+    let spelled = name-text f.name is.named.spelled is.named.is_token is.named.name_is in (
+      all_both is_inner_byte (name_text f.name) (colon ∷ space ∷ unfolded f.value) (solid-inners (name_text f.name) (solid-token (name_text f.name) spelled.0)) (refl, (refl, unfolded-inner f.value)),
+      (λ none. absurd (omega (arith, ap length none, length-append (name_text f.name) (colon ∷ space ∷ unfolded f.value)))),
+    )
+
+field-cut : (line : List ℕ) (f : Field) → FieldText line f → BeginsBlank (field_text (unfolded_field f)) → ⊥
+field-cut line f is =
+    at (name_text f.name) (name-text f.name is.named.spelled is.named.is_token is.named.name_is).0
+  where
+    at : (name : List ℕ) → Token name → BeginsBlank (name ++ colon ∷ space ∷ unfolded f.value) → ⊥
+    at [] token begins = absurd (some-run is_token_byte [] token refl)
+    at (b ∷ name) token begins =
+        both_ways (is_token_byte b) (blank-token b (wsp-blank b begins)) (each-token (b ∷ name) token).0
+
+-- so are the lines of fields
+fields-canon : (lines : List (List ℕ)) (fs : List Field) → FieldsText lines fs → FieldsText (map field_text (map unfolded_field fs)) (map unfolded_field fs)
+fields-canon [] fs is = subst (λ gs. FieldsText (map field_text (map unfolded_field gs)) (map unfolded_field gs)) (sym is) refl
+fields-canon (line ∷ lines) fs (f, more, is, are, whole) =
+    subst (λ gs. FieldsText (map field_text (map unfolded_field gs)) (map unfolded_field gs)) (sym whole)
+    (unfolded_field f, map unfolded_field more, field-canon line f is, fields-canon lines more are, refl)
+
+fields-inner : (lines : List (List ℕ)) (fs : List Field) → FieldsText lines fs → AreInner (map field_text (map unfolded_field fs))
+fields-inner [] fs is = subst (λ gs. AreInner (map field_text (map unfolded_field gs))) (sym is) tt
+fields-inner (line ∷ lines) fs (f, more, is, are, whole) =
+    subst (λ gs. AreInner (map field_text (map unfolded_field gs))) (sym whole) (field-inner line f is, fields-inner lines more are)
+
+fields-cut : (lines : List (List ℕ)) (fs : List Field) → FieldsText lines fs → AllByRecursion (λ line. ¬ (BeginsBlank line)) (map field_text (map unfolded_field fs))
+fields-cut [] fs is = subst (λ gs. AllByRecursion (λ line. ¬ (BeginsBlank line)) (map field_text (map unfolded_field gs))) (sym is) tt
+fields-cut (line ∷ lines) fs (f, more, is, are, whole) =
+    subst (λ gs. AllByRecursion (λ line. ¬ (BeginsBlank line)) (map field_text (map unfolded_field gs))) (sym whole) (field-cut line f is, fields-cut lines more are)
+
+-- the fields of lines are of their rows
+pub fields-rows : (lines : List (List ℕ)) (fs : List Field) → FieldsText lines fs → AllByRecursion (λ f. Row f.name f.value) fs
+fields-rows [] fs is = subst (AllByRecursion (λ f. Row f.name f.value)) (sym is) tt
+fields-rows (line ∷ lines) fs (f, more, is, are, whole) =
+    subst (AllByRecursion (λ g. Row g.name g.value)) (sym whole) (is.row, fields-rows lines more are)
+
+-- the fields of a name, unfolded
+abbrev unfolded_found : ℕ × List ℕ → ℕ × List ℕ
+unfolded_found x = (x.0, unfolded x.1)
+
+found-unfolded : (n : ℕ) (name : Known) (fs : List Field) → found_from n name (map unfolded_field fs) ≡ map unfolded_found (found_from n name fs)
+found-unfolded n name [] = refl
+found-unfolded n name (f ∷ fs) = at (is_named name f.name) (found-unfolded (n + 1) name fs)
+  where
+    at : (b : Bool) → found_from (n + 1) name (map unfolded_field fs) ≡ map unfolded_found (found_from (n + 1) name fs) → cond b ((n, unfolded f.value) ∷ found_from (n + 1) name (map unfolded_field fs)) (found_from (n + 1) name (map unfolded_field fs)) ≡ map unfolded_found (cond b ((n, f.value) ∷ found_from (n + 1) name fs) (found_from (n + 1) name fs))
+    at true later = ap (λ t. (n, unfolded f.value) ∷ t) later
+    at false later = later
+
+abbrev stands-unfolded : (name : Known) (fs : List Field) → Stands name fs → Stands name (map unfolded_field fs)
+stands-unfolded name fs s = (unfolded_found s.0, (map unfolded_found s.1.0, found-unfolded 1 name fs ∙ ap (map unfolded_found) s.1.1))
+
+once-unfolded : (name : Known) (fs : List Field) → IsNotTwice name fs → IsNotTwice name (map unfolded_field fs)
+once-unfolded name fs few =
+    omega (arith, few, ap length (found-unfolded 1 name fs), length-map (found_from 1 name fs) unfolded_found)
+
+-- the number of Content-Length stays
+named-length : (n : FieldName) → is_named known_name.ContentLength n ≡ true → n ≡ known known_name.ContentLength
+named-length (known known_name.Via) is = absurd (both_ways false refl is)
+named-length (known known_name.From) is = absurd (both_ways false refl is)
+named-length (known known_name.To) is = absurd (both_ways false refl is)
+named-length (known known_name.CallId) is = absurd (both_ways false refl is)
+named-length (known known_name.CSeq) is = absurd (both_ways false refl is)
+named-length (known known_name.ContentLength) is = refl
+named-length (known known_name.Contact) is = absurd (both_ways false refl is)
+named-length (known known_name.ContentEncoding) is = absurd (both_ways false refl is)
+named-length (known known_name.ContentType) is = absurd (both_ways false refl is)
+named-length (known known_name.Subject) is = absurd (both_ways false refl is)
+named-length (known known_name.Supported) is = absurd (both_ways false refl is)
+named-length (known known_name.Route) is = absurd (both_ways false refl is)
+named-length (other t) is = absurd (both_ways false refl is)
+
+found-digits : (n : ℕ) (fs : List Field) → AllByRecursion (λ f. Row f.name f.value) fs → AllByRecursion (λ x. Digits (x.1)) (found_from n known_name.ContentLength fs)
+found-digits n [] rows = tt
+found-digits n (f ∷ fs) rows = at (is_named known_name.ContentLength f.name) refl (found-digits (n + 1) fs rows.1)
+  where
+    at : (b : Bool) → is_named known_name.ContentLength f.name ≡ b → AllByRecursion (λ x. Digits (x.1)) (found_from (n + 1) known_name.ContentLength fs) → AllByRecursion (λ x. Digits (x.1)) (cond b ((n, f.value) ∷ found_from (n + 1) known_name.ContentLength fs) (found_from (n + 1) known_name.ContentLength fs))
+    at true is later = (subst (λ m. Row m f.value) (named-length f.name is) rows.0, later)
+    at false is later = later
+
+length-unfolded : (fs : List Field) → AllByRecursion (λ f. Row f.name f.value) fs → content_length (map unfolded_field fs) ≡ content_length fs
+length-unfolded fs rows =
+    ap length_in (found-unfolded 1 known_name.ContentLength fs) ∙ at (found known_name.ContentLength fs) (found-digits 1 fs rows)
+  where
+    at : (xs : List (ℕ × List ℕ)) → AllByRecursion (λ x. Digits (x.1)) xs → length_in (map unfolded_found xs) ≡ length_in xs
+    at [] all = refl
+    at (x ∷ xs) all = ap (λ t. Some (digits_value 10 t)) (unfolded-solid x.1 (solid-digits x.1 all.0))
+
+named-via : (n : FieldName) → is_named known_name.Via n ≡ true → n ≡ known known_name.Via
+named-via (known known_name.Via) is = refl
+named-via (known known_name.From) is = absurd (both_ways false refl is)
+named-via (known known_name.To) is = absurd (both_ways false refl is)
+named-via (known known_name.CallId) is = absurd (both_ways false refl is)
+named-via (known known_name.CSeq) is = absurd (both_ways false refl is)
+named-via (known known_name.ContentLength) is = absurd (both_ways false refl is)
+named-via (known known_name.Contact) is = absurd (both_ways false refl is)
+named-via (known known_name.ContentEncoding) is = absurd (both_ways false refl is)
+named-via (known known_name.ContentType) is = absurd (both_ways false refl is)
+named-via (known known_name.Subject) is = absurd (both_ways false refl is)
+named-via (known known_name.Supported) is = absurd (both_ways false refl is)
+named-via (known known_name.Route) is = absurd (both_ways false refl is)
+named-via (other t) is = absurd (both_ways false refl is)
+
+-- the first Via is of its row
+found-vias : (n : ℕ) (fs : List Field) → AllByRecursion (λ f. Row f.name f.value) fs → AllByRecursion (λ x. Row (known known_name.Via) (x.1)) (found_from n known_name.Via fs)
+found-vias n [] rows = tt
+found-vias n (f ∷ fs) rows = at (is_named known_name.Via f.name) refl (found-vias (n + 1) fs rows.1)
+  where
+    at : (b : Bool) → is_named known_name.Via f.name ≡ b → AllByRecursion (λ x. Row (known known_name.Via) (x.1)) (found_from (n + 1) known_name.Via fs) → AllByRecursion (λ x. Row (known known_name.Via) (x.1)) (cond b ((n, f.value) ∷ found_from (n + 1) known_name.Via fs) (found_from (n + 1) known_name.Via fs))
+    at true is later = (subst (λ m. Row m f.value) (named-via f.name is) rows.0, later)
+    at false is later = later
+
+first-via : (n : ℕ) (fs : List Field) → AllByRecursion (λ f. Row f.name f.value) fs → (one : ℕ × List ℕ) (more : List (ℕ × List ℕ)) → found_from n known_name.Via fs ≡ one ∷ more → Row (known known_name.Via) (one.1)
+first-via n fs rows one more is =
+    (subst (AllByRecursion (λ x. Row (known known_name.Via) (x.1))) is (found-vias n fs rows)).0
+
+-- the body, cut once, is cut no more
+body-enough : (len : Option ℕ) (rest : List ℕ) → IsEnough len rest → IsEnough len (body_of len rest)
+body-enough None rest enough = tt
+body-enough (Some n) rest enough = omega (arith, length-take-le n rest enough)
+
+body-no_more : (stream : List ℕ) (len : Option ℕ) (rest : List ℕ) → IsEnough len rest → IsNoMore stream len (body_of len rest)
+body-no_more stream None rest enough is = tt
+body-no_more stream (Some n) rest enough is = omega (arith, length-take-le n rest enough)
+
+body-twice : (len : Option ℕ) (rest : List ℕ) → IsEnough len rest → body_of len rest ≡ body_of len (body_of len rest)
+body-twice None rest enough = refl
+body-twice (Some n) rest enough =
+    sym (ap (λ m. take m (take n rest)) (sym (length-take-le n rest enough)) ∙ take-length (take n rest))
+
+-- what fits, fits unfolded
+fits-unfolded : (start : StartLine) (fs : List Field) (rest : List ℕ) → AllByRecursion (λ f. Row f.name f.value) fs → MessageFits start fs rest → MessageFits start (map unfolded_field fs) (body_of (content_length fs) rest)
+fits-unfolded start fs rest rows fits = record {
+  via = stands-unfolded known_name.Via fs fits.via;
+  from_once = once-unfolded known_name.From fs fits.from_once;
+  from = stands-unfolded known_name.From fs fits.from;
+  to_once = once-unfolded known_name.To fs fits.to_once;
+  to = stands-unfolded known_name.To fs fits.to;
+  call_id_once = once-unfolded known_name.CallId fs fits.call_id_once;
+  call_id = stands-unfolded known_name.CallId fs fits.call_id;
+  cseq_once = once-unfolded known_name.CSeq fs fits.cseq_once;
+  cseq = stands-unfolded known_name.CSeq fs fits.cseq;
+  length_once = once-unfolded known_name.ContentLength fs fits.length_once;
+  method = method start fits.method;
+  has_length = λ streams. subst (λ l. is_some l ≡ true) len (fits.has_length (stream streams));
+  enough = subst (λ l. IsEnough l (body_of (content_length fs) rest)) len (body-enough (content_length fs) rest fits.enough);
+  no_more = subst (λ l. IsNoMore (unfolded fits.via.0.1) l (body_of (content_length fs) rest)) len (body-no_more (unfolded fits.via.0.1) (content_length fs) rest fits.enough);
+}
+  where
+    len : content_length fs ≡ content_length (map unfolded_field fs)
+    len = sym (length-unfolded fs rows)
+
+    via_row : Row (known known_name.Via) fits.via.0.1
+    via_row = first-via 1 fs rows fits.via.0 fits.via.1.0 fits.via.1.1
+
+    stream : IsStream (unfolded fits.via.0.1) → IsStream fits.via.0.1
+    stream (t, top, is) =
+        let before = via_row in
+        (before.0.transport, (before.0, before.1, before.2, refl), subst (λ x. IsTrue (is_stream x)) (same_transport (unfolded fits.via.0.1) t before.0.transport top (unfolded-via fits.via.0.1 before.0.transport (before.0, before.1, before.2, refl))) is)
+
+    method : (s : StartLine) → MethodFits s (fits.cseq.0.1) → MethodFits s (unfolded fits.cseq.0.1)
+    method (request m uri) is = (is.0, unfolded-cseq fits.cseq.0.1 is.0 m is.1)
+    method (status code reason) is = tt
+
+-- the canonical form is spelled by the message itself
+canon-text : (bytes : List ℕ) (s : Message) → MessageText bytes s → MessageText (canon (message_of s)) (message_of s)
+canon-text bytes s text =
+    let start = start-inner text.first s.start text.is_start in
+    let inner : AreInner (start_text s.start ∷ map field_text (map unfolded_field s.fields)) = (start, fields-inner text.others s.fields text.are_fields) in
+    let rows = fields-rows text.others s.fields text.are_fields in
+    record {
+      head = flat_map with_end (start_text s.start ∷ map field_text (map unfolded_field s.fields));
+      rest = s.body;
+      first = start_text s.start;
+      others = map field_text (map unfolded_field s.fields);
+      is_head = lines-head (start_text s.start) (map field_text (map unfolded_field s.fields)) s.body inner;
+      no_bare = inner-no_bare (start_text s.start ∷ map field_text (map unfolded_field s.fields)) inner;
+      are_lines = record { whole = refl; folded = inner-folds (start_text s.start ∷ map field_text (map unfolded_field s.fields)) inner; cut = fields-cut text.others s.fields text.are_fields };
+      is_start = start-canon text.first s.start text.is_start;
+      are_fields = fields-canon text.others s.fields text.are_fields;
+      fits = subst (MessageFits s.start (map unfolded_field s.fields)) (sym text.body_is) (fits-unfolded s.start s.fields text.rest rows text.fits);
+      body_is = text.body_is ∙ body-twice (content_length s.fields) text.rest text.fits.enough ∙ ap (λ l. body_of l (body_of (content_length s.fields) text.rest)) (sym (length-unfolded s.fields rows))
+          ∙ ap (body_of (content_length (map unfolded_field s.fields))) (sym text.body_is);
+    }
+
+-- a message is unfolded
+message-twice : (fs : List Field) → map unfolded_field (map unfolded_field fs) ≡ map unfolded_field fs
+message-twice [] = refl
+message-twice (f ∷ fs) =
+    ap (λ v. record { name = f.name; value = v } ∷ map unfolded_field (map unfolded_field fs)) (unfolded-twice f.value)
+    ∙ ap (λ gs. unfolded_field f ∷ gs) (message-twice fs)
+
+-- the canonical form of a message spells it
+pub canon-spells : (bytes : List ℕ) (m : Message) → Spells bytes m → Spells (canon m) m
+canon-spells bytes m (s, text, is) =
+    subst (λ n. Spells (canon n) n) (sym is)
+    (message_of s, canon-text bytes s text, ap (λ fs. record { start = s.start; fields = fs; body = s.body }) (sym (message-twice s.fields)))
+
+-- messages of one canonical form are one
+pub same_canon : (b c : List ℕ) (m n : Message) → Spells b m → Spells c n → canon m ≡ canon n → m ≡ n
+same_canon b c m n one two same =
+    same_message (canon n) m n (subst (λ t. Spells t m) same (canon-spells b m one)) (canon-spells c n two)

@@ -1,0 +1,104 @@
+-- How a text is written without its folds, byte by byte; and a code in its three digits.
+use Rattle.std.proofs.Common.{◌≡◌, ℕ, ◌+◌, ◌-◌, ◌/◌, ◌%◌, ◌≤◌, ◌<◌, true, false, cond, List, [], ◌∷◌, ◌++◌, length, take, drop, get_or, refl, sym, ap, ◌∙◌, arith}
+use Rattle.std.specs.Prelude.{decimal, Result, Ok, Err, IsErr}
+use Rattle.std.specs.Char.{is_ascii_digit}
+use Rattle.std.proofs.lemmas.Bool.{both_ways, and_from, le-leb}
+use Rattle.std.proofs.lemmas.List.{append-nil, append_assoc, drop_more, length-drop, take_more, get_or-drop}
+use Rattle.std.proofs.lemmas.Str.{digit_value_digit}
+use Rattle.sip_message.specs.Unfold.{is_blank, unfolded_run, unfolded_from, unfolded}
+use Rattle.sip_message.specs.StartLine.{CodeText}
+use Rattle.sip_message.specs.inner.Appends.{Appends}
+use Rattle.sip_message.proofs.lemmas.canon.Law.{code-decimal}
+
+-- what was written, with what is left unfolded, is the text unfolded
+pub record Unfolding (old text : List ℕ) (from at : ℕ) (out : List ℕ) : Type 0 where
+  pub done : List ℕ
+  pub appended : out ≡ old ++ done
+  pub within : from ≤ at
+  pub rest : done ++ unfolded_from (take (at - from) (drop from text)) (drop at text) ≡ unfolded text
+
+-- at first nothing is written
+pub unfold-start : (old text : List ℕ) → Unfolding old text 0 0 old
+unfold-start old text = record { done = []; appended = sym (append-nil old); within = omega arith; rest = refl }
+
+-- the run with one more byte
+run-more : (text : List ℕ) (from at : ℕ) → from ≤ at → at < length text → take (at + 1 - from) (drop from text) ≡ take (at - from) (drop from text) ++ get_or text at 0 ∷ []
+run-more text from at low below =
+    ap (λ n. take n (drop from text)) (omega (arith, low)) ∙ take_more (drop from text) (at - from) 0 (omega (arith, low, below, length-drop from text))
+    ∙ ap (λ b. take (at - from) (drop from text) ++ b ∷ []) (get_or-drop from text (at - from) 0 ∙ ap (λ n. get_or text n 0) (omega (arith, low)))
+
+-- a blank joins the run
+pub unfold-blank : (old text out : List ℕ) (from at : ℕ) → at < length text → is_blank (get_or text at 0) ≡ true → Unfolding old text from at out → Unfolding old text from (at + 1) out
+unfold-blank old text out from at below blank u = record {
+  done = u.done;
+  appended = u.appended;
+  within = omega (arith, u.within);
+  rest = ap (λ r. u.done ++ unfolded_from r (drop (at + 1) text)) (run-more text from at u.within below) ∙ ap (λ x. u.done ++ x) (sym step) ∙ u.rest;
+}
+  where
+    run : List ℕ
+    run = take (at - from) (drop from text)
+
+    step : unfolded_from run (drop at text) ≡ unfolded_from (run ++ get_or text at 0 ∷ []) (drop (at + 1) text)
+    step =
+        ap (unfolded_from run) (drop_more text at 0 below)
+        ∙ ap (λ b. cond b (unfolded_from (run ++ get_or text at 0 ∷ []) (drop (at + 1) text)) (unfolded_run run ++ get_or text at 0 ∷ unfolded_from [] (drop (at + 1) text))) blank
+
+-- another byte is written behind the run
+pub unfold-solid : (old text out mid new : List ℕ) (from at : ℕ) → at < length text → is_blank (get_or text at 0) ≡ false → Unfolding old text from at out → mid ≡ out ++ unfolded_run (take (at - from) (drop from text)) → new ≡ mid ++ get_or text at 0 ∷ [] → Unfolding old text (at + 1) (at + 1) new
+unfold-solid old text out mid new from at below solid u mid_is new_is = record {
+  done = u.done ++ (unfolded_run run ++ get_or text at 0 ∷ []);
+  appended =
+      new_is ∙ ap (λ x. x ++ get_or text at 0 ∷ []) (mid_is ∙ ap (λ x. x ++ unfolded_run run) u.appended ∙ append_assoc old u.done (unfolded_run run))
+      ∙ append_assoc old (u.done ++ unfolded_run run) (get_or text at 0 ∷ []) ∙ ap (λ x. old ++ x) (append_assoc u.done (unfolded_run run) (get_or text at 0 ∷ []));
+  within = omega arith;
+  rest =
+      ap (λ n. (u.done ++ (unfolded_run run ++ get_or text at 0 ∷ [])) ++ unfolded_from (take n (drop (at + 1) text)) (drop (at + 1) text)) none
+      ∙ append_assoc u.done (unfolded_run run ++ get_or text at 0 ∷ []) (unfolded_from [] (drop (at + 1) text))
+      ∙ ap (λ x. u.done ++ x) (append_assoc (unfolded_run run) (get_or text at 0 ∷ []) (unfolded_from [] (drop (at + 1) text)) ∙ sym step) ∙ u.rest;
+}
+  where
+    run : List ℕ
+    run = take (at - from) (drop from text)
+
+    none : at + 1 - (at + 1) ≡ 0
+    none = omega arith
+
+    step : unfolded_from run (drop at text) ≡ unfolded_run run ++ get_or text at 0 ∷ unfolded_from [] (drop (at + 1) text)
+    step =
+        ap (unfolded_from run) (drop_more text at 0 below)
+        ∙ ap (λ b. cond b (unfolded_from (run ++ get_or text at 0 ∷ []) (drop (at + 1) text)) (unfolded_run run ++ get_or text at 0 ∷ unfolded_from [] (drop (at + 1) text))) solid
+
+-- where memory is refused some part is written
+pub unfold-part : {A E : Type 0} (old text out new goal : List ℕ) (from at : ℕ) (r : Result A E) → IsErr r → Unfolding old text from at out → (part : List ℕ) × (new ≡ out ++ part) → Appends old new goal r
+unfold-part old text out new goal from at (Ok a) err u is = absurd (both_ways false refl err)
+unfold-part old text out new goal from at (Err e) err u is = (u.done ++ is.0, is.1 ∙ ap (λ x. x ++ is.0) u.appended ∙ append_assoc old u.done is.0)
+
+-- one behind the other
+pub part-more : (out mid new front : List ℕ) → mid ≡ out ++ front → (part : List ℕ) × (new ≡ mid ++ part) → (part : List ℕ) × (new ≡ out ++ part)
+part-more out mid new front mid_is is = (front ++ is.0, is.1 ∙ ap (λ x. x ++ is.0) mid_is ∙ append_assoc out front is.0)
+
+-- a digit
+digit-is : (a : ℕ) → a < 10 → is_ascii_digit (48 + a) ≡ true
+digit-is a small = and_from _ _ (le-leb 48 (48 + a) (omega arith)) (le-leb (48 + a) 57 (omega (arith, small)))
+
+-- a code in its three digits
+pub three-digits : (code : ℕ) → 100 ≤ code → code < 700 → ◌≡◌ {A = List ℕ} ((48 + code / 100) ∷ (48 + code / 10 % 10) ∷ (48 + code % 10) ∷ []) (decimal code)
+three-digits code low high = sym (code-decimal ((48 + code / 100) ∷ (48 + code / 10 % 10) ∷ (48 + code % 10) ∷ []) code is)
+  where
+    x : code / 100 < 10
+    x = omega (arith, high)
+
+    y : code / 10 % 10 < 10
+    y = omega arith
+
+    z : code % 10 < 10
+    z = omega arith
+
+    is : CodeText ((48 + code / 100) ∷ (48 + code / 10 % 10) ∷ (48 + code % 10) ∷ []) code
+    is = record {
+      digits = (((48 + code / 100) ∷ []) ∷ ((48 + code / 10 % 10) ∷ []) ∷ ((48 + code % 10) ∷ []) ∷ [], ((48 + code / 100, digit-is (code / 100) x, refl), ((48 + code / 10 % 10, digit-is (code / 10 % 10) y, refl), ((48 + code % 10, digit-is (code % 10) z, refl), tt))), refl, omega arith, omega arith);
+      code_is = omega (arith, digit_value_digit (48 + code / 100) (omega arith, omega (arith, x)), digit_value_digit (48 + code / 10 % 10) (omega arith, omega (arith, y)), digit_value_digit (48 + code % 10) (omega arith, omega (arith, z)));
+      low = low;
+      high = high;
+    }

@@ -1,0 +1,4 @@
+pub mod OneWay
+pub mod Name
+pub mod FullName
+pub mod Named

@@ -1,0 +1,100 @@
+-- A line is a field in one way.
+use Rattle.std.proofs.Common.{◌≡◌, ℕ, true, false, List, [], ◌∷◌, ◌++◌, refl, sym, ap, ◌∙◌, subst}
+use Rattle.std.proofs.lemmas.Bool.{both_ways}
+use Rattle.sip_text.specs.Bytes.{colon, is_wsp, is_token_byte}
+use Rattle.sip_text.specs.Text.{One, Many}
+use Rattle.sip_text.specs.Grammar.{Token}
+use Rattle.sip_message.specs.Name.{FieldName, name_of}
+use Rattle.sip_message.specs.Field.{NameText, ValueText}
+use Rattle.sip_message.specs.Unfold.{is_blank, OpensSolid, EndsSolid}
+use Rattle.sip_message.proofs.lemmas.text.Cuts.{Cuts, first_longer, same_length, second_longer, two_cuts, same_front, Stops, All, all_left, all_right, all_both}
+use Rattle.sip_message.proofs.lemmas.text.Each.{Each, each-one, each-some, each-many, each-sws, blank_is, wsp-blank}
+
+-- a token's bytes
+pub each-token : Each is_token_byte Token
+each-token = each-some is_token_byte _ (each-one is_token_byte is_token_byte (λ b is. is))
+
+-- no blank is a byte of a token
+pub blank-token : (b : ℕ) → is_blank b ≡ true → is_token_byte b ≡ false
+blank-token = blank_is (λ b. is_token_byte b ≡ false) refl refl refl refl
+
+-- WSP in a row
+pub each-wsp : Each is_wsp (Many (One is_wsp))
+each-wsp = each-many is_wsp _ (each-one is_wsp is_wsp (λ b is. is))
+
+-- a field line, its parts one behind the other
+pub name_whole : (line rest : List ℕ) (name : FieldName) (n : NameText line name rest) → line ≡ n.spelled ++ (n.whole.3.0 ++ colon ∷ rest)
+name_whole line rest name n =
+    let w = n.whole in
+    w.4 ∙ ap (λ t. t ++ w.1) w.2
+    ∙ ap (λ t. n.spelled ++ t) (w.3.4 ∙ ap (λ t. w.3.0 ++ t) (w.3.3.4 ∙ ap (λ t. t ++ w.3.3.1) w.3.3.2 ∙ ap (λ t. colon ∷ t) w.3.3.3))
+
+-- a name ends where blanks and a colon stand
+pub name_stops : (blanks rest : List ℕ) → All is_wsp blanks → Stops is_token_byte (blanks ++ colon ∷ rest)
+name_stops [] rest all = refl
+name_stops (b ∷ blanks) rest all = blank-token b (wsp-blank b all.0)
+
+-- a line has one name
+pub same_name : (line r s : List ℕ) (n m : FieldName) → NameText line n r → NameText line m s → (n ≡ m) × (r ≡ s)
+same_name line r s n m one other =
+    let blanks = one.whole.3.0 in
+    let spaces = other.whole.3.0 in
+    let wsp = each-wsp blanks one.whole.3.2 in
+    let wsp_too = each-wsp spaces other.whole.3.2 in
+    let names = same_front is_token_byte one.spelled _ other.spelled _ (each-token _ one.is_token) (each-token _ other.is_token)
+    (name_stops blanks r wsp) (name_stops spaces s wsp_too) (sym (name_whole line r n one) ∙ name_whole line s m other) in
+    let rests = same_front is_wsp blanks (colon ∷ r) spaces (colon ∷ s) wsp wsp_too refl refl names.1 in
+    let tails : colon ∷ r ≡ colon ∷ s = rests.1 in
+    (one.name_is ∙ ap name_of names.0 ∙ sym other.name_is, cc)
+
+-- a text that ends with a blank does not end solid
+pub ends_blank : (u : List ℕ) (b : ℕ) (z : List ℕ) → EndsSolid (u ++ b ∷ z) → All is_blank (b ∷ z) → ⊥
+ends_blank [] b [] ends all = both_ways (is_blank b) ends all.0
+ends_blank [] b (c ∷ z) ends all = ends_blank [] c z ends all.1
+ends_blank (a ∷ []) b z ends all = ends_blank [] b z ends all
+ends_blank (a ∷ c ∷ u) b z ends all = ends_blank (c ∷ u) b z ends all
+
+-- texts that end solid, before blanks, are the same
+pub same_solid : (u v x y : List ℕ) → EndsSolid u → EndsSolid x → All is_blank v → All is_blank y → u ++ v ≡ x ++ y → u ≡ x
+same_solid u v x y us xs vs ys same = at (two_cuts u v x y same)
+  where
+    at : Cuts u v x y → u ≡ x
+    at (same_length left right) = left
+    at (first_longer b z longer is) =
+        absurd (ends_blank x b z (subst EndsSolid longer us) (all_left is_blank (b ∷ z) v (subst (All is_blank) is ys)))
+    at (second_longer b z longer is) =
+        absurd (ends_blank u b z (subst EndsSolid longer xs) (all_left is_blank (b ∷ z) y (subst (All is_blank) is vs)))
+
+-- a value between blanks
+value_whole : (rest value : List ℕ) (v : ValueText rest value) → rest ≡ v.whole.0 ++ (value ++ v.whole.3.1)
+value_whole rest value v =
+    let w = v.whole in
+    w.4 ∙ ap (λ t. w.0 ++ t) (w.3.4 ∙ ap (λ t. t ++ w.3.1) w.3.2)
+
+-- the value is what stands between the longest blank runs
+pub same_value : (rest value other : List ℕ) → ValueText rest value → ValueText rest other → value ≡ other
+same_value rest value other one two =
+    at value other one.opens one.ends two.opens two.ends (sym (value_whole rest value one) ∙ value_whole rest other two)
+  where
+    front : All is_blank one.whole.0
+    front = each-sws _ one.whole.2
+
+    front_too : All is_blank two.whole.0
+    front_too = each-sws _ two.whole.2
+
+    back : All is_blank one.whole.3.1
+    back = each-sws _ one.whole.3.3
+
+    back_too : All is_blank two.whole.3.1
+    back_too = each-sws _ two.whole.3.3
+
+    at : (v w : List ℕ) → OpensSolid v → EndsSolid v → OpensSolid w → EndsSolid w → one.whole.0 ++ (v ++ one.whole.3.1) ≡ two.whole.0 ++ (w ++ two.whole.3.1) → v ≡ w
+    at [] [] vo ve wo we same = refl
+    at [] (b ∷ w) vo ve wo we same =
+        let all : All is_blank (two.whole.0 ++ (b ∷ w ++ two.whole.3.1)) = subst (All is_blank) same (all_both is_blank one.whole.0 one.whole.3.1 front back) in
+        absurd (both_ways (is_blank b) wo (all_right is_blank two.whole.0 (b ∷ w ++ two.whole.3.1) all).0)
+    at (b ∷ v) [] vo ve wo we same =
+        let all : All is_blank (one.whole.0 ++ (b ∷ v ++ one.whole.3.1)) = subst (All is_blank) (sym same) (all_both is_blank two.whole.0 two.whole.3.1 front_too back_too) in
+        absurd (both_ways (is_blank b) vo (all_right is_blank one.whole.0 (b ∷ v ++ one.whole.3.1) all).0)
+    at (b ∷ v) (c ∷ w) vo ve wo we same =
+        same_solid (b ∷ v) one.whole.3.1 (c ∷ w) two.whole.3.1 ve we back back_too (same_front is_blank one.whole.0 _ two.whole.0 _ front front_too vo wo same).1

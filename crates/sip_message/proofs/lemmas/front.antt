@@ -1,0 +1,4 @@
+pub mod Prefix
+pub mod Cuts
+pub mod OneWay
+pub mod Led

@@ -1,0 +1,4 @@
+pub mod Scan
+pub mod OneWay
+pub mod HeadEnd
+pub mod Reading

@@ -1,0 +1,240 @@
+-- A text is cut at its first line end that no blank follows, LF by LF.
+use Rattle.std.proofs.Common.{◌≡◌, ℕ, ◌+◌, ◌-◌, ◌≤◌, ◌⊎◌, Bool, true, false, not, cond, take, drop, Some, None, List, [], ◌∷◌, ◌++◌, length, refl, sym, ap, ◌∙◌, subst, inl, inr, arith}
+use Rattle.std.proofs.lemmas.Bool.{both_ways, and_parts, and_from}
+use Rattle.std.proofs.lemmas.Option.{none-some}
+use Rattle.std.proofs.Math.Seq.{take-append_seam, drop-append_seam}
+use Rattle.sip_text.specs.Text.{led}
+use Rattle.sip_text.specs.Cut.{before, behind, up_to}
+use Rattle.sip_text.proofs.CutLemmas.{cut-whole, lacks-before}
+use Rattle.sip_text.proofs.EndLemmas.{up_to-some, up_to-mark}
+use Rattle.std.proofs.lemmas.List.{append_assoc, append-nil, length-append, append_cancel_left, take-append-drop, length-take-le}
+use Rattle.sip_text.specs.Bytes.{crlf, carriage_return, line_feed, is_wsp}
+use Rattle.sip_text.proofs.LacksLemmas.{Lacks}
+use Rattle.sip_message.specs.Lines.{BeginsBlank, IsFolded}
+use Rattle.sip_message.specs.inner.Fronts.{LineFront, ends_cr, begins_wsp, is_line}
+use Rattle.sip_message.proofs.lemmas.text.Cuts.{Cuts, first_longer, same_length, second_longer, two_cuts, same_by_end}
+use Rattle.sip_message.proofs.lemmas.lines.OneWay.{same_first}
+use Rattle.sip_message.proofs.lemmas.front.Cuts.{ReadAs, NotRead}
+
+-- what was scanned holds no line's end, and does not end within one
+pub record Scanned (done rest : List ℕ) : Type 0 where
+  pub apart : (u : List ℕ) → done ≡ u ++ carriage_return ∷ [] → ⊥
+  pub folded : (u v : List ℕ) → done ≡ u ++ (crlf ++ v) → BeginsBlank (v ++ rest)
+
+-- a CRLF is followed by a blank, or is not yet scanned
+pub unscanned : (done rest u v : List ℕ) → Scanned done rest → done ++ rest ≡ u ++ (crlf ++ v) → BeginsBlank v ⊎ ((w : List ℕ) × (u ≡ done ++ w) × (rest ≡ w ++ (crlf ++ v)))
+unscanned done rest u v scanned same = at (two_cuts done rest u (crlf ++ v) same)
+  where
+    at : Cuts done rest u (crlf ++ v) → BeginsBlank v ⊎ ((w : List ℕ) × (u ≡ done ++ w) × (rest ≡ w ++ (crlf ++ v)))
+    at (same_length front back) = inr ([], sym front ∙ sym (append-nil done), back)
+    at (second_longer c z longer back) = inr (c ∷ z, longer, back)
+    at (first_longer c [] longer back) =
+        let head : carriage_return ≡ c = cc in
+        absurd (scanned.apart u (longer ∙ ap (λ x. u ++ x ∷ []) (sym head)))
+    at (first_longer c (d ∷ z) longer back) =
+        let both : carriage_return ∷ line_feed ∷ v ≡ c ∷ d ∷ (z ++ rest) = back in
+        let c_is : carriage_return ≡ c = cc in
+        let d_is : line_feed ≡ d = cc in
+        let v_is : v ≡ z ++ rest = cc in
+        inl (subst BeginsBlank (sym v_is) (scanned.folded u z (longer ∙ ap (λ x. u ++ x ∷ d ∷ z) (sym c_is) ∙ ap (λ x. u ++ carriage_return ∷ x ∷ z) (sym d_is))))
+
+-- a text that lacks LF has none within
+no_lf : (u v : List ℕ) → Lacks line_feed (u ++ line_feed ∷ v) → ⊥
+no_lf [] v lacks = both_ways true lacks.0 refl
+no_lf (b ∷ u) v lacks = no_lf u v lacks.1
+
+no_crlf : (t u v : List ℕ) → Lacks line_feed t → t ≡ u ++ (crlf ++ v) → ⊥
+no_crlf t u v lacks is =
+    no_lf (u ++ carriage_return ∷ []) v (subst (Lacks line_feed) (is ∙ sym (append_assoc u (carriage_return ∷ []) (line_feed ∷ v))) lacks)
+
+-- without a further LF there is no line
+pub scan-none : (done rest : List ℕ) → Scanned done rest → Lacks line_feed rest → NotRead (LineFront (done ++ rest))
+scan-none done rest scanned lacks (line, more) (folded, cut, whole) =
+    elim (unscanned done rest line more scanned (whole ∙ append_assoc line crlf more)) [
+      | inl begins ↦ cut begins
+      | inr found ↦ no_crlf rest found.0 more lacks found.2
+    ]
+
+-- what begins with a blank before CR is not empty
+begins-left : (u v : List ℕ) → BeginsBlank (u ++ carriage_return ∷ v) → BeginsBlank u
+begins-left [] v begins = both_ways (is_wsp carriage_return) refl begins
+begins-left (b ∷ u) v begins = begins
+
+-- a line ends at the next LF, behind CR and before no blank
+pub scan-line : (done f more : List ℕ) → Scanned done (f ++ (crlf ++ more)) → Lacks line_feed f → (BeginsBlank more → ⊥) → ReadAs (LineFront (done ++ (f ++ (crlf ++ more)))) (done ++ f, more)
+scan-line done f more scanned lacks cut = (is, (λ x other. only x.0 x.1 other))
+  where
+    folded : IsFolded (done ++ f)
+    folded u v line_is =
+        elim (unscanned done (f ++ (crlf ++ more)) u (v ++ (crlf ++ more)) scanned (
+        sym (append_assoc done f (crlf ++ more)) ∙ ap (λ t. t ++ (crlf ++ more)) line_is ∙ append_assoc u (crlf ++ v) (crlf ++ more))) [
+          | inl begins ↦ begins-left v (line_feed ∷ more) begins
+          | inr found ↦ absurd (no_crlf f found.0 v lacks (append_cancel_left done f (found.0 ++ (crlf ++ v)) (line_is ∙ ap (λ t. t ++ (crlf ++ v)) found.1 ∙ append_assoc done found.0 (crlf ++ v))))
+        ]
+
+    is : LineFront (done ++ (f ++ (crlf ++ more))) (done ++ f, more)
+    is = (folded, cut, sym (append_assoc done f (crlf ++ more)) ∙ sym (append_assoc (done ++ f) crlf more))
+
+    only : (l m : List ℕ) → LineFront (done ++ (f ++ (crlf ++ more))) (l, m) → ◌≡◌ {A = List ℕ × List ℕ} (l, m) (done ++ f, more)
+    only l m (l_folded, m_cut, whole) =
+        let same = same_first l (done ++ f) m more l_folded folded m_cut cut (sym whole ∙ is.2) in
+        ap (λ t. (t, m)) same.0 ∙ ap (λ t. (done ++ f, t)) same.1
+
+-- any other LF is scanned
+pub scan-more : (done front more : List ℕ) → Scanned done (front ++ line_feed ∷ more) → Lacks line_feed front → ((f : List ℕ) → front ≡ f ++ carriage_return ∷ [] → BeginsBlank more) → Scanned (done ++ (front ++ line_feed ∷ [])) more
+scan-more done front more scanned lacks blank = record { apart = apart; folded = folded }
+  where
+    apart : (u : List ℕ) → done ++ (front ++ line_feed ∷ []) ≡ u ++ carriage_return ∷ [] → ⊥
+    apart u same =
+        let ends = same_by_end (done ++ front) (line_feed ∷ []) u (carriage_return ∷ []) refl (append_assoc done front (line_feed ∷ []) ∙ same) in
+        let tails : line_feed ∷ [] ≡ carriage_return ∷ [] = ends.1 in
+        let heads : line_feed ≡ carriage_return = cc in
+        omega (arith, heads)
+
+    within : (w v : List ℕ) → Cuts front (line_feed ∷ []) (w ++ carriage_return ∷ []) (line_feed ∷ v) → BeginsBlank (v ++ more)
+    within w v (same_length f_is back) =
+        let none : [] ≡ v = cc in
+        subst (λ t. BeginsBlank (t ++ more)) none (blank w f_is)
+    within w v (first_longer c z longer back) =
+        let head : line_feed ≡ c = cc in
+        absurd (no_lf (w ++ carriage_return ∷ []) z (subst (Lacks line_feed) (longer ∙ ap (λ x. (w ++ carriage_return ∷ []) ++ x ∷ z) (sym head)) lacks))
+    within w v (second_longer c z longer back) = absurd (omega (arith, ap length back, length-append z (line_feed ∷ v)))
+
+    folded : (u v : List ℕ) → done ++ (front ++ line_feed ∷ []) ≡ u ++ (crlf ++ v) → BeginsBlank (v ++ more)
+    folded u v same =
+        elim (unscanned done (front ++ line_feed ∷ more) u (v ++ more) scanned (
+        ap (λ t. done ++ t) (sym (append_assoc front (line_feed ∷ []) more)) ∙ sym (append_assoc done (front ++ line_feed ∷ []) more) ∙ ap (λ t. t ++ more) same ∙ append_assoc u (crlf ++ v) more)) [
+          | inl begins ↦ begins
+          | inr found ↦ within found.0 v (two_cuts front (line_feed ∷ []) (found.0 ++ carriage_return ∷ []) (line_feed ∷ v) (
+              append_cancel_left done (front ++ line_feed ∷ []) (found.0 ++ (crlf ++ v)) (same ∙ ap (λ t. t ++ (crlf ++ v)) found.1 ∙ append_assoc done found.0 (crlf ++ v))
+              ∙ sym (append_assoc found.0 (carriage_return ∷ []) (line_feed ∷ v))))
+        ]
+
+-- a text cut at its first LF
+cut-lf : (t front rest : List ℕ) → front ≡ before line_feed t → Some rest ≡ behind line_feed t → (t ≡ front ++ line_feed ∷ rest) × Lacks line_feed front
+cut-lf t front rest front_is rest_is = (
+  cut-whole line_feed t ∙ ap (λ x. x ++ led line_feed (behind line_feed t)) (sym front_is) ∙ ap (λ o. front ++ led line_feed o) (sym rest_is),
+  subst (Lacks line_feed) (sym front_is) (lacks-before line_feed t),
+)
+
+-- or at none
+pub cut-none : (text : List ℕ) (at : ℕ) → Scanned (take at text) (drop at text) → None ≡ behind line_feed (drop at text) → NotRead (LineFront text)
+cut-none text at scanned none =
+    subst (λ t. NotRead (LineFront t)) (take-append-drop at text)
+    (scan-none (take at text) (drop at text) scanned (subst (Lacks line_feed) (sym whole) (lacks-before line_feed (drop at text))))
+  where
+    whole : drop at text ≡ before line_feed (drop at text)
+    whole = cut-whole line_feed (drop at text) ∙ ap (λ o. before line_feed (drop at text) ++ led line_feed o) (sym none) ∙ append-nil _
+
+-- a text that ends with CR
+ends-cr : (text : List ℕ) → ends_cr text ≡ true → (f : List ℕ) × (text ≡ f ++ carriage_return ∷ [])
+ends-cr text is =
+    let found : up_to carriage_return text ≡ Some (take (length text - 1) text) = ap (λ x. cond x (Some (take (length text - 1) text)) None) is in
+    (take (length text - 1) text, up_to-some carriage_return text (take (length text - 1) text) found)
+
+cr-ends : (f : List ℕ) → ends_cr (f ++ carriage_return ∷ []) ≡ true
+cr-ends f = at (ends_cr (f ++ carriage_return ∷ [])) refl
+  where
+    at : (x : Bool) → ends_cr (f ++ carriage_return ∷ []) ≡ x → ends_cr (f ++ carriage_return ∷ []) ≡ true
+    at true is = is
+    at false is =
+        absurd (none-some f (sym (ap (λ x. cond x (Some (take (length (f ++ carriage_return ∷ []) - 1) (f ++ carriage_return ∷ []))) None) is) ∙ up_to-mark carriage_return f))
+
+begins-wsp : (text : List ℕ) → BeginsBlank text → begins_wsp text ≡ true
+begins-wsp [] begins = absurd begins
+begins-wsp (b ∷ text) begins = begins
+
+wsp-begins : (text : List ℕ) → begins_wsp text ≡ true → BeginsBlank text
+wsp-begins [] is = both_ways false refl is
+wsp-begins (b ∷ text) is = is
+
+-- the LF ends a line
+pub line-found : (text front rest : List ℕ) (at : ℕ) → at ≤ length text → Scanned (take at text) (drop at text) → front ≡ before line_feed (drop at text) → Some rest ≡ behind line_feed (drop at text) → is_line front rest ≡ true → ReadAs (LineFront text) (take (at + length front - 1) text, rest)
+line-found text front rest at within scanned front_is rest_is line =
+    subst (λ t. ReadAs (LineFront text) (t, rest)) line_is
+    (subst (λ t. ReadAs (LineFront t) (take at text ++ f.0, rest)) (sym whole)
+    (scan-line (take at text) f.0 rest (subst (Scanned (take at text)) inner scanned) lacks cut))
+  where
+    both : (drop at text ≡ front ++ line_feed ∷ rest) × Lacks line_feed front
+    both = cut-lf (drop at text) front rest front_is rest_is
+
+    parts : (ends_cr front ≡ true) × (not (begins_wsp rest) ≡ true)
+    parts = and_parts (ends_cr front) (not (begins_wsp rest)) line
+
+    f : (g : List ℕ) × (front ≡ g ++ carriage_return ∷ [])
+    f = ends-cr front parts.0
+
+    inner : drop at text ≡ f.0 ++ (crlf ++ rest)
+    inner = both.0 ∙ ap (λ t. t ++ line_feed ∷ rest) f.1 ∙ append_assoc f.0 (carriage_return ∷ []) (line_feed ∷ rest)
+
+    whole : text ≡ take at text ++ (f.0 ++ (crlf ++ rest))
+    whole = sym (take-append-drop at text) ∙ ap (λ t. take at text ++ t) inner
+
+    left : (u v : List ℕ) → Lacks line_feed (u ++ v) → Lacks line_feed u
+    left [] v all = tt
+    left (b ∷ u) v all = (all.0, left u v all.1)
+
+    lacks : Lacks line_feed f.0
+    lacks = left f.0 (carriage_return ∷ []) (subst (Lacks line_feed) f.1 both.1)
+
+    cut : BeginsBlank rest → ⊥
+    cut begins = both_ways false refl (sym (ap not (begins-wsp rest begins)) ∙ parts.1)
+
+    line_is : take at text ++ f.0 ≡ take (at + length front - 1) text
+    line_is =
+        sym (take-append_seam (take at text ++ f.0) (crlf ++ rest))
+        ∙ ap (take (length (take at text ++ f.0))) (append_assoc (take at text) f.0 (crlf ++ rest) ∙ sym whole)
+        ∙ ap (λ n. take n text) (omega (arith, length-append (take at text) f.0, length-take-le at text within, ap length f.1, length-append f.0 (carriage_return ∷ [])))
+
+-- or it does not, and is scanned
+pub line-on : (text front rest : List ℕ) (at : ℕ) → at ≤ length text → Scanned (take at text) (drop at text) → front ≡ before line_feed (drop at text) → Some rest ≡ behind line_feed (drop at text) → is_line front rest ≡ false → (at + length front + 1 ≤ length text) × Scanned (take (at + length front + 1) text) (drop (at + length front + 1) text)
+line-on text front rest at within scanned front_is rest_is line = (
+  omega (arith, size, ap length whole, length-append (take at text ++ (front ++ line_feed ∷ [])) rest),
+  subst (λ d. Scanned d (drop (at + length front + 1) text)) take_is (subst (Scanned (take at text ++ (front ++ line_feed ∷ []))) drop_is
+      (scan-more (take at text) front rest (subst (Scanned (take at text)) both.0 scanned) both.1 blank)),
+)
+  where
+    both : (drop at text ≡ front ++ line_feed ∷ rest) × Lacks line_feed front
+    both = cut-lf (drop at text) front rest front_is rest_is
+
+    blank : (f : List ℕ) → front ≡ f ++ carriage_return ∷ [] → BeginsBlank rest
+    blank f is = go (begins_wsp rest) refl
+      where
+        go : (x : Bool) → begins_wsp rest ≡ x → BeginsBlank rest
+        go true e = wsp-begins rest e
+        go false e = absurd (both_ways (is_line front rest) line (and_from (ends_cr front) (not (begins_wsp rest)) (ap ends_cr is ∙ cr-ends f) (ap not e)))
+
+    size : length (take at text ++ (front ++ line_feed ∷ [])) ≡ at + length front + 1
+    size = omega (arith, length-append (take at text) (front ++ line_feed ∷ []), length-append front (line_feed ∷ []), length-take-le at text within)
+
+    whole : text ≡ (take at text ++ (front ++ line_feed ∷ [])) ++ rest
+    whole =
+        sym (take-append-drop at text) ∙ ap (λ t. take at text ++ t) (both.0 ∙ sym (append_assoc front (line_feed ∷ []) rest))
+        ∙ sym (append_assoc (take at text) (front ++ line_feed ∷ []) rest)
+
+    take_is : (take at text ++ (front ++ line_feed ∷ [])) ≡ take (at + length front + 1) text
+    take_is =
+        sym (take-append_seam (take at text ++ (front ++ line_feed ∷ [])) rest) ∙ ap (take (length (take at text ++ (front ++ line_feed ∷ [])))) (sym whole) ∙ ap (λ n. take n text) size
+
+    drop_is : rest ≡ drop (at + length front + 1) text
+    drop_is =
+        sym (drop-append_seam (take at text ++ (front ++ line_feed ∷ [])) rest) ∙ ap (drop (length (take at text ++ (front ++ line_feed ∷ [])))) (sym whole) ∙ ap (λ n. drop n text) size
+
+-- nothing is scanned at first
+pub scan-nothing : (text : List ℕ) → Scanned [] text
+scan-nothing text = record {
+  apart = λ u is. absurd (omega (arith, ap length is, length-append u (carriage_return ∷ [])));
+  folded = λ u v is. absurd (omega (arith, ap length is, length-append u (crlf ++ v)));
+}
+
+-- the LF lies within the text
+pub lf-within : (text front rest : List ℕ) (at : ℕ) → at ≤ length text → front ≡ before line_feed (drop at text) → Some rest ≡ behind line_feed (drop at text) → at + length front + 1 ≤ length text
+lf-within text front rest at within front_is rest_is =
+    omega (
+      arith,
+      ap length (take-append-drop at text),
+      length-append (take at text) (drop at text),
+      length-take-le at text within,
+      ap length (cut-lf (drop at text) front rest front_is rest_is).0,
+      length-append front (line_feed ∷ rest),
+    )

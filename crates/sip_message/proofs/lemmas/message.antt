@@ -1,0 +1,5 @@
+pub mod Stages
+pub mod Body
+pub mod Outcome
+pub mod Faults
+pub mod Views

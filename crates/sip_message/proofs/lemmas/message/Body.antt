@@ -1,0 +1,101 @@
+-- The method and the body: which demand fails, or what the body is.
+use Rattle.std.proofs.Common.{◌≡◌, ℕ, ◌≤◌, ◌<◌, ◌↔◌, Bool, false, List, [], ◌∷◌, length, take, Option, Some, None, refl, sym, ap, ◌∙◌, subst, arith}
+use Rattle.std.specs.Prelude.{bytes_eq, IsTrue, is_some, IfSome}
+use Rattle.std.specs.Borrow.{Bor}
+use Rattle.std.specs.Str.Parse.{digits_value}
+use Rattle.std.proofs.lemmas.Bool.{both_ways}
+use Rattle.std.proofs.lemmas.Slice.Eq.{bytes_eq-Decides}
+use Rattle.std.proofs.Math.Seq.{take-length}
+use Rattle.sip_message.specs.declared.name.Known.TheVariants as known_name
+use Rattle.sip_message.specs.declared.fault.Reason.TheVariants as reason
+use Rattle.sip_message.specs.declared.start_line.StartLine.{StartLine as Code}
+use Rattle.sip_message.specs.declared.start_line.StartLine.TheVariants as variant
+use Rattle.sip_message.specs.StartLine.{StartLine, request}
+use Rattle.sip_message.specs.Via.{ViaParts, ViasText}
+use Rattle.sip_message.specs.Values.{CSeqText}
+use Rattle.sip_message.specs.Field.{Field}
+use Rattle.sip_message.specs.Message.{found, length_in, content_length, is_stream, IsStream, MethodFits, HasLength, IsEnough, body_of}
+use Rattle.sip_message.specs.Outcome.{gives, stops, passes, stopped}
+use Rattle.sip_message.specs.Faults.{at_line, at_body, BodyOf}
+use Rattle.sip_message.specs.Elements.{Element}
+use Rattle.sip_message.specs.inner.ElementFronts.{ViaFront, FirstVia}
+use Rattle.sip_message.specs.Reading.{CSeqValue}
+use Rattle.sip_message.specs.ValueParts.{start_parts}
+use Rattle.sip_message.proofs.lemmas.front.Cuts.{ReadAs}
+use Rattle.sip_message.proofs.lemmas.asked.Parts.{more-elements}
+use Rattle.sip_message.proofs.lemmas.via.Elements.{ends-more}
+use Rattle.sip_message.proofs.lemmas.via.Steps.{one-via}
+
+-- a CSeq that was read fits by its method
+pub method-some : (start : Code) (m u : Bor (List ℕ)) (cseq : List ℕ) (n : ℕ) (k : List ℕ) (r : Bool) → start ≡ variant.Request m u → ReadAs (CSeqValue cseq) (n, k) → r ≡ bytes_eq k m.now → IsTrue r ↔ MethodFits (start_parts start) cseq
+method-some start m u cseq n k r is read r_is = subst (λ s. IsTrue r ↔ MethodFits s cseq) (sym (ap start_parts is)) (to, from)
+  where
+    to : IsTrue r → MethodFits (request m.now u.now) cseq
+    to so = (n, subst (λ x. CSeqText cseq n x) ((bytes_eq-Decides k m.now).0 (sym r_is ∙ so)) read.0)
+
+    from : MethodFits (request m.now u.now) cseq → IsTrue r
+    from (number, text) = r_is ∙ (bytes_eq-Decides k m.now).1 (sym (ap (λ x. x.1) (read.1 (number, m.now) text)))
+
+-- the first element stands at the front
+vias-front : (text : List ℕ) (v : ViaParts) (vias : List ViaParts) → ViasText text v vias → (x : List ℕ) × (rest : List ℕ) × ViaFront text ((x, v), rest)
+vias-front text v vias (x, y, via, more, text_is) = let later = more-elements vias y more in (x, y, (via, text_is, ends-more later.0 y later.1))
+
+-- the top transport is that of the first element
+pub stream-first : (text : List ℕ) (e : Element) (r : Bool) → FirstVia text e → r ≡ is_stream e.1.transport → IsTrue r ↔ IsStream text
+stream-first text e r ((v, vias, is), (rest, front)) r_is = (to, from)
+  where
+    top : (w : ViaParts) (others : List ViaParts) → ViasText text w others → e.1 ≡ w
+    top w others are = let f = vias-front text w others are in ap (λ x. x.0.1) (one-via text (e, rest) ((f.0, w), f.1) front f.2)
+
+    to : IsTrue r → IsStream text
+    to so = (v.transport, (v, vias, is, refl), ap (λ x. is_stream x.transport) (sym (top v vias is)) ∙ sym r_is ∙ so)
+
+    from : IsStream text → IsTrue r
+    from (transport, (w, others, are, same), so) = r_is ∙ ap (λ x. is_stream x.transport) (top w others are) ∙ ap is_stream (sym same) ∙ so
+
+-- the number of Content-Length
+pub length-none : (fields : List Field) → found known_name.ContentLength fields ≡ [] → content_length fields ≡ None
+length-none fields is = ap length_in is
+
+-- the length is that of the first field of the name
+pub length-some : (fields : List Field) (one : ℕ × List ℕ) (more : List (ℕ × List ℕ)) → found known_name.ContentLength fields ≡ one ∷ more → content_length fields ≡ Some (digits_value 10 (one.1))
+length-some fields one more is = ap length_in is
+
+module _ (start : StartLine) (cseq : ℕ × List ℕ) (via : List ℕ) (len : Option ℕ) (rest : List ℕ) where
+  -- another method
+  pub body-method : (MethodFits start (cseq.1) → ⊥) → BodyOf start cseq via len rest (stops (at_line (cseq.0) reason.MethodMismatch))
+  body-method none = stopped _ ((λ _ fits. none fits), refl) refl
+
+  -- a stream without Content-Length
+  pub body-no_length : MethodFits start (cseq.1) → len ≡ None → IsStream via → BodyOf start cseq via len rest (stops (at_body reason.NoLength))
+  body-no_length fits none stream = passes tt fits (stopped _ ((λ _ has. both_ways false refl (sym (ap is_some none) ∙ has stream)), refl) refl)
+
+  -- a datagram without it
+  pub body-all : MethodFits start (cseq.1) → len ≡ None → (IsStream via → ⊥) → BodyOf start cseq via len rest (gives rest)
+  body-all fits none datagram =
+      passes tt fits (passes tt (λ stream. absurd (datagram stream)) (passes tt (subst (λ l. IsEnough l rest) (sym none) tt) (passes tt (λ stream. absurd (datagram stream)) (ap (λ l. gives (body_of l rest)) (sym none)))))
+
+  module _ (n : ℕ) (some : len ≡ Some n) where
+    has : HasLength via len
+    has stream = ap is_some some
+
+    -- fewer bytes
+    pub body-short : MethodFits start (cseq.1) → length rest < n → BodyOf start cseq via len rest (stops (at_body reason.ShortBody))
+    body-short fits short = passes tt fits (passes tt has (stopped _ ((λ _ enough. let e : n ≤ length rest = subst (λ l. IsEnough l rest) some enough in absurd (omega (arith, e, short))), refl) refl))
+
+    -- more bytes in a stream
+    pub body-long : MethodFits start (cseq.1) → n ≤ length rest → (n ≡ length rest → ⊥) → IsStream via → BodyOf start cseq via len rest (stops (at_body reason.LongBody))
+    body-long fits enough other stream =
+        passes tt fits (passes tt has (passes tt (subst (λ l. IsEnough l rest) (sym some) enough)
+        (stopped _ ((λ _ no_more. let e : length rest ≤ n = subst (λ l. IfSome l (λ k. length rest ≤ k)) some (no_more stream) in other (omega (arith, e, enough))), refl) refl)))
+
+    -- more bytes in a datagram
+    pub body-cut : MethodFits start (cseq.1) → n ≤ length rest → (IsStream via → ⊥) → BodyOf start cseq via len rest (gives (take n rest))
+    body-cut fits enough datagram =
+        passes tt fits (passes tt has (passes tt (subst (λ l. IsEnough l rest) (sym some) enough) (passes tt (λ stream. absurd (datagram stream)) (ap (λ l. gives (body_of l rest)) (sym some)))))
+
+    -- as many
+    pub body-whole : MethodFits start (cseq.1) → n ≡ length rest → BodyOf start cseq via len rest (gives rest)
+    body-whole fits same =
+        passes tt fits (passes tt has (passes tt (subst (λ l. IsEnough l rest) (sym some) (omega (arith, same)))
+        (passes tt (λ stream. subst (λ l. IfSome l (λ k. length rest ≤ k)) (sym some) (omega (arith, same))) (ap (λ b. gives b) (sym (ap (λ l. body_of l rest) some ∙ ap (λ k. take k rest) same ∙ take-length rest))))))

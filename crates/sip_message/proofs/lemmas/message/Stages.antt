@@ -1,0 +1,109 @@
+-- The stages of reading, one after another.
+use Rattle.std.proofs.Common.{◌≡◌, ℕ, List, false, refl, sym, ap, subst}
+use Rattle.std.specs.Prelude.{Result, Ok, Err, IsErr, IsErrAnd}
+use Rattle.std.proofs.lemmas.Bool.{both_ways}
+use Rattle.sip_message.specs.declared.fault.Fault.{Fault}
+use Rattle.sip_message.specs.declared.fault.ReadError.{ReadError}
+use Rattle.sip_message.specs.declared.fault.ReadError.TheVariants as error
+use Rattle.sip_message.specs.declared.stages.Named.{Named}
+use Rattle.sip_message.specs.Lines.{IsHead, HasNoBareEnd, IsLines}
+use Rattle.sip_message.specs.inner.Lines.{AreLines}
+use Rattle.sip_message.specs.StartLine.{StartLine, StartText}
+use Rattle.sip_message.specs.Field.{Field}
+use Rattle.sip_message.specs.Message.{Message, MessageText, content_length}
+use Rattle.sip_message.specs.Outcome.{Outcome, gives, stops, passes}
+use Rattle.sip_message.specs.Faults.{FieldsOf, NamesOf, BodyOf, LinesOf, ReadOf}
+use Rattle.sip_message.specs.inner.Settles.{Settles}
+use Rattle.sip_message.specs.Only.{IsOnly}
+use Rattle.sip_message.specs.Reading.{Reading, Parts, HasParts, Keeps, CSeqValue}
+use Rattle.sip_message.specs.Elements.{Element}
+use Rattle.sip_message.specs.inner.ElementFronts.{FirstVia}
+use Rattle.sip_message.specs.inner.Kept.{KeepsRead}
+use Rattle.sip_message.specs.Reads.{Reads, ReadsTo}
+use Rattle.sip_message.specs.inner.Stages.{names_parts, Stand}
+use Rattle.sip_message.proofs.lemmas.lines.OneWay.{head-lines}
+use Rattle.sip_message.proofs.lemmas.message.Faults.{read-text}
+use Rattle.sip_message.proofs.lemmas.asked.Parts.{has-parts}
+use Rattle.sip_message.proofs.lemmas.asked.OneWay.{parts-one}
+use Rattle.sip_message.proofs.lemmas.message.Views.{keeps-via, keeps-cseq}
+use Rattle.sip_message.proofs.lemmas.via.Steps.{one-via}
+use Rattle.sip_message.proofs.lemmas.value.CSeq.{same-cseq}
+
+-- the head is clean, and these are its first line and the others
+pub record IsBegun (bytes head rest first : List ℕ) (others : List (List ℕ)) : Type 0 where
+  pub head_is : IsHead bytes head rest
+  pub clean : HasNoBareEnd head
+  pub are_lines : IsLines head first others
+
+-- what the lines are read as, the bytes are
+pub begun : {bytes head rest first : List ℕ} {others : List (List ℕ)} {out : Outcome Message} → IsBegun bytes head rest first others → LinesOf rest first others out → ReadOf bytes out
+begun {head = head} {rest = rest} {first = first} {others = others} b of_lines = passes (head, rest) b.head_is (passes tt b.clean (first, others, b.are_lines, of_lines))
+
+-- the first line and the others of a head
+pub begins : {bytes head rest first text : List ℕ} → IsHead bytes head rest → HasNoBareEnd head → ((line : List ℕ) (others : List (List ℕ)) → IsLines head line others → (line ≡ first) × AreLines text others)
+    → (others : List (List ℕ)) × IsBegun bytes head rest first others × AreLines text others
+begins {bytes = bytes} {head = head} {rest = rest} head_is clean cut =
+    let lines = head-lines bytes head rest head_is in
+    let parts = cut lines.0 lines.1 lines.2 in
+    (lines.1, record { head_is = head_is; clean = clean; are_lines = subst (λ l. IsLines head l lines.1) parts.0 lines.2 }, parts.1)
+
+-- an error of a stage that takes memory
+pub settled : {A X : Type 0} (parts : A → X) (S : Outcome X → Type 0) (bytes : List ℕ) (e : ReadError) (r : Result Reading ReadError) → IsErr r → IsErrAnd r (λ x. x ≡ e) → Settles S parts (Err e) → ((fault : Fault) → S (stops fault) → ReadOf bytes (stops fault)) → ReadsTo bytes r
+settled parts S bytes e (Ok m) err same settles go = absurd (both_ways false refl err)
+settled parts S bytes e (Err x) err same settles go = at x (subst (λ y. Settles S parts (Err y)) (sym same) settles)
+  where
+    at : (y : ReadError) → Settles S parts (Err y) → ReadsTo bytes (Err y)
+    at error.Memory is = tt
+    at (error.Fault fault) is = go fault is
+
+-- a fault
+pub faulted : (bytes : List ℕ) (fault : Fault) (r : Result Reading ReadError) → IsErr r → IsErrAnd r (λ x. x ≡ error.Fault fault) → ReadOf bytes (stops fault) → ReadsTo bytes r
+faulted bytes fault (Ok m) err same is = absurd (both_ways false refl err)
+faulted bytes fault (Err x) err same is = subst (λ y. ReadsTo bytes (Err y)) (sym same) is
+
+-- all stages give what they find
+pub record Found (bytes rest first : List ℕ) (start : StartLine) (fields : List Field) (n : Named) (body : List ℕ) : Type 0 where
+  pub head : List ℕ
+  pub others : List (List ℕ)
+  pub is_begun : IsBegun bytes head rest first others
+  pub is_start : StartText first start
+  pub are_fields : FieldsOf 1 others (gives fields)
+  pub are_names : NamesOf fields (gives (names_parts n))
+  pub is_body : BodyOf start ((names_parts n).1) ((names_parts n).0.1) (content_length fields) rest (gives body)
+  pub stand : Stand fields n
+
+-- the bytes are the message
+pub found-text : {bytes rest first body : List ℕ} {start : StartLine} {fields : List Field} {n : Named} → Found bytes rest first start fields n body → MessageText bytes (record { start = start; fields = fields; body = body })
+found-text {bytes = bytes} {body = body} {start = start} {fields = fields} {n = n} f =
+    read-text bytes _ (begun f.is_begun (passes start f.is_start (passes fields f.are_fields (passes (names_parts n) f.are_names (passes body f.is_body refl)))))
+
+-- and what it keeps is so
+pub found-keeps : {bytes rest first body : List ℕ} {start : StartLine} {fields : List Field} {n : Named} (e : Element) (s : ℕ × List ℕ) → Found bytes rest first start fields n body → FirstVia n.via.now e → CSeqValue n.cseq.now s
+    → (p : Parts) × KeepsRead (record { start = start; fields = fields; body = body }) p e n.from.now n.to.now n.call_id.now s
+found-keeps {bytes = bytes} {n = n} e s f first said =
+    let text = found-text f in
+    let parts = has-parts bytes _ text in
+    let keeps : Keeps _ parts.0 n.via.now n.from.now n.to.now n.call_id.now n.cseq.now = record {
+      parts = record { is = parts.1; only = (λ q is. parts-one _ q parts.0 is parts.1) };
+      spelled = (bytes, text);
+      via = f.stand.via;
+      from = f.stand.from;
+      to = f.stand.to;
+      call_id = f.stand.call_id;
+      cseq = f.stand.cseq;
+    } in
+    let top = keeps-via keeps in (
+      parts.0,
+      record {
+        via_text = n.via.now;
+        cseq_text = n.cseq.now;
+        keeps = keeps;
+        via = ap (λ x. x.0) (one-via n.via.now (e, first.1.0) (parts.0.via, top.0) first.1.1 top.1);
+        cseq = same-cseq n.cseq.now s parts.0.cseq said (keeps-cseq keeps);
+      },
+    )
+
+-- and the bytes are read
+pub found-reads : {bytes rest first body : List ℕ} {start : StartLine} {fields : List Field} {n : Named} (r : Reading) → Found bytes rest first start fields n body
+    → ◌≡◌ {A = Message} r.message (record { start = start; fields = fields; body = body }) → IsOnly (HasParts r.message.fields) r.parts → Reads bytes r
+found-reads {bytes = bytes} r f is parts = record { text = subst (MessageText bytes) (sym is) (found-text f); parts = parts }

@@ -1,0 +1,95 @@
+-- The views of a message.
+use Rattle.std.proofs.Common.{◌≡◌, ℕ, List, [], ◌∷◌, ◌++◌, Option, None, Some, refl, sym, ap, ◌∙◌, subst}
+use Rattle.std.specs.Prelude.{IsSome}
+use Rattle.sip_text.specs.Text.{IsOnlyValue}
+use Rattle.sip_message.specs.declared.name.Known.{Known}
+use Rattle.sip_message.specs.declared.name.Known.TheVariants as known_name
+use Rattle.sip_message.specs.Field.{Field}
+use Rattle.sip_message.specs.Outcome.{Outcome, gives}
+use Rattle.sip_message.specs.Message.{Message, MessageText}
+use Rattle.sip_message.specs.Only.{IsOnly, One, the}
+use Rattle.sip_message.specs.Elements.{Element, values, AreElements}
+use Rattle.sip_message.specs.inner.ElementFronts.{ViaFront}
+use Rattle.sip_message.specs.Reading.{IsValueOf, AddressValue, CSeqValue, Reading, Parts, HasParts, Keeps}
+use Rattle.sip_message.specs.inner.Codes.{parts_code}
+use Rattle.sip_message.specs.inner.Kept.{KeepsRead}
+use Rattle.sip_message.specs.Reads.{Reads}
+use Rattle.sip_message.proofs.lemmas.message.Faults.{text-read}
+use Rattle.sip_message.proofs.lemmas.message.Faults.{one-read}
+use Rattle.sip_message.proofs.lemmas.via.Elements.{first-front, One-is}
+
+-- what must be read is read
+pub some-read : {A X : Type 0} (R : List ℕ → X → Type 0) (parts : A → X) (text : List ℕ) {x : X} (r : Option A) → IsOnlyValue R parts text r → R text x → IsSome r
+some-read R parts text None none is = absurd (none _ is)
+some-read R parts text (Some a) read is = refl
+
+-- and it is what it must be
+pub read-is : {A X : Type 0} (R : List ℕ → X → Type 0) (parts : A → X) (text : List ℕ) {x : X} (r : Option A) (a : A) → r ≡ Some a → IsOnlyValue R parts text r → R text x → parts a ≡ x
+read-is R parts text {x = x} r a some read is = sym ((subst (IsOnlyValue R parts text) some read).1 x is)
+
+-- a name has one first value
+pub same-value : (known : Known) (fields : List Field) {a b : List ℕ} → IsValueOf known fields a → IsValueOf known fields b → a ≡ b
+same-value known fields {a = a} {b = b} one other =
+    let same : ◌≡◌ {A = List (List ℕ)} (a ∷ one.0) (b ∷ other.0) = sym one.1 ∙ other.1 in
+    cc
+
+-- the From that is kept is that of its value
+pub keeps-from : {m : Message} {p : Parts} {v f t i c : List ℕ} → Keeps m p v f t i c → AddressValue f p.from
+keeps-from {m = m} {p = p} k = subst (λ x. AddressValue x p.from) (same-value known_name.From m.fields k.parts.is.from.1 k.from) k.parts.is.from.2
+
+-- so is the To
+pub keeps-to : {m : Message} {p : Parts} {v f t i c : List ℕ} → Keeps m p v f t i c → AddressValue t p.to
+keeps-to {m = m} {p = p} k = subst (λ x. AddressValue x p.to) (same-value known_name.To m.fields k.parts.is.to.1 k.to) k.parts.is.to.2
+
+-- the CSeq
+pub keeps-cseq : {m : Message} {p : Parts} {v f t i c : List ℕ} → Keeps m p v f t i c → CSeqValue c p.cseq
+keeps-cseq {m = m} {p = p} k = subst (λ x. CSeqValue x p.cseq) (same-value known_name.CSeq m.fields k.parts.is.cseq.1 k.cseq) k.parts.is.cseq.2
+
+-- and the Call-ID
+pub keeps-call_id : {m : Message} {p : Parts} {v f t i c : List ℕ} → Keeps m p v f t i c → i ≡ p.call_id
+keeps-call_id {m = m} k = same-value known_name.CallId m.fields k.call_id k.parts.is.call_id
+
+-- the top Via stands at the front of the first value
+pub keeps-via : {m : Message} {p : Parts} {v f t i c : List ℕ} → Keeps m p v f t i c → (rest : List ℕ) × ViaFront v (p.via, rest)
+keeps-via {p = p} {v = v} k = first-front v k.via.0 p.via p.others (subst (λ x. AreElements x (p.via ∷ p.others)) k.via.1 k.parts.is.vias)
+
+-- the elements are the only ones
+pub only-elements : {m : Message} {p : Parts} {v f t i c : List ℕ} → Keeps m p v f t i c → (es : List Element) × IsOnly (AreElements (values known_name.Via m.fields)) es
+only-elements {m = m} {p = p} {v = v} k = (p.via ∷ p.others, record { is = k.parts.is.vias; only = same })
+  where
+    same : (es : List Element) → AreElements (values known_name.Via m.fields) es → es ≡ p.via ∷ p.others
+    same es are = at es (subst (λ x. AreElements x es) k.via.1 are) are
+      where
+        at : (es : List Element) → AreElements (v ∷ k.via.0) es → AreElements (values known_name.Via m.fields) es → es ≡ p.via ∷ p.others
+        at [] ([], more, now_text, later, is) are = absurd now_text
+        at [] (e ∷ now, more, now_text, later, is) are =
+            let wrong : ◌≡◌ {A = List Element} [] (e ∷ (now ++ more)) = is in
+            cc
+        at (e ∷ es) some are =
+            let other : HasParts m.fields (record { via = e; others = es; from = p.from; to = p.to; call_id = p.call_id; cseq = p.cseq }) = record { vias = are; from = k.parts.is.from; to = k.parts.is.to; call_id = k.parts.is.call_id; cseq = k.parts.is.cseq } in
+            let one = k.parts.only _ other in
+            let first : e ≡ p.via = ap (λ q. q.via) one in
+            let others : es ≡ p.others = ap (λ q. q.others) one in
+            cc
+
+-- the only elements of the same values are those of the message
+pub same-elements : {m : Message} {p : Parts} {v f t i c : List ℕ} → Keeps m p v f t i c → (vals : List (List ℕ)) (es : List Element) → vals ≡ values known_name.Via m.fields → IsOnly (AreElements vals) es → es ≡ p.via ∷ p.others
+same-elements {p = p} k vals es same only = sym (only.only (p.via ∷ p.others) (subst (λ x. AreElements x (p.via ∷ p.others)) (sym same) k.parts.is.vias))
+
+-- bytes are one message as it is spelled
+pub same_text : (bytes : List ℕ) (m n : Message) → MessageText bytes m → MessageText bytes n → m ≡ n
+same_text bytes m n one other =
+    let same : ◌≡◌ {A = Outcome Message} (gives m) (gives n) = one-read bytes (gives m) (gives n) (text-read bytes m one) (text-read bytes n other) in
+    cc
+
+-- and are read in one way
+pub same_reading : (bytes : List ℕ) (r s : Reading) → Reads bytes r → Reads bytes s → r ≡ s
+same_reading bytes r s one other =
+    let message = same_text bytes r.message s.message one.text other.text in
+    let parts : s.parts ≡ r.parts = one.parts.only s.parts (subst (λ m. HasParts m.fields s.parts) (sym message) other.parts.is) in
+    ap (λ m. record { message = m; parts = r.parts }) message ∙ ap (λ p. record { message = s.message; parts = p }) (sym parts)
+
+-- the parts are the only ones, by whatever name
+pub kept-one : {m : Message} {p : Parts} {e : Element} {f t i : List ℕ} {s : ℕ × List ℕ} → KeepsRead m p e f t i s → (one : One (HasParts m.fields)) → KeepsRead m (the one) e f t i s
+kept-one {m = m} {p = p} {e = e} {f = f} {t = t} {i = i} {s = s} k one =
+    subst (λ q. KeepsRead m q e f t i s) (sym (One-is parts_code (HasParts m.fields) one p k.keeps.parts.is)) k

@@ -1,0 +1,4 @@
+pub mod Closed
+pub mod Reading
+pub mod Value
+pub mod Branch

@@ -1,0 +1,126 @@
+-- The branch of parameters, as it is found one after another.
+use Rattle.std.proofs.Common.{◌≡◌, ◌↔◌, ℕ, ◌-◌, List, [], ◌∷◌, ◌++◌, Option, Some, None, Bor, option_copied, length, take, refl, sym, ap, ◌∙◌, subst, inl, inr}
+use Rattle.std.specs.Option.{option_or}
+use Rattle.sip_message.specs.Via.{IsBranch}
+use Rattle.sip_message.specs.inner.Fronts.{Behind, IsOnlyBehind}
+use Rattle.sip_message.specs.inner.ParamFronts.{Param, ParamFront, ParamsFront, AllParamsFront}
+use Rattle.sip_message.specs.inner.ViaFronts.{BranchOf, BranchFront, TailFront}
+use Rattle.sip_message.proofs.lemmas.text.Cuts.{same_by_end}
+use Rattle.sip_message.proofs.lemmas.front.Cuts.{ReadAs, NotRead, same-behind}
+use Rattle.sip_message.proofs.lemmas.front.OneWay.{AtMostOne, read-one}
+use Rattle.sip_message.proofs.lemmas.params.Value.{front-is}
+use Rattle.sip_message.proofs.lemmas.params.Reading.{one-all_params, front-params}
+
+-- a parameter is one branch at most
+one-branch_of : (p : Param) (a b : Option (List ℕ)) → BranchOf p a → BranchOf p b → a ≡ b
+one-branch_of (name, value) None None x y = refl
+one-branch_of (name, value) None (Some b) x y = absurd (x y.0)
+one-branch_of (name, value) (Some a) None x y = absurd (y x.0)
+one-branch_of (name, value) (Some a) (Some b) x y = sym x.2 ∙ y.2
+
+-- the branch of a parameter and those behind it
+branch-cons : (p : Param) (ps : List Param) (b : Option (List ℕ)) → IsBranch (p ∷ ps) b → (found : Option (List ℕ)) × BranchOf p found × (later : Option (List ℕ)) × IsBranch ps later × (b ≡ option_or found later)
+branch-cons (name, value) ps b (inl (same, v, token, value_is, b_is, later, more)) = (Some v, (same, token, value_is), later, more, b_is)
+branch-cons (name, value) ps b (inr (differs, more)) = (None, differs, b, more, refl)
+
+cons-branch : (p : Param) (ps : List Param) (found later : Option (List ℕ)) → BranchOf p found → IsBranch ps later → IsBranch (p ∷ ps) (option_or found later)
+cons-branch (name, value) ps None later differs more = inr (differs, more)
+cons-branch (name, value) ps (Some v) later (same, token, value_is) more = inl (same, v, token, value_is, refl, later, more)
+
+-- parameters have one branch
+pub one-is_branch : (ps : List Param) → AtMostOne (IsBranch ps)
+one-is_branch [] a b a_is b_is = a_is ∙ sym b_is
+one-is_branch (p ∷ ps) a b a_is b_is =
+    let x = branch-cons p ps a a_is in
+    let y = branch-cons p ps b b_is in
+    x.4 ∙ ap (λ o. option_or o x.2) (one-branch_of p x.0 y.0 x.1 y.1) ∙ ap (option_or y.0) (one-is_branch ps x.2 y.2 x.3 y.3) ∙ sym y.4
+
+-- the branch of parameters is read in one way
+pub one-branch : (text : List ℕ) → AtMostOne (BranchFront text)
+one-branch text (b, r) (d, s) (ps, all, is) (qs, all_too, is_too) =
+    let same : ◌≡◌ {A = List Param × List ℕ} (ps, r) (qs, s) = one-all_params text (ps, r) (qs, s) all all_too in
+    let params : ps ≡ qs = ap (λ x. x.0) same in
+    ap (λ x. (x, r)) (one-is_branch qs b d (subst (λ x. IsBranch x b) params is) is_too) ∙ ap (λ x. (d, x.1)) same
+
+-- the branch where one was found before
+abbrev pub After : Option (List ℕ) → List ℕ → Option (List ℕ) × List ℕ → Type 0
+After first rest (branch, left) = (later : Option (List ℕ)) × BranchFront rest (later, left) × (branch ≡ option_or first later)
+
+-- what is still to be read decides
+abbrev pub Decides : List ℕ → List ℕ → Option (List ℕ) → Type 0
+Decides text rest first = (x : Option (List ℕ) × List ℕ) → BranchFront text x ↔ After first rest x
+
+-- at first nothing was found
+pub decides-none : (text : List ℕ) → Decides text text None
+decides-none text (b, r) = ((λ is. (b, is, refl)), (λ after. subst (λ x. BranchFront text (x, r)) (sym after.2) after.1))
+
+or-assoc : (a b c : Option (List ℕ)) → option_or a (option_or b c) ≡ option_or (option_or a b) c
+or-assoc None b c = refl
+or-assoc (Some v) b c = refl
+
+-- behind a parameter stand the others
+behind-one : (rest more left : List ℕ) (p : Param) (ps : List Param) → ReadAs (ParamFront rest) (p, more) → AllParamsFront rest (ps, left) → (qs : List Param) × (ps ≡ p ∷ qs) × AllParamsFront more (qs, left)
+behind-one rest more left p [] read (is, ends) = absurd (ends (p, more) (subst (λ t. ParamFront t (p, more)) (sym is) read.0))
+behind-one rest more left p (q ∷ qs) read ((next, one, later), ends) =
+    let same = read.1 (q, next) one in
+    (qs, ap (λ x. x.0 ∷ qs) same, (subst (λ t. ParamsFront t qs left) (ap (λ x. x.1) same) later, ends))
+
+-- a parameter more
+pub decides-more : (text rest more : List ℕ) (p : Param) (first found : Option (List ℕ)) → ReadAs (ParamFront rest) (p, more) → BranchOf p found → Decides text rest first → Decides text more (option_or first found)
+decides-more text rest more p first found read is so x = ((λ whole. to x ((so x).0 whole)), (λ after. (so x).1 (from x after)))
+  where
+    to : (y : Option (List ℕ) × List ℕ) → After first rest y → After (option_or first found) more y
+    to (b, left) (later, (ps, all, branch), b_is) =
+        let others = behind-one rest more left p ps read all in
+        let cons = branch-cons p others.0 later (subst (λ qs. IsBranch qs later) others.1 branch) in
+        (cons.2, (others.0, others.2, cons.3), b_is ∙ ap (option_or first) (cons.4 ∙ ap (λ o. option_or o cons.2) (one-branch_of p cons.0 found cons.1 is)) ∙ or-assoc first found cons.2)
+
+    from : (y : Option (List ℕ) × List ℕ) → After (option_or first found) more y → After first rest y
+    from (b, left) (later, (ps, all, branch), b_is) =
+        (option_or found later, (p ∷ ps, ((more, read.0, all.0), all.1), cons-branch p ps found later is branch), b_is ∙ sym (or-assoc first found later))
+
+-- a parameter named branch without a token
+pub decides-not : (text rest more : List ℕ) (p : Param) (first : Option (List ℕ)) → ReadAs (ParamFront rest) (p, more) → NotRead (BranchOf p) → Decides text rest first → NotRead (BranchFront text)
+decides-not text rest more p first read none so (b, left) is =
+    let after = (so (b, left)).0 is in
+    let others = behind-one rest more left p after.1.0 read after.1.1 in
+    let cons = branch-cons p others.0 after.0 (subst (λ qs. IsBranch qs after.0) others.1 after.1.2) in
+    none cons.0 cons.1
+
+-- no further parameter
+pub decides-all : (text rest : List ℕ) (first : Option (List ℕ)) → NotRead (ParamFront rest) → Decides text rest first → ReadAs (BranchFront text) (first, rest)
+decides-all text rest first none so =
+    read-one (BranchFront text) (first, rest) (one-branch text) ((so (first, rest)).1 (None, ([], (refl, none), refl), or-none first))
+  where
+    or-none : (o : Option (List ℕ)) → o ≡ option_or o None
+    or-none None = refl
+    or-none (Some v) = refl
+
+-- the first of two branches, as the code has it
+pub copied-or : (a b : Option (Bor (List ℕ))) → option_copied (option_or a b) ≡ option_or (option_copied a) (option_copied b)
+copied-or None b = refl
+copied-or (Some v) b = refl
+
+-- what is left behind the parameters ends the text
+pub branch-whole : (text : List ℕ) (b : Option (List ℕ)) (rest : List ℕ) → BranchFront text (b, rest) → (u : List ℕ) × (text ≡ u ++ rest)
+branch-whole text b rest (ps, all, is) = let u = front-params ps text rest all.0 in (u.0, u.2)
+
+-- with the text of the parameters
+pub one-tail : (text : List ℕ) → AtMostOne (TailFront text)
+one-tail text ((p, b), r) ((q, d), s) (is, (u, u_is, behind)) (is_too, (w, w_is, behind_too)) =
+    let same : ◌≡◌ {A = Option (List ℕ) × List ℕ} (b, r) (d, s) = one-branch text (b, r) (d, s) is is_too in
+    let rest : r ≡ s = ap (λ x. x.1) same in
+    let fronts : u ≡ w = (same_by_end u r w s (ap length rest) (sym u_is ∙ w_is)).0 in
+    let params : p ≡ q = same-behind w p q (subst (λ t. Behind t p) fronts behind) behind_too in
+    ap (λ x. ((x, b), r)) params ∙ ap (λ x. ((q, x.0), x.1)) same
+
+-- parameters behind an element tell its branch
+pub tail-found : (text params : List ℕ) (b : Option (List ℕ)) (rest : List ℕ) → ReadAs (BranchFront text) (b, rest) → IsOnlyBehind (take (length text - length rest) text) params → ReadAs (TailFront text) ((params, b), rest)
+tail-found text params b rest read behind =
+    let whole = branch-whole text b rest read.0 in
+    read-one (TailFront text) ((params, b), rest) (one-tail text)
+    (read.0, (take (length text - length rest) text, whole.1 ∙ ap (λ t. t ++ rest) (sym (front-is text whole.0 rest whole.1)), behind.0))
+
+-- what is no parameters tells none
+pub tail-missing : (text : List ℕ) → NotRead (BranchFront text) → NotRead (TailFront text)
+tail-missing text none x is = none (x.0.1, x.1) is.0

@@ -1,0 +1,281 @@
+-- Parameters are read one after another, and what is read is the grammar's text.
+use Rattle.std.proofs.Common.{◌≡◌, ◌↔◌, IsTrue, ℕ, ◌<◌, ◌≤◌, Bool, true, false, nat_eq, cond, ◌||◌, List, [], ◌∷◌, ◌++◌, Option, Some, None, length, refl, sym, ap, ◌∙◌, subst, inl, inr, arith}
+use Rattle.std.proofs.lemmas.Bool.{both_ways, or_cases, eqb-true, eq-eqb}
+use Rattle.std.proofs.lemmas.Option.{none-some}
+use Rattle.std.proofs.lemmas.List.{append_assoc, append-nil, length-append}
+use Rattle.sip_text.specs.Bytes.{semicolon, equals, dquote, left_bracket, right_bracket, is_token_byte}
+use Rattle.sip_text.specs.Text.{◌or◌}
+use Rattle.sip_text.specs.Grammar.{Token}
+use Rattle.sip_text.specs.Cut.{past}
+use Rattle.sip_text.proofs.CutLemmas.{past-some}
+use Rattle.sip_text.specs.Host.{Ipv6Address}
+use Rattle.sip_message.specs.Unfold.{is_blank, OpensSolid}
+use Rattle.sip_message.specs.Params.{comma, Mark, ParamValue, ParamText, ParamsText, ParamsPart, BehindBlanks}
+use Rattle.sip_message.specs.inner.Fronts.{StopsBlank, TokenFront, MarkFront, both}
+use Rattle.sip_message.specs.inner.ParamFronts.{Param, is_bare_byte, ValueFront, LedFront, ParamFront, ParamsFront, AllParamsFront}
+use Rattle.sip_message.proofs.lemmas.text.Cuts.{All}
+use Rattle.sip_message.proofs.lemmas.text.Each.{each-sws, blank_is}
+use Rattle.sip_message.proofs.lemmas.field.OneWay.{blank-token}
+use Rattle.sip_message.proofs.lemmas.front.Cuts.{NotRead, stops-byte}
+use Rattle.sip_message.proofs.lemmas.via.Protocol.{token-stops}
+use Rattle.sip_message.proofs.lemmas.front.OneWay.{AtMostOne, one-seq, one-last, one-mark, one-token, one-led, one-value, each-bare, some-bare, quoted-whole, reference-bracket}
+use Rattle.sip_message.proofs.lemmas.front.Led.{Next, next-stops, next-other, mark-next, mark-shorter, token-shorter}
+
+-- a parameter is read in one way
+pub one-param : (text : List ℕ) → AtMostOne (ParamFront text)
+one-param text =
+    one-seq (MarkFront semicolon text) _ (one-mark semicolon text refl) (λ inner.
+    one-seq (TokenFront inner) _ (one-token inner) (λ name.
+    one-seq (LedFront equals ValueFront (name.1)) _ (one-led equals ValueFront (name.1) refl one-value) (λ value.
+    one-last ((name.0, value.0), value.1))))
+
+-- a value and its rest are the text
+pub value-whole : (text value rest : List ℕ) → ValueFront text (value, rest) → text ≡ value ++ rest
+value-whole text value rest (inl is) = is.1
+value-whole text value rest (inr (inl is)) = is.1
+value-whole text value rest (inr (inr is)) = is.2
+
+-- what is behind a parameter is shorter
+pub param-shorter : (text : List ℕ) (p : Param) (rest : List ℕ) → ParamFront text (p, rest) → length rest < length text
+param-shorter text p rest (both inner mark (both (name, r) token (both (value, s) led is))) =
+    let same : rest ≡ s = ap (λ x. x.1) is in
+    omega (arith, mark-shorter semicolon text inner refl mark, token-shorter inner name r token, at value led, ap length same)
+  where
+    at : (v : Option (List ℕ)) → LedFront equals ValueFront r (v, s) → length s ≤ length r
+    at None (none, s_is) = omega (arith, ap length s_is)
+    at (Some w) (t, equal, of) =
+        omega (arith, mark-shorter equals r t refl equal, ap length (value-whole t w s of), length-append w s)
+
+-- a parameter more
+pub params-more : (text : List ℕ) (ps : List Param) (r : List ℕ) (p : Param) (more : List ℕ) → ParamsFront text ps r → ParamFront r (p, more) → ParamsFront text (ps ++ p ∷ []) more
+params-more text [] r p more so is = (more, subst (λ t. ParamFront t (p, more)) so is, refl)
+params-more text (q ∷ ps) r p more (next, one, so) is = (next, one, params-more next ps r p more so is)
+
+-- all parameters are read in one way
+same-params : (ps qs : List Param) (text r s : List ℕ) → ParamsFront text ps r → NotRead (ParamFront r) → ParamsFront text qs s → NotRead (ParamFront s) → (ps ≡ qs) × (r ≡ s)
+same-params [] [] text r s a a_ends b b_ends = (refl, a ∙ sym b)
+same-params [] (q ∷ qs) text r s a a_ends (more, is, b) b_ends = absurd (a_ends (q, more) (subst (λ t. ParamFront t (q, more)) (sym a) is))
+same-params (p ∷ ps) [] text r s (more, is, a) a_ends b b_ends = absurd (b_ends (p, more) (subst (λ t. ParamFront t (p, more)) (sym b) is))
+same-params (p ∷ ps) (q ∷ qs) text r s (more, is, a) a_ends (next, is_too, b) b_ends =
+    let same : ◌≡◌ {A = Param × List ℕ} (p, more) (q, next) = one-param text (p, more) (q, next) is is_too in
+    let rests : more ≡ next = ap (λ x. x.1) same in
+    let first : p ≡ q = ap (λ x. x.0) same in
+    let later = same-params ps qs more r s a a_ends (subst (λ t. ParamsFront t qs s) (sym rests) b) b_ends in
+    (ap (λ x. x ∷ ps) first ∙ ap (λ x. q ∷ x) later.0, later.1)
+
+-- all parameters at the front are read in one way
+pub one-all_params : (text : List ℕ) → AtMostOne (AllParamsFront text)
+one-all_params text (ps, r) (qs, s) a b =
+    let same = same-params ps qs text r s a.0 a.1 b.0 b.1 in
+    ap (λ x. (x, r)) same.0 ∙ ap (λ x. (qs, x)) same.1
+
+-- what may follow a parameter
+abbrev pub is_separator : ℕ → Bool
+is_separator b = nat_eq b semicolon || nat_eq b comma
+
+-- a separator is no byte of a token
+pub separator-token : (b : ℕ) → is_separator b ≡ true → is_token_byte b ≡ false
+separator-token b is = elim (or_cases (nat_eq b semicolon) (nat_eq b comma) is) [
+  | inl same ↦ subst (λ x. is_token_byte x ≡ false) (sym (eqb-true b semicolon same)) refl
+  | inr same ↦ subst (λ x. is_token_byte x ≡ false) (sym (eqb-true b comma same)) refl
+]
+
+separator-bare : (b : ℕ) → is_separator b ≡ true → is_bare_byte b ≡ false
+separator-bare b is = elim (or_cases (nat_eq b semicolon) (nat_eq b comma) is) [
+  | inl same ↦ subst (λ x. is_bare_byte x ≡ false) (sym (eqb-true b semicolon same)) refl
+  | inr same ↦ subst (λ x. is_bare_byte x ≡ false) (sym (eqb-true b comma same)) refl
+]
+
+blank-bare : (b : ℕ) → is_blank b ≡ true → is_bare_byte b ≡ false
+blank-bare = blank_is (λ b. is_bare_byte b ≡ false) refl refl refl refl
+
+-- no blank run begins a value
+bare-stops : (v rest : List ℕ) → (Token or Ipv6Address) v → StopsBlank (v ++ rest)
+bare-stops v rest kind = at v (some-bare v kind) (each-bare v kind)
+  where
+    solid : (b : ℕ) (x : Bool) → is_blank b ≡ x → is_bare_byte b ≡ true → is_blank b ≡ false
+    solid b false is bare = is
+    solid b true is bare = absurd (both_ways (is_bare_byte b) (blank-bare b is) bare)
+
+    at : (u : List ℕ) → (u ≡ [] → ⊥) → All is_bare_byte u → StopsBlank (u ++ rest)
+    at [] some all = absurd (some refl)
+    at (b ∷ u) some all = stops-byte b (u ++ rest) (solid b (is_blank b) refl all.0)
+
+value-stops : (v rest : List ℕ) → ParamValue v → StopsBlank (v ++ rest)
+value-stops v rest (inl token) = bare-stops v rest (inl token)
+value-stops v rest (inr (inl quoted)) = subst StopsBlank (sym (quoted-whole v rest quoted)) (stops-byte dquote (quoted.3.0 ++ dquote ∷ rest) refl)
+value-stops v rest (inr (inr (inl v6))) = bare-stops v rest (inr v6)
+value-stops v rest (inr (inr (inr reference))) =
+    let bracket = reference-bracket (v ++ rest) (v, rest) (reference, refl) in
+    subst (λ t. StopsBlank (t ++ rest)) (sym bracket.2) (stops-byte left_bracket ((bracket.0 ++ right_bracket ∷ []) ++ rest) refl)
+
+-- a value is read before what may follow it
+value-front : (v rest : List ℕ) → ParamValue v → Next is_separator rest → ValueFront (v ++ rest) (v, rest)
+value-front v rest (inl token) next = inr (inr (inl token, next-stops is_separator is_bare_byte rest blank-bare separator-bare next, refl))
+value-front v rest (inr (inl quoted)) next = inl (quoted, refl)
+value-front v rest (inr (inr (inl v6))) next = inr (inr (inr v6, next-stops is_separator is_bare_byte rest blank-bare separator-bare next, refl))
+value-front v rest (inr (inr (inr reference))) next = inr (inl (reference, refl))
+
+-- what is read is a value
+front-value : (text v rest : List ℕ) → ValueFront text (v, rest) → ParamValue v
+front-value text v rest (inl is) = inr (inl is.0)
+front-value text v rest (inr (inl is)) = inr (inr (inr is.0))
+front-value text v rest (inr (inr (inl token, stops, whole))) = inl token
+front-value text v rest (inr (inr (inr v6, stops, whole))) = inr (inr (inl v6))
+
+abbrev is_equals : ℕ → Bool
+is_equals b = nat_eq b equals
+
+equals-token : (b : ℕ) → is_equals b ≡ true → is_token_byte b ≡ false
+equals-token b is = subst (λ x. is_token_byte x ≡ false) (sym (eqb-true b equals is)) refl
+
+-- a parameter is read before what may follow it
+param-front : (m x rest : List ℕ) (p : Param) → Mark semicolon m → ParamText x p → Next is_separator rest → ParamFront ((m ++ x) ++ rest) (p, rest)
+param-front m x rest (name, None) mark (token, x_is) next =
+    both (name ++ rest) (token-stops name rest token, (m, name ++ rest, mark, refl, append_assoc m x rest ∙ ap (λ t. m ++ (t ++ rest)) x_is))
+    (both (name, rest) (token, next-stops is_separator is_token_byte rest blank-token separator-token next, (name, rest, refl, refl, refl))
+    (both (None, rest) (next-other is_separator equals rest refl refl next, refl) refl))
+param-front m x rest (name, Some value) mark (token, kind, (u, w, u_is, (e, v, equal, v_is, w_is), x_is)) next =
+    both (name ++ (e ++ (value ++ rest))) (token-stops name (e ++ (value ++ rest)) token, (m, name ++ (e ++ (value ++ rest)), mark, refl, append_assoc m x rest ∙ ap (λ t. m ++ t) flat))
+    (both (name, e ++ (value ++ rest)) (token, next-stops is_equals is_token_byte (e ++ (value ++ rest)) blank-token equals-token (mark-next is_equals equals e (value ++ rest) refl refl equal), (name, e ++ (value ++ rest), refl, refl, refl))
+    (both (Some value, rest) (value ++ rest, (value-stops value rest kind, (e, value ++ rest, equal, refl, refl)), value-front value rest kind next) refl))
+  where
+    flat : x ++ rest ≡ name ++ (e ++ (value ++ rest))
+    flat =
+        ap (λ t. t ++ rest) (x_is ∙ ap (λ t. t ++ w) u_is ∙ ap (λ t. name ++ t) (w_is ∙ ap (λ t. e ++ t) v_is))
+        ∙ append_assoc name (e ++ value) rest ∙ ap (λ t. name ++ t) (append_assoc e value rest)
+
+-- what follows a parameter is a further one, or what follows them all
+pub params-next : (ps : List Param) (u rest : List ℕ) → ParamsText u ps → Next is_separator rest → Next is_separator (u ++ rest)
+params-next [] u rest is next = subst (λ t. Next is_separator (t ++ rest)) (sym is) next
+params-next (p ∷ ps) u rest (m, t, mark, more, whole) next =
+    subst (Next is_separator) (sym (ap (λ x. x ++ rest) whole ∙ append_assoc m t rest)) (mark-next is_separator semicolon m (t ++ rest) refl refl mark)
+
+-- parameters are read before what may follow them
+pub params-front : (ps : List Param) (u rest : List ℕ) → ParamsText u ps → Next is_separator rest → ParamsFront (u ++ rest) ps rest
+params-front [] u rest is next = sym (ap (λ t. t ++ rest) is)
+params-front (p ∷ ps) u rest (m, t, mark, (x, y, param, more, t_is), whole) next =
+    (y ++ rest, subst (λ z. ParamFront z (p, y ++ rest)) (sym flat) (param-front m x (y ++ rest) p mark param (params-next ps y rest more next)), params-front ps y rest more next)
+  where
+    flat : u ++ rest ≡ (m ++ x) ++ (y ++ rest)
+    flat = ap (λ z. z ++ rest) (whole ∙ ap (λ z. m ++ z) t_is ∙ sym (append_assoc m x y)) ∙ append_assoc (m ++ x) y rest
+
+-- the text of a parameter that is read
+front-param : (text : List ℕ) (p : Param) (rest : List ℕ) → ParamFront text (p, rest) → (m : List ℕ) × (x : List ℕ) × Mark semicolon m × ParamText x p × (text ≡ m ++ (x ++ rest))
+front-param text p rest (both inner mark (both (name, r) token (both (value, s) led is))) =
+    let last : rest ≡ s = ap (λ x. x.1) is in
+    let param : p ≡ (name, value) = ap (λ x. x.0) is in
+    let found = at value led in (
+      mark.1.0,
+      found.0,
+      mark.1.2,
+      subst (ParamText found.0) (sym param) found.1,
+      mark.1.4 ∙ ap (λ z. mark.1.0 ++ z) (mark.1.3 ∙ found.2 ∙ ap (λ z. found.0 ++ z) (sym last)),
+    )
+  where
+    token_whole : inner ≡ name ++ r
+    token_whole = token.2.4 ∙ ap (λ z. z ++ token.2.1) token.2.2 ∙ ap (λ z. name ++ z) token.2.3
+
+    at : (v : Option (List ℕ)) → LedFront equals ValueFront r (v, s) → (x : List ℕ) × ParamText x (name, v) × (inner ≡ x ++ s)
+    at None (none, s_is) = (name, (token.0, refl), token_whole ∙ ap (λ z. name ++ z) (sym s_is))
+    at (Some w) (t, equal, of) = (
+      name ++ (equal.1.0 ++ w),
+      (token.0, front-value t w s of, (name, equal.1.0 ++ w, refl, (equal.1.0, w, equal.1.2, refl, refl), refl)),
+      token_whole
+          ∙ ap (λ z. name ++ z) (equal.1.4 ∙ ap (λ z. equal.1.0 ++ z) (equal.1.3 ∙ value-whole t w s of) ∙ sym (append_assoc equal.1.0 w s))
+          ∙ sym (append_assoc name (equal.1.0 ++ w) s),
+    )
+
+-- the text of parameters that are read
+pub front-params : (ps : List Param) (text rest : List ℕ) → ParamsFront text ps rest → (u : List ℕ) × ParamsText u ps × (text ≡ u ++ rest)
+front-params [] text rest is = ([], refl, sym is)
+front-params (p ∷ ps) text rest (more, is, later) =
+    let one = front-param text p more is in
+    let others = front-params ps more rest later in (
+      one.0 ++ (one.1 ++ others.0),
+      (one.0, one.1 ++ others.0, one.2, (one.1, others.0, one.3, others.1, refl), refl),
+      one.4 ∙ ap (λ z. one.0 ++ (one.1 ++ z)) others.2 ∙ ap (λ z. one.0 ++ z) (sym (append_assoc one.1 others.0 rest)) ∙ sym (append_assoc one.0 (one.1 ++ others.0) rest),
+    )
+
+-- where these do not begin a parameter, none is read
+pub no-param : (these : ℕ → Bool) (text : List ℕ) → these semicolon ≡ false → Next these text → NotRead (ParamFront text)
+no-param these text fails next x (both inner mark more) = next-other these semicolon text refl fails next inner mark
+
+-- a whole text of parameters
+pub params-yes : (text : List ℕ) (ps : List Param) → ParamsFront text ps [] → ParamsText text ps
+params-yes text ps so =
+    let is = front-params ps text [] so in
+    subst (λ t. ParamsText t ps) (sym (is.2 ∙ append-nil is.0)) is.1
+
+-- where a text is parameters, nothing is left behind those at its front
+pub params-is : (text : List ℕ) (ps qs : List Param) (rest : List ℕ) → AllParamsFront text (ps, rest) → ParamsText text qs → rest ≡ []
+params-is text ps qs rest all is =
+    let front : ParamsFront text qs [] = subst (λ t. ParamsFront t qs []) (append-nil text) (params-front qs text [] is (inl refl)) in
+    let none : NotRead (ParamFront []) = no-param (λ _. false) [] refl (inl refl) in
+    ap (λ x. x.1) (one-all_params text (ps, rest) (qs, []) all (front, none))
+
+-- a text of parameters that begins solid begins with ";", if it is not empty
+pub params-open : (b : ℕ) (text : List ℕ) (ps : List Param) → ParamsPart (b ∷ text) ps → b ≡ semicolon
+params-open b text [] (opens, is) = absurd (omega (arith, ap length is))
+params-open b text (p ∷ ps) (opens, (m, t, (s, c, sws, (byte, after, byte_is, after_is, c_is), m_is), more, whole)) = at s (each-sws s sws) flat
+  where
+    flat : b ∷ text ≡ s ++ (semicolon ∷ (after ++ t))
+    flat = whole ∙ ap (λ x. x ++ t) (m_is ∙ ap (λ x. s ++ x) (c_is ∙ ap (λ x. x ++ after) byte_is)) ∙ append_assoc s (semicolon ∷ after) t
+
+    at : (u : List ℕ) → All is_blank u → b ∷ text ≡ u ++ (semicolon ∷ (after ++ t)) → b ≡ semicolon
+    at [] all same = cc
+    at (a ∷ u) all same =
+        let first : b ≡ a = cc in
+        absurd (both_ways (is_blank b) opens (ap is_blank first ∙ all.0))
+
+-- without a semicolon only the empty text is parameters
+pub params-closed : (text : List ℕ) (ps : List Param) → past semicolon text ≡ None → ParamsPart text ps → text ≡ []
+params-closed [] ps none is = refl
+params-closed (b ∷ text) ps none is =
+    absurd (none-some text (sym none ∙ ap (λ same. cond same (Some text) None) (eq-eqb b semicolon (params-open b text ps is))))
+
+-- a text that begins with a semicolon opens solid
+pub opens-semicolon : (text rest : List ℕ) → past semicolon text ≡ Some rest → OpensSolid text
+opens-semicolon text rest found = subst OpensSolid (sym (past-some semicolon text rest found)) refl
+
+-- the text is parameters
+abbrev pub AreParams : List ℕ → Type 0
+AreParams text = (ps : List Param) × ParamsPart text ps
+
+-- a text that begins with ";" is, exactly if nothing is left behind them
+pub params-some : (text inner rest : List ℕ) → past semicolon text ≡ Some inner → (ps : List Param) × AllParamsFront text (ps, rest) → IsTrue (nat_eq (length rest) 0) ↔ AreParams text
+params-some text inner rest found all = (to rest all.0 all.1, from)
+  where
+    to : (r : List ℕ) (ps : List Param) → AllParamsFront text (ps, r) → IsTrue (nat_eq (length r) 0) → AreParams text
+    to [] ps is none = (ps, (opens-semicolon text inner found, params-yes text ps is.0))
+    to (b ∷ r) ps is none = absurd (omega (arith, eqb-true (length (b ∷ r)) 0 none))
+
+    from : AreParams text → IsTrue (nat_eq (length rest) 0)
+    from are = ap (λ t. nat_eq (length t) 0) (params-is text all.0 are.0 rest all.1 are.1.1)
+
+-- and another exactly if it is empty
+pub params-none : (text : List ℕ) → past semicolon text ≡ None → IsTrue (nat_eq (length text) 0) ↔ AreParams text
+params-none text none = (to text, (λ are. ap (λ t. nat_eq (length t) 0) (params-closed text are.0 none are.1)))
+  where
+    to : (t : List ℕ) → IsTrue (nat_eq (length t) 0) → AreParams t
+    to [] is = ([], (tt, refl))
+    to (b ∷ t) is = absurd (omega (arith, eqb-true (length (b ∷ t)) 0 is))
+
+-- parameters behind blanks
+pub behind-params : (part : List ℕ) (ps : List Param) (q : List ℕ) → ParamsPart part ps → BehindBlanks part q → ParamsText q ps
+behind-params [] ps q is q_is = subst (λ t. ParamsText t ps) (sym q_is) is.1
+behind-params (b ∷ part) [] q is blanks = absurd (omega (arith, ap length is.1))
+behind-params (b ∷ part) (p ∷ ps) q (opens, (m, t, (s, c, sws, mark, m_is), more, whole)) (before, tail, before_is, tail_is, q_is) =
+    (before ++ c, t, (before, c, before_is, mark, refl), more, q_is ∙ ap (λ x. before ++ x) (tail_is ∙ flat ∙ ap (λ x. x ++ (c ++ t)) none) ∙ sym (append_assoc before c t))
+  where
+    flat : b ∷ part ≡ s ++ (c ++ t)
+    flat = whole ∙ ap (λ x. x ++ t) m_is ∙ append_assoc s c t
+
+    empty : (u : List ℕ) → All is_blank u → b ∷ part ≡ u ++ (c ++ t) → u ≡ []
+    empty [] all same = refl
+    empty (a ∷ u) all same =
+        let first : b ≡ a = cc in
+        absurd (both_ways (is_blank b) opens (ap is_blank first ∙ all.0))
+
+    none : s ≡ []
+    none = empty s (each-sws s sws) flat

@@ -1,0 +1,243 @@
+-- How a parameter's value, and what else stands at the front of a text, is cut off.
+use Rattle.std.proofs.Common.{◌≡◌, ℕ, zero, suc, ◌-◌, ◌≤◌, ◌<◌, ◌⊎◌, Bool, true, false, nat_eq, cond, List, [], ◌∷◌, ◌++◌, Option, Some, None, length, take, drop, refl, sym, ap, ◌∙◌, subst, inl, inr, arith}
+use Rattle.std.proofs.lemmas.Bool.{both_ways, eq-eqb, or_from}
+use Rattle.std.proofs.lemmas.Option.{none-some}
+use Rattle.std.proofs.lemmas.List.{append_assoc, append-nil, length-append}
+use Rattle.std.proofs.Math.Seq.{take-append_seam}
+use Rattle.sip_text.specs.Bytes.{colon, dquote, left_bracket, right_bracket, is_token_byte}
+use Rattle.sip_text.specs.Text.{◌or◌, led, HasFront, IsLongestFront, IsOnlyFront, IsOnlyValue}
+use Rattle.sip_text.specs.Cut.{past, before, behind}
+use Rattle.sip_text.specs.Grammar.{Token, Sws, QuotedString}
+use Rattle.sip_text.specs.Host.{Ipv6Address, Ipv6Reference, HostParts, HostText, name, v4, v6}
+use Rattle.sip_text.proofs.CutLemmas.{past-some, cut-whole, lacks-before, behind-led}
+use Rattle.sip_text.proofs.ManyLemmas.{front-rest}
+use Rattle.sip_message.specs.Unfold.{is_blank}
+use Rattle.sip_message.specs.Params.{Quoted}
+use Rattle.sip_message.specs.inner.Fronts.{Stops, TokenFront}
+use Rattle.sip_message.specs.inner.ParamFronts.{is_bare_byte, PastRun, BareFront, QuotedFront, BracketFront, ReferenceFront, ValueFront}
+use Rattle.sip_message.proofs.lemmas.text.Cuts.{All, all_both, same_front}
+use Rattle.sip_message.proofs.lemmas.text.Each.{each-sws}
+use Rattle.sip_message.proofs.lemmas.field.OneWay.{each-token}
+use Rattle.sip_message.proofs.lemmas.front.Cuts.{ReadAs, NotRead, token-cut}
+use Rattle.sip_message.proofs.lemmas.front.OneWay.{read-one, bare-all, each-bare, each-hostname, each-v4, one-bare, one-quoted, one-bracket, one-reference, one-value, quoted-whole, reference-bracket}
+
+-- the front that stands before a rest
+pub front-is : (text u r : List ℕ) → text ≡ u ++ r → take (length text - length r) text ≡ u
+front-is text u r whole =
+    ap (λ n. take n text) len ∙ ap (take (length u)) whole ∙ take-append_seam u r
+  where
+    len : length text - length r ≡ length u
+    len = omega (arith, ap length whole, length-append u r)
+
+-- a rest is no longer than the text
+pub rest-short : (text u r : List ℕ) → text ≡ u ++ r → length r ≤ length text
+rest-short text u r whole = omega (arith, ap length whole, length-append u r)
+
+-- without a token at the front, no byte of one stands there
+no-token-stops : (text : List ℕ) → IsLongestFront Token text 0 → Stops is_token_byte text
+no-token-stops [] longest = tt
+no-token-stops (b ∷ text) longest = at (is_token_byte b) refl
+  where
+    at : (x : Bool) → is_token_byte b ≡ x → is_token_byte b ≡ false
+    at false is = is
+    at true is = absurd (omega (arith, longest.longest 1 (b ∷ [], text, (b ∷ [], [], (b, is, refl), ([], tt, refl), refl), refl, refl)))
+
+-- the longest token, or nothing
+pub past-token : (text : List ℕ) (n : ℕ) → IsLongestFront Token text n → PastRun is_token_byte text (drop n text)
+past-token text n longest = at n refl
+  where
+    at : (m : ℕ) → n ≡ m → PastRun is_token_byte text (drop n text)
+    at zero none =
+        let empty : IsLongestFront Token text 0 = subst (IsLongestFront Token text) none longest in
+        subst (λ k. PastRun is_token_byte text (drop k text)) (sym none) (no-token-stops text empty, ([], tt, refl))
+    at (suc m) some =
+        let front = token-cut text n longest (λ none. absurd (omega (arith, none, some))) in
+        (front.1, (take n text, each-token (take n text) front.0, front.2.4 ∙ ap (λ x. x ++ front.2.1) front.2.2 ∙ ap (λ x. take n text ++ x) front.2.3))
+
+-- bytes of tokens and colons, and then no byte of a token
+abbrev pub BareSoFar : List ℕ → List ℕ → Type 0
+BareSoFar text rest = Stops is_token_byte rest × ((run : List ℕ) × All is_bare_byte run × (text ≡ run ++ rest))
+
+-- a run of a token's bytes is bare so far
+pub bare-none : (text rest : List ℕ) → PastRun is_token_byte text rest → BareSoFar text rest
+bare-none text rest (stops, (run, all, whole)) = (stops, (run, bare-all run all, whole))
+
+-- a colon and a further run are too
+pub bare-more : (text rest more next : List ℕ) → BareSoFar text rest → past colon rest ≡ Some more → PastRun is_token_byte more next → BareSoFar text next
+bare-more text rest more next (s, (run, all, whole)) found (stops, (token, token_all, more_is)) = (
+  stops,
+  (
+    run ++ (colon ∷ token),
+    all_both is_bare_byte run (colon ∷ token) all (refl, bare-all token token_all),
+    whole ∙ ap (λ x. run ++ x) (past-some colon rest more found ∙ ap (λ x. colon ∷ x) more_is) ∙ sym (append_assoc run (colon ∷ token) next),
+  ),
+)
+
+-- which leaves less
+pub bare-smaller : (rest more next : List ℕ) → past colon rest ≡ Some more → PastRun is_token_byte more next → length next < length rest
+bare-smaller rest more next found (stops, (token, all, whole)) =
+    omega (arith, ap length (past-some colon rest more found), ap length whole, length-append token next)
+
+stops-bare : (rest : List ℕ) → Stops is_token_byte rest → past colon rest ≡ None → Stops is_bare_byte rest
+stops-bare [] stops none = tt
+stops-bare (b ∷ rest) stops none = at (nat_eq b colon) refl
+  where
+    at : (x : Bool) → nat_eq b colon ≡ x → is_bare_byte b ≡ false
+    at false other = or_from (is_token_byte b) (nat_eq b colon) stops other
+    at true same = absurd (none-some rest (sym none ∙ ap (λ x. cond x (Some rest) None) same))
+
+-- without a further colon the bare run ends
+pub bare-end : (text rest : List ℕ) → BareSoFar text rest → past colon rest ≡ None → PastRun is_bare_byte text rest
+bare-end text rest (stops, run) none = (stops-bare rest stops none, run)
+
+-- a token that no colon follows
+pub bare-token_front : (text token rest : List ℕ) → ReadAs (TokenFront text) (token, rest) → past colon rest ≡ None → ReadAs (BareFront text) (token, rest)
+bare-token_front text token rest ((is, stops, whole), only) none =
+    read-one (BareFront text) (token, rest) (one-bare text)
+    (inl is, stops-bare rest stops none, whole.4 ∙ ap (λ x. x ++ whole.1) whole.2 ∙ ap (λ x. token ++ x) whole.3)
+
+-- a bare value that is cut is one, or there is none
+pub bare-found : (text rest value : List ℕ) → PastRun is_bare_byte text rest → value ≡ take (length text - length rest) text → (Token or Ipv6Address) value → ReadAs (BareFront text) (value, rest)
+bare-found text rest value (stops, (run, all, whole)) is kind =
+    let same : value ≡ run = is ∙ front-is text run rest whole in
+    read-one (BareFront text) (value, rest) (one-bare text) (kind, stops, whole ∙ ap (λ x. x ++ rest) (sym same))
+
+-- a bare run that is neither a token nor an IPv6 address is no value
+pub bare-missing : (text rest value : List ℕ) → PastRun is_bare_byte text rest → value ≡ take (length text - length rest) text → ((Token or Ipv6Address) value → ⊥) → NotRead (BareFront text)
+bare-missing text rest value (stops, (run, all, whole)) is other (v, r) (kind, v_stops, v_whole) =
+    let same = same_front is_bare_byte v r run rest (each-bare v kind) all v_stops stops (sym v_whole ∙ whole) in
+    other (subst (Token or Ipv6Address) (same.0 ∙ sym (is ∙ front-is text run rest whole)) kind)
+
+-- a text as long as its longest token is one
+pub token-whole : (text : List ℕ) (n : ℕ) → IsLongestFront Token text n → (text ≡ [] → ⊥) → n ≡ length text → Token text
+token-whole text n longest some all = at longest.front
+  where
+    at : (n ≡ 0) ⊎ HasFront Token text n → Token text
+    at (inl none) = absurd (some (empty text (omega (arith, none, all))))
+      where
+        empty : (t : List ℕ) → length t ≡ 0 → t ≡ []
+        empty [] is = refl
+        empty (b ∷ t) is = absurd (omega (arith, is))
+    at (inr front) = whole front.1 front.2 front.3 front.4
+      where
+        whole : (v : List ℕ) → Token front.0 → text ≡ front.0 ++ v → n ≡ length front.0 → Token text
+        whole [] token is len = subst Token (sym (is ∙ append-nil front.0)) token
+        whole (b ∷ v) token is len = absurd (omega (arith, ap length is, length-append front.0 (b ∷ v), len, all))
+
+-- the longest token at the front of a token is all of it
+pub whole-token : (text : List ℕ) (n : ℕ) → IsLongestFront Token text n → n ≤ length text → Token text → n ≡ length text
+whole-token text n longest within token =
+    omega (arith, longest.longest (length text) (text, [], token, sym (append-nil text), refl))
+
+-- a text begins with the byte that is past
+past-here : (mark : ℕ) (rest : List ℕ) → past mark (mark ∷ rest) ≡ Some rest
+past-here mark rest = ap (λ same. cond same (Some rest) None) (eq-eqb mark mark refl)
+
+-- brackets, their parts one behind the other
+bracket-whole : (text : List ℕ) (x : List ℕ × List ℕ) → (b : BracketFront text x) → text ≡ left_bracket ∷ (b.0 ++ right_bracket ∷ (x.1))
+bracket-whole text (v, r) (i, lacks, v_is, whole) =
+    whole ∙ ap (λ x. x ++ r) v_is ∙ ap (λ x. left_bracket ∷ x) (append_assoc i (right_bracket ∷ []) r)
+
+-- without an opening bracket nothing is in brackets
+pub no-bracket : (text : List ℕ) → past left_bracket text ≡ None → NotRead (BracketFront text)
+no-bracket text none x bracket =
+    none-some (bracket.0 ++ right_bracket ∷ (x.1)) (sym none ∙ ap (past left_bracket) (bracket-whole text x bracket) ∙ past-here left_bracket _)
+
+-- nor without a closing one
+pub no-close : (text inner : List ℕ) → past left_bracket text ≡ Some inner → behind right_bracket inner ≡ None → NotRead (BracketFront text)
+no-close text inner found none x bracket =
+    let both : left_bracket ∷ inner ≡ left_bracket ∷ (bracket.0 ++ right_bracket ∷ (x.1)) = sym (past-some left_bracket text inner found) ∙ bracket-whole text x bracket in
+    let inner_is : inner ≡ bracket.0 ++ right_bracket ∷ (x.1) = cc in
+    none-some (x.1) (sym none ∙ ap (behind right_bracket) inner_is ∙ behind-led right_bracket bracket.0 (Some (x.1)) bracket.1)
+
+-- what stands before the rest behind "]"
+closed : (text inner rest : List ℕ) → past left_bracket text ≡ Some inner → behind right_bracket inner ≡ Some rest → text ≡ (left_bracket ∷ (before right_bracket inner ++ right_bracket ∷ [])) ++ rest
+closed text inner rest found ends =
+    past-some left_bracket text inner found
+    ∙ ap (λ x. left_bracket ∷ x) (cut-whole right_bracket inner ∙ ap (λ o. before right_bracket inner ++ led right_bracket o) ends ∙ sym (append_assoc (before right_bracket inner) (right_bracket ∷ []) rest))
+
+-- with both, what is between them is
+pub one-closed : (text inner rest : List ℕ) → past left_bracket text ≡ Some inner → behind right_bracket inner ≡ Some rest → ReadAs (BracketFront text) (take (length text - length rest) text, rest)
+one-closed text inner rest found ends =
+    let whole = closed text inner rest found ends in
+    let part = left_bracket ∷ (before right_bracket inner ++ right_bracket ∷ []) in
+    let part_is : take (length text - length rest) text ≡ part = front-is text part rest whole in
+    read-one (BracketFront text) (take (length text - length rest) text, rest) (one-bracket text)
+    (before right_bracket inner, lacks-before right_bracket inner, part_is, whole ∙ ap (λ x. x ++ rest) (sym part_is))
+
+-- and leaves no more than there was
+pub closed-short : (text inner rest : List ℕ) → past left_bracket text ≡ Some inner → behind right_bracket inner ≡ Some rest → length rest ≤ length text
+closed-short text inner rest found ends =
+    rest-short text (left_bracket ∷ (before right_bracket inner ++ right_bracket ∷ [])) rest (closed text inner rest found ends)
+
+-- a host in brackets is an IPv6 address in brackets
+pub bracket-host : (text part rest : List ℕ) (h : HostParts) → BracketFront text (part, rest) → HostText part h → Ipv6Reference part
+bracket-host text part rest (v6 x) bracket is = is.0
+bracket-host text part rest (name x) (i, lacks, part_is, whole) is =
+    absurd (both_ways (is_token_byte left_bracket) refl (subst (All is_token_byte) part_is (each-hostname part is.0)).0)
+bracket-host text part rest (v4 x) (i, lacks, part_is, whole) is =
+    absurd (both_ways (is_token_byte left_bracket) refl (subst (All is_token_byte) part_is (each-v4 part is.0)).0)
+
+-- a host in brackets is an IPv6 reference
+pub one-host_reference : (text part rest : List ℕ) (h : HostParts) → ReadAs (BracketFront text) (part, rest) → HostText part h → ReadAs (ReferenceFront text) (part, rest)
+one-host_reference text part rest h bracket host =
+    read-one (ReferenceFront text) (part, rest) (one-reference text) (bracket-host text part rest h bracket.0 host, bracket.0.3)
+
+-- what is none in brackets is not
+pub no-host_reference : (text part rest : List ℕ) → ReadAs (BracketFront text) (part, rest) → ((h : HostParts) → HostText part h → ⊥) → NotRead (ReferenceFront text)
+no-host_reference text part rest bracket none x reference =
+    let same : x ≡ (part, rest) = bracket.1 x (reference-bracket text x reference) in
+    let is : Ipv6Reference part = subst Ipv6Reference (ap (λ y. y.0) same) reference.0 in
+    none (v6 part) (is, refl)
+
+-- a quoted string at the front
+pub no-open : (text : List ℕ) → past dquote text ≡ None → NotRead (QuotedFront text)
+no-open text none (v, r) (q, whole) =
+    none-some (q.3.0 ++ dquote ∷ r) (sym none ∙ ap (past dquote) (whole ∙ quoted-whole v r q) ∙ past-here dquote _)
+
+quoted-string : (text : List ℕ) (x : List ℕ × List ℕ) → QuotedFront text x → HasFront QuotedString text (length (x.0))
+quoted-string text (v, r) (q, whole) = (v, r, ([], v, inl refl, q, refl), whole, refl)
+
+-- where no quoted string stands at the front, none is read
+pub no-quoted : (text : List ℕ) → IsOnlyFront QuotedString text None → NotRead (QuotedFront text)
+no-quoted text none x quoted = none (length (x.0)) (quoted-string text x quoted)
+
+-- where one does, it is read
+pub one-quoted_string : (text inner : List ℕ) (n : ℕ) → past dquote text ≡ Some inner → IsOnlyFront QuotedString text (Some n) → ReadAs (QuotedFront text) (take n text, drop n text)
+one-quoted_string text inner n found ((u, v, (blanks, q, sws, quoted, u_is), whole, len), only) =
+    read-one (QuotedFront text) (take n text, drop n text) (one-quoted text)
+    (subst Quoted (sym (front_is ∙ u_is ∙ ap (λ x. x ++ q) (none blanks sws flat))) quoted, whole ∙ ap (λ x. x ++ v) (sym front_is) ∙ ap (λ x. take n text ++ x) (sym rest_is))
+  where
+    front_is : take n text ≡ u
+    front_is = ap (λ m. take m text) len ∙ ap (take (length u)) whole ∙ take-append_seam u v
+
+    rest_is : drop n text ≡ v
+    rest_is = front-rest QuotedString text n (u, v, (blanks, q, sws, quoted, u_is), whole, len)
+
+    flat : dquote ∷ inner ≡ blanks ++ (q ++ v)
+    flat = sym (past-some dquote text inner found) ∙ whole ∙ ap (λ x. x ++ v) u_is ∙ append_assoc blanks q v
+
+    none : (b : List ℕ) → Sws b → dquote ∷ inner ≡ b ++ (q ++ v) → b ≡ []
+    none [] is same = refl
+    none (c ∷ b) is same =
+        let first : dquote ≡ c = cc in
+        absurd (both_ways (is_blank dquote) refl (subst (λ x. is_blank x ≡ true) (sym first) (each-sws (c ∷ b) is).0))
+
+-- a value of one of the three kinds is the only one
+pub value-quoted : (text value rest : List ℕ) → ReadAs (QuotedFront text) (value, rest) → ReadAs (ValueFront text) (value, rest)
+value-quoted text value rest is = read-one (ValueFront text) (value, rest) (one-value text) (inl is.0)
+
+-- an IPv6 reference is a value
+pub value-reference : (text value rest : List ℕ) → ReadAs (ReferenceFront text) (value, rest) → ReadAs (ValueFront text) (value, rest)
+value-reference text value rest is = read-one (ValueFront text) (value, rest) (one-value text) (inr (inl is.0))
+
+-- or it is bare
+pub value-bare : {A : Type 0} (parts : A → List ℕ × List ℕ) (text : List ℕ) (r : Option A) → NotRead (QuotedFront text) → NotRead (ReferenceFront text) → IsOnlyValue BareFront parts text r → IsOnlyValue ValueFront parts text r
+value-bare parts text None quoted reference none = at
+  where
+    at : NotRead (ValueFront text)
+    at x (inl is) = quoted x is
+    at x (inr (inl is)) = reference x is
+    at x (inr (inr is)) = none x is
+value-bare parts text (Some a) quoted reference read =
+    read-one (ValueFront text) (parts a) (one-value text) (inr (inr read.0))

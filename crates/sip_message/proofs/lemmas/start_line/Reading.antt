@@ -1,0 +1,269 @@
+-- How a start line is read: a token and its SP from the front, the version from the end; or the version, the
+-- code and the reason from the front.
+use Rattle.std.proofs.Common.{◌≡◌, ℕ, ◌+◌, ◌≤◌, ◌<◌, Bool, true, false, nat_lt, cond, List, [], ◌∷◌, ◌++◌, length, take, drop, Some, None, refl, sym, ap, ◌∙◌, subst, arith}
+use Rattle.std.specs.Prelude.{codes}
+use Rattle.std.specs.List.{AllByRecursion, concat, list_all}
+use Rattle.std.specs.Char.{to_ascii_lowercase, is_ascii_digit}
+use Rattle.std.specs.Str.Parse.{digits_value}
+use Rattle.std.proofs.lemmas.Bool.{both_ways, ltb-false}
+use Rattle.std.proofs.lemmas.Option.{none-some}
+use Rattle.std.proofs.lemmas.List.{append_assoc, length-append, take-append-drop, length-drop, length-take, length-take-le, take-map, drop-map, map-append}
+use Rattle.sip_text.specs.Bytes.{space}
+use Rattle.sip_text.specs.Text.{One, Many}
+use Rattle.sip_text.proofs.ManyLemmas.{many-some}
+use Rattle.sip_message.specs.Values.{Digits}
+use Rattle.sip_text.specs.Case.{folded, SameText}
+use Rattle.sip_text.specs.Grammar.{Token}
+use Rattle.sip_text.specs.Uri.{UriParts, UriText}
+use Rattle.sip_text.specs.Cut.{past}
+use Rattle.sip_text.proofs.CutLemmas.{past-some}
+use Rattle.sip_text.proofs.RunLemmas.{run-list_all, list_all-run}
+use Rattle.sip_message.specs.StartLine.{StartLine, request, status, Version, CodeText, is_reason_byte, StartText}
+use Rattle.sip_message.specs.inner.StartFronts.{RequestLine, StatusLine, CodeFront}
+use Rattle.sip_message.specs.inner.Fronts.{TokenFront}
+use Rattle.sip_message.proofs.lemmas.text.Cuts.{same_by_front, same_by_end}
+use Rattle.sip_message.proofs.lemmas.front.Cuts.{ReadAs, NotRead}
+use Rattle.sip_message.proofs.lemmas.start_line.OneWay.{length-version, length-digits, length-code, RequestParts, request_parts, status_parts, same_start}
+
+-- a byte that folds to one below the letters is that byte
+kept_is : (b k : ℕ) → k < 65 → to_ascii_lowercase b ≡ k → b ≡ k
+kept_is b k small is = at (nat_lt b 65) (nat_lt b 91) refl refl
+  where
+    at : (low high : Bool) → nat_lt b 65 ≡ low → nat_lt b 91 ≡ high → b ≡ k
+    at true high low_is high_is = sym (ap (λ x. cond x b (cond (nat_lt b 91) (b + 32) b)) low_is) ∙ is
+    at false false low_is high_is = sym (ap (λ x. cond x b (cond (nat_lt b 91) (b + 32) b)) low_is ∙ ap (λ x. cond x (b + 32) b) high_is) ∙ is
+    at false true low_is high_is =
+        let sum : b + 32 ≡ k = sym (ap (λ x. cond x b (cond (nat_lt b 91) (b + 32) b)) low_is ∙ ap (λ x. cond x (b + 32) b) high_is) ∙ is in
+        absurd (omega (arith, sum, ltb-false b 65 low_is))
+
+-- a request line, cut at its first token
+pub record RequestCut (token rest uri : List ℕ) : Type 0 where
+  pub version : List ℕ
+  pub is_version : Version version
+  pub is_uri : (parts : UriParts) × UriText uri parts
+  pub whole : rest ≡ space ∷ (uri ++ space ∷ version)
+
+-- the first token is the method
+token-first : (line method uri : List ℕ) (p : RequestParts line method uri) → Token method → TokenFront line (method, space ∷ (uri ++ space ∷ p.version))
+token-first line method uri p token = (token, refl, (method, space ∷ (uri ++ space ∷ p.version), refl, refl, p.whole))
+
+request-cut : (line token rest method uri : List ℕ) → ReadAs (TokenFront line) (token, rest) → RequestLine line (method, uri) → (method ≡ token) × RequestCut token rest uri
+request-cut line token rest method uri read is =
+    let p = request_parts line method uri is in
+    let same = read.1 (method, space ∷ (uri ++ space ∷ p.version)) (token-first line method uri p is.0) in
+    (ap (λ x. x.0) same, record { version = p.version; is_version = p.is_version; is_uri = is.1; whole = sym (ap (λ x. x.1) same) })
+
+-- without a token there is no request line
+pub request-no_token : (line : List ℕ) → NotRead (TokenFront line) → NotRead (RequestLine line)
+request-no_token line none (method, uri) is =
+    let p = request_parts line method uri is in none (method, space ∷ (uri ++ space ∷ p.version)) (token-first line method uri p is.0)
+
+-- nor without the SP behind it
+pub request-no_space : (line token rest : List ℕ) → ReadAs (TokenFront line) (token, rest) → past space rest ≡ None → NotRead (RequestLine line)
+request-no_space line token rest read none (method, uri) is =
+    let r = request-cut line token rest method uri read is in
+    none-some (uri ++ space ∷ r.1.version) (sym none ∙ ap (past space) r.1.whole)
+
+-- what is behind the SP
+behind-space : (line token rest more method uri : List ℕ) → ReadAs (TokenFront line) (token, rest) → past space rest ≡ Some more → (is : RequestLine line (method, uri)) → (v : List ℕ) × Version v × (more ≡ uri ++ space ∷ v)
+behind-space line token rest more method uri read found is =
+    let r = request-cut line token rest method uri read is in
+    let same : ◌≡◌ {A = List ℕ} (space ∷ more) (space ∷ (uri ++ space ∷ r.1.version)) = sym (past-some space rest more found) ∙ r.1.whole in
+    let inner : more ≡ uri ++ space ∷ r.1.version = cc in
+    (r.1.version, r.1.is_version, inner)
+
+-- nor without room for the version
+pub request-short : (line token rest more : List ℕ) → ReadAs (TokenFront line) (token, rest) → past space rest ≡ Some more → length more < 8 → NotRead (RequestLine line)
+request-short line token rest more read found short (method, uri) is =
+    let b = behind-space line token rest more method uri read found is in
+    absurd (omega (arith, short, ap length b.2, length-append uri (space ∷ b.0), length-version b.0 b.1))
+
+-- the eight bytes at the end
+at-end : (more uri v : List ℕ) (at : ℕ) → at + 8 ≡ length more → Version v → more ≡ uri ++ space ∷ v → (take at more ≡ uri) × (drop at more ≡ space ∷ v)
+at-end more uri v at len version is =
+    same_by_end (take at more) (drop at more) uri (space ∷ v) (omega (arith, length-drop at more, len, length-version v version)) (take-append-drop at more ∙ is)
+
+-- nor without the version
+pub request-no_version : (line token rest more : List ℕ) (at : ℕ) → ReadAs (TokenFront line) (token, rest) → past space rest ≡ Some more → at + 8 ≡ length more → (SameText (drop at more) (codes " SIP/2.0") → ⊥) → NotRead (RequestLine line)
+request-no_version line token rest more at read found len none (method, uri) is =
+    let b = behind-space line token rest more method uri read found is in
+    let e = at-end more uri b.0 at len b.1 b.2 in
+    none (ap folded e.1 ∙ ap (λ t. space ∷ t) b.1)
+
+-- nor without the URI
+pub request-no_uri : (line token rest more : List ℕ) (at : ℕ) → ReadAs (TokenFront line) (token, rest) → past space rest ≡ Some more → at + 8 ≡ length more → NotRead (UriText (take at more)) → NotRead (RequestLine line)
+request-no_uri line token rest more at read found len none (method, uri) is =
+    let b = behind-space line token rest more method uri read found is in
+    let e = at-end more uri b.0 at len b.1 b.2 in
+    none is.1.0 (subst (λ t. UriText t is.1.0) (sym e.0) is.1.1)
+
+-- a text that is SP and the version
+space-version : (t : List ℕ) → SameText t (codes " SIP/2.0") → (v : List ℕ) × (t ≡ space ∷ v) × Version v
+space-version [] same = absurd (omega (arith, ap length same))
+space-version (b ∷ t) same =
+    let both : ◌≡◌ {A = List ℕ} (to_ascii_lowercase b ∷ folded t) (space ∷ folded (codes "SIP/2.0")) = same in
+    let head : to_ascii_lowercase b ≡ space = cc in
+    let tail : folded t ≡ folded (codes "SIP/2.0") = cc in
+    (t, ap (λ x. x ∷ t) (kept_is b space (omega arith) head), tail)
+
+-- with all of them there is one
+pub request-read : (line token rest more : List ℕ) (at : ℕ) (parts : UriParts) → ReadAs (TokenFront line) (token, rest) → past space rest ≡ Some more → SameText (drop at more) (codes " SIP/2.0") → UriText (take at more) parts → ReadAs (RequestLine line) (token, take at more)
+request-read line token rest more at parts read found version uri = (is, only)
+  where
+    v : (v : List ℕ) × (drop at more ≡ space ∷ v) × Version v
+    v = space-version (drop at more) version
+
+    inner : more ≡ take at more ++ space ∷ v.0
+    inner = sym (take-append-drop at more) ∙ ap (λ t. take at more ++ t) v.1
+
+    is : RequestLine line (token, take at more)
+    is = (
+      read.0.0,
+      (parts, uri),
+      (
+        token,
+        space ∷ more,
+        refl,
+        (space ∷ [], more, refl, (take at more, space ∷ v.0, refl, (space ∷ [], v.0, refl, v.2, refl), inner), refl),
+        read.0.2.4 ∙ ap (λ t. t ++ read.0.2.1) read.0.2.2 ∙ ap (λ t. token ++ t) (read.0.2.3 ∙ past-some space rest more found),
+      ),
+    )
+
+    only : (x : List ℕ × List ℕ) → RequestLine line x → ◌≡◌ {A = List ℕ × List ℕ} x (token, take at more)
+    only (method, other) o = ap pair (same_start line (request method other) (request token (take at more)) o is)
+      where
+        pair : StartLine → List ℕ × List ℕ
+        pair (request m u) = (m, u)
+        pair (status c r) = (method, other)
+
+-- three digits, from 100 to 699, are a code
+digits-code : (d : List ℕ) (n : ℕ) → Digits d → length d ≡ 3 → n ≡ digits_value 10 d → 100 ≤ n → n ≤ 699 → CodeText d n
+digits-code d n digits len value low high =
+    let many = many-some (One is_ascii_digit) d digits in
+    let count : length many.0 ≡ 3 = omega (arith, length-digits many.0 many.1, ap length many.2, len) in
+    record { digits = (many.0, many.1, many.2, omega (arith, count), omega (arith, count)); code_is = value; low = low; high = omega (arith, high) }
+
+-- and a code is three digits
+code-digits : (d : List ℕ) (n : ℕ) → CodeText d n → Digits d
+code-digits d n is = at is.digits.0 is.digits.1 is.digits.2 is.digits.3
+  where
+    at : (us : List (List ℕ)) → AllByRecursion (One is_ascii_digit) us → d ≡ concat us → 3 ≤ length us → Digits d
+    at [] all whole three = absurd (omega (arith, three))
+    at (u ∷ us) all whole three = (u, concat us, all.0, (us, all.1, refl), whole)
+
+-- what a code at the front is
+code-front : (text : List ℕ) (code : ℕ) (reason : List ℕ) → CodeFront text (code, reason) → CodeText (take 3 text) code × (drop 3 text ≡ space ∷ reason)
+code-front text code reason (d, t, is, (s, r, s_is, r_is, t_is), whole) =
+    let flat : text ≡ d ++ space ∷ reason = whole ∙ ap (λ x. d ++ x) (t_is ∙ ap (λ x. x ++ r) s_is ∙ ap (λ x. space ∷ x) r_is) in
+    let same = same_by_front (take 3 text) (drop 3 text) d (space ∷ reason) (omega (arith, length-code d code is, ap length flat, length-append d (space ∷ reason), length-take-le 3 text (omega (arith, length-code d code is, ap length flat, length-append d (space ∷ reason))))) (take-append-drop 3 text ∙ flat) in
+    (subst (λ x. CodeText x code) (sym same.0) is, same.1)
+
+-- without three bytes there is none
+pub code-short : (text : List ℕ) → length text < 3 → NotRead (CodeFront text)
+code-short text short (code, reason) is =
+    let f = code-front text code reason is in absurd (omega (arith, short, length-code (take 3 text) code f.0, length-take 3 text))
+
+-- nor without the SP
+pub code-no_space : (text : List ℕ) → past space (drop 3 text) ≡ None → NotRead (CodeFront text)
+code-no_space text none (code, reason) is = none-some reason (sym none ∙ ap (past space) (code-front text code reason is).1)
+
+-- nor without digits
+pub code-no_digits : (text : List ℕ) → (Digits (take 3 text) → ⊥) → NotRead (CodeFront text)
+code-no_digits text none (code, reason) is = none (code-digits (take 3 text) code (code-front text code reason is).0)
+
+-- nor with a number too high
+pub code-high : (text : List ℕ) → Digits (take 3 text) → (Digits (take 3 text) → 699 < digits_value 10 (take 3 text)) → NotRead (CodeFront text)
+code-high text digits high (code, reason) is =
+    let f = code-front text code reason is in absurd (omega (arith, high digits, f.0.high, f.0.code_is))
+
+-- or too low
+pub code-low : (text : List ℕ) (n : ℕ) → n ≡ digits_value 10 (take 3 text) → n < 100 → NotRead (CodeFront text)
+code-low text n value low (code, reason) is =
+    let f = code-front text code reason is in absurd (omega (arith, value, low, f.0.low, f.0.code_is))
+
+-- else there is one
+pub code-read : (text rest : List ℕ) (n : ℕ) → 3 ≤ length text → past space (drop 3 text) ≡ Some rest → Digits (take 3 text) → n ≡ digits_value 10 (take 3 text) → n ≤ 699 → 100 ≤ n → ReadAs (CodeFront text) (n, rest)
+code-read text rest n long found digits value high low = (is, only)
+  where
+    is : CodeFront text (n, rest)
+    is = (
+      take 3 text,
+      drop 3 text,
+      digits-code (take 3 text) n digits (length-take-le 3 text long) value low high,
+      (space ∷ [], rest, refl, refl, past-some space (drop 3 text) rest found),
+      sym (take-append-drop 3 text),
+    )
+
+    only : (x : ℕ × List ℕ) → CodeFront text x → ◌≡◌ {A = ℕ × List ℕ} x (n, rest)
+    only (code, reason) other =
+        let f = code-front text code reason other in
+        let both : ◌≡◌ {A = List ℕ} (space ∷ reason) (space ∷ rest) = sym f.1 ∙ past-some space (drop 3 text) rest found in
+        let reasons : reason ≡ rest = cc in
+        let codes : code ≡ n = f.0.code_is ∙ sym value in
+        cc
+
+-- a text that is the version and SP
+version-space : (t : List ℕ) → SameText t (codes "SIP/2.0 ") → (v : List ℕ) × Version v × (t ≡ v ++ space ∷ [])
+version-space t same = (take 7 t, sym (take-map to_ascii_lowercase 7 t) ∙ ap (take 7) same, sym (take-append-drop 7 t) ∙ ap (λ x. take 7 t ++ x) (last (drop 7 t) (sym (drop-map to_ascii_lowercase 7 t) ∙ ap (drop 7) same)))
+  where
+    last : (u : List ℕ) → folded u ≡ space ∷ [] → u ≡ space ∷ []
+    last [] is = absurd (omega (arith, ap length is))
+    last (b ∷ c ∷ u) is = absurd (omega (arith, ap length is))
+    last (b ∷ []) is =
+        let head : to_ascii_lowercase b ≡ space = cc in
+        ap (λ x. x ∷ []) (kept_is b space (omega arith) head)
+
+-- what a status line is
+status-line : (line : List ℕ) (code : ℕ) (reason : List ℕ) → StatusLine line (code, reason) → SameText (take 8 line) (codes "SIP/2.0 ") × CodeFront (drop 8 line) (code, reason) × (8 ≤ length line)
+status-line line code reason is =
+    let p = status_parts line code reason is in
+    let size = length-version p.version p.is_version in
+    let whole : line ≡ (p.version ++ space ∷ []) ++ (p.digits ++ space ∷ reason) = p.whole ∙ sym (append_assoc p.version (space ∷ []) (p.digits ++ space ∷ reason)) in
+    let len : length (p.version ++ space ∷ []) ≡ 8 = omega (arith, length-append p.version (space ∷ []), size) in
+    let long : 8 ≤ length line = omega (arith, ap length whole, length-append (p.version ++ space ∷ []) (p.digits ++ space ∷ reason), len) in
+    let same = same_by_front (take 8 line) (drop 8 line) (p.version ++ space ∷ []) (p.digits ++ space ∷ reason) (omega (arith, len, length-take-le 8 line long)) (take-append-drop 8 line ∙ whole) in (
+      subst (λ t. SameText t (codes "SIP/2.0 ")) (sym same.0) (map-append to_ascii_lowercase p.version (space ∷ []) ∙ ap (λ t. t ++ space ∷ []) p.is_version),
+      subst (λ t. CodeFront t (code, reason)) (sym same.1) (p.digits, space ∷ reason, p.is_code, (space ∷ [], reason, refl, refl, refl), refl),
+      long,
+    )
+
+-- without room for the version there is no status line
+pub status-short : (line : List ℕ) → length line < 8 → NotRead (StatusLine line)
+status-short line short (code, reason) is = absurd (omega (arith, short, (status-line line code reason is).2))
+
+-- nor without the version
+pub status-no_version : (line : List ℕ) → (SameText (take 8 line) (codes "SIP/2.0 ") → ⊥) → NotRead (StatusLine line)
+status-no_version line none (code, reason) is = none (status-line line code reason is).0
+
+-- nor without the code
+pub status-no_code : (line : List ℕ) → NotRead (CodeFront (drop 8 line)) → NotRead (StatusLine line)
+status-no_code line none (code, reason) is = none (code, reason) (status-line line code reason is).1
+
+-- nor where a byte of the reason is none
+pub status-no_reason : (line : List ℕ) (n : ℕ) (rest : List ℕ) → ReadAs (CodeFront (drop 8 line)) (n, rest) → list_all is_reason_byte rest ≡ false → NotRead (StatusLine line)
+status-no_reason line n rest read none (code, reason) is =
+    let same = read.1 (code, reason) (status-line line code reason is).1 in
+    both_ways (list_all is_reason_byte rest) none (run-list_all is_reason_byte rest (subst (Many (One is_reason_byte)) (ap (λ x. x.1) same) is.0))
+
+-- else there is one
+pub status-read : (line : List ℕ) (n : ℕ) (rest : List ℕ) → SameText (take 8 line) (codes "SIP/2.0 ") → ReadAs (CodeFront (drop 8 line)) (n, rest) → list_all is_reason_byte rest ≡ true → ReadAs (StatusLine line) (n, rest)
+status-read line n rest version read all = (
+  (list_all-run is_reason_byte rest all, (v.0, space ∷ drop 8 line, v.1, (space ∷ [], drop 8 line, refl, read.0, refl), sym (take-append-drop 8 line) ∙ ap (λ t. t ++ drop 8 line) v.2 ∙ append_assoc v.0 (space ∷ []) (drop 8 line))),
+  (λ x other. read.1 x (status-line line x.0 x.1 other).1),
+)
+  where
+    v : (v : List ℕ) × Version v × (take 8 line ≡ v ++ space ∷ [])
+    v = version-space (take 8 line) version
+
+-- a line that is a request line is a start line, and no other
+pub start-request : (line method uri : List ℕ) → ReadAs (RequestLine line) (method, uri) → ReadAs (StartText line) (request method uri)
+start-request line method uri read = (read.0, (λ x is. same_start line x (request method uri) is read.0))
+
+-- a line that is a status line is a start line, and no other
+pub start-status : (line : List ℕ) (code : ℕ) (reason : List ℕ) → ReadAs (StatusLine line) (code, reason) → ReadAs (StartText line) (status code reason)
+start-status line code reason read = (read.0, (λ x is. same_start line x (status code reason) is read.0))
+
+-- a line that is neither is none
+pub start-none : (line : List ℕ) → NotRead (RequestLine line) → NotRead (StatusLine line) → NotRead (StartText line)
+start-none line no_request no_status (request method uri) is = no_request (method, uri) is
+start-none line no_request no_status (status code reason) is = no_status (code, reason) is

@@ -1,0 +1,78 @@
+-- A text cut in two, in two ways.
+use Rattle.std.proofs.Common.{◌≡◌, ℕ, Bool, true, false, List, [], ◌∷◌, ◌++◌, length, refl, sym, ap, ◌∙◌, subst, arith}
+use Rattle.std.specs.List.{AllByRecursion}
+use Rattle.std.proofs.lemmas.List.{length-append}
+use Rattle.std.proofs.lemmas.Bool.{both_ways}
+
+-- the front of one cut begins the front of the other
+pub data Cuts (u v x y : List ℕ) : Type 0 where
+  first_longer : (b : ℕ) (z : List ℕ) → u ≡ x ++ b ∷ z → y ≡ b ∷ z ++ v → Cuts u v x y
+  same_length : u ≡ x → v ≡ y → Cuts u v x y
+  second_longer : (b : ℕ) (z : List ℕ) → x ≡ u ++ b ∷ z → v ≡ b ∷ z ++ y → Cuts u v x y
+
+-- two cuts of one text
+pub two_cuts : (u v x y : List ℕ) → u ++ v ≡ x ++ y → Cuts u v x y
+two_cuts [] v [] y same = same_length refl same
+two_cuts [] v (a ∷ x) y same = second_longer a x refl same
+two_cuts (a ∷ u) v [] y same = first_longer a u refl (sym same)
+two_cuts (a ∷ u) v (b ∷ x) y same = more (two_cuts u v x y tails)
+  where
+    heads : a ≡ b
+    heads = cc
+
+    tails : u ++ v ≡ x ++ y
+    tails = cc
+
+    more : Cuts u v x y → Cuts (a ∷ u) v (b ∷ x) y
+    more (first_longer c z longer is) = first_longer c z (ap (λ t. t ∷ u) heads ∙ ap (λ t. b ∷ t) longer) is
+    more (same_length left right) = same_length (ap (λ t. t ∷ u) heads ∙ ap (λ t. b ∷ t) left) right
+    more (second_longer c z longer is) = second_longer c z (ap (λ t. t ∷ x) (sym heads) ∙ ap (λ t. a ∷ t) longer) is
+
+-- no byte of the text passes the test at its front
+abbrev pub Stops : (ℕ → Bool) → List ℕ → Type 0
+Stops test [] = Unit {0}
+Stops test (b ∷ text) = test b ≡ false
+
+-- each byte passes the test
+abbrev pub All : (ℕ → Bool) → List ℕ → Type 0
+All test text = AllByRecursion (λ b. test b ≡ true) text
+
+-- what holds of a text holds of its pieces
+pub all_left : (test : ℕ → Bool) (u v : List ℕ) → All test (u ++ v) → All test u
+all_left test [] v all = tt
+all_left test (b ∷ u) v all = (all.0, all_left test u v all.1)
+
+-- so do those of the right one
+pub all_right : (test : ℕ → Bool) (u v : List ℕ) → All test (u ++ v) → All test v
+all_right test [] v all = all
+all_right test (b ∷ u) v all = all_right test u v all.1
+
+-- and where both parts pass, the whole does
+pub all_both : (test : ℕ → Bool) (u v : List ℕ) → All test u → All test v → All test (u ++ v)
+all_both test [] v left right = right
+all_both test (b ∷ u) v left right = (left.0, all_both test u v left.1 right)
+
+-- a text has one longest front of bytes that pass
+pub same_front : (test : ℕ → Bool) (u v x y : List ℕ) → All test u → All test x → Stops test v → Stops test y → u ++ v ≡ x ++ y → (u ≡ x) × (v ≡ y)
+same_front test u v x y us xs v_stops y_stops same = at (two_cuts u v x y same)
+  where
+    at : Cuts u v x y → (u ≡ x) × (v ≡ y)
+    at (same_length left right) = (left, right)
+    at (first_longer b z longer is) =
+        absurd (both_ways (test b) (subst (Stops test) is y_stops) (all_right test x (b ∷ z) (subst (All test) longer us)).0)
+    at (second_longer b z longer is) =
+        absurd (both_ways (test b) (subst (Stops test) is v_stops) (all_right test u (b ∷ z) (subst (All test) longer xs)).0)
+
+-- texts of one length at the front, or at the end
+pub same_by_front : (u v x y : List ℕ) → length u ≡ length x → u ++ v ≡ x ++ y → (u ≡ x) × (v ≡ y)
+same_by_front u v x y lens same = at (two_cuts u v x y same)
+  where
+    at : Cuts u v x y → (u ≡ x) × (v ≡ y)
+    at (same_length left right) = (left, right)
+    at (first_longer b z longer is) = absurd (omega (arith, ap length longer, length-append x (b ∷ z), lens))
+    at (second_longer b z longer is) = absurd (omega (arith, ap length longer, length-append u (b ∷ z), lens))
+
+-- cuts with ends of one length are the same
+pub same_by_end : (u v x y : List ℕ) → length v ≡ length y → u ++ v ≡ x ++ y → (u ≡ x) × (v ≡ y)
+same_by_end u v x y lens same =
+    same_by_front u v x y (omega (arith, ap length same, length-append u v, length-append x y, lens)) same

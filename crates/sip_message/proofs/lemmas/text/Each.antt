@@ -1,0 +1,107 @@
+-- Sets all of whose bytes pass a test. A set that is made of sets is such a set if they are.
+use Rattle.std.proofs.Common.{◌≡◌, ℕ, ◌⊎◌, Bool, true, false, not, nat_eq, ◌||◌, List, [], ◌∷◌, refl, sym, ap, subst, inl, inr}
+use Rattle.std.specs.List.{AllByRecursion, concat}
+use Rattle.std.proofs.lemmas.Bool.{both_ways, eqb-true}
+use Rattle.sip_text.specs.Bytes.{space, tab, carriage_return, line_feed, crlf, is_wsp}
+use Rattle.sip_text.specs.Text.{One, Exactly, ◌then◌, ◌or◌, Optional, Many, OneOrMore, Between}
+use Rattle.sip_text.specs.Grammar.{Lws, Blanks, Sws}
+use Rattle.sip_message.specs.Unfold.{is_blank}
+use Rattle.sip_message.proofs.lemmas.text.Cuts.{All, all_both}
+
+-- each text of the set passes the test throughout
+abbrev pub Each : (ℕ → Bool) → (List ℕ → Type 0) → Type 0
+Each test P = (u : List ℕ) → P u → All test u
+
+-- a class whose bytes pass
+pub each-one : (test class : ℕ → Bool) → ((b : ℕ) → class b ≡ true → test b ≡ true) → Each test (One class)
+each-one test class pass u one = subst (All test) (sym one.2) (pass one.0 one.1, tt)
+
+-- bytes that pass
+pub each-exactly : (test : ℕ → Bool) (bytes : List ℕ) → All test bytes → Each test (Exactly bytes)
+each-exactly test bytes all u is = subst (All test) (sym is) all
+
+-- P Q
+pub each-then : (test : ℕ → Bool) (P Q : List ℕ → Type 0) → Each test P → Each test Q → Each test (P then Q)
+each-then test P Q left right u both =
+    subst (All test) (sym both.4) (all_both test both.0 both.1 (left both.0 both.2) (right both.1 both.3))
+
+-- P / Q
+pub each-or : (test : ℕ → Bool) (P Q : List ℕ → Type 0) → Each test P → Each test Q → Each test (P or Q)
+each-or test P Q left right u (inl one) = left u one
+each-or test P Q left right u (inr one) = right u one
+
+-- [ P ]
+pub each-optional : (test : ℕ → Bool) (P : List ℕ → Type 0) → Each test P → Each test (Optional P)
+each-optional test P each u (inl none) = subst (All test) (sym none) tt
+each-optional test P each u (inr one) = each u one
+
+-- texts in a row
+each-concat : (test : ℕ → Bool) (P : List ℕ → Type 0) (us : List (List ℕ)) → Each test P → AllByRecursion P us → All test (concat us)
+each-concat test P [] each all = tt
+each-concat test P (u ∷ us) each all = all_both test u (concat us) (each u all.0) (each-concat test P us each all.1)
+
+-- *P
+pub each-many : (test : ℕ → Bool) (P : List ℕ → Type 0) → Each test P → Each test (Many P)
+each-many test P each u many = subst (All test) (sym many.2) (each-concat test P many.0 each many.1)
+
+-- 1*P
+pub each-some : (test : ℕ → Bool) (P : List ℕ → Type 0) → Each test P → Each test (OneOrMore P)
+each-some test P each = each-then test P (Many P) each (each-many test P each)
+
+-- <low>*<high>P
+pub each-between : (test : ℕ → Bool) (low high : ℕ) (P : List ℕ → Type 0) → Each test P → Each test (Between low high P)
+each-between test low high P each u many = subst (All test) (sym many.2) (each-concat test P many.0 each many.1)
+
+-- a test or the other
+or_left : (a b : Bool) → a ≡ true → (a || b) ≡ true
+or_left a b is = ap (λ x. x || b) is
+
+-- what passes one of two tests
+pub or_case : (a b : Bool) → (a || b) ≡ true → (a ≡ true) ⊎ (b ≡ true)
+or_case true b is = inl refl
+or_case false b is = inr is
+
+-- a byte of a blank run is one of four
+pub blank_is : (P : ℕ → Type 0) → P space → P tab → P carriage_return → P line_feed → (b : ℕ) → is_blank b ≡ true → P b
+blank_is P sp ht cr lf b is =
+    elim (or_case (is_wsp b) _ is) [
+      | inl wsp ↦ elim (or_case (nat_eq b space) _ wsp) [
+        | inl e ↦ subst P (sym (eqb-true b space e)) sp
+        | inr e ↦ subst P (sym (eqb-true b tab e)) ht
+      ]
+      | inr end ↦ elim (or_case (nat_eq b carriage_return) _ end) [
+        | inl e ↦ subst P (sym (eqb-true b carriage_return e)) cr
+        | inr e ↦ subst P (sym (eqb-true b line_feed e)) lf
+      ]
+    ]
+
+-- a byte of no blank run
+abbrev pub is_solid : ℕ → Bool
+is_solid byte = not (is_blank byte)
+
+-- a class without the four has solid bytes alone
+pub solid_class : (class : ℕ → Bool) → class space ≡ false → class tab ≡ false → class carriage_return ≡ false → class line_feed ≡ false → (b : ℕ) → class b ≡ true → is_solid b ≡ true
+solid_class class sp ht cr lf b is = at (is_blank b) refl
+  where
+    at : (blank : Bool) → is_blank b ≡ blank → not blank ≡ true
+    at false blank = refl
+    at true blank = absurd (both_ways (class b) (blank_is (λ c. class c ≡ false) sp ht cr lf b blank) is)
+
+-- a WSP is a byte of a blank run
+pub wsp-blank : (b : ℕ) → is_wsp b ≡ true → is_blank b ≡ true
+wsp-blank b is = or_left (is_wsp b) _ is
+
+-- blank runs
+pub each-lws : Each is_blank Lws
+each-lws =
+    each-then is_blank _ _
+    (each-optional is_blank _ (each-then is_blank _ _ (each-many is_blank _ (each-one is_blank is_wsp wsp-blank)) (each-exactly is_blank crlf (refl, (refl, tt)))))
+    (each-some is_blank _ (each-one is_blank is_wsp wsp-blank))
+
+-- blanks are blanks
+pub each-blanks : Each is_blank Blanks
+each-blanks = each-some is_blank Lws each-lws
+
+-- so are blanks that may be none
+pub each-sws : Each is_blank Sws
+each-sws = each-optional is_blank Blanks each-blanks

@@ -1,0 +1,102 @@
+-- Texts that end solid, and are not empty.
+use Rattle.std.proofs.Common.{ℕ, List, [], ◌∷◌, ◌++◌, sym, subst, inl, inr}
+use Rattle.std.specs.List.{AllByRecursion, concat}
+use Rattle.std.proofs.lemmas.List.{append-nil}
+use Rattle.sip_text.specs.Text.{◌then◌, Many}
+use Rattle.sip_message.specs.Unfold.{OpensSolid, EndsSolid}
+use Rattle.sip_message.proofs.lemmas.text.Cuts.{All}
+use Rattle.sip_message.proofs.lemmas.text.Each.{Each, is_solid}
+use Rattle.sip_message.proofs.lemmas.text.Closed.{solid_is, Seam}
+
+-- the text is not empty and ends solid
+abbrev pub Firm : List ℕ → Type 0
+Firm [] = ⊥
+Firm (b ∷ text) = EndsSolid (b ∷ text)
+
+ends-onto : (u : List ℕ) (b : ℕ) (z : List ℕ) → EndsSolid (b ∷ z) → EndsSolid (u ++ b ∷ z)
+ends-onto [] b z ends = ends
+ends-onto (a ∷ []) b z ends = ends
+ends-onto (a ∷ c ∷ u) b z ends = ends-onto (c ∷ u) b z ends
+
+-- by the end
+pub firm-right : (p q : List ℕ) → Firm q → Firm (p ++ q)
+firm-right p [] firm = absurd firm
+firm-right [] (b ∷ z) firm = firm
+firm-right (a ∷ p) (b ∷ z) firm = ends-onto (a ∷ p) b z firm
+
+-- or by what stands before an end that may be empty
+pub firm-left : (p q : List ℕ) → Firm p → EndsSolid q → Firm (p ++ q)
+firm-left p [] firm ends = subst Firm (sym (append-nil p)) firm
+firm-left p (b ∷ z) firm ends = firm-right p (b ∷ z) ends
+
+-- a firm text ends solid
+pub ends-firm : (u : List ℕ) → Firm u → EndsSolid u
+ends-firm [] firm = absurd firm
+ends-firm (b ∷ u) firm = firm
+
+-- both ends solid, if the text is not empty
+pub ends-both : (p q : List ℕ) → EndsSolid p → EndsSolid q → EndsSolid (p ++ q)
+ends-both p [] left right = subst EndsSolid (sym (append-nil p)) left
+ends-both p (b ∷ z) left right = ends-onto p b z right
+
+-- solid bytes
+pub ends-solid : (u : List ℕ) → All is_solid u → EndsSolid u
+ends-solid [] all = tt
+ends-solid (b ∷ []) all = solid_is b all.0
+ends-solid (b ∷ c ∷ u) all = ends-solid (c ∷ u) all.1
+
+-- a text of solid bytes opens solid
+pub opens-solid : (u : List ℕ) → All is_solid u → OpensSolid u
+opens-solid [] all = tt
+opens-solid (b ∷ u) all = solid_is b all.0
+
+-- sets whose texts end solid, and are not empty
+abbrev pub AllFirm : (List ℕ → Type 0) → Type 0
+AllFirm P = (u : List ℕ) → P u → Firm u
+
+abbrev pub AllEnd : (List ℕ → Type 0) → Type 0
+AllEnd P = (u : List ℕ) → P u → EndsSolid u
+
+-- sets whose texts begin solid, and are not empty
+abbrev pub AllOpen : (List ℕ → Type 0) → Type 0
+AllOpen P = (u v : List ℕ) → P u → OpensSolid (u ++ v)
+
+-- two texts are firm if the second is
+pub firm-then_right : (P Q : List ℕ → Type 0) → AllFirm Q → AllFirm (P then Q)
+firm-then_right P Q firm u both = subst Firm (sym both.4) (firm-right both.0 both.1 (firm both.1 both.3))
+
+-- or if the first is, and the second ends solid
+pub firm-then_left : (P Q : List ℕ → Type 0) → AllFirm P → AllEnd Q → AllFirm (P then Q)
+firm-then_left P Q firm ends u both = subst Firm (sym both.4) (firm-left both.0 both.1 (firm both.0 both.2) (ends both.1 both.3))
+
+-- two that end solid do so together
+pub end-then : (P Q : List ℕ → Type 0) → AllEnd P → AllEnd Q → AllEnd (P then Q)
+end-then P Q left right u both = subst EndsSolid (sym both.4) (ends-both both.0 both.1 (left both.0 both.2) (right both.1 both.3))
+
+-- firm texts end solid
+pub end-firm : (P : List ℕ → Type 0) → AllFirm P → AllEnd P
+end-firm P firm u is = ends-firm u (firm u is)
+
+-- texts of solid bytes do
+pub end-each : (P : List ℕ → Type 0) → Each is_solid P → AllEnd P
+end-each P each u is = ends-solid u (each u is)
+
+-- and repetitions of texts that do
+pub end-many : (P : List ℕ → Type 0) → AllEnd P → AllEnd (Many P)
+end-many P ends u many = subst EndsSolid (sym many.2) (go many.0 many.1)
+  where
+    go : (us : List (List ℕ)) → AllByRecursion P us → EndsSolid (concat us)
+    go [] all = tt
+    go (p ∷ us) all = ends-both p (concat us) (ends p all.0) (go us all.1)
+
+-- seams
+pub seam-left : (P Q : List ℕ → Type 0) → AllEnd P → Seam P Q
+seam-left P Q ends p q is_p is_q = inl (ends p is_p)
+
+-- where the second opens solid, the seam holds
+pub seam-right : (P Q : List ℕ → Type 0) → ((u : List ℕ) → Q u → OpensSolid u) → Seam P Q
+seam-right P Q opens p q is_p is_q = inr (opens q is_q)
+
+-- a set that begins with one that is not empty begins as that one
+pub opens-then : (P Q : List ℕ → Type 0) → AllOpen P → (u : List ℕ) → (P then Q) u → OpensSolid u
+opens-then P Q opens u both = subst OpensSolid (sym both.4) (opens both.0 both.1 both.2)

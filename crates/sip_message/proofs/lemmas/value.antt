@@ -1,0 +1,5 @@
+pub mod Trimmed
+pub mod Number
+pub mod CSeq
+pub mod CallId
+pub mod Other

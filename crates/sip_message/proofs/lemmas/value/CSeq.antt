@@ -1,0 +1,89 @@
+-- A CSeq is read by its digits, its blanks and its method, in one way.
+use Rattle.std.proofs.Common.{◌≡◌, ℕ, true, false, List, [], ◌∷◌, ◌++◌, refl, sym, ap, ◌∙◌, subst, inr, ◌<◌, ◌≤◌, length, take, drop, arith}
+use Rattle.std.specs.Char.{is_ascii_digit}
+use Rattle.std.specs.Str.Parse.{digits_value}
+use Rattle.sip_text.specs.Text.{Exactly, ◌then◌, IsLongestFront}
+use Rattle.sip_text.specs.Grammar.{Blanks, Token}
+use Rattle.std.proofs.lemmas.List.{append-nil, take-append-drop, length-take-le}
+use Rattle.sip_message.specs.Unfold.{is_blank}
+use Rattle.sip_message.specs.Values.{Digits, CSeqText}
+use Rattle.sip_message.specs.inner.Fronts.{Stops, StopsBlank, Behind, BlanksFront}
+use Rattle.sip_message.specs.Reading.{CSeqValue}
+use Rattle.sip_message.proofs.lemmas.text.Cuts.{same_front}
+use Rattle.sip_message.proofs.lemmas.text.Each.{Each, each-one, each-then, each-many, blank_is}
+use Rattle.sip_message.proofs.lemmas.via.Transport.{Fails, fail-then, fail-blanks}
+use Rattle.sip_message.proofs.lemmas.via.Protocol.{token-stops}
+use Rattle.sip_message.proofs.lemmas.front.Cuts.{same-behind, no-blanks, longest-blanks_front}
+use Rattle.std.specs.List.{prefix_len}
+use Rattle.sip_message.proofs.lemmas.params.Closed.{some-run}
+use Rattle.sip_message.proofs.lemmas.front.Prefix.{prefix-at, all-some}
+
+each-digits : Each is_ascii_digit Digits
+each-digits = each-then is_ascii_digit _ _ (each-one is_ascii_digit is_ascii_digit (λ b is. is)) (each-many is_ascii_digit _ (each-one is_ascii_digit is_ascii_digit (λ b is. is)))
+
+blank-digit : (b : ℕ) → is_blank b ≡ true → is_ascii_digit b ≡ false
+blank-digit = blank_is (λ b. is_ascii_digit b ≡ false) refl refl refl refl
+
+fails_stops : (u : List ℕ) → Fails is_ascii_digit u → Stops is_ascii_digit u
+fails_stops [] fails = absurd fails
+fails_stops (b ∷ u) fails = fails
+
+-- behind the digits stands no digit
+digits-stop : (method v : List ℕ) → (Blanks then Exactly method) v → Stops is_ascii_digit v
+digits-stop method v is = fails_stops v (fail-then is_ascii_digit Blanks (Exactly method) (fail-blanks is_ascii_digit blank-digit) v is)
+
+-- what stands behind the digits
+method-behind : (text v : List ℕ) (number : ℕ) (method : List ℕ) (c : CSeqText text number method) → (Blanks then Exactly method) v → Behind v method
+method-behind text v number method c is = (subst StopsBlank (append-nil method) (token-stops method [] c.is_method), (is.0, is.1, inr is.2, is.3, is.4))
+
+-- a CSeq has one number and one method
+pub same-cseq : (text : List ℕ) (a b : ℕ × List ℕ) → CSeqValue text a → CSeqValue text b → a ≡ b
+same-cseq text (m, s) (n, t) a b =
+    let split = same_front is_ascii_digit a.digits a.whole.1 b.digits b.whole.1 (each-digits a.digits a.are_digits) (each-digits b.digits b.are_digits)
+    (digits-stop s a.whole.1 a.whole.3) (digits-stop t b.whole.1 b.whole.3)
+    (ap (λ x. x ++ a.whole.1) (sym a.whole.2) ∙ sym a.whole.4 ∙ b.whole.4 ∙ ap (λ x. x ++ b.whole.1) b.whole.2) in
+    let method : s ≡ t = same-behind b.whole.1 s t (subst (λ v. Behind v s) split.1 (method-behind text a.whole.1 m s a a.whole.3)) (method-behind text b.whole.1 n t b b.whole.3) in
+    let number : m ≡ n = a.number_is ∙ ap (digits_value 10) split.0 ∙ sym b.number_is in
+    cc
+
+-- the digits of a CSeq are the longest front of digits, and behind its blanks stands the method
+cseq-parts : (text rest : List ℕ) (n : ℕ) → n ≡ prefix_len is_ascii_digit text → rest ≡ drop n text → (x : ℕ × List ℕ) (c : CSeqText text x.0 x.1) → (c.digits ≡ take n text) × BlanksFront rest (x.1)
+cseq-parts text rest n n_is rest_is x c =
+    let cut = prefix-at is_ascii_digit text n n_is in
+    let same = same_front is_ascii_digit c.digits c.whole.1 (take n text) (drop n text) (each-digits c.digits c.are_digits) cut.0
+    (digits-stop (x.1) c.whole.1 c.whole.3) cut.1
+    (ap (λ t. t ++ c.whole.1) (sym c.whole.2) ∙ sym c.whole.4 ∙ sym (take-append-drop n text)) in
+    (same.0, (subst StopsBlank (append-nil (x.1)) (token-stops (x.1) [] c.is_method), subst (Blanks then Exactly (x.1)) (same.1 ∙ sym rest_is) c.whole.3))
+
+-- too large a number
+pub cseq-large : (text : List ℕ) (n : ℕ) → n ≡ prefix_len is_ascii_digit text → (Digits (take n text) → 2147483647 < digits_value 10 (take n text)) → (x : ℕ × List ℕ) → CSeqValue text x → ⊥
+cseq-large text n n_is large x c =
+    let parts = cseq-parts text (drop n text) n n_is refl x c in
+    let above = large (subst Digits parts.0 c.are_digits) in
+    absurd (omega (arith, above, c.low, c.number_is, ap (digits_value 10) parts.0))
+
+-- no digit
+pub cseq-no_digit : (text : List ℕ) (n : ℕ) → n ≡ prefix_len is_ascii_digit text → n ≡ 0 → (x : ℕ × List ℕ) → CSeqValue text x → ⊥
+cseq-no_digit text n n_is none x c =
+    some-run is_ascii_digit c.digits c.are_digits ((cseq-parts text (drop n text) n n_is refl x c).0 ∙ ap (λ m. take m text) none)
+
+-- no blank
+pub cseq-no_blank : (text rest : List ℕ) (n b : ℕ) → n ≡ prefix_len is_ascii_digit text → rest ≡ drop n text → IsLongestFront Blanks rest b → b ≡ 0 → (x : ℕ × List ℕ) → CSeqValue text x → ⊥
+cseq-no_blank text rest n b n_is rest_is longest none x c =
+    no-blanks rest (subst (IsLongestFront Blanks rest) none longest) (x.1) (cseq-parts text rest n n_is rest_is x c).1
+
+-- the method is what stands behind the blanks
+pub cseq-method : (text rest method : List ℕ) (n b : ℕ) → n ≡ prefix_len is_ascii_digit text → rest ≡ drop n text → method ≡ drop b rest → IsLongestFront Blanks rest b → (b ≡ 0 → ⊥) → (x : ℕ × List ℕ) → CSeqValue text x → Token method
+cseq-method text rest method n b n_is rest_is method_is longest some x c =
+    subst Token ((longest-blanks_front rest b longest some).1 (x.1) (cseq-parts text rest n n_is rest_is x c).1 ∙ sym method_is) c.is_method
+
+-- the parts are a CSeq
+pub cseq-is : (text rest method : List ℕ) (n b number : ℕ) → n ≡ prefix_len is_ascii_digit text → n ≤ length text → rest ≡ drop n text → method ≡ drop b rest → (n ≡ 0 → ⊥) → IsLongestFront Blanks rest b → (b ≡ 0 → ⊥) → Token method → number ≡ digits_value 10 (take n text) → number ≤ 2147483647 → CSeqText text number method
+cseq-is text rest method n b number n_is within rest_is method_is some longest blanks token number_is small = record {
+  digits = take n text;
+  are_digits = all-some is_ascii_digit (take n text) (prefix-at is_ascii_digit text n n_is).0 (λ none. some (omega (arith, ap length none, length-take-le n text within)));
+  number_is = number_is;
+  low = omega (arith, small);
+  is_method = token;
+  whole = (take n text, rest, refl, subst (λ m. (Blanks then Exactly m) rest) (sym method_is) (longest-blanks_front rest b longest blanks).0.1, sym (take-append-drop n text) ∙ ap (λ t. take n text ++ t) (sym rest_is));
+}

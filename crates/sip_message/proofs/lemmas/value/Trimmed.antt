@@ -1,0 +1,162 @@
+-- A value is cut off its blanks at both ends.
+use Rattle.std.proofs.Common.{◌≡◌, ℕ, zero, suc, ◌-◌, ◌<◌, ◌≤◌, Bool, true, false, not, ◌&&◌, nat_lt, nat_eq, List, [], ◌∷◌, ◌++◌, Option, Some, None, is_some, length, take, drop, get_or, refl, sym, ap, ◌∙◌, subst, inl, inr, arith}
+use Rattle.std.specs.Bool.{Decides}
+use Rattle.std.specs.List.{prefix_len}
+use Rattle.std.proofs.lemmas.Bool.{both_ways, and_parts, not-true, eqb-true, eq-eqb}
+use Rattle.std.proofs.lemmas.List.{append-nil, append_cancel_left, take-append-drop}
+use Rattle.sip_text.specs.Bytes.{space}
+use Rattle.sip_text.specs.Text.{Many, IsLongestFront, IsOnlyValue}
+use Rattle.sip_text.specs.Grammar.{Blanks, Sws}
+use Rattle.sip_text.specs.Blanks.{Blank}
+use Rattle.sip_text.proofs.ManyLemmas.{many-nil, many-one, many-append, front-whole}
+use Rattle.sip_text.proofs.BlanksLemmas.{units-blanks, blanks-units}
+use Rattle.sip_message.specs.Unfold.{is_blank, OpensSolid, EndsSolid}
+use Rattle.sip_message.specs.Field.{ValueText}
+use Rattle.sip_message.specs.inner.ValueFronts.{is_solid}
+use Rattle.sip_message.proofs.lemmas.text.Cuts.{All, Stops, all_both, all_right, same_front}
+use Rattle.sip_message.proofs.lemmas.text.Each.{each-sws}
+use Rattle.sip_message.proofs.lemmas.field.OneWay.{same_solid}
+use Rattle.sip_message.proofs.lemmas.text.Closed.{blank_opens}
+use Rattle.sip_message.proofs.lemmas.front.Prefix.{prefix-at}
+
+-- a text of no bytes
+pub length-none : (u : List ℕ) → length u ≡ 0 → u ≡ []
+length-none [] none = refl
+length-none (b ∷ u) none = absurd (omega (arith, none))
+
+-- a text is a blank run, or empty, exactly if the longest at its front is all of it
+pub sws-whole : (text : List ℕ) (n : ℕ) → n ≤ length text → IsLongestFront Blanks text n → Decides (nat_eq n (length text)) (Sws text)
+sws-whole text n within longest = (
+  λ same. elim longest.front [
+    | inl none ↦ inl (length-none text (sym (eqb-true n (length text) same) ∙ none))
+    | inr front ↦ inr (front-whole Blanks text n front (eqb-true n (length text) same))
+  ],
+  λ sws. elim sws [
+    | inl none ↦ eq-eqb n (length text) (omega (arith, within, ap length none))
+    | inr blanks ↦
+        let low = longest.longest (length text) (text, [], blanks, sym (append-nil text), refl) in
+        eq-eqb n (length text) (omega (arith, low, within))
+  ],
+)
+
+-- blanks behind blanks
+sws-append : (u v : List ℕ) → Sws u → Sws v → Sws (u ++ v)
+sws-append u v left right = blanks-units (u ++ v) (many-append Blank u v (many u left) (many v right))
+  where
+    many : (t : List ℕ) → Sws t → Many Blank t
+    many t (inl none) = subst (Many Blank) (sym none) (many-nil Blank)
+    many t (inr blanks) = units-blanks t blanks
+
+-- what passes from an index on
+all-from : (test : ℕ → Bool) (text : List ℕ) (n : ℕ) → ((k : ℕ) → n ≤ k → k < length text → test (get_or text k 0) ≡ true) → All test (drop n text)
+all-from test [] zero each = tt
+all-from test [] (suc n) each = tt
+all-from test (b ∷ text) zero each =
+    (each 0 (omega arith) (omega arith), all-from test text zero (λ k low high. each (suc k) (omega arith) (omega (arith, high))))
+all-from test (b ∷ text) (suc n) each = all-from test text n (λ k low high. each (suc k) (omega (arith, low)) (omega (arith, high)))
+
+-- a text up to a solid byte ends solid
+ends-take : (text : List ℕ) (n : ℕ) → n ≤ length text → ((k : ℕ) → n ≡ suc k → is_blank (get_or text k 0) ≡ false) → EndsSolid (take n text)
+ends-take text zero within solid = tt
+ends-take [] (suc n) within solid = absurd (omega (arith, within))
+ends-take (b ∷ text) (suc zero) within solid = solid zero refl
+ends-take (b ∷ []) (suc (suc n)) within solid = absurd (omega (arith, within))
+ends-take (b ∷ c ∷ text) (suc (suc n)) within solid =
+    ends-take (c ∷ text) (suc n) (omega (arith, within)) (λ k is. solid (suc k) (ap suc is))
+
+stops-opens : (u : List ℕ) → Stops is_blank u → OpensSolid u
+stops-opens [] stops = tt
+stops-opens (b ∷ u) stops = stops
+
+opens-take : (u : List ℕ) (n : ℕ) → Stops is_blank u → OpensSolid (take n u)
+opens-take u zero stops = tt
+opens-take [] (suc n) stops = tt
+opens-take (b ∷ u) (suc n) stops = stops
+
+-- a text in three: blank bytes, what neither begins nor ends with one, and blank bytes
+pub record IsTrimmed (text front value back : List ℕ) : Type 0 where
+  pub blanks : All is_blank front
+  pub stops : Stops is_blank (value ++ back)
+  pub opens : OpensSolid value
+  pub ends : EndsSolid value
+  pub spaces : All is_blank back
+  pub whole : text ≡ front ++ (value ++ back)
+
+-- as the reader cuts it
+pub trimmed : (text rest : List ℕ) (n e : ℕ) → n ≡ prefix_len is_blank text → rest ≡ drop n text → e ≤ length rest → ((k : ℕ) → e ≤ k → k < length rest → is_blank (get_or rest k 0) ≡ true) → (0 < e → is_blank (get_or rest (e - 1) 0) ≡ false) → IsTrimmed text (take n text) (take e rest) (drop e rest)
+trimmed text rest n e n_is rest_is within blank solid =
+    let cut = prefix-at is_blank text n n_is in
+    let stops : Stops is_blank rest = subst (Stops is_blank) (sym rest_is) cut.1 in
+    let again : take e rest ++ drop e rest ≡ rest = take-append-drop e rest in
+    record {
+      blanks = cut.0;
+      stops = subst (Stops is_blank) (sym again) stops;
+      opens = opens-take rest e stops;
+      ends = ends-take rest e within (λ k is. subst (λ i. is_blank (get_or rest i 0) ≡ false) (omega (arith, is)) (solid (omega (arith, is))));
+      spaces = all-from is_blank rest e blank;
+      whole = sym (take-append-drop n text) ∙ ap (λ t. take n text ++ t) (sym rest_is ∙ sym again);
+    }
+
+-- with blank runs at its ends it is the value
+pub trimmed-value : (text front value back : List ℕ) → IsTrimmed text front value back → Sws front → Sws back → ValueText text value
+trimmed-value text front value back is left right =
+    record { opens = is.opens; ends = is.ends; whole = (front, value ++ back, left, (value, back, refl, right, refl), is.whole) }
+
+-- and any value has blank runs at its ends
+pub value-trimmed : (text front value back w : List ℕ) → IsTrimmed text front value back → ValueText text w → Sws front × Sws back
+value-trimmed text front value back w is of = at w of.opens of.ends (of.whole.4 ∙ ap (λ t. of.whole.0 ++ t) (of.whole.3.4 ∙ ap (λ t. t ++ b) of.whole.3.2))
+  where
+    a : List ℕ
+    a = of.whole.0
+
+    b : List ℕ
+    b = of.whole.3.1
+
+    at : (v : List ℕ) → OpensSolid v → EndsSolid v → text ≡ a ++ (v ++ b) → Sws front × Sws back
+    at [] opens ends whole =
+        let same : front ++ (value ++ back) ≡ a ++ b = sym is.whole ∙ whole in
+        let all : All is_blank (front ++ (value ++ back)) = subst (All is_blank) (sym same) (all_both is_blank a b (each-sws a of.whole.2) (each-sws b of.whole.3.3)) in
+        let none : value ++ back ≡ [] = blank_opens (value ++ back) (stops-opens (value ++ back) is.stops) (all_right is_blank front (value ++ back) all) in
+        let no_back : back ≡ [] = length-none back (right value back none) in (
+          subst Sws (sym same ∙ ap (λ t. front ++ t) none ∙ append-nil front) (sws-append a b of.whole.2 of.whole.3.3),
+          inl no_back,
+        )
+      where
+        right : (u v : List ℕ) → u ++ v ≡ [] → length v ≡ 0
+        right [] v e = ap length e
+        right (c ∷ u) v e = absurd (omega (arith, ap length e))
+    at (c ∷ v) opens ends whole =
+        let cut = same_front is_blank front (value ++ back) a ((c ∷ v) ++ b) is.blanks (each-sws a of.whole.2) is.stops opens (sym is.whole ∙ whole) in
+        let values : value ≡ c ∷ v = same_solid value back (c ∷ v) b is.ends ends is.spaces (each-sws b of.whole.3.3) cut.1 in
+        let backs : back ≡ b = append_cancel_left (c ∷ v) back b (ap (λ t. t ++ back) (sym values) ∙ cut.1) in
+        (subst Sws (sym cut.0) of.whole.2, subst Sws (sym backs) of.whole.3.3)
+
+-- what is read tells whether there is one
+pub read-decides : {A X : Type 0} (R : List ℕ → X → Type 0) (parts : A → X) (text : List ℕ) (r : Option A) (b : Bool) → IsOnlyValue R parts text r → b ≡ is_some r → Decides b ((x : X) × R text x)
+read-decides R parts text None b none is = (λ yes_b. absurd (both_ways b is yes_b), λ x. absurd (none x.0 x.1))
+read-decides R parts text (Some a) b only is = (λ _. (parts a, only.0), λ _. is)
+
+-- a last byte that is solid
+ends-solid : (b : ℕ) (u : List ℕ) → is_blank (get_or (b ∷ u) (length u) 0) ≡ false → EndsSolid (b ∷ u)
+ends-solid b [] solid = solid
+ends-solid b (c ∷ u) solid = ends-solid c u solid
+
+-- a value behind one SP
+pub one-space : (value : List ℕ) → is_solid value ≡ true → ValueText (space ∷ value) value
+one-space [] solid = absurd (both_ways false refl solid)
+one-space (b ∷ value) solid =
+    let last : ℕ = length (b ∷ value) - 1 in
+    let both = and_parts (nat_lt 0 (length (b ∷ value)) && not (is_blank b)) (not (is_blank (get_or (b ∷ value) last 0))) solid in
+    let opens : is_blank b ≡ false = not-true (is_blank b) (and_parts (nat_lt 0 (length (b ∷ value))) (not (is_blank b)) (both.0)).1 in
+    let end : last ≡ length value = omega arith in
+    record {
+      opens = opens;
+      ends = ends-solid b value (subst (λ i. is_blank (get_or (b ∷ value) i 0) ≡ false) end (not-true _ (both.1)));
+      whole = (
+        space ∷ [],
+        b ∷ value,
+        blanks-units (space ∷ []) (many-one Blank (space ∷ []) ([], space ∷ [], inl refl, (space, refl, refl), refl)),
+        (b ∷ value, [], refl, inl refl, sym (append-nil (b ∷ value))),
+        refl,
+      );
+    }

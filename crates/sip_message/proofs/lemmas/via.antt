@@ -1,0 +1,7 @@
+pub mod Transport
+pub mod Closed
+pub mod Steps
+pub mod Protocol
+pub mod Host
+pub mod Value
+pub mod Elements

@@ -1,0 +1,239 @@
+-- Via values stay what they are when a run of blanks in them is unfolded, with the same top transport.
+use Rattle.std.proofs.Common.{◌≡◌, ℕ, ◌≤◌, Bool, true, false, List, [], ◌∷◌, ◌++◌, length, Option, Some, None, refl, sym, ap, ◌∙◌, subst, inl, inr, arith}
+use Rattle.std.specs.Bool.{Decides}
+use Rattle.std.specs.Prelude.{IfSome, codes, bytes_eq}
+use Rattle.std.specs.List.{AllByRecursion, concat}
+use Rattle.std.proofs.lemmas.Bool.{both_ways}
+use Rattle.std.proofs.lemmas.Slice.Eq.{bytes_eq-Decides}
+use Rattle.std.proofs.lemmas.List.{append_assoc, length-append}
+use Rattle.sip_text.specs.Bytes.{colon, dquote, is_token_byte}
+use Rattle.sip_text.specs.Text.{Byte, Exactly, ◌then◌, Many}
+use Rattle.sip_text.specs.Case.{SameText, folded}
+use Rattle.sip_text.specs.Grammar.{Token, Blanks}
+use Rattle.sip_text.specs.Host.{HostParts, HostText, host_text, name, v4, v6, DecimalGroup, TopLabel}
+use Rattle.sip_text.specs.Uri.{Port}
+use Rattle.sip_text.proofs.ManyLemmas.{many-nil, many-cons}
+use Rattle.sip_message.specs.Unfold.{OpensSolid, EndsSolid, unfolded}
+use Rattle.sip_message.specs.Params.{slash, comma, Mark, Quoted}
+use Rattle.sip_message.specs.Via.{ViaParts, IsBranch, ColonPort, ViaText, MoreVias}
+use Rattle.sip_message.specs.Message.{TopTransport}
+use Rattle.sip_message.proofs.lemmas.text.Cuts.{All}
+use Rattle.sip_message.proofs.lemmas.text.Each.{Each, is_solid}
+use Rattle.sip_message.proofs.lemmas.field.OneWay.{each-token}
+use Rattle.sip_message.proofs.lemmas.text.Solid.{solid-token, solid-host, solid-port}
+use Rattle.sip_message.proofs.lemmas.text.Closed.{Closed, closed-solid, closed-then, closed-many, closed-unfolded}
+use Rattle.sip_message.proofs.lemmas.text.Ends.{Firm, AllFirm, AllEnd, firm-then_right, firm-then_left, end-then, end-firm, end-each, opens-solid, seam-left, seam-right, opens-then}
+use Rattle.sip_message.proofs.lemmas.params.Closed.{closed-blanks, closed-mark, firm-solid, open-solid, open-token, some-between, some-left, some-run, IsDemand, ParamsSet, AllOk, closed-params, end-params, tail-set, set-tail}
+
+-- a parameter named branch has a token for value
+abbrev pub BranchOk : List ℕ → Option (List ℕ) → Type 0
+BranchOk n value = SameText n (codes "branch") → (v : List ℕ) × Token v × (value ≡ Some v)
+
+-- no quoted string is a token
+no_token : (u : List ℕ) → Quoted u → Token u → ⊥
+no_token u (d, t, d_is, rest, whole) token =
+    both_ways (is_token_byte dquote) refl (subst (All is_token_byte) (whole ∙ ap (λ x. x ++ t) d_is) (each-token u token)).0
+
+some_is : {x y : List ℕ} → Some x ≡ Some y → x ≡ y
+some_is {x = x} is = ap (value_or x) is
+  where
+    value_or : List ℕ → Option (List ℕ) → List ℕ
+    value_or d None = d
+    value_or d (Some v) = v
+
+branch-demand : IsDemand BranchOk
+branch-demand = record {
+  quoted = λ n value other quoted ok same.
+      let token = ok same in
+      absurd (no_token value quoted (subst Token (sym (some_is token.2)) token.1));
+}
+
+-- parameters with a branch are as asked, and the other way round
+branch-ok : (ps : List (List ℕ × Option (List ℕ))) (branch : Option (List ℕ)) → IsBranch ps branch → AllOk BranchOk ps
+branch-ok [] branch is = tt
+branch-ok ((n, value) ∷ ps) branch (inl (same, v, token, value_is, branch_is, later, more)) = ((λ _. (v, token, value_is)), branch-ok ps later more)
+branch-ok ((n, value) ∷ ps) branch (inr (differs, more)) = ((λ same. absurd (differs same)), branch-ok ps branch more)
+
+ok-branch : (ps : List (List ℕ × Option (List ℕ))) → AllOk BranchOk ps → (branch : Option (List ℕ)) × IsBranch ps branch
+ok-branch [] all = (None, refl)
+ok-branch ((n, value) ∷ ps) all = at (ok-branch ps all.1) (bytes_eq (folded n) (folded (codes "branch"))) (bytes_eq-Decides (folded n) (folded (codes "branch")))
+  where
+    at : ((branch : Option (List ℕ)) × IsBranch ps branch) → (same : Bool) → Decides same (SameText n (codes "branch")) → (branch : Option (List ℕ)) × IsBranch ((n, value) ∷ ps) branch
+    at more true is = let v = all.0 (is.0 refl) in (Some v.0, inl (is.0 refl, v.0, v.1, v.2, refl, more.0, more.1))
+    at more false is = (more.0, inr ((λ same. both_ways false refl (is.1 same)), more.1))
+
+-- a host is not empty
+some-host : (t : List ℕ) (h : HostParts) → HostText t h → t ≡ [] → ⊥
+some-host t (name x) is none = absurd (omega (arith, ap length none, ap length is.0.4, length-append is.0.0 is.0.1, ap length is.0.3.4, length-append is.0.3.0 is.0.3.1, label is.0.3.0 is.0.3.2))
+  where
+    label : (u : List ℕ) → TopLabel u → 1 ≤ length u
+    label u (inl one) = omega (arith, ap length one.2)
+    label u (inr both) = omega (arith, ap length both.4, length-append both.0 both.1, ap length both.2.2)
+some-host t (v4 x) is none = some-left DecimalGroup _ (λ u group. some-between _ 1 3 u (omega arith) group) t is.0 none
+some-host t (v6 x) is none = some-left (Byte 91) _ (λ u byte empty. absurd (omega (arith, ap length byte, ap length empty))) t is.0 none
+
+-- the parts as sets: a host, a port with its colon, the parameters
+abbrev HostSet : List ℕ → Type 0
+HostSet text = (h : HostParts) × HostText (host_text h) h × (text ≡ host_text h)
+
+abbrev PortSet : List ℕ → Type 0
+PortSet text = (port : Option (List ℕ)) × IfSome port Port × ColonPort port text
+
+abbrev AfterTransport : List ℕ → Type 0
+AfterTransport = Blanks then (HostSet then (PortSet then ParamsSet BranchOk))
+
+-- an element with this transport
+abbrev ViaSet : (List ℕ → Type 0) → List ℕ → Type 0
+ViaSet Transport = Token then (Mark slash then (Token then (Mark slash then (Transport then AfterTransport))))
+
+solid-host_set : Each is_solid HostSet
+solid-host_set u is = subst (All is_solid) (sym is.2) (solid-host (host_text is.0) is.0 is.1)
+
+some-host_set : (u : List ℕ) → HostSet u → u ≡ [] → ⊥
+some-host_set u is none = some-host (host_text is.0) is.0 is.1 (sym is.2 ∙ none)
+
+-- a port ends solid
+end-port : AllEnd PortSet
+end-port u (None, fits, is) = subst EndsSolid (sym is) tt
+end-port u (Some port, fits, (m, t, mark, t_is, whole)) =
+    end-firm (Mark colon then Exactly port) (firm-then_right (Mark colon) (Exactly port) (λ x is. subst Firm (sym is) (firm-solid Port solid-port (λ y p. some-between _ 1 5 y (omega arith) p.0) port fits)))
+    u (m, t, mark, t_is, whole)
+
+closed-port : Closed PortSet
+closed-port u v b w ends opens blanks (None, fits, is) =
+    (None, fits, closed-solid (Exactly []) (λ t same. subst (All is_solid) (sym same) tt) u v b w ends opens blanks is)
+closed-port u v b w ends opens blanks (Some port, fits, is) =
+    (Some port, fits, closed-then (Mark colon) (Exactly port) (seam-right (Mark colon) (Exactly port) (λ t same. subst OpensSolid (sym same) (opens-solid port (solid-port port fits)))) (closed-mark colon refl) (closed-solid (Exactly port) (λ t same. subst (All is_solid) (sym same) (solid-port port fits))) u v b w ends opens blanks is)
+
+-- what follows the transport
+closed-after : Closed AfterTransport
+closed-after =
+    closed-then Blanks (HostSet then (PortSet then ParamsSet BranchOk)) (seam-right Blanks (HostSet then (PortSet then ParamsSet BranchOk)) (opens-then HostSet (PortSet then ParamsSet BranchOk) (open-solid HostSet solid-host_set some-host_set)))
+    closed-blanks
+    (closed-then HostSet (PortSet then ParamsSet BranchOk) (seam-left HostSet (PortSet then ParamsSet BranchOk) (end-each HostSet solid-host_set)) (closed-solid HostSet solid-host_set)
+    (closed-then PortSet (ParamsSet BranchOk) (seam-left PortSet (ParamsSet BranchOk) end-port) closed-port (closed-params BranchOk branch-demand)))
+
+firm-after : AllFirm AfterTransport
+firm-after =
+    firm-then_right Blanks (HostSet then (PortSet then ParamsSet BranchOk))
+    (firm-then_left HostSet (PortSet then ParamsSet BranchOk) (firm-solid HostSet solid-host_set some-host_set)
+    (end-then PortSet (ParamsSet BranchOk) end-port (end-params BranchOk)))
+
+-- a token, SLASH, and what begins with a token
+closed-slash : (Q : List ℕ → Type 0) → ((u : List ℕ) → Q u → OpensSolid u) → Closed Q → Closed (Token then (Mark slash then Q))
+closed-slash Q opens closed =
+    closed-then Token (Mark slash then Q) (seam-left Token (Mark slash then Q) (end-each Token solid-token)) (closed-solid Token solid-token)
+    (closed-then (Mark slash) Q (seam-right (Mark slash) Q opens) (closed-mark slash refl) closed)
+
+closed-via_set : (T : List ℕ → Type 0) → Each is_solid T → ((u : List ℕ) → T u → u ≡ [] → ⊥) → Closed (ViaSet T)
+closed-via_set T solid some =
+    closed-slash (Token then (Mark slash then (T then AfterTransport))) (opens-then Token (Mark slash then (T then AfterTransport)) open-token)
+    (closed-slash (T then AfterTransport) (opens-then T AfterTransport (open-solid T solid some))
+    (closed-then T AfterTransport (seam-left T AfterTransport (end-each T solid)) (closed-solid T solid) closed-after))
+
+firm-via_set : (T : List ℕ → Type 0) → AllFirm (ViaSet T)
+firm-via_set T =
+    firm-then_right Token _ (firm-then_right (Mark slash) _ (firm-then_right Token _ (firm-then_right (Mark slash) _ (firm-then_right T AfterTransport firm-after))))
+
+-- an element with its parts is one of the set
+via-set : (T : List ℕ → Type 0) (text : List ℕ) (v : ViaParts) → T v.transport → ViaText text v → ViaSet T text
+via-set T text v t (fits, (a, w1, a_is, (s, w2, slash1, (b, w3, b_is, (r, w4, slash2, (c, w5, c_is, (sp, w6, blanks, (h, w7, h_is, (p, q, port, params, w7_is), w6_is), w5_is), w4_is), w3_is), w2_is), w1_is), whole)) = (
+  a,
+  w1,
+  subst Token (sym a_is) fits.protocol,
+  (
+    s,
+    w2,
+    slash1,
+    (
+      b,
+      w3,
+      subst Token (sym b_is) fits.version,
+      (
+        r,
+        w4,
+        slash2,
+        (
+          c,
+          w5,
+          subst T (sym c_is) t,
+          (
+            sp,
+            w6,
+            blanks,
+            (
+              h,
+              w7,
+              (v.host, fits.host, h_is),
+              (
+                p,
+                q,
+                (v.port, fits.port, port),
+                tail-set BranchOk q (v.params, fits.params.0, fits.params.1, branch-ok fits.params.0 v.branch fits.params.2, params),
+                w7_is,
+              ),
+              w6_is,
+            ),
+            w5_is,
+          ),
+          w4_is,
+        ),
+        w3_is,
+      ),
+      w2_is,
+    ),
+    w1_is,
+  ),
+  whole,
+)
+
+-- a text of the set has parts, with a transport of T
+set-via : (T : List ℕ → Type 0) (text : List ℕ) → ((u : List ℕ) → T u → Token u) → ViaSet T text → (v : ViaParts) × ViaText text v × T v.transport
+set-via T text token (a, w1, a_is, (s, w2, slash1, (b, w3, b_is, (r, w4, slash2, (c, w5, c_is, (sp, w6, blanks, (h, w7, (host, host_fits, h_is), (p, q, (port, port_fits, port_is), params, w7_is), w6_is), w5_is), w4_is), w3_is), w2_is), w1_is), whole) =
+    let tail = set-tail BranchOk q params in
+    let branch = ok-branch tail.1 tail.3 in
+    let v : ViaParts = record { protocol = a; version = b; transport = c; host = host; port = port; params = tail.0; branch = branch.0 } in (
+      v,
+      (
+        record { protocol = a_is; version = b_is; transport = token c c_is; host = host_fits; port = port_fits; params = (tail.1, tail.2, branch.1) },
+        (a, w1, refl, (s, w2, slash1, (b, w3, refl, (r, w4, slash2, (c, w5, refl, (sp, w6, blanks, (h, w7, h_is, (p, q, port_is, tail.4, w7_is), w6_is), w5_is), w4_is), w3_is), w2_is), w1_is), whole),
+      ),
+      c_is,
+    )
+
+-- elements behind commas
+more-set : (vs : List ViaParts) (text : List ℕ) → MoreVias vs text → Many (Mark comma then ViaSet Token) text
+more-set [] text is = subst (Many (Mark comma then ViaSet Token)) (sym is) (many-nil (Mark comma then ViaSet Token))
+more-set (v ∷ vs) text (m, t, mark, (x, y, via, more, t_is), whole) =
+    subst (Many (Mark comma then ViaSet Token)) (sym (whole ∙ ap (λ z. m ++ z) t_is ∙ sym (append_assoc m x y)))
+    (many-cons (Mark comma then ViaSet Token) (m ++ x) y (m, x, mark, via-set Token x v via.0.transport via, refl) (more-set vs y more))
+
+set-more : (us : List (List ℕ)) → AllByRecursion (Mark comma then ViaSet Token) us → (vs : List ViaParts) × MoreVias vs (concat us)
+set-more [] all = ([], refl)
+set-more (u ∷ us) ((m, x, mark, via, u_is), all) =
+    let more = set-more us all in
+    let v = set-via Token x (λ t is. is) via in
+    (v.0 ∷ more.0, (m, x ++ concat us, mark, (x, concat us, v.1, more.1, refl), ap (λ z. z ++ concat us) u_is ∙ append_assoc m x (concat us)))
+
+-- elements whose first has this transport
+abbrev ViasSet : (List ℕ → Type 0) → List ℕ → Type 0
+ViasSet T = ViaSet T then Many (Mark comma then ViaSet Token)
+
+closed-vias_set : (T : List ℕ → Type 0) → Each is_solid T → ((u : List ℕ) → T u → u ≡ [] → ⊥) → Closed (ViasSet T)
+closed-vias_set T solid some =
+    closed-then (ViaSet T) (Many (Mark comma then ViaSet Token)) (seam-left (ViaSet T) (Many (Mark comma then ViaSet Token)) (end-firm (ViaSet T) (firm-via_set T))) (closed-via_set T solid some)
+    (closed-many (Mark comma then ViaSet Token) (end-firm (Mark comma then ViaSet Token) (firm-then_right (Mark comma) (ViaSet Token) (firm-via_set Token)))
+    (closed-then (Mark comma) (ViaSet Token) (seam-right (Mark comma) (ViaSet Token) (opens-then Token (Mark slash then (Token then (Mark slash then (Token then AfterTransport)))) open-token)) (closed-mark comma refl)
+    (closed-via_set Token solid-token (some-run is_token_byte))))
+
+-- a Via value, unfolded, is one with the same top transport
+pub unfolded-via : (text transport : List ℕ) → TopTransport text transport → TopTransport (unfolded text) transport
+unfolded-via text transport (v, vs, (x, y, via, more, whole), is) =
+    let token : Token transport = subst Token (sym is) via.0.transport in
+    let set : ViasSet (Exactly transport) text = (x, y, via-set (Exactly transport) x v (sym is) via, more-set vs y more, whole) in
+    let after = closed-unfolded (ViasSet (Exactly transport)) (closed-vias_set (Exactly transport)
+    (λ u same. subst (All is_solid) (sym same) (solid-token transport token))
+    (λ u same none. some-run is_token_byte transport token (sym same ∙ none))) text set in
+    let first = set-via (Exactly transport) after.0 (λ u same. subst Token (sym same) token) after.2 in
+    let others = set-more after.3.0 after.3.1 in
+    (first.0, others.0, (after.0, after.1, first.1, subst (MoreVias others.0) (sym after.3.2) others.1, after.4), sym first.2)

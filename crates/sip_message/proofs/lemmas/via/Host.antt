@@ -1,0 +1,162 @@
+-- The host and the port of sent-by, at the front of a text.
+use Rattle.std.proofs.Common.{◌≡◌, ℕ, Bool, true, false, nat_eq, ◌||◌, List, [], ◌∷◌, ◌++◌, Option, Some, None, length, slice_index, refl, sym, ap, ◌∙◌, subst, inl, inr, arith}
+use Rattle.std.specs.Prelude.{IfSome}
+use Rattle.std.specs.Char.{is_ascii_digit}
+use Rattle.std.proofs.lemmas.Bool.{both_ways, or_cases, or_right, eqb-true}
+use Rattle.std.proofs.lemmas.List.{append_assoc}
+use Rattle.sip_text.specs.Bytes.{colon, left_bracket, right_bracket, is_token_byte}
+use Rattle.sip_text.specs.Text.{One, Many, IsOnlyValue}
+use Rattle.sip_text.specs.Grammar.{Token}
+use Rattle.sip_text.specs.Host.{Hostname, Ipv4Address, HostParts, HostText, host_text, name, v4, v6}
+use Rattle.sip_text.specs.HostTests.{is_v4, is_hostname}
+use Rattle.sip_text.specs.Uri.{Port}
+use Rattle.sip_text.proofs.HostnameLemmas.{hostname-is}
+use Rattle.sip_text.proofs.V4Lemmas.{v4-is}
+use Rattle.sip_text.proofs.ManyLemmas.{many-nil, many-cons}
+use Rattle.sip_text.proofs.UriPortLemmas.{port-length}
+use Rattle.sip_message.specs.Via.{ColonPort}
+use Rattle.sip_message.specs.inner.Fronts.{Stops, StopsBlank, TokenFront, MarkFront, both}
+use Rattle.sip_message.specs.inner.ParamFronts.{BracketFront, LedFront}
+use Rattle.sip_message.specs.inner.ViaFronts.{HostCut, HostFront, PortFront}
+use Rattle.sip_message.proofs.lemmas.text.Cuts.{All}
+use Rattle.sip_message.proofs.lemmas.text.Each.{each-one, each-between}
+use Rattle.sip_message.proofs.lemmas.field.OneWay.{blank-token}
+use Rattle.sip_message.proofs.lemmas.front.Cuts.{ReadAs, NotRead, stops-byte}
+use Rattle.sip_message.proofs.lemmas.via.Protocol.{token-stops}
+use Rattle.sip_message.proofs.lemmas.front.OneWay.{AtMostOne, read-one, one-seq, one-token, one-bracket, token-digit, each-hostname, each-v4, same-host, reference-bracket, bracket-first, token-first, first-fails}
+use Rattle.sip_message.proofs.lemmas.front.Led.{Next, next-stops, next-other}
+use Rattle.sip_message.proofs.lemmas.params.Reading.{is_separator, separator-token}
+
+-- what may be a host is cut in one way
+pub one-host_cut : (text : List ℕ) → AtMostOne (HostCut text)
+one-host_cut text x y (inl a) (inl b) = one-bracket text x y a b
+one-host_cut text x y (inl a) (inr b) = absurd (first-fails is_token_byte (slice_index text 0) left_bracket refl (bracket-first text x a) (token-first text y b))
+one-host_cut text x y (inr a) (inl b) = absurd (first-fails is_token_byte (slice_index text 0) left_bracket refl (bracket-first text y b) (token-first text x a))
+one-host_cut text x y (inr a) (inr b) = one-token text x y a b
+
+-- a host that begins with a bracket is cut behind its close
+pub host-bracket : (text part rest : List ℕ) → ReadAs (BracketFront text) (part, rest) → ReadAs (HostCut text) (part, rest)
+host-bracket text part rest is = read-one (HostCut text) (part, rest) (one-host_cut text) (inl is.0)
+
+-- any other is cut behind its token
+pub host-token : {A : Type 0} (parts : A → List ℕ × List ℕ) (text : List ℕ) (r : Option A) → NotRead (BracketFront text) → IsOnlyValue TokenFront parts text r → IsOnlyValue HostCut parts text r
+host-token parts text None bracket none = at
+  where
+    at : NotRead (HostCut text)
+    at x (inl is) = bracket x is
+    at x (inr is) = none x is
+host-token parts text (Some a) bracket read = read-one (HostCut text) (parts a) (one-host_cut text) (inr read.0)
+
+-- a host with what is left
+pub one-host_last : (part rest : List ℕ) → AtMostOne (λ (x : HostParts × List ℕ). HostText part (x.0) × (x.1 ≡ rest))
+one-host_last part rest (h, r) (k, s) (h_is, r_is) (k_is, s_is) =
+    ap (λ x. (x, r)) (same-host part h k h_is k_is) ∙ ap (λ x. (k, x)) (r_is ∙ sym s_is)
+
+-- the part that was cut is one host
+pub host-last : (part rest : List ℕ) (h : HostParts) → HostText part h → ReadAs (λ (x : HostParts × List ℕ). HostText part (x.0) × (x.1 ≡ rest)) (h, rest)
+host-last part rest h is = read-one (λ (x : HostParts × List ℕ). HostText part (x.0) × (x.1 ≡ rest)) (h, rest) (one-host_last part rest) (is, refl)
+
+-- the host at the front is read in one way
+pub one-host : (text : List ℕ) → AtMostOne (HostFront text)
+one-host text = one-seq (HostCut text) _ (one-host_cut text) (λ cut. one-host_last (cut.0) (cut.1))
+
+-- a port
+pub one-port : (text : List ℕ) → AtMostOne (PortFront text)
+one-port text x y a b = one-token text x y a.1 b.1
+
+-- digits that are a port are it
+pub port-found : (text port rest : List ℕ) → ReadAs (TokenFront text) (port, rest) → Port port → ReadAs (PortFront text) (port, rest)
+port-found text port rest token is = read-one (PortFront text) (port, rest) (one-port text) (is, token.0)
+
+-- a token that is none is no port
+pub port-missing : (text port rest : List ℕ) → ReadAs (TokenFront text) (port, rest) → (Port port → ⊥) → NotRead (PortFront text)
+port-missing text port rest token none x is = none (subst Port (ap (λ y. y.0) (token.1 x is.1)) is.0)
+
+-- bytes of tokens, one or more, are a token
+bytes-token : (u : List ℕ) → All is_token_byte u → (u ≡ [] → ⊥) → Token u
+bytes-token [] all some = absurd (some refl)
+bytes-token (b ∷ u) all some = (b ∷ [], u, (b, all.0, refl), many u all.1, refl)
+  where
+    many : (t : List ℕ) → All is_token_byte t → Many (One is_token_byte) t
+    many [] every = many-nil (One is_token_byte)
+    many (c ∷ t) every = many-cons (One is_token_byte) (c ∷ []) t (c, every.0, refl) (many t every.1)
+
+hostname-token : (u : List ℕ) → Hostname u → Token u
+hostname-token u is = bytes-token u (each-hostname u is) (λ none. both_ways (is_hostname u) (ap is_hostname none) (hostname-is u is))
+
+v4-token : (u : List ℕ) → Ipv4Address u → Token u
+v4-token u is = bytes-token u (each-v4 u is) (λ none. both_ways (is_v4 u) (ap is_v4 none) (v4-is u is))
+
+port-token : (u : List ℕ) → Port u → Token u
+port-token u is =
+    bytes-token u (each-between is_token_byte 1 5 _ (each-one is_token_byte is_ascii_digit token-digit) u is.0)
+    (λ none. omega (arith, ap length none, (port-length u is).0))
+
+-- what may follow a host
+abbrev pub is_after_host : ℕ → Bool
+is_after_host b = nat_eq b colon || is_separator b
+
+after-token : (b : ℕ) → is_after_host b ≡ true → is_token_byte b ≡ false
+after-token b is = elim (or_cases (nat_eq b colon) (is_separator b) is) [
+  | inl same ↦ subst (λ x. is_token_byte x ≡ false) (sym (eqb-true b colon same)) refl
+  | inr more ↦ separator-token b more
+]
+
+-- a separator may follow a host
+pub next-after_host : (text : List ℕ) → Next is_separator text → Next is_after_host text
+next-after_host text (inl none) = inl none
+next-after_host text (inr (b, inner, is, behind)) = inr (b, inner, or_right (nat_eq b colon) (is_separator b) is, behind)
+
+-- a token is cut before what may follow it
+token-front : (u rest : List ℕ) → Token u → Stops is_token_byte rest → TokenFront (u ++ rest) (u, rest)
+token-front u rest token stops = (token, stops, (u, rest, refl, refl, refl))
+
+-- a host is read before what may follow it, and begins with no blank
+pub host-front : (h : HostParts) (rest : List ℕ) → HostText (host_text h) h → Next is_after_host rest → HostFront (host_text h ++ rest) (h, rest)
+host-front (name x) rest is next = both (x, rest) (inr (token-front x rest (hostname-token x is.0) (next-stops is_after_host is_token_byte rest blank-token after-token next))) (is, refl)
+host-front (v4 x) rest is next = both (x, rest) (inr (token-front x rest (v4-token x is.0) (next-stops is_after_host is_token_byte rest blank-token after-token next))) (is, refl)
+host-front (v6 x) rest is next = both (x, rest) (inl (reference-bracket (x ++ rest) (x, rest) (is.0, refl))) (is, refl)
+
+-- a host is not empty, so no blank opens it
+pub host-stops : (h : HostParts) (rest : List ℕ) → HostText (host_text h) h → StopsBlank (host_text h ++ rest)
+host-stops (name x) rest is = token-stops x rest (hostname-token x is.0)
+host-stops (v4 x) rest is = token-stops x rest (v4-token x is.0)
+host-stops (v6 x) rest is =
+    let bracket = reference-bracket (x ++ rest) (x, rest) (is.0, refl) in
+    subst (λ t. StopsBlank (t ++ rest)) (sym bracket.2) (stops-byte left_bracket ((bracket.0 ++ right_bracket ∷ []) ++ rest) refl)
+
+-- what is read is a host and its rest
+pub front-host : (text : List ℕ) (h : HostParts) (rest : List ℕ) → HostFront text (h, rest) → HostText (host_text h) h × (text ≡ host_text h ++ rest)
+front-host text h rest (both (part, left) cut (is, rest_is)) =
+    let spelled = same h is in
+    (subst (λ t. HostText t h) (sym spelled) is, whole cut ∙ ap (λ t. t ++ left) (sym spelled) ∙ ap (λ t. host_text h ++ t) (sym rest_is))
+  where
+    same : (k : HostParts) → HostText part k → host_text k ≡ part
+    same (name x) fits = fits.1
+    same (v4 x) fits = fits.1
+    same (v6 x) fits = fits.1
+
+    whole : HostCut text (part, left) → text ≡ part ++ left
+    whole (inl bracket) = bracket.3
+    whole (inr token) = token.2.4 ∙ ap (λ z. z ++ token.2.1) token.2.2 ∙ ap (λ z. part ++ z) token.2.3
+
+-- a port is read before what may follow it
+pub port-front : (port : Option (List ℕ)) (p rest : List ℕ) → IfSome port Port → ColonPort port p → Next is_separator rest → LedFront colon PortFront (p ++ rest) (port, rest)
+port-front None p rest fits p_is next =
+    let whole : p ++ rest ≡ rest = ap (λ t. t ++ rest) p_is in
+    ((λ inner mark. next-other is_separator colon rest refl refl next inner (subst (λ t. MarkFront colon t inner) whole mark)), sym whole)
+port-front (Some port) p rest fits (m, t, mark, t_is, p_is) next = (
+  port ++ rest,
+  (
+    token-stops port rest (port-token port fits),
+    (m, port ++ rest, mark, refl, ap (λ x. x ++ rest) (p_is ∙ ap (λ x. m ++ x) t_is) ∙ append_assoc m port rest),
+  ),
+  (fits, token-front port rest (port-token port fits) (next-stops is_separator is_token_byte rest blank-token separator-token next)),
+)
+
+-- and what is read is a port
+pub front-port : (port : Option (List ℕ)) (text rest : List ℕ) → LedFront colon PortFront text (port, rest) → (p : List ℕ) × ColonPort port p × IfSome port Port × (text ≡ p ++ rest)
+front-port None text rest (none, rest_is) = ([], refl, tt, sym rest_is)
+front-port (Some port) text rest (inner, mark, (fits, token)) =
+    let token_whole : inner ≡ port ++ rest = token.2.4 ∙ ap (λ z. z ++ token.2.1) token.2.2 ∙ ap (λ z. port ++ z) token.2.3 in
+    (mark.1.0 ++ port, (mark.1.0, port, mark.1.2, refl, refl), fits, mark.1.4 ∙ ap (λ z. mark.1.0 ++ z) (mark.1.3 ∙ token_whole) ∙ sym (append_assoc mark.1.0 port rest))

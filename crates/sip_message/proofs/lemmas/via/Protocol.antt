@@ -1,0 +1,71 @@
+-- The steps by which sent-protocol is read are its grammar.
+use Rattle.std.proofs.Common.{ℕ, List, [], ◌∷◌, ◌++◌, refl, sym, ap, ◌∙◌, subst}
+use Rattle.sip_text.specs.Bytes.{is_token_byte}
+use Rattle.sip_text.specs.Text.{Exactly, ◌then◌}
+use Rattle.sip_text.specs.Grammar.{Token}
+use Rattle.sip_message.specs.Params.{slash, Mark}
+use Rattle.sip_message.specs.Via.{ProtocolText}
+use Rattle.sip_message.specs.inner.Fronts.{Stops, StopsBlank, TokenFront, MarkFront, both, ProtocolParts, ProtocolFront}
+use Rattle.sip_message.proofs.lemmas.field.OneWay.{blank-token}
+use Rattle.sip_message.proofs.lemmas.text.Solid.{solid-token}
+use Rattle.sip_message.proofs.lemmas.text.Closed.{solid_is}
+use Rattle.sip_message.proofs.lemmas.via.Transport.{Fails, AllFail, fail-then, fail-blanks, fail-slash}
+use Rattle.sip_message.proofs.lemmas.params.Closed.{some-run}
+use Rattle.sip_message.proofs.lemmas.front.Cuts.{stops-byte}
+
+-- the parts are tokens, no blank run stands behind them, and the text is the grammar's
+pub record IsProtocol (text : List ℕ) (p : ProtocolParts) : Type 0 where
+  pub protocol : Token p.protocol
+  pub version : Token p.version
+  pub transport : Token p.transport
+  pub stops : StopsBlank p.rest
+  pub whole : ProtocolText p.protocol p.version p.transport (Exactly p.rest) text
+
+-- a set that begins with a byte of no token stops one
+fail-stops : (P : List ℕ → Type 0) → AllFail is_token_byte P → (u : List ℕ) → P u → Stops is_token_byte u
+fail-stops P fail u is = at u (fail u is)
+  where
+    at : (v : List ℕ) → Fails is_token_byte v → Stops is_token_byte v
+    at [] fails = absurd fails
+    at (b ∷ v) fails = fails
+
+-- a token begins with no blank
+pub token-stops : (t rest : List ℕ) → Token t → StopsBlank (t ++ rest)
+token-stops t rest token = at t token
+  where
+    at : (u : List ℕ) → Token u → StopsBlank (u ++ rest)
+    at [] is = absurd (some-run is_token_byte [] is refl)
+    at (b ∷ u) is = stops-byte b (u ++ rest) (solid_is b (solid-token (b ∷ u) is).0)
+
+-- the grammar's text is read by the steps
+pub protocol-steps : (text : List ℕ) (p : ProtocolParts) → IsProtocol text p → ProtocolFront text p
+protocol-steps text p is =
+    let one = is.whole in
+    let two = one.3 in
+    let three = two.3 in
+    let four = three.3 in
+    let five = four.3 in
+    both (p.protocol, one.1) (is.protocol, fail-stops _ (fail-slash _) one.1 two, (p.protocol, one.1, refl, refl, one.4 ∙ ap (λ x. x ++ one.1) one.2))
+    (both two.1 (subst StopsBlank (sym (three.4 ∙ ap (λ x. x ++ three.1) three.2)) (token-stops p.version three.1 is.version), (two.0, two.1, two.2, refl, two.4))
+    (both (p.version, three.1) (is.version, fail-stops _ (fail-slash _) three.1 four, (p.version, three.1, refl, refl, three.4 ∙ ap (λ x. x ++ three.1) three.2))
+    (both four.1 (subst StopsBlank (sym (five.4 ∙ ap (λ x. x ++ five.1) five.2)) (token-stops p.transport five.1 is.transport), (four.0, four.1, four.2, refl, four.4))
+    (both (p.transport, five.1) (is.transport, fail-stops _ (fail-then is_token_byte _ _ (fail-blanks is_token_byte blank-token)) five.1 five.3, (p.transport, five.1, refl, refl, five.4 ∙ ap (λ x. x ++ five.1) five.2))
+    (both p.rest (is.stops, five.3) refl)))))
+
+-- a token, and what follows it
+token-then : (x u y : List ℕ) (Q : List ℕ → Type 0) → TokenFront x (u, y) → Q y → (Exactly u then Q) x
+token-then x u y Q is rest = (u, y, refl, rest, is.2.4 ∙ ap (λ z. z ++ is.2.1) is.2.2 ∙ ap (λ z. u ++ z) is.2.3)
+
+mark-then : (x y : List ℕ) (Q : List ℕ → Type 0) → MarkFront slash x y → Q y → (Mark slash then Q) x
+mark-then x y Q is rest = (is.1.0, y, is.1.2, rest, is.1.4 ∙ ap (λ z. is.1.0 ++ z) is.1.3)
+
+-- what the steps read is the grammar's
+pub steps-protocol : (text : List ℕ) (p : ProtocolParts) → ProtocolFront text p → IsProtocol text p
+steps-protocol text p (both (a, q) first (both r slash1 (both (b, s) second (both t slash2 (both (d, w) third (both rest blanks is)))))) =
+    subst (IsProtocol text) (sym is) (record {
+      protocol = first.0;
+      version = second.0;
+      transport = third.0;
+      stops = blanks.0;
+      whole = token-then text a q _ first (mark-then q r _ slash1 (token-then r b s _ second (mark-then s t _ slash2 (token-then t d w _ third blanks.1))));
+    })

@@ -1,0 +1,200 @@
+-- The steps by which an element of Via is read are its grammar, and read it in one way.
+use Rattle.std.proofs.Common.{◌≡◌, ℕ, ◌-◌, ◌≤◌, nat_eq, List, [], ◌∷◌, ◌++◌, Option, Some, None, length, take, refl, sym, ap, ◌∙◌, subst, inl, arith}
+use Rattle.std.proofs.lemmas.List.{append_assoc}
+use Rattle.sip_text.specs.Bytes.{colon, semicolon}
+use Rattle.sip_text.specs.Text.{Exactly, ◌then◌}
+use Rattle.sip_text.specs.Host.{HostParts, HostText, host_text}
+use Rattle.sip_text.specs.Uri.{Port}
+use Rattle.std.specs.Prelude.{IfSome}
+use Rattle.sip_message.specs.Unfold.{OpensSolid}
+use Rattle.sip_message.specs.Params.{slash, comma, ParamsText, ParamsPart, BehindBlanks}
+use Rattle.sip_message.specs.Via.{ViaParts, ColonPort, ProtocolText}
+use Rattle.sip_message.specs.inner.Fronts.{StopsBlank, Behind, TokenFront, MarkFront, BlanksFront, ProtocolParts, ProtocolFront, both}
+use Rattle.sip_message.specs.Elements.{Element}
+use Rattle.sip_message.specs.inner.ElementFronts.{EndsElement, ViaFront}
+use Rattle.sip_message.specs.inner.ParamFronts.{Param, LedFront}
+use Rattle.sip_message.specs.inner.ViaFronts.{HostFront, PortFront, TailFront, ViaSteps}
+use Rattle.sip_message.proofs.lemmas.text.Cuts.{same_by_end}
+use Rattle.sip_message.proofs.lemmas.front.Cuts.{ReadAs, NotRead, stops-byte, same-behind}
+use Rattle.sip_message.proofs.lemmas.via.Protocol.{IsProtocol, protocol-steps, steps-protocol}
+use Rattle.sip_message.proofs.lemmas.front.OneWay.{AtMostOne, read-one, one-seq, one-last, one-token, one-mark, one-blanks, one-led}
+use Rattle.sip_message.proofs.lemmas.params.Value.{front-is, rest-short}
+use Rattle.sip_message.proofs.lemmas.front.Led.{Next, ends-next, mark-next}
+use Rattle.sip_message.proofs.lemmas.params.Reading.{is_separator, params-front, params-next, front-params, no-param, behind-params}
+use Rattle.sip_message.proofs.lemmas.params.Branch.{one-tail}
+use Rattle.sip_message.proofs.lemmas.via.Host.{one-host, one-port, host-front, host-stops, front-host, port-front, front-port, is_after_host, next-after_host}
+
+-- sent-protocol is read in one way
+pub one-protocol : (text : List ℕ) → AtMostOne (ProtocolFront text)
+one-protocol text =
+    one-seq (TokenFront text) _ (one-token text) (λ protocol.
+    one-seq (MarkFront slash (protocol.1)) _ (one-mark slash (protocol.1) refl) (λ behind_protocol.
+    one-seq (TokenFront behind_protocol) _ (one-token behind_protocol) (λ version.
+    one-seq (MarkFront slash (version.1)) _ (one-mark slash (version.1) refl) (λ behind_version.
+    one-seq (TokenFront behind_version) _ (one-token behind_version) (λ transport.
+    one-seq (BlanksFront (transport.1)) _ (one-blanks (transport.1)) (λ rest.
+    one-last {X = ProtocolParts} (record { protocol = protocol.0; version = version.0; transport = transport.0; rest = rest })))))))
+
+-- and so are the parts of an element
+pub one-via_steps : (text : List ℕ) → AtMostOne (ViaSteps text)
+one-via_steps text =
+    one-seq (ProtocolFront text) _ (one-protocol text) (λ sent.
+    one-seq (HostFront sent.rest) _ (one-host sent.rest) (λ host.
+    one-seq (LedFront colon PortFront (host.1)) _ (one-led colon PortFront (host.1) refl one-port) (λ port.
+    one-seq (TailFront (port.1)) _ (one-tail (port.1)) (λ tail x y x_is y_is. x_is.1 ∙ sym y_is.1))))
+
+-- a text in two parts, and what follows it
+onto : (x u v rest : List ℕ) → x ≡ u ++ v → x ++ rest ≡ u ++ (v ++ rest)
+onto x u v rest is = ap (λ t. t ++ rest) is ∙ append_assoc u v rest
+
+-- what begins with what a text is split in
+under : (x u y z rest : List ℕ) → x ≡ u ++ y → y ≡ z ++ rest → x ≡ (u ++ z) ++ rest
+under x u y z rest is y_is = is ∙ ap (λ t. u ++ t) y_is ∙ sym (append_assoc u z rest)
+
+-- the parameters behind their blanks
+behind-part : (part q : List ℕ) → OpensSolid part → BehindBlanks part q → Behind q part
+behind-part [] q opens q_is = subst (λ t. Behind t []) (sym q_is) (refl, ([], [], inl refl, refl, refl))
+behind-part (b ∷ part) q opens blanks = (stops-byte b part opens, blanks)
+
+-- and the other way round
+part-behind : (ps : List Param) (q part : List ℕ) → ParamsText q ps → Behind q part → ParamsPart part ps × BehindBlanks part q
+part-behind [] q part q_is (stops, (u, v, sws, v_is, whole)) = at part (none u v (sym whole ∙ q_is)) v_is
+  where
+    none : (a b : List ℕ) → a ++ b ≡ [] → b ≡ []
+    none [] b is = is
+    none (c ∷ a) b is = absurd (omega (arith, ap length is))
+
+    at : (p : List ℕ) → v ≡ [] → v ≡ p → ParamsPart p [] × BehindBlanks p q
+    at [] empty is = ((tt, refl), q_is)
+    at (b ∷ p) empty is = absurd (omega (arith, ap length is, ap length empty))
+part-behind (p ∷ ps) q part (m, t, (s, c, sws, (byte, after, byte_is, after_is, c_is), m_is), more, whole) behind =
+    subst (λ x. ParamsPart x (p ∷ ps) × BehindBlanks x q) (sym part_is)
+    ((refl, (semicolon ∷ after, t, ([], semicolon ∷ after, inl refl, (semicolon ∷ [], after, refl, after_is, refl), refl), more, refl)), (s, semicolon ∷ (after ++ t), sws, refl, flat))
+  where
+    flat : q ≡ s ++ (semicolon ∷ (after ++ t))
+    flat = whole ∙ ap (λ x. x ++ t) (m_is ∙ ap (λ x. s ++ x) (c_is ∙ ap (λ x. x ++ after) byte_is)) ∙ append_assoc s (semicolon ∷ after) t
+
+    part_is : part ≡ semicolon ∷ (after ++ t)
+    part_is = same-behind q part (semicolon ∷ (after ++ t)) behind (stops-byte semicolon (after ++ t) refl, (s, semicolon ∷ (after ++ t), sws, refl, flat))
+
+-- what follows a host is a port, or what follows that
+port-next : (port : Option (List ℕ)) (p rest : List ℕ) → ColonPort port p → Next is_separator rest → Next is_after_host (p ++ rest)
+port-next None p rest p_is next = subst (λ t. Next is_after_host (t ++ rest)) (sym p_is) (next-after_host rest next)
+port-next (Some port) p rest (m, t, mark, t_is, p_is) next =
+    subst (Next is_after_host) (sym (onto p m t rest p_is)) (mark-next is_after_host colon m (t ++ rest) refl refl mark)
+
+-- the grammar's element is read by the steps
+pub via-steps : (text : List ℕ) (e : Element) (rest : List ℕ) → ViaFront text (e, rest) → ViaSteps text (e.1, rest)
+via-steps text (whole, v) rest ((fits, (a, w1, a_is, (s, w2, slash1, (b, w3, b_is, (r, w4, slash2, (c, w5, c_is, (sp, w6, blanks, (h, w7, h_is, (p, q, port, params, w7_is), w6_is), w5_is), w4_is), w3_is), w2_is), w1_is), whole_is)), text_is, ends) =
+    subst (λ t. ViaSteps t (v, rest)) (sym text_is)
+    (both sent (protocol-steps (whole ++ rest) sent (record { protocol = fits.protocol; version = fits.version; transport = fits.transport; stops = stops; whole = spelled }))
+    (both (v.host, w7 ++ rest) (subst (λ t. HostFront t (v.host, w7 ++ rest)) (sym hosted) (host-front v.host (w7 ++ rest) fits.host after))
+    (both (v.port, q ++ rest) (subst (λ t. LedFront colon PortFront t (v.port, q ++ rest)) (sym ported) (port-front v.port p (q ++ rest) fits.port port next))
+    (both ((v.params, v.branch), rest) (((fits.params.0, (params-front fits.params.0 q rest texts separated, no-param (λ x. nat_eq x comma) rest refl (ends-next (λ x. nat_eq x comma) rest refl ends)), fits.params.2), (q, refl, behind-part v.params q fits.params.1.0 params)))
+    (ends, refl)))))
+  where
+    sent : ProtocolParts
+    sent = record { protocol = v.protocol; version = v.version; transport = v.transport; rest = w6 ++ rest }
+
+    spelled : ProtocolText v.protocol v.version v.transport (Exactly (w6 ++ rest)) (whole ++ rest)
+    spelled = (a, w1 ++ rest, a_is, (s, w2 ++ rest, slash1, (b, w3 ++ rest, b_is, (r, w4 ++ rest, slash2, (c, w5 ++ rest, c_is, (sp, w6 ++ rest, blanks, refl, onto w5 sp w6 rest w5_is), onto w4 c w5 rest w4_is), onto w3 r w4 rest w3_is), onto w2 b w3 rest w2_is), onto w1 s w2 rest w1_is), onto whole a w1 rest whole_is)
+
+    hosted : w6 ++ rest ≡ host_text v.host ++ (w7 ++ rest)
+    hosted = onto w6 h w7 rest w6_is ∙ ap (λ t. t ++ (w7 ++ rest)) h_is
+
+    ported : w7 ++ rest ≡ p ++ (q ++ rest)
+    ported = onto w7 p q rest w7_is
+
+    stops : StopsBlank (w6 ++ rest)
+    stops = subst StopsBlank (sym hosted) (host-stops v.host (w7 ++ rest) fits.host)
+
+    texts : ParamsText q fits.params.0
+    texts = behind-params v.params fits.params.0 q fits.params.1 params
+
+    separated : Next is_separator rest
+    separated = ends-next is_separator rest refl ends
+
+    next : Next is_separator (q ++ rest)
+    next = params-next fits.params.0 q rest texts separated
+
+    after : Next is_after_host (w7 ++ rest)
+    after = subst (Next is_after_host) (sym ported) (port-next v.port p (q ++ rest) port next)
+
+-- a protocol's text, cut before what follows the element
+protocol-before : (a b c text rest w r : List ℕ) → rest ≡ w ++ r → ProtocolText a b c (Exactly rest) text → (whole : List ℕ) × (text ≡ whole ++ r) × ((Q : List ℕ → Type 0) → Q w → ProtocolText a b c Q whole)
+protocol-before a b c text rest w r rest_is (a0, w1, a_is, (s, w2, slash1, (b0, w3, b_is, (r0, w4, slash2, (c0, w5, c_is, (sp, w6, blanks, w6_is, w5_is), w4_is), w3_is), w2_is), w1_is), whole_is) = (
+  a0 ++ (s ++ (b0 ++ (r0 ++ (c0 ++ (sp ++ w))))),
+  under text a0 w1 _ r whole_is (under w1 s w2 _ r w1_is (under w2 b0 w3 _ r w2_is (under w3 r0 w4 _ r w3_is (under w4 c0 w5 _ r w4_is (under w5 sp w6 w r w5_is (w6_is ∙ rest_is)))))),
+  (λ Q is. (a0, s ++ (b0 ++ (r0 ++ (c0 ++ (sp ++ w)))), a_is, (s, b0 ++ (r0 ++ (c0 ++ (sp ++ w))), slash1, (b0, r0 ++ (c0 ++ (sp ++ w)), b_is, (r0, c0 ++ (sp ++ w), slash2, (c0, sp ++ w, c_is, (sp, w, blanks, is, refl), refl), refl), refl), refl), refl)),
+)
+
+-- and what the steps read is the grammar's
+pub steps-via : (text : List ℕ) (v : ViaParts) (rest : List ℕ) → ViaSteps text (v, rest) → (whole : List ℕ) × ViaFront text ((whole, v), rest)
+steps-via text v rest (both sent protocol (both (h, r1) host (both (port, r2) led (both ((params, branch), r3) (is_branch, (x, x_is, behind)) (ends, v_is))))) =
+    subst (λ y. (whole : List ℕ) × ViaFront text ((whole, y.0), y.1)) (sym v_is) (
+      begun.0,
+      (
+        (
+          record { protocol = spelled.protocol; version = spelled.version; transport = spelled.transport; host = hosted.0; port = ported.2; params = (is_branch.0, parts.0, is_branch.2) },
+          begun.2 (Exactly (host_text h) then ColonPort port then BehindBlanks params) (host_text h, ported.0 ++ x, refl, (ported.0, x, ported.1, parts.1, refl), refl),
+        ),
+        begun.1,
+        ends,
+      ),
+    )
+  where
+    spelled : IsProtocol text sent
+    spelled = steps-protocol text sent protocol
+
+    hosted : HostText (host_text h) h × (sent.rest ≡ host_text h ++ r1)
+    hosted = front-host sent.rest h r1 host
+
+    ported : (p : List ℕ) × ColonPort port p × IfSome port Port × (r1 ≡ p ++ r2)
+    ported = front-port port r1 r2 led
+
+    texts : (u : List ℕ) × ParamsText u is_branch.0 × (r2 ≡ u ++ r3)
+    texts = front-params is_branch.0 r2 r3 is_branch.1.0
+
+    parts : ParamsPart params is_branch.0 × BehindBlanks params x
+    parts =
+        part-behind is_branch.0 x params
+        (subst (λ t. ParamsText t is_branch.0) (same_by_end texts.0 r3 x r3 refl (sym texts.2 ∙ x_is)).0 texts.1) behind
+
+    tail_is : sent.rest ≡ (host_text h ++ (ported.0 ++ x)) ++ r3
+    tail_is = under sent.rest (host_text h) r1 (ported.0 ++ x) r3 hosted.1 (under r1 ported.0 r2 x r3 ported.3 x_is)
+
+    begun : (whole : List ℕ) × (text ≡ whole ++ r3) × ((Q : List ℕ → Type 0) → Q (host_text h ++ (ported.0 ++ x)) → ProtocolText sent.protocol sent.version sent.transport Q whole)
+    begun = protocol-before sent.protocol sent.version sent.transport text sent.rest (host_text h ++ (ported.0 ++ x)) r3 tail_is spelled.whole
+
+-- an element at the front is read in one way
+pub one-via : (text : List ℕ) → AtMostOne (ViaFront text)
+one-via text ((w, v), r) ((x, y), s) a b =
+    let same : ◌≡◌ {A = ViaParts × List ℕ} (v, r) (y, s) = one-via_steps text (v, r) (y, s) (via-steps text (w, v) r a) (via-steps text (x, y) s b) in
+    let rest : r ≡ s = ap (λ z. z.1) same in
+    let wholes : w ≡ x = (same_by_end w r x s (ap length rest) (sym a.1 ∙ b.1)).0 in
+    ap (λ z. ((z, v), r)) wholes ∙ ap (λ z. ((x, z.0), z.1)) same
+
+-- what the steps do not read is no element
+pub via-missing : (text : List ℕ) → NotRead (ViaSteps text) → NotRead (ViaFront text)
+via-missing text none (e, rest) is = none (e.1, rest) (via-steps text e rest is)
+
+-- and what they read is one
+pub via-found : (text : List ℕ) (v : ViaParts) (rest : List ℕ) → ViaSteps text (v, rest) → ReadAs (ViaFront text) ((take (length text - length rest) text, v), rest)
+via-found text v rest steps =
+    let is = steps-via text v rest steps in
+    read-one (ViaFront text) ((take (length text - length rest) text, v), rest) (one-via text)
+    (subst (λ w. ViaFront text ((w, v), rest)) (sym (front-is text is.0 rest is.1.1)) is.1)
+
+-- what is left behind an element is no longer than the text
+pub via-short : (text : List ℕ) (v : ViaParts) (rest : List ℕ) → ViaSteps text (v, rest) → length rest ≤ length text
+via-short text v rest steps = let is = steps-via text v rest steps in rest-short text is.0 rest is.1.1
+
+-- the parts that the steps read
+abbrev pub parts_of : ProtocolParts → HostParts × List ℕ → Option (List ℕ) × List ℕ → (List ℕ × Option (List ℕ)) × List ℕ → ViaParts
+parts_of sent host port tail =
+    record { protocol = sent.protocol; version = sent.version; transport = sent.transport; host = host.0; port = port.0; params = tail.0.0; branch = tail.0.1 }
+
+-- the steps of an element, from those of its parts
+pub via-steps_of : (text : List ℕ) (sent : ProtocolParts) (host : HostParts × List ℕ) (port : Option (List ℕ) × List ℕ) (tail : (List ℕ × Option (List ℕ)) × List ℕ) → ProtocolFront text sent → HostFront sent.rest host → LedFront colon PortFront (host.1) port → TailFront (port.1) tail → EndsElement (tail.1) → ViaSteps text (parts_of sent host port tail, tail.1)
+via-steps_of text sent host port tail is_sent is_host is_port is_tail ends =
+    both sent is_sent (both host is_host (both port is_port (both tail is_tail (ends, refl))))

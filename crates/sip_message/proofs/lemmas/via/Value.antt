@@ -1,0 +1,90 @@
+-- The elements of a Via value, read one after another.
+use Rattle.std.proofs.Common.{◌≡◌, ◌↔◌, ℕ, ◌<◌, List, [], ◌∷◌, ◌++◌, length, refl, sym, ap, ◌∙◌, subst, inl, inr, arith}
+use Rattle.std.proofs.lemmas.List.{append_assoc, length-append}
+use Rattle.sip_message.specs.Params.{comma}
+use Rattle.sip_message.specs.Via.{ViaParts, ViaText, MoreVias, ViasText}
+use Rattle.sip_message.specs.inner.Fronts.{StopsBlank, MarkFront}
+use Rattle.sip_message.specs.Elements.{Element}
+use Rattle.sip_message.specs.inner.ElementFronts.{EndsElement, ViaFront, FirstVia}
+use Rattle.sip_message.proofs.lemmas.front.Cuts.{ReadAs, NotRead}
+use Rattle.sip_message.proofs.lemmas.via.Protocol.{token-stops}
+use Rattle.sip_message.proofs.lemmas.via.Elements.{no_mark-nil}
+use Rattle.sip_message.proofs.lemmas.front.Led.{mark-shorter}
+
+-- the text is elements of Via
+abbrev pub AreVias : List ℕ → Type 0
+AreVias text = (v : ViaParts) × (vias : List ViaParts) × ViasText text v vias
+
+-- no blank run begins an element
+via-stops : (text rest : List ℕ) (v : ViaParts) → ViaText text v → StopsBlank (text ++ rest)
+via-stops text rest v (fits, (a, w, a_is, more, whole)) =
+    subst (λ t. StopsBlank (t ++ rest)) (sym (whole ∙ ap (λ x. x ++ w) a_is))
+    (subst StopsBlank (sym (append_assoc v.protocol w rest)) (token-stops v.protocol (w ++ rest) fits.protocol))
+
+-- more elements begin with a comma, and behind it they stand
+more-comma : (v : ViaParts) (vias : List ViaParts) (text : List ℕ) → MoreVias (v ∷ vias) text → (next : List ℕ) × MarkFront comma text next × ViasText next v vias
+more-comma v vias text (m, next, mark, (x, y, via, more, next_is), whole) =
+    (next, (subst StopsBlank (sym next_is) (via-stops x y v via), (m, next, mark, refl, whole)), (x, y, via, more, next_is))
+
+-- an element ends before more of them, or where there are none
+more-ends : (vias : List ViaParts) (text : List ℕ) → MoreVias vias text → EndsElement text
+more-ends [] text is = inl is
+more-ends (v ∷ vias) text is = let found = more-comma v vias text is in inr (found.0, found.1)
+
+-- the first of the elements stands at the front
+vias-first : (text : List ℕ) → (are : AreVias text) → ViaFront text ((are.2.0, are.0), are.2.1)
+vias-first text (v, vias, (x, y, via, more, whole)) = (via, whole, more-ends vias y more)
+
+-- without an element at the front there are none
+pub vias-none : (text : List ℕ) → NotRead (ViaFront text) → AreVias text → ⊥
+vias-none text none are = none ((are.2.0, are.0), are.2.1) (vias-first text are)
+
+-- the text is elements of Via, each behind a comma
+abbrev pub AreMore : List ℕ → Type 0
+AreMore text = (vias : List ViaParts) × MoreVias vias text
+
+-- behind an element the others decide
+pub vias-behind : (text more : List ℕ) (e : Element) → ReadAs (ViaFront text) (e, more) → AreVias text ↔ AreMore more
+vias-behind text more e read = (to, from)
+  where
+    to : AreVias text → AreMore more
+    to are = (are.1, subst (MoreVias are.1) (ap (λ x. x.1) (read.1 ((are.2.0, are.0), are.2.1) (vias-first text are))) are.2.3)
+
+    from : AreMore more → AreVias text
+    from (vias, are) = (e.1, vias, (e.0, more, read.0.0, are, read.0.1))
+
+-- behind a comma stand elements
+pub more-behind : (rest next : List ℕ) → ReadAs (MarkFront comma rest) next → AreMore rest ↔ AreVias next
+more-behind rest next read = (to, from)
+  where
+    to : AreMore rest → AreVias next
+    to ([], is) = absurd (no_mark-nil comma next (subst (λ t. MarkFront comma t next) is read.0))
+    to (v ∷ vias, is) =
+        let found = more-comma v vias rest is in
+        (v, vias, subst (λ t. ViasText t v vias) (read.1 found.0 found.1) found.2)
+
+    from : AreVias next → AreMore rest
+    from (v, vias, are) =
+        let mark = read.0.1 in
+        (v ∷ vias, (mark.0, mark.1, mark.2, subst (λ t. ViasText t v vias) (sym mark.3) are, mark.4))
+
+-- without a comma there are no more
+pub more-none : (rest : List ℕ) → NotRead (MarkFront comma rest) → AreMore rest ↔ (rest ≡ [])
+more-none rest none = (to, λ is. ([], is))
+  where
+    to : AreMore rest → rest ≡ []
+    to ([], is) = is
+    to (v ∷ vias, is) = let found = more-comma v vias rest is in absurd (none found.0 found.1)
+
+-- what is behind a comma and an element is shorter
+pub more-shorter : (rest next more : List ℕ) (e : Element) → ReadAs (MarkFront comma rest) next → ReadAs (ViaFront next) (e, more) → length more < length rest
+more-shorter rest next more e comma_read read =
+    omega (arith, mark-shorter comma rest next refl comma_read.0, ap length read.0.1, length-append (e.0) more)
+
+-- the first of the elements that a text is
+pub first-is : (text more : List ℕ) (e : Element) → ReadAs (ViaFront text) (e, more) → AreVias text → ReadAs (FirstVia text) e
+first-is text more e read are = ((are, (more, read.0)), λ x is. ap (λ y. y.0) (read.1 (x, is.1.0) is.1.1))
+
+-- elements have a first
+pub first-none : (text : List ℕ) → NotRead (FirstVia text) → AreVias text → ⊥
+first-none text none are = none (are.2.0, are.0) (are, (are.2.1, vias-first text are))

@@ -1,0 +1,16 @@
+-- Names as numbers of 8 bytes.
+use Rattle.std.specs.Prelude.{ℕ, ◌-◌, List, ◌++◌, map, length, replicate}
+use Rattle.std.specs.Int.{w64, from_le_bytes}
+use lib.Bits.{bit_or}
+
+-- a byte with the bit that a small letter has beside a great one
+abbrev pub small : ℕ → ℕ
+small byte = bit_or byte 32
+
+-- 8 bytes that end with these; NUL stands before them
+abbrev pub filled : List ℕ → List ℕ
+filled text = replicate (8 - length text) 0 ++ text
+
+-- the number that a text of at most 8 bytes writes, whatever the case of its letters
+abbrev pub number_of : List ℕ → ℕ
+number_of text = from_le_bytes w64 (filled (map small text))

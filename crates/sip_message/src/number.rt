@@ -1,0 +1,15 @@
+//! Names as numbers of 8 bytes.
+ghost use Rattle.std.specs.Prelude.{◌≡◌, ◌≤◌, length, take};
+ghost use Rattle.sip_message.specs.inner.Numbers.{number_of};
+
+use std::simd::prelude::*;
+
+/// The number that the first bytes of the window write, whatever the case of their letters.
+#[inline(always)]
+pub(crate) fn number_of(window: &[u8], len: usize) -> u64
+    requires { (8 ≤ length window.now) × (1 ≤ len) × (len ≤ 8) }
+    ensures { result ≡ number_of (take len window.now) }
+{
+    let small = u8x8::from_slice(window) | u8x8::splat(0x20);
+    u64::from_le_bytes(small.to_array()) << (64 - 8 * len)
+}

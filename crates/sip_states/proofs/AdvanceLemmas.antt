@@ -1,0 +1,254 @@
+-- Sets that wait, one after another, and what the marked ones name.
+use Rattle.std.proofs.Common.{cond, zero, suc, Bool, true, false, true≢false, Result, Ok, Err, OnOk, OnErr, AllPairs, Contains, ◌↔◌, ◌++◌, [], ◌∷◌, ◌≡◌, ◌≢◌, ◌≤◌, ◌<◌, ◌⊎◌, inl, inr, ℕ, Option, Some, None, List, take, option_copied, All, length, get_or, slice_get, slice_set, refl, sym, ap, ◌∙◌, subst, arith}
+use Rattle.std.specs.List.{flat_map}
+use Rattle.std.specs.Result.{is_ok}
+use Rattle.std.specs.Slice.{IsItemAt}
+use Rattle.std.specs.Borrow.{Bor}
+use Rattle.std.proofs.lemmas.Bool.{ltb-true}
+use Rattle.std.proofs.lemmas.Option.{slice_get_within, slice_get-get_or}
+use Rattle.std.proofs.lemmas.List.{length-set, length-take-le, get_or-take, get_or_default}
+use Rattle.std.proofs.lemmas.List.Elements.{Contains-push, Contains-push_cases, Contains-append_left, Contains-append_right, Contains-get_or}
+use Rattle.sip_key.specs.Key.{KeyParts}
+use Rattle.sip_machine.specs.Times.{Times}
+use Rattle.sip_machine.proofs.TextLaws.{Contains-nil, Contains-cons_cases}
+use Rattle.sip_states.specs.KeyMachine.{MachineKind, OfInviteClient, OfPlainClient, OfInviteServer, OfPlainServer, machine_of_key}
+use Rattle.sip_states.specs.AnySet.{Waits, moment_of, start_of, start_of_machine}
+use Rattle.sip_states.specs.Tables.{Tabled}
+use Rattle.sip_states.specs.Sweep.{numbers_of, IsAdvanced, AppendsNamed}
+use Rattle.sip_states.specs.inner.Marks.{IsMarked, AreMarked}
+use Rattle.sip_states.specs.inner.Advance.{AdvancesAt}
+use Rattle.sip_states.specs.declared.any_set.AnySet.{AnySet}
+use Rattle.sip_states.proofs.NamesLemmas.{Contains-flat_map, Contains-from_flat_map}
+
+-- the element at a place, where another was put at one
+set_place : {A : Type 0} (xs : List A) (i n : ℕ) (a x : A) → slice_get (slice_set xs i a) n ≡ Some x → ((n ≡ i) × (a ≡ x)) ⊎ ((n ≢ i) × (slice_get xs n ≡ Some x))
+set_place [] i n a x at = absurd cc
+set_place (u ∷ xs) zero zero a x at = inl (refl, cc)
+set_place (u ∷ xs) zero (suc n) a x at = inr (λ same. omega (arith, same), at)
+set_place (u ∷ xs) (suc i) zero a x at = inr (λ same. omega (arith, same), at)
+set_place (u ∷ xs) (suc i) (suc n) a x at =
+    elim (set_place xs i n a x at) [ inl h ↦ inl (ap suc h.0, h.1) | inr h ↦ inr (λ same. h.0 (omega (arith, same)), h.1) ]
+
+-- an element that stands there already
+set_still : {A : Type 0} (xs : List A) (i : ℕ) (a : A) → slice_get xs i ≡ Some a → slice_set xs i a ≡ xs
+set_still [] i a at = absurd cc
+set_still (u ∷ xs) zero a at = (let same : u ≡ a = cc in (λ k. sym same k ∷ xs))
+set_still (u ∷ xs) (suc i) a at = (λ k. u ∷ set_still xs i a at k)
+
+same_of_some : {A : Type 0} (a b : A) → Some a ≡ Some b → a ≡ b
+same_of_some a b h = cc
+
+-- Sets that wait.
+
+-- none has
+pub advances_none : (moment : ℕ) (old : List AnySet) → AdvancesAt moment [] old old
+advances_none moment old = record { long = refl; each = λ n a b was is. inr (Contains-nil n, same_of_some b a (sym is ∙ was)) }
+
+-- one more has
+pub advances_more : (moment : ℕ) (indices : List ℕ) (old now : List AnySet) (index : ℕ) (set after : AnySet) → AdvancesAt moment indices old now → ¬ Contains indices index
+    → slice_get now index ≡ Some set → Waits moment set after → AdvancesAt moment (indices ++ index ∷ []) old (slice_set now index after)
+advances_more moment indices old now index set after up fresh at waits = record {
+  long = length-set now index after ∙ up.long;
+  each = λ n a b was is. elim (set_place now index n after b is) [
+    | inl here ↦ elim (up.each n a set was (ap (slice_get now) here.0 ∙ at)) [
+      | inl early ↦ absurd (fresh (subst (Contains indices) here.0 early.0))
+      | inr same ↦ inl (
+        subst (Contains (indices ++ index ∷ [])) (sym here.0) (Contains-push indices index),
+        subst (λ x. Waits moment a x) here.1 (subst (λ x. Waits moment x after) same.1 waits),
+      )
+    ]
+    | inr other ↦ elim (up.each n a b was other.1) [
+      | inl early ↦ inl (Contains-append_left indices (index ∷ []) n early.0, early.1)
+      | inr same ↦ inr (λ has. elim (Contains-push_cases indices index n has) [ inl before ↦ same.0 before | inr e ↦ other.0 (sym e) ], same.1)
+    ]
+  ];
+}
+
+-- one could not
+pub advances_failed : (moment : ℕ) (indices : List ℕ) (old now : List AnySet) (index : ℕ) (set after : AnySet) → AdvancesAt moment indices old now
+    → slice_get now index ≡ Some set → after ≡ set → AdvancesAt moment indices old (slice_set now index after)
+advances_failed moment indices old now index set after up at same =
+    subst (λ xs. AdvancesAt moment indices old xs) (sym (ap (slice_set now index) same ∙ set_still now index set at)) up
+
+-- a set that is not past still is not, where it has not waited
+pub still_early : (moment : ℕ) (indices : List ℕ) (old now : List AnySet) (index : ℕ) (set : AnySet) → AdvancesAt moment indices old now → ¬ Contains indices index
+    → All (λ s. moment_of s ≤ moment) old → slice_get now index ≡ Some set → moment_of set ≤ moment
+still_early moment indices old now index set up fresh early at =
+    let low = slice_get_within now index set at in
+    let long = up.long in
+    let was : slice_get old index ≡ Some (get_or old index set) = slice_get-get_or old index set (omega arith) in
+    elim (up.each index (get_or old index set) set was at) [
+      | inl has ↦ absurd (fresh has.0)
+      | inr same ↦ subst (λ s. moment_of s ≤ moment) (sym same.1) (early index set (omega arith))
+    ]
+
+-- the next of indices that stand there once is not among those before it
+pub fresh_next : (xs : List ℕ) (i d : ℕ) → AllPairs (λ a b. a ≢ b) xs → i < length xs → ¬ Contains (take i xs) (get_or xs i d)
+fresh_next xs i d once low has =
+    let short : length (take i xs) ≡ i = length-take-le i xs (omega arith) in
+    let before : has.0 < i = omega (arith, has.1) in
+    once has.0 i d before low (get_or_default xs has.0 d (get_or xs i d) (omega arith) ∙ sym (get_or-take i xs has.0 (get_or xs i d) before) ∙ has.2)
+
+-- the first indices are among them all
+pub take_among : (i : ℕ) (xs : List ℕ) (n : ℕ) → Contains (take i xs) n → Contains xs n
+take_among zero xs n has = absurd (Contains-nil n has)
+take_among (suc i) [] n has = has
+take_among (suc i) (x ∷ xs) n has =
+    elim (Contains-cons_cases x (take i xs) n has) [
+      | inl same ↦ subst (Contains (x ∷ xs)) same (Contains-get_or (x ∷ xs) 0 x (omega arith))
+      | inr rest ↦ Contains-append_right (x ∷ []) xs n (take_among i xs n rest)
+    ]
+
+-- what is lent of a list is in it
+pub item_among : (xs : List ℕ) (i : ℕ) (r : Option (Bor ℕ)) (o : Option ℕ) (x : ℕ) → IsItemAt xs i r → o ≡ option_copied r → o ≡ Some x → Contains xs x
+item_among xs i None o x item copied is = (let no : Some x ≡ None = sym is ∙ copied in absurd cc)
+item_among xs i (Some b) o x item copied is =
+    let low : i < length xs = ltb-true i (length xs) (sym item.0) in
+    let same : b.now ≡ x = same_of_some b.now x (sym copied ∙ is) in
+    (i, low, get_or_default xs i x b.now low ∙ sym item.1 ∙ same)
+
+-- what is at a place is in the list
+pub place_among : (xs : List ℕ) (i d : ℕ) → i < length xs → Contains xs (get_or xs i d)
+place_among xs i d low = (i, low, get_or_default xs i (get_or xs i d) d low)
+
+-- Sets that are marked.
+
+-- a mark that is not there is the other one
+not_marked : (marks : List Bool) (n : ℕ) → n < length marks → ¬ IsMarked marks n → slice_get marks n ≡ Some false
+not_marked [] n low none = absurd (omega arith)
+not_marked (true ∷ marks) zero low none = absurd (none refl)
+not_marked (false ∷ marks) zero low none = refl
+not_marked (m ∷ marks) (suc n) low none = not_marked marks n (omega arith) none
+
+-- all have waited where those that are marked have
+pub marked_advance : (moment : ℕ) (marked : List ℕ) (marks : List Bool) (old new : List AnySet) → length marks ≡ length old → AreMarked marks old
+    → ((n : ℕ) → Contains marked n ↔ IsMarked marks n) → AdvancesAt moment marked old new
+    → (n : ℕ) (a b : AnySet) → slice_get old n ≡ Some a → slice_get new n ≡ Some b → IsAdvanced moment a b
+marked_advance moment marked marks old new long are members up n a b was is =
+    let low = slice_get_within old n a was in
+    elim (up.each n a b was is) [
+      | inl waited ↦ inl waited.1
+      | inr same ↦ inr (same.1, are n a was (not_marked marks n (omega arith) (λ mark. same.0 ((members n).1 mark))))
+    ]
+
+-- some have
+pub some_advance : (moment : ℕ) (indices : List ℕ) (old new : List AnySet) → AdvancesAt moment indices old new
+    → (n : ℕ) (a b : AnySet) → slice_get old n ≡ Some a → slice_get new n ≡ Some b → IsAdvanced moment a b ⊎ (b ≡ a)
+some_advance moment indices old new up n a b was is = elim (up.each n a b was is) [ inl waited ↦ inl (inl waited.1) | inr same ↦ inr same.1 ]
+
+-- those that are not marked still name nothing
+pub marked_still : (moment : ℕ) (indices : List ℕ) (marks : List Bool) (old new : List AnySet) → AreMarked marks old → ((n : ℕ) → Contains indices n → IsMarked marks n)
+    → AdvancesAt moment indices old new → AreMarked marks new
+marked_still moment indices marks old new are some up n set at mark =
+    let low = slice_get_within new n set at in
+    let long = up.long in
+    let was : slice_get old n ≡ Some (get_or old n set) = slice_get-get_or old n set (omega arith) in
+    elim (up.each n (get_or old n set) set was at) [
+      | inl waited ↦ absurd (true≢false (same_of_some true false (sym (some n waited.0) ∙ mark)))
+      | inr same ↦ subst (λ s. numbers_of s ≡ []) (sym same.1) (are n (get_or old n set) was mark)
+    ]
+
+-- the element at a place, where one more was put behind
+push_place : {A : Type 0} (xs : List A) (n : ℕ) (a x : A) → slice_get (xs ++ a ∷ []) n ≡ Some x → (slice_get xs n ≡ Some x) ⊎ ((n ≡ length xs) × (a ≡ x))
+push_place [] zero a x at = inr (refl, cc)
+push_place [] (suc n) a x at = absurd cc
+push_place (u ∷ xs) zero a x at = inl at
+push_place (u ∷ xs) (suc n) a x at = elim (push_place xs n a x at) [ inl h ↦ inl h | inr h ↦ inr (ap suc h.0, h.1) ]
+
+-- one more that names nothing needs no mark
+pub marked_push : (marks : List Bool) (sets : List AnySet) (set : AnySet) → length marks ≡ length sets → AreMarked marks sets → numbers_of set ≡ []
+    → AreMarked (marks ++ false ∷ []) (sets ++ set ∷ [])
+marked_push marks sets set long are silent n other at mark =
+    elim (push_place sets n set other at) [
+      | inl old ↦ elim (push_place marks n false false mark) [
+        | inl was ↦ are n other old was
+        | inr new ↦ (let low = slice_get_within sets n other old in absurd (omega (arith, long, low, new.0)))
+      ]
+      | inr new ↦ subst (λ s. numbers_of s ≡ []) new.1 silent
+    ]
+
+-- one that is marked may be any
+pub marked_set : (marks : List Bool) (sets : List AnySet) (index : ℕ) (set : AnySet) → AreMarked marks sets → AreMarked (slice_set marks index true) (slice_set sets index set)
+marked_set marks sets index set are n other at mark =
+    elim (set_place marks index n true false mark) [
+      | inl here ↦ absurd (true≢false here.1)
+      | inr was ↦ elim (set_place sets index n set other at) [ inl here ↦ absurd (was.0 here.0) | inr old ↦ are n other old.1 was.1 ]
+    ]
+
+-- one that names nothing needs no mark
+pub unmarked : (marks : List Bool) (sets : List AnySet) (index : ℕ) (set : AnySet) → AreMarked marks sets → slice_get sets index ≡ Some set → numbers_of set ≡ []
+    → AreMarked (slice_set marks index false) sets
+unmarked marks sets index set are at silent n other is mark =
+    elim (set_place marks index n false false mark) [
+      | inl here ↦ subst (λ s. numbers_of s ≡ []) (same_of_some set other (sym at ∙ ap (slice_get sets) (sym here.0) ∙ is)) silent
+      | inr was ↦ are n other is was.1
+    ]
+
+-- the set that a machine starts with names nothing
+start_silent : (p : Times) (machine : MachineKind) → numbers_of (start_of_machine p machine) ≡ []
+start_silent p OfInviteClient = refl
+start_silent p OfPlainClient = refl
+start_silent p OfInviteServer = refl
+start_silent p OfPlainServer = refl
+
+-- nor does that of a key
+pub start_names : (p : Times) (key : KeyParts) → numbers_of (start_of p key) ≡ []
+start_names p key = start_silent p (machine_of_key key)
+
+-- What marked sets name.
+
+-- the numbers that the set at an index names
+abbrev pub numbers_at : List AnySet → ℕ → List ℕ
+numbers_at [] index = []
+numbers_at (set ∷ sets) zero = numbers_of set
+numbers_at (set ∷ sets) (suc index) = numbers_at sets index
+
+pub numbers_at-is : (sets : List AnySet) (index : ℕ) (set : AnySet) → slice_get sets index ≡ Some set → numbers_at sets index ≡ numbers_of set
+numbers_at-is [] index set at = absurd cc
+numbers_at-is (s ∷ sets) zero set at = ap numbers_of (same_of_some s set at)
+numbers_at-is (s ∷ sets) (suc index) set at = numbers_at-is sets index set at
+
+-- it is among those of all
+at_among : (sets : List AnySet) (index n : ℕ) → Contains (numbers_at sets index) n → Contains (flat_map numbers_of sets) n
+at_among [] index n has = has
+at_among (s ∷ sets) zero n has = Contains-append_left (numbers_of s) (flat_map numbers_of sets) n has
+at_among (s ∷ sets) (suc index) n has = Contains-append_right (numbers_of s) (flat_map numbers_of sets) n (at_among sets index n has)
+
+-- what sets name, the marked ones do
+pub marked_names : (marked : List ℕ) (marks : List Bool) (sets : List AnySet) → length marks ≡ length sets → AreMarked marks sets
+    → ((n : ℕ) → Contains marked n ↔ IsMarked marks n) → (n : ℕ) → Contains (flat_map (numbers_at sets) marked) n ↔ Contains (flat_map numbers_of sets) n
+marked_names marked marks sets long are members n = (
+  λ has. (let found = Contains-from_flat_map (numbers_at sets) marked n has in at_among sets found.0 n found.2),
+  λ has.
+      let found = Contains-from_flat_map numbers_of sets n has in
+      let index = found.1.0 in
+      let at : slice_get sets index ≡ Some found.0 = slice_get-get_or sets index found.0 found.1.1 ∙ ap Some found.1.2 in
+      let low = found.1.1 in
+      let here : Contains (numbers_at sets index) n = subst (λ ns. Contains ns n) (sym (numbers_at-is sets index found.0 at)) found.2 in
+      elim (mark_cases marks index (omega arith)) [
+        | inl mark ↦ Contains-flat_map (numbers_at sets) marked index n ((members index).1 mark) here
+        | inr none ↦ absurd (Contains-nil n (subst (λ ns. Contains ns n) (are index found.0 at none) found.2))
+      ],
+)
+  where
+    mark_cases : (marks : List Bool) (n : ℕ) → n < length marks → IsMarked marks n ⊎ (slice_get marks n ≡ Some false)
+    mark_cases [] n low = absurd (omega arith)
+    mark_cases (true ∷ marks) zero low = inl refl
+    mark_cases (false ∷ marks) zero low = inr refl
+    mark_cases (m ∷ marks) (suc n) low = mark_cases marks n (omega arith)
+
+-- what holds always holds of a success
+pub always_ok : {A E : Type 0} (r : Result A E) (P : Type 0) → P → OnOk r P
+always_ok (Ok x) P p = p
+always_ok (Err e) P p = tt
+
+-- and of an error
+pub always_err : {A E : Type 0} (r : Result A E) (P : Type 0) → P → OnErr r P
+always_err (Ok x) P p = tt
+always_err (Err e) P p = p
+
+-- the numbers were appended, unless that was refused
+pub named_if : {T E : Type 0} (r : Result T E) (t : Tabled) (old new added : List ℕ) → new ≡ cond (is_ok r) (old ++ added) old → AllPairs (λ a b. a < b) added
+    → ((n : ℕ) → Contains added n ↔ Contains (flat_map numbers_of t.sets) n) → OnOk r (AppendsNamed t old new)
+named_if (Ok x) t old new added is rising same = (added, is, rising, same)
+named_if (Err e) t old new added is rising same = tt

@@ -1,0 +1,341 @@
+-- Indices that change places.
+use Rattle.std.specs.Prelude.{◌≡◌, ◌≢◌, ◌<◌, ◌≤◌, ◌+◌, ◌-◌, ◌↔◌, ℕ, Bool, true, false, Some, List, [], ◌∷◌, ◌++◌, AllPairs, Contains, length, nat_lt, get_or, set, take}
+use Rattle.std.proofs.Common.{inl, inr, sym, ◌∙◌, ap, subst, arith, true≢false}
+use Rattle.std.proofs.lemmas.Bool.{cases_lt, lt-ltb, le-ltb, ltb-true}
+use Rattle.std.proofs.lemmas.Option.{slice_get-get_or, slice_get_within, get_or_from_slice_get}
+use Rattle.std.proofs.lemmas.Bool.Decides.{eqb_tells, nat_tests}
+use Rattle.std.proofs.lemmas.List.{length-set, length-map, length-append, get_or-set_same, get_or-set_other, get_or-map, same_lists, get_or_default, get_or_append_left, get_or_push, get_or-take, length-take-le}
+use Rattle.sip_states.specs.inner.Marks.{marks, IsPlaced, IsMarked, exchanged_order, exchanged_places}
+
+-- the element at a place of a list in which two were written
+pub at_second : (xs : List ℕ) (i j a b d : ℕ) → j < length xs → get_or (set (set xs i a) j b) j d ≡ b
+at_second xs i j a b d low = get_or-set_same (set xs i a) j b d (let long = length-set xs i a in omega arith)
+
+pub at_first : (xs : List ℕ) (i j a b d : ℕ) → i < length xs → i ≢ j → get_or (set (set xs i a) j b) i d ≡ a
+at_first xs i j a b d low differ = get_or-set_other (set xs i a) j i b d differ ∙ get_or-set_same xs i a d low
+
+pub at_other : (xs : List ℕ) (i j k a b d : ℕ) → k ≢ i → k ≢ j → get_or (set (set xs i a) j b) k d ≡ get_or xs k d
+at_other xs i j k a b d one two = get_or-set_other (set xs i a) j k b d two ∙ get_or-set_other xs i k a d one
+
+module _ (order places : List ℕ) (count : ℕ) (is : IsPlaced order places count) (p q : ℕ) (p_low : p < length order) (q_low : q < length order) where
+  abbrev a : ℕ
+  a = get_or order p 0
+
+  abbrev b : ℕ
+  b = get_or order q 0
+
+  abbrev new_order : List ℕ
+  new_order = exchanged_order order p q
+
+  abbrev new_places : List ℕ
+  new_places = exchanged_places order places p q
+
+  a_low : a < length places
+  a_low = (let low = (is.ordered p p_low).0 in let long = is.long in omega arith)
+
+  b_low : b < length places
+  b_low = (let low = (is.ordered q q_low).0 in let long = is.long in omega arith)
+
+  -- indices that are the same stand at the same place
+  pub same_place : (k l : ℕ) → k < length order → l < length order → get_or order k 0 ≡ get_or order l 0 → k ≡ l
+  same_place k l low high same = sym (is.ordered k low).1 ∙ ap (λ i. get_or places i 0) same ∙ (is.ordered l high).1
+
+  -- where an index stands then
+  pub place_of_a : get_or new_places a 0 ≡ q
+  place_of_a =
+      elim (eqb_tells a b) [
+        | inl same ↦ ap (λ i. get_or new_places i 0) same.1 ∙ at_second places a b q p 0 b_low ∙ same_place p q p_low q_low same.1
+        | inr differ ↦ at_first places a b q p 0 a_low differ.1
+      ]
+
+  pub place_of_b : get_or new_places b 0 ≡ p
+  place_of_b = at_second places a b q p 0 b_low
+
+  pub place_of_other : (i : ℕ) → i ≢ a → i ≢ b → get_or new_places i 0 ≡ get_or places i 0
+  place_of_other i one two = at_other places a b i q p 0 one two
+
+  pub at_q : get_or new_order q 0 ≡ a
+  at_q = at_second order p q b a 0 q_low
+
+  at_p : get_or new_order p 0 ≡ b
+  at_p =
+      elim (eqb_tells p q) [
+        | inl same ↦ ap (λ k. get_or new_order k 0) same.1 ∙ at_q ∙ ap (λ k. get_or order k 0) same.1
+        | inr differ ↦ at_first order p q b a 0 p_low differ.1
+      ]
+
+  size : length new_order ≡ length order
+  size = length-set (set order p b) q a ∙ length-set order p b
+
+  pub new_long : length new_places ≡ length places
+  new_long = length-set (set places a q) b p ∙ length-set places a q
+
+  pub exchanged : (next : ℕ) → next ≤ length order → IsPlaced new_order new_places next
+  exchanged next few = record {
+    long = new_long ∙ is.long ∙ sym size;
+    few = (let same = size in omega arith);
+    placed = λ i low. (
+        let within : i < length order = (let same = size in omega arith) in
+        elim (eqb_tells i a) [
+          | inl is_a ↦ subst (λ j. (get_or new_places j 0 < length new_order) × (get_or new_order (get_or new_places j 0) 0 ≡ j)) (sym is_a.1)
+              ((let at = place_of_a in let same = size in omega arith), ap (λ k. get_or new_order k 0) place_of_a ∙ at_q)
+          | inr not_a ↦ elim (eqb_tells i b) [
+            | inl is_b ↦ subst (λ j. (get_or new_places j 0 < length new_order) × (get_or new_order (get_or new_places j 0) 0 ≡ j)) (sym is_b.1)
+                ((let at = place_of_b in let same = size in omega arith), ap (λ k. get_or new_order k 0) place_of_b ∙ at_p)
+            | inr not_b ↦
+                let k = get_or places i 0 in
+                let was = is.placed i within in
+                let other = place_of_other i not_a.1 not_b.1 in
+                let not_p : k ≢ p = λ e. not_a.1 (sym was.1 ∙ ap (λ n. get_or order n 0) e) in
+                let not_q : k ≢ q = λ e. not_b.1 (sym was.1 ∙ ap (λ n. get_or order n 0) e) in
+                ((let low_k = was.0 in let same = size in omega arith), ap (λ n. get_or new_order n 0) other ∙ at_other order p q k b a 0 not_p not_q ∙ was.1)
+          ]
+        ]
+        );
+    ordered = λ k low. (
+        let within : k < length order = (let same = size in omega arith) in
+        elim (eqb_tells k p) [
+          | inl is_p ↦ subst (λ n. (get_or new_order n 0 < length new_order) × (get_or new_places (get_or new_order n 0) 0 ≡ n)) (sym is_p.1)
+              ((let at = at_p in let low_b = (is.ordered q q_low).0 in let same = size in omega arith), ap (λ i. get_or new_places i 0) at_p ∙ place_of_b)
+          | inr not_p ↦ elim (eqb_tells k q) [
+            | inl is_q ↦ subst (λ n. (get_or new_order n 0 < length new_order) × (get_or new_places (get_or new_order n 0) 0 ≡ n)) (sym is_q.1)
+                ((let at = at_q in let low_a = (is.ordered p p_low).0 in let same = size in omega arith), ap (λ i. get_or new_places i 0) at_q ∙ place_of_a)
+            | inr not_q ↦
+                let i = get_or order k 0 in
+                let was = is.ordered k within in
+                let same_index = at_other order p q k b a 0 not_p.1 not_q.1 in
+                let not_a : i ≢ a = λ e. not_p.1 (same_place k p within p_low e) in
+                let not_b : i ≢ b = λ e. not_q.1 (same_place k q within q_low e) in
+                ((let low_i = was.0 in let same = size in omega arith), ap (λ j. get_or new_places j 0) same_index ∙ place_of_other i not_a not_b ∙ was.1)
+          ]
+        ]
+        );
+  }
+
+-- What is marked.
+
+-- whether an index is marked
+pub mark_at : (places : List ℕ) (count k : ℕ) (d : Bool) → k < length places → get_or (marks places count) k d ≡ nat_lt (get_or places k 0) count
+mark_at places count k d low = get_or-map (λ place. nat_lt place count) places k 0 d low
+
+-- two lists of marks are the same where they say the same of each index
+same_marks : (xs : List Bool) (places : List ℕ) (count index : ℕ) (b : Bool) → length xs ≡ length places → index < length places
+    → ((k : ℕ) (d : Bool) → k < length places → ((k ≡ index) → get_or xs k d ≡ b) × ((k ≢ index) → get_or xs k d ≡ nat_lt (get_or places k 0) count))
+    → xs ≡ set (marks places count) index b
+same_marks xs places count index b long low says =
+    let size : length (marks places count) ≡ length places = length-map places (λ place. nat_lt place count) in
+    same_lists xs (set (marks places count) index b) (long ∙ sym (length-set (marks places count) index b ∙ size)) (λ k d low_k.
+    let within : k < length places = omega (arith, long) in
+    elim (eqb_tells k index) [
+      | inl same ↦ (says k d within).0 same.1 ∙ sym (ap (λ n. get_or (set (marks places count) index b) n d) same.1 ∙ get_or-set_same (marks places count) index b d (omega (arith, size)))
+      | inr differ ↦ (says k d within).1 differ.1 ∙ sym (get_or-set_other (marks places count) index k b d differ.1 ∙ mark_at places count k d within)
+    ])
+
+-- an index that is as it should be stays
+pub marked_still : (places : List ℕ) (count index : ℕ) (b : Bool) → index < length places → nat_lt (get_or places index 0) count ≡ b → marks places count ≡ set (marks places count) index b
+marked_still places count index b low is =
+    same_marks (marks places count) places count index b (length-map places (λ place. nat_lt place count)) low
+    (λ k d low_k. (λ same. mark_at places count k d low_k ∙ ap (λ n. nat_lt (get_or places n 0) count) same ∙ is, λ differ. mark_at places count k d low_k))
+
+-- an index is marked: it changes places with the first that is not
+pub marked_more : (order places : List ℕ) (count : ℕ) → IsPlaced order places count → (index p : ℕ) → index < length places → p ≡ get_or places index 0 → count ≤ p
+    → marks (exchanged_places order places p count) (count + 1) ≡ set (marks places count) index true
+marked_more order places count is index p low at high =
+    let long = is.long in
+    let within : index < length order = omega arith in
+    let there = is.placed index within in
+    let p_low : p < length order = omega (arith, at, there.0) in
+    let q_low : count < length order = omega arith in
+    let mine : get_or order p 0 ≡ index = ap (λ n. get_or order n 0) at ∙ there.1 in
+    let b = get_or order count 0 in
+    let b_at : get_or places b 0 ≡ count = (is.ordered count q_low).1 in
+    let new = exchanged_places order places p count in
+    let new_long = new_long order places count is p count p_low q_low in
+    same_marks (marks new (count + 1)) places count index true (length-map new (λ place. nat_lt place (count + 1)) ∙ new_long) low (λ k d low_k.
+    let here : get_or (marks new (count + 1)) k d ≡ nat_lt (get_or new k 0) (count + 1) = mark_at new (count + 1) k d (omega (arith, new_long)) in (
+      λ same. here ∙ ap (λ n. nat_lt (get_or new n 0) (count + 1)) (same ∙ sym mine) ∙ ap (λ n. nat_lt n (count + 1)) (place_of_a order places count is p count p_low q_low) ∙ lt-ltb count (count + 1) (omega arith),
+      λ differ. elim (eqb_tells k b) [
+        | inl is_b ↦
+            let not_same : p ≢ count = λ e. differ (is_b.1 ∙ ap (λ n. get_or order n 0) (sym e) ∙ mine) in
+            here ∙ ap (λ n. nat_lt (get_or new n 0) (count + 1)) is_b.1 ∙ ap (λ n. nat_lt n (count + 1)) (place_of_b order places count is p count p_low q_low) ∙ le-ltb p (count + 1) (omega (arith, high, not_same))
+            ∙ sym (ap (λ n. nat_lt (get_or places n 0) count) is_b.1 ∙ ap (λ n. nat_lt n count) b_at ∙ le-ltb count count (omega arith))
+        | inr not_b ↦
+            let other = place_of_other order places count is p count p_low q_low k (λ e. differ (e ∙ mine)) not_b.1 in
+            let k_at = is.placed k (omega arith) in
+            let not_count : get_or places k 0 ≢ count = λ e. not_b.1 (sym k_at.1 ∙ ap (λ n. get_or order n 0) e) in
+            here ∙ ap (λ n. nat_lt n (count + 1)) other ∙ next_test (get_or places k 0) count not_count
+      ],
+    ))
+  where
+    next_test : (x count : ℕ) → x ≢ count → nat_lt x (count + 1) ≡ nat_lt x count
+    next_test x count differ = grind (arith, nat_tests)
+
+-- a mark is taken off: the index changes places with the last that is marked
+pub marked_less : (order places : List ℕ) (count : ℕ) → IsPlaced order places count → (index p : ℕ) → index < length places → p ≡ get_or places index 0 → p < count
+    → marks (exchanged_places order places p (count - 1)) (count - 1) ≡ set (marks places count) index false
+marked_less order places count is index p low at under =
+    let long = is.long in
+    let few = is.few in
+    let within : index < length order = omega arith in
+    let there = is.placed index within in
+    let p_low : p < length order = omega (arith, at, there.0) in
+    let q = count - 1 in
+    let q_low : q < length order = omega arith in
+    let mine : get_or order p 0 ≡ index = ap (λ n. get_or order n 0) at ∙ there.1 in
+    let b = get_or order q 0 in
+    let b_at : get_or places b 0 ≡ q = (is.ordered q q_low).1 in
+    let new = exchanged_places order places p q in
+    let new_long = new_long order places count is p q p_low q_low in
+    same_marks (marks new q) places count index false (length-map new (λ place. nat_lt place q) ∙ new_long) low (λ k d low_k.
+    let here : get_or (marks new q) k d ≡ nat_lt (get_or new k 0) q = mark_at new q k d (omega (arith, new_long)) in (
+      λ same. here ∙ ap (λ n. nat_lt (get_or new n 0) q) (same ∙ sym mine) ∙ ap (λ n. nat_lt n q) (place_of_a order places count is p q p_low q_low) ∙ le-ltb q q (omega arith),
+      λ differ. elim (eqb_tells k b) [
+        | inl is_b ↦
+            let not_same : p ≢ q = λ e. differ (is_b.1 ∙ ap (λ n. get_or order n 0) (sym e) ∙ mine) in
+            here ∙ ap (λ n. nat_lt (get_or new n 0) q) is_b.1 ∙ ap (λ n. nat_lt n q) (place_of_b order places count is p q p_low q_low) ∙ lt-ltb p q (omega (arith, under, not_same))
+            ∙ sym (ap (λ n. nat_lt (get_or places n 0) count) is_b.1 ∙ ap (λ n. nat_lt n count) b_at ∙ lt-ltb q count (omega arith))
+        | inr not_b ↦
+            let other = place_of_other order places count is p q p_low q_low k (λ e. differ (e ∙ mine)) not_b.1 in
+            let k_at = is.placed k (omega arith) in
+            let not_q : get_or places k 0 ≢ q = λ e. not_b.1 (sym k_at.1 ∙ ap (λ n. get_or order n 0) e) in
+            here ∙ ap (λ n. nat_lt n q) other ∙ last_test (get_or places k 0) count (omega arith) not_q
+      ],
+    ))
+  where
+    last_test : (x count : ℕ) → 0 < count → x ≢ count - 1 → nat_lt x (count - 1) ≡ nat_lt x count
+    last_test x count some differ = grind (arith, nat_tests)
+
+-- The last index.
+
+-- it is not marked where its mark says so
+pub last_unmarked : (places : List ℕ) (count last : ℕ) (rest : List Bool) → length places ≡ last + 1 → marks places count ≡ rest ++ false ∷ [] → count ≤ get_or places last 0
+last_unmarked places count last rest whole is =
+    let long : length rest + 1 ≡ length places = sym (length-append rest (false ∷ [])) ∙ ap length (sym is) ∙ length-map places (λ place. nat_lt place count) in
+    let test : nat_lt (get_or places last 0) count ≡ false
+    = sym (mark_at places count last true (omega arith)) ∙ ap (λ ms. get_or ms last true) is ∙ get_or_push rest false true last (omega arith) in
+    elim (cases_lt (get_or places last 0) count) [
+      | inl less ↦ absurd (true≢false (sym (lt-ltb (get_or places last 0) count less) ∙ test))
+      | inr from ↦ from
+    ]
+
+-- where it is not marked, it goes: it changes places with the last in order, and both lists end before it
+pub popped : (order places : List ℕ) (count : ℕ) (is : IsPlaced order places count) (last p : ℕ) → length order ≡ last + 1 → p ≡ get_or places last 0 → count ≤ p
+    → IsPlaced (take last (exchanged_order order p last)) (take last (exchanged_places order places p last)) count
+popped order places count is last p whole at high =
+    let there = is.placed last (omega arith) in
+    let p_low : p < length order = omega (arith, at, there.0) in
+    let q_low : last < length order = omega arith in
+    let mine : get_or order p 0 ≡ last = ap (λ n. get_or order n 0) at ∙ there.1 in
+    let O = exchanged_order order p last in
+    let P = exchanged_places order places p last in
+    let new = exchanged order places count is p last p_low q_low count is.few in
+    let O_long : length O ≡ last + 1 = length-set (set order p (get_or order last 0)) last (get_or order p 0) ∙ length-set order p (get_or order last 0) ∙ whole in
+    let P_long : length P ≡ last + 1 = new.long ∙ O_long in
+    let O_last : get_or O last 0 ≡ last = at_q order places count is p last p_low q_low ∙ mine in
+    let P_last : get_or P last 0 ≡ last = ap (λ n. get_or P n 0) (sym mine) ∙ place_of_a order places count is p last p_low q_low in
+    let O_short : length (take last O) ≡ last = length-take-le last O (omega arith) in
+    let P_short : length (take last P) ≡ last = length-take-le last P (omega arith) in
+    record {
+      long = P_short ∙ sym O_short;
+      few = (omega arith);
+      placed = λ i low. (
+          let low_i : i < last = omega arith in
+          let was = new.placed i (omega arith) in
+          let other : get_or P i 0 ≢ last = λ e. omega (arith, low_i, sym was.1 ∙ ap (λ n. get_or O n 0) e ∙ O_last) in
+          let here : get_or (take last P) i 0 ≡ get_or P i 0 = get_or-take last P i 0 low_i in
+          let under : get_or P i 0 < last = omega (arith, was.0, other) in
+          (omega (arith, here, under), ap (λ n. get_or (take last O) n 0) here ∙ get_or-take last O (get_or P i 0) 0 under ∙ was.1)
+          );
+      ordered = λ k low. (
+          let low_k : k < last = omega arith in
+          let was = new.ordered k (omega arith) in
+          let other : get_or O k 0 ≢ last = λ e. omega (arith, low_k, sym was.1 ∙ ap (λ n. get_or P n 0) e ∙ P_last) in
+          let here : get_or (take last O) k 0 ≡ get_or O k 0 = get_or-take last O k 0 low_k in
+          let under : get_or O k 0 < last = omega (arith, was.0, other) in
+          (omega (arith, here, under), ap (λ n. get_or (take last P) n 0) here ∙ get_or-take last P (get_or O k 0) 0 under ∙ was.1)
+          );
+    }
+
+-- and the others are marked as before
+pub popped_marks : (order places : List ℕ) (count : ℕ) (is : IsPlaced order places count) (last p : ℕ) → length order ≡ last + 1 → p ≡ get_or places last 0 → count ≤ p
+    → marks places count ≡ marks (take last (exchanged_places order places p last)) count ++ false ∷ []
+popped_marks order places count is last p whole at high =
+    let there = is.placed last (omega arith) in
+    let p_low : p < length order = omega (arith, at, there.0) in
+    let q_low : last < length order = omega arith in
+    let mine : get_or order p 0 ≡ last = ap (λ n. get_or order n 0) at ∙ there.1 in
+    let P = exchanged_places order places p last in
+    let b = get_or order last 0 in
+    let b_at : get_or places b 0 ≡ last = (is.ordered last q_low).1 in
+    let long : length places ≡ last + 1 = is.long ∙ whole in
+    let P_long : length P ≡ last + 1 = new_long order places count is p last p_low q_low ∙ long in
+    let P_short : length (take last P) ≡ last = length-take-le last P (omega arith) in
+    let ms = marks (take last P) count in
+    let ms_long : length ms ≡ last = length-map (take last P) (λ place. nat_lt place count) ∙ P_short in
+    let all : length (marks places count) ≡ last + 1 = length-map places (λ place. nat_lt place count) ∙ long in
+    same_lists (marks places count) (ms ++ false ∷ []) (all ∙ sym (length-append ms (false ∷ []) ∙ ap (λ n. n + 1) ms_long)) (λ k d low.
+    let within : k < length places = omega arith in
+    elim (eqb_tells k last) [
+      | inl same ↦
+          mark_at places count k d within ∙ ap (λ n. nat_lt (get_or places n 0) count) same.1 ∙ le-ltb (get_or places last 0) count (omega (arith, at, high))
+          ∙ sym (get_or_push ms false d k (ms_long ∙ sym same.1))
+      | inr differ ↦
+          let under : k < last = omega (arith, differ.1) in
+          let here : get_or (ms ++ false ∷ []) k d ≡ nat_lt (get_or P k 0) count
+          = get_or_append_left ms (false ∷ []) d k (omega arith) ∙ mark_at (take last P) count k d (omega arith) ∙ ap (λ n. nat_lt n count) (get_or-take last P k 0 under) in
+          mark_at places count k d within ∙ alike k under ∙ sym here
+    ])
+  where
+    alike : (k : ℕ) → k < last → nat_lt (get_or places k 0) count ≡ nat_lt (get_or (exchanged_places order places p last) k 0) count
+    alike k under =
+        let there = is.placed last (omega arith) in
+        let p_low : p < length order = omega (arith, at, there.0) in
+        let q_low : last < length order = omega arith in
+        let mine : get_or order p 0 ≡ last = ap (λ n. get_or order n 0) at ∙ there.1 in
+        let b = get_or order last 0 in
+        let b_at : get_or places b 0 ≡ last = (is.ordered last q_low).1 in
+        let few = is.few in
+        elim (eqb_tells k b) [
+          | inl is_b ↦
+              ap (λ n. nat_lt (get_or places n 0) count) is_b.1 ∙ ap (λ n. nat_lt n count) b_at ∙ le-ltb last count (omega (arith, p_low, high))
+              ∙ sym (ap (λ n. nat_lt (get_or (exchanged_places order places p last) n 0) count) is_b.1 ∙ ap (λ n. nat_lt n count) (place_of_b order places count is p last p_low q_low) ∙ le-ltb p count high)
+          | inr not_b ↦
+              ap (λ n. nat_lt n count) (sym (place_of_other order places count is p last p_low q_low k (λ e. omega (arith, under, e ∙ mine)) not_b.1))
+        ]
+
+-- The first in order.
+
+-- just those that are marked stand there
+pub front_marked : (order places : List ℕ) (count : ℕ) → IsPlaced order places count → (index : ℕ) → Contains (take count order) index ↔ IsMarked (marks places count) index
+front_marked order places count is index =
+    let long = is.long in
+    let few = is.few in
+    let short : length (take count order) ≡ count = length-take-le count order few in (
+      λ has.
+          let low : has.0 < count = omega (arith, has.1) in
+          let at : get_or order has.0 0 ≡ index = get_or_default order has.0 0 index (omega arith) ∙ sym (get_or-take count order has.0 index low) ∙ has.2 in
+          let was = is.ordered has.0 (omega arith) in
+          let within : index < length places = omega (arith, sym at, was.0) in
+          let place : get_or places index 0 ≡ has.0 = ap (λ i. get_or places i 0) (sym at) ∙ was.1 in
+          slice_get-get_or (marks places count) index true (omega (arith, length-map places (λ place. nat_lt place count)))
+          ∙ ap Some (mark_at places count index true within ∙ ap (λ n. nat_lt n count) place ∙ lt-ltb has.0 count low),
+      λ is_marked.
+          let low = slice_get_within (marks places count) index true is_marked in
+          let within : index < length places = omega (arith, length-map places (λ place. nat_lt place count)) in
+          let test : nat_lt (get_or places index 0) count ≡ true = sym (mark_at places count index true within) ∙ get_or_from_slice_get (marks places count) index true true is_marked in
+          let under : get_or places index 0 < count = ltb-true (get_or places index 0) count test in
+          let was = is.placed index (omega arith) in
+          (get_or places index 0, omega arith, get_or-take count order (get_or places index 0) index under ∙ get_or_default order (get_or places index 0) index 0 was.0 ∙ was.1),
+    )
+
+-- each once
+pub front_once : (order places : List ℕ) (count : ℕ) → IsPlaced order places count → AllPairs (λ a b. a ≢ b) (take count order)
+front_once order places count is i j d less low =
+    let few = is.few in
+    let short : length (take count order) ≡ count = length-take-le count order few in
+    let j_low : j < count = omega arith in
+    let i_low : i < count = omega arith in
+    λ same.
+    let first : get_or (take count order) i d ≡ get_or order i 0 = get_or-take count order i d i_low ∙ get_or_default order i d 0 (omega arith) in
+    let second : get_or (take count order) j d ≡ get_or order j 0 = get_or-take count order j d j_low ∙ get_or_default order j d 0 (omega arith) in
+    omega (arith, same_place order places count is 0 0 (omega arith) (omega arith) i j (omega arith) (omega arith) (sym first ∙ same ∙ second))

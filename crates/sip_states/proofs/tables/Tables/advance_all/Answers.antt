@@ -1,0 +1,69 @@
+use Rattle.std.proofs.Common.{◌≤◌, ◌∙◌, inl, refl, sym, subst, get_or, true, arith}
+use Rattle.std.proofs.lemmas.Option.{slice_get_within}
+use Rattle.std.proofs.lemmas.Map.Entries.{length-values_of}
+use Rattle.indexmap.specs.IndexMap.{values}
+use Rattle.sip_states.specs.Tables.{most_keys}
+use Rattle.sip_states.specs.inner.Marks.{IsMarked}
+use Rattle.sip_states.proofs.AdvanceLemmas.{place_among, marked_advance, some_advance, marked_still, always_ok, always_err}
+use Rattle.sip_states.proofs.tables.Tables.advance_all.Goals as goal
+
+pub advance_each-requires-clause-inside : goal.advance_each-requires-clause-inside
+advance_each-requires-clause-inside g c =
+    λ k d low.
+    let marks = c.self.inside.marks in
+    let index = get_or c.marked.result.now k d in
+    let mark : IsMarked marks index = (c.marked.ensures.members index).0 (place_among c.marked.result.now k d low) in
+    let within = slice_get_within marks index true mark in
+    omega (arith, within, c.self.invariant.2)
+
+pub invariant_of-self : goal.invariant_of-self
+invariant_of-self g c =
+    let inv = c.self.invariant in
+    let size = c.in_err-advance_each.ensures.size in
+    let some = c.in_err-advance_each.ensures.err in (
+      subst (λ n. n ≤ most_keys) (sym size) inv.0,
+      inv.1 ∙ sym size,
+      inv.2 ∙ sym size,
+      marked_still c.args.moment some.0 c.self.inside.marks (values c.self.inside.sets) (values c.advance_each.new.sets) inv.3 (λ n has. (c.marked.ensures.members n).0 (some.1 n has)) some.2,
+    )
+
+pub returns-in_err-advance_each-clause-err : goal.returns-in_err-advance_each-clause-err
+returns-in_err-advance_each-clause-err g c =
+    let some = c.in_err-advance_each.ensures.err in
+    always_err c.from_residual.result _ (rw (← c.self.view_is) (record {
+      times = refl;
+      keys = c.in_err-advance_each.ensures.keys;
+      records = refl;
+      long = some.2.long;
+      each = some_advance c.args.moment some.0 (values c.self.inside.sets) (values c.advance_each.new.sets) some.2;
+    }))
+
+pub unmark_silent-requires-clause-marked : goal.unmark_silent-requires-clause-marked
+unmark_silent-requires-clause-marked g c =
+    marked_still c.args.moment c.marked.result.now c.self.inside.marks (values c.self.inside.sets) (values c.advance_each.new.sets) c.self.invariant.3 (λ n has. (c.marked.ensures.members n).0 has) c.in_ok-advance_each.ensures.ok
+
+pub returns-clause-ok : goal.returns-clause-ok
+returns-clause-ok g c =
+    let up = c.in_ok-advance_each.ensures.ok in
+    let sets = c.self.inside.sets in
+    always_ok c.unmark_silent.result _ (rw (← c.self.view_is) (record {
+      times = refl;
+      keys = c.in_ok-advance_each.ensures.keys;
+      records = refl;
+      long = up.long;
+      each = marked_advance c.args.moment c.marked.result.now c.self.inside.marks (values sets) (values c.advance_each.new.sets)
+          (c.self.invariant.2 ∙ sym (length-values_of sets.entries)) c.self.invariant.3 c.marked.ensures.members up;
+    }))
+
+pub returns-clause-err : goal.returns-clause-err
+returns-clause-err g c =
+    let up = c.in_ok-advance_each.ensures.ok in
+    let sets = c.self.inside.sets in
+    always_err c.unmark_silent.result _ (rw (← c.self.view_is) (record {
+      times = refl;
+      keys = c.in_ok-advance_each.ensures.keys;
+      records = refl;
+      long = up.long;
+      each = λ n a b was is. inl (marked_advance c.args.moment c.marked.result.now c.self.inside.marks (values sets) (values c.advance_each.new.sets)
+          (c.self.invariant.2 ∙ sym (length-values_of sets.entries)) c.self.invariant.3 c.marked.ensures.members up n a b was is);
+    }))

@@ -1,0 +1,52 @@
+use Rattle.std.proofs.Common.{◌<◌, ◌∙◌, length, take, get_or, arith}
+use Rattle.std.proofs.lemmas.List.{take_more}
+use Rattle.indexmap.specs.IndexMap.{values}
+use Rattle.indexmap.proofs.CallerLemmas.{keys-with_value_at, index_map_len-with_value_at}
+use Rattle.sip_states.proofs.TablesLemmas.{values_of-set_value_at}
+use Rattle.sip_states.proofs.AdvanceLemmas.{advances_more, advances_failed, still_early, fresh_next, take_among, always_err}
+use Rattle.sip_states.proofs.tables.advance_each.Goals as goal
+
+pub advance-requires : goal.advance-requires
+advance-requires g c =
+    let indices = c.args.indices.now in
+    let i = c.loop-index.index-index in
+    let fresh = fresh_next indices i 0 c.requires.once (omega arith) in
+    still_early c.args.moment (take i indices) (values c.args.sets.now) (values c.loop-index.sets) (get_or indices i 0) c.index_mut.result.now c.loop-index.invariant.up fresh c.requires.early c.index_mut.ensures.value
+
+pub returns-in_err-advance-clause-keys : goal.returns-in_err-advance-clause-keys
+returns-in_err-advance-clause-keys g c =
+    keys-with_value_at c.loop-index.sets (get_or c.args.indices.now c.loop-index.index-index 0) c.advance.new.self ∙ c.loop-index.invariant.keys_are
+
+pub returns-in_err-advance-clause-size : goal.returns-in_err-advance-clause-size
+returns-in_err-advance-clause-size g c =
+    index_map_len-with_value_at c.loop-index.sets (get_or c.args.indices.now c.loop-index.index-index 0) c.advance.new.self ∙ c.loop-index.invariant.size
+
+pub returns-in_err-advance-clause-err : goal.returns-in_err-advance-clause-err
+returns-in_err-advance-clause-err g c =
+    let indices = c.args.indices.now in
+    let i = c.loop-index.index-index in
+    let sets = c.loop-index.sets in
+    let at = get_or indices i 0 in
+    let w = c.advance.new.self in
+    always_err c.from_residual.result _ (
+      take i indices,
+      take_among i indices,
+      rw (values_of-set_value_at sets.entries at w)
+          (advances_failed c.args.moment (take i indices) (values c.args.sets.now) (values sets) at c.index_mut.result.now w c.loop-index.invariant.up c.index_mut.ensures.value c.in_err-advance.ensures.err),
+    )
+
+pub loop-index-preserved : goal.loop-index-preserved
+loop-index-preserved g c =
+    let indices = c.args.indices.now in
+    let i = c.loop-index.index-index in
+    let sets = c.loop-index.sets in
+    let at = get_or indices i 0 in
+    let w = c.advance.new.self in
+    let low : i < length indices = omega arith in
+    let inv = c.loop-index.invariant in
+    record {
+      keys_are = keys-with_value_at sets at w ∙ inv.keys_are;
+      size = index_map_len-with_value_at sets at w ∙ inv.size;
+      up = rw (take_more indices i 0 low, values_of-set_value_at sets.entries at w)
+          (advances_more c.args.moment (take i indices) (values c.args.sets.now) (values sets) at c.index_mut.result.now w inv.up (fresh_next indices i 0 c.requires.once low) c.index_mut.ensures.value c.in_ok-advance.ensures.ok);
+    }

@@ -1,0 +1,38 @@
+use Rattle.std.proofs.Common.{◌≡◌, ◌∙◌, [], true, false, ap, length, arith}
+use Rattle.std.proofs.lemmas.Grind.{common_steps}
+use Rattle.std.proofs.lemmas.Option.{slice_get_within}
+use Rattle.std.proofs.lemmas.List.{length-set, nil_from_length}
+use Rattle.indexmap.specs.IndexMap.{values}
+use Rattle.sip_states.specs.Sweep.{numbers_of}
+use Rattle.sip_states.specs.inner.Marks.{IsMarked}
+use Rattle.sip_states.proofs.NamesLemmas.{names_nothing}
+use Rattle.sip_states.proofs.AdvanceLemmas.{item_among, unmarked}
+use Rattle.sip_states.proofs.tables.unmark_silent.Goals as goal
+
+pub index-requires : goal.index-requires
+index-requires g c =
+    let marks = c.loop-place.marks in
+    let index = c.in-Some.index in
+    let mark : IsMarked marks index = (c.marked.ensures.members index).0 (item_among _ _ _ _ _ c.get.ensures.lookup c.copied.ensures c.in-Some.is) in
+    let low = slice_get_within marks index true mark in
+    omega (arith, low, c.loop-place.invariant.long, c.requires.long)
+
+pub unmark-requires : goal.unmark-requires
+unmark-requires g c =
+    let marks = c.loop-place.marks in
+    let index = c.in-Some.index in
+    let mark : IsMarked marks index = (c.marked.ensures.members index).0 (item_among _ _ _ _ _ c.get.ensures.lookup c.copied.ensures c.in-Some.is) in
+    slice_get_within marks index true mark
+
+pub loop-place-preserved-then-is_empty : goal.loop-place-preserved-then-is_empty
+loop-place-preserved-then-is_empty g c =
+    let marks = c.loop-place.marks in
+    let index = c.in-Some.index in
+    let set = c.index.result.now in
+    let none : length c.names.new.out.items ≡ 0 = grind (arith, common_steps) in
+    let empty : c.names.new.out.items ≡ [] = nil_from_length c.names.new.out.items none in
+    let silent : numbers_of set ≡ [] = names_nothing (numbers_of set) c.clear.new.self.items c.names.new.out.items c.clear.ensures.items empty c.in_ok-names.ensures in
+    record {
+      long = ap length c.unmark.ensures ∙ length-set marks index false ∙ c.loop-place.invariant.long;
+      marked = rw c.unmark.ensures (unmarked marks (values c.args.sets.now) index set c.loop-place.invariant.marked c.index.ensures silent);
+    }

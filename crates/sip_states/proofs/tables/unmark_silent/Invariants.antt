@@ -1,0 +1,11 @@
+use Rattle.std.proofs.Common.{◌≡◌, length}
+use Rattle.indexmap.specs.IndexMap.{values}
+use Rattle.sip_states.specs.inner.Marks.{AreMarked}
+use Rattle.sip_states.proofs.tables.unmark_silent.Given as goal
+
+abbrev pub invariant-loop-place : goal.invariant-loop-place
+invariant-loop-place g l =
+    record {
+      long : length l.marks ≡ length l.initial.marks;
+      marked : AreMarked l.marks (values l.sets);
+    }

@@ -1,0 +1,46 @@
+-- What a sweep over the sets of tables does: they wait, and tell which messages they name.
+use Rattle.std.specs.Prelude.{◌≡◌, ◌<◌, ◌⊎◌, ◌↔◌, ◌++◌, [], ℕ, List, Some, AllPairs, Contains, flat_map, length, slice_get}
+use Rattle.sip_machine.specs.Times.{Times}
+use Rattle.sip_machine.specs.Owing.{owing_names}
+use Rattle.sip_states.specs.Held.{Held}
+use Rattle.sip_states.specs.KeyMachine.{MachineKind, OfInviteClient, OfPlainClient, OfInviteServer, OfPlainServer}
+use Rattle.sip_states.specs.declared.any_set.AnySet.{AnySet}
+use Rattle.sip_states.specs.declared.any_set.AnySet.TheVariants.{InviteClient, PlainClient, InviteServer, PlainServer}
+use Rattle.sip_states.specs.AnySet.{StateOf, Waits, coded}
+use Rattle.sip_states.specs.Tables.{Tabled}
+
+-- the numbers of the messages that the states of a set of this machine name
+abbrev pub names_of : (machine : MachineKind) → Held Times (StateOf machine) → List ℕ
+names_of machine s = flat_map (owing_names (coded machine).names) s.states
+
+-- and those of any set
+abbrev pub numbers_of : AnySet → List ℕ
+numbers_of (InviteClient s) = names_of OfInviteClient s
+numbers_of (PlainClient s) = names_of OfPlainClient s
+numbers_of (InviteServer s) = names_of OfInviteServer s
+numbers_of (PlainServer s) = names_of OfPlainServer s
+
+-- the set has waited until the moment; or it names nothing, and stays
+abbrev pub IsAdvanced : ℕ → AnySet → AnySet → Type 0
+IsAdvanced moment old new = Waits moment old new ⊎ ((new ≡ old) × (numbers_of old ≡ []))
+
+-- nothing but the sets changes, and P holds of each and what came of it
+pub record ChangesSets (P : AnySet → AnySet → Type 0) (old new : Tabled) : Type 0 where
+  pub times : new.times ≡ old.times
+  pub keys : new.keys ≡ old.keys
+  pub records : new.records ≡ old.records
+  pub long : length new.sets ≡ length old.sets
+  pub each : (n : ℕ) (before after : AnySet) → slice_get old.sets n ≡ Some before → slice_get new.sets n ≡ Some after → P before after
+
+-- each set has waited until the moment, but for those that name nothing
+abbrev pub AdvancesAll : ℕ → Tabled → Tabled → Type 0
+AdvancesAll moment old new = ChangesSets (IsAdvanced moment) old new
+
+-- some have, and the others are as before
+abbrev pub AdvancesSome : ℕ → Tabled → Tabled → Type 0
+AdvancesSome moment old new = ChangesSets (λ before after. IsAdvanced moment before after ⊎ (after ≡ before)) old new
+
+-- the numbers of the messages that the sets name were appended, ascending, each once
+abbrev pub AppendsNamed : Tabled → List ℕ → List ℕ → Type 0
+AppendsNamed t old new =
+    (added : List ℕ) × (new ≡ old ++ added) × AllPairs (λ a b. a < b) added × ((n : ℕ) → Contains added n ↔ Contains (flat_map numbers_of t.sets) n)

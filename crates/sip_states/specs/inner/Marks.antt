@@ -1,0 +1,31 @@
+use Rattle.std.specs.Prelude.{◌≡◌, ◌<◌, ◌≤◌, ℕ, Bool, true, false, Some, List, [], map, length, nat_lt, get_or, set, slice_get}
+use Rattle.sip_states.specs.declared.any_set.AnySet.{AnySet}
+use Rattle.sip_states.specs.Sweep.{numbers_of}
+
+-- Which indices are marked: they stand first in a list of all of them, and each knows its place there.
+
+-- whether each index is marked
+abbrev pub marks : List ℕ → ℕ → List Bool
+marks places count = map (λ place. nat_lt place count) places
+
+-- the order has each index at its place
+pub record IsPlaced (order places : List ℕ) (count : ℕ) : Type 0 where
+  pub long : length places ≡ length order
+  pub few : count ≤ length order
+  pub placed : (i : ℕ) → i < length order → (get_or places i 0 < length order) × (get_or order (get_or places i 0) 0 ≡ i)
+  pub ordered : (p : ℕ) → p < length order → (get_or order p 0 < length order) × (get_or places (get_or order p 0) 0 ≡ p)
+
+-- the indices at two places, changed for one another
+abbrev pub exchanged_order : List ℕ → ℕ → ℕ → List ℕ
+exchanged_order order p q = set (set order p (get_or order q 0)) q (get_or order p 0)
+
+abbrev pub exchanged_places : List ℕ → List ℕ → ℕ → ℕ → List ℕ
+exchanged_places order places p q = set (set places (get_or order p 0) q) (get_or order q 0) p
+
+-- the index is marked
+abbrev pub IsMarked : List Bool → ℕ → Type 0
+IsMarked marks index = slice_get marks index ≡ Some true
+
+-- sets whose indices are not marked name no message
+abbrev pub AreMarked : List Bool → List AnySet → Type 0
+AreMarked marks sets = (index : ℕ) (set : AnySet) → slice_get sets index ≡ Some set → slice_get marks index ≡ Some false → numbers_of set ≡ []

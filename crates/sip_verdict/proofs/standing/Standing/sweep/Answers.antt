@@ -1,0 +1,78 @@
+use Rattle.std.proofs.Common.{length, refl, sym, subst}
+use Rattle.std.proofs.lemmas.List.Elements.{All-contains}
+use Rattle.sip_machine.specs.Texts.{Keeps}
+use Rattle.sip_machine.proofs.RetainLemmas.{Keeps-only}
+use Rattle.sip_verdict.specs.Named.{IsNamed, AreMany, key_messages}
+use Rattle.sip_verdict.specs.MessageReading.{key_machines}
+use Rattle.sip_verdict.specs.inner.TablesTracking.{MayPass, TablesTrack}
+use Rattle.sip_verdict.proofs.NamedTables.{many_named}
+use Rattle.sip_verdict.proofs.SweptTables.{named_is, swept_may, swept_track, swept_recorded, swept_kept}
+use Rattle.sip_verdict.proofs.standing.Standing.sweep.Goals as goal
+
+pub retain_only-requires-clause-rising : goal.retain_only-requires-clause-rising
+retain_only-requires-clause-rising g c =
+    let s = c.args.self.now in
+    let u = c.advance_all.new.self in
+    let numbers = c.deref.result.now in
+    let named = named_is u c.new-named.result.items c.named.new.out.items c.new-named.ensures.items c.in_ok-named.ensures.ok numbers c.deref.ensures.value in
+    let advances = c.in_ok-advance_all.ensures.ok in
+    named.0
+
+pub retain_only-requires-clause-kept : goal.retain_only-requires-clause-kept
+retain_only-requires-clause-kept g c =
+    let s = c.args.self.now in
+    let u = c.advance_all.new.self in
+    let numbers = c.deref.result.now in
+    let named = named_is u c.new-named.result.items c.named.new.out.items c.new-named.ensures.items c.in_ok-named.ensures.ok numbers c.deref.ensures.value in
+    let advances = c.in_ok-advance_all.ensures.ok in
+    swept_kept s.book c.known.ensures s.tables u c.args.moment advances c.requires.may numbers named.0 named.1
+
+pub returns-clause-may : goal.returns-clause-may
+returns-clause-may g c =
+    let s = c.args.self.now in
+    let u = c.advance_all.new.self in
+    let numbers = c.deref.result.now in
+    let named = named_is u c.new-named.result.items c.named.new.out.items c.new-named.ensures.items c.in_ok-named.ensures.ok numbers c.deref.ensures.value in
+    let advances = c.in_ok-advance_all.ensures.ok in
+    let kept = swept_kept s.book c.known.ensures s.tables u c.args.moment advances c.requires.may numbers named.0 named.1 in
+    subst (λ b. MayPass b u c.args.moment) (sym c.retain_only.ensures) (swept_may s.book c.known.ensures s.tables u c.args.moment advances c.requires.may numbers named.0 named.1 kept)
+
+pub returns-clause-recorded : goal.returns-clause-recorded
+returns-clause-recorded g c =
+    let s = c.args.self.now in
+    let u = c.advance_all.new.self in
+    let numbers = c.deref.result.now in
+    let named = named_is u c.new-named.result.items c.named.new.out.items c.new-named.ensures.items c.in_ok-named.ensures.ok numbers c.deref.ensures.value in
+    let advances = c.in_ok-advance_all.ensures.ok in
+    swept_recorded s.book c.known.ensures s.tables u c.args.moment advances c.requires.may numbers named.0 named.1 c.requires.recorded
+
+pub returns-clause-fewer : goal.returns-clause-fewer
+returns-clause-fewer g c =
+    let s = c.args.self.now in
+    let u = c.advance_all.new.self in
+    let numbers = c.deref.result.now in
+    let named = named_is u c.new-named.result.items c.named.new.out.items c.new-named.ensures.items c.in_ok-named.ensures.ok numbers c.deref.ensures.value in
+    let advances = c.in_ok-advance_all.ensures.ok in
+    let kept = swept_kept s.book c.known.ensures s.tables u c.args.moment advances c.requires.may numbers named.0 named.1 in
+    λ n keeps. All-contains (Keeps s.book) numbers n kept (Keeps-only s.book numbers c.known.ensures named.0 kept n (subst (λ b. Keeps b n) c.retain_only.ensures keeps))
+
+pub returns-clause-tracks : goal.returns-clause-tracks
+returns-clause-tracks g c =
+    let s = c.args.self.now in
+    let u = c.advance_all.new.self in
+    let numbers = c.deref.result.now in
+    let named = named_is u c.new-named.result.items c.named.new.out.items c.new-named.ensures.items c.in_ok-named.ensures.ok numbers c.deref.ensures.value in
+    let advances = c.in_ok-advance_all.ensures.ok in
+    let kept = swept_kept s.book c.known.ensures s.tables u c.args.moment advances c.requires.may numbers named.0 named.1 in
+    λ es tracks. subst (λ b. TablesTrack b es u) (sym c.retain_only.ensures) (swept_track s.book c.known.ensures s.tables u c.args.moment advances c.requires.may numbers named.0 named.1 kept es tracks)
+
+pub returns-clause-named : goal.returns-clause-named
+returns-clause-named g c =
+    let s = c.args.self.now in
+    let u = c.advance_all.new.self in
+    let numbers = c.deref.result.now in
+    let named = named_is u c.new-named.result.items c.named.new.out.items c.new-named.ensures.items c.in_ok-named.ensures.ok numbers c.deref.ensures.value in
+    let advances = c.in_ok-advance_all.ensures.ok in
+    let kept = swept_kept s.book c.known.ensures s.tables u c.args.moment advances c.requires.may numbers named.0 named.1 in
+    λ es tracks newest. subst (λ b. AreMany (IsNamed (key_machines s.tables.times) key_messages es) (length b)) (sym c.retain_only.ensures)
+    (many_named s.book c.known.ensures s.tables.times c.args.moment es s.tables u refl tracks c.requires.may.long newest c.requires.may.order advances.long advances.each numbers named.0 named.1 kept)

@@ -1,0 +1,10 @@
+use Rattle.std.proofs.Common.{◌≡◌, ◌∙◌, length, ap, subst}
+use Rattle.sip_verdict.proofs.JudgeLemmas.{legal_is}
+use Rattle.sip_verdict.proofs.stream.Judge.end.Goals as goal
+
+pub returns-in-Open-clause-legal : goal.returns-in-Open-clause-legal
+returns-in-Open-clause-legal g c es stands =
+    let is = c.self.view_is in
+    let may = (c.self.invariant c.in-Open.is).0 in
+    legal_is c.args.self es stands (subst (λ t. length t.sets ≡ length t.keys) (ap (λ j. j.tables) is) may.passes.long) c.self.inside.number c.transactions.result (ap (λ j. j.number) is)
+    (c.transactions.ensures ∙ ap (λ j. length j.tables.keys) is)

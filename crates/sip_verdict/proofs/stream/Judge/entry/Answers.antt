@@ -1,0 +1,22 @@
+use Rattle.std.proofs.Common.{◌+◌, ◌∙◌, refl, sym, ap, subst}
+use Rattle.sip_verdict.specs.Judging.{Judging, AreFollowed, MayComeNext}
+use Rattle.sip_verdict.proofs.JudgeLemmas.{may_take_next, stands_on}
+use Rattle.sip_verdict.proofs.stream.Judge.entry.Goals as goal
+
+pub judge_next-requires-clause-may : goal.judge_next-requires-clause-may
+judge_next-requires-clause-may g c =
+    let s = c.self.inside in
+    let e = c.args.entry.now in
+    let is = c.self.view_is in
+    let next = subst (λ j. MayComeNext j.number j.moment e.number e.moment) (sym is) (c.requires (ap (λ j. j.stage) (sym is) ∙ c.in-Open.is)) in
+    may_take_next s.standing.book s.standing.tables s.number s.moment e.number e.moment next (c.self.invariant c.in-Open.is).0
+
+pub returns-in-Ok-None-clause-judged : goal.returns-in-Ok-None-clause-judged
+returns-in-Ok-None-clause-judged g c es stands =
+    let e = c.args.entry.now in
+    let is = c.self.view_is in
+    let next = (c.requires (ap (λ j. j.stage) (sym is) ∙ c.in-Open.is)).next in
+    let new = c.judge_next.new in
+    let now : Judging = record { number = e.number; moment = e.moment; texts = new.standing.book; tables = new.standing.tables; left = new.left; stage = c.self.inside.stage } in
+    stands_on c.args.self.now now e next refl refl c.in-Open.is es stands
+    ((rw c.in-Ok-None.field-0-is at c.in-Ok-None.ensures.judged) es (subst (λ j. AreFollowed j.texts j.tables j.left es) (sym is) stands.follows) (next ∙ ap (λ n. n + 1) stands.number))

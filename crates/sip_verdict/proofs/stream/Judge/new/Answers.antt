@@ -1,0 +1,11 @@
+use Rattle.std.proofs.Common.{refl}
+use Rattle.sip_verdict.proofs.FollowedLemmas.{followed_none}
+use Rattle.sip_verdict.proofs.stream.Judge.new.Goals as goal
+
+pub returns-clause-stands : goal.returns-clause-stands
+returns-clause-stands g c = record {
+  goes_on = refl;
+  number = refl;
+  moment = refl;
+  follows = followed_none c.args.params c.new.result.book c.new.result.tables c.new.ensures.book c.new.ensures.tables;
+}

@@ -1,0 +1,37 @@
+use Rattle.std.proofs.Common.{◌≤◌, ◌+◌, length, arith}
+use Rattle.sip_log.specs.Told.{item}
+use Rattle.sip_verdict.proofs.FollowedLemmas.{followed_kept, followed_swept, swept_take}
+use Rattle.sip_verdict.proofs.sweeping.judge_next.Goals as goal
+
+pub returns-then-kept-left-clause-judged : goal.returns-then-kept-left-clause-judged
+returns-then-kept-left-clause-judged g c =
+    let s = c.args.standing.now in
+    let mid = c.entry.new.self in
+    let e = c.args.entry.now in
+    let left = c.args.left.now in
+    let few : length mid.book ≤ left + left + 64 = omega (arith, c.kept.ensures.kept, c.if-kept-left.true) in
+    followed_kept s.book mid.book s.tables mid.tables c.in_ok-verdict.ensures.times e.number (item e) (rw c.in_default.is at c.in_ok-verdict.ensures.judged) left few
+
+pub returns-clause-may : goal.returns-clause-may
+returns-clause-may g c =
+    let mid = c.entry.new.self in
+    let new = c.sweep.new.self in
+    let e = c.args.entry.now in
+    let swept = c.in_ok-sweep.ensures in
+    swept_take mid.book new.book mid.tables new.tables (e.number + 1) e.moment (rw c.in_default.is at c.in_ok-verdict.ensures.may) swept.may swept.recorded swept.fewer swept.keys
+
+pub returns-clause-left : goal.returns-clause-left
+returns-clause-left g c =
+    let may = rw c.in_default.is at c.in_ok-verdict.ensures.may in
+    let high = c.kept-2.ensures.few (c.args.entry.now.number + 1) (λ n keeps. may.numbered n (c.in_ok-sweep.ensures.fewer n keeps)) in
+    omega (arith, high, c.requires.count)
+
+pub returns-clause-judged : goal.returns-clause-judged
+returns-clause-judged g c =
+    let s = c.args.standing.now in
+    let mid = c.entry.new.self in
+    let new = c.sweep.new.self in
+    let e = c.args.entry.now in
+    let swept = c.in_ok-sweep.ensures in
+    followed_swept s.book mid.book s.tables mid.tables c.in_ok-verdict.ensures.times e.number (item e) (rw c.in_default.is at c.in_ok-verdict.ensures.judged) new.book new.tables swept.times swept.tracks swept.named
+    c.kept-2.result c.kept-2.ensures.kept c.args.left.now

@@ -1,0 +1,71 @@
+-- What a judge that takes the entries of a log as they come stands for.
+use Rattle.std.specs.Prelude.{◌≡◌, ◌≢◌, ◌≤◌, ◌+◌, ℕ, List, [], ◌∷◌, ◌++◌, Option, Some, None, Result, Ok, Err, length}
+use Rattle.sip_key.specs.Key.{KeyParts}
+use Rattle.sip_machine.specs.Times.{last_moment}
+use Rattle.sip_machine.specs.Texts.{Texts}
+use Rattle.sip_states.specs.Tables.{Tabled}
+use Rattle.sip_log.specs.Log.{most_entries}
+use Rattle.sip_verdict.specs.declared.stage.Stage.{Stage}
+use Rattle.sip_verdict.specs.declared.stage.Stage.TheVariants.{Open, Told, Failed}
+use Rattle.sip_verdict.specs.declared.step_error.StepError.{StepError}
+use Rattle.sip_verdict.specs.declared.step_error.StepError.TheVariants as errors
+use Rattle.sip_verdict.specs.declared.verdict.Verdict.{Verdict}
+use Rattle.sip_verdict.specs.declared.verdict.Verdict.TheVariants.{Legal}
+use Rattle.sip_verdict.specs.Keyed.{Observation, newest_moment}
+use Rattle.sip_verdict.specs.Verdicts.{IsTrouble}
+use Rattle.sip_verdict.specs.MessageReading.{key_machines}
+use Rattle.sip_verdict.specs.Named.{WereNamed, key_messages}
+use Rattle.sip_verdict.specs.inner.TablesTracking.{TablesTrack}
+
+-- what a judge holds: the number and the moment of its newest entry, the messages that it keeps, the set of each key, how many messages its last
+-- sweep left, and how far it is
+pub record Judging : Type 0 where
+  pub number : ℕ
+  pub moment : ℕ
+  pub texts : Texts
+  pub tables : Tabled
+  pub left : ℕ
+  pub stage : Stage
+
+-- messages and sets follow these entries, none of which is in trouble; so many messages were named after one of them, and few more are kept
+pub record AreFollowed (texts : Texts) (t : Tabled) (left : ℕ) (es : List (Observation KeyParts)) : Type 0 where
+  pub tracks : TablesTrack texts es t
+  pub named : WereNamed (key_machines t.times) key_messages es left
+  pub few : length texts ≤ left + left + 64
+
+-- the judge stands for these entries
+pub record StandsFor (j : Judging) (es : List (Observation KeyParts)) : Type 0 where
+  pub goes_on : j.stage ≡ Open
+  pub number : j.number ≡ length es
+  pub moment : j.moment ≡ newest_moment es
+  pub follows : AreFollowed j.texts j.tables j.left es
+
+-- an entry of this number and moment may come behind one of the number count and the moment last
+pub record MayComeNext (count last number moment : ℕ) : Type 0 where
+  pub next : number ≡ count + 1
+  pub order : last ≤ moment
+  pub within : number ≤ most_entries
+  pub limit : moment ≤ last_moment
+
+-- what is judged of an entry behind those that the judge stood for: it stands for this one too, or this is the verdict of the entry
+abbrev pub IsNext : Judging → List (Observation KeyParts) → Observation KeyParts → Option Verdict → Type 0
+IsNext j es e None = StandsFor j (es ++ e ∷ [])
+IsNext j es e (Some v) = IsTrouble (key_machines j.tables.times) es e v
+
+-- what a judge of this stage can answer: a verdict that was told again, and after a failure that it failed
+abbrev pub CanAnswer : Stage → Result (Option Verdict) StepError → Type 0
+CanAnswer Open answer = answer ≢ Err errors.Failed
+CanAnswer (Told v) answer = answer ≡ Ok (Some v)
+CanAnswer Failed answer = answer ≡ Err errors.Failed
+
+-- how far it is behind an answer
+abbrev pub stage_behind : Result (Option Verdict) StepError → Stage
+stage_behind (Ok None) = Open
+stage_behind (Ok (Some v)) = Told v
+stage_behind (Err e) = Failed
+
+-- the verdict with which a judge ends that took so many entries, of so many transactions: what it told, or that they are legal; none after a failure
+abbrev pub last_verdict : ℕ → ℕ → Stage → Option Verdict
+last_verdict entries transactions Open = Some (Legal entries transactions)
+last_verdict entries transactions (Told v) = Some v
+last_verdict entries transactions Failed = None

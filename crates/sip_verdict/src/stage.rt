@@ -1,0 +1,10 @@
+//! How far a judge is.
+use crate::verdict::Verdict;
+
+/// How far a judge is: it goes on, it has told a verdict, or it failed.
+#[derive(Clone, Copy, Debug, PartialEq, Eq)]
+pub(crate) enum Stage {
+    Open,
+    Told(Verdict),
+    Failed,
+}

@@ -1,0 +1,25 @@
+//! Why a judge has no answer.
+ghost use Rattle.std.specs.Prelude.{◌≡◌};
+ghost use Rattle.sip_verdict.specs.declared.judge_error.JudgeError.TheVariants as judging;
+
+use crate::judge_error::JudgeError;
+use thiserror::Error;
+
+/// Why a judge did not judge an entry.
+#[derive(Clone, Copy, Debug, PartialEq, Eq, Error)]
+pub enum StepError {
+    /// A growth was refused.
+    #[error("out of memory")]
+    Memory,
+    /// The judge failed before.
+    #[error("the judge has failed before")]
+    Failed,
+}
+
+impl From<StepError> for JudgeError {
+    ghost from_gives = { λ _ e. e ≡ judging.Memory };
+
+    fn from(_: StepError) -> Self {
+        JudgeError::Memory
+    }
+}

@@ -1,0 +1,146 @@
+//! A judge that takes the entries of a log as they come.
+ghost use Rattle.std.specs.Prelude.{◌≡◌, ◌↔◌, [], Some, List, IsTrue, IfOk, IfNone, OnOk, length};
+ghost use Rattle.sip_key.specs.Key.{KeyParts};
+ghost use Rattle.sip_log.specs.Told.{item};
+ghost use Rattle.sip_verdict.specs.declared.stage.Stage.TheVariants.{Open};
+ghost use Rattle.sip_verdict.specs.declared.verdict.Verdict.TheVariants.{Legal};
+ghost use Rattle.sip_verdict.specs.Keyed.{Observation, keys_of};
+ghost use Rattle.sip_verdict.specs.MessageReading.{key_machines, message_reading};
+ghost use Rattle.sip_verdict.specs.Named.{AreFew, key_messages};
+ghost use Rattle.sip_verdict.specs.Judging.{StandsFor, MayComeNext, IsNext, CanAnswer, stage_behind, last_verdict};
+
+use crate::stage::Stage;
+use crate::standing::Standing;
+use crate::step_error::StepError;
+use crate::sweeping::judge_next;
+use crate::verdict::Verdict;
+use sip_log::Entry;
+use sip_machine::Params;
+use std::alloc::{AllocError, Global};
+use std::hash::BuildHasher;
+use std::marker::Model;
+
+/// Judges the entries of a log as they come, and forgets the messages that it does not need any more.
+#[derive(Drop)]
+pub struct Judge<H: BuildHasher> {
+    alloc: Global,
+    standing: Standing<H>,
+    number: u32,
+    moment: u64,
+    left: usize,
+    stage: Stage,
+}
+
+impl<H: BuildHasher> Model for Judge<H> {
+    ghost use Rattle.std.specs.Prelude.{◌≡◌, ◌≤◌, ◌+◌};
+    ghost use Rattle.sip_log.specs.Log.{most_entries};
+    ghost use Rattle.sip_verdict.specs.declared.stage.Stage.TheVariants.{Open};
+    ghost use Rattle.sip_verdict.specs.Judging.{Judging};
+    ghost use Rattle.sip_verdict.specs.inner.TablesTracking.{MayTake};
+
+    ghost Value = { Judging };
+
+    ghost view = { λ j. record { number = j.number; moment = j.moment; texts = j.standing.book; tables = j.standing.tables; left = j.left; stage = j.stage } };
+
+    ghost invariant = { λ j. j.stage ≡ Open → MayTake j.standing.book j.standing.tables (j.number + 1) j.moment × (j.left ≤ most_entries + 1) };
+}
+
+/// The most entries of a log.
+const MOST_ENTRIES: u32 = 1_000_000;
+
+/// The last moment of a log.
+const LAST_MOMENT: u64 = 9_999_999_999_999;
+
+/// Whether the entry may come behind one of this number and moment.
+fn may_come_next(number: u32, moment: u64, entry: &Entry) -> bool
+    ensures { IsTrue result ↔ MayComeNext number moment entry.now.number entry.now.moment }
+{
+    if number >= MOST_ENTRIES || entry.number != number + 1 {
+        return false;
+    }
+    moment <= entry.moment && entry.moment <= LAST_MOMENT
+}
+
+impl<H: BuildHasher + Drop> Judge<H> {
+    /// No entry was judged yet. It takes no memory.
+    pub fn new(alloc: Global, params: Params, hasher: H) -> Judge<H>
+        ensures stands { StandsFor result [] }
+        ensures times { result.tables.times ≡ params }
+    {
+        Judge {
+            alloc,
+            standing: Standing::new(alloc, params, hasher),
+            number: 0,
+            moment: 0,
+            left: 0,
+            stage: Stage::Open,
+        }
+    }
+
+    /// Whether the entry may come next: its number is one above that of the entry before, counted from 1, its moment is not
+    /// below that one's, and both are within the limits of a log. Behind a verdict and behind an error any entry may.
+    pub fn may_take(&self, entry: &Entry) -> bool
+        ensures { IsTrue result ↔ (self.now.stage ≡ Open → MayComeNext self.now.number self.now.moment entry.now.number entry.now.moment) }
+    {
+        match self.stage {
+            Stage::Open => may_come_next(self.number, self.moment, entry),
+            Stage::Told(_) | Stage::Failed => true,
+        }
+    }
+
+    /// Judges the next entry, with the verdict if it is in trouble. Later calls answer that verdict again. After an error every
+    /// call answers `StepError::Failed`.
+    pub fn entry(&mut self, entry: &Entry) -> Result<Option<Verdict>, StepError>
+        requires { self.old.stage ≡ Open → MayComeNext self.old.number self.old.moment entry.now.number entry.now.moment }
+        ensures judged { IfOk result (λ verdict. (es : List (Observation KeyParts)) → StandsFor self.old es
+            → (e : Observation KeyParts) × message_reading.Observes es (item entry.now) e × IsNext self.new es e verdict) }
+        ensures answers { CanAnswer self.old.stage result }
+        ensures stage { self.new.stage ≡ stage_behind result }
+        ensures newest { IfOk result (λ verdict. IfNone verdict ((self.new.number ≡ entry.now.number) × (self.new.moment ≡ entry.now.moment))) }
+        ensures times { OnOk result (self.new.tables.times ≡ self.old.tables.times) }
+    {
+        match self.stage {
+            Stage::Open => match judge_next(self.alloc, &mut self.standing, &mut self.left, entry) {
+                Ok(None) => {
+                    self.number = entry.number;
+                    self.moment = entry.moment;
+                    Ok(None)
+                }
+                Ok(Some(verdict)) => {
+                    self.stage = Stage::Told(verdict);
+                    Ok(Some(verdict))
+                }
+                Err(AllocError) => {
+                    self.stage = Stage::Failed;
+                    Err(StepError::Memory)
+                }
+            },
+            Stage::Told(verdict) => Ok(Some(verdict)),
+            Stage::Failed => Err(StepError::Failed),
+        }
+    }
+
+    /// The verdict on the entries: that of the first in trouble, or that they are legal. None after an error.
+    pub fn end(self) -> Option<Verdict>
+        ensures last { result ≡ last_verdict self.number (length self.tables.keys) self.stage }
+        ensures legal { (es : List (Observation KeyParts)) → StandsFor self es
+            → result ≡ Some (Legal (length es) (length (keys_of (key_machines self.tables.times) es))) }
+    {
+        match self.stage {
+            Stage::Open => Some(Verdict::Legal {
+                entries: self.number,
+                transactions: self.standing.transactions(),
+            }),
+            Stage::Told(verdict) => Some(verdict),
+            Stage::Failed => None,
+        }
+    }
+
+    /// How many messages it keeps.
+    pub fn kept(&self) -> usize
+        ensures kept { result ≡ length self.now.texts }
+        ensures few { (es : List (Observation KeyParts)) → StandsFor self.now es → AreFew (key_machines self.now.tables.times) key_messages es result }
+    {
+        self.standing.kept()
+    }
+}

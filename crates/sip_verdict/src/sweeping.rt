@@ -1,0 +1,51 @@
+//! Judges entries, and forgets the messages that no transaction needs any more.
+ghost use Rattle.std.specs.Prelude.{◌≡◌, ◌≤◌, ◌+◌, List, IfOk, IfNone, OnOk, length};
+ghost use Rattle.sip_key.specs.Key.{KeyParts};
+ghost use Rattle.sip_machine.specs.Times.{last_moment};
+ghost use Rattle.sip_log.specs.Log.{most_entries};
+ghost use Rattle.sip_log.specs.Told.{item};
+ghost use Rattle.sip_verdict.specs.Keyed.{Observation};
+ghost use Rattle.sip_verdict.specs.MessageReading.{message_reading};
+ghost use Rattle.sip_verdict.specs.Judging.{AreFollowed};
+ghost use Rattle.sip_verdict.specs.inner.Sweeping.{AreFollowedOn};
+ghost use Rattle.sip_verdict.specs.inner.TablesTracking.{MayTake};
+
+use crate::standing::Standing;
+use crate::verdict::Verdict;
+use sip_log::Entry;
+use std::alloc::{AllocError, Global};
+use std::hash::BuildHasher;
+
+/// How many messages more than twice those that the last sweep left are kept without a sweep.
+const SPARE: usize = 64;
+
+/// Judges the entry that comes next, with the verdict if it is in trouble. Where many more messages are kept than the last
+/// sweep left, those go that no transaction needs.
+pub(crate) fn judge_next<H: BuildHasher>(
+    alloc: Global,
+    standing: &mut Standing<H>,
+    left: &mut usize,
+    entry: &Entry,
+) -> Result<Option<Verdict>, AllocError>
+    requires limit { entry.now.moment ≤ last_moment }
+    requires count { entry.now.number ≤ most_entries }
+    requires may { MayTake standing.old.book standing.old.tables entry.now.number entry.now.moment }
+    requires left { left.old ≤ most_entries + 1 }
+    ensures times { OnOk result (standing.new.tables.times ≡ standing.old.tables.times) }
+    ensures may { IfOk result (λ verdict. IfNone verdict (MayTake standing.new.book standing.new.tables (entry.now.number + 1) entry.now.moment)) }
+    ensures left { left.new ≤ most_entries + 1 }
+    ensures judged { IfOk result (λ verdict. (es : List (Observation KeyParts)) → AreFollowed standing.old.book standing.old.tables left.old es
+        → entry.now.number ≡ length es + 1
+        → (e : Observation KeyParts) × message_reading.Observes es (item entry.now) e
+        × AreFollowedOn standing.new.book standing.new.tables left.new es e verdict) }
+{
+    if let Some(verdict) = standing.entry(alloc, entry)? {
+        return Ok(Some(verdict));
+    }
+    if standing.kept() <= 2 * *left + SPARE {
+        return Ok(None);
+    }
+    standing.sweep(alloc, entry.moment)?;
+    *left = standing.kept();
+    Ok(None)
+}

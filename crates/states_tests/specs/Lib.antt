@@ -1,2 +1,0 @@
-pub mod Toy
-pub mod ToyLaws

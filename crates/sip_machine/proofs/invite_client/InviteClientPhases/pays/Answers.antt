@@ -1,12 +1,29 @@
-use Rattle.std.specs.Prelude.{remove}
-use Rattle.std.proofs.Common.{ap, sym, ◌∙◌}
+use Rattle.std.specs.Prelude.{remove, ◌≡◌, ℕ, Bool, true, false, List, All}
+use Rattle.std.proofs.Common.{ap, sym, ◌∙◌, refl}
 use Rattle.sip_machine.specs.declared.event.Kind.TheVariants.{Request}
-use Rattle.sip_machine.specs.Texts.{Keeps}
-use Rattle.sip_machine.specs.Heard.{heard}
+use Rattle.sip_machine.specs.Texts.{Keeps, Texts, text_of}
+use Rattle.sip_machine.specs.Heard.{heard, Heard}
 use Rattle.sip_machine.specs.inner.OwesLaws.{All-names}
 use Rattle.sip_machine.proofs.RunsLemmas.{each-All}
-use Rattle.sip_machine.proofs.InviteClientRows.{HasPaid-acked, HasPaid-none_acked}
+use Rattle.sip_machine.specs.declared.event.Method.TheVariants.{Ack}
+use Rattle.sip_machine.specs.declared.event.Kind.{Kind}
+use Rattle.sip_machine.specs.declared.outbox.Debt.{Debt}
+use Rattle.sip_machine.specs.Debts.{IsWithoutFirst}
+use Rattle.sip_machine.specs.Owing.{HasPaid}
+use Rattle.sip_machine.specs.InviteClient.{Completed, Satisfies}
+use Rattle.sip_machine.specs.inner.Acks.{PaysDebt}
 use Rattle.sip_machine.proofs.invite_client.InviteClientPhases.pays.Goals as goal
+
+-- What an ACK pays in completed.
+HasPaid-acked : (texts : Texts) (reliable : Bool) (request set : ℕ) (k : Kind) (e : Heard) (old new : List Debt) → Request Ack ≡ k →
+    IsWithoutFirst (PaysDebt texts e.text (text_of texts request) e.moment) old new →
+    HasPaid (Satisfies (Completed reliable (text_of texts request) set) k e) texts e.moment true old new
+HasPaid-acked texts reliable request set k e old new is paid = rw (← is) paid
+
+HasPaid-none_acked : (texts : Texts) (reliable : Bool) (request set : ℕ) (k : Kind) (e : Heard) (old : List Debt) → Request Ack ≡ k →
+    All (λ d. ¬ (PaysDebt texts e.text (text_of texts request) e.moment d)) old →
+    HasPaid (Satisfies (Completed reliable (text_of texts request) set) k e) texts e.moment false old old
+HasPaid-none_acked texts reliable request set k e old is none = rw (← is) (refl, none)
 
 pub first_acked-requires-clause-debts : goal.first_acked-requires-clause-debts
 first_acked-requires-clause-debts c =

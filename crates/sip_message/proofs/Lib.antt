@@ -3,3 +3,4 @@ pub mod RowLemmas
 pub mod LaneLemmas
 pub mod WordLemmas
 pub mod QuickLemmas
+pub mod PlainLemmas

@@ -15,6 +15,7 @@ mod name;
 mod number;
 mod other;
 mod params;
+mod plain;
 mod quick;
 mod row;
 mod stages;

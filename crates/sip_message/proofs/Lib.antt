@@ -4,3 +4,4 @@ pub mod LaneLemmas
 pub mod WordLemmas
 pub mod QuickLemmas
 pub mod PlainLemmas
+pub mod PlainViaLemmas

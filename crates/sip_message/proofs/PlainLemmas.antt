@@ -15,7 +15,7 @@ use Rattle.sip_text.proofs.ManyLemmas.{many-nil, many-push}
 use Rattle.sip_text.proofs.UriCharLemmas.{some-map}
 use Rattle.sip_masks.specs.Marks.{is_plain}
 use Rattle.sip_message.specs.Unfold.{OpensSolid}
-use Rattle.sip_message.specs.Params.{left_angle, right_angle, Mark, ParamsText, BehindBlanks}
+use Rattle.sip_message.specs.Params.{left_angle, right_angle, Mark, ParamsText, ParamsPart, BehindBlanks}
 use Rattle.sip_message.specs.Address.{AddressParts, AddressFits, DisplayName, name_addr}
 use Rattle.sip_message.specs.inner.AddressFronts.{Words}
 use Rattle.sip_message.specs.inner.Plain.{segment, Stands, PlainRun, HostPort, SomeUri, Opening, PlainParam, SomeParams, SomeAddress}
@@ -179,7 +179,7 @@ pub opening-some : (u : List ℕ) → (DisplayName then Sws then Byte left_angle
 opening-some u w = (Some w.0, w.2, (w.0, w.1, refl, w.3, w.4))
 
 -- a mark without blanks
-mark-alone : (b : ℕ) → Mark b (b ∷ [])
+pub mark-alone : (b : ℕ) → Mark b (b ∷ [])
 mark-alone b = ([], b ∷ [], inl refl, (b ∷ [], [], refl, inl refl, refl), refl)
 
 -- a parameter without a value, and with one
@@ -200,14 +200,17 @@ param-some text at end start behind first to mark run equal value =
     (omega (arith, mark.0, run.0, later), value.1, (segment at start text, segment start to text, mark.2, (run-token name run.2, inl (run-token v value.2), whole), segment-cut text at start to mark.0 (omega (arith, run.0, later))))
 
 -- a parameter before others
-pub params-behind : (p : List ℕ × Option (List ℕ)) (text : List ℕ) (at end to : ℕ) → Stands (PlainParam p) text at end to → SomeParams (segment to end text) → SomeParams (segment at end text)
-params-behind p text at end to param later =
+pub params-part : (p : List ℕ × Option (List ℕ)) (ps : List (List ℕ × Option (List ℕ))) (text : List ℕ) (at end to : ℕ) → Stands (PlainParam p) text at end to → ParamsPart (segment to end text) ps → ParamsPart (segment at end text) (p ∷ ps)
+params-part p ps text at end to param later =
     let rest = segment to end text in
     let w = param.2 in
     let front : segment at to text ≡ semicolon ∷ w.1 = w.4 ∙ ap (λ t. t ++ w.1) w.2 in
     let whole : segment at end text ≡ semicolon ∷ (w.1 ++ rest) = segment-cut text at to end param.0 param.1 ∙ ap (λ t. t ++ rest) front in
-    let params : ParamsText (segment at end text) (p ∷ later.0) = (semicolon ∷ [], w.1 ++ rest, mark-alone semicolon, (w.1, rest, w.3, later.1.1, refl), whole) in
-    (p ∷ later.0, (subst OpensSolid (sym whole) refl, params))
+    let params : ParamsText (segment at end text) (p ∷ ps) = (semicolon ∷ [], w.1 ++ rest, mark-alone semicolon, (w.1, rest, w.3, later.1, refl), whole) in
+    (subst OpensSolid (sym whole) refl, params)
+
+pub params-behind : (p : List ℕ × Option (List ℕ)) (text : List ℕ) (at end to : ℕ) → Stands (PlainParam p) text at end to → SomeParams (segment to end text) → SomeParams (segment at end text)
+params-behind p text at end to param later = (p ∷ later.0, params-part p later.0 text at end to param later.1)
 
 -- none
 pub params-none : (text : List ℕ) (end : ℕ) → SomeParams (segment end end text)

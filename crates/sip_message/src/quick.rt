@@ -2,21 +2,26 @@
 //! It finds the ends of lines and of names in masks of the text. What is not ordinary it leaves to the
 //! reader of all heads.
 ghost use Rattle.std.specs.Prelude.{◌≡◌, ◌+◌, ◌-◌, ◌^◌, ◌≤◌, ◌<◌, ◌++◌, IsTrue, IfOk, IfSome, length, take, drop};
+ghost use Rattle.sip_text.specs.Text.{IsOnlyValue};
 ghost use Rattle.sip_message.specs.Lines.{with_end};
 ghost use Rattle.sip_message.specs.Field.{Row, ValueText, FieldText};
 ghost use Rattle.sip_message.specs.Views.{name_parts, field_parts, fields_parts};
 ghost use Rattle.sip_message.specs.ValueParts.{start_parts};
+ghost use Rattle.sip_message.specs.ViaParts.{element};
+ghost use Rattle.sip_message.specs.inner.ElementFronts.{FirstVia};
 ghost use Rattle.sip_message.specs.inner.Kept.{KeptOf, KeepsMore};
 ghost use Rattle.sip_message.specs.inner.Plain.{segment, SomeAddress};
 ghost use Rattle.sip_message.specs.inner.Quick.{IsOpen, AreOrdinary, IsOrdinary};
 
 use crate::cursor::past;
 use crate::field::Field;
-use crate::kept::Kept;
+use crate::kept::{Kept, keep};
 use crate::name::{Known, Name, quick_name};
 use crate::plain::is_plain_address;
+use crate::plain_via::plain_via;
 use crate::row::{is_address, is_of_row, is_solid, trim};
 use crate::start_line::{StartLine, read_start};
+use crate::via::{Via, first_via};
 use sip_masks::Masks;
 use std::alloc::{AllocError, Global};
 
@@ -199,9 +204,21 @@ fn is_value_at<'a>(
     ensures kept { IsTrue result → KeepsMore (record { name = name_parts name.entry; value = segment at end masks.now }) kept.old kept.new }
 {
     match name {
+        Name::Known(Known::Via) => keep(via_at(masks, at, end), &mut kept.via),
         Name::Known(Known::From) => is_address_at(masks, at, end),
         Name::Known(Known::To) => is_address_at(masks, at, end),
         _ => is_ordinary_value(name, &masks.text()[at..end], kept),
+    }
+}
+
+// The first element of Via between two places, if elements stand there.
+fn via_at<'a>(masks: &Masks<'a, '_>, at: usize, end: usize) -> Option<Via<'a>>
+    requires { (at ≤ end) × (end ≤ length masks.now) }
+    ensures { IsOnlyValue FirstVia element (segment at end masks.now) result }
+{
+    match plain_via(masks, at, end) {
+        Some(via) => Some(via),
+        None => first_via(&masks.text()[at..end]),
     }
 }
 

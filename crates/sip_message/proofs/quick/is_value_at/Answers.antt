@@ -4,8 +4,19 @@ use Rattle.sip_message.specs.Name.{known}
 use Rattle.sip_message.specs.Field.{Row}
 use Rattle.sip_message.specs.Views.{name_parts}
 use Rattle.sip_message.specs.inner.Plain.{segment}
-use Rattle.sip_message.proofs.lemmas.asked.Kept.{named-keeps}
+use Rattle.sip_message.proofs.lemmas.asked.Kept.{via-row, via-keeps, named-keeps}
 use Rattle.sip_message.proofs.quick.is_value_at.Goals as goal
+
+pub returns-in-Known-Via-clause-row : goal.returns-in-Known-Via-clause-row
+returns-in-Known-Via-clause-row c = λ so.
+    let value = segment c.args.at c.args.end c.args.masks.now in
+    let named : name_parts c.args.name ≡ known known_name.Via = ap name_parts c.in-Known-Via.is ∙ ap known (rw c.in-Known-Via.is at c.in-Known-Via.field-0-is) in
+    subst (λ n. Row n value) (sym named) ((via-row value c.via_at.result c.keep.result c.keep.ensures.says c.via_at.ensures).0 so)
+
+pub returns-in-Known-Via-clause-kept : goal.returns-in-Known-Via-clause-kept
+returns-in-Known-Via-clause-kept c =
+    let named : name_parts c.args.name ≡ known known_name.Via = ap name_parts c.in-Known-Via.is ∙ ap known (rw c.in-Known-Via.is at c.in-Known-Via.field-0-is) in
+    via-keeps _ c.via_at.result c.keep.result _ _ named c.keep.ensures.says c.via_at.ensures c.keep.ensures.kept refl
 
 pub returns-in-Known-From-clause-row : goal.returns-in-Known-From-clause-row
 returns-in-Known-From-clause-row c = λ so.

@@ -13,7 +13,6 @@ use crate::steps::find_given;
 use sip_machine::{Book, Event, Machine};
 use std::alloc::{AllocError, Global};
 use std::marker::Model;
-use std::mem;
 use thiserror::Error;
 
 /// How many states are followed after an event.
@@ -48,8 +47,6 @@ pub struct StateSet<M: Machine> {
     machine: M,
     moment: u64,
     states: Vec<M::State>,
-    /// Room for the states that the next event gives.
-    found: Vec<M::State>,
 }
 
 impl<M: Machine> Model for StateSet<M> {
@@ -67,13 +64,12 @@ impl<M: Machine> StateSet<M> {
     pub fn start(alloc: Global, machine: M) -> Result<Self, AllocError>
         ensures { IfOk result (λ set. set ≡ record { machine = machine; moment = 0; states = M.first machine ∷ [] }) }
     {
-        let mut states = Vec::new(alloc);
+        let mut states = Vec::with_capacity(alloc, 1)?;
         states.push(machine.first())?;
         Ok(StateSet {
             machine,
             moment: 0,
             states,
-            found: Vec::new(alloc),
         })
     }
 
@@ -89,6 +85,7 @@ impl<M: Machine> StateSet<M> {
         ensures err { OnErr result (self.new ≡ self.old) }
     {
         advance_states(&self.machine, &mut self.states, self.moment, moment)?;
+        self.states.shrink_to_fit();
         self.moment = moment;
         Ok(())
     }
@@ -110,20 +107,22 @@ impl<M: Machine> StateSet<M> {
         ensures err { OnErr result (self.new ≡ self.old) }
     {
         book.known();
-        self.found.clear();
+        // most events give one state
+        let mut found = Vec::with_capacity(*self.states.allocator(), 1)?;
         find_given(
             &self.machine,
             book,
             self.states.as_slice(),
             self.moment,
             event,
-            &mut self.found,
+            &mut found,
         )?;
-        keep_each_once(&mut self.found);
-        if self.found.len() > WIDEST {
+        keep_each_once(&mut found);
+        if found.len() > WIDEST {
             return Err(TakeError::TooMany);
         }
-        mem::swap(&mut self.states, &mut self.found);
+        found.shrink_to_fit();
+        self.states = found;
         self.moment = event.moment();
         Ok(())
     }

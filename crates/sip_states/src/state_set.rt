@@ -13,6 +13,7 @@ use crate::steps::find_given;
 use sip_machine::{Book, Event, Machine};
 use std::alloc::{AllocError, Global};
 use std::marker::Model;
+use std::mem;
 use thiserror::Error;
 
 /// How many states are followed after an event.
@@ -47,6 +48,8 @@ pub struct StateSet<M: Machine> {
     machine: M,
     moment: u64,
     states: Vec<M::State>,
+    /// Room for the states that the next event gives.
+    found: Vec<M::State>,
 }
 
 impl<M: Machine> Model for StateSet<M> {
@@ -64,12 +67,13 @@ impl<M: Machine> StateSet<M> {
     pub fn start(alloc: Global, machine: M) -> Result<Self, AllocError>
         ensures { IfOk result (λ set. set ≡ record { machine = machine; moment = 0; states = M.first machine ∷ [] }) }
     {
-        let mut states = Vec::with_capacity(alloc, 1)?;
+        let mut states = Vec::new(alloc);
         states.push(machine.first())?;
         Ok(StateSet {
             machine,
             moment: 0,
             states,
+            found: Vec::new(alloc),
         })
     }
 
@@ -85,7 +89,6 @@ impl<M: Machine> StateSet<M> {
         ensures err { OnErr result (self.new ≡ self.old) }
     {
         advance_states(&self.machine, &mut self.states, self.moment, moment)?;
-        self.states.shrink_to_fit();
         self.moment = moment;
         Ok(())
     }
@@ -107,22 +110,20 @@ impl<M: Machine> StateSet<M> {
         ensures err { OnErr result (self.new ≡ self.old) }
     {
         book.known();
-        // most events give one state
-        let mut found = Vec::with_capacity(*self.states.allocator(), 1)?;
+        self.found.clear();
         find_given(
             &self.machine,
             book,
             self.states.as_slice(),
             self.moment,
             event,
-            &mut found,
+            &mut self.found,
         )?;
-        keep_each_once(&mut found);
-        if found.len() > WIDEST {
+        keep_each_once(&mut self.found);
+        if self.found.len() > WIDEST {
             return Err(TakeError::TooMany);
         }
-        found.shrink_to_fit();
-        self.states = found;
+        mem::swap(&mut self.states, &mut self.found);
         self.moment = event.moment();
         Ok(())
     }

@@ -35,17 +35,17 @@ returns-then-len-gt-WIDEST-clause-too_many g c =
     let len = c.len.ensures in
     rw (← c.self.view_is) (λ _. many_wide g.M.Machine.names g.M.Machine.in_range g.M.Machine.seen c.args.book.now _ c.keep_each_once.new.items.items stand (omega arith))
 
-pub invariant_of-self : goal.invariant_of-self
-invariant_of-self g c =
+pub invariant_of-self-2 : goal.invariant_of-self-2
+invariant_of-self-2 g c =
     let m = c.self.inside.machine in
     let follows : Follows g.M.Machine.names g.M.Machine.seen (g.M.Machine.rules m) (g.M.Machine.ended m) (g.M.Machine.end_window m) (g.M.Machine.until m) =
     record { lawful = g.met.M.Machine.lawful m; ended_is = g.met.M.Machine.ended_stands m; ended_names = (g.met.M.Machine.ended_fits m).0; window_is = g.met.M.Machine.window_stands m; until_is = g.met.M.Machine.until_stands m; apart = g.met.M.Machine.apart } in
     let few : length c.keep_each_once.new.items.items ≤ widest = let len = c.len.ensures in omega arith in
-    rw (c.moment-self-inside.ensures, c.shrink_to_fit.ensures.items)
+    rw (c.moment-self-inside.ensures, c.swap.ensures.x_after)
     (took_kept g.M.Machine.names g.M.Machine.in_range g.M.Machine.seen g.M.Machine.rules g.M.Machine.ended g.M.Machine.end_window g.M.Machine.until m follows c.args.book.now _ (heard c.args.book.now c.args.event.now) c.keep_each_once.new.items.items
-    (found_stand g (goal.at.invariant_of-self g c).After-len) c.keep_each_once.ensures.distinct few)
+    (found_stand g (goal.at.invariant_of-self-2 g c).After-len) c.keep_each_once.ensures.distinct few)
 
 pub returns-clause-states : goal.returns-clause-states
 returns-clause-states g c =
     let stand = found_stand g (goal.at.returns-clause-states g c).After-len in
-    rw (← c.self.view_is, c.shrink_to_fit.ensures.items) stand
+    rw (← c.self.view_is, c.swap.ensures.x_after) stand

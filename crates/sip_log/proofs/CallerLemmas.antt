@@ -10,12 +10,13 @@ use Rattle.sip_log.specs.LogFault.{LogFault}
 use Rattle.sip_log.specs.LogFault as faults
 use Rattle.sip_log.specs.Next.{Next, ends, gives, stops}
 use Rattle.sip_log.specs.Spelling.{Item, header_text, entry_text}
-use Rattle.sip_log.specs.Log.{IsEntry, most_entries, ComesNext, InOrder, last_of, LogEnd, Clean, Stops, next_at, NoHeader, IsLog, IsFaultOf}
+use Rattle.sip_log.specs.inner.Follow.{next_at}
+use Rattle.sip_log.specs.Log.{IsEntry, most_entries, ComesNext, InOrder, last_of, LogEnd, Clean, Stops, NoHeader, IsLog, IsFaultOf}
 use Rattle.sip_log.specs.Told.{FailsAs, item}
 use Rattle.sip_log.specs.Reading.{Stage, fresh, entries, ended, failed, Reading, Moves, Place, reading, Continues, ComesFirst, Comes, Heads, Opens, NextsAt, Nexts}
 use Rattle.sip_log.proofs.ReadingLemmas.{FailsAs-map}
 use Rattle.sip_log.proofs.LogExists.{Follow-some}
-use Rattle.sip_log.proofs.Logs.{follow-spelled}
+use Rattle.sip_log.proofs.Logs.{next-ends, follow-spelled}
 
 -- the spelling of a header and of these entries stands at the front of an input, and this rest behind it
 pub record Begins (input : List ℕ) (p : Times) (items : List Item) (rest : List ℕ) : Type 0 where
@@ -66,7 +67,7 @@ module _ (input : List ℕ) (p : Times) (items : List Item) (rest : List ℕ) (i
 
   -- and then the end
   pub Begins-ends : (end : LogEnd) → ComesNext (length items) (last_of 0 items) rest (next_at end) → IsLog input p items end
-  Begins-ends end next = record { times = is.times; rest = rest; spelled = is.spelled; few = is.few; order = is.order; next = next }
+  Begins-ends end next = record { times = is.times; rest = rest; spelled = is.spelled; few = is.few; order = is.order; next = next-ends (length items) (last_of 0 items) rest end next }
 
 -- a header, and nothing behind it yet
 pub Begins-header : (input : List ℕ) (p : Times) (behind : List ℕ) → AreTimes p → input ≡ header_text p ++ behind → Begins input p [] behind
@@ -101,8 +102,8 @@ Begins-log input p items rest is =
         spelled = is.spelled ∙ ap (λ (t : List ℕ). header_text p ++ t) texts;
         few = omega (arith, spelled.few, long);
         order = InOrder-append 0 items more is.order spelled.order;
-        next = subst (λ n. ComesNext n (last_of 0 (items ++ more)) spelled.left (next_at end)) long
-            (subst (λ m. ComesNext (length items + length more) m spelled.left (next_at end)) (sym (last_of-append 0 items more)) spelled.next);
+        next = next-ends (length (items ++ more)) (last_of 0 (items ++ more)) spelled.left end (subst (λ n. ComesNext n (last_of 0 (items ++ more)) spelled.left (next_at end)) long
+            (subst (λ m. ComesNext (length items + length more) m spelled.left (next_at end)) (sym (last_of-append 0 items more)) spelled.next));
       },
     )
 

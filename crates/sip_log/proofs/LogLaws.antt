@@ -7,12 +7,12 @@ use Rattle.sip_times.specs.declared.action.Action.TheVariants.{Sent, Received, F
 use Rattle.sip_log.specs.LogFault.{LogFault}
 use Rattle.sip_log.specs.Spelling.{line_feed, space, letter, Item}
 use Rattle.sip_log.specs.inner.Line.{Numbers, Head, message, mark, HeadLine}
-use Rattle.sip_log.specs.Log.{FrontLine, LogEnd, Clean, Stops, next_at}
+use Rattle.sip_log.specs.Log.{FrontLine, LogEnd, Clean, Stops}
 use Rattle.sip_log.specs.Next.{Next, gives}
 use Rattle.sip_log.specs.inner.Unless.{Unless}
 use Rattle.sip_log.specs.inner.Header.{TimesLine, Header}
 use Rattle.sip_log.specs.inner.Entry.{AtClose, AtMessage, AtBody, AtHead, AtFront, AtLine, ComesNext}
-use Rattle.sip_log.specs.inner.Follow.{Follow}
+use Rattle.sip_log.specs.inner.Follow.{next_at, Follow}
 use Rattle.sip_log.proofs.SplitLemmas.{cut-one}
 use Rattle.sip_log.proofs.NumberLemmas.{IsNumber-no_space, IsNumber-one}
 use Rattle.sip_log.proofs.HeaderLemmas.{TimesLine-parts, TimesLine-lacks, times-after, title}

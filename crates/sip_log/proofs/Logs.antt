@@ -5,9 +5,9 @@ use Rattle.std.proofs.lemmas.List.{append-nil, append_cancel_left}
 use Rattle.sip_times.specs.Times.{Times, AreTimes}
 use Rattle.sip_log.specs.Next.{Next, gives}
 use Rattle.sip_log.specs.Spelling.{Item, header_text, entry_text}
-use Rattle.sip_log.specs.Log.{most_entries, ComesNext, InOrder, last_of, LogEnd, Clean, next_at, IsLog, Log, Faulty, Holds, IsLogOf}
+use Rattle.sip_log.specs.Log.{most_entries, ComesNext, InOrder, last_of, LogEnd, Clean, Stops, EndsWith, IsLog, Log, Faulty, Holds, IsLogOf}
 use Rattle.sip_log.specs.Turn.{ComeInTurn}
-use Rattle.sip_log.specs.inner.Follow.{Follow}
+use Rattle.sip_log.specs.inner.Follow.{next_at, Follow}
 use Rattle.sip_log.specs.inner.Header as read
 use Rattle.sip_log.proofs.SpellingLemmas.{header-spelled, header-read}
 use Rattle.sip_log.proofs.NextLemmas.{next-told}
@@ -18,6 +18,15 @@ use Rattle.sip_log.proofs.LogExists.{header-or-not, Follow-some}
 -- one thing comes next
 pub next-one : (count last : ℕ) (rest : List ℕ) (n n2 : Next Item) → ComesNext count last rest n → ComesNext count last rest n2 → n ≡ n2
 next-one count last rest n n2 is is2 = ComesNext-one count last rest n n2 (next-read count last rest n is) (next-read count last rest n2 is2)
+
+-- the end of a log is what comes next behind its entries
+ends-next : (count last : ℕ) (rest : List ℕ) (end : LogEnd) → EndsWith count last rest end → ComesNext count last rest (next_at end)
+ends-next count last rest Clean is = is
+ends-next count last rest (Stops fault) is = is
+
+pub next-ends : (count last : ℕ) (rest : List ℕ) (end : LogEnd) → ComesNext count last rest (next_at end) → EndsWith count last rest end
+next-ends count last rest Clean is = is
+next-ends count last rest (Stops fault) is = is
 
 -- spelled entries and an end are read one after another
 pub follow-read : (count last : ℕ) (items : List Item) (rest : List ℕ) (end : LogEnd) → count + length items ≤ most_entries → InOrder last items
@@ -65,7 +74,7 @@ log-follows : (input : List ℕ) (p : Times) (items : List Item) (end : LogEnd) 
 log-follows input p items end is = (
   flat_map entry_text items ++ is.rest,
   header-read input p (flat_map entry_text items ++ is.rest) is.times is.spelled,
-  follow-read 0 0 items is.rest end (omega (arith, is.few)) is.order (subst (λ n. ComesNext n (last_of 0 items) is.rest (next_at end)) (from_zero (length items)) is.next),
+  follow-read 0 0 items is.rest end (omega (arith, is.few)) is.order (subst (λ n. ComesNext n (last_of 0 items) is.rest (next_at end)) (from_zero (length items)) (ends-next (length items) (last_of 0 items) is.rest end is.next)),
 )
 
 -- and the other way
@@ -79,7 +88,7 @@ log-spelled input p behind items end header follow =
       spelled = spelled.1 ∙ ap (λ (t : List ℕ). header_text p ++ t) rest.whole;
       few = omega (arith, rest.few);
       order = rest.order;
-      next = subst (λ n. ComesNext n (last_of 0 items) rest.left (next_at end)) (sym (from_zero (length items))) rest.next;
+      next = next-ends (length items) (last_of 0 items) rest.left end (subst (λ n. ComesNext n (last_of 0 items) rest.left (next_at end)) (sym (from_zero (length items))) rest.next);
     }
 
 -- each input has a log
@@ -135,5 +144,5 @@ log-front input p items end is behind left read whole turn =
     let rest = flat_map entry_text items ++ is.rest in
     let same : rest ≡ behind = append_cancel_left (header_text p) rest behind (sym is.spelled ∙ whole) in
     let follow : Follow 0 0 rest items end =
-    follow-read 0 0 items is.rest end (omega (arith, is.few)) is.order (subst (λ n. ComesNext n (last_of 0 items) is.rest (next_at end)) (from_zero (length items)) is.next) in
+    follow-read 0 0 items is.rest end (omega (arith, is.few)) is.order (subst (λ n. ComesNext n (last_of 0 items) is.rest (next_at end)) (from_zero (length items)) (ends-next (length items) (last_of 0 items) is.rest end is.next)) in
     turn-front 0 0 behind items end read left (subst (λ t. Follow 0 0 t items end) same follow) turn

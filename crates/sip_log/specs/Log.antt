@@ -79,10 +79,10 @@ pub data LogEnd : Type 0 where
   Clean : LogEnd
   Stops : LogFault → LogEnd
 
--- what comes next at such an end
-abbrev pub next_at : LogEnd → Next Item
-next_at Clean = ends
-next_at (Stops fault) = stops fault
+-- behind so many entries, the last at this moment, the rest of an input ends so: it is empty, or no entry stands at its front
+abbrev pub EndsWith : ℕ → ℕ → List ℕ → LogEnd → Type 0
+EndsWith count last rest Clean = rest ≡ []
+EndsWith count last rest (Stops fault) = Cannot count last rest fault
 
 -- the spellings of a header and of these entries stand in a row at the front of an input, they keep limits and order, and then it ends so
 pub record IsLog (input : List ℕ) (p : Times) (items : List Item) (end : LogEnd) : Type 0 where
@@ -91,7 +91,7 @@ pub record IsLog (input : List ℕ) (p : Times) (items : List Item) (end : LogEn
   pub spelled : input ≡ header_text p ++ (flat_map entry_text items ++ rest)
   pub few : length items ≤ most_entries
   pub order : InOrder 0 items
-  pub next : ComesNext (length items) (last_of 0 items) rest (next_at end)
+  pub next : EndsWith (length items) (last_of 0 items) rest end
 
 -- no header stands at the front of an input
 abbrev pub NoHeader : List ℕ → Type 0

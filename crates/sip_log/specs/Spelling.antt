@@ -36,10 +36,8 @@ letter Mark = 77
 
 -- what an entry's line has behind its moment: SP and the length of the message, nothing for a mark
 abbrev pub length_text : Action → ℕ → List ℕ
-length_text Sent len = space ∷ decimal len
-length_text Received len = space ∷ decimal len
-length_text Failed len = space ∷ decimal len
 length_text Mark len = []
+length_text action len = space ∷ decimal len
 
 -- an entry's line: its letter, SP, its moment, and the length
 abbrev pub line_text : Action → ℕ → ℕ → List ℕ
@@ -47,10 +45,8 @@ line_text action moment len = letter action ∷ space ∷ decimal moment ++ leng
 
 -- what stands behind an entry's line: the message and LF, nothing for a mark
 abbrev pub body_text : Action → List ℕ → List ℕ
-body_text Sent text = text ++ line_feed ∷ []
-body_text Received text = text ++ line_feed ∷ []
-body_text Failed text = text ++ line_feed ∷ []
 body_text Mark text = []
+body_text action text = text ++ line_feed ∷ []
 
 -- an entry: its line, LF, and what stands behind it
 abbrev pub entry_text : Item → List ℕ

@@ -356,14 +356,11 @@ fn cancels(phase: &InviteClientPhase, event: &Event) -> Option<Turn<InviteClient
         InviteClientPhase::Proceeding {
             reliable,
             request,
-            cancel,
-        } => match cancel {
-            None => InviteClientPhase::Proceeding {
-                reliable,
-                request,
-                cancel: Some(event.moment()),
-            },
-            Some(_) => *phase,
+            cancel: None,
+        } => InviteClientPhase::Proceeding {
+            reliable,
+            request,
+            cancel: Some(event.moment()),
         },
         _ => *phase,
     };

@@ -1,7 +1,7 @@
 //! Which response an ACK is for: the INVITE, the ACK and the responses of the `Book`, read anew.
 ghost use Rattle.std.specs.Prelude.{◌≡◌, ◌↔◌, ◌<◌, IfOk, IsTrue, All};
 ghost use Rattle.sip_machine.specs.Texts.{Keeps, text_of};
-ghost use Rattle.sip_machine.specs.inner.Acks.{Acks, AcksDebt, PaysDebt, FindsFirst};
+ghost use Rattle.sip_machine.specs.inner.Acks.{AcksDebt, PaysDebt, FindsFirst};
 ghost use Rattle.sip_machine.specs.inner.Runs.{debts_of};
 
 use crate::book::Book;
@@ -77,19 +77,7 @@ fn pays(
     if debt.deadline < moment {
         return Ok(false);
     }
-    acks(alloc, ack, invite, book.bytes_of(debt.message))
-}
-
-/// Whether the bytes spell a response to the INVITE that the ACK is for.
-fn acks(
-    alloc: Global,
-    ack: &Message<'_>,
-    invite: &Message<'_>,
-    response: &[u8],
-) -> Result<bool, AllocError>
-    ensures { IfOk result (λ is. IsTrue is ↔ Acks ack.now invite.now response.now) }
-{
-    match Message::read(alloc, response) {
+    match Message::read(alloc, book.bytes_of(debt.message)) {
         Ok(response) => Ok(is_ack_of(ack, invite, &response)),
         Err(ReadError::Memory) => Err(AllocError),
         Err(ReadError::Fault(_)) => Ok(false),

@@ -1,6 +1,11 @@
--- A set of any machine, as one of its own.
-use Rattle.std.proofs.Common.{◌≡◌, [], ◌∷◌, ℕ, Contains, refl}
+-- What stands of each machine, and a set of any machine as one of its own.
+use Rattle.std.proofs.Common.{◌≡◌, ℕ, Some, None, List, [], ◌∷◌, Contains, map, refl}
+use Rattle.std.specs.List.{flat_map}
 use Rattle.std.proofs.lemmas.List.Elements.{All-nil}
+use Rattle.sip_machine.specs.declared.invite_client.InviteClientPhase.TheVariants as invite_client
+use Rattle.sip_machine.specs.declared.plain_client.PlainClientPhase.TheVariants as plain_client
+use Rattle.sip_machine.specs.declared.invite_server.InviteServerPhase.TheVariants as invite_server
+use Rattle.sip_machine.specs.declared.plain_server.PlainServerPhase.TheVariants as plain_server
 use Rattle.sip_machine.specs.Times.{Times}
 use Rattle.sip_machine.specs.Texts.{Texts, Keeps, text_of}
 use Rattle.sip_machine.specs.Rules.{IsLawful, Knows}
@@ -8,16 +13,19 @@ use Rattle.sip_machine.specs.Figure.{IsFigure}
 use Rattle.sip_machine.specs.Transaction.{idle_state}
 use Rattle.sip_machine.specs.inner.FigureLaws.{rules_lawful}
 use Rattle.sip_machine.specs.inner.OwingLaws.{owing_by_names, quiet_stands}
-use Rattle.sip_machine.specs.inner.InviteClientLaws.{invite_client_is_figure, invite_client_by_names}
-use Rattle.sip_machine.specs.inner.PlainClientLaws.{plain_client_is_figure, plain_client_by_names}
-use Rattle.sip_machine.specs.inner.InviteServerLaws.{invite_server_is_figure, invite_server_by_names}
-use Rattle.sip_machine.specs.inner.PlainServerLaws.{plain_server_is_figure, plain_server_by_names}
+use Rattle.sip_machine.specs.inner.InviteClientLaws.{invite_client_is_figure, invite_client_by_names, invite_client_window_same, invite_client_closes_same}
+use Rattle.sip_machine.specs.inner.PlainClientLaws.{plain_client_is_figure, plain_client_by_names, plain_client_window_same, plain_client_closes_same}
+use Rattle.sip_machine.specs.inner.InviteServerLaws.{invite_server_is_figure, invite_server_by_names, invite_server_window_same, invite_server_closes_same}
+use Rattle.sip_machine.specs.inner.PlainServerLaws.{plain_server_is_figure, plain_server_by_names, plain_server_window_same, plain_server_closes_same}
 use Rattle.sip_states.specs.Held.{Held}
 use Rattle.sip_states.specs.KeyMachine.{MachineKind, OfInviteClient, OfPlainClient, OfInviteServer, OfPlainServer, transaction, PhaseOf, rules_of}
 use Rattle.sip_states.specs.Meaning.{Meaning}
 use Rattle.sip_states.specs.AnySet.{coded, StateOf, meaning_of, set_of, OfSet, OfSets, moment_of, start_of_machine}
+use Rattle.sip_states.specs.Sweep.{numbers_of}
 use Rattle.sip_states.specs.declared.any_set.AnySet.{AnySet}
 use Rattle.sip_states.specs.declared.any_set.AnySet.TheVariants.{InviteClient, PlainClient, InviteServer, PlainServer}
+use Rattle.sip_listing.specs.Transaction.{AreLinesOfHeld, AreLinesOfSet}
+use Rattle.sip_verdict.specs.Named.{phase_messages, messages_of}
 
 -- each has a lawful figure
 is_figure : (machine : MachineKind) → IsFigure (transaction machine).figure
@@ -33,6 +41,45 @@ phase_by_names OfInviteClient a b x h = invite_client_by_names a b x h
 phase_by_names OfPlainClient a b x h = plain_client_by_names a b x h
 phase_by_names OfInviteServer a b x h = invite_server_by_names a b x h
 phase_by_names OfPlainServer a b x h = plain_server_by_names a b x h
+
+-- its timers do not depend on the book
+pub phase_window : (machine : MachineKind) (p : Times) (a b : Texts) (x : (coded machine).Code)
+    → (transaction machine).figure.window p ((coded machine).seen a x) ≡ (transaction machine).figure.window p ((coded machine).seen b x)
+phase_window OfInviteClient p a b x = invite_client_window_same a b p x
+phase_window OfPlainClient p a b x = plain_client_window_same a b p x
+phase_window OfInviteServer p a b x = invite_server_window_same a b p x
+phase_window OfPlainServer p a b x = plain_server_window_same a b p x
+
+pub phase_closes : (machine : MachineKind) (p : Times) (a b : Texts) (x : (coded machine).Code)
+    → (transaction machine).figure.closes p ((coded machine).seen a x) ≡ (transaction machine).figure.closes p ((coded machine).seen b x)
+phase_closes OfInviteClient p a b x = invite_client_closes_same a b p x
+phase_closes OfPlainClient p a b x = plain_client_closes_same a b p x
+phase_closes OfInviteServer p a b x = invite_server_closes_same a b p x
+phase_closes OfPlainServer p a b x = plain_server_closes_same a b p x
+
+-- what a phase names is what it stands for, whatever its machine
+pub phase_named : (machine : MachineKind) (texts : Texts) (x : (coded machine).Code) → phase_messages machine ((coded machine).seen texts x) ≡ map (text_of texts) ((coded machine).names x)
+phase_named OfInviteClient texts invite_client.Idle = refl
+phase_named OfInviteClient texts (invite_client.Calling w) = refl
+phase_named OfInviteClient texts (invite_client.Proceeding reliable request cancel) = refl
+phase_named OfInviteClient texts (invite_client.Accepted set) = refl
+phase_named OfInviteClient texts (invite_client.Completed reliable request set) = refl
+phase_named OfInviteClient texts invite_client.Ended = refl
+phase_named OfPlainClient texts plain_client.Idle = refl
+phase_named OfPlainClient texts (plain_client.Trying w) = refl
+phase_named OfPlainClient texts (plain_client.Proceeding w) = refl
+phase_named OfPlainClient texts (plain_client.Completed reliable set) = refl
+phase_named OfPlainClient texts plain_client.Ended = refl
+phase_named OfInviteServer texts invite_server.Idle = refl
+phase_named OfInviteServer texts (invite_server.Proceeding reliable set None) = refl
+phase_named OfInviteServer texts (invite_server.Proceeding reliable set (Some last)) = refl
+phase_named OfInviteServer texts (invite_server.Accepted set) = refl
+phase_named OfInviteServer texts (invite_server.Completed reliable final set repeat interval) = refl
+phase_named OfInviteServer texts (invite_server.Confirmed reliable set) = refl
+phase_named OfPlainServer texts plain_server.Idle = refl
+phase_named OfPlainServer texts (plain_server.Trying reliable) = refl
+phase_named OfPlainServer texts (plain_server.Proceeding reliable last) = refl
+phase_named OfPlainServer texts (plain_server.Completed reliable final set) = refl
 
 -- its idle phase stands for that of the figure
 idle_is : (machine : MachineKind) (texts : Texts) → (coded machine).seen texts (coded machine).idle ≡ (transaction machine).figure.idle
@@ -62,7 +109,20 @@ pub first_is_of : (machine : MachineKind) (texts : Texts) (p : Times) → (meani
 first_is_of machine texts p =
     quiet_stands (coded machine).seen texts (coded machine).idle (transaction machine).figure.idle (idle_is machine texts)
 
--- it names no message
+-- it names nothing, and neither does the ended one
+pub first_silent : (machine : MachineKind) (p : Times) → messages_of machine ((meaning_of machine).rules p).first ≡ []
+first_silent OfInviteClient p = refl
+first_silent OfPlainClient p = refl
+first_silent OfInviteServer p = refl
+first_silent OfPlainServer p = refl
+
+pub ended_silent : (machine : MachineKind) (p : Times) → messages_of machine ((meaning_of machine).rules p).ended ≡ []
+ended_silent OfInviteClient p = refl
+ended_silent OfPlainClient p = refl
+ended_silent OfInviteServer p = refl
+ended_silent OfPlainServer p = refl
+
+-- the first one of the code names no message
 pub first_knows : (machine : MachineKind) (texts : Texts) → Knows (meaning_of machine).names texts (first_of machine)
 first_knows OfInviteClient texts = All-nil (Keeps texts)
 first_knows OfPlainClient texts = All-nil (Keeps texts)
@@ -82,6 +142,13 @@ moment_is OfInviteClient s = refl
 moment_is OfPlainClient s = refl
 moment_is OfInviteServer s = refl
 moment_is OfPlainServer s = refl
+
+-- the numbers of the messages that it names
+pub numbers_are : (machine : MachineKind) (s : Held Times (StateOf machine)) → numbers_of (set_of machine s) ≡ flat_map (meaning_of machine).names s.states
+numbers_are OfInviteClient s = refl
+numbers_are OfPlainClient s = refl
+numbers_are OfInviteServer s = refl
+numbers_are OfPlainServer s = refl
 
 -- each set is one of some machine
 pub some_machine : (set : AnySet) → (machine : MachineKind) × (s : Held Times (StateOf machine)) × (set ≡ set_of machine s)
@@ -111,3 +178,11 @@ of_sets P OfInviteClient s new h = h
 of_sets P OfPlainClient s new h = h
 of_sets P OfInviteServer s new h = h
 of_sets P OfPlainServer s new h = h
+
+-- the lines that list a set of a machine
+pub listed_is : (number : List ℕ → ℕ) (texts : Texts) (machine : MachineKind) (s : Held Times (StateOf machine)) (lines : List (List ℕ))
+    → AreLinesOfSet number texts (set_of machine s) lines → AreLinesOfHeld number texts machine s lines
+listed_is number texts OfInviteClient s lines h = h
+listed_is number texts OfPlainClient s lines h = h
+listed_is number texts OfInviteServer s lines h = h
+listed_is number texts OfPlainServer s lines h = h

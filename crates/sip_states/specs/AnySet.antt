@@ -97,6 +97,13 @@ set_of OfPlainClient s = PlainClient s
 set_of OfInviteServer s = InviteServer s
 set_of OfPlainServer s = PlainServer s
 
+-- the machine of a set, and what it holds
+abbrev pub held_of : AnySet → (machine : MachineKind) × Held Times (StateOf machine)
+held_of (InviteClient s) = (OfInviteClient, s)
+held_of (PlainClient s) = (OfPlainClient, s)
+held_of (InviteServer s) = (OfInviteServer, s)
+held_of (PlainServer s) = (OfPlainServer, s)
+
 module _ (P : (X M S : Type 0) → Meaning X M S → Held M S → Type 0) where
   -- P of a set of this machine
   abbrev pub OfHeld : (machine : MachineKind) → Held Times (StateOf machine) → Type 0
@@ -104,10 +111,7 @@ module _ (P : (X M S : Type 0) → Meaning X M S → Held M S → Type 0) where
 
   -- P of the set, by its machine
   abbrev pub OfSet : AnySet → Type 0
-  OfSet (InviteClient s) = OfHeld OfInviteClient s
-  OfSet (PlainClient s) = OfHeld OfPlainClient s
-  OfSet (InviteServer s) = OfHeld OfInviteServer s
-  OfSet (PlainServer s) = OfHeld OfPlainServer s
+  OfSet set = OfHeld (held_of set).0 (held_of set).1
 
 module _ (P : (X M S : Type 0) → Meaning X M S → Held M S → Held M S → Type 0) where
   -- the new set is of this machine, as the old one is, and P of the two
@@ -117,17 +121,11 @@ module _ (P : (X M S : Type 0) → Meaning X M S → Held M S → Held M S → T
 
   -- the new set is of the old one's machine, and P of the two
   abbrev pub OfSets : AnySet → AnySet → Type 0
-  OfSets (InviteClient s) new = OfHelds OfInviteClient s new
-  OfSets (PlainClient s) new = OfHelds OfPlainClient s new
-  OfSets (InviteServer s) new = OfHelds OfInviteServer s new
-  OfSets (PlainServer s) new = OfHelds OfPlainServer s new
+  OfSets set new = OfHelds (held_of set).0 (held_of set).1 new
 
 -- the moment of the set
 abbrev pub moment_of : AnySet → ℕ
-moment_of (InviteClient s) = s.moment
-moment_of (PlainClient s) = s.moment
-moment_of (InviteServer s) = s.moment
-moment_of (PlainServer s) = s.moment
+moment_of set = (held_of set).1.moment
 
 -- each of its states is there once, is in range and can wait at its moment, and there are not too many
 abbrev pub IsKeptSet : AnySet → Type 0
@@ -159,10 +157,7 @@ IsAgendaOf limit set = OfSet (λ X M S m s. HasAgenda m limit s) set
 
 -- the set that a machine starts with: its first state, at moment 0
 abbrev pub start_of_machine : Times → MachineKind → AnySet
-start_of_machine p OfInviteClient = InviteClient (record { machine = p; moment = 0; states = idle_state (coded OfInviteClient) ∷ [] })
-start_of_machine p OfPlainClient = PlainClient (record { machine = p; moment = 0; states = idle_state (coded OfPlainClient) ∷ [] })
-start_of_machine p OfInviteServer = InviteServer (record { machine = p; moment = 0; states = idle_state (coded OfInviteServer) ∷ [] })
-start_of_machine p OfPlainServer = PlainServer (record { machine = p; moment = 0; states = idle_state (coded OfPlainServer) ∷ [] })
+start_of_machine p machine = set_of machine (record { machine = p; moment = 0; states = idle_state (coded machine) ∷ [] })
 
 -- the set that a key starts with
 abbrev pub start_of : Times → KeyParts → AnySet

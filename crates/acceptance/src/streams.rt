@@ -66,6 +66,16 @@ fn kept_behind_each(
     Ok((kept, judge.end()))
 }
 
+/// The verdict on a log that is read whole, whose entries a judge takes.
+pub(crate) fn verdict_by_entries(
+    rt: &(impl Abort + AllocGlobal),
+    log: &str,
+) -> Result<Verdict, Fail> {
+    let (_, verdict) = kept_behind_each(rt, log)?;
+    let verdict = verdict.ok_or("no verdict")?;
+    Ok(verdict)
+}
+
 /// The log of so many OPTIONS, each with a branch of its own: one every ten seconds, each answered ten milliseconds later.
 fn answered(alloc: Global, count: u64) -> Result<String, Fail>
     requires { count ≤ 1000 }

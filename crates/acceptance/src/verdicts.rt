@@ -2,6 +2,7 @@
 ghost use Rattle.std.specs.Prelude.{◌≡◌, false};
 
 use crate::notation::{Messages, log_of, log_with};
+use crate::streams::verdict_by_entries;
 use sip_log::Source;
 use sip_verdict::{JudgeError, judge, judge_bytes, render};
 use std::alloc::Global;
@@ -39,12 +40,15 @@ pub(crate) fn verdict_on(alloc: Global, bytes: &[u8]) -> Result<String, JudgeErr
     verdict_by(alloc, bytes, BuildHasherDefault::<FoldHasher>::new())
 }
 
-/// Judges logs, row by row.
+/// Judges logs, row by row: each as a whole, and entry by entry.
 pub(crate) fn judge_rows(rt: &(impl Abort + AllocGlobal), rows: &[Row]) -> Result<(), Fail> {
     for &(notation, want) in rows {
         let log = log_of(rt.alloc(), notation)?;
         let text = verdict_on(rt.alloc(), log.as_str().as_bytes())?;
         assert_eq!(rt; text.as_str(), want, "{notation}");
+        let verdict = verdict_by_entries(rt, log.as_str())?;
+        let text = render(rt.alloc(), &verdict)?;
+        assert_eq!(rt; text.as_str(), want, "{notation}, entry by entry");
     }
     Ok(())
 }

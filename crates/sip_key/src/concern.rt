@@ -62,8 +62,8 @@ pub fn key_of(
     let role = role_of(start, direction);
     let branch = branch.to_ascii_lowercase(alloc)?;
     let sent_by = sent_by_of(alloc, role, via)?;
-    let method = Vec::from_slice(alloc, method_of(message))?;
-    Ok(Some(Key::new(role, branch, sent_by, method)))
+    let key = Key::new(role, branch, &sent_by, method_of(message))?;
+    Ok(Some(key))
 }
 
 /// The key of the INVITE client transaction that a sent CANCEL cancels (RFC 3261, section 9.1), if it
@@ -84,8 +84,8 @@ pub fn cancelled_key(
         return Ok(None);
     };
     let same_branch = branch.to_ascii_lowercase(alloc)?;
-    let method = Vec::from_slice(alloc, b"INVITE")?;
-    Ok(Some(Key::new(Role::Client, same_branch, Vec::new(alloc), method)))
+    let key = Key::new(Role::Client, same_branch, b"", b"INVITE")?;
+    Ok(Some(key))
 }
 
 // The branch, if it has the cookie.

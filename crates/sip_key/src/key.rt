@@ -1,11 +1,12 @@
 //! The keys of transactions.
-ghost use Rattle.std.specs.Prelude.{◌≡◌, ◌++◌, ◌∷◌, [], length};
+ghost use Rattle.std.specs.Prelude.{◌≡◌, ◌++◌, ◌∷◌, [], IfOk, length};
 ghost use Rattle.std.specs.Cmp.{decided, partial_equiv_from_equiv};
 ghost use Rattle.std.specs.Hash as fed;
 ghost use Rattle.sip_key.specs.Key.{same_key};
 ghost use Rattle.sip_key.specs.inner.KeyLaws.{same_key-decides};
 
 use crate::role::Role;
+use std::alloc::AllocError;
 use std::hash::{Hash, Hasher};
 use std::marker::Model;
 
@@ -14,30 +15,45 @@ use std::marker::Model;
 #[derive(Debug, Drop)]
 pub struct Key {
     role: Role,
-    branch: Vec<u8>,
-    sent_by: Vec<u8>,
-    method: Vec<u8>,
+    /// The branch, the sent-by and the method, one behind another.
+    text: Vec<u8>,
+    branch_end: usize,
+    sent_by_end: usize,
 }
 
 impl Model for Key {
+    ghost use Rattle.std.specs.Prelude.{◌≤◌, drop, length, slice_range, take};
     ghost use Rattle.sip_key.specs.Key.{KeyParts};
 
     ghost Value = { KeyParts };
 
-    ghost view = { λ k. record { role = k.role; branch = k.branch.items; sent_by = k.sent_by.items; method = k.method.items } };
+    ghost view = { λ k. record { role = k.role; branch = take k.branch_end k.text.items; sent_by = slice_range k.text.items k.branch_end k.sent_by_end; method = drop k.sent_by_end k.text.items } };
+
+    ghost invariant = { λ k. (k.branch_end ≤ k.sent_by_end) × (k.sent_by_end ≤ length k.text.items) };
 }
 
 impl Key {
     /// The key of these parts, which are folded already.
-    pub(crate) fn new(role: Role, branch: Vec<u8>, sent_by: Vec<u8>, method: Vec<u8>) -> Self
-        ensures { result ≡ record { role = role; branch = branch.items; sent_by = sent_by.items; method = method.items } }
+    pub(crate) fn new(
+        role: Role,
+        branch: Vec<u8>,
+        sent_by: &[u8],
+        method: &[u8],
+    ) -> Result<Self, AllocError>
+        ensures { IfOk result (λ key. key ≡ record { role = role; branch = branch.items; sent_by = sent_by.now; method = method.now }) }
     {
-        Key {
+        let branch_end = branch.len();
+        let mut text = branch;
+        text.extend_from_slice(sent_by)?;
+        let sent_by_end = text.len();
+        text.extend_from_slice(method)?;
+        text.shrink_to_fit();
+        Ok(Key {
             role,
-            branch,
-            sent_by,
-            method,
-        }
+            text,
+            branch_end,
+            sent_by_end,
+        })
     }
 
     /// The side of the transaction.
@@ -51,7 +67,7 @@ impl Key {
     pub fn branch(&self) -> &[u8]
         ensures { result.now ≡ self.now.branch }
     {
-        &self.branch
+        &self.text[..self.branch_end]
     }
 
     /// The top Via's sent-by, empty on the client's side: the host in lower case, `:` and the number
@@ -59,14 +75,14 @@ impl Key {
     pub fn sent_by(&self) -> &[u8]
         ensures { result.now ≡ self.now.sent_by }
     {
-        &self.sent_by
+        &self.text[self.branch_end..self.sent_by_end]
     }
 
     /// The method of the request that made the transaction.
     pub fn method(&self) -> &[u8]
         ensures { result.now ≡ self.now.method }
     {
-        &self.method
+        &self.text[self.sent_by_end..]
     }
 }
 
@@ -77,9 +93,9 @@ impl PartialEq for Key {
 
     fn eq(&self, other: &Key) -> bool {
         self.role == other.role
-            && self.branch == other.branch
-            && self.sent_by == other.sent_by
-            && self.method == other.method
+            && self.branch() == other.branch()
+            && self.sent_by() == other.sent_by()
+            && self.method() == other.method()
     }
 }
 
@@ -95,10 +111,10 @@ impl Hash for Key {
 
     fn hash<H: Hasher>(&self, state: &mut H) {
         self.role.hash(state);
-        state.write_usize(self.branch.len());
-        state.write_usize(self.sent_by.len());
-        state.write(&self.branch);
-        state.write(&self.sent_by);
-        state.write(&self.method);
+        state.write_usize(self.branch().len());
+        state.write_usize(self.sent_by().len());
+        state.write(self.branch());
+        state.write(self.sent_by());
+        state.write(self.method());
     }
 }

@@ -17,8 +17,8 @@ returns c =
     let d = c.args.direction in
     let start = c.start-start.ensures in
     let via = c.top_via-via.ensures in
-    own-is c.args.message.now d _ _ _ _ c.new.ensures
+    own-is c.args.message.now d _ _ _ _ c.in_ok-key.ensures
     (c.role_of-role.ensures ∙ ap (λ s. role_of s d) start)
     (sym (ap (λ (e : Element). cookie_branch e.1.branch) via) ∙ c.in-Some.ensures ∙ ap Some (sym c.in_ok-branch.ensures.ok))
-    (c.in_ok-sent_by.ensures ∙ ap (λ (e : Element). sent_by_of c.role_of-role.result e.1) via)
-    (c.in_ok-method.ensures.items ∙ c.method_of.ensures)
+    (c.deref.ensures.value ∙ c.in_ok-sent_by.ensures ∙ ap (λ (e : Element). sent_by_of c.role_of-role.result e.1) via)
+    c.method_of.ensures

@@ -41,33 +41,6 @@ fn keeps_equal_bytes_once(rt: HostRuntime) -> Result<(), Fail> {
     Ok(())
 }
 
-/// Of four messages two stay, under their numbers and with their bytes. One that was forgotten is new when it
-/// comes again, and one that stayed is not.
-#[test]
-fn forgets_all_but_some(rt: HostRuntime) -> Result<(), Fail> {
-    let mut book = Book::new(rt.alloc());
-    assert!(rt; book.len() == 0);
-    assert!(rt; book.add(1, b"INVITE")? == 1);
-    assert!(rt; book.add(3, b"OPTIONS")? == 3);
-    assert!(rt; book.add(4, b"REGISTER")? == 4);
-    assert!(rt; book.add(7, b"BYE")? == 7);
-    assert!(rt; book.len() == 4);
-    if book.bytes(3).is_none() || book.bytes(7).is_none() {
-        return Err("not kept".into());
-    }
-    book.retain_only(&[3, 7]);
-    assert!(rt; book.len() == 2);
-    assert!(rt; book.bytes(1).is_none() && book.bytes(4).is_none());
-    assert!(rt; book.bytes(3) == Some(b"OPTIONS".as_slice()));
-    assert!(rt; book.bytes(7) == Some(b"BYE".as_slice()));
-    assert!(rt; book.add(8, b"BYE")? == 7);
-    assert!(rt; book.add(9, b"INVITE")? == 9);
-    assert!(rt; book.len() == 3);
-    book.retain_only(&[]);
-    assert!(rt; book.len() == 0);
-    Ok(())
-}
-
 #[test]
 fn keeps_many_messages(rt: HostRuntime) -> Result<(), Fail> {
     let mut book = Book::new(rt.alloc());

@@ -1,8 +1,8 @@
 -- The texts of a key, which stand one behind another.
-use Rattle.std.proofs.Common.{◌≡◌, ◌-◌, ◌++◌, ℕ, List, length, map, take, drop, refl, sym, ap, ◌∙◌, append_assoc, arith}
+use Rattle.std.proofs.Common.{◌≡◌, ◌-◌, ◌++◌, ℕ, List, length, map, take, drop, refl, ap, ◌∙◌, append_assoc, arith}
 use Rattle.std.specs.Prelude.{slice_range}
 use Rattle.std.specs.Char.{to_ascii_lowercase}
-use Rattle.std.proofs.lemmas.List.{take_at, drop_at, length-append, length-map, map-append}
+use Rattle.std.proofs.lemmas.List.{take_at, drop_at, length-append, map-append}
 use Rattle.sip_text.specs.Case.{folded}
 
 first_text : (branch sent_by method : List ℕ) → take (length branch) ((branch ++ sent_by) ++ method) ≡ branch

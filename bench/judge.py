@@ -240,6 +240,20 @@ def many_live_keys(entries):
         yield "R", number, request("OPTIONS", number)
 
 
+def at_one_moment(entries):
+    """OPTIONS and 200, all of them at one moment."""
+    for number in range(entries // 2):
+        yield "S", 0, small("OPTIONS sip:b@example.com SIP/2.0", "OPTIONS", number)
+        yield "R", 0, small("SIP/2.0 200 OK", "OPTIONS", number)
+
+
+def wide_and_over(entries):
+    """The servers of `wide`, each of which begins when the one before is over."""
+    for number in range(max(1, entries // 128)):
+        for place, (letter, text) in enumerate(widening(number) + [("S", response(200, "INVITE", number))]):
+            yield letter, 60000 * number + place, text
+
+
 def many_due_keys(entries):
     """Requests of a client that all come in the first 400 ms, and are all due at their first repeat."""
     for number in range(entries):
@@ -303,9 +317,13 @@ COUNTED_WIDE = (128, 256)
 WORST = {
     marks: 1, idle_keys: 1, one_long_key: 1, other_messages: 1, many_live_keys: 1, many_due_keys: 1, repeats_at_once: 1,
     many_owed: 1 / 10, acks_first_first: 1 / 50, acks_last_first: 1 / 50, repeats_when_wide: 1 / 200, many_fields: 1 / 500,
+    at_one_moment: 1, wide_and_over: 1 / 10,
 }
+# What time and memory are to grow with no faster than the entries, and the numbers of entries that are put side by side.
+GROWING = (calls, registers, options, at_one_moment, keys, many_live_keys)
+SIZES = (10_000, 100_000, 1_000_000)
 # A long tolerance lets much be owed at once.
-LONG = (wide, many_owed, repeats_when_wide)
+LONG = (wide, wide_and_over, many_owed, repeats_when_wide)
 
 
 def name_of(kind):
@@ -419,10 +437,27 @@ def print_timed(program, folder, verb, kinds, size):
               f"{megabytes / max(others, 1e-3):>9.1f} {cat_peak / 1e3:>8.1f}", flush=True)
 
 
+def print_growth(program, folder):
+    """Logs of one kind in several lengths side by side: what an entry takes of time, and the most memory that is held."""
+    print(f"{'growth':<18}" + "".join(f" {f'{size:,} entries: us':>24} {'peak MB':>8}" for size in SIZES))
+    log = folder / "log"
+    for kind in GROWING:
+        line = f"{name_of(kind):<18}"
+        for size in SIZES:
+            entries = write_log(log, kind, size)
+            text, seconds, peak, _ = measured([program, "check", log])
+            check_legal(kind, entries, text)
+            line += f" {seconds / entries * 1e6:>24.2f} {peak / 1e3:>8.1f}"
+        print(line, flush=True)
+
+
 def main():
     program, *sizes = sys.argv[1:]
     with tempfile.TemporaryDirectory() as name:
         folder = Path(name)
+        if sizes == ["growth"]:
+            print_growth(program, folder)
+            return
         if shutil.which("valgrind"):
             print_counted(program, folder)
         else:

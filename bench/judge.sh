@@ -1,7 +1,8 @@
 #!/bin/sh
 # Makes logs of several kinds, and prints for each what `siptrace check` needs: counted by valgrind, where it is installed, with the limits that
 # are to be reached; and timed, beside what cat needs for the same file. With numbers, logs of about so many entries are timed; else of 10,000
-# and of 100,000. SIPTRACE names another program than the one of ./siptrace. To measure on one processor, call it by taskset.
+# and of 100,000. With the word growth some kinds are timed alone, of 10,000, 100,000 and 1,000,000 entries side by side.
+# SIPTRACE names another program than the one of ./siptrace. To measure on one processor, call it by taskset.
 set -e
 unset CDPATH
 if [ -n "$SIPTRACE" ]; then SIPTRACE=$(realpath -- "$SIPTRACE"); fi

@@ -4,3 +4,4 @@ pub mod ConcernLemmas
 pub mod AckOfLemmas
 pub mod MethodLemmas
 pub mod HashLemmas
+pub mod KeyLemmas

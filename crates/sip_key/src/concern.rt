@@ -12,7 +12,6 @@ ghost use Rattle.sip_key.specs.OwnKey.{IsOwnKey};
 use crate::branch::has_cookie;
 use crate::key::Key;
 use crate::role::{Direction, Role};
-use crate::sent_by::sent_by;
 use sip_message::{Message, StartLine, Via};
 use sip_text::Host;
 use std::alloc::{AllocError, Global};
@@ -60,10 +59,8 @@ pub fn key_of(
         };
     };
     let role = role_of(start, direction);
-    let branch = branch.to_ascii_lowercase(alloc)?;
-    let sent_by = sent_by_of(alloc, role, via)?;
-    let method = Vec::from_slice(alloc, method_of(message))?;
-    Ok(Some(Key::new(role, branch, sent_by, method)))
+    let key = key_with(alloc, role, branch, via, method_of(message))?;
+    Ok(Some(key))
 }
 
 /// The key of the INVITE client transaction that a sent CANCEL cancels (RFC 3261, section 9.1), if it
@@ -83,9 +80,8 @@ pub fn cancelled_key(
     let Some(branch) = cookie_branch(message.top_via()) else {
         return Ok(None);
     };
-    let same_branch = branch.to_ascii_lowercase(alloc)?;
-    let method = Vec::from_slice(alloc, b"INVITE")?;
-    Ok(Some(Key::new(Role::Client, same_branch, Vec::new(alloc), method)))
+    let key = Key::client(alloc, branch, b"INVITE")?;
+    Ok(Some(key))
 }
 
 // The branch, if it has the cookie.
@@ -106,14 +102,20 @@ fn role_of(start: StartLine<'_>, direction: Direction) -> Role
     }
 }
 
-// The sent-by of a server's key, and nothing for a client's.
-fn sent_by_of(alloc: Global, role: Role, via: Via<'_>) -> Result<Vec<u8>, AllocError>
+// The key with this branch, and the sent-by where it is a server's.
+fn key_with(
+    alloc: Global,
+    role: Role,
+    branch: &[u8],
+    via: Via<'_>,
+    method: &[u8],
+) -> Result<Key, AllocError>
     requires { IfSome (option_copied via.port) Port }
-    ensures { IfOk result (λ text. text.items ≡ sent_by_of role (element via.entry).1) }
+    ensures { IfOk result (λ key. key ≡ record { role = role; branch = folded branch.now; sent_by = sent_by_of role (element via.entry).1; method = method.now }) }
 {
     match role {
-        Role::Client => Ok(Vec::new(alloc)),
-        Role::Server => sent_by(alloc, host_text(via.host), via.port),
+        Role::Client => Key::client(alloc, branch, method),
+        Role::Server => Key::server(alloc, branch, host_text(via.host), via.port, method),
     }
 }
 

@@ -1,33 +1,26 @@
 //! The sent-by of a Via as keys have it.
-ghost use Rattle.std.specs.Prelude.{◌≡◌, IfOk, IfSome, option_copied};
+ghost use Rattle.std.specs.Prelude.{◌≡◌, ◌++◌, ◌∷◌, IfSome, OnOk, decimal, option_copied};
 ghost use Rattle.std.specs.Str.Parse.{digits_value};
+ghost use Rattle.sip_text.specs.Bytes.{colon};
 ghost use Rattle.sip_text.specs.Uri.{Port};
-ghost use Rattle.sip_key.specs.SentBy.{port_number, sent_by};
+ghost use Rattle.sip_key.specs.SentBy.{port_number};
 
 use itoa::Buffer;
-use std::alloc::{AllocError, Global};
+use std::alloc::AllocError;
 
 // The port where none is given, whatever the transport.
 const DEFAULT_PORT: u16 = 5060;
 
-// The most bytes of `:` and a port.
-const PORT_LEN: usize = 6;
+/// The most bytes of `:` and a port.
+pub(crate) const MOST_PORT_BYTES: usize = 6;
 
-/// The host in lower case, `:` and the port as a number in decimal.
-pub(crate) fn sent_by(
-    alloc: Global,
-    host: &[u8],
-    port: Option<&[u8]>,
-) -> Result<Vec<u8>, AllocError>
+/// Puts `:` and the port as a number in decimal behind the text.
+pub(crate) fn push_port(text: &mut Vec<u8>, port: Option<&[u8]>) -> Result<(), AllocError>
     requires { IfSome (option_copied port) Port }
-    ensures { IfOk result (λ v. v.items ≡ sent_by host.now (option_copied port.entry)) }
+    ensures { OnOk result (text.new.items ≡ text.old.items ++ colon ∷ decimal (port_number (option_copied port.entry))) }
 {
-    let mut text = Vec::with_capacity(alloc, host.len() + PORT_LEN)?;
-    text.extend_from_slice(host)?;
-    text.make_ascii_lowercase();
     text.push(b':')?;
-    text.extend_from_slice(Buffer::new().format(port_number(port)).as_bytes())?;
-    Ok(text)
+    text.extend_from_slice(Buffer::new().format(port_number(port)).as_bytes())
 }
 
 // The number of the port.

@@ -1,7 +1,5 @@
 pub mod OwingSteps
 pub mod RepliesLemmas
-pub mod InviteClientRows
-pub mod InviteServerRows
 pub mod RuleLaws
 pub mod SingleLemmas
 pub mod BothLemmas

@@ -1,7 +1,6 @@
 -- The numbers of the messages that a state names.
 use Rattle.std.specs.Prelude.{◌≡◌, ◌<◌, ◌↔◌, ◌⊎◌, ℕ, zero, suc, List, [], ◌∷◌, ◌++◌, All, Contains, map, flat_map, replicate}
-use Rattle.std.proofs.Common.{cond, Result, Ok, Err, OnOk, inl, inr, subst, arith}
-use Rattle.std.specs.Result.{is_ok}
+use Rattle.std.proofs.Common.{Result, Ok, Err, OnOk, inl, inr, subst, arith}
 use Rattle.std.proofs.lemmas.List.{map-append}
 use Rattle.std.proofs.lemmas.List.Elements.{All-head, All-tail, Contains-append_left, Contains-append_right, Contains-append_cases, Contains-get_or}
 use Rattle.sip_machine.specs.declared.outbox.Debt.{Debt}
@@ -50,7 +49,6 @@ front_members front xs ys same n = (go xs ys (λ n. (same n).0), go ys xs (λ n.
     go xs ys some h = elim (Contains-append_cases front xs n h) [ inl a ↦ Contains-append_left front ys n a | inr b ↦ Contains-append_right front ys n (some n b) ]
 
 -- these were appended, unless that was refused
-pub appends_if : {T E : Type 0} (r : Result T E) (numbers old new added : List ℕ) → new ≡ cond (is_ok r) (old ++ added) old → ((n : ℕ) → Contains added n ↔ Contains numbers n)
-    → OnOk r (AppendsAll numbers old new)
-appends_if (Ok x) numbers old new added is same = (added, is, same)
-appends_if (Err e) numbers old new added is same = tt
+pub appends_ok : {T E : Type 0} (r : Result T E) (numbers old new added : List ℕ) → OnOk r (new ≡ old ++ added) → ((n : ℕ) → Contains added n ↔ Contains numbers n) → OnOk r (AppendsAll numbers old new)
+appends_ok (Ok x) numbers old new added is same = (added, is, same)
+appends_ok (Err e) numbers old new added is same = tt

@@ -1,11 +1,9 @@
-use Rattle.std.proofs.Common.{◌≡◌, ◌⊎◌, inl, inr, ℕ, List, [], ◌∷◌, Option, Some, None, refl, arith}
-use Rattle.std.specs.Prelude.{unwrap_or}
-use Rattle.std.specs.Option.{option_and}
+use Rattle.std.proofs.Common.{◌≡◌, inl, inr, ℕ, List, [], ◌∷◌, refl, arith}
 use Rattle.std.proofs.lemmas.List.Elements.{All-nil, All-cons, Contains-push, Contains-push_cases}
 use Rattle.sip_machine.specs.Texts.{Texts}
 use Rattle.sip_machine.proofs.TextLaws.{Contains-nil}
 use Rattle.sip_machine.specs.Rules.{Knows, StandFor}
-use Rattle.sip_machine.specs.inner.Single.{IsTheOne, AnswersOne}
+use Rattle.sip_machine.specs.inner.Single.{IsTheOne}
 
 -- where P holds of nothing, no state stands for it
 pub StandFor-none : {X S : Type 0} (names : S → List ℕ) (InRange : S → Type 0) (seen : Texts → S → X)

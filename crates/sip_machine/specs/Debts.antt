@@ -1,7 +1,5 @@
-use Rattle.std.specs.Prelude.{◌≡◌, ◌≤◌, ◌||◌, ℕ, Bool, true, false, Option, None, List, ◌∷◌, ◌++◌, All, filter, map, min, nat_le, if◌then◌else◌}
+use Rattle.std.specs.Prelude.{◌≡◌, ◌≤◌, ◌||◌, ℕ, Bool, false, Option, None, List, ◌∷◌, ◌++◌, All, filter, map, min, nat_le, if◌then◌else◌}
 use Rattle.std.specs.List.{reduce, list_any}
-use Rattle.sip_machine.specs.Times.{Times}
-use Rattle.sip_machine.specs.Limits.{close_at}
 
 -- What a machine owes, oldest cause first: replies to repeated requests (RFC 3261 sections 17.2.1 and 17.2.2), and ACKs (section 17.1.1.2).
 

@@ -96,6 +96,14 @@ impl Book {
         }
     }
 
+    /// The bytes of a message that is kept.
+    pub(crate) fn bytes_of(&self, number: u32) -> &[u8]
+        requires { Keeps self.now number }
+        ensures { result.now ≡ text_of self.now number }
+    {
+        self.bytes(number).unwrap()
+    }
+
     /// The number of the first kept message with these bytes; where there is none, they are kept
     /// under the number of their entry, which is above all that are kept.
     pub fn add(&mut self, entry: u32, bytes: &[u8]) -> Result<u32, AllocError>

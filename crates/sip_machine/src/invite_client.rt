@@ -8,7 +8,7 @@ ghost use Rattle.sip_machine.specs.Rules.{Knows};
 ghost use Rattle.sip_machine.specs.Owing.{turn_seen, turn_names, TurnInRange};
 ghost use Rattle.sip_machine.specs.inner.Single.{AnswersOne};
 ghost use Rattle.sip_machine.specs.Heard.{FitsBook, heard};
-ghost use Rattle.sip_machine.specs.InviteClient.{Sends, timer_b, timer_m, give_up, invite_client_seen, invite_client_names, InviteClientInRange};
+ghost use Rattle.sip_machine.specs.InviteClient.{Sends, invite_client_seen, invite_client_names, InviteClientInRange};
 
 mod acks;
 
@@ -19,6 +19,7 @@ use crate::invite_client::acks::first_acked;
 use crate::owes::Owes;
 use crate::owing::Owing;
 use crate::phases::{Change, Phase, Phases, Turn};
+use crate::timers::timeout;
 use crate::waiting::Waiting;
 use sip_times::Params;
 use std::alloc::{AllocError, Global};
@@ -131,6 +132,7 @@ impl Phases for InviteClient {
         let Kind::Response(code) = event.kind() else {
             return Ok(None);
         };
+        let set = event.moment();
         let unacked = Change::Gains {
             must: true,
             message: event.number(),
@@ -145,23 +147,19 @@ impl Phases for InviteClient {
                 change: Change::Keeps,
             },
             InviteClientPhase::Calling(_) if is_success(code) => Turn {
-                phase: InviteClientPhase::Accepted {
-                    set: event.moment(),
-                },
+                phase: InviteClientPhase::Accepted { set },
                 change: Change::Keeps,
             },
             InviteClientPhase::Calling(waiting) if is_unsuccessful(code) => Turn {
                 phase: InviteClientPhase::Completed {
                     reliable: waiting.reliable,
                     request: waiting.request,
-                    set: event.moment(),
+                    set,
                 },
                 change: unacked,
             },
             InviteClientPhase::Proceeding { .. } if is_success(code) => Turn {
-                phase: InviteClientPhase::Accepted {
-                    set: event.moment(),
-                },
+                phase: InviteClientPhase::Accepted { set },
                 change: Change::Keeps,
             },
             InviteClientPhase::Proceeding {
@@ -172,20 +170,12 @@ impl Phases for InviteClient {
                 phase: InviteClientPhase::Completed {
                     reliable,
                     request,
-                    set: event.moment(),
+                    set,
                 },
                 change: unacked,
             },
-            InviteClientPhase::Completed {
-                reliable,
-                request,
-                set,
-            } if is_unsuccessful(code) => Turn {
-                phase: InviteClientPhase::Completed {
-                    reliable,
-                    request,
-                    set,
-                },
+            InviteClientPhase::Completed { .. } if is_unsuccessful(code) => Turn {
+                phase: *phase,
                 change: unacked,
             },
             _ => return Ok(None),
@@ -249,14 +239,17 @@ impl Phases for InviteClient {
     fn timer_window(&self, phase: &InviteClientPhase) -> Option<(u64, Option<u64>)> {
         let params = &self.params;
         match *phase {
+            // timer B
             InviteClientPhase::Calling(waiting) => {
-                Some(params.window(waiting.start, timer_b(params)))
+                Some(params.window(waiting.start, timeout(params)))
             }
             InviteClientPhase::Proceeding { cancel, .. } => match cancel {
-                Some(first) => Some((params.opens(first, give_up(params)), None)),
+                Some(first) => Some((params.opens(first, timeout(params)), None)),
                 None => None,
             },
-            InviteClientPhase::Accepted { set } => Some(params.window(set, timer_m(params))),
+            // timer M
+            InviteClientPhase::Accepted { set } => Some(params.window(set, timeout(params))),
+            // timer D
             InviteClientPhase::Completed { reliable, set, .. } => {
                 if reliable {
                     Some(params.window(set, 0))
@@ -271,8 +264,8 @@ impl Phases for InviteClient {
     fn closes(&self, phase: &InviteClientPhase) -> Option<u64> {
         let params = &self.params;
         match *phase {
-            InviteClientPhase::Calling(waiting) => Some(waiting.closes(params, timer_b(params))),
-            InviteClientPhase::Accepted { set } => Some(params.closes(set, timer_m(params))),
+            InviteClientPhase::Calling(waiting) => Some(waiting.closes(params, timeout(params))),
+            InviteClientPhase::Accepted { set } => Some(params.closes(set, timeout(params))),
             InviteClientPhase::Completed { reliable, set, .. } => {
                 if reliable {
                     Some(params.closes(set, 0))
@@ -280,9 +273,7 @@ impl Phases for InviteClient {
                     None
                 }
             }
-            InviteClientPhase::Idle
-            | InviteClientPhase::Proceeding { .. }
-            | InviteClientPhase::Ended => None,
+            _ => None,
         }
     }
 
@@ -291,9 +282,7 @@ impl Phases for InviteClient {
             InviteClientPhase::Calling(waiting) => Some(waiting.request),
             InviteClientPhase::Proceeding { request, .. } => Some(request),
             InviteClientPhase::Completed { request, .. } => Some(request),
-            InviteClientPhase::Idle
-            | InviteClientPhase::Accepted { .. }
-            | InviteClientPhase::Ended => None,
+            _ => None,
         }
     }
 
@@ -376,37 +365,10 @@ fn cancels(phase: &InviteClientPhase, event: &Event) -> Option<Turn<InviteClient
             },
             Some(_) => *phase,
         },
-        InviteClientPhase::Idle
-        | InviteClientPhase::Accepted { .. }
-        | InviteClientPhase::Completed { .. }
-        | InviteClientPhase::Ended => *phase,
+        _ => *phase,
     };
     Some(Turn {
         phase,
         change: Change::Keeps,
     })
-}
-
-/// Timer B: how long an INVITE waits for a response.
-fn timer_b(params: &Params) -> u64
-    ensures value { result ≡ timer_b params.now }
-    ensures small { result ≤ 640000 }
-{
-    64 * params.t1()
-}
-
-/// Timer M: how long further successes may come in.
-fn timer_m(params: &Params) -> u64
-    ensures value { result ≡ timer_m params.now }
-    ensures small { result ≤ 640000 }
-{
-    64 * params.t1()
-}
-
-/// How long an INVITE waits for its final response behind a CANCEL.
-fn give_up(params: &Params) -> u64
-    ensures value { result ≡ give_up params.now }
-    ensures small { result ≤ 640000 }
-{
-    64 * params.t1()
 }

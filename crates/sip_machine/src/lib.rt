@@ -20,6 +20,7 @@ mod plain_server;
 mod provisional;
 mod push;
 mod retransmits;
+mod timers;
 mod waiting;
 
 pub use book::Book;

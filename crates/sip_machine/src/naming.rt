@@ -1,12 +1,12 @@
 //! The numbers of the messages that a state names.
-ghost use Rattle.std.specs.Prelude.{◌≡◌, ◌++◌, OnOk, OnErr, IfOk, map, option_to_list};
+ghost use Rattle.std.specs.Prelude.{◌≡◌, ◌++◌, OnOk, OnErr, List, ℕ, map, option_to_list};
 ghost use Rattle.sip_machine.specs.Owes.{owes_names};
 ghost use Rattle.sip_machine.specs.Naming.{AppendsAll};
 
 use crate::outbox::Run;
 use crate::owes::Owes;
 use crate::phases::Phase;
-use std::alloc::{AllocError, Global};
+use std::alloc::AllocError;
 
 /// Appends the number of a message, if there is one, and those of what is owed, each at least once. On
 /// an error the vector is as before.
@@ -18,29 +18,32 @@ pub(crate) fn push_names<P: Phase>(
     ensures ok { OnOk result (AppendsAll (option_to_list message ++ owes_names owes.now) out.old.items out.new.items) }
     ensures err { OnErr result (out.new.items ≡ out.old.items) }
 {
-    let mut found = numbers(*out.allocator(), message)?;
-    push_owed(&mut found, owes.runs())?;
-    out.extend_from_slice(&found)
-}
-
-/// The number, if there is one.
-fn numbers(alloc: Global, message: Option<u32>) -> Result<Vec<u32>, AllocError>
-    ensures { IfOk result (λ found. found.items ≡ option_to_list message) }
-{
-    let mut found = Vec::new(alloc);
-    if let Some(number) = message {
-        found.push(number)?;
-        return Ok(found);
+    let before = out.len();
+    let pushed = push_each(out, message, owes.runs());
+    if pushed.is_err() {
+        out.truncate(before);
     }
-    Ok(found)
+    pushed
 }
 
-/// Appends the number of each run's message: equal debts have one.
-fn push_owed(found: &mut Vec<u32>, runs: &[Run]) -> Result<(), AllocError>
-    ensures { OnOk result (found.new.items ≡ found.old.items ++ map (λ run. run.debt.message) runs.now) }
+/// Appends the number of a message, if there is one, and that of each run's message. On an error some may have been appended.
+fn push_each(out: &mut Vec<u32>, message: Option<u32>, runs: &[Run]) -> Result<(), AllocError>
+    ensures ok { OnOk result (out.new.items ≡ out.old.items ++ (option_to_list message ++ map (λ run. run.debt.message) runs.now)) }
+    ensures err { OnErr result ((added : List ℕ) × (out.new.items ≡ out.old.items ++ added)) }
+{
+    if let Some(number) = message {
+        out.push(number)?;
+    }
+    push_owed(out, runs)
+}
+
+/// Appends the number of each run's message: equal debts have one. On an error some may have been appended.
+fn push_owed(out: &mut Vec<u32>, runs: &[Run]) -> Result<(), AllocError>
+    ensures ok { OnOk result (out.new.items ≡ out.old.items ++ map (λ run. run.debt.message) runs.now) }
+    ensures err { OnErr result ((added : List ℕ) × (out.new.items ≡ out.old.items ++ added)) }
 {
     for run in runs {
-        found.push(run.debt.message)?;
+        out.push(run.debt.message)?;
     }
     Ok(())
 }

@@ -67,6 +67,14 @@ impl Outbox {
         }
     }
 
+    /// Nothing is owed, with room for so many runs.
+    fn with_room(alloc: Global, runs: usize) -> Result<Outbox, AllocError>
+        ensures { IfOk result (λ outbox. outbox ≡ []) }
+    {
+        let runs = Vec::with_capacity(alloc, runs)?;
+        Ok(Outbox { runs, count: 0 })
+    }
+
     /// The debts, in runs: equal neighbours stand in one.
     pub fn runs(&self) -> &[Run]
         ensures debts { flat_map (λ run. replicate run.count run.debt) result.now ≡ self.now }
@@ -118,7 +126,7 @@ impl Outbox {
     pub(crate) fn unexpired(&self, moment: u64) -> Result<Outbox, AllocError>
         ensures { IfOk result (λ copy. copy ≡ filter (counts_at moment) self.now) }
     {
-        let mut counting = Outbox::new(*self.runs.allocator());
+        let mut counting = Outbox::with_room(*self.runs.allocator(), self.runs.len())?;
         for run in &self.runs {
             if !counts(run.debt, moment) {
                 continue;
@@ -132,7 +140,7 @@ impl Outbox {
     pub(crate) fn softened(&self) -> Result<Outbox, AllocError>
         ensures { IfOk result (λ copy. copy ≡ map softened_debt self.now) }
     {
-        let mut soft = Outbox::new(*self.runs.allocator());
+        let mut soft = Outbox::with_room(*self.runs.allocator(), self.runs.len())?;
         for run in &self.runs {
             soft.push_run(softened(*run))?;
         }

@@ -1,6 +1,5 @@
 //! The non-INVITE client transaction (RFC 3261 section 17.1.2).
-ghost use Rattle.std.specs.Prelude.{◌≡◌, ◌≤◌};
-ghost use Rattle.sip_machine.specs.PlainClient.{timer_f, timer_k};
+ghost use Rattle.std.specs.Prelude.{◌≡◌};
 
 use crate::book::Book;
 use crate::debts::NoDebts;
@@ -8,6 +7,7 @@ use crate::event::{Event, Kind, is_final, is_provisional};
 use crate::owes::Owes;
 use crate::owing::Owing;
 use crate::phases::{Change, Phase, Phases, Turn};
+use crate::timers::{linger, timeout};
 use crate::waiting::Waiting;
 use sip_times::Params;
 use std::alloc::{AllocError, Global};
@@ -185,11 +185,13 @@ impl Phases for PlainClient {
     fn timer_window(&self, phase: &PlainClientPhase) -> Option<(u64, Option<u64>)> {
         let params = &self.params;
         match *phase {
+            // timer F
             PlainClientPhase::Trying(waiting) | PlainClientPhase::Proceeding(waiting) => {
-                Some(params.window(waiting.start, timer_f(params)))
+                Some(params.window(waiting.start, timeout(params)))
             }
+            // timer K
             PlainClientPhase::Completed { reliable, set } => {
-                Some(params.window(set, timer_k(params, reliable)))
+                Some(params.window(set, linger(params, reliable)))
             }
             PlainClientPhase::Idle | PlainClientPhase::Ended => None,
         }
@@ -198,10 +200,10 @@ impl Phases for PlainClient {
     fn closes(&self, phase: &PlainClientPhase) -> Option<u64> {
         let params = &self.params;
         match *phase {
-            PlainClientPhase::Trying(waiting) => Some(waiting.closes(params, timer_f(params))),
-            PlainClientPhase::Proceeding(waiting) => Some(waiting.closes(params, timer_f(params))),
+            PlainClientPhase::Trying(waiting) => Some(waiting.closes(params, timeout(params))),
+            PlainClientPhase::Proceeding(waiting) => Some(waiting.closes(params, timeout(params))),
             PlainClientPhase::Completed { reliable, set } => {
-                Some(params.closes(set, timer_k(params, reliable)))
+                Some(params.closes(set, linger(params, reliable)))
             }
             PlainClientPhase::Idle | PlainClientPhase::Ended => None,
         }
@@ -235,20 +237,4 @@ impl Phases for PlainClient {
     ghost apart = { plain_client_apart };
 
     ghost by_names = { plain_client_by_names };
-}
-
-/// Timer F: how long a request waits for its final response.
-fn timer_f(params: &Params) -> u64
-    ensures value { result ≡ timer_f params.now }
-    ensures small { result ≤ 640000 }
-{
-    64 * params.t1()
-}
-
-/// Timer K: how long repeats of the final response may come in.
-fn timer_k(params: &Params, reliable: bool) -> u64
-    ensures value { result ≡ timer_k params.now reliable }
-    ensures small { result ≤ 60000 }
-{
-    if reliable { 0 } else { params.t4() }
 }

@@ -14,7 +14,7 @@ pub(crate) fn is_100(alloc: Global, book: &Book, number: u32) -> Result<bool, Al
     requires { Keeps book.now number }
     ensures { IfOk result (λ is. IsTrue is ↔ Is100 (text_of book.now number)) }
 {
-    spells_100(alloc, book.bytes(number).unwrap())
+    spells_100(alloc, book.bytes_of(number))
 }
 
 /// Whether the bytes spell a message that begins as a 100 does.

@@ -3,3 +3,5 @@ pub mod RowLemmas
 pub mod LaneLemmas
 pub mod WordLemmas
 pub mod QuickLemmas
+pub mod PlainLemmas
+pub mod PlainViaLemmas

@@ -105,7 +105,7 @@ line-cut text at n end less within is =
     ap₂ take count parts ∙ take-append-add (take n t) (colon ∷ drop (at + n + 1) text) (suc (end - (at + n + 1)))
 
 -- a byte that stands in a list of bytes
-low-one : (set : List ℕ) (b : ℕ) → AllByRecursion (λ x. x < 256) set → is_one_of set b ≡ true → b < 256
+pub low-one : (set : List ℕ) (b : ℕ) → AllByRecursion (λ x. x < 256) set → is_one_of set b ≡ true → b < 256
 low-one [] b low is = absurd (both_ways false refl is)
 low-one (x ∷ set) b low is =
     elim (or_cases (x == b) (is_one_of set b) is) [
@@ -114,7 +114,7 @@ low-one (x ∷ set) b low is =
     ]
 
 -- a plain byte is one of a token
-plain-token : (b : ℕ) → is_plain b ≡ true → is_token_byte b ≡ true
+pub plain-token : (b : ℕ) → is_plain b ≡ true → is_token_byte b ≡ true
 plain-token b is =
     elim (or_cases (is_ascii_alphanumeric b) (is_one_of (codes "-.!*_+'~") b) is) [
       | inl letter ↦ ap (λ x. x || is_one_of (codes "-.!%*_+`'~") b) letter
@@ -149,14 +149,18 @@ plain-named text at n end is some less within mark =
     }
 
 -- what is left behind its colon has no controls
-pub plain-open : (text : List ℕ) (at n end : ℕ) (value : List ℕ) → at + n < end → end ≤ length text → get_or text (at + n) 0 ≡ colon → IsOpen (take (end - at) (drop at text))
-    → ValueText (take (end - (at + n + 1)) (drop (at + n + 1) text)) value → IsOpen value
-plain-open text at n end value less within mark clear valued =
+pub behind-open : (text : List ℕ) (at n end : ℕ) → at + n < end → end ≤ length text → get_or text (at + n) 0 ≡ colon → IsOpen (take (end - at) (drop at text))
+    → IsOpen (take (end - (at + n + 1)) (drop (at + n + 1) text))
+behind-open text at n end less within mark clear =
     let rest = take (end - (at + n + 1)) (drop (at + n + 1) text) in
-    let behind = all_right is_open (take n (drop at text)) (colon ∷ rest) (subst IsOpen (line-cut text at n end less within mark) clear) in
+    (all_right is_open (take n (drop at text)) (colon ∷ rest) (subst IsOpen (line-cut text at n end less within mark) clear)).1
+
+-- nor has the value there
+pub value-open : (rest value : List ℕ) → IsOpen rest → ValueText rest value → IsOpen value
+value-open rest value clear valued =
     let w = valued.whole in
     let whole : rest ≡ w.0 ++ (value ++ w.3.1) = w.4 ∙ ap (λ t. w.0 ++ t) (w.3.4 ∙ ap (λ t. t ++ w.3.1) w.3.2) in
-    all_left is_open value w.3.1 (all_right is_open w.0 (value ++ w.3.1) (subst IsOpen whole behind.1))
+    all_left is_open value w.3.1 (all_right is_open w.0 (value ++ w.3.1) (subst IsOpen whole clear))
 
 -- a field's line is not empty, and begins with no blank
 line-begins : (line : List ℕ) (f : Field) → FieldText line f → (line ≡ [] → ⊥) × (BeginsBlank line → ⊥)

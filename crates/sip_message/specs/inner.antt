@@ -16,3 +16,4 @@ pub mod Names
 pub mod Quick
 pub mod Asked
 pub mod Numbers
+pub mod Plain

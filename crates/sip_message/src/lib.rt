@@ -15,6 +15,8 @@ mod name;
 mod number;
 mod other;
 mod params;
+mod plain;
+mod plain_via;
 mod quick;
 mod row;
 mod stages;

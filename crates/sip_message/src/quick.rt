@@ -2,18 +2,26 @@
 //! It finds the ends of lines and of names in masks of the text. What is not ordinary it leaves to the
 //! reader of all heads.
 ghost use Rattle.std.specs.Prelude.{◌≡◌, ◌+◌, ◌-◌, ◌^◌, ◌≤◌, ◌<◌, ◌++◌, IsTrue, IfOk, IfSome, length, take, drop};
+ghost use Rattle.sip_text.specs.Text.{IsOnlyValue};
 ghost use Rattle.sip_message.specs.Lines.{with_end};
-ghost use Rattle.sip_message.specs.Field.{Row, FieldText};
+ghost use Rattle.sip_message.specs.Field.{Row, ValueText, FieldText};
 ghost use Rattle.sip_message.specs.Views.{name_parts, field_parts, fields_parts};
 ghost use Rattle.sip_message.specs.ValueParts.{start_parts};
+ghost use Rattle.sip_message.specs.ViaParts.{element};
+ghost use Rattle.sip_message.specs.inner.ElementFronts.{FirstVia};
 ghost use Rattle.sip_message.specs.inner.Kept.{KeptOf, KeepsMore};
+ghost use Rattle.sip_message.specs.inner.Plain.{segment, SomeAddress};
 ghost use Rattle.sip_message.specs.inner.Quick.{IsOpen, AreOrdinary, IsOrdinary};
 
+use crate::cursor::past;
 use crate::field::Field;
-use crate::kept::Kept;
+use crate::kept::{Kept, keep};
 use crate::name::{Known, Name, quick_name};
-use crate::row::{is_of_row, trim};
+use crate::plain::is_plain_address;
+use crate::plain_via::plain_via;
+use crate::row::{is_address, is_of_row, is_solid, trim};
 use crate::start_line::{StartLine, read_start};
+use crate::via::{Via, first_via};
 use sip_masks::Masks;
 use std::alloc::{AllocError, Global};
 
@@ -131,13 +139,95 @@ fn ordinary_field<'a>(
         return None;
     }
     let name = quick_name(&text[at..], len);
-    let Some(value) = trim(&text[at + len + 1..end]) else {
+    let value = ordinary_value(masks, at + len + 1, end, name, kept)?;
+    Some(Field { name, value })
+}
+
+// The value behind a colon, if a field of this name may have it. What a first Via and a first CSeq
+// say is kept.
+#[inline]
+fn ordinary_value<'a>(
+    masks: &Masks<'a, '_>,
+    at: usize,
+    end: usize,
+    name: Name<'a>,
+    kept: &mut Kept<'a>,
+) -> Option<&'a [u8]>
+    requires within { (at ≤ end) × (end ≤ length masks.now) }
+    requires clear { IsOpen (segment at end masks.now) }
+    ensures value { IfSome result (λ v. ValueText (segment at end masks.now) v.now) }
+    ensures row { IfSome result (λ v. Row (name_parts name.entry) v.now) }
+    ensures kept { IfSome result (λ v. KeepsMore (record { name = name_parts name.entry; value = v.now }) kept.old kept.new) }
+{
+    let text = masks.text();
+    let Some(from) = solid_place(text, at, end) else {
+        let value = trim(&text[at..end])?;
+        return if is_ordinary_value(name, value, kept) {
+            Some(value)
+        } else {
+            None
+        };
+    };
+    if is_value_at(masks, from, end, name, kept) {
+        Some(&text[from..end])
+    } else {
+        None
+    }
+}
+
+// The place of the value between two places, if a SP stands before it, and it neither begins nor ends
+// with a blank.
+#[inline]
+fn solid_place(text: &[u8], at: usize, end: usize) -> Option<usize>
+    requires { (at ≤ end) × (end ≤ length text.now) }
+    ensures within { IfSome result (λ from. (at ≤ from) × (from ≤ end)) }
+    ensures value { IfSome result (λ from. ValueText (segment at end text.now) (segment from end text.now)) }
+{
+    let Some(value) = past(&text[at..end], b' ') else {
         return None;
     };
-    if !is_ordinary_value(name, value, kept) {
-        return None;
+    if is_solid(value) { Some(at + 1) } else { None }
+}
+
+// Whether a field of this name may have the value between two places, in which no control stands.
+#[inline]
+fn is_value_at<'a>(
+    masks: &Masks<'a, '_>,
+    at: usize,
+    end: usize,
+    name: Name<'a>,
+    kept: &mut Kept<'a>,
+) -> bool
+    requires within { (at ≤ end) × (end ≤ length masks.now) }
+    requires clear { IsOpen (segment at end masks.now) }
+    ensures row { IsTrue result → Row (name_parts name.entry) (segment at end masks.now) }
+    ensures kept { IsTrue result → KeepsMore (record { name = name_parts name.entry; value = segment at end masks.now }) kept.old kept.new }
+{
+    match name {
+        Name::Known(Known::Via) => keep(via_at(masks, at, end), &mut kept.via),
+        Name::Known(Known::From) => is_address_at(masks, at, end),
+        Name::Known(Known::To) => is_address_at(masks, at, end),
+        _ => is_ordinary_value(name, &masks.text()[at..end], kept),
     }
-    Some(Field { name, value })
+}
+
+// The first element of Via between two places, if elements stand there.
+fn via_at<'a>(masks: &Masks<'a, '_>, at: usize, end: usize) -> Option<Via<'a>>
+    requires { (at ≤ end) × (end ≤ length masks.now) }
+    ensures { IsOnlyValue FirstVia element (segment at end masks.now) result }
+{
+    match plain_via(masks, at, end) {
+        Some(via) => Some(via),
+        None => first_via(&masks.text()[at..end]),
+    }
+}
+
+// Whether an address stands between two places.
+fn is_address_at(masks: &Masks<'_, '_>, at: usize, end: usize) -> bool
+    requires { (at ≤ end) × (end ≤ length masks.now) }
+    ensures { IsTrue result → SomeAddress (segment at end masks.now) }
+{
+    is_plain_address(masks, at, end) || is_address(&masks.text()[at..end])
 }
 
 // Whether a field of this name may have the value, in which no control stands.

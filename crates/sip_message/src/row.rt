@@ -31,9 +31,9 @@ pub(crate) fn trim(text: &[u8]) -> Option<&[u8]>
     }
 }
 
-// Whether the text is not empty, and neither begins nor ends with a byte of a blank run.
+/// Whether the text is not empty, and neither begins nor ends with a byte of a blank run.
 #[inline]
-fn is_solid(text: &[u8]) -> bool
+pub(crate) fn is_solid(text: &[u8]) -> bool
     ensures { result ≡ is_solid text.now }
 {
     !text.is_empty() && !is_blank(text[0]) && !is_blank(text[text.len() - 1])
@@ -110,8 +110,8 @@ pub(crate) fn is_of_row<'a>(name: Name<'a>, value: &'a [u8], kept: &mut Kept<'a>
     }
 }
 
-// Whether the text is an address.
-fn is_address(text: &[u8]) -> bool
+/// Whether the text is an address.
+pub(crate) fn is_address(text: &[u8]) -> bool
     ensures { IsTrue result ↔ ((a : AddressParts) × AddressText text.now a) }
 {
     read_address(text).is_some()

@@ -156,9 +156,9 @@ fn cut_branch(text: &[u8]) -> Option<(Option<&[u8]>, &[u8])>
     Some((branch, rest))
 }
 
-// The branch that a parameter is, None within where it has another name, and None where it is a
-// branch without a token.
-fn branch_of<'a>(name: &[u8], value: Option<&'a [u8]>) -> Option<Option<&'a [u8]>>
+/// The branch that a parameter is, None within where it has another name, and None where it is a
+/// branch without a token.
+pub(crate) fn branch_of<'a>(name: &[u8], value: Option<&'a [u8]>) -> Option<Option<&'a [u8]>>
     ensures { MatchOption result
         ((branch : Option (List ℕ)) → ¬ (BranchOf (name.entry.now, option_copied value.entry) branch))
         (λ branch. BranchOf (name.entry.now, option_copied value.entry) (option_copied branch)) }

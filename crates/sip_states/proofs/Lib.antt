@@ -15,3 +15,6 @@ pub mod Waiting
 pub mod NamesLemmas
 pub mod AdvanceLemmas
 pub mod MarksLemmas
+pub mod FewerLemmas
+pub mod ClientLaws
+pub mod ServerLaws

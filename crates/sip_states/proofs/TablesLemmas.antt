@@ -49,6 +49,12 @@ values_of-set_value_at [] i w = refl
 values_of-set_value_at (e ∷ es) zero w = refl
 values_of-set_value_at (e ∷ es) (suc i) w = ap (λ l. e.1 ∷ l) (values_of-set_value_at es i w)
 
+-- a write of the value that is there changes nothing
+pub set_value_at-same : {K X : Type 0} (es : List (K × X)) (i : ℕ) (w : X) → slice_get (values_of es) i ≡ Some w → set_value_at es i w ≡ es
+set_value_at-same [] i w is = refl
+set_value_at-same (e ∷ es) zero w is = let same : e.1 ≡ w = cc in ap (λ x. (e.0, x) ∷ es) (sym same)
+set_value_at-same (e ∷ es) (suc i) w is = ap (λ l. e ∷ l) (set_value_at-same es i w is)
+
 pub none-from-is_some : {X : Type 0} (o : Option X) → false ≡ is_some o → o ≡ None
 none-from-is_some None e = refl
 none-from-is_some (Some x) e = absurd (true≢false (sym e))

@@ -77,6 +77,18 @@ impl AnySet {
         }
     }
 
+    /// Gives back the room that no state takes.
+    pub(crate) fn trim(&mut self)
+        ensures { self.new ≡ self.old }
+    {
+        match self {
+            AnySet::InviteClient(set) => set.trim(),
+            AnySet::PlainClient(set) => set.trim(),
+            AnySet::InviteServer(set) => set.trim(),
+            AnySet::PlainServer(set) => set.trim(),
+        }
+    }
+
     /// Each state is there once and in range, each can wait at the moment, and there are at most
     /// 1,024 beside the ended one.
     pub fn known(&self)

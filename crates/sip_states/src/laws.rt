@@ -1,7 +1,21 @@
 //! Laws of runs. The functions do nothing: their contracts are the laws.
-ghost use Rattle.std.specs.Prelude.{◌≡◌, ◌≤◌, ◌↔◌, ◌++◌, ◌∷◌, [], ℕ, List, Contains};
+ghost use Rattle.std.specs.List.{Any};
+ghost use Rattle.std.specs.Prelude.{◌≡◌, ◌≤◌, ◌↔◌, ◌⊎◌, ◌++◌, ◌∷◌, [], ℕ, false, List, All, Contains};
+ghost use Rattle.sip_machine.specs.declared.event.Kind.TheVariants.{Request, Response};
+ghost use Rattle.sip_machine.specs.declared.event.Method.TheVariants.{Invite, Ack, Cancel};
+ghost use Rattle.sip_machine.specs.declared.event.Method.{Method};
+ghost use Rattle.sip_machine.specs.Figure.{Owing};
 ghost use Rattle.sip_machine.specs.Heard.{Heard};
-ghost use Rattle.sip_states.specs.Runs.{Wait, Gives, After};
+ghost use Rattle.sip_machine.specs.InviteClient.{InviteClientPhase};
+ghost use Rattle.sip_machine.specs.InviteServer.{InviteServerPhase};
+ghost use Rattle.sip_machine.specs.Limits.{open_at};
+ghost use Rattle.sip_machine.specs.Message.{IsFinal};
+ghost use Rattle.sip_machine.specs.PlainClient.{PlainClientPhase};
+ghost use Rattle.sip_machine.specs.PlainServer.{PlainServerPhase};
+ghost use Rattle.sip_machine.specs.Times.{Times};
+ghost use Rattle.sip_states.specs.KeyMachine.{rules_of, OfInviteClient, OfPlainClient, OfInviteServer, OfPlainServer};
+ghost use Rattle.sip_states.specs.Runs.{Wait, Gives, Run, After};
+ghost use Rattle.sip_times.specs.declared.action.Action.TheVariants.{Sent, Received};
 
 use sip_machine::Machine;
 
@@ -19,4 +33,37 @@ pub fn by_waiting_and_stepping<M: Machine>(_machine: &M)
         ↔ Gives (M.rules _machine.now) (Wait (M.rules _machine.now) (λ x. x ≡ (M.rules _machine.now).first) 0 e.moment) e y }
     ensures next { (events : List Heard) (e f : Heard) (y : M.Seen) → After (M.rules _machine.now) (events ++ e ∷ []) f y
         ↔ Gives (M.rules _machine.now) (Wait (M.rules _machine.now) (After (M.rules _machine.now) events e) e.moment f.moment) f y }
+{}
+
+/// A run over some events holds one over the first of them, which stands at any moment from those to the others.
+pub fn a_run_holds_one_over_fewer_events<M: Machine>(_machine: &M)
+    ensures { (events more : List Heard) (m n : ℕ) (y : M.Seen) → All (λ e. e.moment ≤ m) events → All (λ e. m ≤ e.moment) more → m ≤ n →
+        Run (M.rules _machine.now) (events ++ more) n y → (x : M.Seen) × Run (M.rules _machine.now) events m x }
+{}
+
+/// Behind the final response to its INVITE a client sends nothing but ACK and CANCEL (RFC 3261 sections 17.1.1.2, 17.1.1.3 and 9.1),
+/// and behind that to any other request it sends nothing (section 17.1.2.2).
+pub fn behind_a_final_response_a_client_sends_no_request()
+    ensures invite { (p : Times) (before between behind : List Heard) (request final e : Heard) (code : ℕ) (y : Owing InviteClientPhase) →
+        request.action ≡ Sent → request.kind ≡ Request Invite → final.action ≡ Received → final.kind ≡ Response code → IsFinal code → e.action ≡ Sent →
+        After (rules_of p OfInviteClient) (before ++ request ∷ (between ++ final ∷ behind)) e y → (e.kind ≡ Request Ack) ⊎ (e.kind ≡ Request Cancel) }
+    ensures plain { (p : Times) (before between behind : List Heard) (request final e : Heard) (code : ℕ) (y : Owing PlainClientPhase) →
+        request.action ≡ Sent → (method : Method) × (request.kind ≡ Request method) → final.action ≡ Received → final.kind ≡ Response code → IsFinal code →
+        e.action ≡ Sent → After (rules_of p OfPlainClient) (before ++ request ∷ (between ++ final ∷ behind)) e y → ⊥ }
+{}
+
+/// The INVITE with which a client begins is sent again byte for byte, over an unreliable transport alone, and T1 later at the earliest,
+/// the tolerance aside (section 17.1.1.2).
+pub fn an_invite_is_sent_again_after_t1()
+    ensures { (p : Times) (first : Heard) (between : List Heard) (e : Heard) (y : Owing InviteClientPhase) → first.action ≡ Sent → first.kind ≡ Request Invite →
+        e.action ≡ Sent → e.kind ≡ Request Invite → After (rules_of p OfInviteClient) (first ∷ between) e y →
+        (e.text ≡ first.text) × (first.reliable ≡ false) × (open_at p first.moment p.t1 ≤ e.moment) }
+{}
+
+/// A server sends nothing before a request came in (section 17.2).
+pub fn a_server_sends_when_it_was_asked()
+    ensures invite { (p : Times) (events : List Heard) (e : Heard) (y : Owing InviteServerPhase) → After (rules_of p OfInviteServer) events e y → e.action ≡ Sent →
+        Any (λ f. (f.action ≡ Received) × ((method : Method) × (f.kind ≡ Request method))) events }
+    ensures plain { (p : Times) (events : List Heard) (e : Heard) (y : Owing PlainServerPhase) → After (rules_of p OfPlainServer) events e y → e.action ≡ Sent →
+        Any (λ f. (f.action ≡ Received) × ((method : Method) × (f.kind ≡ Request method))) events }
 {}

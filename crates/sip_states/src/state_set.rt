@@ -128,6 +128,14 @@ impl<M: Machine> StateSet<M> {
         Ok(())
     }
 
+    /// Gives back the room that no state takes.
+    pub(crate) fn trim(&mut self)
+        ensures { self.new ≡ self.old }
+    {
+        self.states.shrink_to_fit();
+        self.found = Vec::new(*self.found.allocator());
+    }
+
     /// Each state is there once and in range, each can wait at the moment, and there are at most
     /// 1,024 beside the ended one.
     pub fn known(&self)

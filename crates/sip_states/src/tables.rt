@@ -78,15 +78,25 @@ fn advance_each<H: BuildHasher>(
     Ok(())
 }
 
-/// Takes the marks off those sets that name no message. On an error some are still marked.
+/// Gives back the room that the states of the set at the index do not take.
+fn trim_at<H: BuildHasher>(sets: &mut IndexMap<Key, AnySet, H>, index: usize)
+    requires { index < index_map_len sets.old }
+    ensures { sets.new ≡ sets.old }
+{
+    sets[index].trim();
+}
+
+/// Takes the marks off those sets that name no message, and gives back what room they do not need. On an error some are still
+/// marked.
 fn unmark_silent<H: BuildHasher>(
     marks: &mut Marks,
-    sets: &IndexMap<Key, AnySet, H>,
+    sets: &mut IndexMap<Key, AnySet, H>,
 ) -> Result<(), AllocError>
-    requires long { length marks.old ≡ index_map_len sets.now }
-    requires marked { AreMarked marks.old (values sets.now) }
+    requires long { length marks.old ≡ index_map_len sets.old }
+    requires marked { AreMarked marks.old (values sets.old) }
     ensures long { length marks.new ≡ length marks.old }
-    ensures marked { AreMarked marks.new (values sets.now) }
+    ensures marked { AreMarked marks.new (values sets.old) }
+    ensures same { sets.new ≡ sets.old }
 {
     let mut numbers = Vec::new(*sets.allocator());
     for place in (0..marks.marked().len()).rev() {
@@ -96,6 +106,7 @@ fn unmark_silent<H: BuildHasher>(
             sets[index].names(&mut numbers)?;
             if numbers.is_empty() {
                 marks.unmark(index);
+                trim_at(sets, index);
             }
         }
     }
@@ -201,7 +212,7 @@ impl<H: BuildHasher> Tables<H> {
         ensures err { OnErr result (AdvancesSome moment self.old self.new) }
     {
         advance_each(&mut self.sets, self.marks.marked(), moment)?;
-        unmark_silent(&mut self.marks, &self.sets)
+        unmark_silent(&mut self.marks, &mut self.sets)
     }
 
     /// Appends the numbers of the messages that the sets name, ascending, each once. On an error the vector is as before.

@@ -8,10 +8,10 @@ use std::marker::Model;
 /// Timers T1, T2 and T4 of RFC 3261 section 17, and the tolerance of the moments, in milliseconds.
 #[derive(Clone, Copy, Debug)]
 pub struct Params {
-    t1: u64,
-    t2: u64,
-    t4: u64,
-    tolerance: u64,
+    t1: u16,
+    t2: u16,
+    t4: u16,
+    tolerance: u16,
 }
 
 impl Model for Params {
@@ -40,10 +40,10 @@ impl Params {
             && tolerance <= 10_000;
         if within {
             Some(Params {
-                t1,
-                t2,
-                t4,
-                tolerance,
+                t1: t1 as u16,
+                t2: t2 as u16,
+                t4: t4 as u16,
+                tolerance: tolerance as u16,
             })
         } else {
             None
@@ -55,7 +55,7 @@ impl Params {
         ensures value { result ≡ self.now.t1 }
         ensures within { AreTimes self.now }
     {
-        self.t1
+        u64::from(self.t1)
     }
 
     /// T2, the longest interval between repeats of a non-INVITE request, in milliseconds.
@@ -63,7 +63,7 @@ impl Params {
         ensures value { result ≡ self.now.t2 }
         ensures within { AreTimes self.now }
     {
-        self.t2
+        u64::from(self.t2)
     }
 
     /// T4, how long a message may stay in the network, in milliseconds.
@@ -71,7 +71,7 @@ impl Params {
         ensures value { result ≡ self.now.t4 }
         ensures within { AreTimes self.now }
     {
-        self.t4
+        u64::from(self.t4)
     }
 
     /// How far from its due moment an element may act, in milliseconds.
@@ -79,7 +79,7 @@ impl Params {
         ensures value { result ≡ self.now.tolerance }
         ensures within { AreTimes self.now }
     {
-        self.tolerance
+        u64::from(self.tolerance)
     }
 
     /// The first moment at which a timer that was set then for so long may fire, in milliseconds.
@@ -88,7 +88,7 @@ impl Params {
         requires duration { duration < 2 ^ 50 }
         ensures { result ≡ open_at self.now set duration }
     {
-        set + duration.saturating_sub(self.tolerance)
+        set + duration.saturating_sub(self.tolerance())
     }
 
     /// The last moment at which it may, in milliseconds.
@@ -97,7 +97,7 @@ impl Params {
         requires duration { duration < 2 ^ 50 }
         ensures { result ≡ close_at self.now set duration }
     {
-        set + duration + self.tolerance
+        set + duration + self.tolerance()
     }
 
     /// From when, and until when, a timer that was set then for so long may fire, in milliseconds.
@@ -115,6 +115,6 @@ impl Params {
         ensures value { result ≡ close_at self.now moment 0 }
         ensures small { result < 2 ^ 50 }
     {
-        moment + self.tolerance
+        moment + self.tolerance()
     }
 }

@@ -1,13 +1,15 @@
 -- What a legal verdict says of each transaction.
-use Rattle.std.proofs.Common.{◌≡◌, ◌⊎◌, inl, inr, ℕ, None, List, [], ◌∷◌, ◌++◌, All, refl, sym, ap, subst}
+use Rattle.std.proofs.Common.{◌≡◌, ◌⊎◌, inl, inr, ℕ, None, List, [], ◌∷◌, ◌++◌, All, refl, sym, ap, subst, append_assoc}
 use Rattle.std.proofs.lemmas.List.Elements.{All-nil, All-cons}
 use Rattle.sip_machine.specs.Times.{Times}
 use Rattle.sip_verdict.specs.declared.verdict.Verdict.TheVariants.{Legal}
-use Rattle.sip_log.specs.Log.{LogEnd, Clean, Stops}
+use Rattle.sip_log.specs.Log.{LogEnd, Clean, Stops, IsLog}
 use Rattle.sip_log.specs.Spelling.{Item}
 use Rattle.sip_verdict.specs.Keyed.{Observation, Machines, HasRun}
 use Rattle.sip_verdict.specs.Verdicts.{AllRun, IsGood}
-use Rattle.sip_verdict.specs.Reading.{Reading, BeginsWell, IsVerdictAfter, IsVerdictBy, HasRuns}
+use Rattle.sip_verdict.specs.Reading.{Reading, AreObserved, Judges, IsVerdictBy, HasRuns}
+use Rattle.sip_verdict.proofs.JudgingLemmas.{observed-push}
+use Rattle.sip_verdict.proofs.Unique.{good-nil, good-push}
 
 -- what holds of each element that a list is split at holds of all
 All-from_splits : {A : Type 0} (P : A → Type 0) (xs : List A) → ((front : List A) (x : A) (rest : List A) → xs ≡ front ++ x ∷ rest → P x) → All P xs
@@ -36,23 +38,26 @@ good_runs {K} m es good = go (empty_or_last es)
 good_formed : {K : Type 0} (m : Machines K) (es : List (Observation K)) → IsGood m es → All (λ e. e.fault ≡ None) es
 good_formed m es good = All-from_splits (λ e. e.fault ≡ None) es (λ front e rest is. (good front e rest is).formed)
 
-module _ {K : Type 0} (r : Reading K) (input : List ℕ) (entries transactions : ℕ) where
-  -- the verdict behind entries in no trouble is legal only at the clean end of the log
-  legal_end : (p : Times) (es : List (Observation K)) (rest : List Item) (end : LogEnd) → BeginsWell r input p es rest end → IsVerdictAfter r p es rest end (Legal entries transactions)
-      → HasRuns r input entries transactions
-  legal_end p es (item ∷ rest) end begins next = absurd next.2
-  legal_end p es [] Clean begins is = record {
+module _ {K : Type 0} (r : Reading K) (input : List ℕ) (entries transactions : ℕ) (p : Times) where
+  -- where the verdict of what is left is that the log is legal, it ends cleanly, with no entry in trouble
+  legal_end : (done : List Item) (es : List (Observation K)) (rest : List Item) (end : LogEnd) → IsLog input p (done ++ rest) end → AreObserved r [] done es → IsGood (r.machines p) es →
+      Judges r p es rest end (Legal entries transactions) → HasRuns r input entries transactions
+  legal_end done es [] Clean log observed good is = record {
     times = p;
     es = es;
-    whole = begins;
+    whole = record { items = done; log = log; observed = observed; good = good };
     entries_are = cc;
     transactions_are = cc;
-    formed = good_formed (r.machines p) es begins.good;
-    runs = good_runs (r.machines p) es begins.good;
+    formed = good_formed (r.machines p) es good;
+    runs = good_runs (r.machines p) es good;
   }
-  legal_end p es [] (Stops reason) begins is = cc
+  legal_end done es [] (Stops fault) log observed good is = cc
+  legal_end done es (item ∷ rest) end log observed good (e, seen, inl trouble) = absurd trouble
+  legal_end done es (item ∷ rest) end log observed good (e, seen, inr (fine, left)) =
+      legal_end (done ++ item ∷ []) (es ++ e ∷ []) rest end (subst (λ all. IsLog input p all end) (sym (append_assoc done (item ∷ []) rest)) log)
+      (observed-push r [] done es item e observed seen) (good-push (r.machines p) es e good fine) left
 
-  -- a legal log has runs
-  pub legal_has_runs : IsVerdictBy r input (Legal entries transactions) → HasRuns r input entries transactions
-  legal_has_runs (inl faulty) = let e = faulty.1 in cc
-  legal_has_runs (inr v) = legal_end v.times v.es v.rest v.end v.begins v.next
+-- a legal log has runs
+pub legal_has_runs : {K : Type 0} (r : Reading K) (input : List ℕ) (entries transactions : ℕ) → IsVerdictBy r input (Legal entries transactions) → HasRuns r input entries transactions
+legal_has_runs r input entries transactions (inl faulty) = let e = faulty.1 in cc
+legal_has_runs r input entries transactions (inr (p, items, end, log, judges)) = legal_end r input entries transactions p [] [] items end log tt (good-nil (r.machines p)) judges

@@ -1,8 +1,10 @@
 pub mod AnyHearing
 pub mod ByMachine
 pub mod EntryText
+pub mod FewerEntries
 pub mod FollowedLemmas
 pub mod Halfway
+pub mod HasVerdict
 pub mod Hearing
 pub mod JudgeLemmas
 pub mod JudgeTables

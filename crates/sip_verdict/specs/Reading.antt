@@ -1,13 +1,13 @@
 use Rattle.std.specs.Prelude.{◌≡◌, ◌+◌, ◌⊎◌, [], ◌∷◌, ◌++◌, ℕ, None, List, length, All}
 use Rattle.sip_machine.specs.Times.{Times}
 use Rattle.sip_log.specs.Spelling.{Item}
-use Rattle.sip_log.specs.Log.{LogEnd, Clean, Stops, Faulty, Holds, IsLogOf}
+use Rattle.sip_log.specs.Log.{LogEnd, Clean, Stops, IsLog, NoHeader}
 use Rattle.sip_verdict.specs.declared.log_reason.LogReason.TheVariants.{Header}
 use Rattle.sip_verdict.specs.declared.verdict.Verdict.{Verdict}
 use Rattle.sip_verdict.specs.declared.verdict.Verdict.TheVariants.{Legal, LogFault}
 use Rattle.sip_verdict.specs.LogReason.{reason_of}
 use Rattle.sip_verdict.specs.Keyed.{Observation, Machines, keys_of}
-use Rattle.sip_verdict.specs.Verdicts.{AllRun, IsGood, IsTrouble}
+use Rattle.sip_verdict.specs.Verdicts.{AllRun, IsFine, IsGood, IsTrouble}
 
 -- The verdict of an input of any bytes, whatever its messages are.
 
@@ -15,6 +15,23 @@ use Rattle.sip_verdict.specs.Verdicts.{AllRun, IsGood, IsTrouble}
 pub record Reading (K : Type 0) : Type 1 where
   pub machines : Times → Machines K
   pub Observes : List (Observation K) → Item → Observation K → Type 0
+
+-- the verdict of the entries that are left and of how they end, behind others in no trouble: that the log is legal, or that the next entry
+-- cannot be read; or that of the next entry, if it is in trouble, and if it is not, that of what is left behind it
+abbrev pub Judges : {K : Type 0} → Reading K → Times → List (Observation K) → List Item → LogEnd → Verdict → Type 0
+Judges r times es [] Clean v = v ≡ Legal (length es) (length (keys_of (r.machines times) es))
+Judges r times es [] (Stops fault) v = v ≡ LogFault (length es + 1) (reason_of fault)
+Judges {K} r times es (item ∷ items) end v =
+    (e : Observation K) × r.Observes es item e
+    × (IsTrouble (r.machines times) es e v ⊎ (IsFine (r.machines times) es e × Judges r times (es ++ e ∷ []) items end v))
+
+-- the verdict of an input: that of its header, or of its entries
+abbrev pub IsVerdictBy : {K : Type 0} → Reading K → List ℕ → Verdict → Type 0
+IsVerdictBy r input v =
+    (NoHeader input × (v ≡ LogFault 0 Header))
+    ⊎ ((times : Times) × (items : List Item) × (end : LogEnd) × IsLog input times items end × Judges r times [] items end v)
+
+-- The front of a log.
 
 -- what is observed of the entries, one behind another, behind these
 abbrev pub AreObserved : {K : Type 0} → Reading K → List (Observation K) → List Item → List (Observation K) → Type 0
@@ -26,28 +43,9 @@ AreObserved r before (item ∷ items) (e ∷ es) = r.Observes before item e × A
 -- the log of the input has these times, begins with entries of which this is observed, none of them in trouble, and goes on and ends so
 pub record BeginsWell {K : Type 0} (r : Reading K) (input : List ℕ) (times : Times) (es : List (Observation K)) (rest : List Item) (end : LogEnd) : Type 0 where
   pub items : List Item
-  pub log : IsLogOf input (Holds times (items ++ rest) end)
+  pub log : IsLog input times (items ++ rest) end
   pub observed : AreObserved r [] items es
   pub good : IsGood (r.machines times) es
-
--- the verdict behind entries in no trouble: that of the next one, which is in trouble; that the log is legal; or that the next one cannot be read
-abbrev pub IsVerdictAfter : {K : Type 0} → Reading K → Times → List (Observation K) → List Item → LogEnd → Verdict → Type 0
-IsVerdictAfter {K} r times es (item ∷ rest) end v = (e : Observation K) × r.Observes es item e × IsTrouble (r.machines times) es e v
-IsVerdictAfter r times es [] Clean v = v ≡ Legal (length es) (length (keys_of (r.machines times) es))
-IsVerdictAfter r times es [] (Stops fault) v = v ≡ LogFault (length es + 1) (reason_of fault)
-
--- the verdict of an input with a header
-pub record IsVerdictOfEntries {K : Type 0} (r : Reading K) (input : List ℕ) (v : Verdict) : Type 0 where
-  pub times : Times
-  pub es : List (Observation K)
-  pub rest : List Item
-  pub end : LogEnd
-  pub begins : BeginsWell r input times es rest end
-  pub next : IsVerdictAfter r times es rest end v
-
--- the verdict of an input: that of its header, or of its entries
-abbrev pub IsVerdictBy : {K : Type 0} → Reading K → List ℕ → Verdict → Type 0
-IsVerdictBy r input v = (IsLogOf input Faulty × (v ≡ LogFault 0 Header)) ⊎ IsVerdictOfEntries r input v
 
 -- the log of an input is read whole and has this many entries and keys; no entry has a fault, and each key has a run over them
 pub record HasRuns {K : Type 0} (r : Reading K) (input : List ℕ) (entries transactions : ℕ) : Type 0 where

@@ -1,8 +1,13 @@
 //! Laws of verdicts. The functions do nothing: their contracts are the laws.
-ghost use Rattle.std.specs.Prelude.{◌≡◌, ℕ, List};
+ghost use Rattle.std.specs.Prelude.{◌≡◌, ◌≤◌, ◌++◌, ℕ, List, AllPairs};
 ghost use Rattle.sip_verdict.specs.VerdictOf.{IsVerdictOf};
 ghost use Rattle.sip_verdict.specs.LegalLog.{IsLegalLog};
 ghost use Rattle.sip_verdict.specs.declared.verdict.Verdict.TheVariants.{Legal};
+ghost use Rattle.sip_verdict.specs.declared.verdict.Verdict.{Verdict as VerdictValue};
+ghost use Rattle.sip_verdict.specs.Keyed.{Observation, HasRun};
+ghost use Rattle.sip_verdict.specs.MessageReading.{key_machines};
+ghost use Rattle.sip_key.specs.Key.{KeyParts};
+ghost use Rattle.sip_machine.specs.Times.{Times};
 
 use crate::verdict::Verdict;
 
@@ -11,8 +16,20 @@ pub fn an_input_has_one_verdict(_one: &Verdict, _other: &Verdict)
     ensures { (input : List ℕ) → IsVerdictOf input _one.now → IsVerdictOf input _other.now → _one.now ≡ _other.now }
 {}
 
+/// And it has one: none is without.
+pub fn an_input_has_a_verdict()
+    ensures { (input : List ℕ) → ¬ ((verdict : VerdictValue) → ¬ IsVerdictOf input verdict) }
+{}
+
 /// A legal log is read whole, has so many entries and transactions, each message is of the grammar, and each transaction has
 /// a run over all of them.
 pub fn a_legal_log_has_runs()
     ensures { (input : List ℕ) (entries transactions : ℕ) → IsVerdictOf input (Legal entries transactions) → IsLegalLog input entries transactions }
+{}
+
+/// A transaction that has a run over some entries, in the order of their moments, has one over the first of them. So behind a breach it has
+/// none, whatever comes.
+pub fn a_run_over_entries_holds_one_over_fewer()
+    ensures { (p : Times) (key : KeyParts) (front more : List (Observation KeyParts)) → AllPairs (λ a b. a.event.moment ≤ b.event.moment) (front ++ more) →
+        HasRun (key_machines p) key (front ++ more) → HasRun (key_machines p) key front }
 {}

@@ -1,7 +1,13 @@
-use Rattle.std.proofs.Common.{◌≡◌, ℕ, List, Result, Ok, Err, OnOk, OnErr, All, sym, subst}
+use Rattle.std.proofs.Common.{◌≡◌, ◌≤◌, ◌∙◌, ℕ, List, Result, Ok, Err, OnOk, OnErr, All, inl, inr, ap, sym, subst, get_or, arith}
+use Rattle.std.proofs.lemmas.Option.{slice_get-get_or}
 use Rattle.sip_machine.specs.Texts.{Texts}
 use Rattle.sip_machine.specs.Rules.{Knows, StandFor}
 use Rattle.sip_states.specs.Held.{Held}
+use Rattle.sip_states.specs.AnySet.{Waits, moment_of}
+use Rattle.sip_states.specs.Sweep.{AdvancesSome}
+use Rattle.sip_states.specs.Tables.{Tabled}
+use Rattle.sip_states.specs.declared.any_set.AnySet.{AnySet}
+use Rattle.sip_states.specs.declared.any_set.AnySet.TheVariants.{InviteClient, PlainClient, InviteServer, PlainServer}
 
 module _ {X M S T E : Type 0} (names : S → List ℕ) (InRange : S → Type 0) (seen : Texts → S → X) (texts : Texts) (P : X → Type 0) (old new : Held M S) where
   -- whatever `StateSet::take` answers, the book has all that the set's states name
@@ -9,3 +15,24 @@ module _ {X M S T E : Type 0} (names : S → List ℕ) (InRange : S → Type 0) 
       → All (Knows names texts) old.states → All (Knows names texts) new.states
   known-after (Ok x) stands stays known = stands.known
   known-after (Err e) stands stays known = subst (λ (h : Held M S). All (Knows names texts) h.states) (sym stays) known
+
+-- a set that has waited until the moment is there
+waits_moment : (moment : ℕ) (a b : AnySet) → Waits moment a b → moment_of b ≡ moment
+waits_moment moment (InviteClient s) b waits = ap moment_of waits.1 ∙ waits.2.at
+waits_moment moment (PlainClient s) b waits = ap moment_of waits.1 ∙ waits.2.at
+waits_moment moment (InviteServer s) b waits = ap moment_of waits.1 ∙ waits.2.at
+waits_moment moment (PlainServer s) b waits = ap moment_of waits.1 ∙ waits.2.at
+
+-- where some sets have waited until the moment none is past it
+pub some_early : (moment : ℕ) (old new : Tabled) → AdvancesSome moment old new → All (λ set. moment_of set ≤ moment) old.sets → All (λ set. moment_of set ≤ moment) new.sets
+some_early moment old new some early n d low =
+    let long = some.long in
+    let before = get_or old.sets n d in
+    let after = get_or new.sets n d in
+    elim (some.each n before after (slice_get-get_or old.sets n d (omega arith)) (slice_get-get_or new.sets n d low)) [
+      | inl advanced ↦ elim advanced [
+        | inl waits ↦ (let at = waits_moment moment before after waits in omega arith)
+        | inr still ↦ subst (λ set. moment_of set ≤ moment) (sym still.0) (early n d (omega arith))
+      ]
+      | inr same ↦ subst (λ set. moment_of set ≤ moment) (sym same) (early n d (omega arith))
+    ]

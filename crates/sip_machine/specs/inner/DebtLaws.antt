@@ -1,5 +1,5 @@
 use Rattle.std.specs.Prelude.{◌≡◌, ◌≤◌, ◌↔◌, ℕ, Bool, true, false, Some, None, option_to_list, List, [], ◌∷◌, ◌++◌, All, filter, map, min}
-use Rattle.std.specs.List.{fold, list_any}
+use Rattle.std.specs.List.{fold}
 use Rattle.std.proofs.Common.{refl, sym, ◌∙◌, ap, ap₂, subst, arith, cond}
 use Rattle.std.proofs.lemmas.List.{map-append}
 use Rattle.std.proofs.lemmas.List.Elements.{All-head, All-tail, All-nil, All-cons, All-map, All-append, All-weaker}

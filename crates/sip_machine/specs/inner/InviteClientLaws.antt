@@ -1,9 +1,8 @@
-use Rattle.std.specs.Prelude.{◌≡◌, ◌≤◌, ◌*◌, ℕ, Bool, true, false, Option, None, Some, List, [], ◌∷◌, All, Contains, nat_eq, if◌then◌else◌}
+use Rattle.std.specs.Prelude.{◌≡◌, ◌≤◌, ◌*◌, ℕ, Bool, true, false, Option, None, Some, [], ◌∷◌, All, Contains, if◌then◌else◌}
 use Rattle.std.proofs.Common.{refl, ap, inl, inr, arith}
 use Rattle.std.proofs.lemmas.Bool.Decides.{nat_tests}
-use Rattle.std.proofs.lemmas.List.Elements.{All-head, All-nil}
-use Rattle.std.specs.Option.{option_eq}
-use Rattle.sip_machine.specs.declared.event.Method.TheVariants.{Invite, Ack, Cancel, Other}
+use Rattle.std.proofs.lemmas.List.Elements.{All-nil}
+use Rattle.sip_machine.specs.declared.event.Method.TheVariants.{Invite, Ack, Cancel}
 use Rattle.sip_machine.specs.declared.event.Kind.{Kind}
 use Rattle.sip_machine.specs.declared.event.Kind.TheVariants.{Request, Response}
 use Rattle.sip_machine.specs.declared.invite_client.InviteClientPhase.{InviteClientPhase as CodePhase}
@@ -11,142 +10,63 @@ use Rattle.sip_machine.specs.declared.invite_client.InviteClientPhase.TheVariant
 use Rattle.sip_machine.specs.contracts.invite_client.InviteClientPhasePartialEq.TheImpl as derived
 use Rattle.sip_machine.specs.Times.{Times}
 use Rattle.sip_machine.specs.Limits.{close_at}
-use Rattle.sip_machine.specs.Texts.{Texts, IsBook, Keeps, text_of}
+use Rattle.sip_machine.specs.Texts.{Texts, IsBook, text_of}
 use Rattle.sip_machine.specs.Heard.{Heard}
 use Rattle.sip_machine.specs.Rules.{Knows}
 use Rattle.sip_machine.specs.Figure.{IsFigure, After}
 use Rattle.sip_machine.specs.InviteClient.{InviteClientPhase, Idle, Calling, Proceeding, Accepted, Completed, Ended, Receives, Sends, closes, timer_window, timer_b, timer_m, invite_client, invite_client_seen, invite_client_names}
+use Rattle.sip_machine.specs.inner.MessageLaws.{option_exact, message_apart}
 use Rattle.sip_machine.specs.inner.WaitingLaws.{waiting_exact, waiting_apart, waiting_by_names, timer_starts, repeat_starts, patience_lasts}
 
 -- Laws of the INVITE client's phases.
 
--- equal moments, if there are any, are the same
-cancel_exact : (a b : Option ℕ) → option_eq nat_eq a b ≡ true → a ≡ b
-cancel_exact None None e = refl
-cancel_exact None (Some y) e = cc
-cancel_exact (Some x) None e = cc
-cancel_exact (Some x) (Some y) e = ap Some (grind (arith, nat_tests))
-
 -- equal phases of the code are the same one
 pub invite_client_exact : (x y : CodePhase) → derived.ghosts.eq x y ≡ true → x ≡ y
 invite_client_exact code.Idle code.Idle e = refl
-invite_client_exact code.Idle (code.Calling w') e = cc
-invite_client_exact code.Idle (code.Proceeding reliable' request' cancel') e = cc
-invite_client_exact code.Idle (code.Accepted set') e = cc
-invite_client_exact code.Idle (code.Completed reliable' request' set') e = cc
-invite_client_exact code.Idle code.Ended e = cc
-invite_client_exact (code.Calling w) code.Idle e = cc
 invite_client_exact (code.Calling w) (code.Calling w') e = ap code.Calling (waiting_exact w w' e)
-invite_client_exact (code.Calling w) (code.Proceeding reliable' request' cancel') e = cc
-invite_client_exact (code.Calling w) (code.Accepted set') e = cc
-invite_client_exact (code.Calling w) (code.Completed reliable' request' set') e = cc
-invite_client_exact (code.Calling w) code.Ended e = cc
-invite_client_exact (code.Proceeding reliable request cancel) code.Idle e = cc
-invite_client_exact (code.Proceeding reliable request cancel) (code.Calling w') e = cc
 invite_client_exact (code.Proceeding reliable request cancel) (code.Proceeding reliable' request' cancel') e =
     let same_reliable : reliable ≡ reliable' = grind (arith, nat_tests) in
     let same_request : request ≡ request' = grind (arith, nat_tests) in
-    let same_cancel : cancel ≡ cancel' = cancel_exact cancel cancel' (grind (arith, nat_tests)) in
+    let same_cancel : cancel ≡ cancel' = option_exact cancel cancel' (grind (arith, nat_tests)) in
     cc
-invite_client_exact (code.Proceeding reliable request cancel) (code.Accepted set') e = cc
-invite_client_exact (code.Proceeding reliable request cancel) (code.Completed reliable' request' set') e = cc
-invite_client_exact (code.Proceeding reliable request cancel) code.Ended e = cc
-invite_client_exact (code.Accepted set) code.Idle e = cc
-invite_client_exact (code.Accepted set) (code.Calling w') e = cc
-invite_client_exact (code.Accepted set) (code.Proceeding reliable' request' cancel') e = cc
 invite_client_exact (code.Accepted set) (code.Accepted set') e = ap code.Accepted (grind (arith, nat_tests))
-invite_client_exact (code.Accepted set) (code.Completed reliable' request' set') e = cc
-invite_client_exact (code.Accepted set) code.Ended e = cc
-invite_client_exact (code.Completed reliable request set) code.Idle e = cc
-invite_client_exact (code.Completed reliable request set) (code.Calling w') e = cc
-invite_client_exact (code.Completed reliable request set) (code.Proceeding reliable' request' cancel') e = cc
-invite_client_exact (code.Completed reliable request set) (code.Accepted set') e = cc
 invite_client_exact (code.Completed reliable request set) (code.Completed reliable' request' set') e =
     let same_reliable : reliable ≡ reliable' = grind (arith, nat_tests) in
     let same_request : request ≡ request' = grind (arith, nat_tests) in
     let same_set : set ≡ set' = grind (arith, nat_tests) in
     cc
-invite_client_exact (code.Completed reliable request set) code.Ended e = cc
-invite_client_exact code.Ended code.Idle e = cc
-invite_client_exact code.Ended (code.Calling w') e = cc
-invite_client_exact code.Ended (code.Proceeding reliable' request' cancel') e = cc
-invite_client_exact code.Ended (code.Accepted set') e = cc
-invite_client_exact code.Ended (code.Completed reliable' request' set') e = cc
 invite_client_exact code.Ended code.Ended e = refl
+invite_client_exact x y e = cc
 
 -- phases that stand for the same beside one book are the same
 pub invite_client_apart : (texts : Texts) (x y : CodePhase) → IsBook texts → Knows invite_client_names texts x → Knows invite_client_names texts y →
     invite_client_seen texts x ≡ invite_client_seen texts y → x ≡ y
 invite_client_apart texts code.Idle code.Idle book x_known y_known e = refl
-invite_client_apart texts code.Idle (code.Calling w') book x_known y_known e = cc
-invite_client_apart texts code.Idle (code.Proceeding reliable' request' cancel') book x_known y_known e = cc
-invite_client_apart texts code.Idle (code.Accepted set') book x_known y_known e = cc
-invite_client_apart texts code.Idle (code.Completed reliable' request' set') book x_known y_known e = cc
-invite_client_apart texts code.Idle code.Ended book x_known y_known e = cc
-invite_client_apart texts (code.Calling w) code.Idle book x_known y_known e = cc
 invite_client_apart texts (code.Calling w) (code.Calling w') book x_known y_known e = ap code.Calling (waiting_apart texts w w' book x_known y_known cc)
-invite_client_apart texts (code.Calling w) (code.Proceeding reliable' request' cancel') book x_known y_known e = cc
-invite_client_apart texts (code.Calling w) (code.Accepted set') book x_known y_known e = cc
-invite_client_apart texts (code.Calling w) (code.Completed reliable' request' set') book x_known y_known e = cc
-invite_client_apart texts (code.Calling w) code.Ended book x_known y_known e = cc
-invite_client_apart texts (code.Proceeding reliable request cancel) code.Idle book x_known y_known e = cc
-invite_client_apart texts (code.Proceeding reliable request cancel) (code.Calling w') book x_known y_known e = cc
 invite_client_apart texts (code.Proceeding reliable request cancel) (code.Proceeding reliable' request' cancel') book x_known y_known e =
-    let text : text_of texts request ≡ text_of texts request' = cc in
-    let same : request ≡ request' = book.apart request request' (All-head (Keeps texts) request [] x_known) (All-head (Keeps texts) request' [] y_known) text in
-    cc
-invite_client_apart texts (code.Proceeding reliable request cancel) (code.Accepted set') book x_known y_known e = cc
-invite_client_apart texts (code.Proceeding reliable request cancel) (code.Completed reliable' request' set') book x_known y_known e = cc
-invite_client_apart texts (code.Proceeding reliable request cancel) code.Ended book x_known y_known e = cc
-invite_client_apart texts (code.Accepted set) code.Idle book x_known y_known e = cc
-invite_client_apart texts (code.Accepted set) (code.Calling w') book x_known y_known e = cc
-invite_client_apart texts (code.Accepted set) (code.Proceeding reliable' request' cancel') book x_known y_known e = cc
+    let same = message_apart texts request request' book x_known y_known cc in cc
 invite_client_apart texts (code.Accepted set) (code.Accepted set') book x_known y_known e = cc
-invite_client_apart texts (code.Accepted set) (code.Completed reliable' request' set') book x_known y_known e = cc
-invite_client_apart texts (code.Accepted set) code.Ended book x_known y_known e = cc
-invite_client_apart texts (code.Completed reliable request set) code.Idle book x_known y_known e = cc
-invite_client_apart texts (code.Completed reliable request set) (code.Calling w') book x_known y_known e = cc
-invite_client_apart texts (code.Completed reliable request set) (code.Proceeding reliable' request' cancel') book x_known y_known e = cc
-invite_client_apart texts (code.Completed reliable request set) (code.Accepted set') book x_known y_known e = cc
 invite_client_apart texts (code.Completed reliable request set) (code.Completed reliable' request' set') book x_known y_known e =
-    let text : text_of texts request ≡ text_of texts request' = cc in
-    let same : request ≡ request' = book.apart request request' (All-head (Keeps texts) request [] x_known) (All-head (Keeps texts) request' [] y_known) text in
-    cc
-invite_client_apart texts (code.Completed reliable request set) code.Ended book x_known y_known e = cc
-invite_client_apart texts code.Ended code.Idle book x_known y_known e = cc
-invite_client_apart texts code.Ended (code.Calling w') book x_known y_known e = cc
-invite_client_apart texts code.Ended (code.Proceeding reliable' request' cancel') book x_known y_known e = cc
-invite_client_apart texts code.Ended (code.Accepted set') book x_known y_known e = cc
-invite_client_apart texts code.Ended (code.Completed reliable' request' set') book x_known y_known e = cc
+    let same = message_apart texts request request' book x_known y_known cc in cc
 invite_client_apart texts code.Ended code.Ended book x_known y_known e = refl
+invite_client_apart texts x y book x_known y_known e = cc
 
 -- a phase stands for the same beside books that agree on what it names
 pub invite_client_by_names : (a b : Texts) (x : CodePhase) → ((n : ℕ) → Contains (invite_client_names x) n → text_of a n ≡ text_of b n) →
     invite_client_seen a x ≡ invite_client_seen b x
-invite_client_by_names a b code.Idle agree = refl
 invite_client_by_names a b (code.Calling w) agree = ap Calling (waiting_by_names a b w agree)
 invite_client_by_names a b (code.Proceeding reliable request cancel) agree = ap (λ text. Proceeding reliable text cancel) (agree request (0, omega arith, refl))
-invite_client_by_names a b (code.Accepted set) agree = refl
 invite_client_by_names a b (code.Completed reliable request set) agree = ap (λ text. Completed reliable text set) (agree request (0, omega arith, refl))
-invite_client_by_names a b code.Ended agree = refl
+invite_client_by_names a b x agree = refl
 
 -- its timers do not depend on the book
 pub invite_client_window_same : (a b : Texts) (p : Times) (x : CodePhase) → timer_window p (invite_client_seen a x) ≡ timer_window p (invite_client_seen b x)
-invite_client_window_same a b p code.Idle = refl
-invite_client_window_same a b p (code.Calling w) = refl
 invite_client_window_same a b p (code.Proceeding reliable request None) = refl
-invite_client_window_same a b p (code.Proceeding reliable request (Some first)) = refl
-invite_client_window_same a b p (code.Accepted set) = refl
-invite_client_window_same a b p (code.Completed reliable request set) = refl
-invite_client_window_same a b p code.Ended = refl
+invite_client_window_same a b p x = refl
 
 pub invite_client_closes_same : (a b : Texts) (p : Times) (x : CodePhase) → closes p (invite_client_seen a x) ≡ closes p (invite_client_seen b x)
 invite_client_closes_same a b p code.Idle = refl
-invite_client_closes_same a b p (code.Calling w) = refl
-invite_client_closes_same a b p (code.Proceeding reliable request cancel) = refl
-invite_client_closes_same a b p (code.Accepted set) = refl
-invite_client_closes_same a b p (code.Completed reliable request set) = refl
-invite_client_closes_same a b p code.Ended = refl
+invite_client_closes_same a b p x = refl
 
 -- timer D, where it has to fire, is not past as it starts
 timer_d_starts : (p : Times) (reliable : Bool) (t : ℕ) → All (λ m. t ≤ m) (if reliable then close_at p t 0 ∷ [] else [])
@@ -156,65 +76,24 @@ timer_d_starts p false t = All-nil (λ m. t ≤ m)
 -- a row leads to a phase whose timers are not past
 received : (p : Times) (x : InviteClientPhase) (k : Kind) (e : Heard) (y : After InviteClientPhase) → All (λ m. e.moment ≤ m) (closes p x) →
     Receives p x k e y → All (λ m. e.moment ≤ m) (closes p y.0)
-received p Idle k e y running h = absurd h
-received p (Calling w) (Request method) e y running h = absurd h
-received p (Calling w) (Response code) e y running h =
-    elim h [
-      | inl provisional ↦ rw provisional.1 (All-nil (λ m. e.moment ≤ m))
-      | inr final ↦ elim final [
-        | inl success ↦ rw success.1 (timer_starts p e.moment (timer_m p))
-        | inr unsuccessful ↦ rw unsuccessful.1 (timer_d_starts p w.reliable e.moment)
-      ]
-    ]
-received p (Proceeding reliable request cancel) (Request method) e y running h = absurd h
-received p (Proceeding reliable request cancel) (Response code) e y running h =
-    elim h [
-      | inl success ↦ rw success.1 (timer_starts p e.moment (timer_m p))
-      | inr unsuccessful ↦ rw unsuccessful.1 (timer_d_starts p reliable e.moment)
-    ]
-received p (Accepted set) k e y running h = absurd h
-received p (Completed reliable request set) (Request method) e y running h = absurd h
+received p (Calling w) (Response code) e y running (inl provisional) = rw provisional.1 (All-nil (λ m. e.moment ≤ m))
+received p (Calling w) (Response code) e y running (inr (inl success)) = rw success.1 (timer_starts p e.moment (timer_m p))
+received p (Calling w) (Response code) e y running (inr (inr unsuccessful)) = rw unsuccessful.1 (timer_d_starts p w.reliable e.moment)
+received p (Proceeding reliable request cancel) (Response code) e y running (inl success) = rw success.1 (timer_starts p e.moment (timer_m p))
+received p (Proceeding reliable request cancel) (Response code) e y running (inr unsuccessful) = rw unsuccessful.1 (timer_d_starts p reliable e.moment)
 received p (Completed reliable request set) (Response code) e y running h = rw h.1 running
-received p Ended k e y running h = absurd h
+received p x k e y running h = absurd h
 
 sent : (p : Times) (x : InviteClientPhase) (k : Kind) (e : Heard) (y : After InviteClientPhase) → All (λ m. e.moment ≤ m) (closes p x) →
     Sends p x k e y → All (λ m. e.moment ≤ m) (closes p y.0)
 sent p Idle (Request Invite) e y running h = rw h (repeat_starts p e.moment (close_at p e.moment (timer_b p)) p.t1 e.reliable (omega arith))
 sent p Idle (Request Ack) e y running h = rw h running
-sent p Idle (Request Cancel) e y running h = rw h running
-sent p Idle (Request Other) e y running h = absurd h
-sent p Idle (Response code) e y running h = absurd h
 sent p (Calling w) (Request Invite) e y running h =
     rw h.1 (repeat_starts p e.moment (close_at p w.start (timer_b p)) (2 * w.interval) w.reliable (patience_lasts p w e.moment (timer_b p) running))
-sent p (Calling w) (Request Ack) e y running h = absurd h
 sent p (Calling w) (Request Cancel) e y running h = absurd h
-sent p (Calling w) (Request Other) e y running h = absurd h
-sent p (Calling w) (Response code) e y running h = absurd h
-sent p (Proceeding reliable request None) (Request Invite) e y running h = absurd h
-sent p (Proceeding reliable request None) (Request Ack) e y running h = absurd h
 sent p (Proceeding reliable request None) (Request Cancel) e y running h = rw h running
-sent p (Proceeding reliable request None) (Request Other) e y running h = absurd h
-sent p (Proceeding reliable request None) (Response code) e y running h = absurd h
-sent p (Proceeding reliable request (Some first)) (Request Invite) e y running h = absurd h
-sent p (Proceeding reliable request (Some first)) (Request Ack) e y running h = absurd h
-sent p (Proceeding reliable request (Some first)) (Request Cancel) e y running h = rw h running
-sent p (Proceeding reliable request (Some first)) (Request Other) e y running h = absurd h
-sent p (Proceeding reliable request (Some first)) (Response code) e y running h = absurd h
-sent p (Accepted set) (Request Invite) e y running h = absurd h
-sent p (Accepted set) (Request Ack) e y running h = absurd h
-sent p (Accepted set) (Request Cancel) e y running h = rw h running
-sent p (Accepted set) (Request Other) e y running h = absurd h
-sent p (Accepted set) (Response code) e y running h = absurd h
-sent p (Completed reliable request set) (Request Invite) e y running h = absurd h
-sent p (Completed reliable request set) (Request Ack) e y running h = absurd h
-sent p (Completed reliable request set) (Request Cancel) e y running h = rw h running
-sent p (Completed reliable request set) (Request Other) e y running h = absurd h
-sent p (Completed reliable request set) (Response code) e y running h = absurd h
-sent p Ended (Request Invite) e y running h = absurd h
-sent p Ended (Request Ack) e y running h = absurd h
-sent p Ended (Request Cancel) e y running h = rw h running
-sent p Ended (Request Other) e y running h = absurd h
-sent p Ended (Response code) e y running h = absurd h
+sent p x (Request Cancel) e y running h = rw h running
+sent p x k e y running h = absurd h
 
 pub invite_client_is_figure : IsFigure invite_client
 invite_client_is_figure =

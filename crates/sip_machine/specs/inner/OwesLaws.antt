@@ -1,18 +1,17 @@
 use Rattle.std.specs.Prelude.{◌≡◌, ◌≤◌, ◌↔◌, ◌&&◌, ◌||◌, ℕ, Bool, true, false, is_some, IsTrue, List, [], ◌∷◌, ◌++◌, All, Contains, filter, map, nat_le}
 use Rattle.std.specs.List.{list_any}
 use Rattle.std.specs.Cmp.Lexicographic.{pointwise}
-use Rattle.std.proofs.Common.{refl, sym, ap, ap₂, subst, arith, cond, true≢false}
+use Rattle.std.proofs.Common.{refl, sym, ap, ap₂, arith, cond, true≢false}
 use Rattle.std.proofs.lemmas.Bool.Decides.{nat_tests}
-use Rattle.std.proofs.lemmas.List.Elements.{All-head, All-tail, All-nil, All-cons, All-filter, All-map, All-push, All-append, All-weaker, Contains-append_right}
+use Rattle.std.proofs.lemmas.List.Elements.{All-head, All-tail, All-nil, All-cons, All-filter, All-map, All-append, All-weaker, Contains-append_right}
 use Rattle.sip_machine.specs.declared.outbox.Debt.{Debt}
 use Rattle.sip_machine.specs.contracts.outbox.DebtPartialEq.TheImpl as debt_eq
-use Rattle.sip_machine.specs.Times.{Times}
 use Rattle.sip_machine.specs.Limits.{IsWithin}
 use Rattle.sip_machine.specs.Texts.{Texts, IsBook, Keeps, text_of}
-use Rattle.sip_machine.specs.Debts.{Owed, unexpired, softened, IsWithoutFirst, Pays, must_deadlines, earliest}
+use Rattle.sip_machine.specs.Debts.{Owed, unexpired, softened, Pays, must_deadlines, earliest}
 use Rattle.sip_machine.specs.Owes.{owed_seen, owes_seen, owes_names}
 use Rattle.sip_machine.specs.inner.Outbox.{counts_at, softened_debt, is_payable, debt_deadlines}
-use Rattle.sip_machine.specs.inner.DebtLaws.{filter-map, IsWithoutFirst-map, IsWithoutFirst-same, IsWithoutFirst-none, All-front, All-back, All-without, IsWithin-earliest}
+use Rattle.sip_machine.specs.inner.DebtLaws.{filter-map, All-front, All-back, All-without, IsWithin-earliest}
 
 -- Laws of what a machine owes: of the debts of the code, of what they stand for, and of moments up to their deadlines.
 

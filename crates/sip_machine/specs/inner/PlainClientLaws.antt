@@ -1,7 +1,6 @@
-use Rattle.std.specs.Prelude.{◌≡◌, ◌≤◌, ◌*◌, ℕ, Bool, true, List, [], ◌∷◌, All, Contains, min}
+use Rattle.std.specs.Prelude.{◌≡◌, ◌≤◌, ◌*◌, ℕ, true, All, Contains, min}
 use Rattle.std.proofs.Common.{refl, ap, inl, inr, arith}
 use Rattle.std.proofs.lemmas.Bool.Decides.{nat_tests}
-use Rattle.std.proofs.lemmas.List.Elements.{All-head, All-nil}
 use Rattle.sip_machine.specs.declared.event.Kind.{Kind}
 use Rattle.sip_machine.specs.declared.event.Kind.TheVariants.{Request, Response}
 use Rattle.sip_machine.specs.declared.plain_client.PlainClientPhase.{PlainClientPhase as CodePhase}
@@ -9,7 +8,7 @@ use Rattle.sip_machine.specs.declared.plain_client.PlainClientPhase.TheVariants 
 use Rattle.sip_machine.specs.contracts.plain_client.PlainClientPhasePartialEq.TheImpl as derived
 use Rattle.sip_machine.specs.Times.{Times}
 use Rattle.sip_machine.specs.Limits.{close_at}
-use Rattle.sip_machine.specs.Texts.{Texts, IsBook, Keeps, text_of}
+use Rattle.sip_machine.specs.Texts.{Texts, IsBook, text_of}
 use Rattle.sip_machine.specs.Heard.{Heard}
 use Rattle.sip_machine.specs.Rules.{Knows}
 use Rattle.sip_machine.specs.Figure.{IsFigure, After}
@@ -21,111 +20,57 @@ use Rattle.sip_machine.specs.inner.WaitingLaws.{waiting_exact, waiting_apart, wa
 -- equal phases of the code are the same one
 pub plain_client_exact : (x y : CodePhase) → derived.ghosts.eq x y ≡ true → x ≡ y
 plain_client_exact code.Idle code.Idle e = refl
-plain_client_exact code.Idle (code.Trying w') e = cc
-plain_client_exact code.Idle (code.Proceeding w') e = cc
-plain_client_exact code.Idle (code.Completed reliable' set') e = cc
-plain_client_exact code.Idle code.Ended e = cc
-plain_client_exact (code.Trying w) code.Idle e = cc
 plain_client_exact (code.Trying w) (code.Trying w') e = ap code.Trying (waiting_exact w w' e)
-plain_client_exact (code.Trying w) (code.Proceeding w') e = cc
-plain_client_exact (code.Trying w) (code.Completed reliable' set') e = cc
-plain_client_exact (code.Trying w) code.Ended e = cc
-plain_client_exact (code.Proceeding w) code.Idle e = cc
-plain_client_exact (code.Proceeding w) (code.Trying w') e = cc
 plain_client_exact (code.Proceeding w) (code.Proceeding w') e = ap code.Proceeding (waiting_exact w w' e)
-plain_client_exact (code.Proceeding w) (code.Completed reliable' set') e = cc
-plain_client_exact (code.Proceeding w) code.Ended e = cc
-plain_client_exact (code.Completed reliable set) code.Idle e = cc
-plain_client_exact (code.Completed reliable set) (code.Trying w') e = cc
-plain_client_exact (code.Completed reliable set) (code.Proceeding w') e = cc
 plain_client_exact (code.Completed reliable set) (code.Completed reliable' set') e =
     let same_reliable : reliable ≡ reliable' = grind (arith, nat_tests) in
     let same_set : set ≡ set' = grind (arith, nat_tests) in
     cc
-plain_client_exact (code.Completed reliable set) code.Ended e = cc
-plain_client_exact code.Ended code.Idle e = cc
-plain_client_exact code.Ended (code.Trying w') e = cc
-plain_client_exact code.Ended (code.Proceeding w') e = cc
-plain_client_exact code.Ended (code.Completed reliable' set') e = cc
 plain_client_exact code.Ended code.Ended e = refl
+plain_client_exact x y e = cc
 
 -- phases that stand for the same beside one book are the same
 pub plain_client_apart : (texts : Texts) (x y : CodePhase) → IsBook texts → Knows plain_client_names texts x → Knows plain_client_names texts y →
     plain_client_seen texts x ≡ plain_client_seen texts y → x ≡ y
 plain_client_apart texts code.Idle code.Idle book x_known y_known e = refl
-plain_client_apart texts code.Idle (code.Trying w') book x_known y_known e = cc
-plain_client_apart texts code.Idle (code.Proceeding w') book x_known y_known e = cc
-plain_client_apart texts code.Idle (code.Completed reliable' set') book x_known y_known e = cc
-plain_client_apart texts code.Idle code.Ended book x_known y_known e = cc
-plain_client_apart texts (code.Trying w) code.Idle book x_known y_known e = cc
 plain_client_apart texts (code.Trying w) (code.Trying w') book x_known y_known e = ap code.Trying (waiting_apart texts w w' book x_known y_known cc)
-plain_client_apart texts (code.Trying w) (code.Proceeding w') book x_known y_known e = cc
-plain_client_apart texts (code.Trying w) (code.Completed reliable' set') book x_known y_known e = cc
-plain_client_apart texts (code.Trying w) code.Ended book x_known y_known e = cc
-plain_client_apart texts (code.Proceeding w) code.Idle book x_known y_known e = cc
-plain_client_apart texts (code.Proceeding w) (code.Trying w') book x_known y_known e = cc
 plain_client_apart texts (code.Proceeding w) (code.Proceeding w') book x_known y_known e = ap code.Proceeding (waiting_apart texts w w' book x_known y_known cc)
-plain_client_apart texts (code.Proceeding w) (code.Completed reliable' set') book x_known y_known e = cc
-plain_client_apart texts (code.Proceeding w) code.Ended book x_known y_known e = cc
-plain_client_apart texts (code.Completed reliable set) code.Idle book x_known y_known e = cc
-plain_client_apart texts (code.Completed reliable set) (code.Trying w') book x_known y_known e = cc
-plain_client_apart texts (code.Completed reliable set) (code.Proceeding w') book x_known y_known e = cc
 plain_client_apart texts (code.Completed reliable set) (code.Completed reliable' set') book x_known y_known e = cc
-plain_client_apart texts (code.Completed reliable set) code.Ended book x_known y_known e = cc
-plain_client_apart texts code.Ended code.Idle book x_known y_known e = cc
-plain_client_apart texts code.Ended (code.Trying w') book x_known y_known e = cc
-plain_client_apart texts code.Ended (code.Proceeding w') book x_known y_known e = cc
-plain_client_apart texts code.Ended (code.Completed reliable' set') book x_known y_known e = cc
 plain_client_apart texts code.Ended code.Ended book x_known y_known e = refl
+plain_client_apart texts x y book x_known y_known e = cc
 
 -- a phase stands for the same beside books that agree on what it names
 pub plain_client_by_names : (a b : Texts) (x : CodePhase) → ((n : ℕ) → Contains (plain_client_names x) n → text_of a n ≡ text_of b n) →
     plain_client_seen a x ≡ plain_client_seen b x
-plain_client_by_names a b code.Idle agree = refl
 plain_client_by_names a b (code.Trying w) agree = ap Trying (waiting_by_names a b w agree)
 plain_client_by_names a b (code.Proceeding w) agree = ap Proceeding (waiting_by_names a b w agree)
-plain_client_by_names a b (code.Completed reliable set) agree = refl
-plain_client_by_names a b code.Ended agree = refl
+plain_client_by_names a b x agree = refl
 
 -- its timers do not depend on the book
 pub plain_client_window_same : (a b : Texts) (p : Times) (x : CodePhase) → timer_window p (plain_client_seen a x) ≡ timer_window p (plain_client_seen b x)
 plain_client_window_same a b p code.Idle = refl
-plain_client_window_same a b p (code.Trying w) = refl
-plain_client_window_same a b p (code.Proceeding w) = refl
-plain_client_window_same a b p (code.Completed reliable set) = refl
-plain_client_window_same a b p code.Ended = refl
+plain_client_window_same a b p x = refl
 
 pub plain_client_closes_same : (a b : Texts) (p : Times) (x : CodePhase) → closes p (plain_client_seen a x) ≡ closes p (plain_client_seen b x)
 plain_client_closes_same a b p code.Idle = refl
-plain_client_closes_same a b p (code.Trying w) = refl
-plain_client_closes_same a b p (code.Proceeding w) = refl
-plain_client_closes_same a b p (code.Completed reliable set) = refl
-plain_client_closes_same a b p code.Ended = refl
+plain_client_closes_same a b p x = refl
 
 -- a row leads to a phase whose timers are not past
 received : (p : Times) (x : PlainClientPhase) (k : Kind) (e : Heard) (y : After PlainClientPhase) → All (λ m. e.moment ≤ m) (closes p x) →
     Receives p x k e y → All (λ m. e.moment ≤ m) (closes p y.0)
-received p Idle k e y running h = absurd h
-received p (Trying w) (Request method) e y running h = absurd h
 received p (Trying w) (Response code) e y running h =
     elim h [ inl provisional ↦ rw provisional.1 running | inr final ↦ rw final.1 (timer_starts p e.moment (timer_k p w.reliable)) ]
-received p (Proceeding w) (Request method) e y running h = absurd h
 received p (Proceeding w) (Response code) e y running h = rw h.1 (timer_starts p e.moment (timer_k p w.reliable))
-received p (Completed reliable set) k e y running h = absurd h
-received p Ended k e y running h = absurd h
+received p x k e y running h = absurd h
 
 sent : (p : Times) (x : PlainClientPhase) (k : Kind) (e : Heard) (y : After PlainClientPhase) → All (λ m. e.moment ≤ m) (closes p x) →
     Sends p x k e y → All (λ m. e.moment ≤ m) (closes p y.0)
 sent p Idle (Request method) e y running h = rw h (repeat_starts p e.moment (close_at p e.moment (timer_f p)) p.t1 e.reliable (omega arith))
-sent p Idle (Response code) e y running h = absurd h
 sent p (Trying w) (Request method) e y running h =
     rw h.1 (repeat_starts p e.moment (close_at p w.start (timer_f p)) (min (2 * w.interval) p.t2) w.reliable (patience_lasts p w e.moment (timer_f p) running))
-sent p (Trying w) (Response code) e y running h = absurd h
 sent p (Proceeding w) (Request method) e y running h =
     rw h.1 (repeat_starts p e.moment (close_at p w.start (timer_f p)) p.t2 w.reliable (patience_lasts p w e.moment (timer_f p) running))
-sent p (Proceeding w) (Response code) e y running h = absurd h
-sent p (Completed reliable set) k e y running h = absurd h
-sent p Ended k e y running h = absurd h
+sent p x k e y running h = absurd h
 
 pub plain_client_is_figure : IsFigure plain_client
 plain_client_is_figure =

@@ -8,6 +8,7 @@ use Rattle.sip_machine.specs.Times.{Times}
 use Rattle.sip_machine.specs.Limits.{close_at}
 use Rattle.sip_machine.specs.Texts.{Texts, IsBook, Keeps, text_of}
 use Rattle.sip_machine.specs.Waiting.{Waiting, waiting_closes, waiting_seen}
+use Rattle.sip_machine.specs.inner.MessageLaws.{message_apart}
 
 -- Laws of requests that wait, and of timers that start.
 
@@ -26,9 +27,7 @@ waiting_exact v w e =
 pub waiting_apart : (texts : Texts) (v w : CodeWaiting) → IsBook texts → All (Keeps texts) (v.request ∷ []) →
     All (Keeps texts) (w.request ∷ []) → waiting_seen texts v ≡ waiting_seen texts w → v ≡ w
 waiting_apart texts v w book v_known w_known e =
-    let v_kept = All-head (Keeps texts) v.request [] v_known in
-    let w_kept = All-head (Keeps texts) w.request [] w_known in
-    let request = book.apart v.request w.request v_kept w_kept (ap (λ x. x.request) e) in
+    let request = message_apart texts v.request w.request book v_known w_known (ap (λ x. x.request) e) in
     waiting_same v w (ap (λ x. x.reliable) e) request (ap (λ x. x.start) e) (ap (λ x. x.set) e) (ap (λ x. x.interval) e)
 
 -- a waiting request stands for the same beside books that agree on its message

@@ -26,12 +26,12 @@ pub(crate) fn first_acked(
     requires debts { All (λ run. Keeps book.now run.debt.message) runs.now }
     ensures { IfOk result (FindsFirst (PaysDebt book.now (text_of book.now event.now.number) (text_of book.now invite) event.now.moment) (debts_of runs.now)) }
 {
-    let ack = match Message::read(alloc, kept(book, event.number())) {
+    let ack = match Message::read(alloc, book.bytes_of(event.number())) {
         Ok(ack) => ack,
         Err(ReadError::Memory) => return Err(AllocError),
         Err(ReadError::Fault(_)) => return Ok(None),
     };
-    let invite = match Message::read(alloc, kept(book, invite)) {
+    let invite = match Message::read(alloc, book.bytes_of(invite)) {
         Ok(invite) => invite,
         Err(ReadError::Memory) => return Err(AllocError),
         Err(ReadError::Fault(_)) => return Ok(None),
@@ -77,7 +77,7 @@ fn pays(
     if debt.deadline < moment {
         return Ok(false);
     }
-    acks(alloc, ack, invite, kept(book, debt.message))
+    acks(alloc, ack, invite, book.bytes_of(debt.message))
 }
 
 /// Whether the bytes spell a response to the INVITE that the ACK is for.
@@ -94,12 +94,4 @@ fn acks(
         Err(ReadError::Memory) => Err(AllocError),
         Err(ReadError::Fault(_)) => Ok(false),
     }
-}
-
-/// The bytes of a kept message.
-fn kept(book: &Book, number: u32) -> &[u8]
-    requires { Keeps book.now number }
-    ensures { result.now ≡ text_of book.now number }
-{
-    book.bytes(number).unwrap()
 }

@@ -2,4 +2,5 @@ pub mod Stages
 pub mod Body
 pub mod Outcome
 pub mod Faults
+pub mod Total
 pub mod Views

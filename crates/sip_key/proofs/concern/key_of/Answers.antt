@@ -7,8 +7,8 @@ use Rattle.sip_key.specs.Concerns.{role_of, sent_by_of}
 use Rattle.sip_key.proofs.ConcernLemmas.{top-port, own-is}
 use Rattle.sip_key.proofs.concern.key_of.Goals as goal
 
-pub sent_by_of-requires : goal.sent_by_of-requires
-sent_by_of-requires c =
+pub key_with-requires : goal.key_with-requires
+key_with-requires c =
     let P : Element → Type 0 = λ e. IfSome e.1.port Port in
     subst P (sym c.top_via-via.ensures) (top-port _ _ c.known.ensures.parts.is)
 
@@ -17,8 +17,8 @@ returns c =
     let d = c.args.direction in
     let start = c.start-start.ensures in
     let via = c.top_via-via.ensures in
-    own-is c.args.message.now d _ _ _ _ c.new.ensures
+    own-is c.args.message.now d _ _ _ _ c.in_ok-key.ensures
     (c.role_of-role.ensures ∙ ap (λ s. role_of s d) start)
-    (sym (ap (λ (e : Element). cookie_branch e.1.branch) via) ∙ c.in-Some.ensures ∙ ap Some (sym c.in_ok-branch.ensures.ok))
-    (c.in_ok-sent_by.ensures ∙ ap (λ (e : Element). sent_by_of c.role_of-role.result e.1) via)
-    (c.in_ok-method.ensures.items ∙ c.method_of.ensures)
+    (sym (ap (λ (e : Element). cookie_branch e.1.branch) via) ∙ c.in-Some.ensures)
+    (ap (λ (e : Element). sent_by_of c.role_of-role.result e.1) via)
+    c.method_of.ensures

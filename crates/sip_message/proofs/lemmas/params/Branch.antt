@@ -23,7 +23,7 @@ branch-cons : (p : Param) (ps : List Param) (b : Option (List ℕ)) → IsBranch
 branch-cons (name, value) ps b (inl (same, v, token, value_is, b_is, later, more)) = (Some v, (same, token, value_is), later, more, b_is)
 branch-cons (name, value) ps b (inr (differs, more)) = (None, differs, b, more, refl)
 
-cons-branch : (p : Param) (ps : List Param) (found later : Option (List ℕ)) → BranchOf p found → IsBranch ps later → IsBranch (p ∷ ps) (option_or found later)
+pub cons-branch : (p : Param) (ps : List Param) (found later : Option (List ℕ)) → BranchOf p found → IsBranch ps later → IsBranch (p ∷ ps) (option_or found later)
 cons-branch (name, value) ps None later differs more = inr (differs, more)
 cons-branch (name, value) ps (Some v) later (same, token, value_is) more = inl (same, v, token, value_is, refl, later, more)
 
@@ -54,7 +54,7 @@ Decides text rest first = (x : Option (List ℕ) × List ℕ) → BranchFront te
 pub decides-none : (text : List ℕ) → Decides text text None
 decides-none text (b, r) = ((λ is. (b, is, refl)), (λ after. subst (λ x. BranchFront text (x, r)) (sym after.2) after.1))
 
-or-assoc : (a b c : Option (List ℕ)) → option_or a (option_or b c) ≡ option_or (option_or a b) c
+pub or-assoc : (a b c : Option (List ℕ)) → option_or a (option_or b c) ≡ option_or (option_or a b) c
 or-assoc None b c = refl
 or-assoc (Some v) b c = refl
 

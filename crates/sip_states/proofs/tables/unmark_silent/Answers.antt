@@ -15,7 +15,7 @@ index-requires g c =
     let index = c.in-Some.index in
     let mark : IsMarked marks index = (c.marked.ensures.members index).0 (item_among _ _ _ _ _ c.get.ensures.lookup c.copied.ensures c.in-Some.is) in
     let low = slice_get_within marks index true mark in
-    omega (arith, low, c.loop-place.invariant.long, c.requires.long)
+    rw c.loop-place.invariant.same (omega (arith, low, c.loop-place.invariant.long, c.requires.long))
 
 pub unmark-requires : goal.unmark-requires
 unmark-requires g c =
@@ -34,5 +34,6 @@ loop-place-preserved-then-is_empty g c =
     let silent : numbers_of set ≡ [] = names_nothing (numbers_of set) c.clear.new.self.items c.names.new.out.items c.clear.ensures.items empty c.in_ok-names.ensures in
     record {
       long = ap length c.unmark.ensures ∙ length-set marks index false ∙ c.loop-place.invariant.long;
-      marked = rw c.unmark.ensures (unmarked marks (values c.args.sets.now) index set c.loop-place.invariant.marked c.index.ensures silent);
+      marked = rw c.unmark.ensures (unmarked marks (values c.args.sets.now) index set c.loop-place.invariant.marked (rw c.loop-place.invariant.same at c.index.ensures) silent);
+      same = c.trim_at.ensures ∙ c.loop-place.invariant.same;
     }

@@ -7,5 +7,6 @@ abbrev pub invariant-loop-place : goal.invariant-loop-place
 invariant-loop-place g l =
     record {
       long : length l.marks ≡ length l.initial.marks;
-      marked : AreMarked l.marks (values l.sets);
+      marked : AreMarked l.marks (values l.initial.sets);
+      same : l.sets ≡ l.initial.sets;
     }

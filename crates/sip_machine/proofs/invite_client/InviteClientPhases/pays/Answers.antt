@@ -1,11 +1,12 @@
-use Rattle.std.specs.Prelude.{remove}
-use Rattle.std.proofs.Common.{ap, sym, ◌∙◌}
+use Rattle.std.specs.Prelude.{true, false, remove}
+use Rattle.std.proofs.Common.{refl, ap, sym, ◌∙◌, subst}
 use Rattle.sip_machine.specs.declared.event.Kind.TheVariants.{Request}
-use Rattle.sip_machine.specs.Texts.{Keeps}
+use Rattle.sip_machine.specs.Texts.{Keeps, text_of}
 use Rattle.sip_machine.specs.Heard.{heard}
+use Rattle.sip_machine.specs.Owing.{HasPaid}
+use Rattle.sip_machine.specs.InviteClient.{Completed, Satisfies}
 use Rattle.sip_machine.specs.inner.OwesLaws.{All-names}
 use Rattle.sip_machine.proofs.RunsLemmas.{each-All}
-use Rattle.sip_machine.proofs.InviteClientRows.{HasPaid-acked, HasPaid-none_acked}
 use Rattle.sip_machine.proofs.invite_client.InviteClientPhases.pays.Goals as goal
 
 pub first_acked-requires-clause-debts : goal.first_acked-requires-clause-debts
@@ -16,18 +17,21 @@ first_acked-requires-clause-debts c =
 pub returns-in-Some : goal.returns-in-Some
 returns-in-Some c =
     let texts = c.args.book.now in
+    let e = c.args.event.now in
     let s = c.in-Completed in
     let owes = c.args.owes.now in
     let paid = rw (c.in-Some.is, c.runs.ensures.debts) at c.in_ok-index.ensures in
     rw (s.is, c.remove.ensures)
-    (HasPaid-acked texts s.reliable s.request s.set c.args.event.now.kind (heard texts c.args.event.now) owes (remove owes c.in-Some.index)
+    (subst (λ k. HasPaid (Satisfies (Completed s.reliable (text_of texts s.request) s.set) k (heard texts e)) texts e.moment true owes (remove owes c.in-Some.index))
     (ap Request (sym c.in-Request-Ack.field-0-is) ∙ c.in-Request-Ack.ensures) paid.1)
 
 pub returns-in-None : goal.returns-in-None
 returns-in-None c =
     let texts = c.args.book.now in
+    let e = c.args.event.now in
     let s = c.in-Completed in
+    let owes = c.args.owes.now in
     let none = rw (c.in-None.is, c.runs.ensures.debts) at c.in_ok-index.ensures in
     rw s.is
-    (HasPaid-none_acked texts s.reliable s.request s.set c.args.event.now.kind (heard texts c.args.event.now) c.args.owes.now
-    (ap Request (sym c.in-Request-Ack.field-0-is) ∙ c.in-Request-Ack.ensures) none)
+    (subst (λ k. HasPaid (Satisfies (Completed s.reliable (text_of texts s.request) s.set) k (heard texts e)) texts e.moment false owes owes)
+    (ap Request (sym c.in-Request-Ack.field-0-is) ∙ c.in-Request-Ack.ensures) (refl, none))

@@ -1,24 +1,66 @@
-use Rattle.std.proofs.Common.{refl}
-use Rattle.sip_machine.proofs.InviteClientRows.{Receives-calling, Receives-proceeding, Receives-completed}
+use Rattle.std.specs.Prelude.{◌≡◌, ◌≤◌, ◌↔◌, ℕ, Bool, true, [], ◌∷◌, All}
+use Rattle.std.proofs.Common.{refl, inl, inr, arith}
+use Rattle.sip_machine.specs.declared.event.Kind.{Kind}
+use Rattle.sip_machine.specs.declared.event.Kind.TheVariants.{Response}
+use Rattle.sip_machine.specs.declared.invite_client.InviteClientPhase.TheVariants as code
+use Rattle.sip_machine.specs.declared.phases.Change.TheVariants.{Gains}
+use Rattle.sip_machine.specs.Times.{Times, last_moment}
+use Rattle.sip_machine.specs.Texts.{Texts, Keeps, text_of}
+use Rattle.sip_machine.specs.NumberedEvent.{NumberedEvent}
+use Rattle.sip_machine.specs.Heard.{heard}
+use Rattle.sip_machine.specs.Waiting.{waiting_seen}
+use Rattle.sip_machine.specs.Figure.{After, gains}
+use Rattle.sip_machine.specs.Owing.{turn_seen, turn_names, TurnInRange}
+use Rattle.sip_machine.specs.InviteClient.{InviteClientPhase, Calling, Proceeding, Completed, Receives, invite_client_seen, invite_client_names, InviteClientInRange}
+use Rattle.sip_machine.specs.inner.Single.{IsTheOne}
+use Rattle.sip_machine.proofs.RepliesLemmas.{Gains-one}
 use Rattle.sip_machine.proofs.invite_client.InviteClientPhases.receives.Goals as goal
+
+-- a final response of 300 to 699 leads to completed, where an ACK for it must be sent
+completes : (p : Times) (texts : Texts) (x : InviteClientPhase) (reliable : Bool) (request set status : ℕ) (k : Kind) (n : NumberedEvent) → Response status ≡ k →
+    ((y : After InviteClientPhase) → Receives p x (Response status) (heard texts n) y ↔ (y ≡ (Completed reliable (text_of texts request) set, gains true (text_of texts n.number)))) →
+    All (Keeps texts) (request ∷ []) → Keeps texts n.number → set ≤ last_moment →
+    IsTheOne (turn_names invite_client_names) (TurnInRange InviteClientInRange) (turn_seen invite_client_seen) texts (Receives p x k (heard texts n))
+    (record { phase = code.Completed reliable request set; change = Gains true n.number })
+completes p texts x reliable request set status k n is only known kept fits =
+    rw (← is)
+    (Gains-one invite_client_names InviteClientInRange invite_client_seen texts (Receives p x (Response status) (heard texts n)) (code.Completed reliable request set) true n.number
+    only known kept fits)
 
 pub returns-in-Calling-3 : goal.returns-in-Calling-3
 returns-in-Calling-3 c =
     let s = c.in-Calling-3 in
-    rw (s.is, c.moment-in-Calling-3.ensures, c.number.ensures)
-    (Receives-calling c.args.self.now c.args._book.now s.waiting c.in-Response.code c.args.event.now.kind c.args.event.now c.in-Response.ensures
-    (c.is_unsuccessful.ensures.0 c.if-is_unsuccessful.true) (rw s.is at c.requires.known) c.requires.fits.keeps c.requires.fits.limit)
+    let texts = c.args._book.now in
+    let n = c.args.event.now in
+    let unsuccessful = c.is_unsuccessful.ensures.0 c.if-is_unsuccessful.true in
+    rw (s.is, c.moment-set.ensures, c.number.ensures)
+    (completes c.args.self.now texts (Calling (waiting_seen texts s.waiting)) s.waiting.reliable s.waiting.request n.moment c.in-Response.code n.kind n c.in-Response.ensures
+    (λ y. (
+      λ h. elim h [
+        | inl provisional ↦ absurd (omega (arith, provisional.0.1, unsuccessful.0))
+        | inr final ↦ elim final [ inl success ↦ absurd (omega (arith, success.0.1, unsuccessful.0)) | inr one ↦ one.1 ]
+      ],
+      λ e. inr (inr (unsuccessful, e)),
+    ))
+    (rw s.is at c.requires.known) c.requires.fits.keeps c.requires.fits.limit)
 
 pub returns-in-Proceeding-2 : goal.returns-in-Proceeding-2
 returns-in-Proceeding-2 c =
     let s = c.in-Proceeding-2 in
-    rw (s.is, c.moment-in-Proceeding-2.ensures, c.number.ensures)
-    (Receives-proceeding c.args.self.now c.args._book.now s.reliable s.request s.cancel c.in-Response.code c.args.event.now.kind c.args.event.now c.in-Response.ensures
-    (c.if-is_unsuccessful-2.ensures.0 refl) (rw s.is at c.requires.known) c.requires.fits.keeps c.requires.fits.limit)
+    let texts = c.args._book.now in
+    let n = c.args.event.now in
+    let unsuccessful = c.if-is_unsuccessful-2.ensures.0 refl in
+    rw (s.is, c.moment-set.ensures, c.number.ensures)
+    (completes c.args.self.now texts (Proceeding s.reliable (text_of texts s.request) s.cancel) s.reliable s.request n.moment c.in-Response.code n.kind n c.in-Response.ensures
+    (λ y. (λ h. elim h [ inl success ↦ absurd (omega (arith, success.0.1, unsuccessful.0)) | inr one ↦ one.1 ], λ e. inr (unsuccessful, e)))
+    (rw s.is at c.requires.known) c.requires.fits.keeps c.requires.fits.limit)
 
 pub returns-in-Completed : goal.returns-in-Completed
 returns-in-Completed c =
     let s = c.in-Completed in
+    let texts = c.args._book.now in
+    let n = c.args.event.now in
+    let unsuccessful = c.if-is_unsuccessful-3.ensures.0 refl in
     rw (s.is, c.number.ensures)
-    (Receives-completed c.args.self.now c.args._book.now s.reliable s.request s.set c.in-Response.code c.args.event.now.kind c.args.event.now c.in-Response.ensures
-    (c.if-is_unsuccessful-3.ensures.0 refl) (rw s.is at c.requires.known) c.requires.fits.keeps (rw s.is at c.requires.in_range))
+    (completes c.args.self.now texts (Completed s.reliable (text_of texts s.request) s.set) s.reliable s.request s.set c.in-Response.code n.kind n c.in-Response.ensures
+    (λ y. (λ h. h.1, λ e. (unsuccessful, e))) (rw s.is at c.requires.known) c.requires.fits.keeps (rw s.is at c.requires.in_range))

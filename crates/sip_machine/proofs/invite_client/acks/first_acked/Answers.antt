@@ -8,13 +8,13 @@ use Rattle.sip_machine.proofs.invite_client.acks.first_acked.Goals as goal
 pub returns-in-Err-Fault : goal.returns-in-Err-Fault
 returns-in-Err-Fault c =
     let texts = c.args.book.now in
-    let fault = rw (c.in-Err-Fault.field-0-is, c.kept.ensures, c.number.ensures) at c.in-Err-Fault.ensures in
+    let fault = rw (c.in-Err-Fault.field-0-is, c.bytes_of.ensures, c.number.ensures) at c.in-Err-Fault.ensures in
     PaysDebt-no_ack texts (text_of texts c.args.event.now.number) (text_of texts c.args.invite) c.args.event.now.moment c.in-Err-Fault.field-0-0 fault (debts_of c.args.runs.now)
 
 pub returns-in-Err-Fault-read : goal.returns-in-Err-Fault-read
 returns-in-Err-Fault-read c =
     let texts = c.args.book.now in
-    let fault = rw (c.in-Err-Fault-read.field-0-is, c.kept-2.ensures) at c.in-Err-Fault-read.ensures in
+    let fault = rw (c.in-Err-Fault-read.field-0-is, c.bytes_of-2.ensures) at c.in-Err-Fault-read.ensures in
     PaysDebt-no_invite texts (text_of texts c.args.event.now.number) (text_of texts c.args.invite) c.args.event.now.moment c.in-Err-Fault-read.field-0-0 fault (debts_of c.args.runs.now)
 
 pub returns : goal.returns
@@ -23,8 +23,8 @@ returns c =
     let ack = text_of texts c.args.event.now.number in
     let invite = text_of texts c.args.invite in
     let t = c.args.event.now.moment in
-    let reads_ack : Reads ack c.in-Ok.ack = rw (c.kept.ensures, c.number.ensures) at c.in-Ok.ensures in
-    let reads_invite : Reads invite c.in-Ok-read.invite = rw c.kept-2.ensures at c.in-Ok-read.ensures in
+    let reads_ack : Reads ack c.in-Ok.ack = rw (c.bytes_of.ensures, c.number.ensures) at c.in-Ok.ensures in
+    let reads_invite : Reads invite c.in-Ok-read.invite = rw c.bytes_of-2.ensures at c.in-Ok-read.ensures in
     IfOk-first (AcksDebt texts c.in-Ok.ack c.in-Ok-read.invite t) (PaysDebt texts ack invite t)
     (PaysDebt-read texts ack invite t c.in-Ok.ack c.in-Ok-read.invite reads_ack reads_invite) (debts_of c.args.runs.now) c.first_of.result
     (rw c.moment.ensures at c.first_of.ensures)

@@ -46,7 +46,7 @@ pub returns-clause-ok : goal.returns-clause-ok
 returns-clause-ok g c =
     let up = c.in_ok-advance_each.ensures.ok in
     let sets = c.self.inside.sets in
-    always_ok c.unmark_silent.result _ (rw (← c.self.view_is) (record {
+    always_ok c.unmark_silent.result _ (rw (c.unmark_silent.ensures.same, ← c.self.view_is) (record {
       times = refl;
       keys = c.in_ok-advance_each.ensures.keys;
       records = refl;
@@ -59,7 +59,7 @@ pub returns-clause-err : goal.returns-clause-err
 returns-clause-err g c =
     let up = c.in_ok-advance_each.ensures.ok in
     let sets = c.self.inside.sets in
-    always_err c.unmark_silent.result _ (rw (← c.self.view_is) (record {
+    always_err c.unmark_silent.result _ (rw (c.unmark_silent.ensures.same, ← c.self.view_is) (record {
       times = refl;
       keys = c.in_ok-advance_each.ensures.keys;
       records = refl;

@@ -1,0 +1,232 @@
+-- Plain parts of values, and what the grammar has of them.
+use Rattle.std.proofs.Common.{◌≡◌, ℕ, ◌+◌, ◌-◌, ◌<◌, ◌≤◌, true, false, ◌&&◌, ◌||◌, List, [], ◌∷◌, ◌++◌, Option, None, Some, length, take, drop, refl, sym, ap, ap₂, ◌∙◌, subst, inl, inr, arith}
+use Rattle.std.specs.Prelude.{codes}
+use Rattle.std.specs.Char.{is_ascii_alphanumeric}
+use Rattle.std.specs.List.{AllByRecursion, prefix_len}
+use Rattle.std.proofs.Math.Seq.{take-add}
+use Rattle.std.proofs.lemmas.Bool.{agree_below_at, and_parts, or_cases, cases_lt}
+use Rattle.std.proofs.lemmas.List.{drop-drop, append_assoc, append-nil, length-append, length-drop, length-take-le}
+use Rattle.sip_text.specs.Bytes.{at_sign, colon, equals, semicolon, space, is_one_of, is_mark, is_unreserved, is_user_unreserved}
+use Rattle.sip_text.specs.Text.{One, Byte, Exactly, ◌then◌, ◌or◌}
+use Rattle.sip_text.specs.Grammar.{Token, Sws, Blanks}
+use Rattle.sip_text.specs.Host.{HostParts, HostText, Hostname, Ipv4Address, Ipv6Reference, name, v4, v6, host_text}
+use Rattle.sip_text.specs.Uri.{User, Port, Escaped, SipParts, SipFits, sip, hostport_text, sip_text}
+use Rattle.sip_text.proofs.ManyLemmas.{many-nil, many-push}
+use Rattle.sip_text.proofs.UriCharLemmas.{some-map}
+use Rattle.sip_masks.specs.Marks.{is_plain}
+use Rattle.sip_message.specs.Unfold.{OpensSolid}
+use Rattle.sip_message.specs.Params.{left_angle, right_angle, Mark, ParamsText, ParamsPart, BehindBlanks}
+use Rattle.sip_message.specs.Address.{AddressParts, AddressFits, DisplayName, name_addr}
+use Rattle.sip_message.specs.inner.AddressFronts.{Words}
+use Rattle.sip_message.specs.inner.Plain.{segment, Stands, PlainRun, HostPort, SomeUri, Opening, PlainParam, SomeParams, SomeAddress}
+use Rattle.sip_message.proofs.QuickLemmas.{low-one, plain-token}
+use Rattle.sip_message.proofs.lemmas.front.Prefix.{prefix-at, all-some}
+use Rattle.sip_message.proofs.lemmas.text.Cuts.{same_by_front}
+use Rattle.sip_message.proofs.lemmas.params.Closed.{blanks-space}
+
+-- a segment is cut at a place within it
+pub segment-cut : (text : List ℕ) (at mid to : ℕ) → at ≤ mid → mid ≤ to → segment at to text ≡ segment at mid text ++ segment mid to text
+segment-cut text at mid to first second =
+    let count : to - at ≡ (mid - at) + (to - mid) = omega (arith, first, second) in
+    let place : at + (mid - at) ≡ mid = omega (arith, first) in
+    ap (λ n. take n (drop at text)) count ∙ take-add (mid - at) (to - mid) (drop at text)
+    ∙ ap (λ t. segment at mid text ++ take (to - mid) t) (drop-drop (mid - at) at text ∙ ap (λ k. drop k text) place)
+
+-- nothing stands at one place
+pub segment-none : (text : List ℕ) (at : ℕ) → segment at at text ≡ []
+segment-none text at =
+    let none : at - at ≡ 0 = omega arith in
+    ap (λ n. take n (drop at text)) none
+
+-- one part, and another behind it
+pub then-stands : (P Q : List ℕ → Type 0) (text : List ℕ) (at end mid to : ℕ) → Stands P text at end mid → Stands Q text mid end to → Stands (P then Q) text at end to
+then-stands P Q text at end mid to p q =
+    (omega (arith, p.0, q.0), q.1, (segment at mid text, segment mid to text, p.2, q.2, segment-cut text at mid to p.0 q.0))
+
+-- a part is one of another set
+pub stands-as : (P Q : List ℕ → Type 0) (text : List ℕ) (at end to : ℕ) → ((u : List ℕ) → P u → Q u) → Stands P text at end to → Stands Q text at end to
+stands-as P Q text at end to turn p = (p.0, p.1, turn (segment at to text) p.2)
+
+-- up to the end
+pub whole-stands : (P : List ℕ → Type 0) (text : List ℕ) (at end : ℕ) → at ≤ end → P (segment at end text) → Stands P text at end end
+whole-stands P text at end within p = (within, omega arith, p)
+
+-- what holds a byte takes room
+pub part-longer : (text rest : List ℕ) (at to b : ℕ) → segment at to text ≡ b ∷ rest → at < to
+part-longer text rest at to b is = elim (cases_lt at to) [
+  | inl less ↦ less
+  | inr more ↦
+      let none : to - at ≡ 0 = omega (arith, more) in
+      absurd (omega (arith, ap length (sym (ap (λ n. take n (drop at text)) none) ∙ is)))
+]
+
+-- a parameter takes room
+pub param-longer : (p : List ℕ × Option (List ℕ)) (text : List ℕ) (at end to : ℕ) → Stands (PlainParam p) text at end to → at < to
+param-longer p text at end to param =
+    let w = param.2 in
+    part-longer text w.1 at to semicolon (w.4 ∙ ap (λ t. t ++ w.1) w.2)
+
+-- a run
+pub run-stands : (text : List ℕ) (at end n : ℕ) → at < end → end ≤ length text → n ≡ prefix_len is_plain (drop at text) → 0 < n → n ≤ end - at → Stands PlainRun text at end (at + n)
+run-stands text at end n before within is some most =
+    let count : at + n - at ≡ n = omega arith in
+    let front = take n (drop at text) in
+    let len : length front ≡ n = length-take-le n (drop at text) (omega (arith, length-drop at text, before, within, most)) in
+    let run : PlainRun front = all-some is_plain front (prefix-at is_plain (drop at text) n is).0 (λ none. omega (arith, some, len, ap length none)) in
+    (omega arith, omega (arith, before, most), subst (λ k. PlainRun (take k (drop at text))) (sym count) run)
+
+-- a plain byte is one of a user
+user-byte : (b : ℕ) → is_plain b ≡ true → (is_unreserved b || is_user_unreserved b) ≡ true
+user-byte b is =
+    elim (or_cases (is_ascii_alphanumeric b) (is_one_of (codes "-.!*_+'~") b) is) [
+      | inl letter ↦ ap (λ x. (x || is_mark b) || is_user_unreserved b) letter
+      | inr mark ↦
+          (and_parts (is_unreserved b || is_user_unreserved b) (is_plain b) (agree_below_at (λ x. (is_unreserved x || is_user_unreserved x) && is_plain x) is_plain 256 b refl (low-one (codes "-.!*_+'~") b low mark) ∙ is)).0
+    ]
+  where
+    low : AllByRecursion (λ x. x < 256) (codes "-.!*_+'~")
+    low = (omega arith, (omega arith, (omega arith, (omega arith, (omega arith, (omega arith, (omega arith, (omega arith, tt))))))))
+
+-- plain runs are users and tokens
+plain-user : (u : List ℕ) → PlainRun u → User u
+plain-user u run = some-map (One is_plain) (One is_unreserved or Escaped or One is_user_unreserved) u piece run
+  where
+    piece : (v : List ℕ) → One is_plain v → (One is_unreserved or Escaped or One is_user_unreserved) v
+    piece v one = elim (or_cases (is_unreserved one.0) (is_user_unreserved one.0) (user-byte one.0 one.1)) [
+      | inl is ↦ inl (one.0, is, one.2)
+      | inr is ↦ inr (inr (one.0, is, one.2))
+    ]
+
+pub run-token : (u : List ℕ) → PlainRun u → Token u
+run-token u run = some-map (One is_plain) _ u (λ v one. (one.0, plain-token one.0 one.1, one.2)) run
+
+-- a host has its own text
+pub host-own : (u : List ℕ) (h : HostParts) → HostText u h → HostText (host_text h) h × (u ≡ host_text h)
+host-own u (name t) is = ((subst Hostname (sym is.1) is.0, refl), sym is.1)
+host-own u (v4 t) is = ((subst Ipv4Address (sym is.1) is.0, refl), sym is.1)
+host-own u (v6 t) is = ((subst Ipv6Reference (sym is.1) is.0, refl), sym is.1)
+
+-- a host without a port, and with one
+pub hostport-none : (h : HostParts) (u : List ℕ) → HostText u h → HostPort u
+hostport-none h u is =
+    let own = host-own u h is in
+    (h, None, own.0, tt, own.1 ∙ sym (append-nil (host_text h)))
+
+pub hostport-some : (h : HostParts) (u : List ℕ) → ((λ t. HostText t h) then Byte colon then Port) u → HostPort u
+hostport-some h u w =
+    let own = host-own w.0 h w.2 in
+    let led = w.3.4 ∙ ap (λ t. t ++ w.3.1) w.3.2 in
+    (h, Some w.3.1, own.0, w.3.3, w.4 ∙ ap₂ (λ x y. x ++ y) own.1 led)
+
+-- a URI without a user, and with one
+pub uri-bare : (u : List ℕ) → (Exactly (codes "sip:") then HostPort) u → SomeUri u
+uri-bare u w =
+    let hp = w.3 in
+    let at = hostport_text hp.0 hp.1 in
+    let p : SipParts = record { secure = false; user = None; password = None; host = hp.0; port = hp.1; params = []; headers = None } in
+    let fits : SipFits p = record { user = tt; password = tt; owner = λ none. refl; host = hp.2; port = hp.3; params = many-nil _; headers = tt } in
+    let text : sip_text p ≡ at = append-nil (at ++ []) ∙ append-nil at in
+    (sip p, (codes "sip", refl, fits, w.4 ∙ ap₂ (λ x y. x ++ y) w.2 (hp.4 ∙ sym text)))
+
+pub uri-owned : (u : List ℕ) → (Exactly (codes "sip:") then PlainRun then Byte at_sign then HostPort) u → SomeUri u
+uri-owned u w =
+    let user = w.3.0 in
+    let hp = w.3.3.3 in
+    let at = hostport_text hp.0 hp.1 in
+    let p : SipParts = record { secure = false; user = Some user; password = None; host = hp.0; port = hp.1; params = []; headers = None } in
+    let fits : SipFits p = record { user = plain-user user w.3.2; password = tt; owner = λ none. refl; host = hp.2; port = hp.3; params = many-nil _; headers = tt } in
+    let text : sip_text p ≡ user ++ at_sign ∷ at =
+    ap₂ (λ x y. (x ++ at_sign ∷ []) ++ y) (append-nil user) (append-nil (at ++ []) ∙ append-nil at) ∙ append_assoc user (at_sign ∷ []) at in
+    let behind : w.3.1 ≡ at_sign ∷ at = w.3.3.4 ∙ ap₂ (λ x y. x ++ y) w.3.3.2 hp.4 in
+    (sip p, (codes "sip", refl, fits, w.4 ∙ ap₂ (λ x y. x ++ y) w.2 (w.3.4 ∙ ap (λ t. user ++ t) behind ∙ sym text)))
+
+-- one SP is blanks that may be none, and so is nothing
+pub sws-space : (u : List ℕ) → Byte space u → Sws u
+sws-space u is = inr (subst Blanks (sym is) blanks-space)
+
+-- words
+pub words-one : (u : List ℕ) → PlainRun u → Words u
+words-one u run = (u, [], run-token u run, many-nil _, sym (append-nil u))
+
+pub words-more : (u : List ℕ) → (Words then Byte space then PlainRun) u → Words u
+words-more u w =
+    let word : (Blanks then Token) w.1 = (w.3.0, w.3.1, subst Blanks (sym w.3.2) blanks-space, run-token w.3.1 w.3.3, w.3.4) in
+    (w.2.0, w.2.1 ++ w.1, w.2.2, many-push _ w.2.1 w.1 w.2.3 word, w.4 ∙ ap (λ t. t ++ w.1) w.2.4 ∙ append_assoc w.2.0 w.2.1 w.1)
+
+-- a segment is cut behind what stands at its front
+pub front-cut : (text u rest : List ℕ) (at end : ℕ) → at ≤ end → end ≤ length text → segment at end text ≡ u ++ rest
+    → (at + length u ≤ end) × (segment at (at + length u) text ≡ u) × (segment (at + length u) end text ≡ rest)
+front-cut text u rest at end before within is =
+    let n = length u in
+    let long : length (segment at end text) ≡ end - at = length-take-le (end - at) (drop at text) (omega (arith, length-drop at text, before, within)) in
+    let most : at + n ≤ end = omega (arith, before, sym long ∙ ap length is ∙ length-append u rest) in
+    let count : at + n - at ≡ n = omega arith in
+    let len : length (segment at (at + n) text) ≡ n = length-take-le (at + n - at) (drop at text) (omega (arith, length-drop at text, most, within)) ∙ count in
+    let same = same_by_front (segment at (at + n) text) (segment (at + n) end text) u rest len (sym (segment-cut text at (at + n) end (omega arith) most) ∙ is) in
+    (most, same.0, same.1)
+
+-- what stands at the front is a part
+pub front-stands : (P : List ℕ → Type 0) (text u rest : List ℕ) (at end : ℕ) → at ≤ end → end ≤ length text → P u → segment at end text ≡ u ++ rest → Stands P text at end (at + length u)
+front-stands P text u rest at end before within p is =
+    let cut = front-cut text u rest at end before within is in
+    (omega arith, cut.0, subst P (sym cut.1) p)
+
+-- "<", and a display name before it
+pub opening-none : (u : List ℕ) → Byte left_angle u → Opening u
+opening-none u is = (None, tt, is)
+
+pub opening-some : (u : List ℕ) → (DisplayName then Sws then Byte left_angle) u → Opening u
+opening-some u w = (Some w.0, w.2, (w.0, w.1, refl, w.3, w.4))
+
+-- a mark without blanks
+pub mark-alone : (b : ℕ) → Mark b (b ∷ [])
+mark-alone b = ([], b ∷ [], inl refl, (b ∷ [], [], refl, inl refl, refl), refl)
+
+-- a parameter without a value, and with one
+pub param-none : (text : List ℕ) (at end start behind : ℕ) → Stands (Byte semicolon) text at end start → Stands PlainRun text start end behind → Stands (PlainParam (segment start behind text, None)) text at end behind
+param-none text at end start behind mark run =
+    (omega (arith, mark.0, run.0), run.1, (segment at start text, segment start behind text, mark.2, (run-token (segment start behind text) run.2, refl), segment-cut text at start behind mark.0 run.0))
+
+pub param-some : (text : List ℕ) (at end start behind first to : ℕ) → Stands (Byte semicolon) text at end start → Stands PlainRun text start end behind → Stands (Byte equals) text behind end first → Stands PlainRun text first end to
+    → Stands (PlainParam (segment start behind text, Some (segment first to text))) text at end to
+param-some text at end start behind first to mark run equal value =
+    let name = segment start behind text in
+    let v = segment first to text in
+    let later : behind ≤ to = omega (arith, equal.0, value.0) in
+    let led : (Mark equals then Exactly v) (segment behind to text) =
+    (segment behind first text, v, subst (Mark equals) (sym equal.2) (mark-alone equals), refl, segment-cut text behind first to equal.0 value.0) in
+    let whole : (Exactly name then Mark equals then Exactly v) (segment start to text) =
+    (name, segment behind to text, refl, led, segment-cut text start behind to run.0 later) in
+    (omega (arith, mark.0, run.0, later), value.1, (segment at start text, segment start to text, mark.2, (run-token name run.2, inl (run-token v value.2), whole), segment-cut text at start to mark.0 (omega (arith, run.0, later))))
+
+-- a parameter before others
+pub params-part : (p : List ℕ × Option (List ℕ)) (ps : List (List ℕ × Option (List ℕ))) (text : List ℕ) (at end to : ℕ) → Stands (PlainParam p) text at end to → ParamsPart (segment to end text) ps → ParamsPart (segment at end text) (p ∷ ps)
+params-part p ps text at end to param later =
+    let rest = segment to end text in
+    let w = param.2 in
+    let front : segment at to text ≡ semicolon ∷ w.1 = w.4 ∙ ap (λ t. t ++ w.1) w.2 in
+    let whole : segment at end text ≡ semicolon ∷ (w.1 ++ rest) = segment-cut text at to end param.0 param.1 ∙ ap (λ t. t ++ rest) front in
+    let params : ParamsText (segment at end text) (p ∷ ps) = (semicolon ∷ [], w.1 ++ rest, mark-alone semicolon, (w.1, rest, w.3, later.1, refl), whole) in
+    (subst OpensSolid (sym whole) refl, params)
+
+pub params-behind : (p : List ℕ × Option (List ℕ)) (text : List ℕ) (at end to : ℕ) → Stands (PlainParam p) text at end to → SomeParams (segment to end text) → SomeParams (segment at end text)
+params-behind p text at end to param later = (p ∷ later.0, params-part p later.0 text at end to param later.1)
+
+-- none
+pub params-none : (text : List ℕ) (end : ℕ) → SomeParams (segment end end text)
+params-none text end = ([], (subst OpensSolid (sym (segment-none text end)) tt, segment-none text end))
+
+-- a part without blanks before it
+pub behind-self : (u : List ℕ) → BehindBlanks u u
+behind-self [] = refl
+behind-self (b ∷ u) = ([], b ∷ u, inl refl, refl, refl)
+
+-- an address
+pub address-plain : (u : List ℕ) → (Opening then SomeUri then Byte right_angle then SomeParams) u → SomeAddress u
+address-plain u w =
+    let opening = w.2 in
+    let uri = w.3.0 in
+    let params = w.3.3.1 in
+    let a : AddressParts = record { display = opening.0; uri_text = uri; uri = w.3.2.0; params = params } in
+    let fits : AddressFits a = record { display = opening.1; uri = w.3.2.1; params = w.3.3.3 } in
+    (a, name_addr fits (w.0, w.1, opening.2, (uri, w.3.1, refl, (w.3.3.0, params, w.3.3.2, behind-self params, w.3.3.4), w.3.4), w.4))

@@ -1,0 +1,95 @@
+-- Plain elements of Via.
+use Rattle.std.proofs.Common.{◌≡◌, ℕ, ◌≤◌, List, [], ◌∷◌, ◌++◌, Option, None, Some, refl, sym, ap, ◌∙◌, subst, inl, arith}
+use Rattle.std.specs.Prelude.{IfSome}
+use Rattle.std.specs.Option.{option_or}
+use Rattle.std.proofs.lemmas.List.{append-nil}
+use Rattle.sip_text.specs.Bytes.{colon, space}
+use Rattle.sip_text.specs.Text.{Byte, Exactly, ◌then◌}
+use Rattle.sip_text.specs.Grammar.{Blanks}
+use Rattle.sip_text.specs.Host.{HostParts, HostText, host_text}
+use Rattle.sip_text.specs.Uri.{Port}
+use Rattle.sip_message.specs.Params.{slash, Mark, BehindBlanks}
+use Rattle.sip_message.specs.Via.{ViaParts, ViaFits, ViaText, ViaParams, ColonPort}
+use Rattle.sip_message.specs.Elements.{Element}
+use Rattle.sip_message.specs.inner.ElementFronts.{FirstVia}
+use Rattle.sip_message.specs.inner.ParamFronts.{Param}
+use Rattle.sip_message.specs.inner.ViaFronts.{BranchOf}
+use Rattle.sip_message.specs.inner.Plain.{segment, Stands, PlainRun, PlainParam}
+use Rattle.sip_message.proofs.PlainLemmas.{segment-none, then-stands, stands-as, whole-stands, run-token, host-own, mark-alone, behind-self, params-part}
+use Rattle.sip_message.proofs.lemmas.params.Branch.{cons-branch}
+use Rattle.sip_message.proofs.lemmas.params.Closed.{blanks-space}
+use Rattle.sip_message.proofs.lemmas.via.Steps.{one-via}
+
+-- a parameter before those of a Via
+pub branch-behind : (p : Param) (found later : Option (List ℕ)) (text : List ℕ) (at end to : ℕ) → Stands (PlainParam p) text at end to → BranchOf p found
+    → ViaParams (segment to end text) later → ViaParams (segment at end text) (option_or found later)
+branch-behind p found later text at end to param is (ps, part, branch) = (p ∷ ps, params-part p ps text at end to param part, cons-branch p ps found later is branch)
+
+-- no parameters
+pub branch-none : (text : List ℕ) (end : ℕ) → ViaParams (segment end end text) None
+branch-none text end = subst (λ u. ViaParams u None) (sym (segment-none text end)) ([], (tt, refl), refl)
+
+pub or-none : (b : Option (List ℕ)) → option_or b None ≡ b
+or-none None = refl
+or-none (Some v) = refl
+
+-- a port behind its colon
+pub port-led : (text : List ℕ) (at end port to : ℕ) → Stands (Byte colon) text at end port → Stands Port text port end to
+    → Stands (λ u. ColonPort (Some (segment port to text)) u × IfSome (Some (segment port to text)) Port) text at end to
+port-led text at end port to mark is =
+    let p = segment port to text in
+    let led : Stands (Mark colon then Exactly p) text at end to =
+    then-stands (Mark colon) (Exactly p) text at end port to (stands-as (Byte colon) (Mark colon) text at end port (λ u byte. subst (Mark colon) (sym byte) (mark-alone colon)) mark) (is.0, is.1, refl) in
+    (led.0, led.1, (led.2, is.2))
+
+-- no port
+pub port-none : (text : List ℕ) (at end : ℕ) → at ≤ end → Stands (λ u. ColonPort None u × IfSome None Port) text at end at
+port-none text at end within = (omega arith, within, (segment-none text at, tt))
+
+-- a run is spelled as it stands
+spelled : (text : List ℕ) (at end to : ℕ) → Stands PlainRun text at end to → Stands (Exactly (segment at to text)) text at end to
+spelled text at end to run = (run.0, run.1, refl)
+
+marked : (text : List ℕ) (at end to : ℕ) → Stands (Byte slash) text at end to → Stands (Mark slash) text at end to
+marked text at end to mark = stands-as (Byte slash) (Mark slash) text at end to (λ u is. subst (Mark slash) (sym is) (mark-alone slash)) mark
+
+-- an element
+pub via-plain : (text : List ℕ) (at end name first version second transport sent_by behind params : ℕ) (host : HostParts) (port branch : Option (List ℕ))
+    → Stands PlainRun text at end name → Stands (Byte slash) text name end first → Stands PlainRun text first end version → Stands (Byte slash) text version end second
+    → Stands PlainRun text second end transport → Stands (Byte space) text transport end sent_by → Stands (λ u. HostText u host) text sent_by end behind
+    → Stands (λ u. ColonPort port u × IfSome port Port) text behind end params → ViaParams (segment params end text) branch
+    → ViaText (segment at end text) (record { protocol = segment at name text; version = segment first version text; transport = segment second transport text; host = host; port = port; params = segment params end text; branch = branch })
+via-plain text at end name first version second transport sent_by behind params host port branch protocol_is mark_is version_is mark_too transport_is space_is host_is port_is params_is =
+    let p = segment at name text in
+    let v = segment first version text in
+    let t = segment second transport text in
+    let tail = segment params end text in
+    let own = host-own (segment sent_by behind text) host host_is.2 in
+    let fits : ViaFits (record { protocol = p; version = v; transport = t; host = host; port = port; params = tail; branch = branch }) =
+    record { protocol = run-token p protocol_is.2; version = run-token v version_is.2; transport = run-token t transport_is.2; host = own.0; port = port_is.2.1; params = params_is } in
+    let T1 = BehindBlanks tail in
+    let T2 = ColonPort port then T1 in
+    let T3 = Exactly (host_text host) then T2 in
+    let T4 = Blanks then T3 in
+    let T5 = Exactly t then T4 in
+    let T6 = Mark slash then T5 in
+    let T7 = Exactly v then T6 in
+    let T8 = Mark slash then T7 in
+    let s1 : Stands T1 text params end end = whole-stands T1 text params end port_is.1 (behind-self tail) in
+    let s2 : Stands T2 text behind end end = then-stands (ColonPort port) T1 text behind end params end (port_is.0, port_is.1, port_is.2.0) s1 in
+    let s3 : Stands T3 text sent_by end end = then-stands (Exactly (host_text host)) T2 text sent_by end behind end (host_is.0, host_is.1, own.1) s2 in
+    let s4 : Stands T4 text transport end end = then-stands Blanks T3 text transport end sent_by end (space_is.0, space_is.1, subst Blanks (sym space_is.2) blanks-space) s3 in
+    let s5 : Stands T5 text second end end = then-stands (Exactly t) T4 text second end transport end (spelled text second end transport transport_is) s4 in
+    let s6 : Stands T6 text version end end = then-stands (Mark slash) T5 text version end second end (marked text version end second mark_too) s5 in
+    let s7 : Stands T7 text first end end = then-stands (Exactly v) T6 text first end version end (spelled text first end version version_is) s6 in
+    let s8 : Stands T8 text name end end = then-stands (Mark slash) T7 text name end first end (marked text name end first mark_is) s7 in
+    let s9 = then-stands (Exactly p) T8 text at end name end (spelled text at end name protocol_is) s8 in
+    (fits, s9.2)
+
+-- a value of one element
+pub via-first : (text : List ℕ) (v : ViaParts) → ViaText text v → FirstVia text (text, v)
+via-first text v is = ((v, [], (text, [], is, refl, sym (append-nil text))), ([], (is, sym (append-nil text), inl refl)))
+
+-- the only reading
+pub via-only : (text : List ℕ) (e : Element) → FirstVia text e → FirstVia text e × ((x : Element) → FirstVia text x → x ≡ e)
+via-only text e is = (is, λ x other. ap (λ y. y.0) (one-via text (x, other.1.0) (e, is.1.0) other.1.1 is.1.1))

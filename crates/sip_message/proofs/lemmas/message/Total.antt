@@ -1,0 +1,74 @@
+-- Bytes come to something: none are without a reading and without a fault.
+use Rattle.std.specs.Prelude.{ℕ, ◌+◌, List, [], ◌∷◌, Some}
+use Rattle.std.proofs.Common.{refl}
+use Rattle.sip_message.specs.declared.fault.Fault.{Fault}
+use Rattle.sip_message.specs.declared.name.Known.{Known}
+use Rattle.sip_message.specs.Field.{Field}
+use Rattle.sip_message.specs.Message.{Message}
+use Rattle.sip_message.specs.Outcome.{Outcome, gives, stops, Gives, Demand, Then, passes, stopped}
+use Rattle.sip_message.specs.Faults.{FieldOf, FieldsOf, Once, NamesOf, ReadOf, FaultOf}
+use Rattle.sip_message.specs.Reading.{Reading}
+use Rattle.sip_message.specs.Reads.{Reads}
+use Rattle.sip_message.proofs.lemmas.lines.OneWay.{head-lines}
+use Rattle.sip_message.proofs.lemmas.message.Faults.{read-text}
+use Rattle.sip_message.proofs.lemmas.asked.Parts.{has-parts}
+use Rattle.sip_message.proofs.lemmas.asked.OneWay.{parts-one}
+
+-- it cannot be that nothing comes of it
+abbrev Comes : {X : Type 0} → (Outcome X → Type 0) → Type 0
+Comes {X = X} S = ¬ ((out : Outcome X) → ¬ (S out))
+
+-- of a demand comes a value, or its fault
+comes-demand : {X : Type 0} (R : X → Type 0) (fault : Fault) → Comes (Demand R fault)
+comes-demand R fault never = never (stops fault) ((λ x is. never (gives x) is), refl)
+
+comes-gives : {X : Type 0} (x : X) → Comes (Gives x)
+comes-gives x never = never (gives x) refl
+
+-- of two steps in a row, what comes of the second, or the fault of the first
+comes-then : {X Y : Type 0} (S : Outcome X → Type 0) (T : X → Outcome Y → Type 0) → Comes S → ((x : X) → S (gives x) → Comes (T x)) → Comes (Then S T)
+comes-then {X = X} S T first later never = first at
+  where
+    at : (out : Outcome X) → ¬ (S out)
+    at (gives x) is = later x is (λ out then. never out (passes x is then))
+    at (stops fault) is = never (stops fault) (stopped fault is refl)
+
+comes-field : (n : ℕ) (line : List ℕ) → Comes (FieldOf n line)
+comes-field n line = comes-then _ _ (comes-demand _ _) (λ named _. comes-then _ _ (comes-demand _ _) (λ value _. comes-gives _))
+
+comes-fields : (n : ℕ) (lines : List (List ℕ)) → Comes (FieldsOf n lines)
+comes-fields n [] = comes-gives []
+comes-fields n (line ∷ lines) = comes-then _ _ (comes-field n line) (λ f _. comes-then _ _ (comes-fields (n + 1) lines) (λ fs _. comes-gives _))
+
+comes-once : (name : Known) (fields : List Field) → Comes (Once name fields)
+comes-once name fields = comes-then _ _ (comes-demand _ _) (λ _ _. comes-demand _ _)
+
+comes-names : (fields : List Field) → Comes (NamesOf fields)
+comes-names fields =
+    comes-then _ _ (comes-demand _ _) (λ via _. comes-then _ _ (comes-once _ fields) (λ _ _. comes-then _ _ (comes-once _ fields) (λ _ _.
+    comes-then _ _ (comes-once _ fields) (λ _ _. comes-then _ _ (comes-once _ fields) (λ cseq _. comes-then _ _ (comes-demand _ _) (λ _ _. comes-gives _))))))
+
+-- of bytes, a message or a fault
+comes-read : (bytes : List ℕ) → Comes (ReadOf bytes)
+comes-read bytes =
+    comes-then _ _ (comes-demand _ _) (λ cut is. comes-then _ _ (comes-demand _ _) (λ _ _. λ never.
+    let lines = head-lines bytes cut.0 cut.1 is in
+    comes-then _ _ (comes-demand _ _) (λ start _. comes-then _ _ (comes-fields 1 lines.1) (λ fields _. comes-then _ _ (comes-names fields) (λ names _.
+    comes-then _ _ (comes-then _ _ (comes-demand _ _) (λ _ _. comes-then _ _ (comes-demand _ _) (λ _ _. comes-then _ _ (comes-demand _ _) (λ _ _.
+    comes-then _ _ (comes-demand _ _) (λ _ _. comes-gives _))))) (λ body _. comes-gives _))))
+    (λ out of_lines. never out (lines.0, lines.1, lines.2, of_lines))))
+
+-- a message has the parts of its named fields
+read-reads : (bytes : List ℕ) (m : Message) → ReadOf bytes (gives m) → (r : Reading) × Reads bytes r
+read-reads bytes m is =
+    let text = read-text bytes m is in
+    let parts = has-parts bytes m text in
+    (record { message = m; parts = parts.0 }, record { text = text; parts = record { is = parts.1; only = λ q other. parts-one m.fields q parts.0 other parts.1 } })
+
+-- so bytes have a reading or a fault
+pub reading-or-fault : (bytes : List ℕ) → ((r : Reading) → ¬ (Reads bytes r)) → ¬ ((fault : Fault) → ¬ (FaultOf bytes (Some fault)))
+reading-or-fault bytes no_reading no_fault = comes-read bytes at
+  where
+    at : (out : Outcome Message) → ¬ (ReadOf bytes out)
+    at (gives m) is = let one = read-reads bytes m is in no_reading one.0 one.1
+    at (stops fault) is = no_fault fault is

@@ -1,0 +1,17 @@
+use Rattle.sip_text.specs.Text.{Byte, ◌then◌}
+use Rattle.sip_message.specs.Params.{right_angle}
+use Rattle.sip_message.specs.inner.Plain.{segment, Opening, SomeUri, SomeParams}
+use Rattle.sip_message.proofs.PlainLemmas.{then-stands, whole-stands, address-plain}
+use Rattle.sip_message.proofs.plain.is_plain_address.Goals as goal
+
+pub returns : goal.returns
+returns c = λ so.
+    let m = c.args.masks.now in
+    let end = c.args.end in
+    let inner = c.in-Some.inner in
+    let close = c.in-Some-past_uri.close in
+    let params = c.in-Some-past_byte.params in
+    let behind = whole-stands SomeParams m params end c.in-Some-past_byte.ensures.1 (c.are_plain_params.ensures so) in
+    let closed = then-stands (Byte right_angle) SomeParams m close end params end c.in-Some-past_byte.ensures behind in
+    let uri = then-stands SomeUri (Byte right_angle then SomeParams) m inner end close end c.in-Some-past_uri.ensures closed in
+    address-plain (segment c.args.at end m) (then-stands Opening (SomeUri then Byte right_angle then SomeParams) m c.args.at end inner end c.in-Some.ensures uri).2

@@ -1,0 +1,21 @@
+use Rattle.std.proofs.lemmas.Option.{IfSome_then}
+use Rattle.sip_text.specs.Text.{Byte, ◌then◌}
+use Rattle.sip_text.specs.Grammar.{Sws}
+use Rattle.sip_message.specs.Params.{left_angle}
+use Rattle.sip_message.specs.Address.{DisplayName}
+use Rattle.sip_message.specs.inner.Plain.{Opening}
+use Rattle.sip_message.proofs.PlainLemmas.{stands-as, then-stands, opening-none, opening-some}
+use Rattle.sip_message.proofs.plain.past_opening.Goals as goal
+
+pub returns-in-Some : goal.returns-in-Some
+returns-in-Some c = stands-as (Byte left_angle) Opening c.args.masks.now c.args.at c.args.end c.in-Some.inner opening-none c.in-Some.ensures
+
+pub returns : goal.returns
+returns c =
+    let m = c.args.masks.now in
+    let name = c.in_ok-name.name in
+    let behind = c.past_space.result in
+    IfSome_then c.past_byte-2.result c.past_byte-2.ensures (λ to angle.
+    stands-as (DisplayName then Sws then Byte left_angle) Opening m c.args.at c.args.end to opening-some
+    (then-stands DisplayName (Sws then Byte left_angle) m c.args.at c.args.end name to c.in_ok-name.ensures
+    (then-stands Sws (Byte left_angle) m name c.args.end behind to c.past_space.ensures angle)))

@@ -1,0 +1,23 @@
+use Rattle.std.proofs.Common.{None, Some, sym, subst}
+use Rattle.sip_message.specs.inner.Plain.{segment, Stands, PlainParam}
+use Rattle.sip_message.proofs.PlainLemmas.{param-none, param-some}
+use Rattle.sip_message.proofs.plain.past_param.Goals as goal
+
+pub returns-in_default : goal.returns-in_default
+returns-in_default c =
+    let m = c.args.masks.now in
+    let start = c.in_ok-start.start in
+    let behind = c.in_ok-behind.behind in
+    subst (λ t. Stands (PlainParam (segment start behind t, None)) m c.args.at c.args.end behind) (sym c.text.ensures)
+    (param-none m c.args.at c.args.end start behind c.in_ok-start.ensures c.in_ok-behind.ensures)
+
+pub returns : goal.returns
+returns c =
+    let m = c.args.masks.now in
+    let start = c.in_ok-start.start in
+    let behind = c.in_ok-behind.behind in
+    let first = c.in-Some.first in
+    let to = c.in_ok-to.to in
+    let param = param-some m c.args.at c.args.end start behind first to c.in_ok-start.ensures c.in_ok-behind.ensures c.in-Some.ensures c.in_ok-to.ensures in
+    subst (λ t. Stands (PlainParam (segment start behind c.text.result.now, Some (segment first to t))) m c.args.at c.args.end to) (sym c.text-2.ensures)
+    (subst (λ t. Stands (PlainParam (segment start behind t, Some (segment first to m))) m c.args.at c.args.end to) (sym c.text.ensures) param)

@@ -1,0 +1,8 @@
+use Rattle.sip_text.specs.Bytes.{space}
+use Rattle.sip_text.specs.Text.{Byte}
+use Rattle.sip_text.specs.Grammar.{Sws}
+use Rattle.sip_message.proofs.PlainLemmas.{stands-as, sws-space}
+use Rattle.sip_message.proofs.plain.past_space.Goals as goal
+
+pub returns-in-Some : goal.returns-in-Some
+returns-in-Some c = stands-as (Byte space) Sws c.args.masks.now c.args.at c.args.end c.in-Some.behind sws-space c.in-Some.ensures

@@ -1,0 +1,21 @@
+use Rattle.std.proofs.Common.{[], arith}
+use Rattle.sip_text.specs.Bytes.{space}
+use Rattle.sip_text.specs.Text.{Byte, ◌then◌}
+use Rattle.sip_message.specs.inner.AddressFronts.{Words}
+use Rattle.sip_message.specs.inner.Plain.{PlainRun}
+use Rattle.sip_message.proofs.PlainLemmas.{stands-as, then-stands, words-one, words-more, part-longer}
+use Rattle.sip_message.proofs.plain.past_words.Goals as goal
+
+pub words-init : goal.words-init
+words-init c = stands-as PlainRun Words c.args.masks.now c.args.at c.args.end c.in_ok-to.to words-one c.in_ok-to.ensures
+
+pub words-smaller : goal.words-smaller
+words-smaller c =
+    omega (arith, part-longer c.args.masks.now [] c.words.to c.in-Some.word space c.in-Some.ensures.2, c.in-Some-past_run.ensures.0, c.in-Some-past_run.ensures.1)
+
+pub words-preserved : goal.words-preserved
+words-preserved c =
+    let m = c.args.masks.now in
+    stands-as (Words then Byte space then PlainRun) Words m c.args.at c.args.end c.in-Some-past_run.next words-more
+    (then-stands Words (Byte space then PlainRun) m c.args.at c.args.end c.words.to c.in-Some-past_run.next c.words.invariant
+    (then-stands (Byte space) PlainRun m c.words.to c.args.end c.in-Some.word c.in-Some-past_run.next c.in-Some.ensures c.in-Some-past_run.ensures))

@@ -1,0 +1,38 @@
+use Rattle.std.proofs.Common.{◌≡◌, None, option_copied, sym, ap, ◌∙◌, subst, arith}
+use Rattle.std.specs.Option.{option_or}
+use Rattle.sip_message.specs.Via.{ViaParams}
+use Rattle.sip_message.specs.inner.ParamFronts.{Param}
+use Rattle.sip_message.specs.inner.Plain.{segment}
+use Rattle.sip_message.proofs.PlainLemmas.{param-longer}
+use Rattle.sip_message.proofs.PlainViaLemmas.{branch-behind, branch-none, or-none}
+use Rattle.sip_message.proofs.lemmas.params.Branch.{copied-or, or-assoc}
+use Rattle.sip_message.proofs.plain_via.plain_branch.Goals as goal
+
+pub params-init : goal.params-init
+params-init c = (c.requires.0, λ later params. params)
+
+pub params-smaller : goal.params-smaller
+params-smaller c =
+    let p : Param = (c.in-Some.name.now, option_copied c.in-Some.value) in
+    omega (arith, param-longer p c.args.masks.now c.params.from c.args.end c.in-Some.to c.in-Some.ensures, c.in-Some.ensures.1)
+
+pub params-preserved : goal.params-preserved
+params-preserved c =
+    let m = c.args.masks.now in
+    let p : Param = (c.in-Some.name.now, option_copied c.in-Some.value) in
+    let old = option_copied c.params.branch in
+    let found = option_copied c.in_ok-branch_of.field-0 in
+    let new = ap option_copied c.or-branch.ensures ∙ copied-or c.params.branch c.in_ok-branch_of.field-0 in (
+      c.in-Some.ensures.1,
+      λ later params.
+          let all = c.params.invariant.1 (option_or found later) (branch-behind p found later m c.params.from c.args.end c.in-Some.to c.in-Some.ensures c.in_ok-branch_of.ensures params) in
+          subst (ViaParams (segment c.args.at c.args.end m)) (or-assoc old found later ∙ ap (λ b. option_or b later) (sym new)) all,
+    )
+
+pub returns : goal.returns
+returns c =
+    let m = c.args.masks.now in
+    let from = c.params.from in
+    let end : c.args.end ≡ from = omega (arith, c.params.invariant.0, c.params-test.false) in
+    let none = subst (λ k. ViaParams (segment from k m) None) (sym end) (branch-none m from) in
+    subst (ViaParams (segment c.args.at c.args.end m)) (or-none (option_copied c.params.branch)) (c.params.invariant.1 None none)

@@ -1,0 +1,14 @@
+use Rattle.std.proofs.Common.{ℕ, ◌-◌, ◌≤◌, List, Option, option_copied}
+use Rattle.std.specs.Option.{option_or}
+use Rattle.sip_message.specs.Via.{ViaParams}
+use Rattle.sip_message.specs.inner.Plain.{segment}
+use Rattle.sip_message.proofs.plain_via.plain_branch.Given as goal
+
+-- parameters from here on are parameters from the first place on, and a branch that was found counts
+abbrev pub invariant-params : goal.invariant-params
+invariant-params l =
+    (l.from ≤ l.end)
+    × ((later : Option (List ℕ)) → ViaParams (segment l.from l.end l.masks) later → ViaParams (segment l.at l.end l.masks) (option_or (option_copied l.branch) later))
+
+abbrev pub decreases-params : goal.decreases-params
+decreases-params l = l.end - l.from

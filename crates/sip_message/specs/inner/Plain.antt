@@ -1,0 +1,44 @@
+-- Plain parts of values, each between two places of a text.
+use Rattle.std.specs.Prelude.{◌≡◌, ℕ, ◌-◌, ◌≤◌, List, Option, IfSome, take, drop}
+use Rattle.sip_text.specs.Bytes.{semicolon}
+use Rattle.sip_text.specs.Text.{One, Byte, ◌then◌, OneOrMore}
+use Rattle.sip_text.specs.Host.{HostParts, HostText, host_text}
+use Rattle.sip_text.specs.Uri.{Port, UriParts, UriText, hostport_text}
+use Rattle.sip_masks.specs.Marks.{is_plain}
+use Rattle.sip_message.specs.Params.{ParamText, ParamsPart}
+use Rattle.sip_message.specs.Address.{AddressParts, AddressText, DisplayName, BeforeUri}
+
+-- what stands from one place up to another
+abbrev pub segment : ℕ → ℕ → List ℕ → List ℕ
+segment at to text = take (to - at) (drop at text)
+
+-- up to a place that is no later than the end stands a text of P
+abbrev pub Stands : (List ℕ → Type 0) → List ℕ → ℕ → ℕ → ℕ → Type 0
+Stands P text at end to = (at ≤ to) × (to ≤ end) × P (segment at to text)
+
+-- plain bytes
+abbrev pub PlainRun : List ℕ → Type 0
+PlainRun = OneOrMore (One is_plain)
+
+-- a host, and the port behind its colon
+abbrev pub HostPort : List ℕ → Type 0
+HostPort text =
+    (host : HostParts) × (port : Option (List ℕ)) × HostText (host_text host) host × IfSome port Port
+    × (text ≡ hostport_text host port)
+
+abbrev pub SomeUri : List ℕ → Type 0
+SomeUri text = (parts : UriParts) × UriText text parts
+
+-- [ display-name ] SWS "<"
+abbrev pub Opening : List ℕ → Type 0
+Opening text = (display : Option (List ℕ)) × IfSome display DisplayName × BeforeUri display text
+
+-- SEMI generic-param
+abbrev pub PlainParam : List ℕ × Option (List ℕ) → List ℕ → Type 0
+PlainParam param = Byte semicolon then (λ t. ParamText t param)
+
+abbrev pub SomeParams : List ℕ → Type 0
+SomeParams text = (params : List (List ℕ × Option (List ℕ))) × ParamsPart text params
+
+abbrev pub SomeAddress : List ℕ → Type 0
+SomeAddress text = (a : AddressParts) × AddressText text a

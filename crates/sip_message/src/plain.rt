@@ -1,0 +1,209 @@
+//! Plain parts of values, found by the masks of their text: each is told by the place behind it. What is not plain may
+//! still be well spelled, and is left to the readers of all values.
+ghost use Rattle.std.specs.Prelude.{◌≤◌, IfSome, IsTrue, codes, length, option_copied};
+ghost use Rattle.sip_text.specs.Grammar.{Sws};
+ghost use Rattle.sip_text.specs.Host.{HostText, host_parts};
+ghost use Rattle.sip_text.specs.Text.{Byte, Exactly};
+ghost use Rattle.sip_text.specs.Uri.{Port};
+ghost use Rattle.sip_message.specs.Address.{DisplayName};
+ghost use Rattle.sip_message.specs.inner.AddressFronts.{Words};
+ghost use Rattle.sip_message.specs.inner.Plain.{segment, Stands, PlainRun, PlainParam, HostPort, SomeUri, Opening, SomeParams, SomeAddress};
+
+use crate::params::cut_quoted;
+use sip_masks::Masks;
+use sip_text::{Host, is_port, read_host};
+
+/// Whether an address stands from one place up to another, with a URI in `<` and `>`.
+pub(crate) fn is_plain_address(masks: &Masks<'_, '_>, at: usize, end: usize) -> bool
+    requires { (at ≤ end) × (end ≤ length masks.now) }
+    ensures { IsTrue result → SomeAddress (segment at end masks.now) }
+{
+    let Some(inner) = past_opening(masks, at, end) else {
+        return false;
+    };
+    let Some(close) = past_uri(masks, inner, end) else {
+        return false;
+    };
+    let Some(params) = past_byte(masks, close, end, b'>') else {
+        return false;
+    };
+    are_plain_params(masks, params, end)
+}
+
+// The place behind the display name, if there is one, and the `<`.
+fn past_opening(masks: &Masks<'_, '_>, at: usize, end: usize) -> Option<usize>
+    requires { (at ≤ end) × (end ≤ length masks.now) }
+    ensures { IfSome result (Stands Opening masks.now at end) }
+{
+    if let Some(inner) = past_byte(masks, at, end, b'<') {
+        return Some(inner);
+    }
+    let name = past_name(masks, at, end)?;
+    past_byte(masks, past_space(masks, name, end), end, b'<')
+}
+
+// The place behind the SP, if there is one.
+fn past_space(masks: &Masks<'_, '_>, at: usize, end: usize) -> usize
+    requires { (at ≤ end) × (end ≤ length masks.now) }
+    ensures { Stands Sws masks.now at end result }
+{
+    match past_byte(masks, at, end, b' ') {
+        Some(behind) => behind,
+        None => at,
+    }
+}
+
+// The place behind the display name.
+fn past_name(masks: &Masks<'_, '_>, at: usize, end: usize) -> Option<usize>
+    requires { (at ≤ end) × (end ≤ length masks.now) }
+    ensures { IfSome result (Stands DisplayName masks.now at end) }
+{
+    match cut_quoted(&masks.text()[at..end]) {
+        Some((name, _)) => Some(at + name.len()),
+        None => past_words(masks, at, end),
+    }
+}
+
+// The place behind plain runs with a SP between any two.
+fn past_words(masks: &Masks<'_, '_>, at: usize, end: usize) -> Option<usize>
+    requires { end ≤ length masks.now }
+    ensures { IfSome result (Stands Words masks.now at end) }
+{
+    let mut to = past_run(masks, at, end)?;
+    'words: loop {
+        let Some(word) = past_byte(masks, to, end, b' ') else {
+            return Some(to);
+        };
+        match past_run(masks, word, end) {
+            Some(next) => to = next,
+            None => return Some(to),
+        }
+    }
+}
+
+/// The place behind a SIP URI that has no parameters and no headers.
+pub(crate) fn past_uri(masks: &Masks<'_, '_>, at: usize, end: usize) -> Option<usize>
+    requires { (at ≤ end) × (end ≤ length masks.now) }
+    ensures { IfSome result (Stands SomeUri masks.now at end) }
+{
+    let start = past_sip(masks, at, end)?;
+    let user = past_run(masks, start, end)?;
+    match past_byte(masks, user, end, b'@') {
+        Some(host) => past_hostport(masks, host, end),
+        None => past_hostport(masks, start, end),
+    }
+}
+
+// The place behind `sip:`.
+fn past_sip(masks: &Masks<'_, '_>, at: usize, end: usize) -> Option<usize>
+    requires { (at ≤ end) × (end ≤ length masks.now) }
+    ensures { IfSome result (Stands (Exactly (codes "sip:")) masks.now at end) }
+{
+    match &masks.text()[at..end] {
+        [b's', b'i', b'p', b':', ..] => Some(at + 4),
+        _ => None,
+    }
+}
+
+// The place behind the host, and the port if there is one.
+fn past_hostport(masks: &Masks<'_, '_>, at: usize, end: usize) -> Option<usize>
+    requires { end ≤ length masks.now }
+    ensures { IfSome result (Stands HostPort masks.now at end) }
+{
+    let (_, host) = past_host(masks, at, end)?;
+    match past_byte(masks, host, end, b':') {
+        Some(port) => past_port(masks, port, end),
+        None => Some(host),
+    }
+}
+
+/// The host, and the place behind it.
+pub(crate) fn past_host<'a>(
+    masks: &Masks<'a, '_>,
+    at: usize,
+    end: usize,
+) -> Option<(Host<'a>, usize)>
+    requires { end ≤ length masks.now }
+    ensures { IfSome result (λ found. Stands (λ u. HostText u (host_parts found.0)) masks.now at end found.1) }
+{
+    let to = past_run(masks, at, end)?;
+    let host = read_host(&masks.text()[at..to])?;
+    Some((host, to))
+}
+
+/// The place behind the port.
+pub(crate) fn past_port(masks: &Masks<'_, '_>, at: usize, end: usize) -> Option<usize>
+    requires { end ≤ length masks.now }
+    ensures { IfSome result (Stands Port masks.now at end) }
+{
+    let to = past_run(masks, at, end)?;
+    if is_port(&masks.text()[at..to]) {
+        Some(to)
+    } else {
+        None
+    }
+}
+
+// Whether parameters stand from one place up to another.
+fn are_plain_params(masks: &Masks<'_, '_>, at: usize, end: usize) -> bool
+    requires { (at ≤ end) × (end ≤ length masks.now) }
+    ensures { IsTrue result → SomeParams (segment at end masks.now) }
+{
+    let mut from = at;
+    'params: while from < end {
+        let Some((_, _, to)) = past_param(masks, from, end) else {
+            return false;
+        };
+        from = to;
+    }
+    true
+}
+
+/// The name of a parameter, its value if it has one, and the place behind it.
+#[inline]
+pub(crate) fn past_param<'a>(
+    masks: &Masks<'a, '_>,
+    at: usize,
+    end: usize,
+) -> Option<(&'a [u8], Option<&'a [u8]>, usize)>
+    requires { end ≤ length masks.now }
+    ensures { IfSome result (λ p. Stands (PlainParam (p.0.now, option_copied p.1)) masks.now at end p.2) }
+{
+    let start = past_byte(masks, at, end, b';')?;
+    let behind = past_run(masks, start, end)?;
+    let name = &masks.text()[start..behind];
+    let Some(first) = past_byte(masks, behind, end, b'=') else {
+        return Some((name, None, behind));
+    };
+    let to = past_run(masks, first, end)?;
+    Some((name, Some(&masks.text()[first..to]), to))
+}
+
+/// The place behind the run of plain bytes.
+#[inline]
+pub(crate) fn past_run(masks: &Masks<'_, '_>, at: usize, end: usize) -> Option<usize>
+    requires { end ≤ length masks.now }
+    ensures { IfSome result (Stands PlainRun masks.now at end) }
+{
+    if at >= end {
+        return None;
+    }
+    let len = masks.run_at(at);
+    if len == 0 || len > end - at {
+        return None;
+    }
+    Some(at + len)
+}
+
+/// The place behind the byte.
+#[inline]
+pub(crate) fn past_byte(masks: &Masks<'_, '_>, at: usize, end: usize, byte: u8) -> Option<usize>
+    requires { end ≤ length masks.now }
+    ensures { IfSome result (Stands (Byte byte) masks.now at end) }
+{
+    if at < end && masks.text()[at] == byte {
+        Some(at + 1)
+    } else {
+        None
+    }
+}

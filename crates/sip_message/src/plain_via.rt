@@ -1,0 +1,71 @@
+//! Elements of Via whose parts are plain, with no blanks but the one before the host.
+ghost use Rattle.std.specs.Prelude.{◌≤◌, IfSome, length, option_copied};
+ghost use Rattle.sip_text.specs.Uri.{Port};
+ghost use Rattle.sip_message.specs.Via.{ColonPort, ViaParams};
+ghost use Rattle.sip_message.specs.ViaParts.{element};
+ghost use Rattle.sip_message.specs.inner.ElementFronts.{FirstVia};
+ghost use Rattle.sip_message.specs.inner.Plain.{segment, Stands};
+
+use crate::plain::{past_byte, past_host, past_param, past_port, past_run};
+use crate::via::{Via, branch_of};
+use sip_masks::Masks;
+
+/// The one element of Via from one place up to another.
+pub(crate) fn plain_via<'a>(masks: &Masks<'a, '_>, at: usize, end: usize) -> Option<Via<'a>>
+    requires { (at ≤ end) × (end ≤ length masks.now) }
+    ensures { IfSome result (λ v. FirstVia (segment at end masks.now) (element v)) }
+{
+    let text = masks.text();
+    let name = past_run(masks, at, end)?;
+    let first = past_byte(masks, name, end, b'/')?;
+    let version = past_run(masks, first, end)?;
+    let second = past_byte(masks, version, end, b'/')?;
+    let transport = past_run(masks, second, end)?;
+    let sent_by = past_byte(masks, transport, end, b' ')?;
+    let (host, behind) = past_host(masks, sent_by, end)?;
+    let (port, params) = past_led_port(masks, behind, end)?;
+    let branch = plain_branch(masks, params, end)?;
+    Some(Via {
+        whole: &text[at..end],
+        protocol: &text[at..name],
+        version: &text[first..version],
+        transport: &text[second..transport],
+        host,
+        port,
+        params: &text[params..end],
+        branch,
+    })
+}
+
+// The port, if there is one, and the place behind it.
+fn past_led_port<'a>(
+    masks: &Masks<'a, '_>,
+    at: usize,
+    end: usize,
+) -> Option<(Option<&'a [u8]>, usize)>
+    requires { (at ≤ end) × (end ≤ length masks.now) }
+    ensures { IfSome result (λ found. Stands (λ u. ColonPort (option_copied found.0) u × IfSome (option_copied found.0) Port) masks.now at end found.1) }
+{
+    let Some(port) = past_byte(masks, at, end, b':') else {
+        return Some((None, at));
+    };
+    let to = past_port(masks, port, end)?;
+    Some((Some(&masks.text()[port..to]), to))
+}
+
+// The branch of the parameters from one place up to another.
+fn plain_branch<'a>(masks: &Masks<'a, '_>, at: usize, end: usize) -> Option<Option<&'a [u8]>>
+    requires { (at ≤ end) × (end ≤ length masks.now) }
+    ensures { IfSome result (λ branch. ViaParams (segment at end masks.now) (option_copied branch)) }
+{
+    let mut branch = None;
+    let mut from = at;
+    'params: while from < end {
+        let Some((name, value, to)) = past_param(masks, from, end) else {
+            return None;
+        };
+        branch = branch.or(branch_of(name, value)?);
+        from = to;
+    }
+    Some(branch)
+}

@@ -1,0 +1,10 @@
+use Rattle.std.proofs.Common.{Some, slice_get, ap, subst}
+use Rattle.indexmap.specs.IndexMap.{values, with_entries}
+use Rattle.sip_states.proofs.TablesLemmas.{set_value_at-same}
+use Rattle.sip_states.proofs.tables.trim_at.Goals as goal
+
+pub returns : goal.returns
+returns g c =
+    let sets = c.args.sets.now in
+    let at = rw (← c.trim.ensures) at c.index_mut.ensures.value in
+    ap (with_entries sets) (set_value_at-same sets.entries c.args.index c.trim.new.self at)

@@ -1,0 +1,5 @@
+use Rattle.sip_verdict.proofs.HasVerdict.{has_verdict}
+use Rattle.sip_verdict.proofs.laws.an_input_has_a_verdict.Goals as goal
+
+pub returns : goal.returns
+returns c = has_verdict

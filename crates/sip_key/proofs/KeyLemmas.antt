@@ -27,7 +27,7 @@ pub texts_apart : (branch sent_by method text : List ℕ) (branch_end sent_by_en
     → branch_end ≡ length branch → sent_by_end ≡ length (branch ++ sent_by)
     → (take branch_end text ≡ branch) × (slice_range text branch_end sent_by_end ≡ sent_by) × (drop sent_by_end text ≡ method)
 texts_apart branch sent_by method text branch_end sent_by_end whole first second = rw (whole, first, second) (
-      first_text branch sent_by method,
-      second_text branch sent_by method,
-      third_text branch sent_by method,
-    )
+  first_text branch sent_by method,
+  second_text branch sent_by method,
+  third_text branch sent_by method,
+)

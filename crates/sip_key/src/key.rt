@@ -81,7 +81,10 @@ impl Key {
         ensures { IfOk result (λ key. key ≡ record { role = Server; branch = folded branch.now; sent_by = sent_by host.now (option_copied port.entry); method = method.now }) }
     {
         let sent_by_room = host.len() + MOST_PORT_BYTES;
-        let room = branch.len().saturating_add(sent_by_room).saturating_add(method.len());
+        let room = branch
+            .len()
+            .saturating_add(sent_by_room)
+            .saturating_add(method.len());
         let mut text = folded_texts(alloc, room, branch, host)?;
         push_port(&mut text, port)?;
         let sent_by_end = text.len();

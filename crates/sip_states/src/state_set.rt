@@ -132,7 +132,7 @@ impl<M: Machine> StateSet<M> {
     pub(crate) fn trim(&mut self)
         ensures { self.new ≡ self.old }
     {
-        self.states.shrink_to_fit();
+        fit(&mut self.states);
         self.found = Vec::new(*self.found.allocator());
     }
 
@@ -174,5 +174,20 @@ impl<M: Machine> StateSet<M> {
         ensures { result.now ≡ self.now.states }
     {
         &self.states
+    }
+}
+
+/// Moves items to a place of their own size, where there is memory for one.
+fn fit<T: Drop>(items: &mut Vec<T>)
+    ensures { items.new.items ≡ items.old.items }
+{
+    if items.capacity() == items.len() {
+        return;
+    }
+    let Ok(mut fitting) = Vec::with_capacity(*items.allocator(), items.len()) else {
+        return;
+    };
+    if fitting.append(items).is_ok() {
+        *items = fitting;
     }
 }

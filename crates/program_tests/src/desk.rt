@@ -1,8 +1,8 @@
 //! The platform of the tests.
 ghost use Rattle.std.specs.Prelude.{None, Some, if◌then◌else◌, bytes_eq, map, string_bytes};
 
-use sip_program::Platform;
-use std::hash::{BuildHasherDefault, FoldHasher};
+use crate::seeds::Same;
+use sip_program::{Platform, Seeded};
 use std::io;
 
 /// A platform that gives these words and has one file.
@@ -18,7 +18,7 @@ impl<'a> Platform for Desk<'a> {
 
     ghost file = { λ desk path. if bytes_eq path desk.path.now then Some desk.bytes.now else None };
 
-    type Seed = BuildHasherDefault<FoldHasher>;
+    type Seed = Seeded;
 
     type File = &'a [u8];
 
@@ -27,8 +27,8 @@ impl<'a> Platform for Desk<'a> {
         Ok(self.words.clone()?)
     }
 
-    fn seed(&self) -> io::Result<BuildHasherDefault<FoldHasher>> {
-        Ok(BuildHasherDefault::<FoldHasher>::new())
+    fn seed(&self) -> io::Result<Seeded> {
+        Seeded::new(&Same(1))
     }
 
     fn open(&self, path: &str) -> io::Result<&'a [u8]> {

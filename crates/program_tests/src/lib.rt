@@ -6,4 +6,6 @@ mod desk;
 #[cfg(test)]
 mod forms;
 #[cfg(test)]
+mod seeds;
+#[cfg(test)]
 mod told;

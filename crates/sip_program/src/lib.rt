@@ -9,6 +9,7 @@ mod host;
 mod output;
 mod platform;
 mod running;
+mod seeded;
 mod status;
 mod system;
 
@@ -18,4 +19,5 @@ pub use host::Host;
 pub use output::Output;
 pub use platform::Platform;
 pub use running::{program, run};
+pub use seeded::{Seeded, SeededHasher};
 pub use system::System;

@@ -3,9 +3,8 @@
 
 ghost use Rattle.std.specs.Prelude.{None};
 
-use sip_program::Platform;
+use sip_program::{Platform, Seeded};
 use std::fs::File;
-use std::hash::RandomState;
 use std::{env, io};
 
 /// The platform as std gives it.
@@ -26,7 +25,7 @@ impl Platform for StdPlatform {
 
     ghost file = { λ _ _. None };
 
-    type Seed = RandomState;
+    type Seed = Seeded;
 
     type File = File;
 
@@ -35,9 +34,9 @@ impl Platform for StdPlatform {
         Ok(env::args(&self.rt)?.collect(self.rt.alloc())?)
     }
 
-    // `RandomState::new`: a seed of the system's random bytes.
-    fn seed(&self) -> io::Result<RandomState> {
-        RandomState::new(&self.rt)
+    // `Seeded::new` over the system's random bytes.
+    fn seed(&self) -> io::Result<Seeded> {
+        Seeded::new(&self.rt)
     }
 
     // `File::open`: the file at this very path, to be read from its first byte.

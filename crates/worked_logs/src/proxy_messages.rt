@@ -2,7 +2,7 @@
 //! log is that of ss1. A message that ss1 sends ends in `>`. The ACK for the 200 has a branch of its own, as RFC 3261 section 8.1.1.7 demands.
 
 /// The messages of a call that is cancelled.
-pub(crate) const CANCELLED: &[(&str, &str)] = &[
+pub const CANCELLED: &[(&str, &str)] = &[
     (
         "INVITE",
         "INVITE sip:bob@biloxi.example.com SIP/2.0\r\n\
@@ -207,7 +207,7 @@ pub(crate) const CANCELLED: &[(&str, &str)] = &[
 ];
 
 /// The messages of a call that is set up and ended.
-pub(crate) const SESSION: &[(&str, &str)] = &[
+pub const SESSION: &[(&str, &str)] = &[
     (
         "INVITE-1",
         "INVITE sip:bob@biloxi.example.com SIP/2.0\r\n\

@@ -1,9 +1,8 @@
-//! Logs that are judged and listed while memory is refused: `tests/growths` refuses each growth in turn, and the test then fails with want
+//! Logs that are judged while memory is refused: `tests/growths` refuses each growth in turn, and the test then fails with want
 //! of memory or passes with the answer of ample memory.
-use crate::listings::list_rows;
-use crate::rows::STORED;
 use crate::verdicts::judge_rows;
 use std::test::Fail;
+use worked_logs::STORED;
 
 #[test]
 fn refused_while_a_server_repeats(rt: HostRuntime) -> Result<(), Fail> {

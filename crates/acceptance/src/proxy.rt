@@ -3,23 +3,23 @@
 use crate::verdicts::{judge_changes, judges};
 use std::test::Fail;
 use worked_logs::{
-    CANCELLED, CANCELLED_LOG, OF_A_CALL, OF_A_CANCELLED_CALL, OF_THE_END_OF_A_CALL,
-    OF_THE_END_OF_A_CANCELLED_CALL, SESSION, SESSION_LOG, log_with,
+    CANCELLED_LOG, OF_A_CALL, OF_A_CANCELLED_CALL, OF_THE_END_OF_A_CALL,
+    OF_THE_END_OF_A_CANCELLED_CALL, SESSION_LOG, cancelled, log_with, session,
 };
 
 #[test]
 fn judges_a_proxy(rt: HostRuntime) -> Result<(), Fail> {
-    let log = log_with(rt.alloc(), CANCELLED_LOG, CANCELLED)?;
+    let log = log_with(rt.alloc(), CANCELLED_LOG, cancelled())?;
     let want = "legal entries 15 transactions 4";
     judges(&rt, log.as_str(), want, CANCELLED_LOG)?;
-    let log = log_with(rt.alloc(), SESSION_LOG, SESSION)?;
+    let log = log_with(rt.alloc(), SESSION_LOG, session())?;
     let want = "legal entries 18 transactions 7";
     judges(&rt, log.as_str(), want, SESSION_LOG)
 }
 
 #[test]
 fn judges_a_cancelled_call(rt: HostRuntime) -> Result<(), Fail> {
-    judge_changes(&rt, CANCELLED_LOG, CANCELLED, OF_A_CANCELLED_CALL)
+    judge_changes(&rt, CANCELLED_LOG, cancelled(), OF_A_CANCELLED_CALL)
 }
 
 #[test]
@@ -27,17 +27,17 @@ fn judges_the_end_of_a_cancelled_call(rt: HostRuntime) -> Result<(), Fail> {
     judge_changes(
         &rt,
         CANCELLED_LOG,
-        CANCELLED,
+        cancelled(),
         OF_THE_END_OF_A_CANCELLED_CALL,
     )
 }
 
 #[test]
 fn judges_a_call(rt: HostRuntime) -> Result<(), Fail> {
-    judge_changes(&rt, SESSION_LOG, SESSION, OF_A_CALL)
+    judge_changes(&rt, SESSION_LOG, session(), OF_A_CALL)
 }
 
 #[test]
 fn judges_the_end_of_a_call(rt: HostRuntime) -> Result<(), Fail> {
-    judge_changes(&rt, SESSION_LOG, SESSION, OF_THE_END_OF_A_CALL)
+    judge_changes(&rt, SESSION_LOG, session(), OF_THE_END_OF_A_CALL)
 }

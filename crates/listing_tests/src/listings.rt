@@ -2,7 +2,7 @@
 //! 5000 and the tolerance 50 ms, where no other is named. A message is told by the number of the first entry with its bytes.
 use crate::listed::{Listed, answers_io, list_rows, listing_on, lists, lists_until_a_read_fails};
 use std::test::Fail;
-use worked_logs::{CANCELLED, CANCELLED_LOG, STORED, WIDE, header, log_of, log_with};
+use worked_logs::{CANCELLED_LOG, STORED, WIDE, cancelled, header, log_of, log_with};
 
 #[test]
 fn lists_invite_clients(rt: HostRuntime) -> Result<(), Fail> {
@@ -300,7 +300,7 @@ fn lists_cancels(rt: HostRuntime) -> Result<(), Fail> {
             ),
         ],
     )?;
-    let log = log_with(rt.alloc(), CANCELLED_LOG, CANCELLED)?;
+    let log = log_with(rt.alloc(), CANCELLED_LOG, cancelled())?;
     lists(
         &rt,
         log.as_str(),

@@ -65,16 +65,20 @@ fn shows_long_messages(rt: HostRuntime) -> Result<(), Fail> {
     shows_it(&rt, message.as_str(), canonical.as_str())
 }
 
-/// No answer changes in the place of the error, wherever it comes: before each call for the bytes, and before the one that finds the end.
+/// The source fails behind each number of calls, until its end is found before: no answer changes in the place of the error.
 #[test]
 fn answers_io_in_a_long_log(rt: HostRuntime) -> Result<(), Fail> {
     let log = long_log(rt.alloc())?;
     let bytes = log.as_str().as_bytes();
-    for calls in 0..=bytes.len() / 4_096 {
-        let answer = listing_failing(rt.alloc(), bytes, (4_096, calls), 5);
-        assert_eq!(rt; answer.err(), Some(JudgeError::Io), "after {calls} calls");
+    let fewest = bytes.len() / 4_096;
+    for calls in 0..1_000 {
+        let Err(error) = listing_failing(rt.alloc(), bytes, (4_096, calls), 5) else {
+            assert!(rt; calls > fewest, "after {calls} calls");
+            return Ok(());
+        };
+        assert_eq!(rt; error, JudgeError::Io, "after {calls} calls");
         let answer = shown_failing_in(rt.alloc(), bytes, 4_096, calls);
         assert_eq!(rt; answer, Err(ShowError::Read), "after {calls} calls");
     }
-    Ok(())
+    Err("never read".into())
 }

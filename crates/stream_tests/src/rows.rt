@@ -3,9 +3,8 @@ use crate::streams::verdict_by_entries;
 use std::process::Abort;
 use std::test::Fail;
 use worked_logs::{
-    CANCELLED, CANCELLED_LOG, Change, Messages, OF_A_CALL, OF_A_CANCELLED_CALL,
-    OF_THE_END_OF_A_CALL, OF_THE_END_OF_A_CANCELLED_CALL, ROWS, SESSION, SESSION_LOG, log_of,
-    log_with,
+    CANCELLED_LOG, Change, Messages, OF_A_CALL, OF_A_CANCELLED_CALL, OF_THE_END_OF_A_CALL,
+    OF_THE_END_OF_A_CANCELLED_CALL, ROWS, SESSION_LOG, cancelled, log_of, log_with, session,
 };
 
 /// A judge takes the entries of a log. A row tells which log it is.
@@ -44,10 +43,10 @@ fn takes_changes(
 #[test]
 fn takes_each_change_of_a_call(rt: HostRuntime) -> Result<(), Fail> {
     for changes in [OF_A_CANCELLED_CALL, OF_THE_END_OF_A_CANCELLED_CALL] {
-        takes_changes(&rt, CANCELLED_LOG, CANCELLED, changes)?;
+        takes_changes(&rt, CANCELLED_LOG, cancelled(), changes)?;
     }
     for changes in [OF_A_CALL, OF_THE_END_OF_A_CALL] {
-        takes_changes(&rt, SESSION_LOG, SESSION, changes)?;
+        takes_changes(&rt, SESSION_LOG, session(), changes)?;
     }
     Ok(())
 }

@@ -15,7 +15,7 @@ pub use changes::{
 pub use logs::{CANCELLED_LOG, FOLDED, FULL, SESSION_LOG, STORED, WIDE, long_log, long_message};
 pub use notation::{Messages, header, log_of, log_with, push};
 pub use pieces::Pieces;
-pub use proxy_messages::{CANCELLED, SESSION};
+pub use proxy_messages::{cancelled, session};
 pub use room::Room;
 pub use rows::{
     AS_MANY_STATES_AS_ARE_FOLLOWED, CANCELS, CLIENTS, INVITE_SERVERS, INVITES_THAT_ARE_ANSWERED,

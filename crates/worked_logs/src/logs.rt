@@ -21,13 +21,13 @@ pub const FOLDED: &str =
     "OPTIONS sip:example.com SIP/2.0\r\nv: SIP / 2.0 / UDP\r\n a.example.com\r\n\t;branch = z9hG4bKr2\r\n\
 f: <sip:bob@example.com>;tag=1\r\nt: sip:bob@example.com\r\ni: c2@a\r\nCSeq: 1 OPTIONS\r\nl: 0\r\n\r\n";
 
-/// A call that is cancelled, of the messages `CANCELLED`. Its transactions are the INVITE from Alice (1) and on to Bob (2), and the CANCEL
+/// A call that is cancelled, of the messages `cancelled`. Its transactions are the INVITE from Alice (1) and on to Bob (2), and the CANCEL
 /// from Alice (3) and on (4).
 pub const CANCELLED_LOG: &str =
     "R 0 INVITE; S 2 100>; S 3 INVITE>; R 20 100; R 3000 180; S 3001 180>; \
     R 5000 CANCEL; S 5001 200>; S 5002 CANCEL>; R 5020 200; R 5040 487; S 5041 ACK>; S 5042 487>; R 5060 ACK; M 12000";
 
-/// A call that is set up and ended, of the messages `SESSION`. Its transactions are the INVITE that is refused with a 407 (1), the INVITE
+/// A call that is set up and ended, of the messages `session`. Its transactions are the INVITE that is refused with a 407 (1), the INVITE
 /// from Alice (2) and on to Bob (3), the ACK for its 200 from Alice (4) and on (5), and the BYE from Bob (6) and on to Alice (7).
 pub const SESSION_LOG: &str =
     "R 0 INVITE-1; S 1 407>; R 20 ACK-1; R 40 INVITE; S 41 INVITE>; S 42 100>; R 60 100; \

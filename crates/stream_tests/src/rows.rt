@@ -4,7 +4,8 @@ use std::process::Abort;
 use std::test::Fail;
 use worked_logs::{
     CANCELLED_LOG, Change, Messages, OF_A_CALL, OF_A_CANCELLED_CALL, OF_THE_END_OF_A_CALL,
-    OF_THE_END_OF_A_CANCELLED_CALL, ROWS, SESSION_LOG, cancelled, log_of, log_with, session,
+    OF_THE_END_OF_A_CANCELLED_CALL, Row, SESSION_LOG, all_rows, cancelled, log_of, log_with,
+    session,
 };
 
 /// A judge takes the entries of a log. A row tells which log it is.
@@ -14,13 +15,19 @@ fn takes(rt: &(impl Abort + AllocGlobal), log: &str, want: &str, row: &str) -> R
     Ok(())
 }
 
+/// Takes logs, row by row.
+fn takes_rows(rt: &(impl Abort + AllocGlobal), rows: &[Row]) -> Result<(), Fail> {
+    for &(notation, want) in rows {
+        let log = log_of(rt.alloc(), notation)?;
+        takes(rt, log.as_str(), want, notation)?;
+    }
+    Ok(())
+}
+
 #[test]
 fn takes_each_row(rt: HostRuntime) -> Result<(), Fail> {
-    for rows in ROWS {
-        for &(notation, want) in *rows {
-            let log = log_of(rt.alloc(), notation)?;
-            takes(&rt, log.as_str(), want, notation)?;
-        }
+    for rows in all_rows() {
+        takes_rows(&rt, rows)?;
     }
     Ok(())
 }
@@ -42,11 +49,13 @@ fn takes_changes(
 
 #[test]
 fn takes_each_change_of_a_call(rt: HostRuntime) -> Result<(), Fail> {
-    for changes in [OF_A_CANCELLED_CALL, OF_THE_END_OF_A_CANCELLED_CALL] {
-        takes_changes(&rt, CANCELLED_LOG, cancelled(), changes)?;
-    }
-    for changes in [OF_A_CALL, OF_THE_END_OF_A_CALL] {
-        takes_changes(&rt, SESSION_LOG, session(), changes)?;
-    }
-    Ok(())
+    takes_changes(&rt, CANCELLED_LOG, cancelled(), OF_A_CANCELLED_CALL)?;
+    takes_changes(
+        &rt,
+        CANCELLED_LOG,
+        cancelled(),
+        OF_THE_END_OF_A_CANCELLED_CALL,
+    )?;
+    takes_changes(&rt, SESSION_LOG, session(), OF_A_CALL)?;
+    takes_changes(&rt, SESSION_LOG, session(), OF_THE_END_OF_A_CALL)
 }

@@ -449,8 +449,12 @@ pub const MANY_DEBTS: &[Row] = &[
     ),
 ];
 
-/// All of these rows.
-pub const ROWS: &[&[Row]] = &[
+/// All of these rows. A caller sees none of them, so that its proof reads none.
+pub fn all_rows() -> &'static [&'static [Row]] {
+    ROWS
+}
+
+const ROWS: &[&[Row]] = &[
     INVITES_THAT_WAIT,
     INVITES_THAT_ARE_ANSWERED,
     CANCELS,

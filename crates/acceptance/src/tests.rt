@@ -1,66 +1,70 @@
 //! Logs that are cut, that cannot be read, or that come in pieces: worked out by hand from the log format.
-use crate::notation::{header, log_of};
-use crate::pieces::Pieces;
-use crate::rows::STORED;
-use crate::verdicts::{verdict_of, verdict_on};
+use crate::verdicts::{
+    judges, verdict_cut_at, verdict_failing, verdict_of_single_bytes, verdict_on,
+};
 use sip_verdict::JudgeError;
+use std::process::Abort;
 use std::test::Fail;
+use worked_logs::{Row, STORED, header, log_of};
 
 /// Entries in the notation, text behind them, and the verdict.
 type Behind = (&'static str, &'static str, &'static str);
 
+/// Lines behind the header, and behind entries.
+const LINES: &[Behind] = &[
+    (
+        "",
+        "1111111111111111111111111111111",
+        "log fault 1 22 Truncated",
+    ),
+    (
+        "",
+        "11111111111111111111111111111111",
+        "log fault 1 21 EntryLine",
+    ),
+    ("", "S 10000000000000 199\n", "log fault 1 24 Limit"),
+    ("", "S 00 199\n", "log fault 1 21 EntryLine"),
+    ("", "S 0 5\nhello\n", "malformed 1 head 1 NoHeadEnd"),
+    ("", "S 0 5\nhelloX", "log fault 1 21 EntryLine"),
+    ("", "S 0 5\nhello", "log fault 1 22 Truncated"),
+    ("", "S 0 0\n", "log fault 1 24 Limit"),
+    ("", "S 0 65536\n", "log fault 1 24 Limit"),
+    ("", "M 0 \n", "log fault 1 21 EntryLine"),
+    ("", "s 0 5\n", "log fault 1 21 EntryLine"),
+    ("M 10", "M 9\n", "log fault 2 23 Order"),
+    // The breach is before the entry that cannot be read.
+    (
+        "S 0,449 INVITE",
+        "S 500 198\nINVITE sip:example.com",
+        "breach 2 transaction 1",
+    ),
+];
+
 #[test]
 fn judges_lines(rt: HostRuntime) -> Result<(), Fail> {
-    let rows: [Behind; 13] = [
-        (
-            "",
-            "1111111111111111111111111111111",
-            "log fault 1 22 Truncated",
-        ),
-        (
-            "",
-            "11111111111111111111111111111111",
-            "log fault 1 21 EntryLine",
-        ),
-        ("", "S 10000000000000 199\n", "log fault 1 24 Limit"),
-        ("", "S 00 199\n", "log fault 1 21 EntryLine"),
-        ("", "S 0 5\nhello\n", "malformed 1 head 1 NoHeadEnd"),
-        ("", "S 0 5\nhelloX", "log fault 1 21 EntryLine"),
-        ("", "S 0 5\nhello", "log fault 1 22 Truncated"),
-        ("", "S 0 0\n", "log fault 1 24 Limit"),
-        ("", "S 0 65536\n", "log fault 1 24 Limit"),
-        ("", "M 0 \n", "log fault 1 21 EntryLine"),
-        ("", "s 0 5\n", "log fault 1 21 EntryLine"),
-        ("M 10", "M 9\n", "log fault 2 23 Order"),
-        // The breach is before the entry that cannot be read.
-        (
-            "S 0,449 INVITE",
-            "S 500 198\nINVITE sip:example.com",
-            "breach 2 transaction 1",
-        ),
-    ];
-    for (notation, behind, want) in rows {
+    for &(notation, behind, want) in LINES {
         let mut log = log_of(rt.alloc(), notation)?;
         log.push_str(behind)?;
-        let text = verdict_on(rt.alloc(), log.as_str().as_bytes())?;
-        assert_eq!(rt; text.as_str(), want, "{notation} {behind}");
+        judges(&rt, log.as_str(), want, behind)?;
     }
     Ok(())
 }
 
+/// Headers that cannot be read.
+const HEADERS: &[&str] = &[
+    "",
+    "sip-trace 1\nt1 0 t2 4000 t4 5000 tolerance 50\n",
+    "sip-trace 1\nt1 10001 t2 4000 t4 5000 tolerance 50\n",
+    "sip-trace 1\nt1 500 t2 4000 t4 5000 tolerance 10001\n",
+    "sip-trace 1\nt1  500 t2 4000 t4 5000 tolerance 50\n",
+    "sip-trace 1\nt1 0500 t2 4000 t4 5000 tolerance 50\n",
+    "sip-trace 1\nt1 500 t2 4000 t4 5000 tolerance 50",
+];
+
 #[test]
 fn judges_headers(rt: HostRuntime) -> Result<(), Fail> {
-    for log in [
-        "",
-        "sip-trace 1\nt1 0 t2 4000 t4 5000 tolerance 50\n",
-        "sip-trace 1\nt1 10001 t2 4000 t4 5000 tolerance 50\n",
-        "sip-trace 1\nt1 500 t2 4000 t4 5000 tolerance 10001\n",
-        "sip-trace 1\nt1  500 t2 4000 t4 5000 tolerance 50\n",
-        "sip-trace 1\nt1 0500 t2 4000 t4 5000 tolerance 50\n",
-        "sip-trace 1\nt1 500 t2 4000 t4 5000 tolerance 50",
-    ] {
-        let text = verdict_on(rt.alloc(), log.as_bytes())?;
-        assert_eq!(rt; text.as_str(), "log fault 0 20 Header", "{log:?}");
+    for &log in HEADERS {
+        judges(&rt, log, "log fault 0 20 Header", log)?;
     }
     Ok(())
 }
@@ -69,10 +73,10 @@ fn judges_headers(rt: HostRuntime) -> Result<(), Fail> {
 fn judges_any_pieces(rt: HostRuntime) -> Result<(), Fail> {
     let log = log_of(rt.alloc(), STORED)?;
     let bytes = log.as_str().as_bytes();
-    let text = verdict_of(rt.alloc(), &mut Pieces::single(bytes))?;
+    let text = verdict_of_single_bytes(rt.alloc(), bytes)?;
     assert_eq!(rt; text.as_str(), "legal entries 4 transactions 1");
     for place in 1..bytes.len() {
-        let text = verdict_of(rt.alloc(), &mut Pieces::cut_at(bytes, place))?;
+        let text = verdict_cut_at(rt.alloc(), bytes, place)?;
         assert_eq!(rt;
             text.as_str(),
             "legal entries 4 transactions 1",
@@ -82,54 +86,80 @@ fn judges_any_pieces(rt: HostRuntime) -> Result<(), Fail> {
     Ok(())
 }
 
-#[test]
-fn judges_any_front(rt: HostRuntime) -> Result<(), Fail> {
-    let log = log_of(rt.alloc(), STORED)?;
-    let bytes = log.as_str().as_bytes();
-    for (first, last, want) in [
-        (0, 47, "log fault 0 20 Header"),
-        (48, 48, "legal entries 0 transactions 0"),
-        (49, 255, "log fault 1 22 Truncated"),
-        (256, 256, "legal entries 1 transactions 1"),
-        (257, 465, "log fault 2 22 Truncated"),
-        (466, 466, "legal entries 2 transactions 1"),
-        (467, 666, "log fault 3 22 Truncated"),
-        (667, 667, "legal entries 3 transactions 1"),
-        (668, 673, "log fault 4 22 Truncated"),
-        (674, 674, "legal entries 4 transactions 1"),
-    ] {
-        for len in first..=last {
-            let front = bytes.get(..len).ok_or("a short log")?;
-            let text = verdict_on(rt.alloc(), front)?;
-            assert_eq!(rt; text.as_str(), want, "{len} bytes");
-        }
+/// The lengths of fronts of the stored run, from one to another, and the text of the verdict on each of them.
+const FRONTS: &[(usize, usize, &str)] = &[
+    (0, 47, "log fault 0 20 Header"),
+    (48, 48, "legal entries 0 transactions 0"),
+    (49, 255, "log fault 1 22 Truncated"),
+    (256, 256, "legal entries 1 transactions 1"),
+    (257, 465, "log fault 2 22 Truncated"),
+    (466, 466, "legal entries 2 transactions 1"),
+    (467, 666, "log fault 3 22 Truncated"),
+    (667, 667, "legal entries 3 transactions 1"),
+    (668, 673, "log fault 4 22 Truncated"),
+    (674, 674, "legal entries 4 transactions 1"),
+];
+
+/// Judges the fronts of these lengths.
+fn judges_fronts(
+    rt: &(impl Abort + AllocGlobal),
+    bytes: &[u8],
+    (first, last): (usize, usize),
+    want: &str,
+) -> Result<(), Fail> {
+    for len in first..=last {
+        let front = bytes.get(..len).ok_or("a short log")?;
+        let text = verdict_on(rt.alloc(), front)?;
+        assert_eq!(rt; text.as_str(), want, "{len} bytes");
     }
     Ok(())
 }
 
 #[test]
+fn judges_any_front(rt: HostRuntime) -> Result<(), Fail> {
+    let log = log_of(rt.alloc(), STORED)?;
+    let bytes = log.as_str().as_bytes();
+    for &(first, last, want) in FRONTS {
+        judges_fronts(&rt, bytes, (first, last), want)?;
+    }
+    Ok(())
+}
+
+/// Logs that are read whole.
+const READ: &[Row] = &[
+    (STORED, "legal entries 4 transactions 1"),
+    (
+        "R 0 INVITE; S 0 486; R 480 INVITE; S 490,540 486",
+        "legal entries 5 transactions 1",
+    ),
+    (
+        "S 0 INVITE; R 50 180; S 100 CANCEL",
+        "legal entries 3 transactions 2",
+    ),
+];
+
+/// The bytes come one by one, and the call behind so many fails, wherever that is.
+fn judges_until_a_read_fails(
+    rt: &(impl Abort + AllocGlobal),
+    bytes: &[u8],
+    want: &str,
+) -> Result<(), Fail> {
+    // The call behind those for the single bytes finds the end.
+    for calls in 0..=bytes.len() {
+        let answer = verdict_failing(rt.alloc(), bytes, 1, calls);
+        assert_eq!(rt; answer.err(), Some(JudgeError::Io), "after {calls} calls");
+    }
+    // A source that told its end is not asked again.
+    let text = verdict_failing(rt.alloc(), bytes, 1, bytes.len().saturating_add(1))?;
+    assert_eq!(rt; text.as_str(), want);
+    Ok(())
+}
+
+#[test]
 fn answers_io_where_a_read_fails(rt: HostRuntime) -> Result<(), Fail> {
-    for (notation, want) in [
-        (STORED, "legal entries 4 transactions 1"),
-        (
-            "R 0 INVITE; S 0 486; R 480 INVITE; S 490,540 486",
-            "legal entries 5 transactions 1",
-        ),
-        (
-            "S 0 INVITE; R 50 180; S 100 CANCEL",
-            "legal entries 3 transactions 2",
-        ),
-    ] {
+    for &(notation, want) in READ {
         let log = log_of(rt.alloc(), notation)?;
-        let bytes = log.as_str().as_bytes();
-        // The call behind those for the single bytes finds the end.
-        for calls in 0..=bytes.len() {
-            let answer = verdict_of(rt.alloc(), &mut Pieces::failing(bytes, calls));
-            assert_eq!(rt; answer.err(), Some(JudgeError::Io), "after {calls} calls");
-        }
-        // A source that told its end is not asked again.
-        let text = verdict_of(rt.alloc(), &mut Pieces::failing(bytes, bytes.len() + 1))?;
-        assert_eq!(rt; text.as_str(), want);
+        judges_until_a_read_fails(&rt, log.as_str().as_bytes(), want)?;
     }
     Ok(())
 }
@@ -139,10 +169,10 @@ fn answers_io_where_a_read_fails(rt: HostRuntime) -> Result<(), Fail> {
 fn reads_nothing_behind_a_breach(rt: HostRuntime) -> Result<(), Fail> {
     let log = log_of(rt.alloc(), "S 0,449 INVITE")?;
     let bytes = log.as_str().as_bytes();
-    let text = verdict_of(rt.alloc(), &mut Pieces::failing(bytes, bytes.len()))?;
+    let text = verdict_failing(rt.alloc(), bytes, 1, bytes.len())?;
     assert_eq!(rt; text.as_str(), "breach 2 transaction 1");
     let faulty = header(rt.alloc(), "10001")?;
-    let text = verdict_of(rt.alloc(), &mut Pieces::single(faulty.as_str().as_bytes()))?;
+    let text = verdict_of_single_bytes(rt.alloc(), faulty.as_str().as_bytes())?;
     assert_eq!(rt; text.as_str(), "log fault 0 20 Header");
     Ok(())
 }

@@ -1,22 +1,16 @@
 //! The verdicts on logs, as text.
 ghost use Rattle.std.specs.Prelude.{◌≡◌, false};
 
-use crate::notation::{Messages, log_of, log_with};
 use sip_log::Source;
 use sip_verdict::{JudgeError, judge, judge_bytes, render};
 use std::alloc::Global;
 use std::hash::{BuildHasher, BuildHasherDefault, FoldHasher};
 use std::process::Abort;
 use std::test::Fail;
-
-/// A log in the notation, and the text of the verdict on it.
-pub(crate) type Row = (&'static str, &'static str);
-
-/// A text of a notation, what stands in its place, and the text of the verdict then.
-pub(crate) type Change = (&'static str, &'static str, &'static str);
+use worked_logs::{Change, Messages, Pieces, Row, log_of, log_with};
 
 /// The verdict on the bytes that a source hands out.
-pub(crate) fn verdict_of<S: Source>(alloc: Global, source: &mut S) -> Result<String, JudgeError>
+fn verdict_of<S: Source>(alloc: Global, source: &mut S) -> Result<String, JudgeError>
     requires { S.has_failed source.old ≡ false }
 {
     let hasher = BuildHasherDefault::<FoldHasher>::new();
@@ -39,14 +33,62 @@ pub(crate) fn verdict_on(alloc: Global, bytes: &[u8]) -> Result<String, JudgeErr
     verdict_by(alloc, bytes, BuildHasherDefault::<FoldHasher>::new())
 }
 
+/// The verdict where the bytes before a place come in one piece, and those behind it in another.
+pub(crate) fn verdict_cut_at(
+    alloc: Global,
+    bytes: &[u8],
+    place: usize,
+) -> Result<String, JudgeError> {
+    verdict_of(alloc, &mut Pieces::cut_at(bytes, place))
+}
+
+/// The verdict where the bytes come one by one.
+pub(crate) fn verdict_of_single_bytes(alloc: Global, bytes: &[u8]) -> Result<String, JudgeError> {
+    verdict_of(alloc, &mut Pieces::single(bytes))
+}
+
+/// The verdict where the bytes come in pieces of a size, and the call behind so many fails.
+pub(crate) fn verdict_failing(
+    alloc: Global,
+    bytes: &[u8],
+    size: usize,
+    calls: usize,
+) -> Result<String, JudgeError> {
+    verdict_of(alloc, &mut Pieces::failing_in(bytes, size, calls))
+}
+
+/// The text of the verdict on a log is this one. A row tells which log it is.
+pub(crate) fn judges(
+    rt: &(impl Abort + AllocGlobal),
+    log: &str,
+    want: &str,
+    row: &str,
+) -> Result<(), Fail> {
+    let text = verdict_on(rt.alloc(), log.as_bytes())?;
+    assert_eq!(rt; text.as_str(), want, "{row}");
+    Ok(())
+}
+
 /// Judges logs, row by row.
 pub(crate) fn judge_rows(rt: &(impl Abort + AllocGlobal), rows: &[Row]) -> Result<(), Fail> {
     for &(notation, want) in rows {
         let log = log_of(rt.alloc(), notation)?;
-        let text = verdict_on(rt.alloc(), log.as_str().as_bytes())?;
-        assert_eq!(rt; text.as_str(), want, "{notation}");
+        judges(rt, log.as_str(), want, notation)?;
     }
     Ok(())
+}
+
+/// Judges a log with one of the changes.
+fn judges_changed(
+    rt: &(impl Abort + AllocGlobal),
+    notation: &str,
+    messages: Messages<'_>,
+    (old, new, want): Change,
+) -> Result<(), Fail> {
+    let changed = notation.replacen(rt.alloc(), old, new, 1)?;
+    assert!(rt; changed.as_str() != notation, "{old}");
+    let log = log_with(rt.alloc(), changed.as_str(), messages)?;
+    judges(rt, log.as_str(), want, new)
 }
 
 /// Judges a log with each of the changes alone.
@@ -56,12 +98,8 @@ pub(crate) fn judge_changes(
     messages: Messages<'_>,
     changes: &[Change],
 ) -> Result<(), Fail> {
-    for &(old, new, want) in changes {
-        let changed = notation.replacen(rt.alloc(), old, new, 1)?;
-        assert!(rt; changed.as_str() != notation, "{old}");
-        let log = log_with(rt.alloc(), changed.as_str(), messages)?;
-        let text = verdict_on(rt.alloc(), log.as_str().as_bytes())?;
-        assert_eq!(rt; text.as_str(), want, "{old} -> {new}");
+    for &change in changes {
+        judges_changed(rt, notation, messages, change)?;
     }
     Ok(())
 }

@@ -1,15 +1,12 @@
 //! Long messages that are shown, and a long log whose source fails on the way: worked out by hand from the log format and from RFC 3261
 //! section 7.
-use crate::listings::listing_of;
-use crate::many::long_message;
-use crate::notation::log_with;
-use crate::pieces::Pieces;
-use crate::verdicts::verdict_of;
-use sip_log::{FromRead, ToWrite};
-use sip_verdict::{JudgeError, ShowError, Shown, show};
+use crate::listed::listing_failing;
+use crate::shown::{shown, shown_failing_in};
+use sip_verdict::{JudgeError, ShowError, Shown};
 use std::alloc::{AllocError, Global};
 use std::process::Abort;
 use std::test::Fail;
+use worked_logs::{log_with, long_log, long_message};
 
 /// The lines of an OPTIONS, in the canonical form, without the empty line.
 const LINES: &str =
@@ -42,12 +39,7 @@ fn shows_it(rt: &(impl Abort + AllocGlobal), message: &str, canonical: &str) -> 
     let want = format!(in rt.alloc();
         "1 S 0 {len}\n{canonical}\n2 S 500 {len}\n{canonical}\n3 M 600\nend 3\n"
     )?;
-    let mut text = Vec::new(rt.alloc());
-    let answer = show(
-        rt.alloc(),
-        &mut FromRead::new(log.as_str().as_bytes()),
-        &mut ToWrite::new(&mut text),
-    )?;
+    let (text, answer) = shown(rt.alloc(), log.as_str().as_bytes())?;
     assert!(rt; text.as_slice() == want.as_str().as_bytes(), "{len} bytes");
     assert_eq!(rt; answer, Shown::End { entries: 3 });
     Ok(())
@@ -73,57 +65,20 @@ fn shows_long_messages(rt: HostRuntime) -> Result<(), Fail> {
     shows_it(&rt, message.as_str(), canonical.as_str())
 }
 
-/// The log of a message of 60,000 bytes that is sent three times: more than 175 KiB.
-fn long_log(alloc: Global) -> Result<String, Fail> {
-    let message = long_message(alloc, 60_000)?;
-    log_with(
-        alloc,
-        "S 0,500,1500 it; M 3550",
-        &[("it", message.as_str())],
-    )
-}
-
-/// The size of a piece.
-const SIZE: usize = 4_096;
-
-/// Whether all bytes of the log and its end were asked for, so that no call failed.
-fn is_read(log: &[u8], calls: usize) -> bool {
-    calls > log.len() / SIZE
-}
-
-/// Judges and lists a log whose source fails behind so many calls.
-fn judges_what_fails(
-    rt: &(impl Abort + AllocGlobal),
-    log: &[u8],
-    calls: usize,
-) -> Result<bool, Fail> {
-    let source = &mut Pieces::failing_in(log, SIZE, calls);
-    let Err(error) = verdict_of(rt.alloc(), source) else {
-        return Ok(true);
-    };
-    assert_eq!(rt; error, JudgeError::Io, "after {calls} calls");
-    let source = &mut Pieces::failing_in(log, SIZE, calls);
-    let answer = listing_of(rt.alloc(), source, 5);
-    assert_eq!(rt; answer.err(), Some(JudgeError::Io), "after {calls} calls");
-    let source = &mut Pieces::failing_in(log, SIZE, calls);
-    let mut text = Vec::new(rt.alloc());
-    let answer = show(rt.alloc(), source, &mut ToWrite::new(&mut text));
-    assert_eq!(rt; answer, Err(ShowError::Read), "after {calls} calls");
-    Ok(false)
-}
-
-/// No answer changes in the place of the error, wherever it comes.
+/// The source fails behind each number of calls, until its end is found before: no answer changes in the place of the error.
 #[test]
 fn answers_io_in_a_long_log(rt: HostRuntime) -> Result<(), Fail> {
     let log = long_log(rt.alloc())?;
     let bytes = log.as_str().as_bytes();
-    let text = verdict_of(rt.alloc(), &mut Pieces::cut_at(bytes, SIZE))?;
-    assert_eq!(rt; text.as_str(), "legal entries 4 transactions 1");
+    let fewest = bytes.len() / 4_096;
     for calls in 0..1_000 {
-        if judges_what_fails(&rt, bytes, calls)? {
-            assert!(rt; is_read(bytes, calls), "after {calls} calls");
+        let Err(error) = listing_failing(rt.alloc(), bytes, (4_096, calls), 5) else {
+            assert!(rt; calls > fewest, "after {calls} calls");
             return Ok(());
-        }
+        };
+        assert_eq!(rt; error, JudgeError::Io, "after {calls} calls");
+        let answer = shown_failing_in(rt.alloc(), bytes, 4_096, calls);
+        assert_eq!(rt; answer, Err(ShowError::Read), "after {calls} calls");
     }
     Err("never read".into())
 }

@@ -1,8 +1,20 @@
 //! The messages of two calls through a proxy, after sections 3.8 and 3.2 of RFC 3665: Alice calls Bob by the proxies ss1 and ss2, and the
 //! log is that of ss1. A message that ss1 sends ends in `>`. The ACK for the 200 has a branch of its own, as RFC 3261 section 8.1.1.7 demands.
 
+use crate::notation::Messages;
+
+/// The messages of a call that is cancelled. A caller sees no text of theirs, so that its proof reads none.
+pub fn cancelled() -> Messages<'static> {
+    CANCELLED
+}
+
+/// The messages of a call that is set up and ended. A caller sees no text of theirs, so that its proof reads none.
+pub fn session() -> Messages<'static> {
+    SESSION
+}
+
 /// The messages of a call that is cancelled.
-pub(crate) const CANCELLED: &[(&str, &str)] = &[
+const CANCELLED: &[(&str, &str)] = &[
     (
         "INVITE",
         "INVITE sip:bob@biloxi.example.com SIP/2.0\r\n\
@@ -207,7 +219,7 @@ pub(crate) const CANCELLED: &[(&str, &str)] = &[
 ];
 
 /// The messages of a call that is set up and ended.
-pub(crate) const SESSION: &[(&str, &str)] = &[
+const SESSION: &[(&str, &str)] = &[
     (
         "INVITE-1",
         "INVITE sip:bob@biloxi.example.com SIP/2.0\r\n\

@@ -1,13 +1,13 @@
 //! Judges that take entries one after another, and how many messages they keep.
 ghost use Rattle.std.specs.Prelude.{◌≤◌};
 
-use crate::notation::{header, log_of, push};
 use sip_log::{Entry, LogError, Progress};
-use sip_verdict::{Judge, StepError, Verdict};
+use sip_verdict::{Judge, StepError, Verdict, render};
 use std::alloc::Global;
 use std::hash::{BuildHasherDefault, FoldHasher};
 use std::process::Abort;
 use std::test::Fail;
+use worked_logs::{header, log_of, push};
 
 type Hasher = BuildHasherDefault<FoldHasher>;
 
@@ -64,6 +64,16 @@ fn kept_behind_each(
     }
     let Stream { judge, .. } = stream;
     Ok((kept, judge.end()))
+}
+
+/// The text of the verdict of a judge that takes the entries of a log which is read whole.
+pub(crate) fn verdict_by_entries(
+    rt: &(impl Abort + AllocGlobal),
+    log: &str,
+) -> Result<String, Fail> {
+    let (_, verdict) = kept_behind_each(rt, log)?;
+    let verdict = verdict.ok_or("no verdict")?;
+    Ok(render(rt.alloc(), &verdict)?)
 }
 
 /// The log of so many OPTIONS, each with a branch of its own: one every ten seconds, each answered ten milliseconds later.

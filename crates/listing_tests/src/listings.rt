@@ -1,55 +1,8 @@
 //! The listings of entries, worked out by hand from the machines of RFC 3261 section 17, as RFC 6026 corrects them. T1 is 500, T2 4000, T4
 //! 5000 and the tolerance 50 ms, where no other is named. A message is told by the number of the first entry with its bytes.
-ghost use Rattle.std.specs.Prelude.{◌≡◌, false};
-
-use crate::notation::{header, log_of, log_with};
-use crate::pieces::Pieces;
-use crate::proxy::CANCELLED_LOG;
-use crate::proxy_messages::CANCELLED;
-use crate::rows::{STORED, WIDE};
-use sip_log::Source;
-use sip_verdict::{JudgeError, Listing, render, states_at};
-use std::alloc::Global;
-use std::hash::{BuildHasherDefault, FoldHasher};
-use std::process::Abort;
+use crate::listed::{Listed, answers_io, list_rows, listing_on, lists, lists_until_a_read_fails};
 use std::test::Fail;
-
-/// A log in the notation, an entry, and what is listed of it.
-pub(crate) type Listed = (&'static str, u32, &'static str);
-
-/// What is listed of an entry of the log that a source hands out: the text, `stopped` and the verdict, or `no entry`.
-pub(crate) fn listing_of<S: Source>(
-    alloc: Global,
-    source: &mut S,
-    entry: u32,
-) -> Result<String, JudgeError>
-    requires { S.has_failed source.old ≡ false }
-{
-    let hasher = BuildHasherDefault::<FoldHasher>::new();
-    match states_at(alloc, source, hasher, entry)? {
-        Listing::Text(text) => Ok(text),
-        Listing::Stopped(verdict) => {
-            let verdict = render(alloc, &verdict)?;
-            Ok(format!(in alloc; "stopped {verdict}")?)
-        }
-        Listing::NoEntry => Ok(String::from_str(alloc, "no entry")?),
-    }
-}
-
-/// What is listed of an entry of the log of these bytes.
-pub(crate) fn listing_on(alloc: Global, bytes: &[u8], entry: u32) -> Result<String, JudgeError> {
-    listing_of(alloc, &mut Pieces::cut_at(bytes, bytes.len()), entry)
-}
-
-/// Lists entries, row by row.
-pub(crate) fn list_rows(rt: &(impl Abort + AllocGlobal), rows: &[Listed]) -> Result<(), Fail> {
-    for &(notation, entry, want) in rows {
-        let log = log_of(rt.alloc(), notation)?;
-        let text = listing_on(rt.alloc(), log.as_str().as_bytes(), entry)?;
-        assert_eq!(rt; text.as_str(), want, "entry {entry} of {notation}");
-    }
-    Ok(())
-}
+use worked_logs::{CANCELLED_LOG, STORED, WIDE, cancelled, header, log_of, log_with};
 
 #[test]
 fn lists_invite_clients(rt: HostRuntime) -> Result<(), Fail> {
@@ -347,14 +300,14 @@ fn lists_cancels(rt: HostRuntime) -> Result<(), Fail> {
             ),
         ],
     )?;
-    let log = log_with(rt.alloc(), CANCELLED_LOG, CANCELLED)?;
-    let text = listing_on(rt.alloc(), log.as_str().as_bytes(), 9)?;
-    assert_eq!(rt;
-        text.as_str(),
+    let log = log_with(rt.alloc(), CANCELLED_LOG, cancelled())?;
+    lists(
+        &rt,
+        log.as_str(),
+        9,
         "transaction 4 client CANCEL states 1\n  trying reliable=no request=9 start=5002 set=5002 interval=500\n\
-        transaction 2 client INVITE states 1\n  proceeding reliable=no request=3 cancel=5002\n"
-    );
-    Ok(())
+        transaction 2 client INVITE states 1\n  proceeding reliable=no request=3 cancel=5002\n",
+    )
 }
 
 /// The first entry with the bytes of a message may be one of another transaction. Marks, and messages of no transaction, are counted.
@@ -458,8 +411,7 @@ fn stops_at_trouble(rt: HostRuntime) -> Result<(), Fail> {
     // A header that cannot be read is before any entry.
     let faulty = header(rt.alloc(), "10001")?;
     for entry in 0..3 {
-        let text = listing_on(rt.alloc(), faulty.as_str().as_bytes(), entry)?;
-        assert_eq!(rt; text.as_str(), "stopped log fault 0 20 Header");
+        lists(&rt, faulty.as_str(), entry, "stopped log fault 0 20 Header")?;
     }
     Ok(())
 }
@@ -469,58 +421,44 @@ fn stops_at_trouble(rt: HostRuntime) -> Result<(), Fail> {
 fn lists_many_states(rt: HostRuntime) -> Result<(), Fail> {
     let log = log_of(rt.alloc(), WIDE)?;
     let text = listing_on(rt.alloc(), log.as_str().as_bytes(), 146)?;
-    assert!(rt;
-        text.as_str()
-            .starts_with("transaction 1 server INVITE states 984\n")
-    );
-    assert_eq!(rt; text.as_str().lines().count(), 985);
+    let text = text.as_str();
+    assert!(rt; text.starts_with("transaction 1 server INVITE states 984\n"));
+    assert_eq!(rt; text.lines().count(), 985);
     Ok(())
 }
 
 #[test]
 fn answers_io_where_a_read_fails(rt: HostRuntime) -> Result<(), Fail> {
-    for (notation, entry, want) in [
-        (STORED, 4, "no transaction\n"),
-        (
-            "R 0 INVITE; S 0 486; R 480 INVITE; S 490,540 486",
-            5,
-            "transaction 1 server INVITE states 1\n  completed reliable=no final=2 set=0 repeat=540 interval=1000\n",
-        ),
-        (
-            "S 0 INVITE; R 50 180; S 100 CANCEL",
-            3,
-            "transaction 2 client CANCEL states 1\n  trying reliable=no request=3 start=100 set=100 interval=500\n\
-            transaction 1 client INVITE states 1\n  proceeding reliable=no request=1 cancel=100\n",
-        ),
-    ] {
+    for &(notation, entry, want) in READ {
         let log = log_of(rt.alloc(), notation)?;
-        let bytes = log.as_str().as_bytes();
-        for calls in 0..bytes.len() {
-            let answer = listing_of(rt.alloc(), &mut Pieces::failing(bytes, calls), entry);
-            assert_eq!(rt; answer.err(), Some(JudgeError::Io), "after {calls} calls");
-        }
-        // Nothing behind the entry is read: not even the end.
-        let text = listing_of(rt.alloc(), &mut Pieces::failing(bytes, bytes.len()), entry)?;
-        assert_eq!(rt; text.as_str(), want);
-        // That there is no further entry is told at the end alone.
-        let mut source = Pieces::failing(bytes, bytes.len());
-        let answer = listing_of(rt.alloc(), &mut source, entry + 1);
-        assert_eq!(rt; answer.err(), Some(JudgeError::Io), "of no entry");
-        let mut source = Pieces::failing(bytes, bytes.len() + 1);
-        let text = listing_of(rt.alloc(), &mut source, entry + 1)?;
-        assert_eq!(rt; text.as_str(), "no entry");
+        lists_until_a_read_fails(&rt, log.as_str().as_bytes(), entry, want)?;
     }
     Ok(())
 }
 
+/// The last entries of logs.
+const READ: &[Listed] = &[
+    (STORED, 4, "no transaction\n"),
+    (
+        "R 0 INVITE; S 0 486; R 480 INVITE; S 490,540 486",
+        5,
+        "transaction 1 server INVITE states 1\n  completed reliable=no final=2 set=0 repeat=540 interval=1000\n",
+    ),
+    (
+        "S 0 INVITE; R 50 180; S 100 CANCEL",
+        3,
+        "transaction 2 client CANCEL states 1\n  trying reliable=no request=3 start=100 set=100 interval=500\n\
+        transaction 1 client INVITE states 1\n  proceeding reliable=no request=1 cancel=100\n",
+    ),
+];
+
+/// The call behind those for the single bytes finds the end.
 #[test]
 fn answers_io_behind_the_last_entry(rt: HostRuntime) -> Result<(), Fail> {
     let log = log_of(rt.alloc(), STORED)?;
     let bytes = log.as_str().as_bytes();
-    // The call behind those for the single bytes finds the end.
     for calls in 0..=bytes.len() {
-        let answer = listing_of(rt.alloc(), &mut Pieces::failing(bytes, calls), 5);
-        assert_eq!(rt; answer.err(), Some(JudgeError::Io), "after {calls} calls");
+        answers_io(&rt, bytes, calls, 5);
     }
     Ok(())
 }

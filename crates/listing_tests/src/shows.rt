@@ -1,30 +1,13 @@
 //! What is shown of logs: rows worked out by hand from the log format and from RFC 3261 section 7.
-use crate::notation::{log_of, log_with};
-use crate::pieces::Pieces;
-use crate::room::Room;
-use crate::rows::STORED;
-use crate::verdicts::verdict_on;
-use sip_log::{FromRead, ToWrite};
-use sip_verdict::{LogReason, ShowError, Shown, show};
-use std::alloc::Global;
+use crate::shown::{shown, shown_failing, shown_in, written};
+use sip_verdict::{LogReason, ShowError, Shown};
 use std::test::Fail;
+use worked_logs::{FOLDED, Room, STORED, log_of, log_with};
 
-/// A request with compact names and a folded Via, in 181 bytes.
-const FOLDED: &str =
-    "OPTIONS sip:example.com SIP/2.0\r\nv: SIP / 2.0 / UDP\r\n a.example.com\r\n\t;branch = z9hG4bKr2\r\n\
-f: <sip:bob@example.com>;tag=1\r\nt: sip:bob@example.com\r\ni: c2@a\r\nCSeq: 1 OPTIONS\r\nl: 0\r\n\r\n";
-
-/// The same in 202 bytes: long names, and one line for each field.
+/// `FOLDED` in 202 bytes: long names, and one line for each field.
 const UNFOLDED: &str =
     "OPTIONS sip:example.com SIP/2.0\r\nVia: SIP / 2.0 / UDP a.example.com ;branch = z9hG4bKr2\r\n\
 From: <sip:bob@example.com>;tag=1\r\nTo: sip:bob@example.com\r\nCall-ID: c2@a\r\nCSeq: 1 OPTIONS\r\nContent-Length: 0\r\n\r\n";
-
-/// What is written of the log, and the answer.
-fn shown(alloc: Global, log: &[u8]) -> Result<(Vec<u8>, Shown), ShowError> {
-    let mut text = Vec::new(alloc);
-    let shown = show(alloc, &mut FromRead::new(log), &mut ToWrite::new(&mut text))?;
-    Ok((text, shown))
-}
 
 #[test]
 fn shows_the_stored_run(rt: HostRuntime) -> Result<(), Fail> {
@@ -58,9 +41,6 @@ fn shows_the_canonical_form(rt: HostRuntime) -> Result<(), Fail> {
     let (text, answer) = shown(rt.alloc(), bytes)?;
     assert!(rt; text.as_slice() == want.as_str().as_bytes());
     assert_eq!(rt; answer, Shown::End { entries: 1 });
-    // It is judged as it is spelled.
-    let text = verdict_on(rt.alloc(), bytes)?;
-    assert_eq!(rt; text.as_str(), "legal entries 1 transactions 1");
     Ok(())
 }
 
@@ -74,8 +54,6 @@ fn stops_at_a_fault(rt: HostRuntime) -> Result<(), Fail> {
     let (text, answer) = shown(rt.alloc(), bytes)?;
     assert!(rt; text.as_slice() == b"malformed 1 head 2 BareLineEnd\n".as_slice());
     assert!(rt; matches!(answer, Shown::Malformed { entry: 1, .. }));
-    let text = verdict_on(rt.alloc(), bytes)?;
-    assert_eq!(rt; text.as_str(), "malformed 1 head 2 BareLineEnd");
     let log = log_of(rt.alloc(), "M 5,4")?;
     let (text, answer) = shown(rt.alloc(), log.as_str().as_bytes())?;
     assert!(rt; text.as_slice() == b"1 M 5\nlog fault 2 23 Order\n".as_slice());
@@ -92,16 +70,14 @@ fn tells_the_side_that_failed(rt: HostRuntime) -> Result<(), Fail> {
     let log = log_of(rt.alloc(), STORED)?;
     let bytes = log.as_str().as_bytes();
     for calls in 0..=bytes.len() {
-        let mut source = Pieces::failing(bytes, calls);
-        let answer = show(rt.alloc(), &mut source, &mut Room::of(1_000));
+        let answer = shown_failing(rt.alloc(), bytes, calls);
         assert_eq!(rt; answer, Err(ShowError::Read), "after {calls} reads");
     }
     let mut room = Room::of(1_000);
-    let answer = show(rt.alloc(), &mut FromRead::new(bytes), &mut room);
+    let answer = shown_in(rt.alloc(), bytes, &mut room);
     assert_eq!(rt; answer, Ok(Shown::End { entries: 4 }));
     for calls in 0..room.taken() {
-        let mut less = Room::of(calls);
-        let answer = show(rt.alloc(), &mut FromRead::new(bytes), &mut less);
+        let answer = shown_in(rt.alloc(), bytes, &mut Room::of(calls));
         assert_eq!(rt; answer, Err(ShowError::Write), "after {calls} writes");
     }
     Ok(())
@@ -117,11 +93,7 @@ fn shows_again_after_a_refused_growth(rt: HostRuntime) -> Result<(), Fail> {
     let whole = Shown::End { entries: 2 };
     // With room for the whole text, so that writing takes no memory.
     let mut text = Vec::with_capacity(rt.alloc(), 1_000)?;
-    let answer = show(
-        rt.alloc(),
-        &mut FromRead::new(bytes),
-        &mut ToWrite::new(&mut text),
-    );
+    let answer = written(rt.alloc(), bytes, &mut text);
     assert!(rt; want.as_str().as_bytes().starts_with(&text));
     if answer.is_err() {
         assert!(rt; answer == Err(ShowError::Memory));

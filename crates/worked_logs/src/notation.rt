@@ -11,7 +11,7 @@ use std::fmt::Write;
 use std::test::Fail;
 
 /// Whole messages by name.
-pub(crate) type Messages<'a> = &'a [(&'a str, &'a str)];
+pub type Messages<'a> = &'a [(&'a str, &'a str)];
 
 /// What the words of an entry say of its message.
 #[derive(Clone, Copy)]
@@ -193,7 +193,7 @@ fn push_entries(log: &mut String, letter: &str, moments: &str, message: &str) ->
 }
 
 /// Appends the entries of a notation.
-pub(crate) fn push(
+pub fn push(
     alloc: Global,
     log: &mut String,
     entries: &str,
@@ -215,7 +215,7 @@ pub(crate) fn push(
 }
 
 /// The first two lines of a log: the times that RFC 3261 table 4 gives, and a tolerance in milliseconds.
-pub(crate) fn header(alloc: Global, tolerance: &str) -> Result<String, AllocError> {
+pub fn header(alloc: Global, tolerance: &str) -> Result<String, AllocError> {
     let mut log = String::with_capacity(alloc, 16_384)?;
     write!(
         log,
@@ -225,11 +225,7 @@ pub(crate) fn header(alloc: Global, tolerance: &str) -> Result<String, AllocErro
 }
 
 /// The log of a notation with messages by name.
-pub(crate) fn log_with(
-    alloc: Global,
-    notation: &str,
-    messages: Messages<'_>,
-) -> Result<String, Fail> {
+pub fn log_with(alloc: Global, notation: &str, messages: Messages<'_>) -> Result<String, Fail> {
     let (tolerance, entries) = match notation.split_once(": ") {
         Some((front, entries)) => (front.trim_start_matches("tolerance "), entries),
         None => ("50", notation),
@@ -240,6 +236,6 @@ pub(crate) fn log_with(
 }
 
 /// The log of a notation.
-pub(crate) fn log_of(alloc: Global, notation: &str) -> Result<String, Fail> {
+pub fn log_of(alloc: Global, notation: &str) -> Result<String, Fail> {
     log_with(alloc, notation, &[])
 }

@@ -5,7 +5,7 @@ use sip_log::{Broken, Source};
 
 /// Hands out the bytes in pieces: the first of one size, and each other of a second one.
 #[derive(Drop)]
-pub(crate) struct Pieces<'a> {
+pub struct Pieces<'a> {
     bytes: &'a [u8],
     first: usize,
     others: usize,
@@ -16,8 +16,8 @@ pub(crate) struct Pieces<'a> {
 
 impl<'a> Pieces<'a> {
     /// The bytes before a place in one piece, and those behind it in another.
-    pub(crate) fn cut_at(bytes: &'a [u8], place: usize) -> Pieces<'a>
-        ensures { result.failed ≡ false }
+    pub fn cut_at(bytes: &'a [u8], place: usize) -> Pieces<'a>
+        ensures { ⟦<Pieces<'a> as Source>⟧.has_failed result ≡ false }
     {
         Pieces {
             bytes,
@@ -29,8 +29,8 @@ impl<'a> Pieces<'a> {
     }
 
     /// Single bytes.
-    pub(crate) fn single(bytes: &'a [u8]) -> Pieces<'a>
-        ensures { result.failed ≡ false }
+    pub fn single(bytes: &'a [u8]) -> Pieces<'a>
+        ensures { ⟦<Pieces<'a> as Source>⟧.has_failed result ≡ false }
     {
         Pieces {
             bytes,
@@ -42,15 +42,15 @@ impl<'a> Pieces<'a> {
     }
 
     /// Single bytes, and the call behind so many fails.
-    pub(crate) fn failing(bytes: &'a [u8], calls: usize) -> Pieces<'a>
-        ensures { result.failed ≡ false }
+    pub fn failing(bytes: &'a [u8], calls: usize) -> Pieces<'a>
+        ensures { ⟦<Pieces<'a> as Source>⟧.has_failed result ≡ false }
     {
         Pieces::failing_in(bytes, 1, calls)
     }
 
     /// Pieces of one size, and the call behind so many fails.
-    pub(crate) fn failing_in(bytes: &'a [u8], size: usize, calls: usize) -> Pieces<'a>
-        ensures { result.failed ≡ false }
+    pub fn failing_in(bytes: &'a [u8], size: usize, calls: usize) -> Pieces<'a>
+        ensures { ⟦<Pieces<'a> as Source>⟧.has_failed result ≡ false }
     {
         Pieces {
             bytes,

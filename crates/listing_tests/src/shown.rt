@@ -1,0 +1,38 @@
+//! What is shown of a log: the text that is written, and the answer.
+use sip_log::{FromRead, ToWrite};
+use sip_verdict::{ShowError, Shown, show};
+use std::alloc::Global;
+use worked_logs::{Pieces, Room};
+
+/// The answer where the text is written behind what stands there.
+pub(crate) fn written(alloc: Global, log: &[u8], text: &mut Vec<u8>) -> Result<Shown, ShowError> {
+    show(alloc, &mut FromRead::new(log), &mut ToWrite::new(text))
+}
+
+/// What is written of the log, and the answer.
+pub(crate) fn shown(alloc: Global, log: &[u8]) -> Result<(Vec<u8>, Shown), ShowError> {
+    let mut text = Vec::new(alloc);
+    let shown = written(alloc, log, &mut text)?;
+    Ok((text, shown))
+}
+
+/// The answer where the text goes into a room.
+pub(crate) fn shown_in(alloc: Global, log: &[u8], room: &mut Room) -> Result<Shown, ShowError> {
+    show(alloc, &mut FromRead::new(log), room)
+}
+
+/// The answer where the bytes come one by one, and the call behind so many fails.
+pub(crate) fn shown_failing(alloc: Global, log: &[u8], calls: usize) -> Result<Shown, ShowError> {
+    shown_failing_in(alloc, log, 1, calls)
+}
+
+/// The answer where the bytes come in pieces of a size, and the call behind so many fails.
+pub(crate) fn shown_failing_in(
+    alloc: Global,
+    log: &[u8],
+    size: usize,
+    calls: usize,
+) -> Result<Shown, ShowError> {
+    let source = &mut Pieces::failing_in(log, size, calls);
+    show(alloc, source, &mut Room::of(1_000))
+}

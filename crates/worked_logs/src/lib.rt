@@ -1,0 +1,24 @@
+//! Logs for tests: made of a notation of one line each, handed out in pieces of any size, and taken by a sink with little room.
+#![tactic(auto)]
+
+mod changes;
+mod logs;
+mod notation;
+mod pieces;
+mod proxy_messages;
+mod room;
+mod rows;
+
+pub use changes::{
+    Change, OF_A_CALL, OF_A_CANCELLED_CALL, OF_THE_END_OF_A_CALL, OF_THE_END_OF_A_CANCELLED_CALL,
+};
+pub use logs::{CANCELLED_LOG, FOLDED, FULL, SESSION_LOG, STORED, WIDE, long_log, long_message};
+pub use notation::{Messages, header, log_of, log_with, push};
+pub use pieces::Pieces;
+pub use proxy_messages::{cancelled, session};
+pub use room::Room;
+pub use rows::{
+    AS_MANY_STATES_AS_ARE_FOLLOWED, CANCELS, CLIENTS, INVITE_SERVERS, INVITES_THAT_ARE_ANSWERED,
+    INVITES_THAT_WAIT, MANY_DEBTS, MANY_ENTRIES, MANY_STATES, MESSAGES, OVERDUE, Row, SERVERS,
+    TRANSACTIONS_APART, all_rows,
+};

@@ -11,6 +11,7 @@ use sip_machine::{
     Run,
 };
 use std::alloc::Global;
+use std::process::Abort;
 use std::test::Fail;
 
 /// An entry: its moment, what was done, and the number of its message.
@@ -40,28 +41,8 @@ const CANCEL: u32 = 10;
 
 const OPTIONS: u32 = 11;
 
-fn sent(moment: u64, number: u32) -> Entry {
-    (moment, Action::Sent, number)
-}
-
-fn failed(moment: u64, number: u32) -> Entry {
-    (moment, Action::Failed, number)
-}
-
-fn received(moment: u64, number: u32) -> Entry {
-    (moment, Action::Received, number)
-}
-
-fn must(message: u32, deadline: u64) -> Debt {
-    Debt {
-        message,
-        deadline,
-        must: true,
-    }
-}
-
 /// A state that is wanted, with the only debt that it owes, if there is one.
-#[derive(Clone, Copy, Debug)]
+#[derive(Clone, Copy)]
 enum Want {
     /// No state at all.
     Nothing,
@@ -181,10 +162,21 @@ fn step(
     Ok(next)
 }
 
+/// Entries, and where they lead.
+type Row = (&'static [Entry], Want);
+
 /// Where the entries lead.
 fn leads(alloc: Global, transport: &str, entries: &[Entry], want: Want) -> Result<bool, Fail> {
     let states = states_after(alloc, &client(500)?, transport, entries)?;
     Ok(are_wanted(&states, want))
+}
+
+/// That the entries of each row lead to its state.
+fn all_lead(rt: &(impl Abort + AllocGlobal), transport: &str, rows: &[Row]) -> Result<(), Fail> {
+    for &(entries, want) in rows {
+        assert!(rt; leads(rt.alloc(), transport, entries, want)?, "{entries:?}");
+    }
+    Ok(())
 }
 
 const FIRST: Entry = (0, Action::Sent, INVITE);
@@ -200,68 +192,79 @@ const REPEATS: [Entry; 7] = [
     (31_500, Action::Sent, INVITE),
 ];
 
+static CALLING: &[Row] = &[
+    (&[], Want::Idle),
+    (&[FIRST], Want::Calling(0, 500)),
+    (&[FIRST, (449, Action::Sent, INVITE)], Want::Nothing),
+    (
+        &[FIRST, (450, Action::Sent, INVITE)],
+        Want::Calling(450, 1_000),
+    ),
+    (
+        &[FIRST, (550, Action::Sent, INVITE)],
+        Want::Calling(550, 1_000),
+    ),
+    (&[FIRST, (551, Action::Sent, INVITE)], Want::Nothing),
+    (&[FIRST, (500, Action::Sent, OTHER_INVITE)], Want::Nothing),
+    (&REPEATS, Want::Calling(31_500, 32_000)),
+    (&[FIRST, (10, Action::Sent, CANCEL)], Want::Nothing),
+    (&[FIRST, (10, Action::Failed, CANCEL)], Want::Nothing),
+    (&[(0, Action::Failed, INVITE)], Want::Ended),
+    (&[FIRST, (500, Action::Failed, INVITE)], Want::Ended),
+    (&[FIRST, (449, Action::Failed, INVITE)], Want::Nothing),
+];
+
 #[test]
 fn calling(rt: HostRuntime) -> Result<(), Fail> {
-    let rows: [(&[Entry], Want); 13] = [
-        (&[], Want::Idle),
-        (&[FIRST], Want::Calling(0, 500)),
-        (&[FIRST, sent(449, INVITE)], Want::Nothing),
-        (&[FIRST, sent(450, INVITE)], Want::Calling(450, 1_000)),
-        (&[FIRST, sent(550, INVITE)], Want::Calling(550, 1_000)),
-        (&[FIRST, sent(551, INVITE)], Want::Nothing),
-        (&[FIRST, sent(500, OTHER_INVITE)], Want::Nothing),
-        (&REPEATS, Want::Calling(31_500, 32_000)),
-        (&[FIRST, sent(10, CANCEL)], Want::Nothing),
-        (&[FIRST, failed(10, CANCEL)], Want::Nothing),
-        (&[failed(0, INVITE)], Want::Ended),
-        (&[FIRST, failed(500, INVITE)], Want::Ended),
-        (&[FIRST, failed(449, INVITE)], Want::Nothing),
-    ];
-    for (entries, want) in rows {
-        assert!(rt; leads(rt.alloc(), "UDP", entries, want)?, "{entries:?}");
-    }
-    Ok(())
+    all_lead(&rt, "UDP", CALLING)
 }
 
 const WAITS: Entry = (100, Action::Received, TRYING);
 
+/// A CANCEL behind WAITS.
+const CANCELLED: Entry = (150, Action::Sent, CANCEL);
+
+static PROCEEDING: &[Row] = &[
+    (&[FIRST, WAITS], Want::Proceeding(None)),
+    (
+        &[FIRST, WAITS, (200, Action::Received, TRYING)],
+        Want::Proceeding(None),
+    ),
+    (&[FIRST, WAITS, (500, Action::Sent, INVITE)], Want::Nothing),
+    (&[FIRST, WAITS, CANCELLED], Want::Proceeding(Some(150))),
+    (
+        &[FIRST, WAITS, (150, Action::Failed, CANCEL)],
+        Want::Proceeding(Some(150)),
+    ),
+    (
+        &[FIRST, WAITS, CANCELLED, (200, Action::Sent, CANCEL)],
+        Want::Proceeding(Some(150)),
+    ),
+    (
+        &[FIRST, (100, Action::Received, RINGING), CANCELLED],
+        Want::Proceeding(Some(150)),
+    ),
+    (
+        &[FIRST, WAITS, CANCELLED, (300, Action::Received, OK)],
+        Want::Accepted(300),
+    ),
+    (
+        &[FIRST, (100, Action::Received, OK), CANCELLED],
+        Want::Accepted(100),
+    ),
+    (
+        &[
+            FIRST,
+            (100, Action::Received, OK),
+            (200, Action::Received, BUSY),
+        ],
+        Want::Accepted(100),
+    ),
+];
+
 #[test]
 fn proceeding(rt: HostRuntime) -> Result<(), Fail> {
-    let cancel = sent(150, CANCEL);
-    let rows: [(&[Entry], Want); 10] = [
-        (&[FIRST, WAITS], Want::Proceeding(None)),
-        (
-            &[FIRST, WAITS, received(200, TRYING)],
-            Want::Proceeding(None),
-        ),
-        (&[FIRST, WAITS, sent(500, INVITE)], Want::Nothing),
-        (&[FIRST, WAITS, cancel], Want::Proceeding(Some(150))),
-        (
-            &[FIRST, WAITS, failed(150, CANCEL)],
-            Want::Proceeding(Some(150)),
-        ),
-        (
-            &[FIRST, WAITS, cancel, sent(200, CANCEL)],
-            Want::Proceeding(Some(150)),
-        ),
-        (
-            &[FIRST, received(100, RINGING), cancel],
-            Want::Proceeding(Some(150)),
-        ),
-        (
-            &[FIRST, WAITS, cancel, received(300, OK)],
-            Want::Accepted(300),
-        ),
-        (&[FIRST, received(100, OK), cancel], Want::Accepted(100)),
-        (
-            &[FIRST, received(100, OK), received(200, BUSY)],
-            Want::Accepted(100),
-        ),
-    ];
-    for (entries, want) in rows {
-        assert!(rt; leads(rt.alloc(), "UDP", entries, want)?, "{entries:?}");
-    }
-    Ok(())
+    all_lead(&rt, "UDP", PROCEEDING)
 }
 
 const BUSY_NOW: Entry = (1_000, Action::Received, BUSY);
@@ -276,123 +279,176 @@ const OWED: Want = Want::Completed(
     }),
 );
 
+const PAID: Want = Want::Completed(1_000, None);
+
+static COMPLETED: &[Row] = &[
+    (
+        &[FIRST, (550, Action::Received, BUSY)],
+        Want::Completed(
+            550,
+            Some(Debt {
+                message: BUSY,
+                deadline: 600,
+                must: true,
+            }),
+        ),
+    ),
+    (&[FIRST, (551, Action::Received, BUSY)], Want::Nothing),
+    (&[FIRST, WAITS, BUSY_NOW], OWED),
+    (&[FIRST, WAITS, BUSY_NOW, (1_010, Action::Sent, ACK)], PAID),
+    (&[FIRST, WAITS, BUSY_NOW, (1_050, Action::Sent, ACK)], PAID),
+    (
+        &[FIRST, WAITS, BUSY_NOW, (1_051, Action::Sent, ACK)],
+        Want::Nothing,
+    ),
+    (
+        &[FIRST, WAITS, BUSY_NOW, (1_010, Action::Sent, OTHER_ACK)],
+        Want::Nothing,
+    ),
+    (
+        &[FIRST, WAITS, BUSY_NOW, (1_010, Action::Failed, ACK)],
+        Want::Ended,
+    ),
+    (
+        &[FIRST, WAITS, BUSY_NOW, (1_010, Action::Failed, OTHER_ACK)],
+        Want::Nothing,
+    ),
+];
+
 #[test]
 fn completed(rt: HostRuntime) -> Result<(), Fail> {
-    let paid = Want::Completed(1_000, None);
-    let rows: [(&[Entry], Want); 9] = [
-        (
-            &[FIRST, received(550, BUSY)],
-            Want::Completed(550, Some(must(BUSY, 600))),
-        ),
-        (&[FIRST, received(551, BUSY)], Want::Nothing),
-        (&[FIRST, WAITS, BUSY_NOW], OWED),
-        (&[FIRST, WAITS, BUSY_NOW, sent(1_010, ACK)], paid),
-        (&[FIRST, WAITS, BUSY_NOW, sent(1_050, ACK)], paid),
-        (&[FIRST, WAITS, BUSY_NOW, sent(1_051, ACK)], Want::Nothing),
-        (
-            &[FIRST, WAITS, BUSY_NOW, sent(1_010, OTHER_ACK)],
-            Want::Nothing,
-        ),
-        (&[FIRST, WAITS, BUSY_NOW, failed(1_010, ACK)], Want::Ended),
-        (
-            &[FIRST, WAITS, BUSY_NOW, failed(1_010, OTHER_ACK)],
-            Want::Nothing,
-        ),
-    ];
-    for (entries, want) in rows {
-        assert!(rt; leads(rt.alloc(), "UDP", entries, want)?, "{entries:?}");
-    }
-    Ok(())
+    all_lead(&rt, "UDP", COMPLETED)
 }
+
+static OWES_EACH_RESPONSE: &[Row] = &[
+    (
+        &[FIRST, WAITS, BUSY_NOW, (1_010, Action::Received, OK)],
+        OWED,
+    ),
+    (
+        &[FIRST, WAITS, BUSY_NOW, (1_010, Action::Sent, CANCEL)],
+        OWED,
+    ),
+    (
+        &[
+            FIRST,
+            WAITS,
+            BUSY_NOW,
+            (1_020, Action::Received, GONE),
+            (1_030, Action::Sent, OTHER_ACK),
+        ],
+        OWED,
+    ),
+    (
+        &[
+            FIRST,
+            WAITS,
+            BUSY_NOW,
+            (1_020, Action::Received, GONE),
+            (1_030, Action::Sent, ACK),
+        ],
+        Want::Completed(
+            1_000,
+            Some(Debt {
+                message: GONE,
+                deadline: 1_070,
+                must: true,
+            }),
+        ),
+    ),
+    (
+        &[
+            FIRST,
+            WAITS,
+            BUSY_NOW,
+            (1_020, Action::Received, BUSY),
+            (1_030, Action::Sent, ACK),
+        ],
+        Want::Completed(
+            1_000,
+            Some(Debt {
+                message: BUSY,
+                deadline: 1_070,
+                must: true,
+            }),
+        ),
+    ),
+];
 
 #[test]
 fn owes_each_response(rt: HostRuntime) -> Result<(), Fail> {
-    let rows: [(&[Entry], Want); 5] = [
-        (&[FIRST, WAITS, BUSY_NOW, received(1_010, OK)], OWED),
-        (&[FIRST, WAITS, BUSY_NOW, sent(1_010, CANCEL)], OWED),
-        (
-            &[
-                FIRST,
-                WAITS,
-                BUSY_NOW,
-                received(1_020, GONE),
-                sent(1_030, OTHER_ACK),
-            ],
-            OWED,
-        ),
-        (
-            &[
-                FIRST,
-                WAITS,
-                BUSY_NOW,
-                received(1_020, GONE),
-                sent(1_030, ACK),
-            ],
-            Want::Completed(1_000, Some(must(GONE, 1_070))),
-        ),
-        (
-            &[
-                FIRST,
-                WAITS,
-                BUSY_NOW,
-                received(1_020, BUSY),
-                sent(1_030, ACK),
-            ],
-            Want::Completed(1_000, Some(must(BUSY, 1_070))),
-        ),
-    ];
-    for (entries, want) in rows {
-        assert!(rt; leads(rt.alloc(), "UDP", entries, want)?, "{entries:?}");
-    }
-    Ok(())
+    all_lead(&rt, "UDP", OWES_EACH_RESPONSE)
 }
+
+/// An INVITE that could not be sent.
+const NOT_SENT: Entry = (0, Action::Failed, INVITE);
+
+static IDLE_AND_ENDED: &[Row] = &[
+    (&[(0, Action::Sent, ACK)], Want::Idle),
+    (&[(0, Action::Failed, ACK)], Want::Idle),
+    (&[(0, Action::Sent, CANCEL)], Want::Idle),
+    (&[(0, Action::Failed, CANCEL)], Want::Idle),
+    (&[(0, Action::Received, BUSY)], Want::Idle),
+    (&[(0, Action::Sent, OPTIONS)], Want::Nothing),
+    (&[NOT_SENT, (10, Action::Sent, CANCEL)], Want::Ended),
+    (&[NOT_SENT, (10, Action::Received, BUSY)], Want::Ended),
+    (&[NOT_SENT, (10, Action::Sent, INVITE)], Want::Nothing),
+    (&[NOT_SENT, (10, Action::Sent, ACK)], Want::Nothing),
+];
 
 #[test]
 fn idle_and_ended(rt: HostRuntime) -> Result<(), Fail> {
-    let end = failed(0, INVITE);
-    let rows: [(&[Entry], Want); 10] = [
-        (&[sent(0, ACK)], Want::Idle),
-        (&[failed(0, ACK)], Want::Idle),
-        (&[sent(0, CANCEL)], Want::Idle),
-        (&[failed(0, CANCEL)], Want::Idle),
-        (&[received(0, BUSY)], Want::Idle),
-        (&[sent(0, OPTIONS)], Want::Nothing),
-        (&[end, sent(10, CANCEL)], Want::Ended),
-        (&[end, received(10, BUSY)], Want::Ended),
-        (&[end, sent(10, INVITE)], Want::Nothing),
-        (&[end, sent(10, ACK)], Want::Nothing),
-    ];
-    for (entries, want) in rows {
-        assert!(rt; leads(rt.alloc(), "UDP", entries, want)?, "{entries:?}");
-    }
-    Ok(())
+    all_lead(&rt, "UDP", IDLE_AND_ENDED)
 }
 
 /// Two equal responses at once over a reliable transport, and the ACK for one of them.
-const OWING: [Entry; 4] = [
-    FIRST,
-    (0, Action::Received, BUSY),
-    (40, Action::Received, BUSY),
-    (50, Action::Sent, ACK),
+const OWING: [Entry; 4] = [FIRST, BUSY_AT_ONCE, BUSY_AGAIN, ACK_OF_ONE];
+
+const BUSY_AT_ONCE: Entry = (0, Action::Received, BUSY);
+
+const BUSY_AGAIN: Entry = (40, Action::Received, BUSY);
+
+const ACK_OF_ONE: Entry = (50, Action::Sent, ACK);
+
+static OVER_A_RELIABLE_TRANSPORT: &[Row] = &[
+    (&[FIRST, (500, Action::Sent, INVITE)], Want::Nothing),
+    (&[FIRST, (500, Action::Failed, INVITE)], Want::Nothing),
+    (
+        &OWING,
+        Want::Completed(
+            0,
+            Some(Debt {
+                message: BUSY,
+                deadline: 90,
+                must: true,
+            }),
+        ),
+    ),
+    (
+        &[
+            FIRST,
+            BUSY_AT_ONCE,
+            BUSY_AGAIN,
+            ACK_OF_ONE,
+            (50, Action::Sent, ACK),
+        ],
+        Want::Completed(0, None),
+    ),
+    (
+        &[
+            FIRST,
+            BUSY_AT_ONCE,
+            BUSY_AGAIN,
+            ACK_OF_ONE,
+            (51, Action::Sent, ACK),
+        ],
+        Want::Nothing,
+    ),
 ];
 
 #[test]
 fn over_a_reliable_transport(rt: HostRuntime) -> Result<(), Fail> {
-    let [first, busy, again, ack] = OWING;
-    let rows: [(&[Entry], Want); 5] = [
-        (&[FIRST, sent(500, INVITE)], Want::Nothing),
-        (&[FIRST, failed(500, INVITE)], Want::Nothing),
-        (&OWING, Want::Completed(0, Some(must(BUSY, 90)))),
-        (
-            &[first, busy, again, ack, sent(50, ACK)],
-            Want::Completed(0, None),
-        ),
-        (&[first, busy, again, ack, sent(51, ACK)], Want::Nothing),
-    ];
-    for (entries, want) in rows {
-        assert!(rt; leads(rt.alloc(), "TCP", entries, want)?, "{entries:?}");
-    }
-    Ok(())
+    all_lead(&rt, "TCP", OVER_A_RELIABLE_TRANSPORT)
 }
 
 /// When the state may end, and its last moment.
@@ -414,63 +470,85 @@ fn ends_after(alloc: Global, t1: u64, transport: &str, entries: &[Entry]) -> Res
     Ok(ends_of(&client, only))
 }
 
-#[test]
-fn ends(rt: HostRuntime) -> Result<(), Fail> {
-    let alloc = rt.alloc();
-    let timer_b = Some((31_950, Some(32_050)));
-    let rows: [(&[Entry], Ends); 8] = [
-        (&[], (None, None)),
-        (&[FIRST], (timer_b, Some(550))),
-        (&REPEATS, (timer_b, Some(32_050))),
-        (&[FIRST, WAITS], (None, None)),
-        (
-            &[FIRST, WAITS, sent(150, CANCEL)],
-            (Some((32_100, None)), None),
-        ),
-        (&[FIRST, WAITS, BUSY_NOW], (None, Some(1_050))),
-        (
-            &[FIRST, WAITS, BUSY_NOW, sent(1_010, ACK)],
-            (Some((32_950, None)), None),
-        ),
-        (&[failed(0, INVITE)], (None, None)),
-    ];
-    for (entries, want) in rows {
+/// A base time T1, a transport, entries, and the ends of the only state after them.
+type EndsRow = (u64, &'static str, &'static [Entry], Ends);
+
+fn all_end(rt: &(impl Abort + AllocGlobal), rows: &[EndsRow]) -> Result<(), Fail> {
+    for &(t1, transport, entries, want) in rows {
         assert!(rt;
-            ends_after(alloc, 500, "UDP", entries)? == want,
-            "{entries:?}"
+            ends_after(rt.alloc(), t1, transport, entries)? == want,
+            "{t1} {transport} {entries:?}"
         );
     }
     Ok(())
 }
 
+const TIMER_B: Option<(u64, Option<u64>)> = Some((31_950, Some(32_050)));
+
+static ENDS: &[EndsRow] = &[
+    (500, "UDP", &[], (None, None)),
+    (500, "UDP", &[FIRST], (TIMER_B, Some(550))),
+    (500, "UDP", &REPEATS, (TIMER_B, Some(32_050))),
+    (500, "UDP", &[FIRST, WAITS], (None, None)),
+    (
+        500,
+        "UDP",
+        &[FIRST, WAITS, CANCELLED],
+        (Some((32_100, None)), None),
+    ),
+    (500, "UDP", &[FIRST, WAITS, BUSY_NOW], (None, Some(1_050))),
+    (
+        500,
+        "UDP",
+        &[FIRST, WAITS, BUSY_NOW, (1_010, Action::Sent, ACK)],
+        (Some((32_950, None)), None),
+    ),
+    (500, "UDP", &[NOT_SENT], (None, None)),
+];
+
+#[test]
+fn ends(rt: HostRuntime) -> Result<(), Fail> {
+    all_end(&rt, ENDS)
+}
+
+const OK_NOW: Entry = (100, Action::Received, OK);
+
+static ENDS_BY_TRANSPORT_AND_TIMES: &[EndsRow] = &[
+    (500, "TCP", &[FIRST], (TIMER_B, Some(32_050))),
+    (500, "TCP", &OWING, (None, Some(50))),
+    (
+        500,
+        "TCP",
+        &[
+            FIRST,
+            BUSY_AT_ONCE,
+            BUSY_AGAIN,
+            ACK_OF_ONE,
+            (50, Action::Sent, ACK),
+        ],
+        (Some((0, Some(50))), Some(50)),
+    ),
+    (
+        500,
+        "UDP",
+        &[FIRST, OK_NOW],
+        (Some((32_050, Some(32_150))), Some(32_150)),
+    ),
+    (
+        500,
+        "TCP",
+        &[FIRST, OK_NOW],
+        (Some((32_050, Some(32_150))), Some(32_150)),
+    ),
+    (
+        1_000,
+        "UDP",
+        &[FIRST, OK_NOW],
+        (Some((64_050, Some(64_150))), Some(64_150)),
+    ),
+];
+
 #[test]
 fn ends_by_transport_and_times(rt: HostRuntime) -> Result<(), Fail> {
-    let alloc = rt.alloc();
-    let [first, busy, again, ack] = OWING;
-    let rows: [(&[Entry], Ends); 3] = [
-        (&[FIRST], (Some((31_950, Some(32_050))), Some(32_050))),
-        (&OWING, (None, Some(50))),
-        (
-            &[first, busy, again, ack, sent(50, ACK)],
-            (Some((0, Some(50))), Some(50)),
-        ),
-    ];
-    for (entries, want) in rows {
-        assert!(rt;
-            ends_after(alloc, 500, "TCP", entries)? == want,
-            "{entries:?}"
-        );
-    }
-    let accepted = [FIRST, received(100, OK)];
-    for (transport, t1, want) in [
-        ("UDP", 500, (Some((32_050, Some(32_150))), Some(32_150))),
-        ("TCP", 500, (Some((32_050, Some(32_150))), Some(32_150))),
-        ("UDP", 1_000, (Some((64_050, Some(64_150))), Some(64_150))),
-    ] {
-        assert!(rt;
-            ends_after(alloc, t1, transport, &accepted)? == want,
-            "{transport} {t1}"
-        );
-    }
-    Ok(())
+    all_end(&rt, ENDS_BY_TRANSPORT_AND_TIMES)
 }

@@ -11,6 +11,7 @@ use sip_machine::{
     Owing, Params, Run,
 };
 use std::alloc::Global;
+use std::process::Abort;
 use std::test::Fail;
 
 /// An entry: its moment, what was done, and the number of its message.
@@ -47,70 +48,32 @@ const MESSAGES: [Numbered; 9] = [
     (OTHER, Start::Request("INFO"), None),
 ];
 
-fn received(moment: u64, number: u32) -> Entry {
-    (moment, Action::Received, number)
-}
+/// A debt that is wanted: its message, its deadline, and whether it must be sent.
+type Owed = (u32, u64, bool);
 
-fn invite(moment: u64) -> Entry {
-    received(moment, INVITE)
-}
+const MUST: bool = true;
 
-fn ack(moment: u64) -> Entry {
-    received(moment, ACK)
-}
+const MAY: bool = false;
 
-fn sent(moment: u64, number: u32) -> Entry {
-    (moment, Action::Sent, number)
-}
-
-fn ringing(moment: u64) -> Entry {
-    sent(moment, RINGING)
-}
-
-fn busy(moment: u64) -> Entry {
-    sent(moment, BUSY)
-}
-
-fn ok(moment: u64) -> Entry {
-    sent(moment, OK)
-}
-
-fn must(message: u32, deadline: u64) -> Debt {
-    Debt {
-        message,
-        deadline,
-        must: true,
-    }
-}
-
-fn may(message: u32, deadline: u64) -> Debt {
-    Debt {
-        message,
-        deadline,
-        must: false,
-    }
-}
-
-/// Up to one debt that is wanted.
-type Debts = Option<Debt>;
-
-fn are_owed(runs: &[Run], want: Debts) -> bool {
-    match runs {
-        [] => want.is_none(),
-        [only] => only.count == 1 && want == Some(only.debt),
-        _ => false,
-    }
+fn are_owed(runs: &[Run], wants: &[Owed]) -> bool {
+    runs.len() == wants.len()
+        && runs.iter().zip(wants).all(|(run, want)| {
+            run.count == 1
+                && run.debt.message == want.0
+                && run.debt.deadline == want.1
+                && run.debt.must == want.2
+        })
 }
 
 /// A state that is wanted, over an unreliable transport.
-#[derive(Clone, Copy, Debug)]
+#[derive(Clone, Copy)]
 enum Want {
     Idle,
-    Proceeding(u64, Option<u32>, Debts),
-    Accepted(u64, Debts),
+    Proceeding(u64, Option<u32>, &'static [Owed]),
+    Accepted(u64, &'static [Owed]),
     /// When the final response was sent, when timer G was set last, and for how long.
-    Completed(u64, u64, u64, Debts),
-    Confirmed(u64, Debts),
+    Completed(u64, u64, u64, &'static [Owed]),
+    Confirmed(u64, &'static [Owed]),
 }
 
 fn is_wanted(state: &InviteServerState, want: Want) -> bool {
@@ -215,190 +178,369 @@ fn leads(alloc: Global, entries: &[Entry], wants: &[Want]) -> Result<bool, Fail>
     Ok(are_wanted(&states, wants))
 }
 
-#[test]
-fn before_the_final_response(rt: HostRuntime) -> Result<(), Fail> {
-    let first = invite(0);
-    let quiet = Want::Proceeding(0, None, None);
-    let rings = |owes| Want::Proceeding(0, Some(RINGING), owes);
-    let owed = Some(must(RINGING, 60));
-    let rows: [(&[Entry], &[Want]); 15] = [
-        (&[], &[Want::Idle]),
-        (&[busy(0)], &[]),
-        (&[ack(0)], &[Want::Idle]),
-        (&[first], &[quiet]),
-        (&[first, invite(10)], &[quiet]),
-        (&[first, invite(250)], &[quiet]),
-        (&[first, invite(251)], &[]),
-        (&[first, ringing(250)], &[rings(None)]),
-        (&[first, ringing(251)], &[]),
-        (&[first, ringing(5), invite(10)], &[rings(owed)]),
-        (
-            &[first, ringing(5), invite(10), ringing(50)],
-            &[rings(owed), rings(None)],
-        ),
-        (
-            &[first, ringing(5), invite(10), (60, Action::Failed, RINGING)],
-            &[rings(owed), rings(None)],
-        ),
-        (&[first, ringing(5), invite(10), ringing(61)], &[]),
-        (
-            &[first, ringing(5), invite(10), sent(20, PROGRESS)],
-            &[Want::Proceeding(0, Some(PROGRESS), owed)],
-        ),
-        (
-            &[
-                first,
-                ringing(5),
-                invite(10),
-                sent(20, PROGRESS),
-                ringing(30),
-            ],
-            &[rings(owed), Want::Proceeding(0, Some(PROGRESS), None)],
-        ),
-    ];
-    for (entries, wants) in rows {
+/// Entries, and where they lead.
+type Row = (&'static [Entry], &'static [Want]);
+
+/// That the entries of each row lead to its states.
+fn all_lead(rt: &(impl Abort + AllocGlobal), rows: &[Row]) -> Result<(), Fail> {
+    for &(entries, wants) in rows {
         assert!(rt; leads(rt.alloc(), entries, wants)?, "{entries:?}");
     }
     Ok(())
 }
+
+const FIRST: Entry = (0, Action::Received, INVITE);
+
+const TRYING_ONCE: Entry = (5, Action::Sent, TRYING);
+
+const QUIET: Want = Want::Proceeding(0, None, &[]);
+
+const ACCEPTED: Want = Want::Accepted(10, &[]);
+
+static BEFORE_THE_FINAL_RESPONSE: &[Row] = &[
+    (&[], &[Want::Idle]),
+    (&[(0, Action::Sent, BUSY)], &[]),
+    (&[(0, Action::Received, ACK)], &[Want::Idle]),
+    (&[FIRST], &[QUIET]),
+    (&[FIRST, (10, Action::Received, INVITE)], &[QUIET]),
+    (&[FIRST, (250, Action::Received, INVITE)], &[QUIET]),
+    (&[FIRST, (251, Action::Received, INVITE)], &[]),
+    (
+        &[FIRST, (250, Action::Sent, RINGING)],
+        &[Want::Proceeding(0, Some(RINGING), &[])],
+    ),
+    (&[FIRST, (251, Action::Sent, RINGING)], &[]),
+    (
+        &[
+            FIRST,
+            (5, Action::Sent, RINGING),
+            (10, Action::Received, INVITE),
+        ],
+        &[Want::Proceeding(0, Some(RINGING), &[(RINGING, 60, MUST)])],
+    ),
+    (
+        &[
+            FIRST,
+            (5, Action::Sent, RINGING),
+            (10, Action::Received, INVITE),
+            (50, Action::Sent, RINGING),
+        ],
+        &[
+            Want::Proceeding(0, Some(RINGING), &[(RINGING, 60, MUST)]),
+            Want::Proceeding(0, Some(RINGING), &[]),
+        ],
+    ),
+    (
+        &[
+            FIRST,
+            (5, Action::Sent, RINGING),
+            (10, Action::Received, INVITE),
+            (60, Action::Failed, RINGING),
+        ],
+        &[
+            Want::Proceeding(0, Some(RINGING), &[(RINGING, 60, MUST)]),
+            Want::Proceeding(0, Some(RINGING), &[]),
+        ],
+    ),
+    (
+        &[
+            FIRST,
+            (5, Action::Sent, RINGING),
+            (10, Action::Received, INVITE),
+            (61, Action::Sent, RINGING),
+        ],
+        &[],
+    ),
+    (
+        &[
+            FIRST,
+            (5, Action::Sent, RINGING),
+            (10, Action::Received, INVITE),
+            (20, Action::Sent, PROGRESS),
+        ],
+        &[Want::Proceeding(0, Some(PROGRESS), &[(RINGING, 60, MUST)])],
+    ),
+    (
+        &[
+            FIRST,
+            (5, Action::Sent, RINGING),
+            (10, Action::Received, INVITE),
+            (20, Action::Sent, PROGRESS),
+            (30, Action::Sent, RINGING),
+        ],
+        &[
+            Want::Proceeding(0, Some(RINGING), &[(RINGING, 60, MUST)]),
+            Want::Proceeding(0, Some(PROGRESS), &[]),
+        ],
+    ),
+];
+
+#[test]
+fn before_the_final_response(rt: HostRuntime) -> Result<(), Fail> {
+    all_lead(&rt, BEFORE_THE_FINAL_RESPONSE)
+}
+
+static A_100_NEED_NOT_BE_REPEATED: &[Row] = &[
+    (
+        &[FIRST, TRYING_ONCE, (10, Action::Received, INVITE)],
+        &[Want::Proceeding(0, Some(TRYING), &[(TRYING, 60, MAY)])],
+    ),
+    (
+        &[
+            FIRST,
+            TRYING_ONCE,
+            (10, Action::Received, INVITE),
+            (61, Action::Received, INVITE),
+        ],
+        &[Want::Proceeding(0, Some(TRYING), &[(TRYING, 111, MAY)])],
+    ),
+    (
+        &[
+            FIRST,
+            TRYING_ONCE,
+            (10, Action::Received, INVITE),
+            (61, Action::Received, CANCEL),
+        ],
+        &[Want::Proceeding(0, Some(TRYING), &[])],
+    ),
+    (
+        &[
+            FIRST,
+            TRYING_ONCE,
+            (10, Action::Received, INVITE),
+            (61, Action::Sent, TRYING),
+        ],
+        &[Want::Proceeding(0, Some(TRYING), &[])],
+    ),
+];
 
 #[test]
 fn a_100_need_not_be_repeated(rt: HostRuntime) -> Result<(), Fail> {
-    let first = invite(0);
-    let trying = sent(5, TRYING);
-    let tries = |owes| Want::Proceeding(0, Some(TRYING), owes);
-    let rows: [(&[Entry], &[Want]); 4] = [
-        (
-            &[first, trying, invite(10)],
-            &[tries(Some(may(TRYING, 60)))],
-        ),
-        (
-            &[first, trying, invite(10), invite(61)],
-            &[tries(Some(may(TRYING, 111)))],
-        ),
-        (
-            &[first, trying, invite(10), received(61, CANCEL)],
-            &[tries(None)],
-        ),
-        (
-            &[first, trying, invite(10), sent(61, TRYING)],
-            &[tries(None)],
-        ),
-    ];
-    for (entries, wants) in rows {
-        assert!(rt; leads(rt.alloc(), entries, wants)?, "{entries:?}");
-    }
-    Ok(())
+    all_lead(&rt, A_100_NEED_NOT_BE_REPEATED)
 }
+
+static AFTER_A_2XX: &[Row] = &[
+    (&[FIRST, (10, Action::Sent, OK)], &[ACCEPTED]),
+    (
+        &[
+            FIRST,
+            (10, Action::Sent, OK),
+            (500, Action::Received, INVITE),
+        ],
+        &[ACCEPTED],
+    ),
+    (
+        &[FIRST, (10, Action::Sent, OK), (500, Action::Received, ACK)],
+        &[ACCEPTED],
+    ),
+    (
+        &[FIRST, (10, Action::Sent, OK), (600, Action::Sent, OK)],
+        &[ACCEPTED],
+    ),
+    (
+        &[FIRST, (10, Action::Sent, OK), (600, Action::Sent, BUSY)],
+        &[],
+    ),
+    (
+        &[FIRST, (10, Action::Sent, OK), (600, Action::Sent, RINGING)],
+        &[],
+    ),
+    (
+        &[FIRST, (10, Action::Sent, OK), (32_060, Action::Sent, OK)],
+        &[ACCEPTED],
+    ),
+    (
+        &[FIRST, (10, Action::Sent, OK), (32_061, Action::Sent, OK)],
+        &[],
+    ),
+    (
+        &[
+            FIRST,
+            (5, Action::Sent, RINGING),
+            (10, Action::Received, INVITE),
+            (20, Action::Sent, OK),
+        ],
+        &[Want::Accepted(20, &[(RINGING, 60, MAY)])],
+    ),
+    (
+        &[
+            FIRST,
+            (5, Action::Sent, RINGING),
+            (10, Action::Received, INVITE),
+            (20, Action::Sent, OK),
+            (60, Action::Sent, RINGING),
+        ],
+        &[Want::Accepted(20, &[])],
+    ),
+    (
+        &[
+            FIRST,
+            (5, Action::Sent, RINGING),
+            (10, Action::Received, INVITE),
+            (20, Action::Sent, OK),
+            (61, Action::Sent, RINGING),
+        ],
+        &[],
+    ),
+];
 
 #[test]
 fn after_a_2xx(rt: HostRuntime) -> Result<(), Fail> {
-    let first = invite(0);
-    let accepted = Want::Accepted(10, None);
-    let rows: [(&[Entry], &[Want]); 11] = [
-        (&[first, ok(10)], &[accepted]),
-        (&[first, ok(10), invite(500)], &[accepted]),
-        (&[first, ok(10), ack(500)], &[accepted]),
-        (&[first, ok(10), ok(600)], &[accepted]),
-        (&[first, ok(10), busy(600)], &[]),
-        (&[first, ok(10), ringing(600)], &[]),
-        (&[first, ok(10), ok(32_060)], &[accepted]),
-        (&[first, ok(10), ok(32_061)], &[]),
-        (
-            &[first, ringing(5), invite(10), ok(20)],
-            &[Want::Accepted(20, Some(may(RINGING, 60)))],
-        ),
-        (
-            &[first, ringing(5), invite(10), ok(20), ringing(60)],
-            &[Want::Accepted(20, None)],
-        ),
-        (&[first, ringing(5), invite(10), ok(20), ringing(61)], &[]),
-    ];
-    for (entries, wants) in rows {
-        assert!(rt; leads(rt.alloc(), entries, wants)?, "{entries:?}");
-    }
-    Ok(())
+    all_lead(&rt, AFTER_A_2XX)
 }
+
+static TIMER_G: &[Row] = &[
+    (
+        &[FIRST, (10, Action::Sent, BUSY)],
+        &[Want::Completed(10, 10, 500, &[])],
+    ),
+    (
+        &[FIRST, (10, Action::Sent, BUSY), (459, Action::Sent, BUSY)],
+        &[],
+    ),
+    (
+        &[FIRST, (10, Action::Sent, BUSY), (460, Action::Sent, BUSY)],
+        &[Want::Completed(10, 460, 1_000, &[])],
+    ),
+    (
+        &[FIRST, (10, Action::Sent, BUSY), (560, Action::Sent, BUSY)],
+        &[Want::Completed(10, 560, 1_000, &[])],
+    ),
+    (
+        &[FIRST, (10, Action::Sent, BUSY), (561, Action::Sent, BUSY)],
+        &[],
+    ),
+    (
+        &[FIRST, (10, Action::Sent, BUSY), (460, Action::Sent, OK)],
+        &[],
+    ),
+    (
+        &[
+            FIRST,
+            (0, Action::Sent, BUSY),
+            (500, Action::Sent, BUSY),
+            (1_500, Action::Sent, BUSY),
+            (3_500, Action::Sent, BUSY),
+        ],
+        &[Want::Completed(0, 3_500, 4_000, &[])],
+    ),
+    (
+        &[
+            FIRST,
+            (0, Action::Sent, BUSY),
+            (500, Action::Sent, BUSY),
+            (1_500, Action::Sent, BUSY),
+            (3_500, Action::Sent, BUSY),
+            (7_500, Action::Sent, BUSY),
+        ],
+        &[Want::Completed(0, 7_500, 4_000, &[])],
+    ),
+    (
+        &[
+            FIRST,
+            (0, Action::Sent, BUSY),
+            (480, Action::Received, INVITE),
+            (490, Action::Sent, BUSY),
+        ],
+        &[
+            Want::Completed(0, 490, 1_000, &[(BUSY, 530, MAY)]),
+            Want::Completed(0, 0, 500, &[]),
+        ],
+    ),
+    (
+        &[
+            FIRST,
+            (0, Action::Sent, BUSY),
+            (100, Action::Received, INVITE),
+            (120, Action::Sent, BUSY),
+        ],
+        &[Want::Completed(0, 0, 500, &[])],
+    ),
+];
 
 #[test]
 fn timer_g(rt: HostRuntime) -> Result<(), Fail> {
-    let first = invite(0);
-    let rows: [(&[Entry], &[Want]); 10] = [
-        (&[first, busy(10)], &[Want::Completed(10, 10, 500, None)]),
-        (&[first, busy(10), busy(459)], &[]),
-        (
-            &[first, busy(10), busy(460)],
-            &[Want::Completed(10, 460, 1_000, None)],
-        ),
-        (
-            &[first, busy(10), busy(560)],
-            &[Want::Completed(10, 560, 1_000, None)],
-        ),
-        (&[first, busy(10), busy(561)], &[]),
-        (&[first, busy(10), ok(460)], &[]),
-        (
-            &[first, busy(0), busy(500), busy(1_500), busy(3_500)],
-            &[Want::Completed(0, 3_500, 4_000, None)],
-        ),
-        (
-            &[
-                first,
-                busy(0),
-                busy(500),
-                busy(1_500),
-                busy(3_500),
-                busy(7_500),
-            ],
-            &[Want::Completed(0, 7_500, 4_000, None)],
-        ),
-        (
-            &[first, busy(0), invite(480), busy(490)],
-            &[
-                Want::Completed(0, 490, 1_000, Some(may(BUSY, 530))),
-                Want::Completed(0, 0, 500, None),
-            ],
-        ),
-        (
-            &[first, busy(0), invite(100), busy(120)],
-            &[Want::Completed(0, 0, 500, None)],
-        ),
-    ];
-    for (entries, wants) in rows {
-        assert!(rt; leads(rt.alloc(), entries, wants)?, "{entries:?}");
-    }
-    Ok(())
+    all_lead(&rt, TIMER_G)
 }
+
+static AFTER_THE_ACK: &[Row] = &[
+    (
+        &[
+            FIRST,
+            (0, Action::Sent, BUSY),
+            (100, Action::Received, OTHER),
+        ],
+        &[Want::Completed(0, 0, 500, &[])],
+    ),
+    (
+        &[FIRST, (0, Action::Sent, BUSY), (100, Action::Received, ACK)],
+        &[Want::Confirmed(100, &[])],
+    ),
+    (
+        &[FIRST, (0, Action::Sent, BUSY), (551, Action::Received, ACK)],
+        &[],
+    ),
+    (
+        &[
+            FIRST,
+            (0, Action::Sent, BUSY),
+            (100, Action::Received, ACK),
+            (5_150, Action::Received, ACK),
+        ],
+        &[Want::Confirmed(100, &[])],
+    ),
+    (
+        &[
+            FIRST,
+            (0, Action::Sent, BUSY),
+            (100, Action::Received, ACK),
+            (5_151, Action::Received, ACK),
+        ],
+        &[],
+    ),
+    (
+        &[
+            FIRST,
+            (0, Action::Sent, BUSY),
+            (100, Action::Received, ACK),
+            (500, Action::Sent, BUSY),
+        ],
+        &[],
+    ),
+    (
+        &[
+            FIRST,
+            (0, Action::Sent, BUSY),
+            (480, Action::Received, INVITE),
+            (500, Action::Received, ACK),
+        ],
+        &[Want::Confirmed(500, &[(BUSY, 530, MAY)])],
+    ),
+    (
+        &[
+            FIRST,
+            (0, Action::Sent, BUSY),
+            (480, Action::Received, INVITE),
+            (500, Action::Received, ACK),
+            (530, Action::Sent, BUSY),
+        ],
+        &[Want::Confirmed(500, &[])],
+    ),
+    (
+        &[
+            FIRST,
+            (0, Action::Sent, BUSY),
+            (480, Action::Received, INVITE),
+            (500, Action::Received, ACK),
+            (531, Action::Sent, BUSY),
+        ],
+        &[],
+    ),
+];
 
 #[test]
 fn after_the_ack(rt: HostRuntime) -> Result<(), Fail> {
-    let first = invite(0);
-    let rows: [(&[Entry], &[Want]); 9] = [
-        (
-            &[first, busy(0), received(100, OTHER)],
-            &[Want::Completed(0, 0, 500, None)],
-        ),
-        (&[first, busy(0), ack(100)], &[Want::Confirmed(100, None)]),
-        (&[first, busy(0), ack(551)], &[]),
-        (
-            &[first, busy(0), ack(100), ack(5_150)],
-            &[Want::Confirmed(100, None)],
-        ),
-        (&[first, busy(0), ack(100), ack(5_151)], &[]),
-        (&[first, busy(0), ack(100), busy(500)], &[]),
-        (
-            &[first, busy(0), invite(480), ack(500)],
-            &[Want::Confirmed(500, Some(may(BUSY, 530)))],
-        ),
-        (
-            &[first, busy(0), invite(480), ack(500), busy(530)],
-            &[Want::Confirmed(500, None)],
-        ),
-        (&[first, busy(0), invite(480), ack(500), busy(531)], &[]),
-    ];
-    for (entries, wants) in rows {
-        assert!(rt; leads(rt.alloc(), entries, wants)?, "{entries:?}");
-    }
-    Ok(())
+    all_lead(&rt, AFTER_THE_ACK)
 }
 
 /// When the state may end, and its last moment.
@@ -411,34 +553,74 @@ fn ends_of(
     (server.end_window(state), server.until(state))
 }
 
+/// Entries, and the ends of the only state after them.
+type EndsRow = (&'static [Entry], Option<(u64, Option<u64>)>, Option<u64>);
+
+static ENDS: &[EndsRow] = &[
+    (&[], None, None),
+    (&[FIRST], None, Some(250)),
+    (&[FIRST, (5, Action::Sent, RINGING)], None, None),
+    (
+        &[
+            FIRST,
+            (5, Action::Sent, RINGING),
+            (10, Action::Received, INVITE),
+        ],
+        None,
+        Some(60),
+    ),
+    (
+        &[FIRST, (10, Action::Sent, OK)],
+        Some((31_960, Some(32_060))),
+        Some(32_060),
+    ),
+    (
+        &[FIRST, (10, Action::Sent, BUSY)],
+        Some((31_960, Some(32_060))),
+        Some(560),
+    ),
+    (
+        &[
+            FIRST,
+            (5, Action::Sent, RINGING),
+            (10, Action::Received, INVITE),
+            (20, Action::Sent, BUSY),
+        ],
+        Some((31_970, Some(32_070))),
+        Some(570),
+    ),
+    (
+        &[
+            FIRST,
+            (10, Action::Sent, BUSY),
+            (100, Action::Received, ACK),
+        ],
+        Some((5_050, Some(5_150))),
+        Some(5_150),
+    ),
+];
+
+/// The ends of the only state after the entries.
+fn ends_after(
+    alloc: Global,
+    server: &InviteServer,
+    entries: &[Entry],
+) -> Result<(Option<(u64, Option<u64>)>, Option<u64>), Fail> {
+    let states = states_after(alloc, entries)?;
+    let [only] = states.as_slice() else {
+        return Err("not one state".into());
+    };
+    Ok(ends_of(server, only))
+}
+
 #[test]
 fn ends(rt: HostRuntime) -> Result<(), Fail> {
     let server = server()?;
-    let first = invite(0);
-    let rows: [(&[Entry], Option<(u64, Option<u64>)>, Option<u64>); 8] = [
-        (&[], None, None),
-        (&[first], None, Some(250)),
-        (&[first, ringing(5)], None, None),
-        (&[first, ringing(5), invite(10)], None, Some(60)),
-        (&[first, ok(10)], Some((31_960, Some(32_060))), Some(32_060)),
-        (&[first, busy(10)], Some((31_960, Some(32_060))), Some(560)),
-        (
-            &[first, ringing(5), invite(10), busy(20)],
-            Some((31_970, Some(32_070))),
-            Some(570),
-        ),
-        (
-            &[first, busy(10), ack(100)],
-            Some((5_050, Some(5_150))),
-            Some(5_150),
-        ),
-    ];
-    for (entries, window, until) in rows {
-        let states = states_after(rt.alloc(), entries)?;
-        let [only] = states.as_slice() else {
-            return Err("not one state".into());
-        };
-        assert!(rt; ends_of(&server, only) == (window, until), "{entries:?}");
+    for &(entries, window, until) in ENDS {
+        assert!(rt;
+            ends_after(rt.alloc(), &server, entries)? == (window, until),
+            "{entries:?}"
+        );
     }
     assert!(rt; is_wanted(&server.ended(), Want::Idle));
     Ok(())

@@ -11,6 +11,7 @@ use sip_machine::{
     PlainClientState, Waiting,
 };
 use std::alloc::Global;
+use std::process::Abort;
 use std::test::Fail;
 
 /// An entry: its moment, what was done, and the number of its message.
@@ -29,18 +30,6 @@ const MESSAGES: [Numbered; 6] = [
     (200, Start::Response(200), Some(2)),
     (699, Start::Response(699), Some(2)),
 ];
-
-fn sent(moment: u64) -> Entry {
-    (moment, Action::Sent, REQUEST)
-}
-
-fn failed(moment: u64) -> Entry {
-    (moment, Action::Failed, REQUEST)
-}
-
-fn received(moment: u64, code: u32) -> Entry {
-    (moment, Action::Received, code)
-}
 
 /// The request of moment 0 that waits, with timer E set then for so long.
 fn waiting(set: u64, interval: u64) -> Waiting
@@ -107,66 +96,165 @@ fn step(
     Ok(next)
 }
 
-#[test]
-fn before_the_final_response(rt: HostRuntime) -> Result<(), Fail> {
-    let trying = |set, interval| Some(PlainClientPhase::Trying(waiting(set, interval)));
-    let proceeding = |set, interval| Some(PlainClientPhase::Proceeding(waiting(set, interval)));
-    let rows: [(&[Entry], Option<PlainClientPhase>); 13] = [
-        (&[], Some(PlainClientPhase::Idle)),
-        (&[sent(0)], trying(0, 500)),
-        (&[sent(0), sent(449)], None),
-        (&[sent(0), sent(450)], trying(450, 1_000)),
-        (&[sent(0), sent(550)], trying(550, 1_000)),
-        (&[sent(0), sent(551)], None),
-        (&[sent(0), (500, Action::Sent, OTHER)], None),
-        (
-            &[sent(0), sent(500), sent(1_500), sent(3_500)],
-            trying(3_500, 4_000),
-        ),
-        (
-            &[sent(0), sent(500), sent(1_500), sent(3_500), sent(7_500)],
-            trying(7_500, 4_000),
-        ),
-        (&[sent(0), received(100, 100)], proceeding(0, 500)),
-        (
-            &[sent(0), received(100, 100), received(200, 199)],
-            proceeding(0, 500),
-        ),
-        (&[sent(0), received(100, 100), sent(449)], None),
-        (
-            &[sent(0), received(100, 100), sent(450)],
-            proceeding(450, 4_000),
-        ),
-    ];
-    for (entries, want) in rows {
-        assert!(rt; phase_after(rt.alloc(), entries)? == want, "{entries:?}");
+/// A state that is wanted, of the request of moment 0 over an unreliable transport.
+#[derive(Clone, Copy)]
+enum Want {
+    /// No state at all.
+    Nothing,
+    Idle,
+    Trying(u64, u64),
+    Proceeding(u64, u64),
+    Completed(u64),
+    Ended,
+}
+
+fn wanted(want: Want) -> Option<PlainClientPhase> {
+    match want {
+        Want::Nothing => None,
+        Want::Idle => Some(PlainClientPhase::Idle),
+        Want::Trying(set, interval) => Some(PlainClientPhase::Trying(waiting(set, interval))),
+        Want::Proceeding(set, interval) => {
+            Some(PlainClientPhase::Proceeding(waiting(set, interval)))
+        }
+        Want::Completed(set) => Some(PlainClientPhase::Completed {
+            reliable: false,
+            set,
+        }),
+        Want::Ended => Some(PlainClientPhase::Ended),
+    }
+}
+
+/// Entries, and where they lead.
+type Row = (&'static [Entry], Want);
+
+/// That the entries of each row lead to its state.
+fn all_lead(rt: &(impl Abort + AllocGlobal), rows: &[Row]) -> Result<(), Fail> {
+    for &(entries, want) in rows {
+        assert!(rt;
+            phase_after(rt.alloc(), entries)? == wanted(want),
+            "{entries:?}"
+        );
     }
     Ok(())
 }
 
+static BEFORE_THE_FINAL_RESPONSE: &[Row] = &[
+    (&[], Want::Idle),
+    (&[(0, Action::Sent, REQUEST)], Want::Trying(0, 500)),
+    (
+        &[(0, Action::Sent, REQUEST), (449, Action::Sent, REQUEST)],
+        Want::Nothing,
+    ),
+    (
+        &[(0, Action::Sent, REQUEST), (450, Action::Sent, REQUEST)],
+        Want::Trying(450, 1_000),
+    ),
+    (
+        &[(0, Action::Sent, REQUEST), (550, Action::Sent, REQUEST)],
+        Want::Trying(550, 1_000),
+    ),
+    (
+        &[(0, Action::Sent, REQUEST), (551, Action::Sent, REQUEST)],
+        Want::Nothing,
+    ),
+    (
+        &[(0, Action::Sent, REQUEST), (500, Action::Sent, OTHER)],
+        Want::Nothing,
+    ),
+    (
+        &[
+            (0, Action::Sent, REQUEST),
+            (500, Action::Sent, REQUEST),
+            (1_500, Action::Sent, REQUEST),
+            (3_500, Action::Sent, REQUEST),
+        ],
+        Want::Trying(3_500, 4_000),
+    ),
+    (
+        &[
+            (0, Action::Sent, REQUEST),
+            (500, Action::Sent, REQUEST),
+            (1_500, Action::Sent, REQUEST),
+            (3_500, Action::Sent, REQUEST),
+            (7_500, Action::Sent, REQUEST),
+        ],
+        Want::Trying(7_500, 4_000),
+    ),
+    (
+        &[(0, Action::Sent, REQUEST), (100, Action::Received, 100)],
+        Want::Proceeding(0, 500),
+    ),
+    (
+        &[
+            (0, Action::Sent, REQUEST),
+            (100, Action::Received, 100),
+            (200, Action::Received, 199),
+        ],
+        Want::Proceeding(0, 500),
+    ),
+    (
+        &[
+            (0, Action::Sent, REQUEST),
+            (100, Action::Received, 100),
+            (449, Action::Sent, REQUEST),
+        ],
+        Want::Nothing,
+    ),
+    (
+        &[
+            (0, Action::Sent, REQUEST),
+            (100, Action::Received, 100),
+            (450, Action::Sent, REQUEST),
+        ],
+        Want::Proceeding(450, 4_000),
+    ),
+];
+
+#[test]
+fn before_the_final_response(rt: HostRuntime) -> Result<(), Fail> {
+    all_lead(&rt, BEFORE_THE_FINAL_RESPONSE)
+}
+
+static FINAL_RESPONSES_AND_FAILURES: &[Row] = &[
+    (
+        &[(0, Action::Sent, REQUEST), (550, Action::Received, 200)],
+        Want::Completed(550),
+    ),
+    (
+        &[(0, Action::Sent, REQUEST), (551, Action::Received, 200)],
+        Want::Nothing,
+    ),
+    (
+        &[
+            (0, Action::Sent, REQUEST),
+            (100, Action::Received, 200),
+            (5_150, Action::Received, 699),
+        ],
+        Want::Completed(100),
+    ),
+    (
+        &[
+            (0, Action::Sent, REQUEST),
+            (100, Action::Received, 200),
+            (500, Action::Sent, REQUEST),
+        ],
+        Want::Nothing,
+    ),
+    (&[(0, Action::Failed, REQUEST)], Want::Ended),
+    (
+        &[(0, Action::Sent, REQUEST), (500, Action::Failed, REQUEST)],
+        Want::Ended,
+    ),
+    (
+        &[(0, Action::Sent, REQUEST), (449, Action::Failed, REQUEST)],
+        Want::Nothing,
+    ),
+    (&[(100, Action::Received, 200)], Want::Idle),
+];
+
 #[test]
 fn final_responses_and_failures(rt: HostRuntime) -> Result<(), Fail> {
-    let completed = |set| Some(PlainClientPhase::Completed {
-        reliable: false,
-        set,
-    });
-    let rows: [(&[Entry], Option<PlainClientPhase>); 8] = [
-        (&[sent(0), received(550, 200)], completed(550)),
-        (&[sent(0), received(551, 200)], None),
-        (
-            &[sent(0), received(100, 200), received(5_150, 699)],
-            completed(100),
-        ),
-        (&[sent(0), received(100, 200), sent(500)], None),
-        (&[failed(0)], Some(PlainClientPhase::Ended)),
-        (&[sent(0), failed(500)], Some(PlainClientPhase::Ended)),
-        (&[sent(0), failed(449)], None),
-        (&[received(100, 200)], Some(PlainClientPhase::Idle)),
-    ];
-    for (entries, want) in rows {
-        assert!(rt; phase_after(rt.alloc(), entries)? == want, "{entries:?}");
-    }
-    Ok(())
+    all_lead(&rt, FINAL_RESPONSES_AND_FAILURES)
 }
 
 /// When the state may end, and its last moment.

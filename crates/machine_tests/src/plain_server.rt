@@ -11,6 +11,7 @@ use sip_machine::{
     PlainServerState, Run,
 };
 use std::alloc::Global;
+use std::process::Abort;
 use std::test::Fail;
 
 /// An entry: its moment, what was done, and the number of its message.
@@ -38,55 +39,21 @@ const MESSAGES: [Numbered; 6] = [
     (LAST, Start::Response(699), None),
 ];
 
-fn received(moment: u64) -> Entry {
-    (moment, Action::Received, REQUEST)
-}
+/// A debt that is wanted: its message, its deadline, and whether it must be sent.
+type Owed = (u32, u64, bool);
 
-fn sent(moment: u64, number: u32) -> Entry {
-    (moment, Action::Sent, number)
-}
+const MUST: bool = true;
 
-fn failed(moment: u64, number: u32) -> Entry {
-    (moment, Action::Failed, number)
-}
+const MAY: bool = false;
 
-fn must(message: u32, deadline: u64) -> Debt {
-    Debt {
-        message,
-        deadline,
-        must: true,
-    }
-}
-
-fn may(message: u32, deadline: u64) -> Debt {
-    Debt {
-        message,
-        deadline,
-        must: false,
-    }
-}
-
-/// Up to two debts that are wanted, and differ.
-type Debts = [Option<Debt>; 2];
-
-const NOTHING: Debts = [None, None];
-
-fn one(debt: Debt) -> Debts {
-    [Some(debt), None]
-}
-
-fn two(first: Debt, second: Debt) -> Debts {
-    [Some(first), Some(second)]
-}
-
-fn are_owed(runs: &[Run], want: Debts) -> bool {
-    let debts = match runs {
-        [] => NOTHING,
-        [only] => one(only.debt),
-        [first, second] => two(first.debt, second.debt),
-        _ => return false,
-    };
-    runs.iter().all(|run| run.count == 1) && debts == want
+fn are_owed(runs: &[Run], wants: &[Owed]) -> bool {
+    runs.len() == wants.len()
+        && runs.iter().zip(wants).all(|(run, want)| {
+            run.count == 1
+                && run.debt.message == want.0
+                && run.debt.deadline == want.1
+                && run.debt.must == want.2
+        })
 }
 
 /// A state that is wanted, over an unreliable transport.
@@ -94,8 +61,8 @@ fn are_owed(runs: &[Run], want: Debts) -> bool {
 enum Want {
     Idle,
     Trying,
-    Proceeding(u32, Debts),
-    Completed(u32, u64, Debts),
+    Proceeding(u32, &'static [Owed]),
+    Completed(u32, u64, &'static [Owed]),
 }
 
 fn is_wanted(state: &PlainServerState, want: Want) -> bool {
@@ -184,160 +151,247 @@ fn leads(alloc: Global, entries: &[Entry], wants: &[Want]) -> Result<bool, Fail>
     Ok(are_wanted(&states, wants))
 }
 
-#[test]
-fn before_the_final_response(rt: HostRuntime) -> Result<(), Fail> {
-    let first = received(0);
-    let ringing = sent(5, RINGING);
-    let owed = must(RINGING, 60);
-    let rows: [(&[Entry], &[Want]); 13] = [
-        (&[], &[Want::Idle]),
-        (&[sent(0, FINAL)], &[]),
-        (&[first], &[Want::Trying]),
-        (&[first, received(10)], &[Want::Trying]),
-        (&[first, ringing], &[Want::Proceeding(RINGING, NOTHING)]),
-        (
-            &[first, ringing, received(10)],
-            &[Want::Proceeding(RINGING, one(owed))],
-        ),
-        (
-            &[first, ringing, received(10), sent(50, RINGING)],
-            &[
-                Want::Proceeding(RINGING, one(owed)),
-                Want::Proceeding(RINGING, NOTHING),
-            ],
-        ),
-        (
-            &[first, ringing, received(10), failed(60, RINGING)],
-            &[
-                Want::Proceeding(RINGING, one(owed)),
-                Want::Proceeding(RINGING, NOTHING),
-            ],
-        ),
-        (&[first, ringing, received(10), sent(61, RINGING)], &[]),
-        (
-            &[first, ringing, received(10), sent(20, PROGRESS)],
-            &[Want::Proceeding(PROGRESS, one(owed))],
-        ),
-        (
-            &[
-                first,
-                ringing,
-                received(10),
-                received(20),
-                sent(30, RINGING),
-            ],
-            &[
-                Want::Proceeding(RINGING, two(owed, must(RINGING, 70))),
-                Want::Proceeding(RINGING, one(must(RINGING, 70))),
-            ],
-        ),
-        (
-            &[first, sent(5, PROGRESS), received(10)],
-            &[Want::Proceeding(PROGRESS, one(must(PROGRESS, 60)))],
-        ),
-        (
-            &[first, ringing, (20, Action::Received, FINAL)],
-            &[Want::Proceeding(RINGING, NOTHING)],
-        ),
-    ];
-    for (entries, wants) in rows {
+/// Entries, and where they lead.
+type Row = (&'static [Entry], &'static [Want]);
+
+/// That the entries of each row lead to its states.
+fn all_lead(rt: &(impl Abort + AllocGlobal), rows: &[Row]) -> Result<(), Fail> {
+    for &(entries, wants) in rows {
         assert!(rt; leads(rt.alloc(), entries, wants)?, "{entries:?}");
     }
     Ok(())
 }
+
+const FIRST: Entry = (0, Action::Received, REQUEST);
+
+const RINGING_ONCE: Entry = (5, Action::Sent, RINGING);
+
+const TRYING_ONCE: Entry = (5, Action::Sent, TRYING);
+
+const FINAL_ONCE: Entry = (10, Action::Sent, FINAL);
+
+static BEFORE_THE_FINAL_RESPONSE: &[Row] = &[
+    (&[], &[Want::Idle]),
+    (&[(0, Action::Sent, FINAL)], &[]),
+    (&[FIRST], &[Want::Trying]),
+    (&[FIRST, (10, Action::Received, REQUEST)], &[Want::Trying]),
+    (&[FIRST, RINGING_ONCE], &[Want::Proceeding(RINGING, &[])]),
+    (
+        &[FIRST, RINGING_ONCE, (10, Action::Received, REQUEST)],
+        &[Want::Proceeding(RINGING, &[(RINGING, 60, MUST)])],
+    ),
+    (
+        &[
+            FIRST,
+            RINGING_ONCE,
+            (10, Action::Received, REQUEST),
+            (50, Action::Sent, RINGING),
+        ],
+        &[
+            Want::Proceeding(RINGING, &[(RINGING, 60, MUST)]),
+            Want::Proceeding(RINGING, &[]),
+        ],
+    ),
+    (
+        &[
+            FIRST,
+            RINGING_ONCE,
+            (10, Action::Received, REQUEST),
+            (60, Action::Failed, RINGING),
+        ],
+        &[
+            Want::Proceeding(RINGING, &[(RINGING, 60, MUST)]),
+            Want::Proceeding(RINGING, &[]),
+        ],
+    ),
+    (
+        &[
+            FIRST,
+            RINGING_ONCE,
+            (10, Action::Received, REQUEST),
+            (61, Action::Sent, RINGING),
+        ],
+        &[],
+    ),
+    (
+        &[
+            FIRST,
+            RINGING_ONCE,
+            (10, Action::Received, REQUEST),
+            (20, Action::Sent, PROGRESS),
+        ],
+        &[Want::Proceeding(PROGRESS, &[(RINGING, 60, MUST)])],
+    ),
+    (
+        &[
+            FIRST,
+            RINGING_ONCE,
+            (10, Action::Received, REQUEST),
+            (20, Action::Received, REQUEST),
+            (30, Action::Sent, RINGING),
+        ],
+        &[
+            Want::Proceeding(RINGING, &[(RINGING, 60, MUST), (RINGING, 70, MUST)]),
+            Want::Proceeding(RINGING, &[(RINGING, 70, MUST)]),
+        ],
+    ),
+    (
+        &[
+            FIRST,
+            (5, Action::Sent, PROGRESS),
+            (10, Action::Received, REQUEST),
+        ],
+        &[Want::Proceeding(PROGRESS, &[(PROGRESS, 60, MUST)])],
+    ),
+    (
+        &[FIRST, RINGING_ONCE, (20, Action::Received, FINAL)],
+        &[Want::Proceeding(RINGING, &[])],
+    ),
+];
+
+#[test]
+fn before_the_final_response(rt: HostRuntime) -> Result<(), Fail> {
+    all_lead(&rt, BEFORE_THE_FINAL_RESPONSE)
+}
+
+static A_100_NEED_NOT_BE_REPEATED: &[Row] = &[
+    (
+        &[FIRST, TRYING_ONCE, (10, Action::Received, REQUEST)],
+        &[Want::Proceeding(TRYING, &[(TRYING, 60, MAY)])],
+    ),
+    (
+        &[
+            FIRST,
+            TRYING_ONCE,
+            (10, Action::Received, REQUEST),
+            (60, Action::Received, REQUEST),
+        ],
+        &[Want::Proceeding(TRYING, &[(TRYING, 60, MAY), (TRYING, 110, MAY)])],
+    ),
+    (
+        &[
+            FIRST,
+            TRYING_ONCE,
+            (10, Action::Received, REQUEST),
+            (61, Action::Received, REQUEST),
+        ],
+        &[Want::Proceeding(TRYING, &[(TRYING, 111, MAY)])],
+    ),
+    (
+        &[
+            FIRST,
+            TRYING_ONCE,
+            (10, Action::Received, REQUEST),
+            (61, Action::Sent, TRYING),
+        ],
+        &[Want::Proceeding(TRYING, &[])],
+    ),
+];
 
 #[test]
 fn a_100_need_not_be_repeated(rt: HostRuntime) -> Result<(), Fail> {
-    let first = received(0);
-    let trying = sent(5, TRYING);
-    let rows: [(&[Entry], &[Want]); 4] = [
-        (
-            &[first, trying, received(10)],
-            &[Want::Proceeding(TRYING, one(may(TRYING, 60)))],
-        ),
-        (
-            &[first, trying, received(10), received(60)],
-            &[Want::Proceeding(TRYING, two(may(TRYING, 60), may(TRYING, 110)))],
-        ),
-        (
-            &[first, trying, received(10), received(61)],
-            &[Want::Proceeding(TRYING, one(may(TRYING, 111)))],
-        ),
-        (
-            &[first, trying, received(10), sent(61, TRYING)],
-            &[Want::Proceeding(TRYING, NOTHING)],
-        ),
-    ];
-    for (entries, wants) in rows {
-        assert!(rt; leads(rt.alloc(), entries, wants)?, "{entries:?}");
-    }
-    Ok(())
+    all_lead(&rt, A_100_NEED_NOT_BE_REPEATED)
 }
+
+static AFTER_THE_FINAL_RESPONSE: &[Row] = &[
+    (&[FIRST, FINAL_ONCE], &[Want::Completed(FINAL, 10, &[])]),
+    (
+        &[FIRST, (10, Action::Failed, LAST)],
+        &[Want::Completed(LAST, 10, &[])],
+    ),
+    (&[FIRST, FINAL_ONCE, (20, Action::Sent, FINAL)], &[]),
+    (
+        &[FIRST, FINAL_ONCE, (500, Action::Received, REQUEST)],
+        &[Want::Completed(FINAL, 10, &[(FINAL, 550, MUST)])],
+    ),
+    (
+        &[
+            FIRST,
+            FINAL_ONCE,
+            (500, Action::Received, REQUEST),
+            (550, Action::Sent, FINAL),
+        ],
+        &[Want::Completed(FINAL, 10, &[])],
+    ),
+    (
+        &[
+            FIRST,
+            FINAL_ONCE,
+            (500, Action::Received, REQUEST),
+            (551, Action::Sent, FINAL),
+        ],
+        &[],
+    ),
+    (
+        &[
+            FIRST,
+            FINAL_ONCE,
+            (500, Action::Received, REQUEST),
+            (550, Action::Sent, RINGING),
+        ],
+        &[],
+    ),
+    (
+        &[FIRST, FINAL_ONCE, (32_060, Action::Received, REQUEST)],
+        &[Want::Completed(FINAL, 10, &[(FINAL, 32_110, MUST)])],
+    ),
+    (
+        &[FIRST, FINAL_ONCE, (32_061, Action::Received, REQUEST)],
+        &[],
+    ),
+    (
+        &[
+            FIRST,
+            RINGING_ONCE,
+            (10, Action::Received, REQUEST),
+            (20, Action::Sent, FINAL),
+        ],
+        &[Want::Completed(FINAL, 20, &[(RINGING, 60, MAY)])],
+    ),
+    (
+        &[
+            FIRST,
+            RINGING_ONCE,
+            (10, Action::Received, REQUEST),
+            (20, Action::Sent, FINAL),
+            (60, Action::Sent, RINGING),
+        ],
+        &[Want::Completed(FINAL, 20, &[])],
+    ),
+    (
+        &[
+            FIRST,
+            RINGING_ONCE,
+            (10, Action::Received, REQUEST),
+            (20, Action::Sent, FINAL),
+            (61, Action::Sent, RINGING),
+        ],
+        &[],
+    ),
+];
 
 #[test]
 fn after_the_final_response(rt: HostRuntime) -> Result<(), Fail> {
-    let first = received(0);
-    let ringing = sent(5, RINGING);
-    let last = sent(10, FINAL);
-    let soft = may(RINGING, 60);
-    let rows: [(&[Entry], &[Want]); 12] = [
-        (&[first, last], &[Want::Completed(FINAL, 10, NOTHING)]),
-        (
-            &[first, failed(10, LAST)],
-            &[Want::Completed(LAST, 10, NOTHING)],
-        ),
-        (&[first, last, sent(20, FINAL)], &[]),
-        (
-            &[first, last, received(500)],
-            &[Want::Completed(FINAL, 10, one(must(FINAL, 550)))],
-        ),
-        (
-            &[first, last, received(500), sent(550, FINAL)],
-            &[Want::Completed(FINAL, 10, NOTHING)],
-        ),
-        (&[first, last, received(500), sent(551, FINAL)], &[]),
-        (&[first, last, received(500), sent(550, RINGING)], &[]),
-        (
-            &[first, last, received(32_060)],
-            &[Want::Completed(FINAL, 10, one(must(FINAL, 32_110)))],
-        ),
-        (&[first, last, received(32_061)], &[]),
-        (
-            &[first, ringing, received(10), sent(20, FINAL)],
-            &[Want::Completed(FINAL, 20, one(soft))],
-        ),
-        (
-            &[
-                first,
-                ringing,
-                received(10),
-                sent(20, FINAL),
-                sent(60, RINGING),
-            ],
-            &[Want::Completed(FINAL, 20, NOTHING)],
-        ),
-        (
-            &[
-                first,
-                ringing,
-                received(10),
-                sent(20, FINAL),
-                sent(61, RINGING),
-            ],
-            &[],
-        ),
-    ];
-    for (entries, wants) in rows {
-        assert!(rt; leads(rt.alloc(), entries, wants)?, "{entries:?}");
-    }
-    Ok(())
+    all_lead(&rt, AFTER_THE_FINAL_RESPONSE)
 }
 
 /// How often the 180, the 101, the 180 again and the 101 again are owed, each until 60.
 type Turns = [usize; 4];
 
+const RINGING_BY_60: Debt = Debt {
+    message: RINGING,
+    deadline: 60,
+    must: true,
+};
+
+const PROGRESS_BY_60: Debt = Debt {
+    message: PROGRESS,
+    deadline: 60,
+    must: true,
+};
+
 fn are_turns(runs: &[Run], want: Turns) -> bool {
-    let debts = [must(RINGING, 60), must(PROGRESS, 60)];
+    let debts = [RINGING_BY_60, PROGRESS_BY_60];
     let mut turns = [0; 4];
     for (place, run) in runs.iter().enumerate() {
         if place >= 4 || run.debt != debts[place % 2] {
@@ -358,54 +412,71 @@ fn proceeds(state: &PlainServerState, (number, turns): (u32, Turns)) -> bool {
     }
 }
 
+const AGAIN: Entry = (10, Action::Received, REQUEST);
+
+const RINGS: Entry = (10, Action::Sent, RINGING);
+
+const PROGRESSES: Entry = (10, Action::Sent, PROGRESS);
+
+static REPEATS: [Entry; 11] = [
+    FIRST,
+    RINGING_ONCE,
+    AGAIN,
+    AGAIN,
+    AGAIN,
+    PROGRESSES,
+    AGAIN,
+    RINGS,
+    AGAIN,
+    PROGRESSES,
+    AGAIN,
+];
+
+/// Whether the entries lead to states that proceed so.
+fn all_proceed(alloc: Global, entries: &[Entry], wants: &[(u32, Turns)]) -> Result<bool, Fail> {
+    let states = states_after(alloc, entries)?;
+    Ok(
+        states.len() == wants.len()
+            && states
+                .iter()
+                .zip(wants)
+                .all(|(state, want)| proceeds(state, *want)),
+    )
+}
+
+/// How many of the repeats come, and what is owed then.
+static RUNS: &[(usize, &[(u32, Turns)])] = &[
+    (5, &[(RINGING, [3, 0, 0, 0])]),
+    (7, &[(PROGRESS, [3, 1, 0, 0])]),
+    (8, &[(RINGING, [3, 1, 0, 0]), (PROGRESS, [2, 1, 0, 0])]),
+    (9, &[(RINGING, [3, 1, 1, 0]), (PROGRESS, [2, 2, 0, 0])]),
+    (
+        10,
+        &[
+            (PROGRESS, [3, 1, 1, 0]),
+            (RINGING, [4, 0, 0, 0]),
+            (PROGRESS, [2, 2, 0, 0]),
+            (PROGRESS, [2, 1, 0, 0]),
+        ],
+    ),
+    (
+        11,
+        &[
+            (PROGRESS, [3, 1, 1, 1]),
+            (RINGING, [5, 0, 0, 0]),
+            (PROGRESS, [2, 3, 0, 0]),
+            (PROGRESS, [2, 2, 0, 0]),
+        ],
+    ),
+];
+
 /// A request that comes again and again at one moment: each time the last response is owed once more. A send of what is owed
 /// is one in its turn, or pays: both rows stand.
 #[test]
 fn equal_debts_stand_in_runs(rt: HostRuntime) -> Result<(), Fail> {
-    let again = received(10);
-    let entries = [
-        received(0),
-        sent(5, RINGING),
-        again,
-        again,
-        again,
-        sent(10, PROGRESS),
-        again,
-        sent(10, RINGING),
-        again,
-        sent(10, PROGRESS),
-        again,
-    ];
-    let rows: [(usize, &[(u32, Turns)]); 6] = [
-        (5, &[(RINGING, [3, 0, 0, 0])]),
-        (7, &[(PROGRESS, [3, 1, 0, 0])]),
-        (8, &[(RINGING, [3, 1, 0, 0]), (PROGRESS, [2, 1, 0, 0])]),
-        (9, &[(RINGING, [3, 1, 1, 0]), (PROGRESS, [2, 2, 0, 0])]),
-        (
-            10,
-            &[
-                (PROGRESS, [3, 1, 1, 0]),
-                (RINGING, [4, 0, 0, 0]),
-                (PROGRESS, [2, 2, 0, 0]),
-                (PROGRESS, [2, 1, 0, 0]),
-            ],
-        ),
-        (
-            11,
-            &[
-                (PROGRESS, [3, 1, 1, 1]),
-                (RINGING, [5, 0, 0, 0]),
-                (PROGRESS, [2, 3, 0, 0]),
-                (PROGRESS, [2, 2, 0, 0]),
-            ],
-        ),
-    ];
-    for (len, wants) in rows {
-        let states = states_after(rt.alloc(), &entries[..len])?;
-        assert!(rt; states.len() == wants.len(), "{len}");
-        for (state, want) in states.iter().zip(wants) {
-            assert!(rt; proceeds(state, *want), "{len}");
-        }
+    for &(len, wants) in RUNS {
+        let entries = REPEATS.get(..len).ok_or("too many")?;
+        assert!(rt; all_proceed(rt.alloc(), entries, wants)?, "{len}");
     }
     Ok(())
 }
@@ -420,34 +491,65 @@ fn ends_of(
     (server.end_window(state), server.until(state))
 }
 
+/// Entries, and the ends of the only state after them.
+type EndsRow = (&'static [Entry], Option<(u64, Option<u64>)>, Option<u64>);
+
+static ENDS: &[EndsRow] = &[
+    (&[], None, None),
+    (&[FIRST], None, None),
+    (&[FIRST, RINGING_ONCE], None, None),
+    (
+        &[FIRST, RINGING_ONCE, (10, Action::Received, REQUEST)],
+        None,
+        Some(60),
+    ),
+    (
+        &[FIRST, (10, Action::Sent, FINAL)],
+        Some((31_960, Some(32_060))),
+        Some(32_060),
+    ),
+    (
+        &[
+            FIRST,
+            (10, Action::Sent, FINAL),
+            (500, Action::Received, REQUEST),
+        ],
+        None,
+        Some(550),
+    ),
+    (
+        &[
+            FIRST,
+            RINGING_ONCE,
+            (10, Action::Received, REQUEST),
+            (20, Action::Sent, FINAL),
+        ],
+        Some((31_970, Some(32_070))),
+        Some(32_070),
+    ),
+];
+
+/// The ends of the only state after the entries.
+fn ends_after(
+    alloc: Global,
+    server: &PlainServer,
+    entries: &[Entry],
+) -> Result<(Option<(u64, Option<u64>)>, Option<u64>), Fail> {
+    let states = states_after(alloc, entries)?;
+    let [only] = states.as_slice() else {
+        return Err("not one state".into());
+    };
+    Ok(ends_of(server, only))
+}
+
 #[test]
 fn ends(rt: HostRuntime) -> Result<(), Fail> {
     let server = server()?;
-    let first = received(0);
-    let ringing = sent(5, RINGING);
-    let rows: [(&[Entry], Option<(u64, Option<u64>)>, Option<u64>); 7] = [
-        (&[], None, None),
-        (&[first], None, None),
-        (&[first, ringing], None, None),
-        (&[first, ringing, received(10)], None, Some(60)),
-        (
-            &[first, sent(10, FINAL)],
-            Some((31_960, Some(32_060))),
-            Some(32_060),
-        ),
-        (&[first, sent(10, FINAL), received(500)], None, Some(550)),
-        (
-            &[first, ringing, received(10), sent(20, FINAL)],
-            Some((31_970, Some(32_070))),
-            Some(32_070),
-        ),
-    ];
-    for (entries, window, until) in rows {
-        let states = states_after(rt.alloc(), entries)?;
-        let [only] = states.as_slice() else {
-            return Err("not one state".into());
-        };
-        assert!(rt; ends_of(&server, only) == (window, until), "{entries:?}");
+    for &(entries, window, until) in ENDS {
+        assert!(rt;
+            ends_after(rt.alloc(), &server, entries)? == (window, until),
+            "{entries:?}"
+        );
     }
     let over_tcp = Owing {
         phase: PlainServerPhase::Completed {

@@ -2,8 +2,8 @@
 //! waits for its first response until m + 250, and a 486 at m is sent again by m + 550. Behind a 180 or a
 //! 200 there is no last moment.
 use crate::keys::key;
-use crate::played::{Entry, book, busy, invite, ok, play, ringing};
-use sip_machine::{InviteServer, Params};
+use crate::played::{BUSY, Entry, INVITE, OK, RINGING, book, play};
+use sip_machine::{Action, InviteServer, Params};
 use sip_states::{AnySet, StateSet, Tables};
 use std::alloc::{AllocError, Global};
 use std::hash::{BuildHasher, BuildHasherDefault, FoldHasher};
@@ -60,64 +60,92 @@ fn touch_servers<H: BuildHasher + Drop>(
 }
 
 /// The entries of a set that is settled, and then who is due at each of some moments.
-type Row<'a> = (u32, &'a [Entry], &'a [(u64, Option<u32>)]);
+type Row = (u32, &'static [Entry], &'static [(u64, Option<u32>)]);
+
+static ROWS: &[Row] = &[
+    (
+        3,
+        &[(0, Action::Received, INVITE)],
+        &[(250, None), (251, Some(3)), (u64::MAX, Some(3))],
+    ),
+    // The least number is due, whoever's last moment is the earliest.
+    (
+        2,
+        &[(100, Action::Received, INVITE)],
+        &[(250, None), (251, Some(3)), (350, Some(3)), (351, Some(2))],
+    ),
+    (
+        1,
+        &[(0, Action::Received, INVITE), (100, Action::Sent, BUSY)],
+        &[(351, Some(2)), (650, Some(2)), (651, Some(1))],
+    ),
+    // A later last moment replaces the older one.
+    (
+        3,
+        &[(0, Action::Received, INVITE), (100, Action::Sent, BUSY)],
+        &[(251, None), (350, None), (351, Some(2)), (651, Some(1))],
+    ),
+    (
+        1,
+        &[(0, Action::Received, INVITE), (100, Action::Sent, RINGING)],
+        &[(350, None), (351, Some(2)), (u64::MAX, Some(2))],
+    ),
+    (
+        2,
+        &[(0, Action::Received, INVITE), (100, Action::Sent, OK)],
+        &[(650, None), (651, Some(3)), (u64::MAX, Some(3))],
+    ),
+    // The same one stays.
+    (
+        3,
+        &[(0, Action::Received, INVITE), (100, Action::Sent, BUSY)],
+        &[(650, None), (651, Some(3))],
+    ),
+    (
+        3,
+        &[
+            (0, Action::Received, INVITE),
+            (0, Action::Sent, BUSY),
+            (480, Action::Received, INVITE),
+            (490, Action::Sent, BUSY),
+        ],
+        &[(1_540, None), (1_541, Some(3))],
+    ),
+    (
+        3,
+        &[(0, Action::Received, INVITE), (0, Action::Sent, OK)],
+        &[(u64::MAX, None)],
+    ),
+    (
+        1,
+        &[(1_000, Action::Received, INVITE)],
+        &[(1_250, None), (1_251, Some(1))],
+    ),
+];
+
+/// Gives a key the row's set, settles it, and asks who is due.
+fn answers_as_settled<H: BuildHasher + Drop>(
+    rt: &(impl Abort + AllocGlobal),
+    tables: &mut Tables<H>,
+    row: &Row,
+) -> Result<(), Fail> {
+    put(rt.alloc(), tables, row.0, row.1)?;
+    settle(tables, row.0)??;
+    for &(moment, number) in row.2 {
+        assert!(rt; tables.due(moment) == number, "{:?} at {moment}", row.1);
+    }
+    Ok(())
+}
 
 /// Of four keys the fourth is never settled.
 #[test]
 fn the_least_number_is_due(rt: HostRuntime) -> Result<(), Fail> {
-    let rows: [Row<'_>; 10] = [
-        (
-            3,
-            &[invite(0)],
-            &[(250, None), (251, Some(3)), (u64::MAX, Some(3))],
-        ),
-        // The least number is due, whoever's last moment is the earliest.
-        (
-            2,
-            &[invite(100)],
-            &[(250, None), (251, Some(3)), (350, Some(3)), (351, Some(2))],
-        ),
-        (
-            1,
-            &[invite(0), busy(100)],
-            &[(351, Some(2)), (650, Some(2)), (651, Some(1))],
-        ),
-        // A later last moment replaces the older one.
-        (
-            3,
-            &[invite(0), busy(100)],
-            &[(251, None), (350, None), (351, Some(2)), (651, Some(1))],
-        ),
-        (
-            1,
-            &[invite(0), ringing(100)],
-            &[(350, None), (351, Some(2)), (u64::MAX, Some(2))],
-        ),
-        (
-            2,
-            &[invite(0), ok(100)],
-            &[(650, None), (651, Some(3)), (u64::MAX, Some(3))],
-        ),
-        // The same one stays.
-        (3, &[invite(0), busy(100)], &[(650, None), (651, Some(3))]),
-        (
-            3,
-            &[invite(0), busy(0), invite(480), busy(490)],
-            &[(1_540, None), (1_541, Some(3))],
-        ),
-        (3, &[invite(0), ok(0)], &[(u64::MAX, None)]),
-        (1, &[invite(1_000)], &[(1_250, None), (1_251, Some(1))]),
-    ];
     let params = Params::new(500, 4_000, 5_000, 50).ok_or("refused")?;
     let mut tables = Tables::new(rt.alloc(), params, BuildHasherDefault::<FoldHasher>::new());
     touch_servers(&rt, &mut tables)?;
     assert_eq!(rt; tables.due(u64::MAX), None);
-    for (number, entries, answers) in rows {
-        put(rt.alloc(), &mut tables, number, entries)?;
-        settle(&mut tables, number)??;
-        for &(moment, number) in answers {
-            assert_eq!(rt; tables.due(moment), number, "{entries:?} at {moment}");
-        }
+    for row in ROWS {
+        answers_as_settled(&rt, &mut tables, row)?;
     }
     Ok(())
 }

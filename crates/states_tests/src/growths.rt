@@ -1,14 +1,14 @@
 //! A refused growth. `tests/growths` refuses each in turn: the test then fails with want of memory, once it
 //! has seen that the call left all as it was, and that the same call succeeds with memory.
-ghost use Rattle.std.specs.Prelude.{◌≡◌, ◌≤◌, All, OnOk};
+ghost use Rattle.std.specs.Prelude.{◌≡◌, ◌≤◌, All, IfOk, OnOk};
 ghost use Rattle.sip_machine.specs.Rules.{Knows};
 ghost use Rattle.sip_machine.specs.Owing.{owing_names};
 ghost use Rattle.sip_machine.specs.InviteServer.{invite_server_names};
 
 use crate::agenda::{put, settle};
 use crate::keys::key;
-use crate::played::{Entry, book, busy, invite, ok, ringing, take};
-use sip_machine::{Book, InviteServer, Params};
+use crate::played::{BUSY, Entry, INVITE, OK, RINGING, book, invite, take};
+use sip_machine::{Action, Book, InviteServer, Params};
 use sip_states::{StateSet, Tables, TakeError};
 use std::alloc::Global;
 use std::hash::{BuildHasherDefault, FoldHasher};
@@ -45,43 +45,30 @@ fn take_again(
     Ok(())
 }
 
-/// An INVITE, a 180, two repeats, sends of the 180, and a 486.
-fn entry_at(moment: u64) -> Entry
-    ensures { result.0 ≡ moment }
-{
-    match moment {
-        0 | 2 | 3 => invite(moment),
-        8 => busy(moment),
-        _ => ringing(moment),
-    }
-}
-
-/// Takes each of the entries so.
-fn take_all_again(
+/// Takes each of the entries so, and gives the moment of the last one.
+fn take_each_again(
     rt: &(impl Abort + AllocGlobal),
     set: &mut StateSet<InviteServer>,
     twin: &mut StateSet<InviteServer>,
     book: &Book,
-) -> Result<(), Fail>
+    entries: &[Entry],
+) -> Result<u64, Fail>
     requires start { set.old.moment ≡ 0 }
     requires start_of_twin { twin.old.moment ≡ 0 }
     requires known { All (Knows (owing_names invite_server_names) book.now) set.old.states }
     requires known_of_twin { All (Knows (owing_names invite_server_names) book.now) twin.old.states }
+    ensures order { IfOk result (λ last. set.new.moment ≤ last) }
+    ensures order_of_twin { IfOk result (λ last. twin.new.moment ≤ last) }
 {
-    for moment in 0..10 {
-        take_again(rt, set, twin, book, entry_at(moment))?;
+    let mut last = 0;
+    for entry in entries {
+        if entry.0 < last {
+            return Err("not in order".into());
+        }
+        take_again(rt, set, twin, book, *entry)?;
+        last = entry.0;
     }
-    Ok(())
-}
-
-#[test]
-fn a_set_goes_on_after_a_refused_growth(rt: HostRuntime) -> Result<(), Fail> {
-    let alloc = rt.alloc();
-    let book = book(alloc)?;
-    let params = Params::new(500, 4_000, 5_000, 50).ok_or("refused")?;
-    let mut set = StateSet::start(alloc, InviteServer::new(params))?;
-    let mut twin = StateSet::start(alloc, InviteServer::new(params))?;
-    take_all_again(&rt, &mut set, &mut twin, &book)
+    Ok(last)
 }
 
 /// Lets the set wait until the moment, and a second time where memory was refused. The twin has the same states, and so many behind it.
@@ -108,36 +95,81 @@ fn advance_again(
     Ok(waited?)
 }
 
-/// A 486 that answers a repeat, or is itself repeated: timer G fires at 540 or at 1490, and the set has a state for each.
-#[test]
-fn a_repeat_goes_on_after_a_refused_growth(rt: HostRuntime) -> Result<(), Fail> {
+/// Lets the set wait so until each of the moments, behind which it has so many states.
+fn advance_each_again(
+    rt: &impl Abort,
+    set: &mut StateSet<InviteServer>,
+    twin: &mut StateSet<InviteServer>,
+    from: u64,
+    waits: &[(u64, usize)],
+) -> Result<(), Fail>
+    requires order { set.old.moment ≤ from }
+    requires order_of_twin { twin.old.moment ≤ from }
+{
+    let mut last = from;
+    for &(moment, count) in waits {
+        if moment < last {
+            return Err("not in order".into());
+        }
+        advance_again(rt, set, twin, moment, count)?;
+        last = moment;
+    }
+    Ok(())
+}
+
+/// A set and its twin take the entries so, and wait so.
+fn play_again(
+    rt: &(impl Abort + AllocGlobal),
+    entries: &[Entry],
+    waits: &[(u64, usize)],
+) -> Result<(), Fail> {
     let alloc = rt.alloc();
     let book = book(alloc)?;
     let params = Params::new(500, 4_000, 5_000, 50).ok_or("refused")?;
     let mut set = StateSet::start(alloc, InviteServer::new(params))?;
     let mut twin = StateSet::start(alloc, InviteServer::new(params))?;
-    take_again(&rt, &mut set, &mut twin, &book, invite(0))?;
-    take_again(&rt, &mut set, &mut twin, &book, busy(0))?;
-    take_again(&rt, &mut set, &mut twin, &book, invite(480))?;
-    take_again(&rt, &mut set, &mut twin, &book, busy(490))?;
-    advance_again(&rt, &mut set, &mut twin, 550, 2)?;
-    advance_again(&rt, &mut set, &mut twin, 551, 1)?;
-    advance_again(&rt, &mut set, &mut twin, 1_541, 0)
+    let last = take_each_again(rt, &mut set, &mut twin, &book, entries)?;
+    advance_each_again(rt, &mut set, &mut twin, last, waits)
 }
+
+/// An INVITE, a 180, two repeats, sends of the 180, and a 486.
+static SENDS: &[Entry] = &[
+    (0, Action::Received, INVITE),
+    (1, Action::Sent, RINGING),
+    (2, Action::Received, INVITE),
+    (3, Action::Received, INVITE),
+    (4, Action::Sent, RINGING),
+    (5, Action::Sent, RINGING),
+    (6, Action::Sent, RINGING),
+    (7, Action::Sent, RINGING),
+    (8, Action::Sent, BUSY),
+    (9, Action::Sent, RINGING),
+];
+
+#[test]
+fn a_set_goes_on_after_a_refused_growth(rt: HostRuntime) -> Result<(), Fail> {
+    play_again(&rt, SENDS, &[])
+}
+
+static REPEAT: &[Entry] = &[
+    (0, Action::Received, INVITE),
+    (0, Action::Sent, BUSY),
+    (480, Action::Received, INVITE),
+    (490, Action::Sent, BUSY),
+];
+
+/// A 486 that answers a repeat, or is itself repeated: timer G fires at 540 or at 1490, and the set has a state for each.
+#[test]
+fn a_repeat_goes_on_after_a_refused_growth(rt: HostRuntime) -> Result<(), Fail> {
+    play_again(&rt, REPEAT, &[(550, 2), (551, 1), (1_541, 0)])
+}
+
+static ACCEPTED: &[Entry] = &[(0, Action::Received, INVITE), (0, Action::Sent, OK)];
 
 /// Behind the 200 timer L ends the transaction between 31950 and 32050.
 #[test]
 fn a_wait_goes_on_after_a_refused_growth(rt: HostRuntime) -> Result<(), Fail> {
-    let alloc = rt.alloc();
-    let book = book(alloc)?;
-    let params = Params::new(500, 4_000, 5_000, 50).ok_or("refused")?;
-    let mut set = StateSet::start(alloc, InviteServer::new(params))?;
-    let mut twin = StateSet::start(alloc, InviteServer::new(params))?;
-    take_again(&rt, &mut set, &mut twin, &book, invite(0))?;
-    take_again(&rt, &mut set, &mut twin, &book, ok(0))?;
-    advance_again(&rt, &mut set, &mut twin, 31_949, 1)?;
-    advance_again(&rt, &mut set, &mut twin, 31_950, 2)?;
-    advance_again(&rt, &mut set, &mut twin, 32_051, 1)
+    play_again(&rt, ACCEPTED, &[(31_949, 1), (31_950, 2), (32_051, 1)])
 }
 
 /// Touches the key, and a second time where memory was refused.

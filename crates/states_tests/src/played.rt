@@ -14,15 +14,15 @@ use std::test::Fail;
 /// An entry: its moment in milliseconds, what was done, and the number of its message.
 pub(crate) type Entry = (u64, Action, u32);
 
-const INVITE: u32 = 1;
+pub(crate) const INVITE: u32 = 1;
 
-const RINGING: u32 = 2;
+pub(crate) const RINGING: u32 = 2;
 
-const PROGRESS: u32 = 3;
+pub(crate) const PROGRESS: u32 = 3;
 
-const BUSY: u32 = 4;
+pub(crate) const BUSY: u32 = 4;
 
-const OK: u32 = 5;
+pub(crate) const OK: u32 = 5;
 
 /// The bytes of a message of the INVITE transaction that begins so.
 fn text_of(alloc: Global, start: &str) -> Result<String, AllocError> {

@@ -2,9 +2,12 @@
 //! tolerance of 50.
 ghost use Rattle.std.specs.Prelude.{◌≤◌};
 
-use crate::played::{Entry, book, busy, invite, ok, play};
-use sip_machine::{InviteServer, InviteServerPhase, Owing, Params, PlainClientState, Waiting};
+use crate::played::{BUSY, Entry, INVITE, OK, book, play};
+use sip_machine::{
+    Action, Book, InviteServer, InviteServerPhase, Owing, Params, PlainClientState, Waiting,
+};
 use sip_states::StateSet;
+use std::alloc::Global;
 use std::mem::size_of;
 use std::test::Fail;
 
@@ -34,56 +37,67 @@ fn are_left(
 const LATE: u64 = 9_000_000_000_000;
 
 /// Entries, the last moment to which one can then wait, and how many states there are after waits.
-#[test]
-fn waits_as_timers_fire(rt: HostRuntime) -> Result<(), Fail> {
-    let rows: [(&[Entry], Option<u64>, &[(u64, usize)]); 3] = [
-        (
-            &[invite(0), busy(0), invite(480), busy(490)],
-            Some(1_540),
-            &[(490, 2), (550, 2), (551, 1), (1_541, 0)],
-        ),
-        (
-            &[
-                invite(LATE),
-                busy(LATE),
-                invite(LATE + 480),
-                busy(LATE + 490),
-            ],
-            Some(LATE + 1_540),
-            &[
-                (LATE + 490, 2),
-                (LATE + 550, 2),
-                (LATE + 551, 1),
-                (LATE + 1_541, 0),
-            ],
-        ),
-        (
-            &[invite(0), ok(0)],
-            None,
-            &[(0, 1), (31_949, 1), (31_950, 2), (32_051, 1)],
-        ),
-    ];
-    let alloc = rt.alloc();
-    let book = book(alloc)?;
+type Row = (&'static [Entry], Option<u64>, &'static [(u64, usize)]);
+
+static ROWS: &[Row] = &[
+    (
+        &[
+            (0, Action::Received, INVITE),
+            (0, Action::Sent, BUSY),
+            (480, Action::Received, INVITE),
+            (490, Action::Sent, BUSY),
+        ],
+        Some(1_540),
+        &[(490, 2), (550, 2), (551, 1), (1_541, 0)],
+    ),
+    (
+        &[
+            (LATE, Action::Received, INVITE),
+            (LATE, Action::Sent, BUSY),
+            (LATE + 480, Action::Received, INVITE),
+            (LATE + 490, Action::Sent, BUSY),
+        ],
+        Some(LATE + 1_540),
+        &[
+            (LATE + 490, 2),
+            (LATE + 550, 2),
+            (LATE + 551, 1),
+            (LATE + 1_541, 0),
+        ],
+    ),
+    (
+        &[(0, Action::Received, INVITE), (0, Action::Sent, OK)],
+        None,
+        &[(0, 1), (31_949, 1), (31_950, 2), (32_051, 1)],
+    ),
+];
+
+/// Whether a set that took the row's entries waits so, and has none but idle states at last.
+fn waits_so(alloc: Global, book: &Book, row: &Row) -> Result<bool, Fail> {
     let params = Params::new(500, 4_000, 5_000, 50).ok_or("refused")?;
-    for (entries, limit, waits) in rows {
-        let mut set = StateSet::start(alloc, InviteServer::new(params))?;
-        let last = play(alloc, &mut set, &book, entries)?;
-        if set.is_empty() {
-            return Err("no state".into());
-        }
-        assert_eq!(rt; set.last_moment(), limit);
-        assert!(rt; are_left(&mut set, last, waits)?, "{waits:?}");
-        assert!(rt;
-            matches!(
+    let mut set = StateSet::start(alloc, InviteServer::new(params))?;
+    let last = play(alloc, &mut set, book, row.0)?;
+    if set.is_empty() {
+        return Err("no state".into());
+    }
+    Ok(
+        set.last_moment() == row.1
+            && are_left(&mut set, last, row.2)?
+            && matches!(
                 set.states(),
                 [] | [Owing {
                     phase: InviteServerPhase::Idle,
                     ..
                 }]
             ),
-            "{waits:?}"
-        );
+    )
+}
+
+#[test]
+fn waits_as_timers_fire(rt: HostRuntime) -> Result<(), Fail> {
+    let book = book(rt.alloc())?;
+    for row in ROWS {
+        assert!(rt; waits_so(rt.alloc(), &book, row)?, "{:?}", row.2);
     }
     Ok(())
 }

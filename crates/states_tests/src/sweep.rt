@@ -4,8 +4,8 @@ ghost use Rattle.sip_states.specs.AnySet.{moment_of};
 
 use crate::agenda::put;
 use crate::keys::key;
-use crate::played::{Entry, book, busy, invite, ok, play, progress, ringing};
-use sip_machine::{InviteServer, Params};
+use crate::played::{BUSY, Entry, INVITE, OK, PROGRESS, RINGING, book, play};
+use sip_machine::{Action, InviteServer, Params};
 use sip_states::{AnySet, StateSet, Tables};
 use std::alloc::{AllocError, Global};
 use std::hash::{BuildHasherDefault, FoldHasher};
@@ -14,17 +14,31 @@ use std::test::Fail;
 
 type Served = Tables<BuildHasherDefault<FoldHasher>>;
 
+static SERVED: &[(u32, &[Entry])] = &[
+    (
+        2,
+        &[(0, Action::Received, INVITE), (100, Action::Sent, BUSY)],
+    ),
+    (
+        6,
+        &[
+            (0, Action::Received, INVITE),
+            (50, Action::Sent, PROGRESS),
+            (100, Action::Sent, RINGING),
+        ],
+    ),
+    (10, &[(100, Action::Received, INVITE)]),
+    (
+        14,
+        &[(0, Action::Received, INVITE), (50, Action::Sent, RINGING)],
+    ),
+];
+
 /// Tables of four INVITE servers: two sent a 180 last, one a 486, and one has sent nothing.
 fn servers(alloc: Global) -> Result<Served, Fail> {
     let params = Params::new(500, 4_000, 5_000, 50).ok_or("refused")?;
     let mut tables = Tables::new(alloc, params, BuildHasherDefault::<FoldHasher>::new());
-    let rows: [(u32, &[Entry]); 4] = [
-        (2, &[invite(0), busy(100)]),
-        (6, &[invite(0), progress(50), ringing(100)]),
-        (10, &[invite(100)]),
-        (14, &[invite(0), ringing(50)]),
-    ];
-    for (server, entries) in rows {
+    for &(server, entries) in SERVED {
         if tables.len() >= 2_000_000 {
             return Err("full".into());
         }
@@ -77,28 +91,59 @@ fn wait_again(tables: &mut Served, moment: u64) -> Result<Result<(), AllocError>
 }
 
 /// Entries, the moment until which the set waits then, and the numbers of the messages that it names there.
-type Row<'a> = (&'a [Entry], u64, &'a [u32]);
+type Row = (&'static [Entry], u64, &'static [u32]);
+
+static ROWS: &[Row] = &[
+    (
+        &[(0, Action::Received, INVITE), (100, Action::Sent, BUSY)],
+        650,
+        &[4],
+    ),
+    (
+        &[(0, Action::Received, INVITE), (100, Action::Sent, BUSY)],
+        651,
+        &[],
+    ),
+    (
+        &[(0, Action::Received, INVITE), (100, Action::Sent, RINGING)],
+        1_000_000,
+        &[2],
+    ),
+    (
+        &[(0, Action::Received, INVITE), (100, Action::Sent, OK)],
+        100,
+        &[],
+    ),
+    (&[(0, Action::Received, INVITE)], 250, &[]),
+];
+
+/// Lets the row's set wait, and gives the first answer; an error where the names are others.
+fn waits_again(rt: &(impl Abort + AllocGlobal), row: &Row) -> Result<(), Fail> {
+    let (mut tables, last) = one_server(rt.alloc(), row.0)?;
+    if row.1 < last {
+        return Err("not in order".into());
+    }
+    let waited = wait_again(&mut tables, row.1)?;
+    assert!(rt;
+        are_named(rt.alloc(), &tables, row.2)?,
+        "{:?} at {}",
+        row.0,
+        row.1
+    );
+    Ok(waited?)
+}
+
+fn are_named(alloc: Global, tables: &Served, names: &[u32]) -> Result<bool, AllocError> {
+    let mut numbers = Vec::new(alloc);
+    tables.named(&mut numbers)?;
+    Ok(numbers.as_slice() == names)
+}
 
 /// A 486 at 100 that is not sent again by 650 is no run's any more. A 180 has no last moment, and a 200 is not named.
 #[test]
 fn sets_wait_after_a_refused_growth(rt: HostRuntime) -> Result<(), Fail> {
-    let rows: [Row<'_>; 5] = [
-        (&[invite(0), busy(100)], 650, &[4]),
-        (&[invite(0), busy(100)], 651, &[]),
-        (&[invite(0), ringing(100)], 1_000_000, &[2]),
-        (&[invite(0), ok(100)], 100, &[]),
-        (&[invite(0)], 250, &[]),
-    ];
-    for (entries, moment, names) in rows {
-        let (mut tables, last) = one_server(rt.alloc(), entries)?;
-        if moment < last {
-            return Err("not in order".into());
-        }
-        let waited = wait_again(&mut tables, moment)?;
-        let mut numbers = Vec::new(rt.alloc());
-        tables.named(&mut numbers)?;
-        assert!(rt; numbers.as_slice() == names, "{entries:?} at {moment}");
-        waited?;
+    for row in ROWS {
+        waits_again(&rt, row)?;
     }
     Ok(())
 }

@@ -2,9 +2,9 @@ use Rattle.std.proofs.Common.{◌≤◌, All}
 use Rattle.sip_machine.specs.Rules.{Knows}
 use Rattle.sip_machine.specs.Owing.{owing_names}
 use Rattle.sip_machine.specs.InviteServer.{invite_server_names}
-use Rattle.states_tests.proofs.growths.take_all_again.Given as goal
+use Rattle.states_tests.proofs.growths.take_each_again.Given as goal
 
-abbrev pub invariant-loop-moment : goal.invariant-loop-moment
-invariant-loop-moment g l =
-    (l.set.moment ≤ l.moment) × (l.twin.moment ≤ l.moment)
+abbrev pub invariant-loop-entry : goal.invariant-loop-entry
+invariant-loop-entry g l =
+    (l.set.moment ≤ l.last) × (l.twin.moment ≤ l.last)
     × All (Knows (owing_names invite_server_names) l.book) l.set.states × All (Knows (owing_names invite_server_names) l.book) l.twin.states

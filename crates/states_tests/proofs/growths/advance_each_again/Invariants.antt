@@ -1,0 +1,5 @@
+use Rattle.std.proofs.Common.{◌≤◌}
+use Rattle.states_tests.proofs.growths.advance_each_again.Given as goal
+
+abbrev pub invariant-loop-moment : goal.invariant-loop-moment
+invariant-loop-moment g l = (l.set.moment ≤ l.last) × (l.twin.moment ≤ l.last)

@@ -3,9 +3,10 @@ use crate::streams::verdict_by_entries;
 use std::process::Abort;
 use std::test::Fail;
 use worked_logs::{
-    CANCELLED_LOG, Change, Messages, OF_A_CALL, OF_A_CANCELLED_CALL, OF_THE_END_OF_A_CALL,
-    OF_THE_END_OF_A_CANCELLED_CALL, Row, SESSION_LOG, all_rows, cancelled, log_of, log_with,
-    session,
+    AS_MANY_STATES_AS_ARE_FOLLOWED, CANCELLED_LOG, CANCELS, CLIENTS, Change, INVITE_SERVERS,
+    INVITES_THAT_ARE_ANSWERED, INVITES_THAT_WAIT, MANY_DEBTS, MANY_ENTRIES, MANY_STATES, MESSAGES,
+    Messages, OF_A_CALL, OF_A_CANCELLED_CALL, OF_THE_END_OF_A_CALL, OF_THE_END_OF_A_CANCELLED_CALL,
+    OVERDUE, Row, SERVERS, SESSION_LOG, TRANSACTIONS_APART, cancelled, log_of, log_with, session,
 };
 
 /// A judge takes the entries of a log. A row tells which log it is.
@@ -25,11 +26,68 @@ fn takes_rows(rt: &(impl Abort + AllocGlobal), rows: &[Row]) -> Result<(), Fail>
 }
 
 #[test]
-fn takes_each_row(rt: HostRuntime) -> Result<(), Fail> {
-    for rows in all_rows() {
-        takes_rows(&rt, rows)?;
-    }
-    Ok(())
+fn takes_invites_that_wait(rt: HostRuntime) -> Result<(), Fail> {
+    takes_rows(&rt, INVITES_THAT_WAIT)
+}
+
+#[test]
+fn takes_invites_that_are_answered(rt: HostRuntime) -> Result<(), Fail> {
+    takes_rows(&rt, INVITES_THAT_ARE_ANSWERED)
+}
+
+#[test]
+fn takes_cancels(rt: HostRuntime) -> Result<(), Fail> {
+    takes_rows(&rt, CANCELS)
+}
+
+#[test]
+fn takes_invite_servers(rt: HostRuntime) -> Result<(), Fail> {
+    takes_rows(&rt, INVITE_SERVERS)
+}
+
+#[test]
+fn takes_clients(rt: HostRuntime) -> Result<(), Fail> {
+    takes_rows(&rt, CLIENTS)
+}
+
+#[test]
+fn takes_servers(rt: HostRuntime) -> Result<(), Fail> {
+    takes_rows(&rt, SERVERS)
+}
+
+#[test]
+fn takes_transactions_apart(rt: HostRuntime) -> Result<(), Fail> {
+    takes_rows(&rt, TRANSACTIONS_APART)
+}
+
+#[test]
+fn takes_messages(rt: HostRuntime) -> Result<(), Fail> {
+    takes_rows(&rt, MESSAGES)
+}
+
+#[test]
+fn takes_many_states(rt: HostRuntime) -> Result<(), Fail> {
+    takes_rows(&rt, MANY_STATES)
+}
+
+#[test]
+fn takes_what_is_overdue(rt: HostRuntime) -> Result<(), Fail> {
+    takes_rows(&rt, OVERDUE)
+}
+
+#[test]
+fn takes_many_entries(rt: HostRuntime) -> Result<(), Fail> {
+    takes_rows(&rt, MANY_ENTRIES)
+}
+
+#[test]
+fn takes_as_many_states_as_are_followed(rt: HostRuntime) -> Result<(), Fail> {
+    takes_rows(&rt, AS_MANY_STATES_AS_ARE_FOLLOWED)
+}
+
+#[test]
+fn takes_many_debts(rt: HostRuntime) -> Result<(), Fail> {
+    takes_rows(&rt, MANY_DEBTS)
 }
 
 /// Takes a log with each of the changes alone.

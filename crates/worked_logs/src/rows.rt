@@ -448,24 +448,3 @@ pub const MANY_DEBTS: &[Row] = &[
         "breach 602 transaction 1",
     ),
 ];
-
-/// All of these rows. A caller sees none of them, so that its proof reads none.
-pub fn all_rows() -> &'static [&'static [Row]] {
-    ROWS
-}
-
-const ROWS: &[&[Row]] = &[
-    INVITES_THAT_WAIT,
-    INVITES_THAT_ARE_ANSWERED,
-    CANCELS,
-    INVITE_SERVERS,
-    CLIENTS,
-    SERVERS,
-    TRANSACTIONS_APART,
-    MESSAGES,
-    MANY_STATES,
-    OVERDUE,
-    MANY_ENTRIES,
-    AS_MANY_STATES_AS_ARE_FOLLOWED,
-    MANY_DEBTS,
-];

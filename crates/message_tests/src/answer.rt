@@ -26,15 +26,11 @@ pub(crate) fn answer_to(alloc: Global, bytes: &[u8]) -> Result<Answer, AllocErro
         Ok(message) => Ok(Answer::Read {
             body: message.body().len(),
         }),
-        Err(ReadError::Fault(fault)) => Ok(fault_answer(fault)),
+        Err(ReadError::Fault(Fault { unit, reason })) => Ok(match unit {
+            Unit::Head => Answer::Head(reason),
+            Unit::Line(number) => Answer::Line(number, reason),
+            Unit::Body => Answer::Body(reason),
+        }),
         Err(ReadError::Memory) => Err(AllocError),
-    }
-}
-
-fn fault_answer(fault: Fault) -> Answer {
-    match fault.unit {
-        Unit::Head => Answer::Head(fault.reason),
-        Unit::Line(number) => Answer::Line(number, fault.reason),
-        Unit::Body => Answer::Body(fault.reason),
     }
 }

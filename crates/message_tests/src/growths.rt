@@ -3,7 +3,6 @@
 
 use crate::folded::{FOLDED, UNFOLDED};
 use sip_message::{Message, ReadError, write};
-use std::alloc::{AllocError, Global};
 use std::process::Abort;
 use std::test::Fail;
 
@@ -18,46 +17,28 @@ const SEVENTEEN: &[u8] = b"OPTIONS sip:example.com SIP/2.0\r\n\
     a:\r\na:\r\na:\r\na:\r\na:\r\na:\r\na:\r\na:\r\na:\r\na:\r\na:\r\n\
     \r\n";
 
-/// The error of reading the message, if there is one.
-fn read_error(alloc: Global) -> Option<ReadError> {
-    match Message::read(alloc, SEVENTEEN) {
-        Ok(_) => None,
-        Err(error) => Some(error),
-    }
-}
-
 /// Reads the message, and a second time where memory was refused.
 fn read_again(rt: &(impl Abort + AllocGlobal)) -> Result<(), Fail> {
-    let Some(error) = read_error(rt.alloc()) else {
+    let Err(error) = Message::read(rt.alloc(), SEVENTEEN) else {
         return Ok(());
     };
     assert_eq!(rt; error, ReadError::Memory);
-    assert!(rt; read_error(rt.alloc()).is_none());
+    assert!(rt; Message::read(rt.alloc(), SEVENTEEN).is_ok());
     Err(error.into())
 }
 
-const FRONT: &[u8] = b"front";
-
-/// Writes the message behind these bytes, and a second time where memory was refused.
-fn write_behind(
-    rt: &impl Abort,
-    message: &Message<'_>,
-    out: &mut Vec<u8>,
-) -> Result<(), AllocError> {
-    let written = write(message, out);
-    if written.is_err() {
-        assert!(rt; out.as_slice() == FRONT);
-        write(message, out)?;
-    }
-    assert!(rt; out.starts_with(FRONT) && &out[FRONT.len()..] == UNFOLDED);
-    written
-}
-
-/// Writes the folded message so.
+/// Writes the message behind other bytes, and a second time where memory was refused.
 fn write_again(rt: &(impl Abort + AllocGlobal)) -> Result<(), Fail> {
+    let front = b"front";
     let message = Message::read(rt.alloc(), FOLDED)?;
-    let mut out = FRONT.to_vec(rt.alloc())?;
-    Ok(write_behind(rt, &message, &mut out)?)
+    let mut out = front.to_vec(rt.alloc())?;
+    let written = write(&message, &mut out);
+    if written.is_err() {
+        assert!(rt; out.as_slice() == front.as_slice());
+        write(&message, &mut out)?;
+    }
+    assert!(rt; out.starts_with(front) && &out[front.len()..] == UNFOLDED);
+    Ok(written?)
 }
 
 #[test]

@@ -1,11 +1,10 @@
 //! What the faults of messages say.
 
 use sip_message::{Fault, ReadError, Reason, Unit};
-use std::alloc::{AllocError, Global};
 use std::test::Fail;
 
 /// Each reason, with a place where it can stand.
-static FAULTS: &[(Unit, Reason, &str)] = &[
+const FAULTS: &[(Unit, Reason, &str)] = &[
     (
         Unit::Head,
         Reason::NoHeadEnd,
@@ -68,23 +67,18 @@ static FAULTS: &[(Unit, Reason, &str)] = &[
     ),
 ];
 
-/// Whether the fault says this, and as an error too.
-fn says(alloc: Global, fault: Fault, told: &str) -> Result<bool, AllocError> {
-    Ok(
-        fault.to_string(alloc)?.as_str() == told
-            && error_says(alloc, ReadError::Fault(fault), told)?,
-    )
-}
-
-fn error_says(alloc: Global, error: ReadError, told: &str) -> Result<bool, AllocError> {
-    Ok(error.to_string(alloc)?.as_str() == told)
-}
-
 #[test]
 fn faults_say_what_is_wrong_and_where(rt: HostRuntime) -> Result<(), Fail> {
-    for &(unit, reason, told) in FAULTS {
-        assert!(rt; says(rt.alloc(), Fault { unit, reason }, told)?, "{told}");
+    for (unit, reason, told) in FAULTS {
+        let fault = Fault {
+            unit: *unit,
+            reason: *reason,
+        };
+        assert_eq!(rt; fault.to_string(rt.alloc())?.as_str(), *told);
+        let error = ReadError::Fault(fault);
+        assert_eq!(rt; error.to_string(rt.alloc())?.as_str(), *told);
     }
-    assert!(rt; error_says(rt.alloc(), ReadError::Memory, "out of memory")?);
+    let refused = ReadError::Memory;
+    assert_eq!(rt; refused.to_string(rt.alloc())?.as_str(), "out of memory");
     Ok(())
 }

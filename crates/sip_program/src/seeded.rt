@@ -60,12 +60,7 @@ fn four_at(bytes: &[u8], at: usize) -> u64
     requires { at + 4 ≤ length bytes.now }
     ensures { result ≡ read_u32 bytes.now at }
 {
-    u64::from(u32::from_le_bytes([
-        bytes[at],
-        bytes[at + 1],
-        bytes[at + 2],
-        bytes[at + 3],
-    ]))
+    u64::from(u32::from_le_bytes([bytes[at], bytes[at + 1], bytes[at + 2], bytes[at + 3]]))
 }
 
 /// Up to eight bytes as a number, by reads that may overlap.

@@ -27,11 +27,13 @@ pub(crate) fn first_acked(
     requires debts { All (λ run. Keeps book.now run.debt.message) runs.now }
     ensures { IfOk result (FindsFirst (PaysDebt book.now (text_of book.now event.now.number) (text_of book.now request) event.now.moment) (debts_of runs.now)) }
 {
-    let Some(ack) = book.message(alloc, event.number())? else {
-        return Ok(None);
+    let ack = match book.message(alloc, event.number())? {
+        Some(ack) => ack,
+        None => return Ok(None),
     };
-    let Some(invite) = book.message(alloc, request)? else {
-        return Ok(None);
+    let invite = match book.message(alloc, request)? {
+        Some(invite) => invite,
+        None => return Ok(None),
     };
     let mut index = 0usize;
     for run in runs {

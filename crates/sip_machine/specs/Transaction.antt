@@ -5,10 +5,11 @@ use Rattle.sip_machine.specs.Figure.{Figure}
 
 -- A transaction of RFC 3261 section 17, and how the code has it.
 
--- its figure, over phases that hold their messages as bytes
+-- its figure, over phases that hold their messages as bytes, and the messages that a phase names
 pub record Transaction : Type 1 where
   pub Phase : Type 0
   pub figure : Figure Phase
+  pub messages : Phase → List (List ℕ)
 
 -- the phases of the code, whose messages are numbers of a book, and how debts lie beside them: what a phase stands for, what it names, which are
 -- in range, the one before anything was sent or received, and the one after an end

@@ -4,7 +4,7 @@ ghost use Rattle.std.specs.List.{insert, HoldsAt};
 ghost use Rattle.std.specs.List.Sorted.{IsSearchInRange, IsBinarySearchResult};
 ghost use Rattle.sip_machine.specs.Texts.{IsBook, Keeps, text_of};
 ghost use Rattle.sip_machine.specs.Retained.{only};
-ghost use Rattle.sip_machine.specs.inner.Message.{IsReadAs};
+ghost use Rattle.sip_machine.specs.inner.ReadAs.{IsReadAs};
 ghost use Rattle.sip_machine.specs.inner.Order.{texts_of, hash_of, bytes_at, key_of, compare, begins_by, places_of, index_of, most_places, IsLed, IsInRuns, IsInside, IsGap};
 
 mod retain;

@@ -1,16 +1,26 @@
--- The machine of each key (RFC 3261 section 17), and its figure.
-use Rattle.std.specs.Prelude.{Bool, true, false, codes, bytes_eq}
+-- The machine of each key (RFC 3261 section 17), its figure, and how the code has it: the list of machines.
+use Rattle.std.specs.Prelude.{◌≡◌, Bool, true, false, codes, bytes_eq}
+use Rattle.std.proofs.Common.{refl}
 use Rattle.sip_key.specs.declared.role.Role.{Role}
 use Rattle.sip_key.specs.declared.role.Role.TheVariants.{Client, Server}
 use Rattle.sip_key.specs.Key.{KeyParts}
 use Rattle.sip_machine.specs.Times.{Times}
 use Rattle.sip_machine.specs.Rules.{Rules}
 use Rattle.sip_machine.specs.Figure.{Owing, rules_of as rules_of_figure}
-use Rattle.sip_machine.specs.Transaction.{Transaction}
-use Rattle.sip_machine.specs.InviteClient as InviteClient
-use Rattle.sip_machine.specs.PlainClient as PlainClient
-use Rattle.sip_machine.specs.InviteServer as InviteServer
-use Rattle.sip_machine.specs.PlainServer as PlainServer
+use Rattle.sip_machine.specs.declared.owing.Owing.{Owing as CodeOwing}
+use Rattle.sip_machine.specs.Transaction.{Transaction, Coded}
+use Rattle.sip_machine.specs.InviteClient.{invite_client_transaction, invite_client_coded}
+use Rattle.sip_machine.specs.PlainClient.{plain_client_transaction, plain_client_coded}
+use Rattle.sip_machine.specs.InviteServer.{invite_server_transaction, invite_server_coded}
+use Rattle.sip_machine.specs.PlainServer.{plain_server_transaction, plain_server_coded}
+use Rattle.sip_machine.specs.inner.Coded.{IsCoded}
+use Rattle.sip_machine.specs.inner.InviteClientLaws.{invite_client_is_coded}
+use Rattle.sip_machine.specs.inner.PlainClientLaws.{plain_client_is_coded}
+use Rattle.sip_machine.specs.inner.InviteServerLaws.{invite_server_is_coded}
+use Rattle.sip_machine.specs.inner.PlainServerLaws.{plain_server_is_coded}
+use Rattle.sip_states.specs.Held.{Held}
+use Rattle.sip_states.specs.declared.any_set.AnySet.{AnySet}
+use Rattle.sip_states.specs.declared.any_set.AnySet.TheVariants.{InviteClient, PlainClient, InviteServer, PlainServer}
 
 -- the machines of section 17
 pub data MachineKind : Type 0 where
@@ -30,12 +40,12 @@ machine_of Server false = OfPlainServer
 abbrev pub machine_of_key : KeyParts → MachineKind
 machine_of_key key = machine_of key.role (bytes_eq key.method (codes "INVITE"))
 
--- the figure of each machine
+-- what each machine is
 abbrev pub transaction : MachineKind → Transaction
-transaction OfInviteClient = record { Phase = InviteClient.InviteClientPhase; figure = InviteClient.invite_client }
-transaction OfPlainClient = record { Phase = PlainClient.PlainClientPhase; figure = PlainClient.plain_client }
-transaction OfInviteServer = record { Phase = InviteServer.InviteServerPhase; figure = InviteServer.invite_server }
-transaction OfPlainServer = record { Phase = PlainServer.PlainServerPhase; figure = PlainServer.plain_server }
+transaction OfInviteClient = invite_client_transaction
+transaction OfPlainClient = plain_client_transaction
+transaction OfInviteServer = invite_server_transaction
+transaction OfPlainServer = plain_server_transaction
 
 -- the states of each machine: a phase, and what is owed
 abbrev pub PhaseOf : MachineKind → Type 0
@@ -44,3 +54,50 @@ PhaseOf machine = Owing (transaction machine).Phase
 -- its rules with these times
 abbrev pub rules_of : Times → (machine : MachineKind) → Rules (PhaseOf machine)
 rules_of p machine = rules_of_figure (transaction machine).figure p
+
+-- How the code has the machines, and the sets of their states.
+
+-- how the code has each machine
+abbrev pub coded : (machine : MachineKind) → Coded (transaction machine).Phase
+coded OfInviteClient = invite_client_coded
+coded OfPlainClient = plain_client_coded
+coded OfInviteServer = invite_server_coded
+coded OfPlainServer = plain_server_coded
+
+-- as it is
+pub is_coded : (machine : MachineKind) → IsCoded (transaction machine) (coded machine)
+is_coded OfInviteClient = invite_client_is_coded
+is_coded OfPlainClient = plain_client_is_coded
+is_coded OfInviteServer = invite_server_is_coded
+is_coded OfPlainServer = plain_server_is_coded
+
+-- the states of each machine as the code has them
+abbrev pub StateOf : MachineKind → Type 0
+StateOf machine = CodeOwing (coded machine).Code (coded machine).Debts
+
+-- a set of this machine
+abbrev pub set_of : (machine : MachineKind) → Held Times (StateOf machine) → AnySet
+set_of OfInviteClient s = InviteClient s
+set_of OfPlainClient s = PlainClient s
+set_of OfInviteServer s = InviteServer s
+set_of OfPlainServer s = PlainServer s
+
+-- the machine of a set, and what it holds
+abbrev pub held_of : AnySet → (machine : MachineKind) × Held Times (StateOf machine)
+held_of (InviteClient s) = (OfInviteClient, s)
+held_of (PlainClient s) = (OfPlainClient, s)
+held_of (InviteServer s) = (OfInviteServer, s)
+held_of (PlainServer s) = (OfPlainServer, s)
+
+-- the two are each other's turn
+pub held_is : (machine : MachineKind) (s : Held Times (StateOf machine)) → held_of (set_of machine s) ≡ (machine, s)
+held_is OfInviteClient s = refl
+held_is OfPlainClient s = refl
+held_is OfInviteServer s = refl
+held_is OfPlainServer s = refl
+
+pub set_is : (set : AnySet) → set ≡ set_of (held_of set).0 (held_of set).1
+set_is (InviteClient s) = refl
+set_is (PlainClient s) = refl
+set_is (InviteServer s) = refl
+set_is (PlainServer s) = refl

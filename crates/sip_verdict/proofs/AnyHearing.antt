@@ -16,7 +16,7 @@ use Rattle.sip_verdict.specs.inner.Stepping.{RunsUntil, IsStepped}
 use Rattle.sip_states.specs.AnySet.{StateOf, meaning_of, set_of}
 use Rattle.sip_verdict.specs.inner.TablesTracking.{LeadsOf, StandsOf}
 use Rattle.sip_verdict.proofs.Hearing.{heard_none, heard_some, heard_wide}
-use Rattle.sip_verdict.proofs.ByMachine.{rules_are, lawful_of, moment_is, some_machine, of_set, to_set, of_sets}
+use Rattle.sip_states.proofs.ByMachine.{rules_are, lawful_of, moment_is, some_machine, of_set, to_set, of_sets}
 
 -- the set of a machine after an event
 after_event : (texts : Texts) (e : NumberedEvent) (machine : MachineKind) (s : Held Times (StateOf machine)) (old new : AnySet) → old ≡ set_of machine s → Takes texts e old new

@@ -25,7 +25,7 @@ use Rattle.sip_verdict.specs.inner.TablesTracking.{LeadsOf, key_keeping, transac
 use Rattle.sip_verdict.specs.inner.Concerned.{each}
 use Rattle.sip_verdict.proofs.Keys.{IsExact}
 use Rattle.sip_verdict.proofs.Leading.{Leads-start}
-use Rattle.sip_verdict.proofs.ByMachine.{first_of, first_is_of, first_knows, start_is, moment_is, to_set}
+use Rattle.sip_states.proofs.ByMachine.{first_of, first_is_of, first_knows, start_is, moment_is, to_set}
 use Rattle.sip_verdict.proofs.TablesPassing.{keys_are, among_first, among_rest}
 use Rattle.sip_verdict.proofs.TrackingLemmas.{AreKept, kept_touched}
 

@@ -14,7 +14,7 @@ use Rattle.sip_machine.specs.Retransmits.{Retransmits}
 use Rattle.sip_machine.specs.Waiting.{Waiting, waiting_closes, waiting_seen, WaitingInRange}
 use Rattle.sip_machine.specs.Message.{IsProvisional, IsSuccess, IsUnsuccessful}
 use Rattle.sip_machine.specs.Figure.{Figure, After, keeps, gains}
-use Rattle.sip_machine.specs.Transaction.{Transaction, Coded}
+use Rattle.sip_machine.specs.Transaction.{Coded}
 
 -- The INVITE client transaction, RFC 3261 section 17.1.1 and its figure 5, with the accepted state of RFC 6026 section 7.2.
 
@@ -108,17 +108,6 @@ abbrev pub invite_client : Figure InviteClientPhase
 invite_client =
     record { idle = Idle; ended = Ended; Receives = Receives; Sends = Sends; Satisfies = Satisfies; ends_refused = ends_refused; window = timer_window; closes = closes }
 
--- the messages that a phase names: the INVITE, which may be sent again, and of which an ACK is made
-abbrev pub invite_client_messages : InviteClientPhase → List (List ℕ)
-invite_client_messages (Calling w) = w.request ∷ []
-invite_client_messages (Proceeding reliable request cancel) = request ∷ []
-invite_client_messages (Completed reliable request set) = request ∷ []
-invite_client_messages x = []
-
--- all that it is
-abbrev pub invite_client_transaction : Transaction
-invite_client_transaction = record { Phase = InviteClientPhase; figure = invite_client; messages = invite_client_messages }
-
 -- The phases of the code, whose messages are numbers of a book.
 
 -- the phase that a phase of the code stands for
@@ -145,7 +134,23 @@ InviteClientInRange (code.Accepted set) = set ≤ last_moment
 InviteClientInRange (code.Completed reliable request set) = set ≤ last_moment
 InviteClientInRange x = Unit {0}
 
+-- the messages that a phase names: the INVITE, which may be sent again, and of which an ACK is made
+abbrev pub invite_client_messages : InviteClientPhase → List (List ℕ)
+invite_client_messages (Calling w) = w.request ∷ []
+invite_client_messages (Proceeding reliable request cancel) = request ∷ []
+invite_client_messages (Completed reliable request set) = request ∷ []
+invite_client_messages x = []
+
 -- how the code has it
 abbrev pub invite_client_coded : Coded InviteClientPhase
 invite_client_coded =
-    record { Code = CodePhase; Debts = List Debt; seen = invite_client_seen; names = invite_client_names; InRange = InviteClientInRange; idle = code.Idle; ended = code.Ended }
+    record {
+      Code = CodePhase;
+      Debts = List Debt;
+      seen = invite_client_seen;
+      names = invite_client_names;
+      InRange = InviteClientInRange;
+      idle = code.Idle;
+      ended = code.Ended;
+      messages = invite_client_messages;
+    }

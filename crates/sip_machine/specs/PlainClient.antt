@@ -12,7 +12,7 @@ use Rattle.sip_machine.specs.Retransmits.{Retransmits}
 use Rattle.sip_machine.specs.Waiting.{Waiting, waiting_closes, waiting_seen, WaitingInRange}
 use Rattle.sip_machine.specs.Message.{IsProvisional, IsFinal}
 use Rattle.sip_machine.specs.Figure.{Figure, After, keeps}
-use Rattle.sip_machine.specs.Transaction.{Transaction, Coded}
+use Rattle.sip_machine.specs.Transaction.{Coded}
 
 -- The non-INVITE client transaction, RFC 3261 section 17.1.2 and its figure 6.
 
@@ -68,16 +68,6 @@ abbrev pub plain_client : Figure PlainClientPhase
 plain_client =
     record { idle = Idle; ended = Ended; Receives = Receives; Sends = Sends; Satisfies = λ x k e message. ⊥; ends_refused = λ x k. true; window = timer_window; closes = closes }
 
--- the messages that a phase names: the request, which may be sent again
-abbrev pub plain_client_messages : PlainClientPhase → List (List ℕ)
-plain_client_messages (Trying w) = w.request ∷ []
-plain_client_messages (Proceeding w) = w.request ∷ []
-plain_client_messages x = []
-
--- all that it is
-abbrev pub plain_client_transaction : Transaction
-plain_client_transaction = record { Phase = PlainClientPhase; figure = plain_client; messages = plain_client_messages }
-
 -- The phases of the code, whose messages are numbers of a book.
 
 -- the phase that a phase of the code stands for
@@ -101,7 +91,22 @@ PlainClientInRange (code.Proceeding w) = WaitingInRange w
 PlainClientInRange (code.Completed reliable set) = set ≤ last_moment
 PlainClientInRange x = Unit {0}
 
+-- the messages that a phase names: the request, which may be sent again
+abbrev pub plain_client_messages : PlainClientPhase → List (List ℕ)
+plain_client_messages (Trying w) = w.request ∷ []
+plain_client_messages (Proceeding w) = w.request ∷ []
+plain_client_messages x = []
+
 -- how the code has it
 abbrev pub plain_client_coded : Coded PlainClientPhase
 plain_client_coded =
-    record { Code = CodePhase; Debts = NoDebts; seen = plain_client_seen; names = plain_client_names; InRange = PlainClientInRange; idle = code.Idle; ended = code.Ended }
+    record {
+      Code = CodePhase;
+      Debts = NoDebts;
+      seen = plain_client_seen;
+      names = plain_client_names;
+      InRange = PlainClientInRange;
+      idle = code.Idle;
+      ended = code.Ended;
+      messages = plain_client_messages;
+    }

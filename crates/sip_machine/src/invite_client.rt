@@ -133,54 +133,51 @@ impl Phases for InviteClient {
             return Ok(None);
         };
         let set = event.moment();
-        let unacked = Change::Gains {
-            must: true,
-            message: event.number(),
-        };
-        let turn = match *phase {
-            InviteClientPhase::Calling(waiting) if is_provisional(code) => Turn {
-                phase: InviteClientPhase::Proceeding {
-                    reliable: waiting.reliable,
-                    request: waiting.request,
-                    cancel: None,
-                },
-                change: Change::Keeps,
-            },
-            InviteClientPhase::Calling(_) if is_success(code) => Turn {
-                phase: InviteClientPhase::Accepted { set },
-                change: Change::Keeps,
-            },
-            InviteClientPhase::Calling(waiting) if is_unsuccessful(code) => Turn {
-                phase: InviteClientPhase::Completed {
+        if is_unsuccessful(code) {
+            let phase = match *phase {
+                InviteClientPhase::Calling(waiting) => InviteClientPhase::Completed {
                     reliable: waiting.reliable,
                     request: waiting.request,
                     set,
                 },
-                change: unacked,
-            },
-            InviteClientPhase::Proceeding { .. } if is_success(code) => Turn {
-                phase: InviteClientPhase::Accepted { set },
-                change: Change::Keeps,
-            },
-            InviteClientPhase::Proceeding {
-                reliable,
-                request,
-                ..
-            } if is_unsuccessful(code) => Turn {
-                phase: InviteClientPhase::Completed {
+                InviteClientPhase::Proceeding {
+                    reliable,
+                    request,
+                    ..
+                } => InviteClientPhase::Completed {
                     reliable,
                     request,
                     set,
                 },
-                change: unacked,
-            },
-            InviteClientPhase::Completed { .. } if is_unsuccessful(code) => Turn {
-                phase: *phase,
-                change: unacked,
-            },
+                InviteClientPhase::Completed { .. } => *phase,
+                _ => return Ok(None),
+            };
+            let change = Change::Gains {
+                must: true,
+                message: event.number(),
+            };
+            return Ok(Some(Turn { phase, change }));
+        }
+        let phase = match *phase {
+            InviteClientPhase::Calling(waiting) if is_provisional(code) => {
+                InviteClientPhase::Proceeding {
+                    reliable: waiting.reliable,
+                    request: waiting.request,
+                    cancel: None,
+                }
+            }
+            InviteClientPhase::Calling(_) if is_success(code) => {
+                InviteClientPhase::Accepted { set }
+            }
+            InviteClientPhase::Proceeding { .. } if is_success(code) => {
+                InviteClientPhase::Accepted { set }
+            }
             _ => return Ok(None),
         };
-        Ok(Some(turn))
+        Ok(Some(Turn {
+            phase,
+            change: Change::Keeps,
+        }))
     }
 
     fn sends(
@@ -193,7 +190,8 @@ impl Phases for InviteClient {
         let Kind::Request(method) = event.kind() else {
             return Ok(None);
         };
-        let t1 = self.params.t1();
+        let params = &self.params;
+        let t1 = params.t1();
         let phase = match method {
             Method::Invite => match *phase {
                 InviteClientPhase::Idle => InviteClientPhase::Calling(Waiting {
@@ -203,7 +201,7 @@ impl Phases for InviteClient {
                     set: event.moment(),
                     interval: t1,
                 }),
-                InviteClientPhase::Calling(waiting) if waiting.repeats(&self.params, book, event) => {
+                InviteClientPhase::Calling(waiting) if waiting.repeats(params, book, event) => {
                     InviteClientPhase::Calling(Waiting {
                         set: event.moment(),
                         interval: 2 * waiting.interval,

@@ -9,10 +9,10 @@ use Rattle.sip_machine.specs.Rules.{Rules}
 use Rattle.sip_machine.specs.Figure.{Owing, rules_of as rules_of_figure}
 use Rattle.sip_machine.specs.declared.owing.Owing.{Owing as CodeOwing}
 use Rattle.sip_machine.specs.Transaction.{Transaction, Coded}
-use Rattle.sip_machine.specs.InviteClient.{invite_client_transaction, invite_client_coded}
-use Rattle.sip_machine.specs.PlainClient.{plain_client_transaction, plain_client_coded}
-use Rattle.sip_machine.specs.InviteServer.{invite_server_transaction, invite_server_coded}
-use Rattle.sip_machine.specs.PlainServer.{plain_server_transaction, plain_server_coded}
+use Rattle.sip_machine.specs.InviteClient.{InviteClientPhase, invite_client, invite_client_coded}
+use Rattle.sip_machine.specs.PlainClient.{PlainClientPhase, plain_client, plain_client_coded}
+use Rattle.sip_machine.specs.InviteServer.{InviteServerPhase, invite_server, invite_server_coded}
+use Rattle.sip_machine.specs.PlainServer.{PlainServerPhase, plain_server, plain_server_coded}
 use Rattle.sip_machine.specs.inner.Coded.{IsCoded}
 use Rattle.sip_machine.specs.inner.InviteClientLaws.{invite_client_is_coded}
 use Rattle.sip_machine.specs.inner.PlainClientLaws.{plain_client_is_coded}
@@ -40,12 +40,12 @@ machine_of Server false = OfPlainServer
 abbrev pub machine_of_key : KeyParts → MachineKind
 machine_of_key key = machine_of key.role (bytes_eq key.method (codes "INVITE"))
 
--- what each machine is
+-- the figure of each machine
 abbrev pub transaction : MachineKind → Transaction
-transaction OfInviteClient = invite_client_transaction
-transaction OfPlainClient = plain_client_transaction
-transaction OfInviteServer = invite_server_transaction
-transaction OfPlainServer = plain_server_transaction
+transaction OfInviteClient = record { Phase = InviteClientPhase; figure = invite_client }
+transaction OfPlainClient = record { Phase = PlainClientPhase; figure = plain_client }
+transaction OfInviteServer = record { Phase = InviteServerPhase; figure = invite_server }
+transaction OfPlainServer = record { Phase = PlainServerPhase; figure = plain_server }
 
 -- the states of each machine: a phase, and what is owed
 abbrev pub PhaseOf : MachineKind → Type 0
@@ -65,7 +65,7 @@ coded OfInviteServer = invite_server_coded
 coded OfPlainServer = plain_server_coded
 
 -- as it is
-pub is_coded : (machine : MachineKind) → IsCoded (transaction machine) (coded machine)
+pub is_coded : (machine : MachineKind) → IsCoded (transaction machine).figure (coded machine)
 is_coded OfInviteClient = invite_client_is_coded
 is_coded OfPlainClient = plain_client_is_coded
 is_coded OfInviteServer = invite_server_is_coded

@@ -14,7 +14,7 @@ use Rattle.sip_machine.specs.Texts.{Texts, IsBook, text_of}
 use Rattle.sip_machine.specs.Heard.{Heard}
 use Rattle.sip_machine.specs.Rules.{Knows}
 use Rattle.sip_machine.specs.Figure.{IsFigure, After}
-use Rattle.sip_machine.specs.InviteClient.{InviteClientPhase, Idle, Calling, Proceeding, Accepted, Completed, Ended, Receives, Sends, closes, timer_window, timer_b, timer_m, invite_client, invite_client_messages, invite_client_transaction, invite_client_seen, invite_client_names, invite_client_coded}
+use Rattle.sip_machine.specs.InviteClient.{InviteClientPhase, Idle, Calling, Proceeding, Accepted, Completed, Ended, Receives, Sends, closes, timer_window, timer_b, timer_m, invite_client, invite_client_messages, invite_client_seen, invite_client_names, invite_client_coded}
 use Rattle.sip_machine.specs.inner.Coded.{IsCoded}
 use Rattle.sip_machine.specs.inner.MessageLaws.{option_exact, message_apart}
 use Rattle.sip_machine.specs.inner.WaitingLaws.{waiting_exact, waiting_apart, waiting_by_names, timer_starts, repeat_starts, patience_lasts}
@@ -113,7 +113,7 @@ invite_client_named texts code.Idle = refl
 invite_client_named texts x = refl
 
 -- the code has it as it is
-pub invite_client_is_coded : IsCoded invite_client_transaction invite_client_coded
+pub invite_client_is_coded : IsCoded invite_client invite_client_coded
 invite_client_is_coded =
     record {
       is_figure = invite_client_is_figure;

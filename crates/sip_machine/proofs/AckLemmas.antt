@@ -21,9 +21,5 @@ pub AckOf-read : (ack invite response : List ℕ) (a i r : Reading) → Reads ac
     IsAckOf a i r ↔ AckOf ack invite response
 AckOf-read ack invite response a i r reads_a reads_i reads_r = (
   λ is. (a, i, r, reads_a, reads_i, reads_r, is),
-  λ of.
-      let same_a = same_reading ack of.0 a of.3 reads_a in
-      let same_i = same_reading invite of.1 i of.4 reads_i in
-      let same_r = same_reading response of.2 r of.5 reads_r in
-      let is : IsAckOf a i r = rw (same_a, same_i, same_r) at of.6 in is,
+  λ of. rw (same_reading ack of.0 a of.3 reads_a, same_reading invite of.1 i of.4 reads_i, same_reading response of.2 r of.5 reads_r) at of.6,
 )

@@ -23,26 +23,23 @@ pays-requires c =
 
 pub returns-then-branch : goal.returns-then-branch
 returns-then-branch c =
-    let texts = c.args.book.now in
-    let runs = c.args.runs.now in
-    let P = PaysDebt texts (text_of texts c.args.event.now.number) (text_of texts c.args.request) c.args.event.now.moment in
-    let reads_ack = rw (c.in-Some.is, c.number.ensures) at c.in_ok-ack.ensures in
-    let reads_invite = rw c.in-Some-2.is at c.in_ok-invite.ensures in
-    let pays = rw c.moment.ensures at c.in_ok-pays.ensures (text_of texts c.args.event.now.number) (text_of texts c.args.request) reads_ack reads_invite in
+    let ack = text_of c.args.book.now c.args.event.now.number in
+    let invite = text_of c.args.book.now c.args.request in
+    let P = PaysDebt c.args.book.now ack invite c.args.event.now.moment in
+    let pays = rw c.moment.ensures at c.in_ok-pays.ensures ack invite (rw (c.in-Some.is, c.number.ensures) at c.in_ok-ack.ensures) (rw c.in-Some-2.is at c.in_ok-invite.ensures) in
     rw c.loop-run.invariant.0 (
-      (one_less runs c.loop-run.run-index c.loop-run-test.true c.requires.filled).0,
-      first_one P runs c.loop-run.run-index none c.loop-run-test.true c.requires.filled c.loop-run.invariant.1 (pays.0 c.if-branch.true),
+      (one_less c.args.runs.now c.loop-run.run-index c.loop-run-test.true c.requires.filled).0,
+      first_one P c.args.runs.now c.loop-run.run-index none c.loop-run-test.true c.requires.filled c.loop-run.invariant.1 (pays.0 c.if-branch.true),
     )
 
 pub loop-run-preserved : goal.loop-run-preserved
 loop-run-preserved c =
-    let texts = c.args.book.now in
     let runs = c.args.runs.now in
     let at = c.loop-run.run-index in
-    let P = PaysDebt texts (text_of texts c.args.event.now.number) (text_of texts c.args.request) c.args.event.now.moment in
-    let reads_ack = rw (c.in-Some.is, c.number.ensures) at c.in_ok-ack.ensures in
-    let reads_invite = rw c.in-Some-2.is at c.in_ok-invite.ensures in
-    let pays = rw c.moment.ensures at c.in_ok-pays.ensures (text_of texts c.args.event.now.number) (text_of texts c.args.request) reads_ack reads_invite in (
+    let ack = text_of c.args.book.now c.args.event.now.number in
+    let invite = text_of c.args.book.now c.args.request in
+    let P = PaysDebt c.args.book.now ack invite c.args.event.now.moment in
+    let pays = rw c.moment.ensures at c.in_ok-pays.ensures ack invite (rw (c.in-Some.is, c.number.ensures) at c.in_ok-ack.ensures) (rw c.in-Some-2.is at c.in_ok-invite.ensures) in (
       sum-told _ c.checked_add.result (c.loop-run.index + (get_or runs at none).count) c.in_ok-index.index c.checked_add.ensures c.in_ok-index.ensures.ok_part
           ∙ ap (λ n. n + (get_or runs at none).count) c.loop-run.invariant.0 ∙ sym (start_after runs at none c.loop-run-test.true),
       All-more (λ run. ¬ (P run.debt)) runs at none c.loop-run-test.true c.loop-run.invariant.1 (λ holds. true≢false (sym (pays.1 holds) ∙ c.if-branch.false)),
@@ -50,6 +47,5 @@ loop-run-preserved c =
 
 pub returns : goal.returns
 returns c =
-    let texts = c.args.book.now in
-    let P = PaysDebt texts (text_of texts c.args.event.now.number) (text_of texts c.args.request) c.args.event.now.moment in
+    let P = PaysDebt c.args.book.now (text_of c.args.book.now c.args.event.now.number) (text_of c.args.book.now c.args.request) c.args.event.now.moment in
     All-each (λ debt. ¬ (P debt)) c.args.runs.now (rw (take_all c.loop-run.run-index c.args.runs.now c.loop-run-test.false) at c.loop-run.invariant.1)

@@ -1,4 +1,4 @@
-use Rattle.std.specs.Prelude.{◌≡◌, ◌↔◌, ℕ, None, Some, List}
+use Rattle.std.specs.Prelude.{◌↔◌, ℕ, None, Some, List}
 use Rattle.std.proofs.Common.{refl}
 use Rattle.sip_message.specs.declared.fault.Fault.{Fault}
 use Rattle.sip_message.specs.Message.{message_of}

@@ -5,7 +5,7 @@ use Rattle.sip_key.specs.Key.{KeyParts}
 use Rattle.sip_machine.specs.Texts.{Texts}
 use Rattle.sip_machine.specs.Times.{Times}
 use Rattle.sip_states.specs.Held.{Held}
-use Rattle.sip_states.specs.KeyMachine.{MachineKind, OfInviteClient, OfPlainClient, OfInviteServer, OfPlainServer, transaction, PhaseOf, StateOf, held_of}
+use Rattle.sip_states.specs.KeyMachine.{MachineKind, OfInviteClient, OfPlainClient, OfInviteServer, OfPlainServer, transaction, PhaseOf, StateOf, by_machine}
 use Rattle.sip_states.specs.declared.any_set.AnySet.{AnySet}
 use Rattle.sip_states.specs.AnySet.{meaning_of, OfSet}
 use Rattle.sip_listing.specs.Fields.{Tells}
@@ -59,7 +59,7 @@ AreLinesOfHeld number texts machine s lines = AreInOrder (map (λ x. state_text 
 
 -- the lines are those of the set's states
 abbrev pub AreLinesOfSet : (List ℕ → ℕ) → Texts → AnySet → List (List ℕ) → Type 0
-AreLinesOfSet number texts set lines = AreLinesOfHeld number texts (held_of set).0 (held_of set).1 lines
+AreLinesOfSet number texts set lines = by_machine (λ machine s. AreLinesOfHeld number texts machine s lines) set
 
 -- the lines list the set, wherever its messages are told by their numbers in the book
 abbrev pub Lists : AnySet → List (List ℕ) → Type 0

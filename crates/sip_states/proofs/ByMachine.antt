@@ -8,9 +8,9 @@ use Rattle.sip_machine.specs.Transaction.{idle_state}
 use Rattle.sip_machine.specs.inner.FigureLaws.{rules_lawful}
 use Rattle.sip_machine.specs.inner.OwingLaws.{owing_by_names, quiet_stands}
 use Rattle.sip_states.specs.Held.{Held}
-use Rattle.sip_states.specs.KeyMachine.{MachineKind, transaction, coded, is_coded, PhaseOf, rules_of, StateOf, set_of, held_of, held_is, set_is}
+use Rattle.sip_states.specs.KeyMachine.{MachineKind, transaction, coded, is_coded, PhaseOf, rules_of, StateOf, set_of, held_of, held_is, set_is, start_is, start_of_machine, of_machine, to_machine}
 use Rattle.sip_states.specs.Meaning.{Meaning}
-use Rattle.sip_states.specs.AnySet.{meaning_of, OfHeld, OfSet, OfHelds, OfSets, moment_of, start_of_machine}
+use Rattle.sip_states.specs.AnySet.{meaning_of, OfHeld, OfSet, OfHelds, OfSets, moment_of}
 use Rattle.sip_states.specs.Sweep.{names_of, numbers_of}
 use Rattle.sip_states.specs.declared.any_set.AnySet.{AnySet}
 
@@ -39,10 +39,6 @@ first_is_of machine texts p =
 pub first_knows : (machine : MachineKind) (texts : Texts) → Knows (meaning_of machine).names texts (first_of machine)
 first_knows machine texts = subst (λ names. All (Keeps texts) (names ++ [])) (sym (is_coded machine).idle_names) (All-nil (Keeps texts))
 
--- a set starts with it
-pub start_is : (p : Times) (machine : MachineKind) → start_of_machine p machine ≡ set_of machine (record { machine = p; moment = 0; states = first_of machine ∷ [] })
-start_is p machine = refl
-
 -- the moment of a set
 pub moment_is : (machine : MachineKind) (s : Held Times (StateOf machine)) → moment_of (set_of machine s) ≡ s.moment
 moment_is machine s = ap (λ (h : (kind : MachineKind) × Held Times (StateOf kind)). h.1.moment) (held_is machine s)
@@ -54,7 +50,7 @@ numbers_are machine s = ap (λ (h : (kind : MachineKind) × Held Times (StateOf 
 -- the set that a machine starts with names nothing
 pub start_silent : (p : Times) (machine : MachineKind) → numbers_of (start_of_machine p machine) ≡ []
 start_silent p machine =
-    numbers_are machine (record { machine = p; moment = 0; states = first_of machine ∷ [] }) ∙ ap (λ names. (names ++ []) ++ []) (is_coded machine).idle_names
+    ap numbers_of (start_is p machine) ∙ numbers_are machine (record { machine = p; moment = 0; states = first_of machine ∷ [] }) ∙ ap (λ names. (names ++ []) ++ []) (is_coded machine).idle_names
 
 -- each set is one of some machine
 pub some_machine : (set : AnySet) → (machine : MachineKind) × (s : Held Times (StateOf machine)) × (set ≡ set_of machine s)
@@ -63,12 +59,12 @@ some_machine set = ((held_of set).0, (held_of set).1, set_is set)
 module _ (P : (X M S : Type 0) → Meaning X M S → Held M S → Type 0) where
   -- what holds of a set of a machine
   pub of_set : (machine : MachineKind) (s : Held Times (StateOf machine)) → OfSet P (set_of machine s) → P (PhaseOf machine) Times (StateOf machine) (meaning_of machine) s
-  of_set machine s holds = subst (λ (h : (kind : MachineKind) × Held Times (StateOf kind)). OfHeld P h.0 h.1) (held_is machine s) holds
+  of_set machine s holds = of_machine (OfHeld P) machine s holds
 
   pub to_set : (machine : MachineKind) (s : Held Times (StateOf machine)) → P (PhaseOf machine) Times (StateOf machine) (meaning_of machine) s → OfSet P (set_of machine s)
-  to_set machine s holds = subst (λ (h : (kind : MachineKind) × Held Times (StateOf kind)). OfHeld P h.0 h.1) (sym (held_is machine s)) holds
+  to_set machine s holds = to_machine (OfHeld P) machine s holds
 
 -- what holds of two of them
 pub of_sets : (P : (X M S : Type 0) → Meaning X M S → Held M S → Held M S → Type 0) (machine : MachineKind) (s : Held Times (StateOf machine)) (new : AnySet) → OfSets P (set_of machine s) new
     → (t : Held Times (StateOf machine)) × (new ≡ set_of machine t) × P (PhaseOf machine) Times (StateOf machine) (meaning_of machine) s t
-of_sets P machine s new both = subst (λ (h : (kind : MachineKind) × Held Times (StateOf kind)). OfHelds P h.0 h.1 new) (held_is machine s) both
+of_sets P machine s new both = of_machine (λ kind held. OfHelds P kind held new) machine s both

@@ -1,15 +1,15 @@
 -- A set of states of one of the machines.
-use Rattle.std.specs.Prelude.{◌≡◌, ℕ, Option, List, [], ◌∷◌}
+use Rattle.std.specs.Prelude.{◌≡◌, ℕ, Option, List, []}
 use Rattle.sip_key.specs.Key.{KeyParts}
 use Rattle.sip_machine.specs.Times.{Times}
 use Rattle.sip_machine.specs.Texts.{Texts}
 use Rattle.sip_machine.specs.NumberedEvent.{NumberedEvent}
 use Rattle.sip_machine.specs.Figure.{rules_of as rules_of_figure, until_of}
 use Rattle.sip_machine.specs.Owing.{owing_seen, owing_names, OwingInRange}
-use Rattle.sip_machine.specs.Transaction.{idle_state, ended_state}
+use Rattle.sip_machine.specs.Transaction.{ended_state}
 use Rattle.sip_states.specs.Runs.{IsWide}
 use Rattle.sip_states.specs.Held.{Held}
-use Rattle.sip_states.specs.KeyMachine.{MachineKind, machine_of_key, transaction, coded, PhaseOf, StateOf, set_of, held_of}
+use Rattle.sip_states.specs.KeyMachine.{MachineKind, machine_of_key, transaction, coded, PhaseOf, StateOf, set_of, held_of, by_machine, start_of_machine}
 use Rattle.sip_states.specs.Meaning.{Meaning, IsKeptBy, IsKnown, Given, HasWaited, HasTaken, HasAgenda}
 use Rattle.sip_states.specs.declared.any_set.AnySet.{AnySet}
 
@@ -34,7 +34,7 @@ module _ (P : (X M S : Type 0) → Meaning X M S → Held M S → Type 0) where
 
   -- P of the set, by its machine
   abbrev pub OfSet : AnySet → Type 0
-  OfSet set = OfHeld (held_of set).0 (held_of set).1
+  OfSet set = by_machine OfHeld set
 
 module _ (P : (X M S : Type 0) → Meaning X M S → Held M S → Held M S → Type 0) where
   -- the new set is of this machine, as the old one is, and P of the two
@@ -44,7 +44,7 @@ module _ (P : (X M S : Type 0) → Meaning X M S → Held M S → Held M S → T
 
   -- the new set is of the old one's machine, and P of the two
   abbrev pub OfSets : AnySet → AnySet → Type 0
-  OfSets set new = OfHelds (held_of set).0 (held_of set).1 new
+  OfSets set new = by_machine (λ machine s. OfHelds machine s new) set
 
 -- the moment of the set
 abbrev pub moment_of : AnySet → ℕ
@@ -77,10 +77,6 @@ IsTooWide texts e set = OfSet (λ X M S m s. IsWide (Given m texts s e)) set
 -- a wait can last until exactly the moments within the limit
 abbrev pub IsAgendaOf : Option ℕ → AnySet → Type 0
 IsAgendaOf limit set = OfSet (λ X M S m s. HasAgenda m limit s) set
-
--- the set that a machine starts with: its first state, at moment 0
-abbrev pub start_of_machine : Times → MachineKind → AnySet
-start_of_machine p machine = set_of machine (record { machine = p; moment = 0; states = idle_state (coded machine) ∷ [] })
 
 -- the set that a key starts with
 abbrev pub start_of : Times → KeyParts → AnySet

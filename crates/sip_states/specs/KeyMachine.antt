@@ -1,5 +1,5 @@
 -- The machine of each key (RFC 3261 section 17), its figure, and how the code has it: the list of machines.
-use Rattle.std.specs.Prelude.{◌≡◌, Bool, true, false, codes, bytes_eq}
+use Rattle.std.specs.Prelude.{◌≡◌, [], ◌∷◌, Bool, true, false, codes, bytes_eq}
 use Rattle.std.proofs.Common.{refl}
 use Rattle.sip_key.specs.declared.role.Role.{Role}
 use Rattle.sip_key.specs.declared.role.Role.TheVariants.{Client, Server}
@@ -8,7 +8,7 @@ use Rattle.sip_machine.specs.Times.{Times}
 use Rattle.sip_machine.specs.Rules.{Rules}
 use Rattle.sip_machine.specs.Figure.{Owing, rules_of as rules_of_figure}
 use Rattle.sip_machine.specs.declared.owing.Owing.{Owing as CodeOwing}
-use Rattle.sip_machine.specs.Transaction.{Transaction, Coded}
+use Rattle.sip_machine.specs.Transaction.{Transaction, Coded, idle_state}
 use Rattle.sip_machine.specs.InviteClient.{InviteClientPhase, invite_client, invite_client_coded}
 use Rattle.sip_machine.specs.PlainClient.{PlainClientPhase, plain_client, plain_client_coded}
 use Rattle.sip_machine.specs.InviteServer.{InviteServerPhase, invite_server, invite_server_coded}
@@ -89,7 +89,22 @@ held_of (PlainClient s) = (OfPlainClient, s)
 held_of (InviteServer s) = (OfInviteServer, s)
 held_of (PlainServer s) = (OfPlainServer, s)
 
--- the two are each other's turn
+-- P of the set, by its machine
+abbrev pub by_machine : ((machine : MachineKind) → Held Times (StateOf machine) → Type 0) → AnySet → Type 0
+by_machine P (InviteClient s) = P OfInviteClient s
+by_machine P (PlainClient s) = P OfPlainClient s
+by_machine P (InviteServer s) = P OfInviteServer s
+by_machine P (PlainServer s) = P OfPlainServer s
+
+-- the set that a machine starts with: its first state, at moment 0
+abbrev pub start_of_machine : Times → MachineKind → AnySet
+start_of_machine p OfInviteClient = InviteClient (record { machine = p; moment = 0; states = idle_state (coded OfInviteClient) ∷ [] })
+start_of_machine p OfPlainClient = PlainClient (record { machine = p; moment = 0; states = idle_state (coded OfPlainClient) ∷ [] })
+start_of_machine p OfInviteServer = InviteServer (record { machine = p; moment = 0; states = idle_state (coded OfInviteServer) ∷ [] })
+start_of_machine p OfPlainServer = PlainServer (record { machine = p; moment = 0; states = idle_state (coded OfPlainServer) ∷ [] })
+
+-- Whichever its machine is, that is what a set is.
+
 pub held_is : (machine : MachineKind) (s : Held Times (StateOf machine)) → held_of (set_of machine s) ≡ (machine, s)
 held_is OfInviteClient s = refl
 held_is OfPlainClient s = refl
@@ -101,3 +116,22 @@ set_is (InviteClient s) = refl
 set_is (PlainClient s) = refl
 set_is (InviteServer s) = refl
 set_is (PlainServer s) = refl
+
+pub start_is : (p : Times) (machine : MachineKind) → start_of_machine p machine ≡ set_of machine (record { machine = p; moment = 0; states = idle_state (coded machine) ∷ [] })
+start_is p OfInviteClient = refl
+start_is p OfPlainClient = refl
+start_is p OfInviteServer = refl
+start_is p OfPlainServer = refl
+
+module _ (P : (machine : MachineKind) → Held Times (StateOf machine) → Type 0) where
+  pub of_machine : (machine : MachineKind) (s : Held Times (StateOf machine)) → by_machine P (set_of machine s) → P machine s
+  of_machine OfInviteClient s holds = holds
+  of_machine OfPlainClient s holds = holds
+  of_machine OfInviteServer s holds = holds
+  of_machine OfPlainServer s holds = holds
+
+  pub to_machine : (machine : MachineKind) (s : Held Times (StateOf machine)) → P machine s → by_machine P (set_of machine s)
+  to_machine OfInviteClient s holds = holds
+  to_machine OfPlainClient s holds = holds
+  to_machine OfInviteServer s holds = holds
+  to_machine OfPlainServer s holds = holds

@@ -14,12 +14,13 @@ use Rattle.sip_text.specs.Profile as profile
 use Rattle.sip_text.proofs.ProfileLemmas.{host-parts, parts-host}
 use Rattle.sip_message.specs.Unfold.{is_blank, OpensSolid}
 use Rattle.sip_message.specs.Params.{ParamValue, ParamText, ParamsText, ParamsPart, BehindBlanks}
-use Rattle.sip_message.specs.Via.{ViaParts, IsBranch, ColonPort, ViaText}
+use Rattle.sip_message.specs.Via.{ViaParts, IsBranch, ColonPort, ViaText, MoreVias, ViasText}
 use Rattle.sip_message.specs.Elements.{Element, MoreElements, ElementsText, AreElements}
 use Rattle.sip_message.specs.Says.{SaidVia, PortSays, ParamSays, first_some, ViaSays, ViasSay, ViasTell}
 use Rattle.sip_message.specs.SaidOf.{said_via}
 use Rattle.sip_message.proofs.lemmas.text.Cuts.{All}
 use Rattle.sip_message.proofs.lemmas.text.Each.{each-sws}
+use Rattle.sip_message.proofs.lemmas.asked.Parts.{more-elements}
 
 abbrev Params : Type 0
 Params = List (List ℕ × Option (List ℕ))
@@ -202,3 +203,25 @@ said-are (text ∷ texts) vias (now, more, one, are, whole) =
       (first.0, rest.0, first.1, rest.1, refl),
       whole ∙ ap (λ z. z ++ more) first.2 ∙ ap (λ z. map said_via first.0 ++ z) rest.2 ∙ sym (map-append first.0 rest.0),
     )
+
+-- the elements of a value are those of its row
+more-vias : (es : List Element) (text : List ℕ) → MoreElements es text → (vias : List ViaParts) × MoreVias vias text
+more-vias [] text none = ([], none)
+more-vias (e ∷ es) text (via, (m, w, mark, (x, y, x_is, more, w_is), whole)) =
+    let later = more-vias es y more in
+    (e.1 ∷ later.0, (m, w, mark, (x, y, subst (λ t. ViaText t e.1) (sym x_is) via, later.1, w_is), whole))
+
+pub elements-first : (text : List ℕ) (e : Element) (es : List Element) → ElementsText text (e ∷ es) → (vias : List ViaParts) × ViasText text e.1 vias
+elements-first text e es (via, (x, y, x_is, more, whole)) =
+    let later = more-vias es y more in
+    (later.0, (x, y, subst (λ t. ViaText t e.1) (sym x_is) via, later.1, whole))
+
+pub elements-via : (text : List ℕ) (es : List Element) → ElementsText text es → (v : ViaParts) × (vias : List ViaParts) × ViasText text v vias
+elements-via text [] none = absurd none
+elements-via text (e ∷ es) are = let row = elements-first text e es are in (e.1, row.0, row.1)
+
+-- and the other way round
+pub via-elements : (text : List ℕ) (v : ViaParts) (vias : List ViaParts) → ViasText text v vias → (x : List ℕ) × (es : List Element) × ElementsText text ((x, v) ∷ es)
+via-elements text v vias (x, y, via, more, whole) =
+    let later = more-elements vias y more in
+    (x, later.0, (via, (x, y, refl, later.1, whole)))

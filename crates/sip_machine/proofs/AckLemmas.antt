@@ -1,5 +1,6 @@
-use Rattle.std.specs.Prelude.{◌≡◌, ◌↔◌, ℕ, Option, None, Some, Result, Ok, Err, IfOk, SomeIff, List, All}
-use Rattle.std.proofs.Common.{refl, sym, ◌∙◌}
+use Rattle.std.specs.Prelude.{◌≡◌, ◌≤◌, ◌↔◌, ℕ, Bool, true, false, IsTrue, bytes_eq, Option, None, Some, Result, Ok, Err, IfOk, SomeIff, List, All}
+use Rattle.std.specs.Cmp.Lexicographic.{bytes_decides}
+use Rattle.std.proofs.Common.{refl, sym, ◌∙◌, ap, get_or, true≢false}
 use Rattle.sip_message.specs.declared.fault.Fault.{Fault}
 use Rattle.sip_message.specs.Message.{message_of}
 use Rattle.sip_message.specs.Reading.{Reading}
@@ -7,10 +8,12 @@ use Rattle.sip_message.specs.Reads.{Reads}
 use Rattle.sip_message.specs.Faults.{FaultOf}
 use Rattle.sip_message.proofs.lemmas.message.Faults.{spells-no_fault, same_fault}
 use Rattle.sip_message.proofs.lemmas.message.Views.{same_reading}
-use Rattle.sip_key.specs.AckOf.{AckOf, IsAckOf}
+use Rattle.sip_key.specs.AckOf.{AckOf, IsAckOf, SameSolid}
+use Rattle.sip_key.specs.Solid.{solid}
 use Rattle.sip_machine.specs.declared.outbox.Debt.{Debt}
 use Rattle.sip_machine.specs.Texts.{Texts, text_of}
-use Rattle.sip_machine.specs.inner.Acks.{Acks, AcksDebt, PaysDebt, FindsFirst}
+use Rattle.sip_machine.specs.inner.Acks.{Acks, AcksDebt, PaysDebt, FindsFirst, IsAckBut}
+use Rattle.sip_machine.specs.inner.Tos.{IsToOf}
 
 -- Which debts an ACK pays.
 
@@ -43,6 +46,26 @@ pub PaysDebt-read : (texts : Texts) (ack invite : List ℕ) (t : ℕ) (a i : Rea
 PaysDebt-read texts ack invite t a i reads_a reads_i d =
     let same = AckOf-read ack invite (text_of texts d.message) a i reads_a reads_i in
     (λ acks. (same.0 acks.0, acks.1), λ pays. (same.1 pays.0, pays.1))
+
+-- where the To of a debt's message is known, it alone decides
+pub AcksDebt-by_to : (texts : Texts) (a i : Reading) (t : ℕ) (d : Debt) (to text : List ℕ) (is : Bool) → to ≡ solid a.parts.to.0 → IsAckBut a i
+    → IsToOf (text_of texts d.message) text → t ≤ d.deadline → is ≡ bytes_eq text to → IsTrue is ↔ AcksDebt texts a i t d
+AcksDebt-by_to texts a i t d to text is to_is others (r, reads, text_is) low told = (
+  λ true. ((r, reads, others r (sym to_is ∙ sym ((bytes_decides text to).0 (sym told ∙ true)) ∙ text_is)), low),
+  λ acks.
+      let same = same_reading (text_of texts d.message) acks.0.0 r acks.0.1 reads in
+      let its : solid r.parts.to.0 ≡ solid a.parts.to.0 = ap (λ x. solid x.parts.to.0) (sym same) ∙ sym acks.0.2.to in
+      told ∙ (bytes_decides text to).1 (text_is ∙ its ∙ sym to_is),
+)
+
+-- where it is no ACK for the INVITE whatever the To, it pays nothing
+pub PaysDebt-no_ack_for : (texts : Texts) (ack invite : List ℕ) (t : ℕ) (a i : Reading) (is : Bool) → Reads ack a → Reads invite i
+    → ((r : Reading) → SameSolid a.parts.to.0 r.parts.to.0 → IsTrue is ↔ IsAckOf a i r) → is ≡ false → (ds : List Debt) → All (λ d. ¬ (PaysDebt texts ack invite t d)) ds
+PaysDebt-no_ack_for texts ack invite t a i is reads_a reads_i tells not_so ds = λ k d low pays.
+    let acks = (PaysDebt-read texts ack invite t a i reads_a reads_i (get_or ds k d)).1 pays in
+    let it = acks.0.2 in
+    let both : true ≡ false = sym ((tells acks.0.0 it.to).1 it) ∙ not_so in
+    true≢false both
 
 -- what holds of the same elements has the same first one
 pub FindsFirst-same : {X : Type 0} (P Q : X → Type 0) → ((x : X) → P x ↔ Q x) → (xs : List X) (found : Option ℕ) →

@@ -1,14 +1,18 @@
 //! The messages of a log, each kept once.
-ghost use Rattle.std.specs.Prelude.{◌≡◌, ◌≢◌, ◌<◌, ◌≤◌, ◌⊎◌, ◌++◌, ◌∷◌, [], ℕ, length, map, MatchOption, IfOk, IfErr, OnOk, OnErr, All, AllPairs};
+ghost use Rattle.std.specs.Prelude.{◌≡◌, ◌≢◌, ◌<◌, ◌≤◌, ◌⊎◌, ◌++◌, ◌∷◌, [], ℕ, length, map, MatchOption, IfSome, IfOk, IfErr, OnOk, OnErr, All, AllPairs};
 ghost use Rattle.std.specs.List.{insert, HoldsAt};
 ghost use Rattle.std.specs.List.Sorted.{IsSearchInRange, IsBinarySearchResult};
 ghost use Rattle.sip_machine.specs.Texts.{IsBook, Keeps, text_of};
 ghost use Rattle.sip_machine.specs.Retained.{only};
-ghost use Rattle.sip_machine.specs.inner.Order.{texts_of, hash_of, bytes_at, key_of, compare, begins_by, places_of, index_of, most_places, IsLed, IsInRuns, IsInside, IsGap};
+ghost use Rattle.sip_machine.specs.inner.Order.{texts_of, hash_of, front, bytes_at, key_of, compare, begins_by, places_of, index_of, most_places, IsLed, IsInRuns, IsInside, IsGap};
+ghost use Rattle.sip_message.specs.Reads.{Reads};
+ghost use Rattle.sip_machine.specs.inner.Tos.{IsToOf};
 
 mod retain;
 
 use crate::book::retain::{keep_only, move_all};
+use sip_key::solid_of;
+use sip_message::Message;
 use std::alloc::{AllocError, Global};
 use std::cmp::Ordering;
 use std::hash::{FoldHasher, Hasher};
@@ -22,6 +26,8 @@ use std::marker::Model;
 pub struct Book {
     kept: Vec<Kept>,
     order: Vec<Run>,
+    /// The To of some messages, those of the lower numbers first.
+    tos: Vec<To>,
 }
 
 /// A message with the number of its first entry.
@@ -29,6 +35,13 @@ pub struct Book {
 struct Kept {
     number: u32,
     bytes: Vec<u8>,
+}
+
+/// The To of the kept message with this number, without its blanks.
+#[derive(Debug, Drop)]
+struct To {
+    number: u32,
+    text: Vec<u8>,
 }
 
 /// Where a message stands among those that are kept, with the hash of its bytes.
@@ -56,15 +69,20 @@ struct Gap {
 /// A run with so many places is halved before it takes another one.
 const MOST: usize = 128;
 
+/// How many bytes of a message are hashed.
+const HASHED: usize = 192;
+
 impl Model for Book {
     ghost use Rattle.sip_machine.specs.Texts.{Texts, IsBook};
+    ghost use Rattle.std.specs.Prelude.{All};
     ghost use Rattle.sip_machine.specs.inner.Order.{texts_of, IsInRuns};
+    ghost use Rattle.sip_machine.specs.inner.Tos.{IsTo};
 
     ghost Value = { Texts };
 
     ghost view = { λ b. texts_of b.kept.items };
 
-    ghost invariant = { λ b. IsBook (texts_of b.kept.items) × IsInRuns (texts_of b.kept.items) b.order.items };
+    ghost invariant = { λ b. IsBook (texts_of b.kept.items) × IsInRuns (texts_of b.kept.items) b.order.items × All (IsTo (texts_of b.kept.items)) b.tos.items };
 }
 
 impl Book {
@@ -75,6 +93,7 @@ impl Book {
         Book {
             kept: Vec::new(alloc),
             order: Vec::new(alloc),
+            tos: Vec::new(alloc),
         }
     }
 
@@ -123,6 +142,31 @@ impl Book {
         }
     }
 
+    /// Keeps the To of a message beside it, so that no ACK needs to read the message anew. Where there is no memory for it,
+    /// it is not kept.
+    pub fn keep_to(&mut self, number: u32, message: &Message<'_>)
+        requires kept { Keeps self.old number }
+        requires read { Reads (text_of self.old number) message.now }
+        ensures { self.new ≡ self.old }
+    {
+        if self.tos.last().is_some_and(|to| number <= to.number) {
+            return;
+        }
+        if let Ok(text) = solid_of(*self.kept.allocator(), message.to().whole) {
+            let _ = self.tos.push(To { number, text });
+        }
+    }
+
+    /// The To of the message with this number without its blanks, where it is kept beside the message.
+    pub(crate) fn to_of(&self, number: u32) -> Option<&[u8]>
+        ensures { IfSome result (λ to. IsToOf (text_of self.now number) to.now) }
+    {
+        match self.tos.binary_search_by_key(&number, |to| to.number) {
+            Ok(at) => Some(self.tos[at].text.as_slice()),
+            Err(_) => None,
+        }
+    }
+
     /// How many messages are kept.
     pub fn len(&self) -> usize
         ensures { result ≡ length self.now }
@@ -138,16 +182,30 @@ impl Book {
     {
         move_all(&mut self.order, &self.kept, numbers);
         keep_only(&mut self.kept, numbers);
+        self.tos
+            .retain(|to| numbers.binary_search(&to.number).is_ok());
     }
 }
 
-/// A hash of these bytes, which says nothing of them but that equal bytes have equal hashes.
+/// A hash of the front of these bytes, which says nothing of them but that equal bytes have equal hashes. In most
+/// messages the top Via stands in the front; messages with one hash cost a comparison of their bytes.
 fn hash(bytes: &[u8]) -> u64
     ensures { result ≡ hash_of bytes.now }
 {
     let mut hasher = FoldHasher::default();
-    hasher.write(bytes);
+    hasher.write(front(bytes));
     hasher.finish()
+}
+
+/// So many of these bytes as are hashed.
+fn front(bytes: &[u8]) -> &[u8]
+    ensures { result.now ≡ front bytes.now }
+{
+    if bytes.len() > HASHED {
+        &bytes[..HASHED]
+    } else {
+        bytes
+    }
 }
 
 /// The position of the message with these bytes; where there is none, its gap in the order.
@@ -195,7 +253,7 @@ fn put(
     ensures led { All IsLed runs.new.items }
     ensures short { All (λ run. length run.places.items ≤ most_places) runs.new.items }
 {
-    let bytes = bytes.to_vec(*kept.allocator())?;
+    let bytes = Vec::from_slice(*kept.allocator(), bytes)?;
     kept.reserve(1)?;
     let position = kept.len();
     insert(runs, gap, Place { hash, position })?;

@@ -1,7 +1,7 @@
 use Rattle.std.specs.Prelude.{◌≤◌, ◌<◌, ℕ, Option, None, Some, List, All, length, remove}
 use Rattle.sip_message.specs.Reading.{Reading}
 use Rattle.sip_message.specs.Reads.{Reads}
-use Rattle.sip_key.specs.AckOf.{AckOf, IsAckOf}
+use Rattle.sip_key.specs.AckOf.{AckOf, IsAckOf, SameSolid}
 use Rattle.sip_machine.specs.Texts.{Texts, text_of}
 use Rattle.sip_machine.specs.declared.outbox.Debt.{Debt}
 use Rattle.sip_machine.specs.Debts.{IsWithoutFirst}
@@ -11,6 +11,10 @@ use Rattle.sip_machine.specs.Debts.{IsWithoutFirst}
 -- the bytes spell the response that the ACK is for
 abbrev pub Acks : Reading → Reading → List ℕ → Type 0
 Acks ack invite response = (r : Reading) × Reads response r × IsAckOf ack invite r
+
+-- the first is an ACK for the second, an INVITE, and each response that has its To
+abbrev pub IsAckBut : Reading → Reading → Type 0
+IsAckBut ack invite = (r : Reading) → SameSolid ack.parts.to.0 r.parts.to.0 → IsAckOf ack invite r
 
 -- these messages acknowledge the debt's, whose deadline has not passed at t
 abbrev pub AcksDebt : Texts → Reading → Reading → ℕ → Debt → Type 0

@@ -17,9 +17,13 @@ use Rattle.sip_machine.specs.declared.book.Gap.{Gap}
 abbrev pub texts_of : List Kept → Texts
 texts_of kept = map (λ k. (k.number, k.bytes.items)) kept
 
+-- so many of these bytes as are hashed
+abbrev pub front : List ℕ → List ℕ
+front bytes = take 192 bytes
+
 -- the hash of these bytes
 abbrev pub hash_of : List ℕ → ℕ
-hash_of bytes = finish (write initial bytes)
+hash_of bytes = finish (write initial (front bytes))
 
 -- the bytes at a position, none past the last message
 abbrev pub bytes_at : Texts → ℕ → List ℕ

@@ -1,13 +1,15 @@
-//! Which response an ACK is for: the INVITE, the ACK and the responses of the `Book`, read anew.
+//! Which response an ACK is for: the INVITE and the ACK of the `Book`, read anew, and the To of the responses that stands
+//! beside them; a response without it is read anew.
 ghost use Rattle.std.specs.Prelude.{◌≡◌, ◌↔◌, ◌<◌, IfOk, IsTrue, All};
+ghost use Rattle.sip_key.specs.Solid.{solid};
 ghost use Rattle.sip_machine.specs.Texts.{Keeps, text_of};
-ghost use Rattle.sip_machine.specs.inner.Acks.{Acks, AcksDebt, PaysDebt, FindsFirst};
+ghost use Rattle.sip_machine.specs.inner.Acks.{Acks, AcksDebt, PaysDebt, FindsFirst, IsAckBut};
 ghost use Rattle.sip_machine.specs.inner.Runs.{debts_of};
 
 use crate::book::Book;
 use crate::event::Event;
 use crate::outbox::{Debt, Run};
-use sip_key::is_ack_of;
+use sip_key::{is_ack_for, is_ack_of, solid_of};
 use sip_message::{Message, ReadError};
 use std::alloc::{AllocError, Global};
 
@@ -36,25 +38,32 @@ pub(crate) fn first_acked(
         Err(ReadError::Memory) => return Err(AllocError),
         Err(ReadError::Fault(_)) => return Ok(None),
     };
-    first_of(alloc, book, &ack, &invite, runs, event.moment())
+    if !is_ack_for(&ack, &invite) {
+        return Ok(None);
+    }
+    let to = solid_of(alloc, ack.to().whole)?;
+    first_of(alloc, book, &ack, &invite, &to, runs, event.moment())
 }
 
-/// The same, of messages that were read.
+/// The same, of messages that were read, where all but the response's To, which must be this one but for blanks, is as it must be.
 fn first_of(
     alloc: Global,
     book: &Book,
     ack: &Message<'_>,
     invite: &Message<'_>,
+    to: &[u8],
     runs: &[Run],
     moment: u64,
 ) -> Result<Option<usize>, AllocError>
+    requires to { to.now ≡ solid ack.now.parts.to.0 }
+    requires others { IsAckBut ack.now invite.now }
     requires filled { All (λ run. 0 < run.count) runs.now }
     requires debts { All (λ run. Keeps book.now run.debt.message) runs.now }
     ensures { IfOk result (FindsFirst (AcksDebt book.now ack.now invite.now moment) (debts_of runs.now)) }
 {
     let mut index = 0usize;
     for run in runs {
-        if pays(alloc, book, ack, invite, run.debt, moment)? {
+        if pays(alloc, book, ack, invite, to, run.debt, moment)? {
             return Ok(Some(index));
         }
         index = index.checked_add(run.count).ok_or(AllocError)?;
@@ -68,16 +77,22 @@ fn pays(
     book: &Book,
     ack: &Message<'_>,
     invite: &Message<'_>,
+    to: &[u8],
     debt: Debt,
     moment: u64,
 ) -> Result<bool, AllocError>
-    requires { Keeps book.now debt.message }
+    requires kept { Keeps book.now debt.message }
+    requires to { to.now ≡ solid ack.now.parts.to.0 }
+    requires others { IsAckBut ack.now invite.now }
     ensures { IfOk result (λ is. IsTrue is ↔ AcksDebt book.now ack.now invite.now moment debt) }
 {
     if debt.deadline < moment {
         return Ok(false);
     }
-    acks(alloc, ack, invite, book.bytes_of(debt.message))
+    match book.to_of(debt.message) {
+        Some(of) => Ok(of == to),
+        None => acks(alloc, ack, invite, book.bytes_of(debt.message)),
+    }
 }
 
 /// Whether the bytes spell a response to the INVITE that the ACK is for.

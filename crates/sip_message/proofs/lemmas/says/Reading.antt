@@ -24,6 +24,7 @@ use Rattle.sip_message.proofs.lemmas.asked.Parts.{found-values, has-parts}
 use Rattle.sip_message.proofs.lemmas.asked.OneWay.{parts-one}
 use Rattle.sip_message.proofs.lemmas.message.Outcome.{no_value, given, fault_is}
 use Rattle.sip_message.proofs.lemmas.message.Faults.{read-text, text-read}
+use Rattle.sip_message.proofs.lemmas.message.Views.{same_reading}
 use Rattle.sip_message.proofs.lemmas.says.Alike.{Alike}
 use Rattle.sip_message.proofs.lemmas.says.Via.{are-said, said-are}
 use Rattle.sip_message.proofs.lemmas.says.Values.{value-said, said-value}
@@ -135,3 +136,9 @@ says-fault bytes f (stopped g tells is) = let read = (same-read bytes).back (sto
     at : (a : Outcome Message) → ReadOf bytes a → Alike IsTold a (stops g) → ReadOf bytes (stops f)
     at (gives m) read is_told = absurd is_told
     at (stops h) read same = subst (λ z. ReadOf bytes (stops z)) (same ∙ sym (fault_is is)) read
+
+-- so they say one message
+pub said-is : (bytes : List ℕ) (r : Reading) (s : Said) → Reads bytes r → Says bytes (gives s) → s ≡ said_of r
+said-is bytes r s reads says =
+    let other = says-reads bytes s says in
+    other.2 ∙ ap said_of (same_reading bytes other.0 r other.1 reads)

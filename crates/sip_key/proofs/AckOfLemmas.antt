@@ -1,5 +1,5 @@
 -- Which ACK belongs to which INVITE.
-use Rattle.std.specs.Prelude.{◌≡◌, ◌↔◌, ℕ, Bool, IsTrue, List, [], ◌∷◌, ◌++◌, Option, None, Some, codes, bytes_eq, unwrap_or, map, refl}
+use Rattle.std.specs.Prelude.{◌≡◌, ◌↔◌, ℕ, Bool, IsTrue, List, [], ◌∷◌, ◌++◌, Option, None, Some, codes, bytes_eq, unwrap_or}
 use Rattle.std.specs.Borrow.{Bor}
 use Rattle.std.specs.List.{flat_map, join_with_byte}
 use Rattle.std.specs.Iterator.{YieldsFirstRef}
@@ -11,9 +11,8 @@ use Rattle.sip_message.specs.StartLine.{StartLine, request}
 use Rattle.sip_key.specs.Solid.{solid}
 use Rattle.sip_message.specs.Reading.{Reading}
 use Rattle.sip_message.specs.Reads.{Reads}
-use Rattle.sip_message.specs.Elements.{Element}
 use Rattle.sip_message.specs.Says.{Said}
-use Rattle.sip_message.specs.SaidOf.{said_via, said_of}
+use Rattle.sip_message.specs.SaidOf.{said_of}
 use Rattle.sip_message.proofs.lemmas.says.Reading.{reads-says, said-is}
 use Rattle.sip_key.specs.AckOf.{IsAckLine, IsAckOf, AckOf}
 
@@ -49,11 +48,6 @@ solid-begins values more None none steps empty =
     ap₂ (λ (t : List ℕ) (vs : List (List ℕ)). solid t ++ each vs) empty steps.1 ∙ ap (λ vs. solid (join_with_byte comma vs)) (sym steps.0)
 solid-begins values more (Some x) none steps empty =
     sym (solid-joined x.now more) ∙ ap (λ vs. solid (join_with_byte comma vs)) (sym steps)
-
--- no further element is said exactly if none is there
-pub none-said : (es : List Element) → (es ≡ []) ↔ (map said_via es ≡ [])
-none-said [] = ((λ _. refl), (λ _. refl))
-none-said (e ∷ es) = ((λ never. cc), (λ never. cc))
 
 along : (a a' i i' r r' : Said) → a' ≡ a → i' ≡ i → r' ≡ r → IsAckOf a' i' r' → IsAckOf a i r
 along a a' i i' r r' p q s is =

@@ -15,8 +15,8 @@ use Rattle.sip_verdict.proofs.LegalRuns.{legal_has_runs}
 -- a message that is observed without a fault is of the grammar
 formed : (direction : Direction) (item : Item) (e : Observation KeyParts) → e.fault ≡ None → ObservesMessage direction item e → IsFormed direction item.text
 formed direction item e none (has_fault fault has is) = let h : Some fault ≡ None = sym (ap (λ x. x.fault) is) ∙ none in cc
-formed direction item e none (has_no_cookie r reads lacks is) = let h : Some no_cookie ≡ None = sym (ap (λ x. x.fault) is) ∙ none in cc
-formed direction item e none (is_heard r keys reads fine concerns is) = (r, reads, fine)
+formed direction item e none (has_no_cookie s says lacks is) = let h : Some no_cookie ≡ None = sym (ap (λ x. x.fault) is) ∙ none in cc
+formed direction item e none (is_heard s keys says fine concerns is) = (s, says, fine)
 
 -- so is the message of an entry, if it has one
 formed_going : (direction : Option Direction) (item : Item) (e : Observation KeyParts) → e.fault ≡ None → MatchOption direction (e ≡ mark_observation item.moment) (λ d. ObservesMessage d item e)

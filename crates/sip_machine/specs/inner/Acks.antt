@@ -1,6 +1,7 @@
 use Rattle.std.specs.Prelude.{◌≤◌, ◌<◌, ℕ, Option, None, Some, List, All, length, remove}
 use Rattle.sip_message.specs.Reading.{Reading}
 use Rattle.sip_message.specs.Reads.{Reads}
+use Rattle.sip_message.specs.SaidOf.{said_of}
 use Rattle.sip_key.specs.AckOf.{AckOf, IsAckOf}
 use Rattle.sip_machine.specs.Texts.{Texts, text_of}
 use Rattle.sip_machine.specs.declared.outbox.Debt.{Debt}
@@ -10,7 +11,7 @@ use Rattle.sip_machine.specs.Debts.{IsWithoutFirst}
 
 -- the bytes spell the response that the ACK is for
 abbrev pub Acks : Reading → Reading → List ℕ → Type 0
-Acks ack invite response = (r : Reading) × Reads response r × IsAckOf ack invite r
+Acks ack invite response = (r : Reading) × Reads response r × IsAckOf (said_of ack) (said_of invite) (said_of r)
 
 -- these messages acknowledge the debt's, whose deadline has not passed at t
 abbrev pub AcksDebt : Texts → Reading → Reading → ℕ → Debt → Type 0

@@ -10,7 +10,8 @@ use Rattle.sip_message.specs.Says.{Said}
 use Rattle.sip_key.specs.declared.role.Role.{Role}
 use Rattle.sip_key.specs.declared.role.Direction.{Direction}
 use Rattle.sip_key.specs.Key.{KeyParts}
-use Rattle.sip_key.specs.Concerns.{branch_of, role_of, sent_by_of, method_of, own_key, is_sent_request, lacks_cookie}
+use Rattle.sip_key.specs.Branch.{cookie_branch}
+use Rattle.sip_key.specs.Concerns.{role_of, sent_by_of, method_of, own_key, is_sent, lacks_cookie}
 
 -- the port of the first element is one
 first-port : (vals : List (List ℕ)) (e : Element) (es : List Element) → AreElements vals (e ∷ es) → IfSome e.1.port Port
@@ -32,7 +33,7 @@ and-false false = refl
 pub own-is : (r : Said) (d : Direction) (role : Role) (branch sent_by method : List ℕ) {k : KeyParts}
     → k ≡ record { role = role; branch = branch; sent_by = sent_by; method = method }
     → role ≡ role_of r.start d
-    → branch_of r ≡ Some branch
+    → cookie_branch r.via.branch ≡ Some branch
     → sent_by ≡ sent_by_of role r.via
     → method ≡ method_of r.start r.cseq.1
     → (Some k ≡ own_key r d) × (lacks_cookie r d ≡ false)
@@ -43,5 +44,5 @@ own-is r d role branch sent_by method key by_role by_branch by_sent_by by_method
     λ b. record { role = role_of r.start d; branch = b; sent_by = sent_by_of (role_of r.start d) r.via; method = method_of r.start r.cseq.1 } in
     let own : own_key r d ≡ Some (f branch) = ap (option_map f) by_branch in (
       ap Some (key ∙ (λ i. record { role = by_role i; branch = branch; sent_by = sent_by_is i; method = by_method i })) ∙ sym own,
-      ap (λ o. is_sent_request r.start d && not (is_some o)) by_branch ∙ and-false (is_sent_request r.start d),
+      ap (λ o. is_sent (λ method. true) r.start d && not (is_some o)) by_branch ∙ and-false (is_sent (λ method. true) r.start d),
     )

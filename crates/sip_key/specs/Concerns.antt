@@ -10,10 +10,6 @@ use Rattle.sip_key.specs.Key.{KeyParts}
 use Rattle.sip_key.specs.Branch.{cookie_branch}
 use Rattle.sip_key.specs.SentBy.{sent_by}
 
--- the branch of the top Via by which a transaction is matched
-abbrev pub branch_of : Said → Option (List ℕ)
-branch_of s = cookie_branch s.via.branch
-
 -- a client sends requests and receives responses, a server the other way round (section 17)
 abbrev pub role_of : StartLine → Direction → Role
 role_of (request method uri) Sent = Client
@@ -32,32 +28,27 @@ abbrev pub method_of : StartLine → List ℕ → List ℕ
 method_of (request method uri) cseq = if bytes_eq method (codes "ACK") then codes "INVITE" else method
 method_of (status code reason) cseq = cseq
 
--- the key of the transaction that the message matches
+-- the key of the transaction that the message matches, by the branch of its top Via
 abbrev pub own_key : Said → Direction → Option KeyParts
 own_key s direction =
     let role = role_of s.start direction in
-    option_map (λ branch. record { role = role; branch = branch; sent_by = sent_by_of role s.via; method = method_of s.start s.cseq.1 }) (branch_of s)
+    option_map (λ branch. record { role = role; branch = branch; sent_by = sent_by_of role s.via; method = method_of s.start s.cseq.1 }) (cookie_branch s.via.branch)
 
--- a CANCEL that is sent
-abbrev pub is_sent_cancel : StartLine → Direction → Bool
-is_sent_cancel (request method uri) Sent = bytes_eq method (codes "CANCEL")
-is_sent_cancel start direction = false
+-- a request that is sent, whose method passes
+abbrev pub is_sent : (List ℕ → Bool) → StartLine → Direction → Bool
+is_sent passes (request method uri) Sent = passes method
+is_sent passes start direction = false
 
 -- the key of the INVITE client transaction that a sent CANCEL is to cancel: it has the same branch (section 9.1)
 abbrev pub cancelled_key : Said → Direction → Option KeyParts
 cancelled_key s direction =
-    if is_sent_cancel s.start direction then option_map (λ branch. record { role = Client; branch = branch; sent_by = []; method = codes "INVITE" }) (branch_of s)
+    if is_sent (λ method. bytes_eq method (codes "CANCEL")) s.start direction then option_map (λ branch. record { role = Client; branch = branch; sent_by = []; method = codes "INVITE" }) (cookie_branch s.via.branch)
     else None
 
 -- the keys of the transactions that the message concerns, its own first
 abbrev pub Concerns : Said → Direction → List KeyParts → Type 0
 Concerns s direction keys = keys ≡ option_to_list (own_key s direction) ++ option_to_list (cancelled_key s direction)
 
--- a request that is sent
-abbrev pub is_sent_request : StartLine → Direction → Bool
-is_sent_request (request method uri) Sent = true
-is_sent_request start direction = false
-
 -- a request that is sent must have the cookie (section 8.1.1.7), and this one lacks it
 abbrev pub lacks_cookie : Said → Direction → Bool
-lacks_cookie s direction = is_sent_request s.start direction && not (is_some (branch_of s))
+lacks_cookie s direction = is_sent (λ method. true) s.start direction && not (is_some (cookie_branch s.via.branch))

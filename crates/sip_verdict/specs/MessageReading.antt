@@ -39,11 +39,8 @@ mark_observation moment = record { fault = None; event = record { moment = momen
 
 -- nothing but its moment is seen of an entry whose message has a fault
 abbrev pub fault_observation : Item → Fault → Observation KeyParts
-fault_observation item fault = record {
-  fault = Some fault;
-  event = record { moment = item.moment; action = item.action; text = item.text; kind = Request Other; reliable = false };
-  keys = [];
-}
+fault_observation item fault =
+    record { fault = Some fault; event = record { moment = item.moment; action = item.action; text = item.text; kind = Request Other; reliable = false }; keys = [] }
 
 -- an entry with its message as a machine hears it: a method or a code, sections 7.1 and 7.2, over the transport of the top Via
 abbrev pub heard_message : Item → Said → Heard

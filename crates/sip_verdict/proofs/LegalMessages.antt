@@ -11,6 +11,7 @@ use Rattle.sip_verdict.specs.MessageReading.{direction_of, mark_observation, mes
 use Rattle.sip_verdict.specs.LegalLog.{IsFormed, IsLegalLog}
 use Rattle.sip_verdict.specs.VerdictOf.{IsVerdictOf}
 use Rattle.sip_verdict.proofs.LegalRuns.{legal_has_runs}
+use Rattle.sip_verdict.proofs.VerdictLemmas.{verdict-by}
 
 -- a message that is observed without a fault is of the grammar
 formed : (direction : Direction) (item : Item) (e : Observation KeyParts) → e.fault ≡ None → ObservesMessage direction item e → IsFormed direction item.text
@@ -37,5 +38,5 @@ all_formed before (item ∷ items) (e ∷ es) seen none =
 -- a legal log has messages of the grammar, and runs
 pub legal_log : (input : List ℕ) (entries transactions : ℕ) → IsVerdictOf input (Legal entries transactions) → IsLegalLog input entries transactions
 legal_log input entries transactions v =
-    let runs = legal_has_runs message_reading input entries transactions v in
+    let runs = legal_has_runs message_reading input entries transactions (verdict-by input (Legal entries transactions) v) in
     record { runs = runs; formed = all_formed [] runs.whole.items runs.es runs.whole.observed runs.formed }

@@ -18,3 +18,4 @@ pub mod MarksLemmas
 pub mod FewerLemmas
 pub mod ClientLaws
 pub mod ServerLaws
+pub mod EventRunsLemmas

@@ -1,4 +1,5 @@
 pub mod Runs
+pub mod EventRuns
 pub mod Held
 pub mod inner
 pub mod KeyMachine

@@ -26,10 +26,10 @@ key-first P Q go come keys n (before, key, rest, whole, holds, earlier, counts) 
 module _ (p : Times) (front : List (Observation KeyParts)) (e : Observation KeyParts) where
   -- a key that is too wide
   wide-at : (key : KeyParts) → IsTooWide (key_machines p) front e key → IsWideAt p front e key
-  wide-at key is = (is.concerned, is.wide.many, is.wide.distinct, is.wide.wide, is.wide.each)
+  wide-at key is = (is.concerned, (is.wide.many, is.wide.distinct, is.wide.wide, is.wide.each))
 
   at-wide : (key : KeyParts) → IsWideAt p front e key → IsTooWide (key_machines p) front e key
-  at-wide key (concerned, many, distinct, wide, each) = record { concerned = concerned; wide = record { many = many; distinct = distinct; wide = wide; each = each } }
+  at-wide key (concerned, (many, distinct, wide, each)) = record { concerned = concerned; wide = record { many = many; distinct = distinct; wide = wide; each = each } }
 
   -- an entry in trouble
   has-trouble : (v : Verdict) → IsTrouble (key_machines p) front e v → HasTrouble p front e v

@@ -50,12 +50,12 @@ PaysDebt-read texts ack invite t a i reads_a reads_i d =
 -- where the To of a debt's message is known, it alone decides
 pub AcksDebt-by_to : (texts : Texts) (a i : Reading) (t : ℕ) (d : Debt) (to text : List ℕ) (is : Bool) → to ≡ solid a.parts.to.0 → IsAckBut a i
     → IsToOf (text_of texts d.message) text → t ≤ d.deadline → is ≡ bytes_eq text to → IsTrue is ↔ AcksDebt texts a i t d
-AcksDebt-by_to texts a i t d to text is to_is others (r, reads, text_is) low told = (
-  λ true. ((r, reads, others r (sym to_is ∙ sym ((bytes_decides text to).0 (sym told ∙ true)) ∙ text_is)), low),
+AcksDebt-by_to texts a i t d to text is to_is others its low told = (
+  λ true. ((its.message, its.reads, others its.message (sym to_is ∙ sym ((bytes_decides text to).0 (sym told ∙ true)) ∙ its.is)), low),
   λ acks.
-      let same = same_reading (text_of texts d.message) acks.0.0 r acks.0.1 reads in
-      let its : solid r.parts.to.0 ≡ solid a.parts.to.0 = ap (λ x. solid x.parts.to.0) (sym same) ∙ sym acks.0.2.to in
-      told ∙ (bytes_decides text to).1 (text_is ∙ its ∙ sym to_is),
+      let same = same_reading (text_of texts d.message) acks.0.0 its.message acks.0.1 its.reads in
+      let theirs : solid its.message.parts.to.0 ≡ solid a.parts.to.0 = ap (λ x. solid x.parts.to.0) (sym same) ∙ sym acks.0.2.to in
+      told ∙ (bytes_decides text to).1 (its.is ∙ theirs ∙ sym to_is),
 )
 
 -- where it is no ACK for the INVITE whatever the To, it pays nothing

@@ -10,7 +10,7 @@ ghost use Rattle.sip_machine.specs.inner.Tos.{IsToOf};
 
 mod retain;
 
-use crate::book::retain::{keep_only, move_all};
+use crate::book::retain::{is_among, keep_only, move_all};
 use sip_key::solid_of;
 use sip_message::Message;
 use std::alloc::{AllocError, Global};
@@ -74,15 +74,14 @@ const HASHED: usize = 192;
 
 impl Model for Book {
     ghost use Rattle.sip_machine.specs.Texts.{Texts, IsBook};
-    ghost use Rattle.std.specs.Prelude.{All};
     ghost use Rattle.sip_machine.specs.inner.Order.{texts_of, IsInRuns};
-    ghost use Rattle.sip_machine.specs.inner.Tos.{IsTo};
+    ghost use Rattle.sip_machine.specs.inner.Tos.{AreTos};
 
     ghost Value = { Texts };
 
     ghost view = { λ b. texts_of b.kept.items };
 
-    ghost invariant = { λ b. IsBook (texts_of b.kept.items) × IsInRuns (texts_of b.kept.items) b.order.items × All (IsTo (texts_of b.kept.items)) b.tos.items };
+    ghost invariant = { λ b. IsBook (texts_of b.kept.items) × IsInRuns (texts_of b.kept.items) b.order.items × AreTos (texts_of b.kept.items) b.tos.items };
 }
 
 impl Book {

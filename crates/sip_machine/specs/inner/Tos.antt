@@ -1,4 +1,4 @@
-use Rattle.std.specs.Prelude.{◌≡◌, ℕ, List}
+use Rattle.std.specs.Prelude.{◌≡◌, ℕ, List, All}
 use Rattle.sip_message.specs.Reading.{Reading}
 use Rattle.sip_message.specs.Reads.{Reads}
 use Rattle.sip_key.specs.Solid.{solid}
@@ -8,9 +8,15 @@ use Rattle.sip_machine.specs.declared.book.To.{To}
 -- What stands beside a message that an ACK may be for.
 
 -- the text is the To of the message that the bytes spell, without its blanks
-abbrev pub IsToOf : List ℕ → List ℕ → Type 0
-IsToOf bytes text = (r : Reading) × Reads bytes r × (text ≡ solid r.parts.to.0)
+pub record IsToOf (bytes text : List ℕ) : Type 0 where
+  pub message : Reading
+  pub reads : Reads bytes message
+  pub is : text ≡ solid message.parts.to.0
 
 -- the same of a message that is kept
-abbrev pub IsTo : Texts → To → Type 0
-IsTo texts to = Keeps texts to.number × IsToOf (text_of texts to.number) to.text.items
+pub record IsTo (texts : Texts) (to : To) : Type 0 where
+  pub kept : Keeps texts to.number
+  pub text : IsToOf (text_of texts to.number) to.text.items
+
+pub record AreTos (texts : Texts) (tos : List To) : Type 0 where
+  pub each : All (IsTo texts) tos

@@ -1,10 +1,10 @@
 //! What forgets messages: places move, and messages go.
-ghost use Rattle.std.specs.Prelude.{◌≡◌, ◌<◌, ◌≤◌, length, All, AllPairs};
+ghost use Rattle.std.specs.Prelude.{◌≡◌, ◌<◌, ◌≤◌, length, is_some, All, AllPairs};
 ghost use Rattle.std.specs.List.{filter_map};
-ghost use Rattle.sip_machine.specs.inner.Retain.{number_at, moved, merged};
+ghost use Rattle.sip_machine.specs.inner.Retain.{number_at, place_among, moved, merged};
 ghost use Rattle.sip_machine.specs.inner.Order.{texts_of, places_of, most_places, IsLed};
 
-use super::{Kept, Place, Run};
+use super::{Kept, Place, Run, To};
 
 /// The number of the message at a position, 0 past the last one.
 fn number_at(kept: &[Kept], position: usize) -> u32
@@ -25,6 +25,16 @@ fn moved(kept: &[Kept], place: Place, numbers: &[u32]) -> Option<Place>
     match numbers.binary_search(&number) {
         Ok(position) => Some(Place { position, ..place }),
         Err(_) => None,
+    }
+}
+
+/// Whether the number of the To's message is one of these, where they rise.
+pub(super) fn is_among(numbers: &[u32], to: &To) -> bool
+    ensures { AllPairs (λ a b. a < b) numbers.now → result ≡ is_some (place_among numbers.now to.now.number) }
+{
+    match numbers.binary_search(&to.number) {
+        Ok(_) => true,
+        Err(_) => false,
     }
 }
 

@@ -1,7 +1,10 @@
-use Rattle.std.proofs.Common.{◌∙◌, sym, ap, subst, All}
+use Rattle.std.proofs.Common.{◌∙◌, sym, ap, subst, All, rules}
 use Rattle.sip_machine.specs.Texts.{IsBook, Keeps}
 use Rattle.sip_machine.specs.Retained.{only}
 use Rattle.sip_machine.specs.inner.Order.{texts_of, places_of, IsOrder}
+use Rattle.sip_machine.specs.inner.Tos.{AreTos}
+use Rattle.std.proofs.lemmas.Fn.{filter_same}
+use Rattle.sip_machine.proofs.ToLemmas.{AreTos-only, is_among}
 use Rattle.sip_machine.proofs.RetainLemmas.{merged_is, IsBook-only, IsOrder-only}
 use Rattle.sip_machine.proofs.book.Book.retain_only.Goals as goal
 
@@ -20,6 +23,9 @@ invariant_of-self c =
         led = c.move_all.ensures.led;
         short = c.move_all.ensures.short;
       },
+      subst (λ ts. AreTos ts c.retain.new.self.items) (sym is)
+          (subst (AreTos (only numbers texts)) (sym (filter_same _ (is_among numbers) _ (λ x b f' k. ?) _ _ c.retain.ensures.filtered))
+          (AreTos-only texts numbers book c.requires.rising kept c.self.inside.tos.items c.self.invariant.2)),
     )
 
 pub returns : goal.returns

@@ -10,7 +10,7 @@ ghost use Rattle.sip_machine.specs.inner.Tos.{IsToOf};
 
 mod retain;
 
-use crate::book::retain::{is_among, keep_only, move_all};
+use crate::book::retain::{Rising, keep_only, move_all};
 use sip_key::solid_of;
 use sip_message::Message;
 use std::alloc::{AllocError, Global};
@@ -181,8 +181,8 @@ impl Book {
     {
         move_all(&mut self.order, &self.kept, numbers);
         keep_only(&mut self.kept, numbers);
-        self.tos
-            .retain(|to| numbers.binary_search(&to.number).is_ok());
+        let left = Rising::new(numbers);
+        self.tos.retain(|to| left.has(to.number));
     }
 }
 

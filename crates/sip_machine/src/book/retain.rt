@@ -4,7 +4,8 @@ ghost use Rattle.std.specs.List.{filter_map};
 ghost use Rattle.sip_machine.specs.inner.Retain.{number_at, place_among, moved, merged};
 ghost use Rattle.sip_machine.specs.inner.Order.{texts_of, places_of, most_places, IsLed};
 
-use super::{Kept, Place, Run, To};
+use super::{Kept, Place, Run};
+use std::marker::Model;
 
 /// The number of the message at a position, 0 past the last one.
 fn number_at(kept: &[Kept], position: usize) -> u32
@@ -28,13 +29,39 @@ fn moved(kept: &[Kept], place: Place, numbers: &[u32]) -> Option<Place>
     }
 }
 
-/// Whether the number of the To's message is one of these, where they rise.
-pub(super) fn is_among(numbers: &[u32], to: &To) -> bool
-    ensures { AllPairs (λ a b. a < b) numbers.now → result ≡ is_some (place_among numbers.now to.now.number) }
-{
-    match numbers.binary_search(&to.number) {
-        Ok(_) => true,
-        Err(_) => false,
+/// Numbers that rise.
+#[derive(Drop)]
+pub(super) struct Rising<'a> {
+    numbers: &'a [u32],
+}
+
+impl<'a> Model for Rising<'a> {
+    ghost use Rattle.std.specs.Prelude.{◌<◌, ℕ, List, AllPairs};
+
+    ghost Value = { List ℕ };
+
+    ghost view = { λ r. r.numbers.now };
+
+    ghost invariant = { λ r. AllPairs (λ a b. a < b) r.numbers.now };
+}
+
+impl<'a> Rising<'a> {
+    /// These numbers.
+    pub(super) fn new(numbers: &'a [u32]) -> Rising<'a>
+        requires { AllPairs (λ a b. a < b) numbers.now }
+        ensures { result ≡ numbers.entry.now }
+    {
+        Rising { numbers }
+    }
+
+    /// Whether the number is one of them.
+    pub(super) fn has(&self, number: u32) -> bool
+        ensures { result ≡ is_some (place_among self.now number) }
+    {
+        match self.numbers.binary_search(&number) {
+            Ok(_) => true,
+            Err(_) => false,
+        }
     }
 }
 

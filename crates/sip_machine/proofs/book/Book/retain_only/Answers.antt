@@ -24,7 +24,7 @@ invariant_of-self c =
         short = c.move_all.ensures.short;
       },
       subst (λ ts. AreTos ts c.retain.new.self.items) (sym is)
-          (subst (AreTos (only numbers texts)) (sym (filter_same _ (is_among numbers) _ (λ x b f' k. ?) _ _ c.retain.ensures.filtered))
+          (subst (AreTos (only numbers texts)) (sym (filter_same _ (is_among numbers) _ (λ x b f' k. search rules) _ _ c.retain.ensures.filtered))
           (AreTos-only texts numbers book c.requires.rising kept c.self.inside.tos.items c.self.invariant.2)),
     )
 

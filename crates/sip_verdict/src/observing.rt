@@ -1,7 +1,8 @@
 //! What an entry of a log says to the judge.
-ghost use Rattle.std.specs.Prelude.{◌≤◌, ◌<◌, ◌≡◌, ℕ, List, IfOk, OnErr};
+ghost use Rattle.std.specs.Prelude.{◌≤◌, ◌<◌, ◌≡◌, ◌⊎◌, ◌++◌, ◌∷◌, [], ℕ, List, IfOk, OnErr};
 ghost use Rattle.sip_machine.specs.Times.{last_moment};
-ghost use Rattle.sip_machine.specs.Texts.{Keeps};
+ghost use Rattle.sip_message.specs.Reads.{Reads};
+ghost use Rattle.sip_machine.specs.Texts.{Keeps, text_of};
 ghost use Rattle.sip_key.specs.Key.{KeyParts};
 ghost use Rattle.sip_log.specs.Told.{item};
 ghost use Rattle.sip_verdict.specs.Keyed.{Observation};
@@ -12,7 +13,7 @@ use crate::concerned::Concerned;
 use sip_key::{Direction, Key, KeyError, cancelled_key, key_of};
 use sip_log::Entry;
 use sip_machine::{Action, Book, Event};
-use sip_message::{Fault, Message, ReadError, Reason, Unit};
+use sip_message::{Fault, Message, ReadError, Reason, StartLine, Unit};
 use std::alloc::{AllocError, Global};
 
 /// What an entry says to the judge.
@@ -64,6 +65,32 @@ fn keys_of(
     })
 }
 
+/// Whether the message refuses an INVITE. Each of them is owed an ACK, which is held against its To.
+fn is_refusal(message: &Message<'_>) -> bool {
+    match message.start() {
+        StartLine::Status { code, .. } => {
+            code >= 300 && message.cseq().method == b"INVITE".as_slice()
+        }
+        StartLine::Request { .. } => false,
+    }
+}
+
+/// Keeps the message of an entry in the book. The book is as before on an error.
+fn keep(book: &mut Book, entry: &Entry, message: &Message<'_>) -> Result<u32, AllocError>
+    requires numbered { (n : ℕ) → Keeps book.old n → n < entry.now.number }
+    requires read { Reads entry.now.bytes.items message.now }
+    ensures ok { IfOk result (λ n. Keeps book.new n × (text_of book.new n ≡ entry.now.bytes.items)) }
+    ensures grows { IfOk result (λ n. ((book.new ≡ book.old) × Keeps book.old n)
+        ⊎ ((book.new ≡ book.old ++ (entry.now.number, entry.now.bytes.items) ∷ []) × (n ≡ entry.now.number))) }
+    ensures err { OnErr result (book.new ≡ book.old) }
+{
+    let number = book.add(entry.number, entry.bytes.as_slice())?;
+    if is_refusal(message) {
+        book.keep_to(number, message);
+    }
+    Ok(number)
+}
+
 /// Reads the message of an entry, and keeps it in the book if it has no fault. The book is as before on an error.
 pub(crate) fn observe(alloc: Global, book: &mut Book, entry: &Entry) -> Result<Told, AllocError>
     requires limit { entry.now.moment ≤ last_moment }
@@ -86,7 +113,7 @@ pub(crate) fn observe(alloc: Global, book: &mut Book, entry: &Entry) -> Result<T
         Err(KeyError::NoCookie) => return Ok(Told::Fault(NO_COOKIE)),
         Err(KeyError::Memory) => return Err(AllocError),
     };
-    let number = book.add(entry.number, entry.bytes.as_slice())?;
+    let number = keep(book, entry, &message)?;
     let event = Event::of(entry.moment, entry.action, number, &message);
     Ok(Told::Heard { event, concerned })
 }

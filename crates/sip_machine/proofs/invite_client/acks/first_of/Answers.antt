@@ -7,8 +7,8 @@ use Rattle.sip_machine.proofs.RunsLemmas.{none, All-each, start_after, first_one
 use Rattle.sip_machine.proofs.AckLemmas.{sum-told}
 use Rattle.sip_machine.proofs.invite_client.acks.first_of.Goals as goal
 
-pub pays-requires : goal.pays-requires
-pays-requires c =
+pub pays-requires-clause-kept : goal.pays-requires-clause-kept
+pays-requires-clause-kept c =
     All-get_or (λ run. Keeps c.args.book.now run.debt.message) c.args.runs.now c.loop-run.run-index none c.loop-run-test.true c.requires.debts
 
 pub returns-then-branch : goal.returns-then-branch

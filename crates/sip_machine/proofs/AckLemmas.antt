@@ -58,6 +58,12 @@ AcksDebt-by_to texts a i t d to text is to_is others its low told = (
       told ∙ (bytes_decides text to).1 (its.is ∙ theirs ∙ sym to_is),
 )
 
+-- and where it is not known, the bytes do
+pub AcksDebt-read : {E : Type 0} (texts : Texts) (a i : Reading) (t : ℕ) (d : Debt) (found : Result Bool E) → IfOk found (λ is. IsTrue is ↔ Acks a i (text_of texts d.message))
+    → t ≤ d.deadline → IfOk found (λ is. IsTrue is ↔ AcksDebt texts a i t d)
+AcksDebt-read texts a i t d (Ok is) acks low = (λ true. (acks.0 true, low), λ pays. acks.1 pays.0)
+AcksDebt-read texts a i t d (Err e) acks low = tt
+
 -- where it is no ACK for the INVITE whatever the To, it pays nothing
 pub PaysDebt-no_ack_for : (texts : Texts) (ack invite : List ℕ) (t : ℕ) (a i : Reading) (is : Bool) → Reads ack a → Reads invite i
     → ((r : Reading) → SameSolid a.parts.to.0 r.parts.to.0 → IsTrue is ↔ IsAckOf a i r) → is ≡ false → (ds : List Debt) → All (λ d. ¬ (PaysDebt texts ack invite t d)) ds

@@ -1,10 +1,14 @@
 //! Sets of a non-INVITE client, with moments worked out by hand.
-ghost use Rattle.std.specs.Prelude.{◌≡◌, ◌≤◌, IfOk};
+ghost use Rattle.std.specs.Prelude.{◌≡◌, ◌≤◌, All, IfOk, OnOk};
+ghost use Rattle.sip_machine.specs.Heard.{FitsBook};
+ghost use Rattle.sip_machine.specs.Owing.{owing_names};
+ghost use Rattle.sip_machine.specs.PlainClient.{plain_client_names};
+ghost use Rattle.sip_machine.specs.Rules.{Knows};
 ghost use Rattle.sip_machine.specs.Times.{last_moment};
 
 use sip_machine::{Action, Book, Event, Params, PlainClient};
 use sip_message::Message;
-use sip_states::StateSet;
+use sip_states::{StateSet, TakeError};
 use std::alloc::Global;
 use std::test::Fail;
 
@@ -26,6 +30,17 @@ fn sent(alloc: Global, number: u32, moment: u64) -> Result<Event, Fail>
     Ok(Event::of(moment, Action::Sent, number, &message))
 }
 
+/// What the set answers to the event.
+fn take(set: &mut StateSet<PlainClient>, book: &Book, event: &Event) -> Result<(), TakeError>
+    requires order { set.old.moment ≤ event.now.moment }
+    requires fits { FitsBook book.now event.now }
+    requires known { All (Knows (owing_names plain_client_names) book.now) set.old.states }
+    ensures at { OnOk result (set.new.moment ≡ event.now.moment) }
+    ensures known { All (Knows (owing_names plain_client_names) book.now) set.new.states }
+{
+    set.take(book, event)
+}
+
 /// For T1 500, T2 4000, T4 5000 and a tolerance of 50: a request at 0 is repeated at 500, and then
 /// again by 1,550.
 #[test]
@@ -36,7 +51,7 @@ fn waits_for_the_repeat(rt: HostRuntime) -> Result<(), Fail> {
     let params = Params::new(500, 4_000, 5_000, 50).ok_or("refused")?;
     let mut set = StateSet::start(alloc, PlainClient::new(params))?;
     let first = sent(alloc, request, 0)?;
-    assert_eq!(rt; set.take(&book, &first), Ok(()));
+    assert_eq!(rt; take(&mut set, &book, &first), Ok(()));
     let repeat = sent(alloc, request, 500)?;
     assert_eq!(rt; set.take(&book, &repeat), Ok(()));
     set.advance(1_550)?;

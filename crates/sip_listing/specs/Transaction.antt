@@ -5,10 +5,9 @@ use Rattle.sip_key.specs.Key.{KeyParts}
 use Rattle.sip_machine.specs.Texts.{Texts}
 use Rattle.sip_machine.specs.Times.{Times}
 use Rattle.sip_states.specs.Held.{Held}
-use Rattle.sip_states.specs.KeyMachine.{MachineKind, OfInviteClient, OfPlainClient, OfInviteServer, OfPlainServer, transaction, PhaseOf}
+use Rattle.sip_states.specs.KeyMachine.{MachineKind, OfInviteClient, OfPlainClient, OfInviteServer, OfPlainServer, transaction, PhaseOf, StateOf, by_machine}
 use Rattle.sip_states.specs.declared.any_set.AnySet.{AnySet}
-use Rattle.sip_states.specs.declared.any_set.AnySet.TheVariants as sets
-use Rattle.sip_states.specs.AnySet.{StateOf, meaning_of, OfSet}
+use Rattle.sip_states.specs.AnySet.{meaning_of, OfSet}
 use Rattle.sip_listing.specs.Fields.{Tells}
 use Rattle.sip_listing.specs.InviteClient.{invite_client_text}
 use Rattle.sip_listing.specs.PlainClient.{plain_client_text}
@@ -60,10 +59,7 @@ AreLinesOfHeld number texts machine s lines = AreInOrder (map (λ x. state_text 
 
 -- the lines are those of the set's states
 abbrev pub AreLinesOfSet : (List ℕ → ℕ) → Texts → AnySet → List (List ℕ) → Type 0
-AreLinesOfSet number texts (sets.InviteClient s) lines = AreLinesOfHeld number texts OfInviteClient s lines
-AreLinesOfSet number texts (sets.PlainClient s) lines = AreLinesOfHeld number texts OfPlainClient s lines
-AreLinesOfSet number texts (sets.InviteServer s) lines = AreLinesOfHeld number texts OfInviteServer s lines
-AreLinesOfSet number texts (sets.PlainServer s) lines = AreLinesOfHeld number texts OfPlainServer s lines
+AreLinesOfSet number texts set lines = by_machine (λ machine s. AreLinesOfHeld number texts machine s lines) set
 
 -- the lines list the set, wherever its messages are told by their numbers in the book
 abbrev pub Lists : AnySet → List (List ℕ) → Type 0

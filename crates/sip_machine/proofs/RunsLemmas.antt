@@ -1,5 +1,5 @@
 use Prim.Native.Nat.{zero, suc}
-use Rattle.std.specs.Prelude.{◌≡◌, ◌≢◌, ◌<◌, ◌≤◌, ◌+◌, ◌-◌, ◌^◌, ◌⊎◌, ℕ, Bool, true, false, ◌==◌, ◌&&◌, if◌then◌else◌, List, [], ◌∷◌, ◌++◌, All, length, take, drop, remove, map, filter, get_or, set, replicate, position, Some, min, fold}
+use Rattle.std.specs.Prelude.{◌≡◌, ◌≢◌, ◌<◌, ◌≤◌, ◌+◌, ◌-◌, ◌^◌, ◌⊎◌, ℕ, Bool, true, false, ◌==◌, ◌&&◌, if◌then◌else◌, List, [], ◌∷◌, ◌++◌, All, length, take, drop, remove, map, filter, get_or, set, replicate, position, Option, None, Some, SomeIff, min, fold}
 use Rattle.std.specs.Bool.{beq}
 use Rattle.std.proofs.Common.{inl, inr, refl, sym, ◌∙◌, ap, ap₂, subst, arith, cond, not, true≢false}
 use Rattle.std.proofs.Math.Seq.{take-append_seam, map-set_same, drop-append-add}
@@ -654,3 +654,8 @@ start_after runs at d low =
     let run = get_or runs at d in
     let size = ap length (start-next runs at d low) ∙ length-append (debts_of (take at runs)) (each run) in
     omega (arith, size, length-replicate run.count run.debt)
+
+-- a sum that fits is the sum
+pub sum-told : (P : Type 0) (o : Option ℕ) (sum n : ℕ) → SomeIff o P sum → o ≡ Some n → n ≡ sum
+sum-told P None sum n told is = cc
+sum-told P (Some m) sum n told is = let same : m ≡ n = cc in sym same ∙ told.1

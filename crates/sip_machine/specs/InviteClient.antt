@@ -5,6 +5,7 @@ use Rattle.sip_machine.specs.declared.event.Kind.{Kind}
 use Rattle.sip_machine.specs.declared.event.Kind.TheVariants.{Request, Response}
 use Rattle.sip_machine.specs.declared.invite_client.InviteClientPhase.{InviteClientPhase as CodePhase}
 use Rattle.sip_machine.specs.declared.invite_client.InviteClientPhase.TheVariants as code
+use Rattle.sip_machine.specs.declared.outbox.Debt.{Debt}
 use Rattle.sip_machine.specs.Times.{Times, last_moment}
 use Rattle.sip_machine.specs.Limits.{open_at, close_at, window_at}
 use Rattle.sip_machine.specs.Texts.{Texts, text_of}
@@ -13,6 +14,7 @@ use Rattle.sip_machine.specs.Retransmits.{Retransmits}
 use Rattle.sip_machine.specs.Waiting.{Waiting, waiting_closes, waiting_seen, WaitingInRange}
 use Rattle.sip_machine.specs.Message.{IsProvisional, IsSuccess, IsUnsuccessful}
 use Rattle.sip_machine.specs.Figure.{Figure, After, keeps, gains}
+use Rattle.sip_machine.specs.Transaction.{Coded}
 
 -- The INVITE client transaction, RFC 3261 section 17.1.1 and its figure 5, with the accepted state of RFC 6026 section 7.2.
 
@@ -131,3 +133,24 @@ InviteClientInRange (code.Proceeding reliable request (Some first)) = first ≤ 
 InviteClientInRange (code.Accepted set) = set ≤ last_moment
 InviteClientInRange (code.Completed reliable request set) = set ≤ last_moment
 InviteClientInRange x = Unit {0}
+
+-- the messages that a phase names: the INVITE, which may be sent again, and of which an ACK is made
+abbrev pub invite_client_messages : InviteClientPhase → List (List ℕ)
+invite_client_messages (Calling w) = w.request ∷ []
+invite_client_messages (Proceeding reliable request cancel) = request ∷ []
+invite_client_messages (Completed reliable request set) = request ∷ []
+invite_client_messages x = []
+
+-- how the code has it
+abbrev pub invite_client_coded : Coded InviteClientPhase
+invite_client_coded =
+    record {
+      Code = CodePhase;
+      Debts = List Debt;
+      seen = invite_client_seen;
+      names = invite_client_names;
+      InRange = InviteClientInRange;
+      idle = code.Idle;
+      ended = code.Ended;
+      messages = invite_client_messages;
+    }

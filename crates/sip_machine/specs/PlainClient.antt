@@ -3,6 +3,7 @@ use Rattle.sip_machine.specs.declared.event.Kind.{Kind}
 use Rattle.sip_machine.specs.declared.event.Kind.TheVariants.{Request, Response}
 use Rattle.sip_machine.specs.declared.plain_client.PlainClientPhase.{PlainClientPhase as CodePhase}
 use Rattle.sip_machine.specs.declared.plain_client.PlainClientPhase.TheVariants as code
+use Rattle.sip_machine.specs.declared.debts.NoDebts.{NoDebts}
 use Rattle.sip_machine.specs.Times.{Times, last_moment}
 use Rattle.sip_machine.specs.Limits.{close_at, window_at}
 use Rattle.sip_machine.specs.Texts.{Texts}
@@ -11,6 +12,7 @@ use Rattle.sip_machine.specs.Retransmits.{Retransmits}
 use Rattle.sip_machine.specs.Waiting.{Waiting, waiting_closes, waiting_seen, WaitingInRange}
 use Rattle.sip_machine.specs.Message.{IsProvisional, IsFinal}
 use Rattle.sip_machine.specs.Figure.{Figure, After, keeps}
+use Rattle.sip_machine.specs.Transaction.{Coded}
 
 -- The non-INVITE client transaction, RFC 3261 section 17.1.2 and its figure 6.
 
@@ -88,3 +90,23 @@ PlainClientInRange (code.Trying w) = WaitingInRange w
 PlainClientInRange (code.Proceeding w) = WaitingInRange w
 PlainClientInRange (code.Completed reliable set) = set ≤ last_moment
 PlainClientInRange x = Unit {0}
+
+-- the messages that a phase names: the request, which may be sent again
+abbrev pub plain_client_messages : PlainClientPhase → List (List ℕ)
+plain_client_messages (Trying w) = w.request ∷ []
+plain_client_messages (Proceeding w) = w.request ∷ []
+plain_client_messages x = []
+
+-- how the code has it
+abbrev pub plain_client_coded : Coded PlainClientPhase
+plain_client_coded =
+    record {
+      Code = CodePhase;
+      Debts = NoDebts;
+      seen = plain_client_seen;
+      names = plain_client_names;
+      InRange = PlainClientInRange;
+      idle = code.Idle;
+      ended = code.Ended;
+      messages = plain_client_messages;
+    }

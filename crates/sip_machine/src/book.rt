@@ -4,11 +4,13 @@ ghost use Rattle.std.specs.List.{insert, HoldsAt};
 ghost use Rattle.std.specs.List.Sorted.{IsSearchInRange, IsBinarySearchResult};
 ghost use Rattle.sip_machine.specs.Texts.{IsBook, Keeps, text_of};
 ghost use Rattle.sip_machine.specs.Retained.{only};
+ghost use Rattle.sip_machine.specs.inner.ReadAs.{IsReadAs};
 ghost use Rattle.sip_machine.specs.inner.Order.{texts_of, hash_of, bytes_at, key_of, compare, begins_by, places_of, index_of, most_places, IsLed, IsInRuns, IsInside, IsGap};
 
 mod retain;
 
 use crate::book::retain::{keep_only, move_all};
+use sip_message::{Message, ReadError};
 use std::alloc::{AllocError, Global};
 use std::cmp::Ordering;
 use std::hash::{FoldHasher, Hasher};
@@ -102,6 +104,22 @@ impl Book {
         ensures { result.now ≡ text_of self.now number }
     {
         self.bytes(number).unwrap()
+    }
+
+    /// The message that is kept with this number, read anew; None where its bytes are none.
+    pub(crate) fn message(
+        &self,
+        alloc: Global,
+        number: u32,
+    ) -> Result<Option<Message<'_>>, AllocError>
+        requires { Keeps self.now number }
+        ensures { IfOk result (IsReadAs (text_of self.now number)) }
+    {
+        match Message::read(alloc, self.bytes_of(number)) {
+            Ok(message) => Ok(Some(message)),
+            Err(ReadError::Memory) => Err(AllocError),
+            Err(ReadError::Fault(_)) => Ok(None),
+        }
     }
 
     /// The number of the first kept message with these bytes; where there is none, they are kept

@@ -133,54 +133,51 @@ impl Phases for InviteClient {
             return Ok(None);
         };
         let set = event.moment();
-        let unacked = Change::Gains {
-            must: true,
-            message: event.number(),
-        };
-        let turn = match *phase {
-            InviteClientPhase::Calling(waiting) if is_provisional(code) => Turn {
-                phase: InviteClientPhase::Proceeding {
-                    reliable: waiting.reliable,
-                    request: waiting.request,
-                    cancel: None,
-                },
-                change: Change::Keeps,
-            },
-            InviteClientPhase::Calling(_) if is_success(code) => Turn {
-                phase: InviteClientPhase::Accepted { set },
-                change: Change::Keeps,
-            },
-            InviteClientPhase::Calling(waiting) if is_unsuccessful(code) => Turn {
-                phase: InviteClientPhase::Completed {
+        if is_unsuccessful(code) {
+            let phase = match *phase {
+                InviteClientPhase::Calling(waiting) => InviteClientPhase::Completed {
                     reliable: waiting.reliable,
                     request: waiting.request,
                     set,
                 },
-                change: unacked,
-            },
-            InviteClientPhase::Proceeding { .. } if is_success(code) => Turn {
-                phase: InviteClientPhase::Accepted { set },
-                change: Change::Keeps,
-            },
-            InviteClientPhase::Proceeding {
-                reliable,
-                request,
-                ..
-            } if is_unsuccessful(code) => Turn {
-                phase: InviteClientPhase::Completed {
+                InviteClientPhase::Proceeding {
+                    reliable,
+                    request,
+                    ..
+                } => InviteClientPhase::Completed {
                     reliable,
                     request,
                     set,
                 },
-                change: unacked,
-            },
-            InviteClientPhase::Completed { .. } if is_unsuccessful(code) => Turn {
-                phase: *phase,
-                change: unacked,
-            },
+                InviteClientPhase::Completed { .. } => *phase,
+                _ => return Ok(None),
+            };
+            let change = Change::Gains {
+                must: true,
+                message: event.number(),
+            };
+            return Ok(Some(Turn { phase, change }));
+        }
+        let phase = match *phase {
+            InviteClientPhase::Calling(waiting) if is_provisional(code) => {
+                InviteClientPhase::Proceeding {
+                    reliable: waiting.reliable,
+                    request: waiting.request,
+                    cancel: None,
+                }
+            }
+            InviteClientPhase::Calling(_) if is_success(code) => {
+                InviteClientPhase::Accepted { set }
+            }
+            InviteClientPhase::Proceeding { .. } if is_success(code) => {
+                InviteClientPhase::Accepted { set }
+            }
             _ => return Ok(None),
         };
-        Ok(Some(turn))
+        Ok(Some(Turn {
+            phase,
+            change: Change::Keeps,
+        }))
     }
 
     fn sends(
@@ -193,16 +190,50 @@ impl Phases for InviteClient {
         let Kind::Request(method) = event.kind() else {
             return Ok(None);
         };
-        let turn = match (method, *phase) {
-            (Method::Invite, _) => invites(&self.params, book, phase, event),
-            (Method::Ack, InviteClientPhase::Idle) => Some(Turn {
-                phase: InviteClientPhase::Idle,
-                change: Change::Keeps,
-            }),
-            (Method::Cancel, _) => cancels(phase, event),
-            (Method::Ack | Method::Other, _) => None,
+        let params = &self.params;
+        let t1 = params.t1();
+        let phase = match method {
+            Method::Invite => match *phase {
+                InviteClientPhase::Idle => InviteClientPhase::Calling(Waiting {
+                    reliable: event.reliable(),
+                    request: event.number(),
+                    start: event.moment(),
+                    set: event.moment(),
+                    interval: t1,
+                }),
+                InviteClientPhase::Calling(waiting) if waiting.repeats(params, book, event) => {
+                    InviteClientPhase::Calling(Waiting {
+                        set: event.moment(),
+                        interval: 2 * waiting.interval,
+                        ..waiting
+                    })
+                }
+                _ => return Ok(None),
+            },
+            Method::Ack => match *phase {
+                InviteClientPhase::Idle => InviteClientPhase::Idle,
+                _ => return Ok(None),
+            },
+            // the first one counts, and in calling none is sent
+            Method::Cancel => match *phase {
+                InviteClientPhase::Calling(_) => return Ok(None),
+                InviteClientPhase::Proceeding {
+                    reliable,
+                    request,
+                    cancel: None,
+                } => InviteClientPhase::Proceeding {
+                    reliable,
+                    request,
+                    cancel: Some(event.moment()),
+                },
+                _ => *phase,
+            },
+            Method::Other => return Ok(None),
         };
-        Ok(turn)
+        Ok(Some(Turn {
+            phase,
+            change: Change::Keeps,
+        }))
     }
 
     fn pays(
@@ -305,70 +336,4 @@ impl Phases for InviteClient {
     ghost apart = { invite_client_apart };
 
     ghost by_names = { invite_client_by_names };
-}
-
-/// Where an INVITE that is sent leads: the first one starts timer A at T1, and each repeat starts it again, at
-/// twice its interval.
-fn invites(
-    params: &Params,
-    book: &Book,
-    phase: &InviteClientPhase,
-    event: &Event,
-) -> Option<Turn<InviteClientPhase>>
-    requires fits { FitsBook book.now event.now }
-    requires known { Knows invite_client_names book.now phase.now }
-    requires in_range { InviteClientInRange phase.now }
-    ensures { AnswersOne (turn_names invite_client_names) (TurnInRange InviteClientInRange) (turn_seen invite_client_seen) book.now
-        (Sends params.now (invite_client_seen book.now phase.now) (Request Invite) (heard book.now event.now)) result }
-{
-    let t1 = params.t1();
-    let waiting = match *phase {
-        InviteClientPhase::Idle => Waiting {
-            reliable: event.reliable(),
-            request: event.number(),
-            start: event.moment(),
-            set: event.moment(),
-            interval: t1,
-        },
-        InviteClientPhase::Calling(waiting) if waiting.repeats(params, book, event) => Waiting {
-            set: event.moment(),
-            interval: 2 * waiting.interval,
-            ..waiting
-        },
-        _ => return None,
-    };
-    Some(Turn {
-        phase: InviteClientPhase::Calling(waiting),
-        change: Change::Keeps,
-    })
-}
-
-/// Where a CANCEL that is sent leads: in proceeding the moment of the first one counts, and in calling none is sent.
-fn cancels(phase: &InviteClientPhase, event: &Event) -> Option<Turn<InviteClientPhase>>
-    requires in_range { InviteClientInRange phase.now }
-    requires limit { event.now.moment ≤ last_moment }
-    ensures { (p : Times) (texts : Texts) → Knows invite_client_names texts phase.now →
-        AnswersOne (turn_names invite_client_names) (TurnInRange InviteClientInRange) (turn_seen invite_client_seen) texts
-        (Sends p (invite_client_seen texts phase.now) (Request Cancel) (heard texts event.now)) result }
-{
-    let phase = match *phase {
-        InviteClientPhase::Calling(_) => return None,
-        InviteClientPhase::Proceeding {
-            reliable,
-            request,
-            cancel,
-        } => match cancel {
-            None => InviteClientPhase::Proceeding {
-                reliable,
-                request,
-                cancel: Some(event.moment()),
-            },
-            Some(_) => *phase,
-        },
-        _ => *phase,
-    };
-    Some(Turn {
-        phase,
-        change: Change::Keeps,
-    })
 }

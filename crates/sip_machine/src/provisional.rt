@@ -6,7 +6,7 @@ ghost use Rattle.sip_machine.specs.inner.Start.{IsStatus100};
 ghost use Rattle.sip_message.specs.ValueParts.{start_parts};
 
 use crate::book::Book;
-use sip_message::{Message, ReadError, StartLine};
+use sip_message::StartLine;
 use std::alloc::{AllocError, Global};
 
 /// Whether the kept message is a 100 (Trying), which need not be sent again (RFC 3261, section 17.2.1).
@@ -14,17 +14,9 @@ pub(crate) fn is_100(alloc: Global, book: &Book, number: u32) -> Result<bool, Al
     requires { Keeps book.now number }
     ensures { IfOk result (λ is. IsTrue is ↔ Is100 (text_of book.now number)) }
 {
-    spells_100(alloc, book.bytes_of(number))
-}
-
-/// Whether the bytes spell a message that begins as a 100 does.
-fn spells_100(alloc: Global, bytes: &[u8]) -> Result<bool, AllocError>
-    ensures { IfOk result (λ is. IsTrue is ↔ Is100 bytes.now) }
-{
-    match Message::read(alloc, bytes) {
-        Ok(message) => Ok(is_status_100(message.start())),
-        Err(ReadError::Memory) => Err(AllocError),
-        Err(ReadError::Fault(_)) => Ok(false),
+    match book.message(alloc, number)? {
+        Some(message) => Ok(is_status_100(message.start())),
+        None => Ok(false),
     }
 }
 

@@ -11,14 +11,15 @@ use Rattle.std.proofs.lemmas.List.Elements.{Contains-push, Contains-push_cases, 
 use Rattle.sip_key.specs.Key.{KeyParts}
 use Rattle.sip_machine.specs.Times.{Times}
 use Rattle.sip_machine.proofs.TextLaws.{Contains-nil, Contains-cons_cases}
-use Rattle.sip_states.specs.KeyMachine.{MachineKind, OfInviteClient, OfPlainClient, OfInviteServer, OfPlainServer, machine_of_key}
-use Rattle.sip_states.specs.AnySet.{Waits, moment_of, start_of, start_of_machine}
+use Rattle.sip_states.specs.KeyMachine.{machine_of_key}
+use Rattle.sip_states.specs.AnySet.{Waits, moment_of, start_of}
 use Rattle.sip_states.specs.Tables.{Tabled}
 use Rattle.sip_states.specs.Sweep.{numbers_of, IsAdvanced, AppendsNamed}
 use Rattle.sip_states.specs.inner.Marks.{IsMarked, AreMarked}
 use Rattle.sip_states.specs.inner.Advance.{AdvancesAt}
 use Rattle.sip_states.specs.declared.any_set.AnySet.{AnySet}
 use Rattle.sip_states.proofs.NamesLemmas.{Contains-flat_map, Contains-from_flat_map}
+use Rattle.sip_states.proofs.ByMachine.{start_silent}
 
 -- the element at a place, where another was put at one
 set_place : {A : Type 0} (xs : List A) (i n : ℕ) (a x : A) → slice_get (slice_set xs i a) n ≡ Some x → ((n ≡ i) × (a ≡ x)) ⊎ ((n ≢ i) × (slice_get xs n ≡ Some x))
@@ -184,14 +185,7 @@ unmarked marks sets index set are at silent n other is mark =
       | inr was ↦ are n other is was.1
     ]
 
--- the set that a machine starts with names nothing
-start_silent : (p : Times) (machine : MachineKind) → numbers_of (start_of_machine p machine) ≡ []
-start_silent p OfInviteClient = refl
-start_silent p OfPlainClient = refl
-start_silent p OfInviteServer = refl
-start_silent p OfPlainServer = refl
-
--- nor does that of a key
+-- the set that a key starts with names nothing
 pub start_names : (p : Times) (key : KeyParts) → numbers_of (start_of p key) ≡ []
 start_names p key = start_silent p (machine_of_key key)
 

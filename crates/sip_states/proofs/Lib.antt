@@ -1,6 +1,7 @@
 pub mod Advancing
 pub mod AgendaLemmas
 pub mod AnyLemmas
+pub mod ByMachine
 pub mod EachOnce
 pub mod Few
 pub mod Following

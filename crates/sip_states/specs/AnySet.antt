@@ -1,82 +1,19 @@
 -- A set of states of one of the machines.
-use Rattle.std.specs.Prelude.{◌≡◌, ℕ, Option, List, [], ◌∷◌}
+use Rattle.std.specs.Prelude.{◌≡◌, ℕ, Option, List, []}
 use Rattle.sip_key.specs.Key.{KeyParts}
-use Rattle.sip_machine.specs.declared.owing.Owing.{Owing as CodeOwing}
-use Rattle.sip_machine.specs.declared.debts.NoDebts.{NoDebts}
-use Rattle.sip_machine.specs.declared.outbox.Debt.{Debt}
-use Rattle.sip_machine.specs.declared.invite_client.InviteClientPhase.{InviteClientPhase}
-use Rattle.sip_machine.specs.declared.invite_client.InviteClientPhase.TheVariants as invite_client
-use Rattle.sip_machine.specs.declared.plain_client.PlainClientPhase.{PlainClientPhase}
-use Rattle.sip_machine.specs.declared.plain_client.PlainClientPhase.TheVariants as plain_client
-use Rattle.sip_machine.specs.declared.invite_server.InviteServerPhase.{InviteServerPhase}
-use Rattle.sip_machine.specs.declared.invite_server.InviteServerPhase.TheVariants as invite_server
-use Rattle.sip_machine.specs.declared.plain_server.PlainServerPhase.{PlainServerPhase}
-use Rattle.sip_machine.specs.declared.plain_server.PlainServerPhase.TheVariants as plain_server
 use Rattle.sip_machine.specs.Times.{Times}
 use Rattle.sip_machine.specs.Texts.{Texts}
 use Rattle.sip_machine.specs.NumberedEvent.{NumberedEvent}
 use Rattle.sip_machine.specs.Figure.{rules_of as rules_of_figure, until_of}
 use Rattle.sip_machine.specs.Owing.{owing_seen, owing_names, OwingInRange}
-use Rattle.sip_machine.specs.Transaction.{Coded, idle_state, ended_state}
-use Rattle.sip_machine.specs.InviteClient.{invite_client_seen, invite_client_names, InviteClientInRange}
-use Rattle.sip_machine.specs.PlainClient.{plain_client_seen, plain_client_names, PlainClientInRange}
-use Rattle.sip_machine.specs.InviteServer.{invite_server_seen, invite_server_names, InviteServerInRange}
-use Rattle.sip_machine.specs.PlainServer.{plain_server_seen, plain_server_names, PlainServerInRange}
+use Rattle.sip_machine.specs.Transaction.{ended_state}
 use Rattle.sip_states.specs.Runs.{IsWide}
 use Rattle.sip_states.specs.Held.{Held}
-use Rattle.sip_states.specs.KeyMachine.{MachineKind, OfInviteClient, OfPlainClient, OfInviteServer, OfPlainServer, machine_of_key, transaction, PhaseOf}
+use Rattle.sip_states.specs.KeyMachine.{MachineKind, machine_of_key, transaction, coded, PhaseOf, StateOf, set_of, held_of, by_machine, start_of_machine}
 use Rattle.sip_states.specs.Meaning.{Meaning, IsKeptBy, IsKnown, Given, HasWaited, HasTaken, HasAgenda}
 use Rattle.sip_states.specs.declared.any_set.AnySet.{AnySet}
-use Rattle.sip_states.specs.declared.any_set.AnySet.TheVariants.{InviteClient, PlainClient, InviteServer, PlainServer}
 
--- how the code has each machine
-abbrev pub coded : (machine : MachineKind) → Coded (transaction machine).Phase
-coded OfInviteClient =
-    record {
-      Code = InviteClientPhase;
-      Debts = List Debt;
-      seen = invite_client_seen;
-      names = invite_client_names;
-      InRange = InviteClientInRange;
-      idle = invite_client.Idle;
-      ended = invite_client.Ended;
-    }
-coded OfPlainClient =
-    record {
-      Code = PlainClientPhase;
-      Debts = NoDebts;
-      seen = plain_client_seen;
-      names = plain_client_names;
-      InRange = PlainClientInRange;
-      idle = plain_client.Idle;
-      ended = plain_client.Ended;
-    }
-coded OfInviteServer =
-    record {
-      Code = InviteServerPhase;
-      Debts = List Debt;
-      seen = invite_server_seen;
-      names = invite_server_names;
-      InRange = InviteServerInRange;
-      idle = invite_server.Idle;
-      ended = invite_server.Idle;
-    }
-coded OfPlainServer =
-    record {
-      Code = PlainServerPhase;
-      Debts = List Debt;
-      seen = plain_server_seen;
-      names = plain_server_names;
-      InRange = PlainServerInRange;
-      idle = plain_server.Idle;
-      ended = plain_server.Idle;
-    }
-
--- the states of each machine as the code has them
-abbrev pub StateOf : MachineKind → Type 0
-StateOf machine = CodeOwing (coded machine).Code (coded machine).Debts
-
--- what they mean
+-- what the states of a machine mean
 abbrev pub meaning_of : (machine : MachineKind) → Meaning (PhaseOf machine) Times (StateOf machine)
 meaning_of machine =
     let figure = (transaction machine).figure in
@@ -90,13 +27,6 @@ meaning_of machine =
       ended = λ p. ended_state c;
     }
 
--- a set of this machine
-abbrev pub set_of : (machine : MachineKind) → Held Times (StateOf machine) → AnySet
-set_of OfInviteClient s = InviteClient s
-set_of OfPlainClient s = PlainClient s
-set_of OfInviteServer s = InviteServer s
-set_of OfPlainServer s = PlainServer s
-
 module _ (P : (X M S : Type 0) → Meaning X M S → Held M S → Type 0) where
   -- P of a set of this machine
   abbrev pub OfHeld : (machine : MachineKind) → Held Times (StateOf machine) → Type 0
@@ -104,10 +34,7 @@ module _ (P : (X M S : Type 0) → Meaning X M S → Held M S → Type 0) where
 
   -- P of the set, by its machine
   abbrev pub OfSet : AnySet → Type 0
-  OfSet (InviteClient s) = OfHeld OfInviteClient s
-  OfSet (PlainClient s) = OfHeld OfPlainClient s
-  OfSet (InviteServer s) = OfHeld OfInviteServer s
-  OfSet (PlainServer s) = OfHeld OfPlainServer s
+  OfSet set = by_machine OfHeld set
 
 module _ (P : (X M S : Type 0) → Meaning X M S → Held M S → Held M S → Type 0) where
   -- the new set is of this machine, as the old one is, and P of the two
@@ -117,17 +44,11 @@ module _ (P : (X M S : Type 0) → Meaning X M S → Held M S → Held M S → T
 
   -- the new set is of the old one's machine, and P of the two
   abbrev pub OfSets : AnySet → AnySet → Type 0
-  OfSets (InviteClient s) new = OfHelds OfInviteClient s new
-  OfSets (PlainClient s) new = OfHelds OfPlainClient s new
-  OfSets (InviteServer s) new = OfHelds OfInviteServer s new
-  OfSets (PlainServer s) new = OfHelds OfPlainServer s new
+  OfSets set new = by_machine (λ machine s. OfHelds machine s new) set
 
 -- the moment of the set
 abbrev pub moment_of : AnySet → ℕ
-moment_of (InviteClient s) = s.moment
-moment_of (PlainClient s) = s.moment
-moment_of (InviteServer s) = s.moment
-moment_of (PlainServer s) = s.moment
+moment_of set = (held_of set).1.moment
 
 -- each of its states is there once, is in range and can wait at its moment, and there are not too many
 abbrev pub IsKeptSet : AnySet → Type 0
@@ -156,13 +77,6 @@ IsTooWide texts e set = OfSet (λ X M S m s. IsWide (Given m texts s e)) set
 -- a wait can last until exactly the moments within the limit
 abbrev pub IsAgendaOf : Option ℕ → AnySet → Type 0
 IsAgendaOf limit set = OfSet (λ X M S m s. HasAgenda m limit s) set
-
--- the set that a machine starts with: its first state, at moment 0
-abbrev pub start_of_machine : Times → MachineKind → AnySet
-start_of_machine p OfInviteClient = InviteClient (record { machine = p; moment = 0; states = idle_state (coded OfInviteClient) ∷ [] })
-start_of_machine p OfPlainClient = PlainClient (record { machine = p; moment = 0; states = idle_state (coded OfPlainClient) ∷ [] })
-start_of_machine p OfInviteServer = InviteServer (record { machine = p; moment = 0; states = idle_state (coded OfInviteServer) ∷ [] })
-start_of_machine p OfPlainServer = PlainServer (record { machine = p; moment = 0; states = idle_state (coded OfPlainServer) ∷ [] })
 
 -- the set that a key starts with
 abbrev pub start_of : Times → KeyParts → AnySet

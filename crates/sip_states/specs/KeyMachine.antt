@@ -1,16 +1,26 @@
--- The machine of each key (RFC 3261 section 17), and its figure.
-use Rattle.std.specs.Prelude.{Bool, true, false, codes, bytes_eq}
+-- The machine of each key (RFC 3261 section 17), its figure, and how the code has it: the list of machines.
+use Rattle.std.specs.Prelude.{◌≡◌, [], ◌∷◌, Bool, true, false, codes, bytes_eq}
+use Rattle.std.proofs.Common.{refl}
 use Rattle.sip_key.specs.declared.role.Role.{Role}
 use Rattle.sip_key.specs.declared.role.Role.TheVariants.{Client, Server}
 use Rattle.sip_key.specs.Key.{KeyParts}
 use Rattle.sip_machine.specs.Times.{Times}
 use Rattle.sip_machine.specs.Rules.{Rules}
 use Rattle.sip_machine.specs.Figure.{Owing, rules_of as rules_of_figure}
-use Rattle.sip_machine.specs.Transaction.{Transaction}
-use Rattle.sip_machine.specs.InviteClient as InviteClient
-use Rattle.sip_machine.specs.PlainClient as PlainClient
-use Rattle.sip_machine.specs.InviteServer as InviteServer
-use Rattle.sip_machine.specs.PlainServer as PlainServer
+use Rattle.sip_machine.specs.declared.owing.Owing.{Owing as CodeOwing}
+use Rattle.sip_machine.specs.Transaction.{Transaction, Coded, idle_state}
+use Rattle.sip_machine.specs.InviteClient.{InviteClientPhase, invite_client, invite_client_coded}
+use Rattle.sip_machine.specs.PlainClient.{PlainClientPhase, plain_client, plain_client_coded}
+use Rattle.sip_machine.specs.InviteServer.{InviteServerPhase, invite_server, invite_server_coded}
+use Rattle.sip_machine.specs.PlainServer.{PlainServerPhase, plain_server, plain_server_coded}
+use Rattle.sip_machine.specs.inner.Coded.{IsCoded}
+use Rattle.sip_machine.specs.inner.InviteClientLaws.{invite_client_is_coded}
+use Rattle.sip_machine.specs.inner.PlainClientLaws.{plain_client_is_coded}
+use Rattle.sip_machine.specs.inner.InviteServerLaws.{invite_server_is_coded}
+use Rattle.sip_machine.specs.inner.PlainServerLaws.{plain_server_is_coded}
+use Rattle.sip_states.specs.Held.{Held}
+use Rattle.sip_states.specs.declared.any_set.AnySet.{AnySet}
+use Rattle.sip_states.specs.declared.any_set.AnySet.TheVariants.{InviteClient, PlainClient, InviteServer, PlainServer}
 
 -- the machines of section 17
 pub data MachineKind : Type 0 where
@@ -32,10 +42,10 @@ machine_of_key key = machine_of key.role (bytes_eq key.method (codes "INVITE"))
 
 -- the figure of each machine
 abbrev pub transaction : MachineKind → Transaction
-transaction OfInviteClient = record { Phase = InviteClient.InviteClientPhase; figure = InviteClient.invite_client }
-transaction OfPlainClient = record { Phase = PlainClient.PlainClientPhase; figure = PlainClient.plain_client }
-transaction OfInviteServer = record { Phase = InviteServer.InviteServerPhase; figure = InviteServer.invite_server }
-transaction OfPlainServer = record { Phase = PlainServer.PlainServerPhase; figure = PlainServer.plain_server }
+transaction OfInviteClient = record { Phase = InviteClientPhase; figure = invite_client }
+transaction OfPlainClient = record { Phase = PlainClientPhase; figure = plain_client }
+transaction OfInviteServer = record { Phase = InviteServerPhase; figure = invite_server }
+transaction OfPlainServer = record { Phase = PlainServerPhase; figure = plain_server }
 
 -- the states of each machine: a phase, and what is owed
 abbrev pub PhaseOf : MachineKind → Type 0
@@ -44,3 +54,84 @@ PhaseOf machine = Owing (transaction machine).Phase
 -- its rules with these times
 abbrev pub rules_of : Times → (machine : MachineKind) → Rules (PhaseOf machine)
 rules_of p machine = rules_of_figure (transaction machine).figure p
+
+-- How the code has the machines, and the sets of their states.
+
+-- how the code has each machine
+abbrev pub coded : (machine : MachineKind) → Coded (transaction machine).Phase
+coded OfInviteClient = invite_client_coded
+coded OfPlainClient = plain_client_coded
+coded OfInviteServer = invite_server_coded
+coded OfPlainServer = plain_server_coded
+
+-- as it is
+pub is_coded : (machine : MachineKind) → IsCoded (transaction machine).figure (coded machine)
+is_coded OfInviteClient = invite_client_is_coded
+is_coded OfPlainClient = plain_client_is_coded
+is_coded OfInviteServer = invite_server_is_coded
+is_coded OfPlainServer = plain_server_is_coded
+
+-- the states of each machine as the code has them
+abbrev pub StateOf : MachineKind → Type 0
+StateOf machine = CodeOwing (coded machine).Code (coded machine).Debts
+
+-- a set of this machine
+abbrev pub set_of : (machine : MachineKind) → Held Times (StateOf machine) → AnySet
+set_of OfInviteClient s = InviteClient s
+set_of OfPlainClient s = PlainClient s
+set_of OfInviteServer s = InviteServer s
+set_of OfPlainServer s = PlainServer s
+
+-- the machine of a set, and what it holds
+abbrev pub held_of : AnySet → (machine : MachineKind) × Held Times (StateOf machine)
+held_of (InviteClient s) = (OfInviteClient, s)
+held_of (PlainClient s) = (OfPlainClient, s)
+held_of (InviteServer s) = (OfInviteServer, s)
+held_of (PlainServer s) = (OfPlainServer, s)
+
+-- P of the set, by its machine
+abbrev pub by_machine : ((machine : MachineKind) → Held Times (StateOf machine) → Type 0) → AnySet → Type 0
+by_machine P (InviteClient s) = P OfInviteClient s
+by_machine P (PlainClient s) = P OfPlainClient s
+by_machine P (InviteServer s) = P OfInviteServer s
+by_machine P (PlainServer s) = P OfPlainServer s
+
+-- the set that a machine starts with: its first state, at moment 0
+abbrev pub start_of_machine : Times → MachineKind → AnySet
+start_of_machine p OfInviteClient = InviteClient (record { machine = p; moment = 0; states = idle_state (coded OfInviteClient) ∷ [] })
+start_of_machine p OfPlainClient = PlainClient (record { machine = p; moment = 0; states = idle_state (coded OfPlainClient) ∷ [] })
+start_of_machine p OfInviteServer = InviteServer (record { machine = p; moment = 0; states = idle_state (coded OfInviteServer) ∷ [] })
+start_of_machine p OfPlainServer = PlainServer (record { machine = p; moment = 0; states = idle_state (coded OfPlainServer) ∷ [] })
+
+-- Whichever its machine is, that is what a set is.
+
+pub held_is : (machine : MachineKind) (s : Held Times (StateOf machine)) → held_of (set_of machine s) ≡ (machine, s)
+held_is OfInviteClient s = refl
+held_is OfPlainClient s = refl
+held_is OfInviteServer s = refl
+held_is OfPlainServer s = refl
+
+pub set_is : (set : AnySet) → set ≡ set_of (held_of set).0 (held_of set).1
+set_is (InviteClient s) = refl
+set_is (PlainClient s) = refl
+set_is (InviteServer s) = refl
+set_is (PlainServer s) = refl
+
+pub start_is : (p : Times) (machine : MachineKind) → start_of_machine p machine ≡ set_of machine (record { machine = p; moment = 0; states = idle_state (coded machine) ∷ [] })
+start_is p OfInviteClient = refl
+start_is p OfPlainClient = refl
+start_is p OfInviteServer = refl
+start_is p OfPlainServer = refl
+
+module _ (P : (machine : MachineKind) → Held Times (StateOf machine) → Type 0) where
+  pub of_machine : (machine : MachineKind) (s : Held Times (StateOf machine)) → by_machine P (set_of machine s) → P machine s
+  of_machine OfInviteClient s holds = holds
+  of_machine OfPlainClient s holds = holds
+  of_machine OfInviteServer s holds = holds
+  of_machine OfPlainServer s holds = holds
+
+  pub to_machine : (machine : MachineKind) (s : Held Times (StateOf machine)) → P machine s → by_machine P (set_of machine s)
+  to_machine OfInviteClient s holds = holds
+  to_machine OfPlainClient s holds = holds
+  to_machine OfInviteServer s holds = holds
+  to_machine OfPlainServer s holds = holds

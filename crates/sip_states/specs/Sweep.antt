@@ -3,10 +3,9 @@ use Rattle.std.specs.Prelude.{◌≡◌, ◌<◌, ◌⊎◌, ◌↔◌, ◌++◌
 use Rattle.sip_machine.specs.Times.{Times}
 use Rattle.sip_machine.specs.Owing.{owing_names}
 use Rattle.sip_states.specs.Held.{Held}
-use Rattle.sip_states.specs.KeyMachine.{MachineKind, OfInviteClient, OfPlainClient, OfInviteServer, OfPlainServer}
+use Rattle.sip_states.specs.KeyMachine.{MachineKind, coded, StateOf, held_of}
 use Rattle.sip_states.specs.declared.any_set.AnySet.{AnySet}
-use Rattle.sip_states.specs.declared.any_set.AnySet.TheVariants.{InviteClient, PlainClient, InviteServer, PlainServer}
-use Rattle.sip_states.specs.AnySet.{StateOf, Waits, coded}
+use Rattle.sip_states.specs.AnySet.{Waits}
 use Rattle.sip_states.specs.Tables.{Tabled}
 
 -- the numbers of the messages that the states of a set of this machine name
@@ -15,10 +14,7 @@ names_of machine s = flat_map (owing_names (coded machine).names) s.states
 
 -- and those of any set
 abbrev pub numbers_of : AnySet → List ℕ
-numbers_of (InviteClient s) = names_of OfInviteClient s
-numbers_of (PlainClient s) = names_of OfPlainClient s
-numbers_of (InviteServer s) = names_of OfInviteServer s
-numbers_of (PlainServer s) = names_of OfPlainServer s
+numbers_of set = names_of (held_of set).0 (held_of set).1
 
 -- the set has waited until the moment; or it names nothing, and stays
 abbrev pub IsAdvanced : ℕ → AnySet → AnySet → Type 0

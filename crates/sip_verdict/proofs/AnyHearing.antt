@@ -7,16 +7,15 @@ use Rattle.sip_machine.specs.Heard.{Heard, heard}
 use Rattle.sip_machine.specs.Rules.{Rules, StandFor}
 use Rattle.sip_states.specs.Runs.{After, IsWide}
 use Rattle.sip_states.specs.Held.{Held}
-use Rattle.sip_states.specs.KeyMachine.{MachineKind, PhaseOf, rules_of}
+use Rattle.sip_states.specs.KeyMachine.{MachineKind, PhaseOf, rules_of, StateOf, set_of}
 use Rattle.sip_states.specs.Meaning.{IsKnown, Given, HasTaken}
-use Rattle.sip_states.specs.AnySet.{moment_of, IsEmpty, IsKnownSet, Takes, IsTooWide}
+use Rattle.sip_states.specs.AnySet.{meaning_of, moment_of, IsEmpty, IsKnownSet, Takes, IsTooWide}
 use Rattle.sip_states.specs.declared.any_set.AnySet.{AnySet}
 use Rattle.sip_verdict.specs.declared.passing.Fate.TheVariants.{Runs, NoRun, TooWide}
 use Rattle.sip_verdict.specs.inner.Stepping.{RunsUntil, IsStepped}
-use Rattle.sip_states.specs.AnySet.{StateOf, meaning_of, set_of}
 use Rattle.sip_verdict.specs.inner.TablesTracking.{LeadsOf, StandsOf}
 use Rattle.sip_verdict.proofs.Hearing.{heard_none, heard_some, heard_wide}
-use Rattle.sip_verdict.proofs.ByMachine.{rules_are, lawful_of, moment_is, some_machine, of_set, to_set, of_sets}
+use Rattle.sip_states.proofs.ByMachine.{rules_are, lawful_of, moment_is, some_machine, of_set, to_set, of_sets}
 
 -- the set of a machine after an event
 after_event : (texts : Texts) (e : NumberedEvent) (machine : MachineKind) (s : Held Times (StateOf machine)) (old new : AnySet) → old ≡ set_of machine s → Takes texts e old new

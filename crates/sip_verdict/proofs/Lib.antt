@@ -1,5 +1,4 @@
 pub mod AnyHearing
-pub mod ByMachine
 pub mod EntryText
 pub mod FewerEntries
 pub mod FollowedLemmas

@@ -6,14 +6,15 @@ use Rattle.sip_machine.specs.Texts.{Texts, Keeps, text_of}
 use Rattle.sip_machine.specs.Heard.{Heard}
 use Rattle.sip_machine.specs.Rules.{Knows, StandFor}
 use Rattle.sip_states.specs.Runs.{After}
-use Rattle.sip_states.specs.KeyMachine.{MachineKind, OfInviteClient, OfPlainClient, OfInviteServer, OfPlainServer, rules_of}
+use Rattle.sip_states.specs.KeyMachine.{MachineKind, rules_of, of_machine}
+use Rattle.sip_states.specs.Meaning.{IsKnown}
 use Rattle.sip_states.specs.AnySet.{meaning_of, IsKnownSet}
 use Rattle.sip_states.specs.declared.any_set.AnySet.{AnySet}
-use Rattle.sip_states.specs.declared.any_set.AnySet.TheVariants.{InviteClient, PlainClient, InviteServer, PlainServer}
 use Rattle.sip_listing.specs.Fields.{Tells}
 use Rattle.sip_listing.specs.Lines.{AreInOrder, AreLinesOf}
-use Rattle.sip_listing.specs.Transaction.{state_text, TellsSet, AreLinesOfSet, Lists}
+use Rattle.sip_listing.specs.Transaction.{state_text, TellsSet, AreLinesOfHeld, AreLinesOfSet, Lists}
 use Rattle.sip_verdict.specs.inner.TablesTracking.{StandsOf}
+use Rattle.sip_states.proofs.ByMachine.{some_machine, of_set, to_set}
 
 -- the book's numbers are those by which its messages are told
 abbrev pub TellsBook : (List ℕ → ℕ) → Texts → Type 0
@@ -27,10 +28,10 @@ module _ (number : List ℕ → ℕ) (texts : Texts) (tells : TellsBook number t
       (λ x all. All-weaker (Keeps texts) (λ n. number (text_of texts n) ≡ n) (λ n keeps. tells n keeps) (names x) all) xs known
 
   pub told_set : (set : AnySet) → IsKnownSet texts set → TellsSet number texts set
-  told_set (InviteClient s) known = told_states (meaning_of OfInviteClient).names s.states known
-  told_set (PlainClient s) known = told_states (meaning_of OfPlainClient).names s.states known
-  told_set (InviteServer s) known = told_states (meaning_of OfInviteServer).names s.states known
-  told_set (PlainServer s) known = told_states (meaning_of OfPlainServer).names s.states known
+  told_set set known =
+      let (machine, s, is) = some_machine set in
+      let known_s = of_set (λ X M S m s. IsKnown m texts s) machine s (subst (IsKnownSet texts) is known) in
+      subst (TellsSet number texts) (sym is) (to_set (λ X M S m s. All (λ x. Tells number texts (m.names x)) s.states) machine s (told_states (meaning_of machine).names s.states known_s))
 
 -- one map after another
 map-after : {A B C : Type 0} (f : B → C) (g : A → B) (xs : List A) → map f (map g xs) ≡ map (λ x. f (g x)) xs
@@ -50,11 +51,6 @@ stood_lines names InRange seen texts text P xs lines stand in_order = record {
 -- the lines that list a set are those of exactly the states where it stands
 pub standing_lines : (number : List ℕ → ℕ) (texts : Texts) (p : Times) (machine : MachineKind) (events : List Heard) (e : Heard) (set : AnySet) (lines : List (List ℕ))
     → StandsOf texts p machine events e set → TellsSet number texts set → Lists set lines → AreLinesOf (state_text machine number) (After (rules_of p machine) events e) lines
-standing_lines number texts p OfInviteClient events e set lines (s, is, stand) told lists =
-    stood_lines _ _ _ texts (state_text OfInviteClient number) _ s.states lines stand (subst (λ x. AreLinesOfSet number texts x lines) is (lists number texts told))
-standing_lines number texts p OfPlainClient events e set lines (s, is, stand) told lists =
-    stood_lines _ _ _ texts (state_text OfPlainClient number) _ s.states lines stand (subst (λ x. AreLinesOfSet number texts x lines) is (lists number texts told))
-standing_lines number texts p OfInviteServer events e set lines (s, is, stand) told lists =
-    stood_lines _ _ _ texts (state_text OfInviteServer number) _ s.states lines stand (subst (λ x. AreLinesOfSet number texts x lines) is (lists number texts told))
-standing_lines number texts p OfPlainServer events e set lines (s, is, stand) told lists =
-    stood_lines _ _ _ texts (state_text OfPlainServer number) _ s.states lines stand (subst (λ x. AreLinesOfSet number texts x lines) is (lists number texts told))
+standing_lines number texts p machine events e set lines (s, is, stand) told lists =
+    let listed = of_machine (λ kind held. AreLinesOfHeld number texts kind held lines) machine s (subst (λ x. AreLinesOfSet number texts x lines) is (lists number texts told)) in
+    stood_lines _ _ _ texts (state_text machine number) _ s.states lines stand listed

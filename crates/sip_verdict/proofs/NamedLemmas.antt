@@ -1,28 +1,22 @@
 -- What the states of the sets name are the messages that are named.
-use Rattle.std.proofs.Common.{◌≡◌, ◌≤◌, ◌↔◌, ◌⊎◌, inl, inr, ℕ, Some, None, List, [], ◌∷◌, ◌++◌, Contains, map, refl, sym, ap, ap₂, ◌∙◌, subst}
+use Rattle.std.proofs.Common.{◌≡◌, ◌≤◌, ◌↔◌, ◌⊎◌, inl, inr, ℕ, List, [], ◌∷◌, ◌++◌, Contains, map, refl, sym, ap, ap₂, ◌∙◌, subst}
 use Rattle.std.specs.List.{flat_map}
 use Rattle.std.proofs.lemmas.List.{map-append}
 use Rattle.std.proofs.lemmas.List.Elements.{Contains-append_left, Contains-append_right, Contains-append_cases}
 use Rattle.sip_machine.specs.Times.{Times}
 use Rattle.sip_machine.specs.declared.outbox.Debt.{Debt}
-use Rattle.sip_machine.specs.declared.invite_client.InviteClientPhase.TheVariants as invite_client
-use Rattle.sip_machine.specs.declared.plain_client.PlainClientPhase.TheVariants as plain_client
-use Rattle.sip_machine.specs.declared.invite_server.InviteServerPhase.TheVariants as invite_server
-use Rattle.sip_machine.specs.declared.plain_server.PlainServerPhase.TheVariants as plain_server
 use Rattle.sip_machine.specs.Texts.{Texts, text_of}
 use Rattle.sip_machine.specs.Owes.{owes_seen, owes_names}
 use Rattle.sip_machine.specs.Heard.{Heard}
 use Rattle.sip_machine.specs.Rules.{Rules, IsLawful, StandFor}
 use Rattle.sip_machine.proofs.TextLaws.{Contains-nil, Contains-cons_cases}
 use Rattle.sip_states.specs.Runs.{Wait, Run}
-use Rattle.sip_states.specs.Held.{Held}
-use Rattle.sip_states.specs.KeyMachine.{MachineKind, OfInviteClient, OfPlainClient, OfInviteServer, OfPlainServer}
-use Rattle.sip_states.specs.AnySet.{StateOf, coded, meaning_of, set_of}
-use Rattle.sip_states.specs.Sweep.{numbers_of}
+use Rattle.sip_states.specs.KeyMachine.{MachineKind, coded, is_coded, StateOf}
+use Rattle.sip_states.specs.AnySet.{meaning_of}
 use Rattle.sip_states.proofs.Listed.{Contains-map, Contains-from_map, Contains-here, Contains-there, Contains-none}
 use Rattle.sip_states.proofs.Waiting.{StaysFrom, EndsFrom, Wait-cases}
 use Rattle.sip_verdict.specs.inner.Leads.{Leads}
-use Rattle.sip_verdict.specs.Named.{phase_messages, messages_of}
+use Rattle.sip_verdict.specs.Named.{messages_of}
 
 -- an element of a list that one of several gives
 pub Contains-flat_map : {X Y : Type 0} (f : X → List Y) (xs : List X) (x : X) (y : Y) → Contains xs x → Contains (f x) y → Contains (flat_map f xs) y
@@ -88,39 +82,15 @@ owed_named : (texts : Texts) (owes : List Debt) → map (λ owed. owed.message) 
 owed_named texts [] = refl
 owed_named texts (debt ∷ owes) = ap (λ rest. text_of texts debt.message ∷ rest) (owed_named texts owes)
 
--- what a phase names is what it stands for, whatever its machine
-phase_named : (machine : MachineKind) (texts : Texts) (x : (coded machine).Code) → phase_messages machine ((coded machine).seen texts x) ≡ map (text_of texts) ((coded machine).names x)
-phase_named OfInviteClient texts invite_client.Idle = refl
-phase_named OfInviteClient texts (invite_client.Calling w) = refl
-phase_named OfInviteClient texts (invite_client.Proceeding reliable request cancel) = refl
-phase_named OfInviteClient texts (invite_client.Accepted set) = refl
-phase_named OfInviteClient texts (invite_client.Completed reliable request set) = refl
-phase_named OfInviteClient texts invite_client.Ended = refl
-phase_named OfPlainClient texts plain_client.Idle = refl
-phase_named OfPlainClient texts (plain_client.Trying w) = refl
-phase_named OfPlainClient texts (plain_client.Proceeding w) = refl
-phase_named OfPlainClient texts (plain_client.Completed reliable set) = refl
-phase_named OfPlainClient texts plain_client.Ended = refl
-phase_named OfInviteServer texts invite_server.Idle = refl
-phase_named OfInviteServer texts (invite_server.Proceeding reliable set None) = refl
-phase_named OfInviteServer texts (invite_server.Proceeding reliable set (Some last)) = refl
-phase_named OfInviteServer texts (invite_server.Accepted set) = refl
-phase_named OfInviteServer texts (invite_server.Completed reliable final set repeat interval) = refl
-phase_named OfInviteServer texts (invite_server.Confirmed reliable set) = refl
-phase_named OfPlainServer texts plain_server.Idle = refl
-phase_named OfPlainServer texts (plain_server.Trying reliable) = refl
-phase_named OfPlainServer texts (plain_server.Proceeding reliable last) = refl
-phase_named OfPlainServer texts (plain_server.Completed reliable final set) = refl
-
--- and so is what a state names
+-- what a state names is what it stands for
 pub named_of : (machine : MachineKind) (texts : Texts) (x : StateOf machine) → messages_of machine ((meaning_of machine).seen texts x) ≡ map (text_of texts) ((meaning_of machine).names x)
 named_of machine texts x =
-    ap₂ (λ of_phase owed. of_phase ++ owed) (phase_named machine texts x.phase) (owed_named texts x.owes)
+    ap₂ (λ of_phase owed. of_phase ++ owed) ((is_coded machine).named texts x.phase) (owed_named texts x.owes)
     ∙ sym (map-append (text_of texts) ((coded machine).names x.phase) (owes_names x.owes))
 
--- the numbers of a set
-pub numbers_are : (machine : MachineKind) (s : Held Times (StateOf machine)) → numbers_of (set_of machine s) ≡ flat_map (meaning_of machine).names s.states
-numbers_are OfInviteClient s = refl
-numbers_are OfPlainClient s = refl
-numbers_are OfInviteServer s = refl
-numbers_are OfPlainServer s = refl
+-- the first and the ended state name nothing
+pub first_silent : (machine : MachineKind) (p : Times) → messages_of machine ((meaning_of machine).rules p).first ≡ []
+first_silent machine p = ap (λ messages. messages ++ []) (is_coded machine).idle_silent
+
+pub ended_silent : (machine : MachineKind) (p : Times) → messages_of machine ((meaning_of machine).rules p).ended ≡ []
+ended_silent machine p = ap (λ messages. messages ++ []) (is_coded machine).ended_silent

@@ -13,9 +13,9 @@ use Rattle.sip_machine.specs.Rules.{Rules, IsLawful, StandFor}
 use Rattle.sip_machine.proofs.RetainLemmas.{length-only}
 use Rattle.sip_states.specs.Runs.{Wait, Run}
 use Rattle.sip_states.specs.Held.{Held}
-use Rattle.sip_states.specs.KeyMachine.{MachineKind, OfInviteClient, OfPlainClient, OfInviteServer, OfPlainServer, PhaseOf, rules_of, machine_of_key}
+use Rattle.sip_states.specs.KeyMachine.{MachineKind, PhaseOf, StateOf, rules_of, machine_of_key}
 use Rattle.sip_states.specs.Meaning.{HasWaited}
-use Rattle.sip_states.specs.AnySet.{StateOf, meaning_of, moment_of, Waits}
+use Rattle.sip_states.specs.AnySet.{meaning_of, moment_of, Waits}
 use Rattle.sip_states.specs.Sweep.{numbers_of, IsAdvanced}
 use Rattle.sip_states.specs.Tables.{Tabled}
 use Rattle.sip_states.specs.declared.any_set.AnySet.{AnySet}
@@ -28,22 +28,9 @@ use Rattle.sip_verdict.specs.Named.{IsNamed, AreMany, messages_of, key_messages}
 use Rattle.sip_verdict.specs.inner.TablesTracking.{LeadsOf, key_keeping, transactions_of, TablesTrack}
 use Rattle.sip_verdict.specs.inner.Tracking.{IsReady}
 use Rattle.sip_verdict.proofs.Keys.{IsExact, among-contains, new_key}
-use Rattle.sip_verdict.proofs.ByMachine.{rules_are, lawful_of, moment_is, of_sets}
+use Rattle.sip_states.proofs.ByMachine.{rules_are, lawful_of, moment_is, numbers_are, of_sets}
 use Rattle.sip_verdict.proofs.TablesPassing.{at_place, All-place, zip-place, keys_are}
-use Rattle.sip_verdict.proofs.NamedLemmas.{RunNames, IsNumberOf, waited_names, silent_names, named_of, numbers_are, Contains-flat_map, Contains-from_flat_map}
-
--- the first and the ended state name nothing
-first_silent : (machine : MachineKind) (p : Times) → messages_of machine ((meaning_of machine).rules p).first ≡ []
-first_silent OfInviteClient p = refl
-first_silent OfPlainClient p = refl
-first_silent OfInviteServer p = refl
-first_silent OfPlainServer p = refl
-
-ended_silent : (machine : MachineKind) (p : Times) → messages_of machine ((meaning_of machine).rules p).ended ≡ []
-ended_silent OfInviteClient p = refl
-ended_silent OfPlainClient p = refl
-ended_silent OfInviteServer p = refl
-ended_silent OfPlainServer p = refl
+use Rattle.sip_verdict.proofs.NamedLemmas.{RunNames, IsNumberOf, waited_names, silent_names, named_of, first_silent, ended_silent, Contains-flat_map, Contains-from_flat_map}
 
 -- a run over no event stands in the first state
 stays_first : {X : Type 0} (r : Rules X) → IsLawful r → (m : ℕ) (y : X) → Run r [] m y → y ≡ r.first

@@ -16,7 +16,7 @@ use Rattle.sip_states.proofs.RunLemmas.{Run-wait, After-run}
 use Rattle.sip_verdict.specs.inner.Stepping.{RunsUntil}
 use Rattle.sip_states.specs.AnySet.{meaning_of}
 use Rattle.sip_verdict.specs.inner.TablesTracking.{LeadsOf}
-use Rattle.sip_verdict.proofs.ByMachine.{rules_are, moment_is, of_set}
+use Rattle.sip_states.proofs.ByMachine.{rules_are, moment_is, of_set}
 
 -- a run over one event more holds one that stands at its moment
 pub run_before : {X : Type 0} (r : Rules X) (events : List Heard) (e : Heard) (n : ℕ) → RunsUntil r (events ++ e ∷ []) n → RunsUntil r events e.moment

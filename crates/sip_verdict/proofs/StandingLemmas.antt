@@ -28,7 +28,7 @@ use Rattle.sip_verdict.specs.inner.Tracking.{IsReady, TracksBefore, IsJudged}
 use Rattle.sip_states.specs.AnySet.{meaning_of}
 use Rattle.sip_verdict.specs.inner.TablesTracking.{key_keeping, transactions_of, TablesTrack, TablesTrackBefore, AreTold, TouchesEach, HaveNumbers, MayPass, MayHear, IsOnRecord, AreOnRecord, AllAreOnRecord, MayTake}
 use Rattle.sip_verdict.proofs.Leading.{Leads-grow}
-use Rattle.sip_verdict.proofs.ByMachine.{seen_by_names_of, some_machine, of_set, to_set}
+use Rattle.sip_states.proofs.ByMachine.{seen_by_names_of, some_machine, of_set, to_set}
 use Rattle.sip_verdict.proofs.TrackingLemmas.{AreKept, kept_tracked, before_none, before_touched}
 use Rattle.sip_verdict.proofs.TablesTouching.{touches_times, touches_few, touches_recorded, kept_each, have_numbers, told_mark, told_event}
 

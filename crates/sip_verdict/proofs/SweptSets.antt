@@ -8,16 +8,12 @@ use Rattle.sip_machine.specs.Retained.{only}
 use Rattle.sip_machine.specs.Heard.{Heard}
 use Rattle.sip_machine.specs.Limits.{IsWithin, IsOpenAt}
 use Rattle.sip_machine.specs.Rules.{Rules, IsLawful, StandFor}
-use Rattle.sip_machine.specs.inner.InviteClientLaws.{invite_client_window_same, invite_client_closes_same}
-use Rattle.sip_machine.specs.inner.PlainClientLaws.{plain_client_window_same, plain_client_closes_same}
-use Rattle.sip_machine.specs.inner.InviteServerLaws.{invite_server_window_same, invite_server_closes_same}
-use Rattle.sip_machine.specs.inner.PlainServerLaws.{plain_server_window_same, plain_server_closes_same}
 use Rattle.sip_machine.specs.inner.OwingLaws.{window_same, until_same}
 use Rattle.sip_machine.proofs.RetainLemmas.{only-Keeps, text_of-only}
 use Rattle.sip_states.specs.Runs.{Wait, IsAgenda}
-use Rattle.sip_states.specs.KeyMachine.{MachineKind, OfInviteClient, OfPlainClient, OfInviteServer, OfPlainServer, transaction}
+use Rattle.sip_states.specs.KeyMachine.{MachineKind, transaction, coded, is_coded, StateOf}
 use Rattle.sip_states.specs.Meaning.{IsKnown, HasWaited, HasAgenda}
-use Rattle.sip_states.specs.AnySet.{StateOf, coded, meaning_of, moment_of, Waits, IsKnownSet, IsAgendaOf}
+use Rattle.sip_states.specs.AnySet.{meaning_of, moment_of, Waits, IsKnownSet, IsAgendaOf}
 use Rattle.sip_states.specs.Sweep.{numbers_of, IsAdvanced}
 use Rattle.sip_states.specs.declared.any_set.AnySet.{AnySet}
 use Rattle.sip_states.proofs.Listed.{Contains-map, Contains-from_map}
@@ -26,8 +22,8 @@ use Rattle.sip_states.proofs.Twice.{Wait-twice}
 use Rattle.sip_verdict.specs.inner.Leads.{Leads}
 use Rattle.sip_verdict.specs.inner.TablesTracking.{LeadsOf}
 use Rattle.sip_verdict.proofs.Leading.{iff_trans, Leads-book}
-use Rattle.sip_verdict.proofs.ByMachine.{some_machine, lawful_of, moment_is, of_set, to_set, of_sets, seen_by_names_of}
-use Rattle.sip_verdict.proofs.NamedLemmas.{numbers_are, Contains-flat_map}
+use Rattle.sip_states.proofs.ByMachine.{some_machine, lawful_of, moment_is, numbers_are, of_set, to_set, of_sets, seen_by_names_of}
+use Rattle.sip_verdict.proofs.NamedLemmas.{Contains-flat_map}
 
 -- once a set that leads has waited, it leads
 pub waited_leads : {X S : Type 0} (names : S → List ℕ) (InRange : S → Type 0) (seen : Texts → S → X) (texts : Texts) (r : Rules X) → IsLawful r → (events : List Heard) (at moment : ℕ) (old new : List S) → at ≤ moment
@@ -126,27 +122,12 @@ agenda_waited {X} names InRange seen texts r lawful at moment old new low stand 
     let lasts = agenda n (omega (arith, low, later)) in
     (λ some. lasts.0 (some.0, (same some.0).0 some.1), λ within. let some = lasts.1 within in (some.0, (same some.0).1 some.1))
 
--- the timers of a phase do not depend on it
-phase_window : (machine : MachineKind) (p : Times) (a b : Texts) (x : (coded machine).Code)
-    → (transaction machine).figure.window p ((coded machine).seen a x) ≡ (transaction machine).figure.window p ((coded machine).seen b x)
-phase_window OfInviteClient p a b x = invite_client_window_same a b p x
-phase_window OfPlainClient p a b x = plain_client_window_same a b p x
-phase_window OfInviteServer p a b x = invite_server_window_same a b p x
-phase_window OfPlainServer p a b x = plain_server_window_same a b p x
-
-phase_closes : (machine : MachineKind) (p : Times) (a b : Texts) (x : (coded machine).Code)
-    → (transaction machine).figure.closes p ((coded machine).seen a x) ≡ (transaction machine).figure.closes p ((coded machine).seen b x)
-phase_closes OfInviteClient p a b x = invite_client_closes_same a b p x
-phase_closes OfPlainClient p a b x = plain_client_closes_same a b p x
-phase_closes OfInviteServer p a b x = invite_server_closes_same a b p x
-phase_closes OfPlainServer p a b x = plain_server_closes_same a b p x
-
--- nor do those of a state
+-- the timers of a state do not depend on it
 window_of : (machine : MachineKind) (p : Times) (a b : Texts) (x : StateOf machine) → ((meaning_of machine).rules p).window ((meaning_of machine).seen a x) ≡ ((meaning_of machine).rules p).window ((meaning_of machine).seen b x)
-window_of machine p a b x = window_same (transaction machine).figure (coded machine).seen a b p x (phase_window machine p a b x.phase)
+window_of machine p a b x = window_same (transaction machine).figure (coded machine).seen a b p x ((is_coded machine).window_same a b p x.phase)
 
 until_of : (machine : MachineKind) (p : Times) (a b : Texts) (x : StateOf machine) → ((meaning_of machine).rules p).until ((meaning_of machine).seen a x) ≡ ((meaning_of machine).rules p).until ((meaning_of machine).seen b x)
-until_of machine p a b x = until_same (transaction machine).figure (coded machine).seen a b p x (phase_closes machine p a b x.phase)
+until_of machine p a b x = until_same (transaction machine).figure (coded machine).seen a b p x ((is_coded machine).closes_same a b p x.phase)
 
 -- so the last moment on record stays that of the set
 pub swept_agenda : (texts : Texts) → IsBook texts → (moment : ℕ) (old new : AnySet) → moment_of old ≤ moment → IsAdvanced moment old new

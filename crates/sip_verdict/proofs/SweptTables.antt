@@ -19,9 +19,9 @@ use Rattle.sip_verdict.specs.Keyed.{Observation, events_of}
 use Rattle.sip_verdict.specs.MessageReading.{key_machines}
 use Rattle.sip_verdict.specs.inner.Tracking.{IsReady, Tracks}
 use Rattle.sip_verdict.specs.inner.TablesTracking.{key_keeping, transactions_of, TablesTrack, MayPass, IsOnRecord, AllAreOnRecord}
-use Rattle.sip_verdict.proofs.ByMachine.{some_machine, moment_is, of_set, to_set, of_sets}
+use Rattle.sip_states.proofs.ByMachine.{some_machine, moment_is, numbers_are, of_set, to_set, of_sets}
 use Rattle.sip_verdict.proofs.TablesPassing.{at_place, All-place, All-places, zip-place, place-zip, keys_are}
-use Rattle.sip_verdict.proofs.NamedLemmas.{numbers_are, Contains-flat_map, Contains-from_flat_map}
+use Rattle.sip_verdict.proofs.NamedLemmas.{Contains-flat_map, Contains-from_flat_map}
 use Rattle.sip_verdict.proofs.SweptSets.{swept_leads, swept_agenda}
 
 -- numbers that were appended to none

@@ -10,7 +10,7 @@ use Rattle.sip_key.specs.inner.KeyLaws.{same_key-decides}
 use Rattle.sip_machine.specs.Times.{Times}
 use Rattle.sip_machine.specs.Texts.{Texts, Keeps}
 use Rattle.sip_machine.specs.Heard.{heard}
-use Rattle.sip_states.specs.KeyMachine.{machine_of_key}
+use Rattle.sip_states.specs.KeyMachine.{machine_of_key, start_is}
 use Rattle.sip_states.specs.Meaning.{IsKnown}
 use Rattle.sip_states.specs.AnySet.{moment_of, IsKnownSet, start_of}
 use Rattle.sip_states.specs.Tables.{Tabled, Touches, with_key}
@@ -25,7 +25,7 @@ use Rattle.sip_verdict.specs.inner.TablesTracking.{LeadsOf, key_keeping, transac
 use Rattle.sip_verdict.specs.inner.Concerned.{each}
 use Rattle.sip_verdict.proofs.Keys.{IsExact}
 use Rattle.sip_verdict.proofs.Leading.{Leads-start}
-use Rattle.sip_verdict.proofs.ByMachine.{first_of, first_is_of, first_knows, start_is, moment_is, to_set}
+use Rattle.sip_states.proofs.ByMachine.{first_of, first_is_of, first_knows, moment_is, to_set}
 use Rattle.sip_verdict.proofs.TablesPassing.{keys_are, among_first, among_rest}
 use Rattle.sip_verdict.proofs.TrackingLemmas.{AreKept, kept_touched}
 

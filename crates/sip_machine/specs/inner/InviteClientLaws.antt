@@ -1,4 +1,4 @@
-use Rattle.std.specs.Prelude.{◌≡◌, ◌≤◌, ◌*◌, ℕ, Bool, true, false, Option, None, Some, [], ◌∷◌, All, Contains, if◌then◌else◌}
+use Rattle.std.specs.Prelude.{◌≡◌, ◌≤◌, ◌*◌, ℕ, Bool, true, false, None, [], ◌∷◌, All, Contains, map, if◌then◌else◌}
 use Rattle.std.proofs.Common.{refl, ap, inl, inr, arith}
 use Rattle.std.proofs.lemmas.Bool.Decides.{nat_tests}
 use Rattle.std.proofs.lemmas.List.Elements.{All-nil}
@@ -14,7 +14,8 @@ use Rattle.sip_machine.specs.Texts.{Texts, IsBook, text_of}
 use Rattle.sip_machine.specs.Heard.{Heard}
 use Rattle.sip_machine.specs.Rules.{Knows}
 use Rattle.sip_machine.specs.Figure.{IsFigure, After}
-use Rattle.sip_machine.specs.InviteClient.{InviteClientPhase, Idle, Calling, Proceeding, Accepted, Completed, Ended, Receives, Sends, closes, timer_window, timer_b, timer_m, invite_client, invite_client_seen, invite_client_names}
+use Rattle.sip_machine.specs.InviteClient.{InviteClientPhase, Idle, Calling, Proceeding, Completed, Receives, Sends, closes, timer_window, timer_b, timer_m, invite_client, invite_client_messages, invite_client_seen, invite_client_names, invite_client_coded}
+use Rattle.sip_machine.specs.inner.Coded.{IsCoded}
 use Rattle.sip_machine.specs.inner.MessageLaws.{option_exact, message_apart}
 use Rattle.sip_machine.specs.inner.WaitingLaws.{waiting_exact, waiting_apart, waiting_by_names, timer_starts, repeat_starts, patience_lasts}
 
@@ -104,4 +105,24 @@ invite_client_is_figure =
       ended_stays = λ p. refl;
       received_waits = received;
       sent_waits = sent;
+    }
+
+-- what a phase names is what it stands for
+invite_client_named : (texts : Texts) (x : CodePhase) → invite_client_messages (invite_client_seen texts x) ≡ map (text_of texts) (invite_client_names x)
+invite_client_named texts code.Idle = refl
+invite_client_named texts x = refl
+
+-- the code has it as it is
+pub invite_client_is_coded : IsCoded invite_client invite_client_coded
+invite_client_is_coded =
+    record {
+      is_figure = invite_client_is_figure;
+      by_names = invite_client_by_names;
+      window_same = invite_client_window_same;
+      closes_same = invite_client_closes_same;
+      named = invite_client_named;
+      idle_is = λ texts. refl;
+      idle_names = refl;
+      idle_silent = refl;
+      ended_silent = refl;
     }

@@ -1,4 +1,4 @@
-use Rattle.std.specs.Prelude.{◌≡◌, ◌≤◌, ◌*◌, ℕ, true, All, Contains, min}
+use Rattle.std.specs.Prelude.{◌≡◌, ◌≤◌, ◌*◌, ℕ, true, All, Contains, map, min}
 use Rattle.std.proofs.Common.{refl, ap, inl, inr, arith}
 use Rattle.std.proofs.lemmas.Bool.Decides.{nat_tests}
 use Rattle.sip_machine.specs.declared.event.Kind.{Kind}
@@ -12,7 +12,8 @@ use Rattle.sip_machine.specs.Texts.{Texts, IsBook, text_of}
 use Rattle.sip_machine.specs.Heard.{Heard}
 use Rattle.sip_machine.specs.Rules.{Knows}
 use Rattle.sip_machine.specs.Figure.{IsFigure, After}
-use Rattle.sip_machine.specs.PlainClient.{PlainClientPhase, Idle, Trying, Proceeding, Completed, Ended, Receives, Sends, closes, timer_window, timer_f, timer_k, plain_client, plain_client_seen, plain_client_names}
+use Rattle.sip_machine.specs.PlainClient.{PlainClientPhase, Idle, Trying, Proceeding, Receives, Sends, closes, timer_window, timer_f, timer_k, plain_client, plain_client_messages, plain_client_seen, plain_client_names, plain_client_coded}
+use Rattle.sip_machine.specs.inner.Coded.{IsCoded}
 use Rattle.sip_machine.specs.inner.WaitingLaws.{waiting_exact, waiting_apart, waiting_by_names, timer_starts, repeat_starts, patience_lasts}
 
 -- Laws of the non-INVITE client's phases.
@@ -81,4 +82,24 @@ plain_client_is_figure =
       ended_stays = λ p. refl;
       received_waits = received;
       sent_waits = sent;
+    }
+
+-- what a phase names is what it stands for
+plain_client_named : (texts : Texts) (x : CodePhase) → plain_client_messages (plain_client_seen texts x) ≡ map (text_of texts) (plain_client_names x)
+plain_client_named texts code.Idle = refl
+plain_client_named texts x = refl
+
+-- the code has it as it is
+pub plain_client_is_coded : IsCoded plain_client plain_client_coded
+plain_client_is_coded =
+    record {
+      is_figure = plain_client_is_figure;
+      by_names = plain_client_by_names;
+      window_same = plain_client_window_same;
+      closes_same = plain_client_closes_same;
+      named = plain_client_named;
+      idle_is = λ texts. refl;
+      idle_names = refl;
+      idle_silent = refl;
+      ended_silent = refl;
     }

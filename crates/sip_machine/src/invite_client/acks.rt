@@ -1,14 +1,15 @@
 //! Which response an ACK is for: the INVITE, the ACK and the responses of the `Book`, read anew.
-ghost use Rattle.std.specs.Prelude.{◌≡◌, ◌↔◌, ◌<◌, IfOk, IsTrue, All};
+ghost use Rattle.std.specs.Prelude.{◌↔◌, ◌<◌, ℕ, List, IfOk, IsTrue, All};
+ghost use Rattle.sip_message.specs.Reads.{Reads};
 ghost use Rattle.sip_machine.specs.Texts.{Keeps, text_of};
-ghost use Rattle.sip_machine.specs.inner.Acks.{Acks, AcksDebt, PaysDebt, FindsFirst};
-ghost use Rattle.sip_machine.specs.inner.Runs.{debts_of};
+ghost use Rattle.sip_machine.specs.inner.Acks.{PaysDebt};
+ghost use Rattle.sip_machine.specs.inner.Runs.{debts_of, FindsFirst};
 
 use crate::book::Book;
 use crate::event::Event;
 use crate::outbox::{Debt, Run};
 use sip_key::is_ack_of;
-use sip_message::{Message, ReadError};
+use sip_message::Message;
 use std::alloc::{AllocError, Global};
 
 /// The index of the first debt of these runs whose message is a response to the INVITE that the event's message is
@@ -16,45 +17,27 @@ use std::alloc::{AllocError, Global};
 pub(crate) fn first_acked(
     alloc: Global,
     book: &Book,
-    invite: u32,
+    request: u32,
     runs: &[Run],
     event: &Event,
 ) -> Result<Option<usize>, AllocError>
     requires ack { Keeps book.now event.now.number }
-    requires invite { Keeps book.now invite }
+    requires invite { Keeps book.now request }
     requires filled { All (λ run. 0 < run.count) runs.now }
     requires debts { All (λ run. Keeps book.now run.debt.message) runs.now }
-    ensures { IfOk result (FindsFirst (PaysDebt book.now (text_of book.now event.now.number) (text_of book.now invite) event.now.moment) (debts_of runs.now)) }
+    ensures { IfOk result (FindsFirst (PaysDebt book.now (text_of book.now event.now.number) (text_of book.now request) event.now.moment) (debts_of runs.now)) }
 {
-    let ack = match Message::read(alloc, book.bytes_of(event.number())) {
-        Ok(ack) => ack,
-        Err(ReadError::Memory) => return Err(AllocError),
-        Err(ReadError::Fault(_)) => return Ok(None),
+    let ack = match book.message(alloc, event.number())? {
+        Some(ack) => ack,
+        None => return Ok(None),
     };
-    let invite = match Message::read(alloc, book.bytes_of(invite)) {
-        Ok(invite) => invite,
-        Err(ReadError::Memory) => return Err(AllocError),
-        Err(ReadError::Fault(_)) => return Ok(None),
+    let invite = match book.message(alloc, request)? {
+        Some(invite) => invite,
+        None => return Ok(None),
     };
-    first_of(alloc, book, &ack, &invite, runs, event.moment())
-}
-
-/// The same, of messages that were read.
-fn first_of(
-    alloc: Global,
-    book: &Book,
-    ack: &Message<'_>,
-    invite: &Message<'_>,
-    runs: &[Run],
-    moment: u64,
-) -> Result<Option<usize>, AllocError>
-    requires filled { All (λ run. 0 < run.count) runs.now }
-    requires debts { All (λ run. Keeps book.now run.debt.message) runs.now }
-    ensures { IfOk result (FindsFirst (AcksDebt book.now ack.now invite.now moment) (debts_of runs.now)) }
-{
     let mut index = 0usize;
     for run in runs {
-        if pays(alloc, book, ack, invite, run.debt, moment)? {
+        if pays(alloc, book, &ack, &invite, run.debt, event.moment())? {
             return Ok(Some(index));
         }
         index = index.checked_add(run.count).ok_or(AllocError)?;
@@ -72,26 +55,13 @@ fn pays(
     moment: u64,
 ) -> Result<bool, AllocError>
     requires { Keeps book.now debt.message }
-    ensures { IfOk result (λ is. IsTrue is ↔ AcksDebt book.now ack.now invite.now moment debt) }
+    ensures { (a i : List ℕ) → Reads a ack.now → Reads i invite.now → IfOk result (λ is. IsTrue is ↔ PaysDebt book.now a i moment debt) }
 {
     if debt.deadline < moment {
         return Ok(false);
     }
-    acks(alloc, ack, invite, book.bytes_of(debt.message))
-}
-
-/// Whether the bytes spell a response to the INVITE that the ACK is for.
-fn acks(
-    alloc: Global,
-    ack: &Message<'_>,
-    invite: &Message<'_>,
-    response: &[u8],
-) -> Result<bool, AllocError>
-    ensures { IfOk result (λ is. IsTrue is ↔ Acks ack.now invite.now response.now) }
-{
-    match Message::read(alloc, response) {
-        Ok(response) => Ok(is_ack_of(ack, invite, &response)),
-        Err(ReadError::Memory) => Err(AllocError),
-        Err(ReadError::Fault(_)) => Ok(false),
+    match book.message(alloc, debt.message)? {
+        Some(response) => Ok(is_ack_of(ack, invite, &response)),
+        None => Ok(false),
     }
 }

@@ -8,9 +8,9 @@ use Rattle.sip_machine.specs.Heard.{Heard, heard, FitsBook}
 use Rattle.sip_machine.specs.Rules.{StandFor}
 use Rattle.sip_states.specs.Runs.{After}
 use Rattle.sip_states.specs.Held.{Held}
-use Rattle.sip_states.specs.KeyMachine.{MachineKind, rules_of, machine_of_key}
+use Rattle.sip_states.specs.KeyMachine.{MachineKind, rules_of, machine_of_key, StateOf, set_of}
 use Rattle.sip_states.specs.Meaning.{Meaning}
-use Rattle.sip_states.specs.AnySet.{StateOf, meaning_of, set_of, moment_of, IsKnownSet, IsAgendaOf}
+use Rattle.sip_states.specs.AnySet.{meaning_of, moment_of, IsKnownSet, IsAgendaOf}
 use Rattle.sip_states.specs.Tables.{Tabled, IsGiven, Touches, with_set, with_record}
 use Rattle.sip_states.specs.declared.any_set.AnySet.{AnySet}
 use Rattle.sip_verdict.specs.declared.passing.Hearing.{Hearing}

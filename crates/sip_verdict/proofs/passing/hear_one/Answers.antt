@@ -1,7 +1,21 @@
-use Rattle.std.proofs.Common.{refl}
+use Rattle.std.proofs.Common.{◌≤◌, ◌-◌, refl, sym, ◌∙◌, subst}
+use Rattle.std.proofs.lemmas.List.{length-set}
+use Rattle.std.proofs.lemmas.List.Elements.{All-set}
+use Rattle.sip_states.specs.AnySet.{moment_of, IsKnownSet}
 use Rattle.sip_verdict.specs.declared.passing.Fate.TheVariants.{Runs, NoRun, TooWide}
+use Rattle.sip_verdict.specs.inner.TablesTracking.{MayPass}
 use Rattle.sip_verdict.proofs.TablesPassing.{settles_leaves}
 use Rattle.sip_verdict.proofs.passing.hear_one.Goals as goal
+
+pub returns-in_ok-settle-in-Runs-clause-may : goal.returns-in_ok-settle-in-Runs-clause-may
+returns-in_ok-settle-in-Runs-clause-may g c =
+    let sets = c.args.tables.now.sets in
+    let index = c.args.number - 1 in
+    subst (λ t. MayPass c.args.book.now t c.args.event.now.moment) (sym c.in_ok-settle-in-Runs.ensures.ok.recorded) (record {
+      order = All-set (λ set. moment_of set ≤ c.args.event.now.moment) sets index c.hear.new.set c.in_ok-hear.ensures.order c.requires.may.order;
+      known = All-set (IsKnownSet c.args.book.now) sets index c.hear.new.set c.in_ok-hear.ensures.known c.requires.may.known;
+      long = length-set sets index c.hear.new.set ∙ c.requires.may.long;
+    })
 
 pub returns-in_ok-settle-in-Runs-clause-heard : goal.returns-in_ok-settle-in-Runs-clause-heard
 returns-in_ok-settle-in-Runs-clause-heard g c = (

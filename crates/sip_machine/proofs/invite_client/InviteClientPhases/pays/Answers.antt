@@ -17,21 +17,17 @@ first_acked-requires-clause-debts c =
 pub returns-in-Some : goal.returns-in-Some
 returns-in-Some c =
     let texts = c.args.book.now in
-    let e = c.args.event.now in
     let s = c.in-Completed in
-    let owes = c.args.owes.now in
     let paid = rw (c.in-Some.is, c.runs.ensures.debts) at c.in_ok-index.ensures in
     rw (s.is, c.remove.ensures)
-    (subst (λ k. HasPaid (Satisfies (Completed s.reliable (text_of texts s.request) s.set) k (heard texts e)) texts e.moment true owes (remove owes c.in-Some.index))
+    (subst (λ k. HasPaid (Satisfies (Completed s.reliable (text_of texts s.request) s.set) k (heard texts c.args.event.now)) texts c.args.event.now.moment true c.args.owes.now (remove c.args.owes.now c.in-Some.index))
     (ap Request (sym c.in-Request-Ack.field-0-is) ∙ c.in-Request-Ack.ensures) paid.1)
 
 pub returns-in-None : goal.returns-in-None
 returns-in-None c =
     let texts = c.args.book.now in
-    let e = c.args.event.now in
     let s = c.in-Completed in
-    let owes = c.args.owes.now in
     let none = rw (c.in-None.is, c.runs.ensures.debts) at c.in_ok-index.ensures in
     rw s.is
-    (subst (λ k. HasPaid (Satisfies (Completed s.reliable (text_of texts s.request) s.set) k (heard texts e)) texts e.moment false owes owes)
+    (subst (λ k. HasPaid (Satisfies (Completed s.reliable (text_of texts s.request) s.set) k (heard texts c.args.event.now)) texts c.args.event.now.moment false c.args.owes.now c.args.owes.now)
     (ap Request (sym c.in-Request-Ack.field-0-is) ∙ c.in-Request-Ack.ensures) (refl, none))

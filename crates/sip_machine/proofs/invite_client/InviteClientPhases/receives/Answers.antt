@@ -1,5 +1,5 @@
 use Rattle.std.specs.Prelude.{◌≡◌, ◌≤◌, ◌↔◌, ℕ, Bool, true, [], ◌∷◌, All}
-use Rattle.std.proofs.Common.{refl, inl, inr, arith}
+use Rattle.std.proofs.Common.{inl, inr, arith}
 use Rattle.sip_machine.specs.declared.event.Kind.{Kind}
 use Rattle.sip_machine.specs.declared.event.Kind.TheVariants.{Response}
 use Rattle.sip_machine.specs.declared.invite_client.InviteClientPhase.TheVariants as code
@@ -15,6 +15,7 @@ use Rattle.sip_machine.specs.InviteClient.{InviteClientPhase, Calling, Proceedin
 use Rattle.sip_machine.specs.inner.Single.{IsTheOne}
 use Rattle.sip_machine.proofs.RepliesLemmas.{Gains-one}
 use Rattle.sip_machine.proofs.invite_client.InviteClientPhases.receives.Goals as goal
+use Rattle.sip_machine.proofs.invite_client.InviteClientPhases.receives.Goals.{in-Calling, in-Proceeding, in-Completed}
 
 -- a final response of 300 to 699 leads to completed, where an ACK for it must be sent
 completes : (p : Times) (texts : Texts) (x : InviteClientPhase) (reliable : Bool) (request set status : ℕ) (k : Kind) (n : NumberedEvent) → Response status ≡ k →
@@ -27,40 +28,34 @@ completes p texts x reliable request set status k n is only known kept fits =
     (Gains-one invite_client_names InviteClientInRange invite_client_seen texts (Receives p x (Response status) (heard texts n)) (code.Completed reliable request set) true n.number
     only known kept fits)
 
-pub returns-in-Calling-3 : goal.returns-in-Calling-3
-returns-in-Calling-3 c =
-    let s = c.in-Calling-3 in
+pub returns-then-is_unsuccessful : goal.returns-then-is_unsuccessful
+returns-then-is_unsuccessful c =
     let texts = c.args._book.now in
     let n = c.args.event.now in
+    let to = completes c.args.self.now texts in
     let unsuccessful = c.is_unsuccessful.ensures.0 c.if-is_unsuccessful.true in
-    rw (s.is, c.moment-set.ensures, c.number.ensures)
-    (completes c.args.self.now texts (Calling (waiting_seen texts s.waiting)) s.waiting.reliable s.waiting.request n.moment c.in-Response.code n.kind n c.in-Response.ensures
-    (λ y. (
-      λ h. elim h [
-        | inl provisional ↦ absurd (omega (arith, provisional.0.1, unsuccessful.0))
-        | inr final ↦ elim final [ inl success ↦ absurd (omega (arith, success.0.1, unsuccessful.0)) | inr one ↦ one.1 ]
-      ],
-      λ e. inr (inr (unsuccessful, e)),
-    ))
-    (rw s.is at c.requires.known) c.requires.fits.keeps c.requires.fits.limit)
-
-pub returns-in-Proceeding-2 : goal.returns-in-Proceeding-2
-returns-in-Proceeding-2 c =
-    let s = c.in-Proceeding-2 in
-    let texts = c.args._book.now in
-    let n = c.args.event.now in
-    let unsuccessful = c.if-is_unsuccessful-2.ensures.0 refl in
-    rw (s.is, c.moment-set.ensures, c.number.ensures)
-    (completes c.args.self.now texts (Proceeding s.reliable (text_of texts s.request) s.cancel) s.reliable s.request n.moment c.in-Response.code n.kind n c.in-Response.ensures
-    (λ y. (λ h. elim h [ inl success ↦ absurd (omega (arith, success.0.1, unsuccessful.0)) | inr one ↦ one.1 ], λ e. inr (unsuccessful, e)))
-    (rw s.is at c.requires.known) c.requires.fits.keeps c.requires.fits.limit)
-
-pub returns-in-Completed : goal.returns-in-Completed
-returns-in-Completed c =
-    let s = c.in-Completed in
-    let texts = c.args._book.now in
-    let n = c.args.event.now in
-    let unsuccessful = c.if-is_unsuccessful-3.ensures.0 refl in
-    rw (s.is, c.number.ensures)
-    (completes c.args.self.now texts (Completed s.reliable (text_of texts s.request) s.set) s.reliable s.request s.set c.in-Response.code n.kind n c.in-Response.ensures
-    (λ y. (λ h. h.1, λ e. (unsuccessful, e))) (rw s.is at c.requires.known) c.requires.fits.keeps (rw s.is at c.requires.in_range))
+    elim c.match-phase.branch [
+      | in-Calling w ↦
+          let s = w.in-Calling in
+          rw (w.phase-is, s.is, c.moment-set.ensures, c.number.ensures)
+          (to (Calling (waiting_seen texts s.waiting)) s.waiting.reliable s.waiting.request n.moment c.in-Response.code n.kind n c.in-Response.ensures
+          (λ y. (
+            λ h. elim h [
+              | inl provisional ↦ absurd (omega (arith, provisional.0.1, unsuccessful.0))
+              | inr final ↦ elim final [ inl success ↦ absurd (omega (arith, success.0.1, unsuccessful.0)) | inr one ↦ one.1 ]
+            ],
+            λ e. inr (inr (unsuccessful, e)),
+          ))
+          (rw s.is at c.requires.known) c.requires.fits.keeps c.requires.fits.limit)
+      | in-Proceeding w ↦
+          let s = w.in-Proceeding in
+          rw (w.phase-is, s.is, c.moment-set.ensures, c.number.ensures)
+          (to (Proceeding s.reliable (text_of texts s.request) s.cancel) s.reliable s.request n.moment c.in-Response.code n.kind n c.in-Response.ensures
+          (λ y. (λ h. elim h [ inl success ↦ absurd (omega (arith, success.0.1, unsuccessful.0)) | inr one ↦ one.1 ], λ e. inr (unsuccessful, e)))
+          (rw s.is at c.requires.known) c.requires.fits.keeps c.requires.fits.limit)
+      | in-Completed w ↦
+          let s = w.in-Completed in
+          rw (w.phase-is, s.is, c.number.ensures)
+          (to (Completed s.reliable (text_of texts s.request) s.set) s.reliable s.request s.set c.in-Response.code n.kind n c.in-Response.ensures
+          (λ y. (λ h. h.1, λ e. (unsuccessful, e))) (rw s.is at c.requires.known) c.requires.fits.keeps (rw s.is at c.requires.in_range))
+    ]

@@ -1,30 +1,51 @@
-use Rattle.sip_message.specs.Reads.{Reads}
-use Rattle.sip_machine.specs.Texts.{text_of}
-use Rattle.sip_machine.specs.inner.Acks.{AcksDebt, PaysDebt}
-use Rattle.sip_machine.specs.inner.Runs.{debts_of}
-use Rattle.sip_machine.proofs.AckLemmas.{IfOk-first, PaysDebt-read, PaysDebt-no_ack, PaysDebt-no_invite}
+use Rattle.std.proofs.Common.{◌+◌, true≢false, sym, ◌∙◌, ap, get_or}
+use Rattle.std.proofs.lemmas.List.{take_all}
+use Rattle.std.proofs.lemmas.List.Elements.{All-more, All-get_or}
+use Rattle.sip_machine.specs.Texts.{Keeps, text_of}
+use Rattle.sip_machine.specs.inner.Acks.{PaysDebt}
+use Rattle.sip_machine.proofs.RunsLemmas.{none, All-each, start_after, first_one, one_less, sum-told}
+use Rattle.sip_machine.proofs.AckLemmas.{Reads-fault}
 use Rattle.sip_machine.proofs.invite_client.acks.first_acked.Goals as goal
 
-pub returns-in-Err-Fault : goal.returns-in-Err-Fault
-returns-in-Err-Fault c =
-    let texts = c.args.book.now in
-    let fault = rw (c.in-Err-Fault.field-0-is, c.bytes_of.ensures, c.number.ensures) at c.in-Err-Fault.ensures in
-    PaysDebt-no_ack texts (text_of texts c.args.event.now.number) (text_of texts c.args.invite) c.args.event.now.moment c.in-Err-Fault.field-0-0 fault (debts_of c.args.runs.now)
+pub returns-in-None : goal.returns-in-None
+returns-in-None c =
+    let fault = rw (c.in-None.is, c.number.ensures) at c.in_ok-ack.ensures in
+    λ k d low pays. Reads-fault (text_of c.args.book.now c.args.event.now.number) fault.0 fault.1 pays.0.0 pays.0.3
 
-pub returns-in-Err-Fault-read : goal.returns-in-Err-Fault-read
-returns-in-Err-Fault-read c =
-    let texts = c.args.book.now in
-    let fault = rw (c.in-Err-Fault-read.field-0-is, c.bytes_of-2.ensures) at c.in-Err-Fault-read.ensures in
-    PaysDebt-no_invite texts (text_of texts c.args.event.now.number) (text_of texts c.args.invite) c.args.event.now.moment c.in-Err-Fault-read.field-0-0 fault (debts_of c.args.runs.now)
+pub returns-in-None-2 : goal.returns-in-None-2
+returns-in-None-2 c =
+    let fault = rw c.in-None-2.is at c.in_ok-invite.ensures in
+    λ k d low pays. Reads-fault (text_of c.args.book.now c.args.request) fault.0 fault.1 pays.0.1 pays.0.4
+
+pub pays-requires : goal.pays-requires
+pays-requires c =
+    All-get_or (λ run. Keeps c.args.book.now run.debt.message) c.args.runs.now c.loop-run.run-index none c.loop-run-test.true c.requires.debts
+
+pub returns-then-branch : goal.returns-then-branch
+returns-then-branch c =
+    let ack = text_of c.args.book.now c.args.event.now.number in
+    let invite = text_of c.args.book.now c.args.request in
+    let P = PaysDebt c.args.book.now ack invite c.args.event.now.moment in
+    let pays = rw c.moment.ensures at c.in_ok-pays.ensures ack invite (rw (c.in-Some.is, c.number.ensures) at c.in_ok-ack.ensures) (rw c.in-Some-2.is at c.in_ok-invite.ensures) in
+    rw c.loop-run.invariant.0 (
+      (one_less c.args.runs.now c.loop-run.run-index c.loop-run-test.true c.requires.filled).0,
+      first_one P c.args.runs.now c.loop-run.run-index none c.loop-run-test.true c.requires.filled c.loop-run.invariant.1 (pays.0 c.if-branch.true),
+    )
+
+pub loop-run-preserved : goal.loop-run-preserved
+loop-run-preserved c =
+    let runs = c.args.runs.now in
+    let at = c.loop-run.run-index in
+    let ack = text_of c.args.book.now c.args.event.now.number in
+    let invite = text_of c.args.book.now c.args.request in
+    let P = PaysDebt c.args.book.now ack invite c.args.event.now.moment in
+    let pays = rw c.moment.ensures at c.in_ok-pays.ensures ack invite (rw (c.in-Some.is, c.number.ensures) at c.in_ok-ack.ensures) (rw c.in-Some-2.is at c.in_ok-invite.ensures) in (
+      sum-told _ c.checked_add.result (c.loop-run.index + (get_or runs at none).count) c.in_ok-index.index c.checked_add.ensures c.in_ok-index.ensures.ok_part
+          ∙ ap (λ n. n + (get_or runs at none).count) c.loop-run.invariant.0 ∙ sym (start_after runs at none c.loop-run-test.true),
+      All-more (λ run. ¬ (P run.debt)) runs at none c.loop-run-test.true c.loop-run.invariant.1 (λ holds. true≢false (sym (pays.1 holds) ∙ c.if-branch.false)),
+    )
 
 pub returns : goal.returns
 returns c =
-    let texts = c.args.book.now in
-    let ack = text_of texts c.args.event.now.number in
-    let invite = text_of texts c.args.invite in
-    let t = c.args.event.now.moment in
-    let reads_ack : Reads ack c.in-Ok.ack = rw (c.bytes_of.ensures, c.number.ensures) at c.in-Ok.ensures in
-    let reads_invite : Reads invite c.in-Ok-read.invite = rw c.bytes_of-2.ensures at c.in-Ok-read.ensures in
-    IfOk-first (AcksDebt texts c.in-Ok.ack c.in-Ok-read.invite t) (PaysDebt texts ack invite t)
-    (PaysDebt-read texts ack invite t c.in-Ok.ack c.in-Ok-read.invite reads_ack reads_invite) (debts_of c.args.runs.now) c.first_of.result
-    (rw c.moment.ensures at c.first_of.ensures)
+    let P = PaysDebt c.args.book.now (text_of c.args.book.now c.args.event.now.number) (text_of c.args.book.now c.args.request) c.args.event.now.moment in
+    All-each (λ debt. ¬ (P debt)) c.args.runs.now (rw (take_all c.loop-run.run-index c.args.runs.now c.loop-run-test.false) at c.loop-run.invariant.1)

@@ -1,0 +1,14 @@
+use Rattle.sip_machine.specs.Texts.{text_of}
+use Rattle.sip_machine.proofs.ProvisionalLemmas.{Is100-read, Is100-fault}
+use Rattle.sip_machine.proofs.provisional.is_100.Goals as goal
+
+pub returns-in-Some : goal.returns-in-Some
+returns-in-Some c =
+    let tells = rw c.start.ensures at c.is_status_100.ensures in
+    let is = Is100-read (text_of c.args.book.now c.args.number) c.in-Some.message (rw c.in-Some.is at c.in_ok-message.ensures) in
+    (λ true. is.0 (tells.0 true), λ spells. tells.1 (is.1 spells))
+
+pub returns-in-None : goal.returns-in-None
+returns-in-None c =
+    let fault = rw c.in-None.is at c.in_ok-message.ensures in
+    (λ no. cc, λ spells. absurd (Is100-fault (text_of c.args.book.now c.args.number) fault.0 fault.1 spells))

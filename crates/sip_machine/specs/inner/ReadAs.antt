@@ -1,0 +1,10 @@
+use Rattle.std.specs.Prelude.{ℕ, Option, None, Some, List}
+use Rattle.sip_message.specs.declared.fault.Fault.{Fault}
+use Rattle.sip_message.specs.Reading.{Reading}
+use Rattle.sip_message.specs.Reads.{Reads}
+use Rattle.sip_message.specs.Faults.{FaultOf}
+
+-- what bytes of a book are read as, none where they have a fault
+abbrev pub IsReadAs : List ℕ → Option Reading → Type 0
+IsReadAs bytes (Some r) = Reads bytes r
+IsReadAs bytes None = (f : Fault) × FaultOf bytes (Some f)

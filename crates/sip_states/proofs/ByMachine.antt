@@ -1,0 +1,70 @@
+-- A set of any machine, as one of its own.
+use Rattle.std.proofs.Common.{◌≡◌, [], ◌∷◌, ◌++◌, ℕ, All, Contains, refl, sym, ap, ◌∙◌, subst}
+use Rattle.std.proofs.lemmas.List.Elements.{All-nil}
+use Rattle.sip_machine.specs.Times.{Times}
+use Rattle.sip_machine.specs.Texts.{Texts, Keeps, text_of}
+use Rattle.sip_machine.specs.Rules.{IsLawful, Knows}
+use Rattle.sip_machine.specs.Transaction.{idle_state}
+use Rattle.sip_machine.specs.inner.FigureLaws.{rules_lawful}
+use Rattle.sip_machine.specs.inner.OwingLaws.{owing_by_names, quiet_stands}
+use Rattle.sip_states.specs.Held.{Held}
+use Rattle.sip_states.specs.KeyMachine.{MachineKind, transaction, coded, is_coded, PhaseOf, rules_of, StateOf, set_of, held_of, held_is, set_is, start_is, start_of_machine, of_machine, to_machine}
+use Rattle.sip_states.specs.Meaning.{Meaning}
+use Rattle.sip_states.specs.AnySet.{meaning_of, OfHeld, OfSet, OfHelds, OfSets, moment_of}
+use Rattle.sip_states.specs.Sweep.{names_of, numbers_of}
+use Rattle.sip_states.specs.declared.any_set.AnySet.{AnySet}
+
+-- its rules are those of its machine
+pub rules_are : (p : Times) (machine : MachineKind) → (meaning_of machine).rules p ≡ rules_of p machine
+rules_are p machine = refl
+
+-- which are lawful
+pub lawful_of : (machine : MachineKind) (p : Times) → IsLawful ((meaning_of machine).rules p)
+lawful_of machine p = rules_lawful (transaction machine).figure (is_coded machine).is_figure p
+
+-- a state stands for the same beside any book that has the messages that it names
+pub seen_by_names_of : (machine : MachineKind) (a b : Texts) (x : StateOf machine)
+    → ((n : ℕ) → Contains ((meaning_of machine).names x) n → text_of a n ≡ text_of b n) → (meaning_of machine).seen a x ≡ (meaning_of machine).seen b x
+seen_by_names_of machine a b x h = owing_by_names (coded machine).names (coded machine).seen a b ((is_coded machine).by_names a b) x h
+
+-- the first state
+abbrev pub first_of : (machine : MachineKind) → StateOf machine
+first_of machine = idle_state (coded machine)
+
+pub first_is_of : (machine : MachineKind) (texts : Texts) (p : Times) → (meaning_of machine).seen texts (first_of machine) ≡ ((meaning_of machine).rules p).first
+first_is_of machine texts p =
+    quiet_stands (coded machine).seen texts (coded machine).idle (transaction machine).figure.idle ((is_coded machine).idle_is texts)
+
+-- it names no message
+pub first_knows : (machine : MachineKind) (texts : Texts) → Knows (meaning_of machine).names texts (first_of machine)
+first_knows machine texts = subst (λ names. All (Keeps texts) (names ++ [])) (sym (is_coded machine).idle_names) (All-nil (Keeps texts))
+
+-- the moment of a set
+pub moment_is : (machine : MachineKind) (s : Held Times (StateOf machine)) → moment_of (set_of machine s) ≡ s.moment
+moment_is machine s = ap (λ (h : (kind : MachineKind) × Held Times (StateOf kind)). h.1.moment) (held_is machine s)
+
+-- the numbers of the messages that it names
+pub numbers_are : (machine : MachineKind) (s : Held Times (StateOf machine)) → numbers_of (set_of machine s) ≡ names_of machine s
+numbers_are machine s = ap (λ (h : (kind : MachineKind) × Held Times (StateOf kind)). names_of h.0 h.1) (held_is machine s)
+
+-- the set that a machine starts with names nothing
+pub start_silent : (p : Times) (machine : MachineKind) → numbers_of (start_of_machine p machine) ≡ []
+start_silent p machine =
+    ap numbers_of (start_is p machine) ∙ numbers_are machine (record { machine = p; moment = 0; states = first_of machine ∷ [] }) ∙ ap (λ names. (names ++ []) ++ []) (is_coded machine).idle_names
+
+-- each set is one of some machine
+pub some_machine : (set : AnySet) → (machine : MachineKind) × (s : Held Times (StateOf machine)) × (set ≡ set_of machine s)
+some_machine set = ((held_of set).0, (held_of set).1, set_is set)
+
+module _ (P : (X M S : Type 0) → Meaning X M S → Held M S → Type 0) where
+  -- what holds of a set of a machine
+  pub of_set : (machine : MachineKind) (s : Held Times (StateOf machine)) → OfSet P (set_of machine s) → P (PhaseOf machine) Times (StateOf machine) (meaning_of machine) s
+  of_set machine s holds = of_machine (OfHeld P) machine s holds
+
+  pub to_set : (machine : MachineKind) (s : Held Times (StateOf machine)) → P (PhaseOf machine) Times (StateOf machine) (meaning_of machine) s → OfSet P (set_of machine s)
+  to_set machine s holds = to_machine (OfHeld P) machine s holds
+
+-- what holds of two of them
+pub of_sets : (P : (X M S : Type 0) → Meaning X M S → Held M S → Held M S → Type 0) (machine : MachineKind) (s : Held Times (StateOf machine)) (new : AnySet) → OfSets P (set_of machine s) new
+    → (t : Held Times (StateOf machine)) × (new ≡ set_of machine t) × P (PhaseOf machine) Times (StateOf machine) (meaning_of machine) s t
+of_sets P machine s new both = of_machine (λ kind held. OfHelds P kind held new) machine s both

@@ -1,7 +1,7 @@
 //! Which key is due, worked out by hand for T1 500, T2 4000, T4 5000 and a tolerance of 50. An INVITE at m
 //! waits for its first response until m + 250, and a 486 at m is sent again by m + 550. Behind a 180 or a
 //! 200 there is no last moment.
-use crate::keys::key;
+use crate::keys::touch;
 use crate::played::{BUSY, Entry, INVITE, OK, RINGING, book, play};
 use sip_machine::{Action, InviteServer, Params};
 use sip_states::{AnySet, StateSet, Tables};
@@ -50,10 +50,7 @@ fn touch_servers<H: BuildHasher + Drop>(
     tables: &mut Tables<H>,
 ) -> Result<(), Fail> {
     for server in SERVERS {
-        if tables.len() >= 2_000_000 {
-            return Err("full".into());
-        }
-        let number = tables.touch(key(rt.alloc(), server)?)?;
+        let number = touch(rt.alloc(), tables, server)??;
         assert_eq!(rt; number, tables.len());
     }
     Ok(())

@@ -6,7 +6,7 @@ ghost use Rattle.sip_machine.specs.Owing.{owing_names};
 ghost use Rattle.sip_machine.specs.InviteServer.{invite_server_names};
 
 use crate::agenda::{put, settle};
-use crate::keys::key;
+use crate::keys::touch;
 use crate::played::{BUSY, Entry, INVITE, OK, RINGING, book, invite, take};
 use sip_machine::{Action, Book, InviteServer, Params};
 use sip_states::{StateSet, Tables, TakeError};
@@ -179,15 +179,12 @@ fn touch_again(
     number: u32,
 ) -> Result<(), Fail> {
     let before = tables.len();
-    if before >= 2_000_000 {
-        return Err("full".into());
-    }
     let due = tables.due(u64::MAX);
-    let touched = tables.touch(key(rt.alloc(), number)?);
+    let touched = touch(rt.alloc(), tables, number)?;
     if touched.is_err() {
         assert_eq!(rt; tables.len(), before);
         assert_eq!(rt; tables.due(u64::MAX), due);
-        assert_eq!(rt; tables.touch(key(rt.alloc(), number)?)?, number);
+        assert_eq!(rt; touch(rt.alloc(), tables, number)??, number);
     }
     assert_eq!(rt; touched?, number);
     Ok(())

@@ -1,8 +1,20 @@
 //! Keys of transactions of each machine.
+ghost use Rattle.std.specs.Prelude.{IfOk};
+ghost use Rattle.sip_states.specs.Tables.{IsGiven};
+
 use sip_key::{Direction, Key, key_of};
 use sip_message::Message;
-use std::alloc::Global;
+use sip_states::Tables;
+use std::alloc::{AllocError, Global};
+use std::hash::BuildHasher;
 use std::test::Fail;
+
+/// The request that begins the transaction of this number.
+fn request(alloc: Global, method: &str, number: u32) -> Result<String, AllocError> {
+    format!(in alloc;
+        "{method} sip:example.com SIP/2.0\r\nVia: SIP/2.0/UDP a.example.com;branch=z9hG4bK{number}\r\nFrom: <sip:bob@example.com>;tag=1\r\nTo: <sip:bob@example.com>\r\nCall-ID: c1@a\r\nCSeq: 1 {method}\r\nContent-Length: 0\r\n\r\n"
+    )
+}
 
 /// The key of a transaction of its own number. By fours the numbers go through the four machines.
 pub(crate) fn key(alloc: Global, number: u32) -> Result<Key, Fail> {
@@ -12,10 +24,22 @@ pub(crate) fn key(alloc: Global, number: u32) -> Result<Key, Fail> {
         2 => (Direction::Received, "INVITE"),
         _ => (Direction::Received, "OPTIONS"),
     };
-    let text = format!(in alloc;
-        "{method} sip:example.com SIP/2.0\r\nVia: SIP/2.0/UDP a.example.com;branch=z9hG4bK{number}\r\nFrom: <sip:bob@example.com>;tag=1\r\nTo: <sip:bob@example.com>\r\nCall-ID: c1@a\r\nCSeq: 1 {method}\r\nContent-Length: 0\r\n\r\n"
-    )?;
+    let text = request(alloc, method, number)?;
     let message = Message::read(alloc, text.as_bytes())?;
-    let key = key_of(alloc, &message, direction)?.ok_or("no key")?;
-    Ok(key)
+    Ok(key_of(alloc, &message, direction)?.ok_or("no key")?)
+}
+
+/// What the tables answer as they touch the key of a transaction of its own number; an error where they are full.
+pub(crate) fn touch<H: BuildHasher + Drop>(
+    alloc: Global,
+    tables: &mut Tables<H>,
+    number: u32,
+) -> Result<Result<u32, AllocError>, Fail>
+    ensures { IfOk result (λ touched. IfOk touched (IsGiven tables.new)) }
+{
+    let key = key(alloc, number)?;
+    if tables.len() >= 2_000_000 {
+        return Err("full".into());
+    }
+    Ok(tables.touch(key))
 }

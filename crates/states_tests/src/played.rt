@@ -24,26 +24,33 @@ pub(crate) const BUSY: u32 = 4;
 
 pub(crate) const OK: u32 = 5;
 
-/// The bytes of a message of the INVITE transaction that begins so.
-fn text_of(alloc: Global, start: &str) -> Result<String, AllocError> {
-    format!(in alloc;
-        "{start}\r\nVia: SIP/2.0/UDP a.example.com;branch=z9hG4bKb1\r\n\
-        From: <sip:bob@example.com>;tag=1\r\nTo: <sip:bob@example.com>;tag=2\r\nCall-ID: c1@a\r\n\
-        CSeq: 1 INVITE\r\nContent-Length: 0\r\n\r\n"
-    )
-}
+/// The messages of the INVITE transaction, in the order of their numbers.
+static TEXTS: [&str; 5] = [
+    "INVITE sip:bob@example.com SIP/2.0\r\nVia: SIP/2.0/UDP a.example.com;branch=z9hG4bKb1\r\n\
+    From: <sip:bob@example.com>;tag=1\r\nTo: <sip:bob@example.com>;tag=2\r\nCall-ID: c1@a\r\n\
+    CSeq: 1 INVITE\r\nContent-Length: 0\r\n\r\n",
+    "SIP/2.0 180 Ringing\r\nVia: SIP/2.0/UDP a.example.com;branch=z9hG4bKb1\r\n\
+    From: <sip:bob@example.com>;tag=1\r\nTo: <sip:bob@example.com>;tag=2\r\nCall-ID: c1@a\r\n\
+    CSeq: 1 INVITE\r\nContent-Length: 0\r\n\r\n",
+    "SIP/2.0 183 Progress\r\nVia: SIP/2.0/UDP a.example.com;branch=z9hG4bKb1\r\n\
+    From: <sip:bob@example.com>;tag=1\r\nTo: <sip:bob@example.com>;tag=2\r\nCall-ID: c1@a\r\n\
+    CSeq: 1 INVITE\r\nContent-Length: 0\r\n\r\n",
+    "SIP/2.0 486 Busy\r\nVia: SIP/2.0/UDP a.example.com;branch=z9hG4bKb1\r\n\
+    From: <sip:bob@example.com>;tag=1\r\nTo: <sip:bob@example.com>;tag=2\r\nCall-ID: c1@a\r\n\
+    CSeq: 1 INVITE\r\nContent-Length: 0\r\n\r\n",
+    "SIP/2.0 200 OK\r\nVia: SIP/2.0/UDP a.example.com;branch=z9hG4bKb1\r\n\
+    From: <sip:bob@example.com>;tag=1\r\nTo: <sip:bob@example.com>;tag=2\r\nCall-ID: c1@a\r\n\
+    CSeq: 1 INVITE\r\nContent-Length: 0\r\n\r\n",
+];
 
 /// The book with all messages of the entries.
 pub(crate) fn book(alloc: Global) -> Result<Book, AllocError> {
     let mut book = Book::new(alloc);
-    book.add(
-        INVITE,
-        text_of(alloc, "INVITE sip:bob@example.com SIP/2.0")?.as_bytes(),
-    )?;
-    book.add(RINGING, text_of(alloc, "SIP/2.0 180 Ringing")?.as_bytes())?;
-    book.add(PROGRESS, text_of(alloc, "SIP/2.0 183 Progress")?.as_bytes())?;
-    book.add(BUSY, text_of(alloc, "SIP/2.0 486 Busy")?.as_bytes())?;
-    book.add(OK, text_of(alloc, "SIP/2.0 200 OK")?.as_bytes())?;
+    book.add(INVITE, TEXTS[0].as_bytes())?;
+    book.add(RINGING, TEXTS[1].as_bytes())?;
+    book.add(PROGRESS, TEXTS[2].as_bytes())?;
+    book.add(BUSY, TEXTS[3].as_bytes())?;
+    book.add(OK, TEXTS[4].as_bytes())?;
     Ok(book)
 }
 

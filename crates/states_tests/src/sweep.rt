@@ -1,9 +1,9 @@
 //! Which messages the sets of tables name, and how long they wait. An INVITE server names the response that it sent last.
-ghost use Rattle.std.specs.Prelude.{◌≤◌, All, IfOk};
+ghost use Rattle.std.specs.Prelude.{◌≡◌, ◌≤◌, [], All, IfOk};
 ghost use Rattle.sip_states.specs.AnySet.{moment_of};
 
 use crate::agenda::put;
-use crate::keys::key;
+use crate::keys::{key, touch};
 use crate::played::{BUSY, Entry, INVITE, OK, PROGRESS, RINGING, book, play};
 use sip_machine::{Action, InviteServer, Params};
 use sip_states::{AnySet, StateSet, Tables};
@@ -34,16 +34,25 @@ static SERVED: &[(u32, &[Entry])] = &[
     ),
 ];
 
+/// Empty tables.
+fn empty(alloc: Global) -> Result<Served, Fail>
+    ensures { IfOk result (λ tables. (tables.keys ≡ []) × (tables.sets ≡ [])) }
+{
+    let params = Params::new(500, 4_000, 5_000, 50).ok_or("refused")?;
+    Ok(Tables::new(alloc, params, BuildHasherDefault::<FoldHasher>::new()))
+}
+
+/// Adds an INVITE server that took the entries.
+fn serve(alloc: Global, tables: &mut Served, server: u32, entries: &[Entry]) -> Result<(), Fail> {
+    let number = touch(alloc, tables, server)??;
+    put(alloc, tables, number, entries)
+}
+
 /// Tables of four INVITE servers: two sent a 180 last, one a 486, and one has sent nothing.
 fn servers(alloc: Global) -> Result<Served, Fail> {
-    let params = Params::new(500, 4_000, 5_000, 50).ok_or("refused")?;
-    let mut tables = Tables::new(alloc, params, BuildHasherDefault::<FoldHasher>::new());
+    let mut tables = empty(alloc)?;
     for &(server, entries) in SERVED {
-        if tables.len() >= 2_000_000 {
-            return Err("full".into());
-        }
-        let number = tables.touch(key(alloc, server)?)?;
-        put(alloc, &mut tables, number, entries)?;
+        serve(alloc, &mut tables, server, entries)?;
     }
     Ok(tables)
 }
@@ -64,15 +73,24 @@ fn names_go_on_after_a_refused_growth(rt: HostRuntime) -> Result<(), Fail> {
     Ok(named?)
 }
 
-/// Tables of one INVITE server that took the entries, and the moment of the last one.
-fn one_server(alloc: Global, entries: &[Entry]) -> Result<(Served, u64), Fail>
-    ensures { IfOk result (λ served. All (λ set. moment_of set ≤ served.1) served.0.sets) }
+/// The set of an INVITE server that took the entries, and the moment of the last one.
+fn served(alloc: Global, entries: &[Entry]) -> Result<(StateSet<InviteServer>, u64), Fail>
+    ensures { IfOk result (λ served. served.0.moment ≤ served.1) }
 {
     let params = Params::new(500, 4_000, 5_000, 50).ok_or("refused")?;
     let mut set = StateSet::start(alloc, InviteServer::new(params))?;
     let last = play(alloc, &mut set, &book(alloc)?, entries)?;
-    let mut tables = Tables::new(alloc, params, BuildHasherDefault::<FoldHasher>::new());
-    let number = tables.touch(key(alloc, 2)?)?;
+    Ok((set, last))
+}
+
+/// Tables of one INVITE server that took the entries, and the moment of the last one.
+fn one_server(alloc: Global, entries: &[Entry]) -> Result<(Served, u64), Fail>
+    ensures { IfOk result (λ served. All (λ set. moment_of set ≤ served.1) served.0.sets) }
+{
+    let (set, last) = served(alloc, entries)?;
+    let key = key(alloc, 2)?;
+    let mut tables = empty(alloc)?;
+    let number = tables.touch(key)?;
     *tables.set_mut(number) = AnySet::InviteServer(set);
     Ok((tables, last))
 }

@@ -2,7 +2,7 @@
 ghost use Rattle.std.specs.Prelude.{◌≡◌, ◌<◌, ◌+◌, length};
 ghost use Rattle.sip_states.specs.Tables.{IsGiven};
 
-use crate::keys::key;
+use crate::keys::touch;
 use sip_machine::Params;
 use sip_states::{AnySet, Tables};
 use std::alloc::Global;
@@ -45,10 +45,7 @@ fn number_of<H: BuildHasher + Drop>(
     tables: &mut Tables<H>,
     number: u32,
 ) -> Result<(u32, bool), Fail> {
-    if tables.len() >= 2_000_000 {
-        return Err("full".into());
-    }
-    let given = tables.touch(key(alloc, number)?)?;
+    let given = touch(alloc, tables, number)??;
     let is_own = match tables.set(given) {
         AnySet::InviteClient(_) => number % 4 == 0,
         AnySet::PlainClient(_) => number % 4 == 1,
@@ -58,30 +55,49 @@ fn number_of<H: BuildHasher + Drop>(
     Ok((given, is_own))
 }
 
+/// Whether the key has its own number, and there are so many.
+fn is_numbered<H: BuildHasher + Drop>(
+    alloc: Global,
+    tables: &mut Tables<H>,
+    number: u32,
+    count: u32,
+) -> Result<bool, Fail> {
+    Ok(number_of(alloc, tables, number)? == (number, true) && tables.len() == count)
+}
+
 /// 200 keys have numbers from 1 on, and each has its own when it comes again.
 fn numbers_200_keys<H: BuildHasher + Drop>(
     rt: &(impl Abort + AllocGlobal),
-    hasher: H,
+    tables: &mut Tables<H>,
 ) -> Result<(), Fail> {
-    let params = Params::new(500, 4_000, 5_000, 50).ok_or("refused")?;
-    let mut tables = Tables::new(rt.alloc(), params, hasher);
     for number in 1..201 {
-        assert_eq!(rt; number_of(rt.alloc(), &mut tables, number)?, (number, true));
-        assert_eq!(rt; tables.len(), number);
+        assert!(rt;
+            is_numbered(rt.alloc(), tables, number, number)?,
+            "key {number}"
+        );
     }
     for number in 1..201 {
-        assert_eq!(rt; number_of(rt.alloc(), &mut tables, number)?, (number, true));
-        assert_eq!(rt; tables.len(), 200);
+        assert!(rt;
+            is_numbered(rt.alloc(), tables, number, 200)?,
+            "key {number} again"
+        );
     }
     Ok(())
 }
 
+/// Empty tables with a hasher.
+fn tables_with<H: BuildHasher + Drop>(alloc: Global, hasher: H) -> Result<Tables<H>, Fail> {
+    let params = Params::new(500, 4_000, 5_000, 50).ok_or("refused")?;
+    Ok(Tables::new(alloc, params, hasher))
+}
+
 #[test]
 fn numbers_keys_by_a_hash(rt: HostRuntime) -> Result<(), Fail> {
-    numbers_200_keys(&rt, BuildHasherDefault::<FoldHasher>::new())
+    let hasher = BuildHasherDefault::<FoldHasher>::new();
+    numbers_200_keys(&rt, &mut tables_with(rt.alloc(), hasher)?)
 }
 
 #[test]
 fn numbers_keys_that_hash_alike(rt: HostRuntime) -> Result<(), Fail> {
-    numbers_200_keys(&rt, AllZero)
+    numbers_200_keys(&rt, &mut tables_with(rt.alloc(), AllZero)?)
 }

@@ -2,6 +2,7 @@
 ghost use Rattle.std.specs.Prelude.{◌≡◌, ◌↔◌, [], IsTrue};
 ghost use Rattle.sip_key.specs.Solid.{solid};
 ghost use Rattle.sip_message.specs.ValueParts.{start_parts};
+ghost use Rattle.sip_message.specs.Reading.{Reading};
 ghost use Rattle.sip_key.specs.AckOf.{IsAckLine, IsAckOf, SameSolid, route};
 
 use crate::solid::{next_solid, same_solid};
@@ -14,10 +15,16 @@ use std::marker::Model;
 pub fn is_ack_of(ack: &Message<'_>, invite: &Message<'_>, response: &Message<'_>) -> bool
     ensures { IsTrue result ↔ IsAckOf ack.now invite.now response.now }
 {
+    same_solid(ack.to().whole, response.to().whole) && is_ack_for(ack, invite)
+}
+
+/// The same for every response whose To is that of the first message but for blanks.
+pub fn is_ack_for(ack: &Message<'_>, invite: &Message<'_>) -> bool
+    ensures { (response : Reading) → SameSolid ack.now.parts.to.0 response.parts.to.0 → IsTrue result ↔ IsAckOf ack.now invite.now response }
+{
     is_ack_line(ack.start(), invite.start())
         && ack.call_id() == invite.call_id()
         && same_solid(ack.from().whole, invite.from().whole)
-        && same_solid(ack.to().whole, response.to().whole)
         && has_one_via(ack)
         && same_solid(ack.top_via().whole, invite.top_via().whole)
         && ack.cseq().number == invite.cseq().number

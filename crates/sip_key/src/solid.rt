@@ -1,8 +1,9 @@
 //! Texts compared but for their blanks.
-ghost use Rattle.std.specs.Prelude.{◌≡◌, ◌∷◌, ◌↔◌, [], IsTrue, MatchOption};
+ghost use Rattle.std.specs.Prelude.{◌≡◌, ◌∷◌, ◌↔◌, [], IfOk, IsTrue, MatchOption};
 ghost use Rattle.sip_message.specs.Unfold.{is_blank};
 ghost use Rattle.sip_key.specs.Solid.{solid};
 
+use std::alloc::{AllocError, Global};
 use std::marker::Model;
 
 /// Whether the texts are equal without their blanks. It walks both, and takes no memory.
@@ -10,6 +11,19 @@ pub(crate) fn same_solid(a: &[u8], b: &[u8]) -> bool
     ensures { IsTrue result ↔ (solid a.now ≡ solid b.now) }
 {
     Solid { rest: a }.eq(Solid { rest: b })
+}
+
+/// The text without its blanks.
+pub fn solid_of(alloc: Global, text: &[u8]) -> Result<Vec<u8>, AllocError>
+    ensures { IfOk result (λ solid_text. solid_text.items ≡ solid text.now) }
+{
+    let mut out = Vec::with_capacity(alloc, text.len())?;
+    for byte in text {
+        if !is_blank(*byte) {
+            out.push(*byte)?;
+        }
+    }
+    Ok(out)
 }
 
 // The bytes of a text that are no blanks, in order.

@@ -11,5 +11,6 @@ pub mod RunsLemmas
 pub mod RunOrderLemmas
 pub mod ProvisionalLemmas
 pub mod AckLemmas
+pub mod ToLemmas
 pub mod RetainLemmas
 pub mod NamingLemmas

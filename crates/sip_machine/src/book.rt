@@ -1,15 +1,18 @@
 //! The messages of a log, each kept once.
-ghost use Rattle.std.specs.Prelude.{◌≡◌, ◌≢◌, ◌<◌, ◌≤◌, ◌⊎◌, ◌++◌, ◌∷◌, [], ℕ, length, map, MatchOption, IfOk, IfErr, OnOk, OnErr, All, AllPairs};
+ghost use Rattle.std.specs.Prelude.{◌≡◌, ◌≢◌, ◌<◌, ◌≤◌, ◌⊎◌, ◌↔◌, ◌++◌, ◌∷◌, [], ℕ, length, map, MatchOption, IfSome, IfOk, IfErr, OnOk, OnErr, IsTrue, All, AllPairs};
 ghost use Rattle.std.specs.List.{insert, HoldsAt};
 ghost use Rattle.std.specs.List.Sorted.{IsSearchInRange, IsBinarySearchResult};
 ghost use Rattle.sip_machine.specs.Texts.{IsBook, Keeps, text_of};
 ghost use Rattle.sip_machine.specs.Retained.{only};
+ghost use Rattle.sip_message.specs.Reads.{Reads};
 ghost use Rattle.sip_machine.specs.inner.ReadAs.{IsReadAs};
+ghost use Rattle.sip_machine.specs.inner.Tos.{IsToOf};
 ghost use Rattle.sip_machine.specs.inner.Order.{texts_of, hash_of, bytes_at, key_of, compare, begins_by, places_of, index_of, most_places, IsLed, IsInRuns, IsInside, IsGap};
 
 mod retain;
 
-use crate::book::retain::{keep_only, move_all};
+use crate::book::retain::{is_among, keep_only, move_all};
+use sip_key::solid_of;
 use sip_message::{Message, ReadError};
 use std::alloc::{AllocError, Global};
 use std::cmp::Ordering;
@@ -24,6 +27,8 @@ use std::marker::Model;
 pub struct Book {
     kept: Vec<Kept>,
     order: Vec<Run>,
+    /// The To of some of the messages, that of a lower number first.
+    tos: Vec<To>,
 }
 
 /// A message with the number of its first entry.
@@ -31,6 +36,13 @@ pub struct Book {
 struct Kept {
     number: u32,
     bytes: Vec<u8>,
+}
+
+/// The To of the message with this number, without its blanks.
+#[derive(Debug, Drop)]
+struct To {
+    number: u32,
+    text: Vec<u8>,
 }
 
 /// Where a message stands among those that are kept, with the hash of its bytes.
@@ -61,12 +73,13 @@ const MOST: usize = 128;
 impl Model for Book {
     ghost use Rattle.sip_machine.specs.Texts.{Texts, IsBook};
     ghost use Rattle.sip_machine.specs.inner.Order.{texts_of, IsInRuns};
+    ghost use Rattle.sip_machine.specs.inner.Tos.{AreTos};
 
     ghost Value = { Texts };
 
     ghost view = { λ b. texts_of b.kept.items };
 
-    ghost invariant = { λ b. IsBook (texts_of b.kept.items) × IsInRuns (texts_of b.kept.items) b.order.items };
+    ghost invariant = { λ b. IsBook (texts_of b.kept.items) × IsInRuns (texts_of b.kept.items) b.order.items × AreTos (texts_of b.kept.items) b.tos.items };
 }
 
 impl Book {
@@ -77,6 +90,7 @@ impl Book {
         Book {
             kept: Vec::new(alloc),
             order: Vec::new(alloc),
+            tos: Vec::new(alloc),
         }
     }
 
@@ -122,6 +136,46 @@ impl Book {
         }
     }
 
+    /// Whether the message with this number has this To, from which the blanks were taken. It is read anew where
+    /// its To does not stand beside it.
+    pub(crate) fn has_to(&self, alloc: Global, number: u32, to: &[u8]) -> Result<bool, AllocError>
+        requires { Keeps self.now number }
+        ensures { IfOk result (λ has. IsTrue has ↔ IsToOf (text_of self.now number) to.now) }
+    {
+        if let Some(its) = self.to_of(number) {
+            return Ok(its == to);
+        }
+        match self.message(alloc, number)? {
+            Some(message) => Ok(solid_of(alloc, message.to().whole)?.as_slice() == to),
+            None => Ok(false),
+        }
+    }
+
+    /// The To of the message with this number without its blanks, where it stands beside it.
+    fn to_of(&self, number: u32) -> Option<&[u8]>
+        ensures { IfSome result (λ to. IsToOf (text_of self.now number) to.now) }
+    {
+        match self.tos.binary_search_by_key(&number, |to| to.number) {
+            Ok(at) => Some(self.tos[at].text.as_slice()),
+            Err(_) => None,
+        }
+    }
+
+    /// Puts the To of a message beside it, so that no ACK needs to read it anew. Where there is no memory for it,
+    /// all is as before.
+    pub fn keep_to(&mut self, number: u32, message: &Message<'_>)
+        requires kept { Keeps self.old number }
+        requires read { Reads (text_of self.old number) message.now }
+        ensures { self.new ≡ self.old }
+    {
+        if self.tos.last().is_some_and(|to| number <= to.number) {
+            return;
+        }
+        if let Ok(text) = solid_of(*self.kept.allocator(), message.to().whole) {
+            let _ = self.tos.push(To { number, text });
+        }
+    }
+
     /// The number of the first kept message with these bytes; where there is none, they are kept
     /// under the number of their entry, which is above all that are kept.
     pub fn add(&mut self, entry: u32, bytes: &[u8]) -> Result<u32, AllocError>
@@ -156,6 +210,7 @@ impl Book {
     {
         move_all(&mut self.order, &self.kept, numbers);
         keep_only(&mut self.kept, numbers);
+        self.tos.retain(|to| is_among(numbers, to.number));
     }
 }
 

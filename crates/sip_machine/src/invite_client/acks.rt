@@ -1,15 +1,15 @@
-//! Which response an ACK is for: the INVITE, the ACK and the responses of the `Book`, read anew.
-ghost use Rattle.std.specs.Prelude.{◌↔◌, ◌<◌, ℕ, List, IfOk, IsTrue, All};
-ghost use Rattle.sip_message.specs.Reads.{Reads};
+//! Which response an ACK is for: the INVITE and the ACK of the `Book` are read anew, and tell all but the response,
+//! which is told by its To alone.
+ghost use Rattle.std.specs.Prelude.{◌↔◌, ◌<◌, ◌≤◌, IfOk, IsTrue, All};
 ghost use Rattle.sip_machine.specs.Texts.{Keeps, text_of};
 ghost use Rattle.sip_machine.specs.inner.Acks.{PaysDebt};
 ghost use Rattle.sip_machine.specs.inner.Runs.{debts_of, FindsFirst};
+ghost use Rattle.sip_machine.specs.inner.Tos.{IsToOf};
 
 use crate::book::Book;
 use crate::event::Event;
 use crate::outbox::{Debt, Run};
-use sip_key::is_ack_of;
-use sip_message::Message;
+use sip_key::{is_ack_for, solid_of};
 use std::alloc::{AllocError, Global};
 
 /// The index of the first debt of these runs whose message is a response to the INVITE that the event's message is
@@ -35,9 +35,13 @@ pub(crate) fn first_acked(
         Some(invite) => invite,
         None => return Ok(None),
     };
+    if !is_ack_for(&ack, &invite) {
+        return Ok(None);
+    }
+    let to = solid_of(alloc, ack.to().whole)?;
     let mut index = 0usize;
     for run in runs {
-        if pays(alloc, book, &ack, &invite, run.debt, event.moment())? {
+        if pays(alloc, book, &to, run.debt, event.moment())? {
             return Ok(Some(index));
         }
         index = index.checked_add(run.count).ok_or(AllocError)?;
@@ -45,23 +49,19 @@ pub(crate) fn first_acked(
     Ok(None)
 }
 
-/// Whether the debt's message is a response to the INVITE that the ACK is for, and its deadline has not passed.
+/// Whether the debt's message has this To, from which the blanks were taken, and its deadline has not passed.
 fn pays(
     alloc: Global,
     book: &Book,
-    ack: &Message<'_>,
-    invite: &Message<'_>,
+    to: &[u8],
     debt: Debt,
     moment: u64,
 ) -> Result<bool, AllocError>
     requires { Keeps book.now debt.message }
-    ensures { (a i : List ℕ) → Reads a ack.now → Reads i invite.now → IfOk result (λ is. IsTrue is ↔ PaysDebt book.now a i moment debt) }
+    ensures { IfOk result (λ is. IsTrue is ↔ (IsToOf (text_of book.now debt.message) to.now × (moment ≤ debt.deadline))) }
 {
     if debt.deadline < moment {
         return Ok(false);
     }
-    match book.message(alloc, debt.message)? {
-        Some(response) => Ok(is_ack_of(ack, invite, &response)),
-        None => Ok(false),
-    }
+    book.has_to(alloc, debt.message, to)
 }

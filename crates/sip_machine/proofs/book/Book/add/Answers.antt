@@ -1,5 +1,7 @@
-use Rattle.std.proofs.Common.{◌∙◌, sym}
-use Rattle.sip_machine.specs.inner.Order.{places_of, index_of}
+use Rattle.std.proofs.Common.{◌∙◌, sym, subst}
+use Rattle.sip_machine.specs.inner.Order.{texts_of, places_of, index_of}
+use Rattle.sip_machine.specs.inner.Tos.{AreTos}
+use Rattle.sip_machine.proofs.ToLemmas.{AreTos-grow}
 use Rattle.sip_machine.proofs.TextLaws.{text_of-kept, Keeps-added, text_of-added}
 use Rattle.sip_machine.proofs.OrderLaws.{bytes_at-kept, IsKept-grow, by_result}
 use Rattle.sip_machine.proofs.book.Book.add.Goals as goal
@@ -13,9 +15,10 @@ invariant_of-self-in-Err c =
     (λ grows.
     let grown = IsKept-grow kept c.put.new.kept.items (places_of runs) (places_of c.put.new.runs.items) c.args.entry c.hash-hash.result c.args.bytes.now
     (index_of runs c.in-Err.gap) c.hash-hash.ensures (c.self.invariant.0, c.self.invariant.1.order) (rw c.self.view_is c.requires) gap grows in
-    (grown.0, record { order = grown.1; led = c.put.ensures.led; short = c.put.ensures.short }))
+    (grown.0, record { order = grown.1; led = c.put.ensures.led; short = c.put.ensures.short },
+    subst (λ ts. AreTos ts c.self.inside.tos.items) (sym grows.0) (AreTos-grow (texts_of kept) c.args.entry c.args.bytes.now c.self.inside.tos.items c.self.invariant.2)))
     (λ same.
-    (rw same.0 c.self.invariant.0, record { order = rw (same.0, same.1) c.self.invariant.1.order; led = c.put.ensures.led; short = c.put.ensures.short }))
+    (rw same.0 c.self.invariant.0, record { order = rw (same.0, same.1) c.self.invariant.1.order; led = c.put.ensures.led; short = c.put.ensures.short }, rw same.0 c.self.invariant.2))
 
 pub returns-in-Ok-clause-ok : goal.returns-in-Ok-clause-ok
 returns-in-Ok-clause-ok c =

@@ -12,8 +12,9 @@ ghost use Rattle.sip_machine.specs.inner.Order.{texts_of, hash_of, bytes_at, key
 mod retain;
 
 use crate::book::retain::{is_among, keep_only, move_all};
+use crate::event::is_unsuccessful;
 use sip_key::solid_of;
-use sip_message::{Message, ReadError};
+use sip_message::{Message, ReadError, StartLine};
 use std::alloc::{AllocError, Global};
 use std::cmp::Ordering;
 use std::hash::{FoldHasher, Hasher};
@@ -161,14 +162,14 @@ impl Book {
         }
     }
 
-    /// Puts the To of a message beside it, so that no ACK needs to read it anew. Where there is no memory for it,
-    /// all is as before.
+    /// Puts the To of a message beside it where an ACK is owed for it, so that no ACK reads it anew. Where there is
+    /// no memory for the To, all is as before.
     pub fn keep_to(&mut self, number: u32, message: &Message<'_>)
         requires kept { Keeps self.old number }
         requires read { Reads (text_of self.old number) message.now }
         ensures { self.new ≡ self.old }
     {
-        if self.tos.last().is_some_and(|to| number <= to.number) {
+        if !is_refusal(message) || self.tos.last().is_some_and(|to| number <= to.number) {
             return;
         }
         if let Ok(text) = solid_of(*self.kept.allocator(), message.to().whole) {
@@ -211,6 +212,16 @@ impl Book {
         move_all(&mut self.order, &self.kept, numbers);
         keep_only(&mut self.kept, numbers);
         self.tos.retain(|to| is_among(numbers, to.number));
+    }
+}
+
+/// Whether the message refuses an INVITE: each that does is owed an ACK.
+fn is_refusal(message: &Message<'_>) -> bool {
+    match message.start() {
+        StartLine::Status { code, .. } => {
+            is_unsuccessful(code) && message.cseq().method == b"INVITE".as_slice()
+        }
+        StartLine::Request { .. } => false,
     }
 }
 

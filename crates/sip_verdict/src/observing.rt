@@ -87,6 +87,7 @@ pub(crate) fn observe(alloc: Global, book: &mut Book, entry: &Entry) -> Result<T
         Err(KeyError::Memory) => return Err(AllocError),
     };
     let number = book.add(entry.number, entry.bytes.as_slice())?;
+    book.keep_to(number, &message);
     let event = Event::of(entry.moment, entry.action, number, &message);
     Ok(Told::Heard { event, concerned })
 }

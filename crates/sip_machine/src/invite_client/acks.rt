@@ -50,13 +50,7 @@ pub(crate) fn first_acked(
 }
 
 /// Whether the debt's message has this To, from which the blanks were taken, and its deadline has not passed.
-fn pays(
-    alloc: Global,
-    book: &Book,
-    to: &[u8],
-    debt: Debt,
-    moment: u64,
-) -> Result<bool, AllocError>
+fn pays(alloc: Global, book: &Book, to: &[u8], debt: Debt, moment: u64) -> Result<bool, AllocError>
     requires { Keeps book.now debt.message }
     ensures { IfOk result (λ is. IsTrue is ↔ (IsToOf (text_of book.now debt.message) to.now × (moment ≤ debt.deadline))) }
 {

@@ -14,9 +14,11 @@ invariant_of-self-in-Err c =
     by_result c.put.result c.put.ensures.ok c.put.ensures.err
     (λ grows.
     let grown = IsKept-grow kept c.put.new.kept.items (places_of runs) (places_of c.put.new.runs.items) c.args.entry c.hash-hash.result c.args.bytes.now
-    (index_of runs c.in-Err.gap) c.hash-hash.ensures (c.self.invariant.0, c.self.invariant.1.order) (rw c.self.view_is c.requires) gap grows in
-    (grown.0, record { order = grown.1; led = c.put.ensures.led; short = c.put.ensures.short },
-    subst (λ ts. AreTos ts c.self.inside.tos.items) (sym grows.0) (AreTos-grow (texts_of kept) c.args.entry c.args.bytes.now c.self.inside.tos.items c.self.invariant.2)))
+    (index_of runs c.in-Err.gap) c.hash-hash.ensures (c.self.invariant.0, c.self.invariant.1.order) (rw c.self.view_is c.requires) gap grows in (
+      grown.0,
+      record { order = grown.1; led = c.put.ensures.led; short = c.put.ensures.short },
+      subst (λ ts. AreTos ts c.self.inside.tos.items) (sym grows.0) (AreTos-grow (texts_of kept) c.args.entry c.args.bytes.now c.self.inside.tos.items c.self.invariant.2),
+    ))
     (λ same.
     (rw same.0 c.self.invariant.0, record { order = rw (same.0, same.1) c.self.invariant.1.order; led = c.put.ensures.led; short = c.put.ensures.short }, rw same.0 c.self.invariant.2))
 

@@ -2,11 +2,9 @@
 use Rattle.std.specs.Prelude.{◌≡◌, ◌<◌, ◌↔◌, ℕ, Bool, true, false, IsTrue, bytes_eq, List, [], ◌∷◌, ◌++◌, All, AllPairs, Contains, if◌then◌else◌, length}
 use Rattle.std.specs.List.{items_where_true}
 use Rattle.std.specs.Cmp.Lexicographic.{bytes_decides}
-use Rattle.std.proofs.Common.{refl, sym, ◌∙◌, ap, subst, arith, get_or}
+use Rattle.std.proofs.Common.{sym, ◌∙◌, ap, subst, get_or}
 use Rattle.std.proofs.lemmas.Grind.{get_or_picked}
 use Rattle.std.proofs.lemmas.List.Elements.{All-push, All-weaker}
-use Rattle.sip_message.specs.Reading.{Reading}
-use Rattle.sip_message.specs.Reads.{Reads}
 use Rattle.sip_message.proofs.lemmas.message.Views.{same_reading}
 use Rattle.sip_key.specs.Solid.{solid}
 use Rattle.sip_machine.specs.Texts.{Texts, IsBook, Keeps, text_of}

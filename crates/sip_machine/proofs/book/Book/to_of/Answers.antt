@@ -1,10 +1,8 @@
-use Rattle.std.proofs.Common.{◌∙◌, sym, rules, subst}
+use Rattle.std.proofs.Common.{sym, rules}
 use Rattle.std.specs.declared.cmp.Ordering.TheVariants.{Equal}
 use Rattle.std.proofs.lemmas.Cmp.{ranked}
 use Rattle.std.proofs.lemmas.List.Sorted.{answers_always}
-use Rattle.sip_machine.specs.Texts.{text_of}
 use Rattle.sip_machine.specs.inner.Order.{texts_of}
-use Rattle.sip_machine.specs.inner.Tos.{IsToOf}
 use Rattle.sip_machine.proofs.ToLemmas.{to_at}
 use Rattle.sip_machine.proofs.book.Book.to_of.Goals as goal
 

@@ -19,22 +19,26 @@ returns-in-Err-NoCookie-clause-observed c es =
 pub of-event-requires-clause-action : goal.of-event-requires-clause-action
 of-event-requires-clause-action c = going c.args.entry.now.action c.in-Some.direction (sym c.direction_of.ensures ∙ c.in-Some.is)
 
+pub keep_to-requires-clause-read : goal.keep_to-requires-clause-read
+keep_to-requires-clause-read c = rw (c.in_ok-number.ensures.ok.1, c.as_slice-2.ensures.value, ← c.as_slice.ensures.value) c.in-Ok.ensures
+
 pub returns-clause-observed : goal.returns-clause-observed
 returns-clause-observed c es =
     let i = item c.args.entry.now in
-    observes es i _ c.in-Some.direction (sym c.direction_of.ensures ∙ c.in-Some.is)
+    rw c.keep_to.ensures (observes es i _ c.in-Some.direction (sym c.direction_of.ensures ∙ c.in-Some.is)
     (observes_heard i c.in-Some.direction c.as_slice.result.now c.in-Ok.message c.add.new.self c.of-event.result c.in_ok-number.number (each c.in-Ok-keys_of.concerned)
-    c.as_slice.ensures.value c.in-Ok.ensures c.in-Ok-keys_of.ensures.0 c.in-Ok-keys_of.ensures.1 c.of-event.ensures (c.in_ok-number.ensures.ok.1 ∙ c.as_slice-2.ensures.value))
+    c.as_slice.ensures.value c.in-Ok.ensures c.in-Ok-keys_of.ensures.0 c.in-Ok-keys_of.ensures.1 c.of-event.ensures (c.in_ok-number.ensures.ok.1 ∙ c.as_slice-2.ensures.value)))
 
 pub returns-clause-heard : goal.returns-clause-heard
 returns-clause-heard c =
     let fits = event_fits (item c.args.entry.now) c.in-Ok.message c.add.new.self c.of-event.result c.in_ok-number.number c.of-event.ensures c.in_ok-number.ensures.ok.0 c.requires.limit in
-    (fits.0, fits.1, c.in-Ok-keys_of.ensures.2)
+    rw c.keep_to.ensures (fits.0, fits.1, c.in-Ok-keys_of.ensures.2)
 
 pub returns-clause-kept : goal.returns-clause-kept
 returns-clause-kept c =
     let i = item c.args.entry.now in
-    let kept = event_kept i c.in-Ok.message c.add.new.self c.of-event.result c.in_ok-number.number _ c.of-event.ensures c.in_ok-number.ensures.ok.0 (c.in_ok-number.ensures.ok.1 ∙ c.as_slice-2.ensures.value) in (
+    let kept = event_kept i c.in-Ok.message c.add.new.self c.of-event.result c.in_ok-number.number _ c.of-event.ensures c.in_ok-number.ensures.ok.0 (c.in_ok-number.ensures.ok.1 ∙ c.as_slice-2.ensures.value) in
+    rw c.keep_to.ensures (
       going_says i.action c.in-Some.direction (sym c.direction_of.ensures ∙ c.in-Some.is),
       kept.0,
       kept.1,

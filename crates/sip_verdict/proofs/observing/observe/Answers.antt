@@ -7,24 +7,34 @@ use Rattle.sip_verdict.proofs.observing.observe.Goals as goal
 pub returns-in-Err-Fault-clause-observed : goal.returns-in-Err-Fault-clause-observed
 returns-in-Err-Fault-clause-observed c es =
     let i = item c.args.entry.now in
-    rw c.in-Err-Fault.fault-is (observes es i _ c.in-Some.direction (sym c.direction_of.ensures ∙ c.in-Some.is)
-    (observes_fault i c.in-Some.direction c.as_slice.result.now _ c.as_slice.ensures.value (rw c.in-Err-Fault.field-0-is at c.in-Err-Fault.ensures)))
+    rw c.in-Err-Fault.fault-is (
+      _,
+      observes es i _ c.in-Some.direction (sym c.direction_of.ensures ∙ c.in-Some.is)
+          (observes_fault i c.in-Some.direction c.as_slice.result.now _ c.as_slice.ensures.value (rw c.in-Err-Fault.field-0-is at c.in-Err-Fault.ensures)),
+      refl,
+    )
 
 pub returns-in-Err-NoCookie-clause-observed : goal.returns-in-Err-NoCookie-clause-observed
 returns-in-Err-NoCookie-clause-observed c es =
-    let i = item c.args.entry.now in
-    observes es i _ c.in-Some.direction (sym c.direction_of.ensures ∙ c.in-Some.is)
-    (observes_no_cookie i c.in-Some.direction c.as_slice.result.now c.in-Ok.message c.as_slice.ensures.value c.in-Ok.ensures (rw c.in-Err-NoCookie.field-0-is at c.in-Err-NoCookie.ensures))
+    let i = item c.args.entry.now in (
+      _,
+      observes es i _ c.in-Some.direction (sym c.direction_of.ensures ∙ c.in-Some.is)
+          (observes_no_cookie i c.in-Some.direction c.as_slice.result.now c.in-Ok.message c.as_slice.ensures.value c.in-Ok.ensures (rw c.in-Err-NoCookie.field-0-is at c.in-Err-NoCookie.ensures)),
+      refl,
+    )
 
 pub of-event-requires-clause-action : goal.of-event-requires-clause-action
 of-event-requires-clause-action c = going c.args.entry.now.action c.in-Some.direction (sym c.direction_of.ensures ∙ c.in-Some.is)
 
 pub returns-clause-observed : goal.returns-clause-observed
 returns-clause-observed c es =
-    let i = item c.args.entry.now in
-    observes es i _ c.in-Some.direction (sym c.direction_of.ensures ∙ c.in-Some.is)
+    let i = item c.args.entry.now in (
+      _,
+      observes es i _ c.in-Some.direction (sym c.direction_of.ensures ∙ c.in-Some.is)
     (observes_heard i c.in-Some.direction c.as_slice.result.now c.in-Ok.message c.add.new.self c.of-event.result c.in_ok-number.number (each c.in-Ok-keys_of.concerned)
-    c.as_slice.ensures.value c.in-Ok.ensures c.in-Ok-keys_of.ensures.0 c.in-Ok-keys_of.ensures.1 c.of-event.ensures (c.in_ok-number.ensures.ok.1 ∙ c.as_slice-2.ensures.value))
+    c.as_slice.ensures.value c.in-Ok.ensures c.in-Ok-keys_of.ensures.0 c.in-Ok-keys_of.ensures.1 c.of-event.ensures (c.in_ok-number.ensures.ok.1 ∙ c.as_slice-2.ensures.value)),
+      refl,
+    )
 
 pub returns-clause-heard : goal.returns-clause-heard
 returns-clause-heard c =

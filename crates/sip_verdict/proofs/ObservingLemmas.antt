@@ -32,6 +32,10 @@ pub observes : (before : List (Observation KeyParts)) (item : Item) (e : Observa
     → message_reading.Observes before item e
 observes before item e direction goes seen = subst (λ d. MatchOption d (e ≡ mark_observation item.moment) (λ way. ObservesMessage way item e)) (sym goes) seen
 
+-- what is observed of a mark
+pub observes_mark : (before : List (Observation KeyParts)) (item : Item) → direction_of item.action ≡ None → message_reading.Observes before item (mark_observation item.moment)
+observes_mark before item stays = subst (λ d. MatchOption d (mark_observation item.moment ≡ mark_observation item.moment) (λ way. ObservesMessage way item (mark_observation item.moment))) (sym stays) refl
+
 -- an entry whose message went some way is no mark
 pub going : (action : Action) (direction : Direction) → direction_of action ≡ Some direction → action ≡ Mark → ⊥
 going action direction goes mark = let e : None ≡ Some direction = sym (ap direction_of mark) ∙ goes in cc
@@ -51,6 +55,11 @@ observes_fault item direction text fault same has = has_fault fault (subst (λ t
 pub observes_no_cookie : (item : Item) (direction : Direction) (text : List ℕ) (r : message.Reading) → text ≡ item.text → Reads text r → lacks_cookie r direction ≡ true
     → ObservesMessage direction item (fault_observation item no_cookie)
 observes_no_cookie item direction text r same reads lacks = has_no_cookie r (subst (λ t. Reads t r) same reads) lacks refl
+
+-- that it concerns no key
+pub observes_none : (item : Item) (direction : Direction) (text : List ℕ) (r : message.Reading) → text ≡ item.text → Reads text r → lacks_cookie r direction ≡ false → Concerns r direction []
+    → ObservesMessage direction item (message_observation item r [])
+observes_none item direction text r same reads has concerns = is_heard r [] (subst (λ t. Reads t r) same reads) has concerns refl
 
 -- the event of an entry with a message that was read, whose bytes have this number
 abbrev pub event_of : Item → message.Reading → ℕ → NumberedEvent
@@ -128,9 +137,9 @@ none_alike i j same i_says j_says (e, seen, none) =
     let (f, f_seen, f_none) = other_way way direction i j e same (subst (λ d. MatchOption d (e ≡ mark_observation i.moment) (λ way. ObservesMessage way i e)) i_goes seen) none in
     (f, observes [] j f direction j_goes f_seen, f_none)
 
--- an entry of which a key is observed concerns one
-pub concerns_some : (i : Item) (e : Observation KeyParts) → message_reading.Observes [] i e → e.keys ≢ [] → ¬ ConcernsNone i
-concerns_some i e seen some (f, f_seen, none) = some (ap (λ o. o.keys) (observes_one [] i e f seen f_seen) ∙ none)
+-- an entry of which some key is observed concerns one
+pub concerns_some : (i : Item) (keys : List KeyParts) (e : Observation KeyParts) → message_reading.Observes [] i e → e.keys ≡ keys → keys ≢ [] → ¬ ConcernsNone i
+concerns_some i keys e seen are some (f, f_seen, none) = some (sym are ∙ ap (λ o. o.keys) (observes_one [] i e f seen f_seen) ∙ none)
 
 -- those that are some are keys
 pub each_some : {T : Type 0} (c : Concerned T) → c ≢ concerned.None → each c ≢ []

@@ -153,7 +153,7 @@ module _ (verdict : Option Verdict) (old mid last : Texts) (number : ℕ) (bytes
       → (es : List (Observation KeyParts)) → TablesTrack old es t → count ≡ length es + 1
       → (e : Observation KeyParts) × message_reading.Observes es i e × IsJudged (key_machines t.times) (key_keeping last t.times) es e (transactions_of v) verdict × HaveNumbers v.keys [] e.keys
   unheard_judged t v at tells judged es tracks counts =
-      let (e, seen, fine, e_at, none) = tells es in (
+      let (e, seen, (fine, e_at, none)) = tells es in (
         e,
         seen,
         judged es e fine (told_unheard mid t.keys moment e (e_at ∙ at) none)

@@ -84,11 +84,13 @@ pub(crate) fn observe(alloc: Global, book: &mut Book, entry: &Entry) -> Result<T
         Err(ReadError::Memory) => return Err(AllocError),
     };
     let concerned = match keys_of(alloc, &message, direction) {
-        Ok(Concerned::None) => return Ok(Told::Unheard),
         Ok(concerned) => concerned,
         Err(KeyError::NoCookie) => return Ok(Told::Fault(NO_COOKIE)),
         Err(KeyError::Memory) => return Err(AllocError),
     };
+    if let Concerned::None = concerned {
+        return Ok(Told::Unheard);
+    }
     let number = book.add(entry.number, entry.bytes.as_slice())?;
     let event = Event::of(entry.moment, entry.action, number, &message);
     Ok(Told::Heard { event, concerned })

@@ -1,8 +1,22 @@
-use Rattle.std.proofs.Common.{inl, inr, sym, ◌∙◌}
+use Rattle.std.proofs.Common.{[], inl, inr, refl, sym, ap, ◌∙◌}
 use Rattle.sip_log.specs.Told.{item}
+use Rattle.sip_verdict.specs.MessageReading.{mark_observation, message_observation}
 use Rattle.sip_verdict.specs.inner.Concerned.{each}
-use Rattle.sip_verdict.proofs.ObservingLemmas.{going, observes, observes_fault, observes_no_cookie, observes_heard, event_fits, going_says, event_kept}
+use Rattle.sip_verdict.proofs.ObservingLemmas.{going, observes, observes_mark, observes_fault, observes_no_cookie, observes_none, observes_heard, concerns_some, each_some, event_fits, going_says, event_kept}
 use Rattle.sip_verdict.proofs.observing.observe.Goals as goal
+
+pub returns-in_default-clause-observed : goal.returns-in_default-clause-observed
+returns-in_default-clause-observed c es = let i = item c.args.entry.now in (mark_observation i.moment, observes_mark es i (sym c.direction_of.ensures ∙ c.in_default.is), (refl, refl, refl))
+
+pub returns-in-None-clause-observed : goal.returns-in-None-clause-observed
+returns-in-None-clause-observed c es =
+    let i = item c.args.entry.now in
+    let keys = rw c.in-None.is at c.in-Ok-keys_of.ensures in (
+      message_observation i c.in-Ok.message [],
+      observes es i _ c.in-Some.direction (sym c.direction_of.ensures ∙ c.in-Some.is)
+          (observes_none i c.in-Some.direction c.as_slice.result.now c.in-Ok.message c.as_slice.ensures.value c.in-Ok.ensures keys.0 keys.1),
+      (refl, refl, refl),
+    )
 
 pub returns-in-Err-Fault-clause-observed : goal.returns-in-Err-Fault-clause-observed
 returns-in-Err-Fault-clause-observed c es =
@@ -44,8 +58,10 @@ returns-clause-heard c =
 pub returns-clause-kept : goal.returns-clause-kept
 returns-clause-kept c =
     let i = item c.args.entry.now in
+    let seen = returns-clause-observed c [] in
     let kept = event_kept i c.in-Ok.message c.add.new.self c.of-event.result c.in_ok-number.number _ c.of-event.ensures c.in_ok-number.ensures.ok.0 (c.in_ok-number.ensures.ok.1 ∙ c.as_slice-2.ensures.value) in (
       going_says i.action c.in-Some.direction (sym c.direction_of.ensures ∙ c.in-Some.is),
+      concerns_some i (each c.in-Ok-keys_of.concerned) seen.0 seen.1 (ap (λ o. o.keys) seen.2) (each_some c.in-Ok-keys_of.concerned c.in_default-concerned.not-None),
       kept.0,
       kept.1,
       elim (rw c.as_slice-2.ensures.value at c.in_ok-number.ensures.grows) [ inl h ↦ inl h.0 | inr h ↦ inr h.0 ],

@@ -1,5 +1,5 @@
 //! What is kept of the entries of a log that were judged.
-ghost use Rattle.std.specs.Prelude.{◌≡◌, ◌≢◌, ◌≤◌, ◌<◌, ◌+◌, ◌++◌, ◌∷◌, [], ℕ, None, List, All, AllPairs, IfOk, IfNone, OnOk, length, string_bytes};
+ghost use Rattle.std.specs.Prelude.{◌≡◌, ◌≢◌, ◌≤◌, ◌<◌, ◌+◌, ◌++◌, ◌∷◌, [], ℕ, None, List, All, AllPairs, Contains, IfOk, IfNone, OnOk, length, string_bytes};
 ghost use Rattle.std.specs.Option.{ForSome, option_copied};
 ghost use Rattle.sip_key.specs.Key.{KeyParts};
 ghost use Rattle.sip_machine.specs.Times.{last_moment};
@@ -100,7 +100,7 @@ impl<H: BuildHasher> Standing<H> {
         ensures keys { OnOk result (self.new.tables.keys ≡ self.old.tables.keys) }
         ensures may { OnOk result (MayPass self.new.book self.new.tables moment) }
         ensures recorded { OnOk result (AllAreOnRecord self.new.tables) }
-        ensures fewer { OnOk result ((n : ℕ) → Keeps self.new.book n → Keeps self.old.book n) }
+        ensures fewer { OnOk result (All (Contains self.old.book) self.new.book) }
         ensures tracks { OnOk result ((es : List (Observation KeyParts)) → TablesTrack self.old.book es self.old.tables → TablesTrack self.new.book es self.new.tables) }
         ensures named { OnOk result ((es : List (Observation KeyParts)) → TablesTrack self.old.book es self.old.tables → newest_moment es ≡ moment
             → AreMany (IsNamed (key_machines self.old.tables.times) key_messages es) (length self.new.book)) }

@@ -1,7 +1,6 @@
 //! A judge that takes the entries of a log as they come.
-ghost use Rattle.std.specs.Prelude.{◌≡◌, ◌↔◌, [], ℕ, Some, List, IsTrue, IfOk, IfNone, OnOk, length};
+ghost use Rattle.std.specs.Prelude.{◌≡◌, ◌↔◌, [], Some, List, All, Contains, IsTrue, IfOk, IfNone, OnOk, length};
 ghost use Rattle.sip_key.specs.Key.{KeyParts};
-ghost use Rattle.sip_machine.specs.Texts.{Keeps};
 ghost use Rattle.sip_log.specs.Told.{item};
 ghost use Rattle.sip_verdict.specs.declared.stage.Stage.TheVariants.{Open};
 ghost use Rattle.sip_verdict.specs.declared.verdict.Verdict.TheVariants.{Legal};
@@ -98,7 +97,7 @@ impl<H: BuildHasher + Drop> Judge<H> {
         ensures answers { CanAnswer self.old.stage result }
         ensures stage { self.new.stage ≡ stage_behind result }
         ensures newest { IfOk result (λ verdict. IfNone verdict ((self.new.number ≡ entry.now.number) × (self.new.moment ≡ entry.now.moment))) }
-        ensures keyless { OnOk result (ConcernsNone (item entry.now) → (n : ℕ) → Keeps self.new.texts n → Keeps self.old.texts n) }
+        ensures keyless { OnOk result (ConcernsNone (item entry.now) → All (Contains self.old.texts) self.new.texts) }
         ensures times { OnOk result (self.new.tables.times ≡ self.old.tables.times) }
     {
         match self.stage {

@@ -26,6 +26,7 @@ pub mod ShowingLemmas
 pub mod Splitting
 pub mod StandingLemmas
 pub mod Stepped
+pub mod SweptBook
 pub mod SweptSets
 pub mod SweptTables
 pub mod TablesPassing

@@ -1,7 +1,7 @@
 -- The numbers of messages in a log.
 use Rattle.std.specs.Str.{bytes_eq}
 use Rattle.std.proofs.Common.{◌≡◌, ◌≢◌, ◌∙◌, ◌<◌, ◌+◌, ◌&&◌, ◌⊎◌, inl, inr, ℕ, Bool, true, false, Option, Some, None, IfNone, List, [], ◌∷◌, ◌++◌, All, cond, length, refl, sym, ap, subst, arith}
-use Rattle.std.proofs.lemmas.Bool.{both_ways, false_from_ne_true}
+use Rattle.std.proofs.lemmas.Bool.{false_from_ne_true}
 use Rattle.std.proofs.lemmas.Slice.Eq.{bytes_eq-Decides}
 use Rattle.std.proofs.lemmas.List.Elements.{All-nil, All-head, All-tail, All-push, All-weaker}
 use Rattle.sip_machine.specs.Texts.{Texts, Keeps, IsBook, text_of}
@@ -9,7 +9,9 @@ use Rattle.sip_machine.proofs.TextLaws.{Contains-nil, Keeps-grow, Keeps-added, K
 use Rattle.sip_log.specs.Spelling.{Item}
 use Rattle.sip_verdict.specs.declared.verdict.Verdict.{Verdict}
 use Rattle.sip_verdict.specs.Listing.{has_message, entry_from, first_entry}
+use Rattle.sip_verdict.specs.MessageReading.{ConcernsNone}
 use Rattle.sip_verdict.specs.inner.Numbering.{AreNumbered, StaysNumbered}
+use Rattle.sip_verdict.proofs.ObservingLemmas.{none_alike}
 
 -- the entry has a message with these bytes
 abbrev pub carries : Item → List ℕ → Bool
@@ -42,24 +44,25 @@ stay_numbered items more texts a n keeps =
 
 module _ (items : List Item) (i : Item) (old : Texts) (a : AreNumbered items old) where
   -- the book stays as it is
-  same_book : (has_message i.action ≡ true → (n : ℕ) × Keeps old n × (text_of old n ≡ i.text)) → AreNumbered (items ++ i ∷ []) old
+  same_book : (¬ ConcernsNone i → (n : ℕ) × Keeps old n × (text_of old n ≡ i.text)) → AreNumbered (items ++ i ∷ []) old
   same_book kept = record {
     some = a.some;
     numbered = stay_numbered items (i ∷ []) old a;
-    kept = All-push (λ j. has_message j.action ≡ true → (n : ℕ) × Keeps old n × (text_of old n ≡ j.text)) items i a.kept kept;
+    kept = All-push (λ j. ¬ ConcernsNone j → (n : ℕ) × Keeps old n × (text_of old n ≡ j.text)) items i a.kept kept;
   }
 
   -- the entry's message is new
-  module _ (number : ℕ) (counts : number ≡ length items + 1) (says : has_message i.action ≡ true) (below : (n : ℕ) → Keeps old n → n < number) (book : IsBook (old ++ (number, i.text) ∷ [])) where
+  module _ (number : ℕ) (counts : number ≡ length items + 1) (says : has_message i.action ≡ true) (some : ¬ ConcernsNone i) (below : (n : ℕ) → Keeps old n → n < number) (book : IsBook (old ++ (number, i.text) ∷ [])) where
     -- then no earlier entry has it
-    absent : (j : Item) → (has_message j.action ≡ true → (n : ℕ) × Keeps old n × (text_of old n ≡ j.text)) → carries j i.text ≡ false
+    absent : (j : Item) → (¬ ConcernsNone j → (n : ℕ) × Keeps old n × (text_of old n ≡ j.text)) → carries j i.text ≡ false
     absent j kept = by (has_message j.action) refl
       where
         differ : has_message j.action ≡ true → bytes_eq j.text i.text ≡ true → ⊥
         differ is same =
-            let k = kept is in
+            let bytes = (bytes_eq-Decides j.text i.text).0 same in
+            let k = kept (λ none. some (none_alike j i bytes is says none)) in
             let text : text_of (old ++ (number, i.text) ∷ []) k.0 ≡ text_of (old ++ (number, i.text) ∷ []) number =
-            text_of-grow old number i.text k.0 k.1 ∙ k.2 ∙ (bytes_eq-Decides j.text i.text).0 same ∙ sym (text_of-added old number i.text below) in
+            text_of-grow old number i.text k.0 k.1 ∙ k.2 ∙ bytes ∙ sym (text_of-added old number i.text below) in
             let one = book.apart k.0 number (Keeps-grow old number i.text k.0 k.1) (Keeps-added old number i.text) text in
             let low = below k.0 k.1 in
             omega (arith, one, low)
@@ -75,12 +78,12 @@ module _ (items : List Item) (i : Item) (old : Texts) (a : AreNumbered items old
         | inl k ↦ ap (first_entry (items ++ i ∷ [])) (text_of-grow old number i.text n k) ∙ stay_numbered items (i ∷ []) old a n k
         | inr e ↦
             ap (first_entry (items ++ i ∷ [])) (sym (ap (text_of (old ++ (number, i.text) ∷ [])) e) ∙ text_of-added old number i.text below)
-            ∙ (entry_from-next 1 items i i.text (All-weaker (λ j. has_message j.action ≡ true → (n : ℕ) × Keeps old n × (text_of old n ≡ j.text)) (λ j. carries j i.text ≡ false) absent items a.kept)
+            ∙ (entry_from-next 1 items i i.text (All-weaker (λ j. ¬ ConcernsNone j → (n : ℕ) × Keeps old n × (text_of old n ≡ j.text)) (λ j. carries j i.text ≡ false) absent items a.kept)
             (ap (λ b. b && bytes_eq i.text i.text) says ∙ (bytes_eq-Decides i.text i.text).1 refl) ∙ omega (arith, counts, e))
       ];
-      kept = All-push (λ j. has_message j.action ≡ true → (n : ℕ) × Keeps (old ++ (number, i.text) ∷ []) n × (text_of (old ++ (number, i.text) ∷ []) n ≡ j.text)) items i
-          (All-weaker (λ j. has_message j.action ≡ true → (n : ℕ) × Keeps old n × (text_of old n ≡ j.text))
-          (λ j. has_message j.action ≡ true → (n : ℕ) × Keeps (old ++ (number, i.text) ∷ []) n × (text_of (old ++ (number, i.text) ∷ []) n ≡ j.text))
+      kept = All-push (λ j. ¬ ConcernsNone j → (n : ℕ) × Keeps (old ++ (number, i.text) ∷ []) n × (text_of (old ++ (number, i.text) ∷ []) n ≡ j.text)) items i
+          (All-weaker (λ j. ¬ ConcernsNone j → (n : ℕ) × Keeps old n × (text_of old n ≡ j.text))
+          (λ j. ¬ ConcernsNone j → (n : ℕ) × Keeps (old ++ (number, i.text) ∷ []) n × (text_of (old ++ (number, i.text) ∷ []) n ≡ j.text))
           (λ j kept is. (let k = kept is in (k.0, Keeps-grow old number i.text k.0 k.1, text_of-grow old number i.text k.0 k.1 ∙ k.2))) items a.kept)
           (λ is. (number, Keeps-added old number i.text, text_of-added old number i.text below));
     }
@@ -90,21 +93,21 @@ pub numbered_start : (texts : Texts) → texts ≡ [] → AreNumbered [] texts
 numbered_start texts none = subst (AreNumbered []) (sym none) (record {
   some = λ n keeps. absurd (Contains-nil n keeps);
   numbered = λ n keeps. absurd (Contains-nil n keeps);
-  kept = All-nil (λ j. has_message j.action ≡ true → (n : ℕ) × Keeps [] n × (text_of [] n ≡ j.text));
+  kept = All-nil (λ j. ¬ ConcernsNone j → (n : ℕ) × Keeps [] n × (text_of [] n ≡ j.text));
 })
 
--- an entry without a message leaves the book
-pub numbered_mark : (i : Item) (number : ℕ) (old new : Texts) → has_message i.action ≡ false → new ≡ old → StaysNumbered i number old new
-numbered_mark i number old new silent same items a counts =
-    subst (AreNumbered (items ++ i ∷ [])) (sym same) (same_book items i old a (λ says. absurd (both_ways (has_message i.action) silent says)))
+-- an entry that concerns no key leaves the book
+pub numbered_none : (i : Item) (number : ℕ) (old new : Texts) → ConcernsNone i → new ≡ old → StaysNumbered i number old new
+numbered_none i number old new none same items a counts =
+    subst (AreNumbered (items ++ i ∷ [])) (sym same) (same_book items i old a (λ some. absurd (some none)))
 
 -- a message that is heard is in the book, or comes into it
-pub numbered_heard : (i : Item) (number name : ℕ) (old new : Texts) → has_message i.action ≡ true → Keeps new name → text_of new name ≡ i.text → ((n : ℕ) → Keeps old n → n < number) → IsBook new
+pub numbered_heard : (i : Item) (number name : ℕ) (old new : Texts) → has_message i.action ≡ true → ¬ ConcernsNone i → Keeps new name → text_of new name ≡ i.text → ((n : ℕ) → Keeps old n → n < number) → IsBook new
     → (new ≡ old) ⊎ (new ≡ old ++ (number, i.text) ∷ []) → StaysNumbered i number old new
-numbered_heard i number name old new says keeps is below book (inl same) items a counts =
+numbered_heard i number name old new says some keeps is below book (inl same) items a counts =
     subst (AreNumbered (items ++ i ∷ [])) (sym same) (same_book items i old a (λ has. (name, subst (λ t. Keeps t name) same keeps, subst (λ t. text_of t name ≡ i.text) same is)))
-numbered_heard i number name old new says keeps is below book (inr more) items a counts =
-    subst (AreNumbered (items ++ i ∷ [])) (sym more) (more_book items i old a number counts says below (subst IsBook more book))
+numbered_heard i number name old new says some keeps is below book (inr more) items a counts =
+    subst (AreNumbered (items ++ i ∷ [])) (sym more) (more_book items i old a number counts says some below (subst IsBook more book))
 
 -- what is so holds where there is no trouble
 pub unless_trouble : (P : Type 0) (verdict : Option Verdict) → P → IfNone verdict P

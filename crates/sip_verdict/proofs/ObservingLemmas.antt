@@ -1,13 +1,16 @@
 -- What the judge is told of an entry is what is observed of it.
-use Rattle.std.proofs.Common.{◌≡◌, ◌≤◌, ℕ, true, false, Some, None, MatchOption, List, refl, sym, ap, ◌∙◌, subst}
+use Rattle.std.specs.Prelude.{not, is_some, option_map, option_to_list, if◌then◌else◌}
+use Rattle.std.proofs.Common.{◌≡◌, ◌≢◌, ◌≤◌, ◌&&◌, ℕ, Bool, true, false, Option, Some, None, MatchOption, List, [], ◌++◌, refl, sym, ap, ◌∙◌, subst}
+use Rattle.std.proofs.lemmas.Bool.{false≢true}
 use Rattle.sip_message.specs.declared.fault.Fault.{Fault}
 use Rattle.sip_message.specs.Transport.{is_reliable}
 use Rattle.sip_message.specs.Reading as message
 use Rattle.sip_message.specs.Reads.{Reads}
 use Rattle.sip_message.specs.Faults.{FaultOf}
 use Rattle.sip_key.specs.declared.role.Direction.{Direction}
+use Rattle.sip_key.specs.declared.role.Direction.TheVariants as way
 use Rattle.sip_key.specs.Key.{KeyParts}
-use Rattle.sip_key.specs.Concerns.{Concerns, lacks_cookie}
+use Rattle.sip_key.specs.Concerns.{Concerns, branch_of, is_sent_cancel, is_sent_request, lacks_cookie}
 use Rattle.sip_times.specs.declared.action.Action.{Action}
 use Rattle.sip_times.specs.declared.action.Action.TheVariants.{Sent, Received, Failed, Mark}
 use Rattle.sip_machine.specs.Message.{kind_of}
@@ -16,14 +19,22 @@ use Rattle.sip_machine.specs.Texts.{Texts, Keeps, text_of}
 use Rattle.sip_machine.specs.Heard.{heard, FitsBook}
 use Rattle.sip_machine.specs.Times.{last_moment}
 use Rattle.sip_log.specs.Spelling.{Item}
+use Rattle.sip_verdict.specs.declared.concerned.Concerned.{Concerned}
+use Rattle.sip_verdict.specs.declared.concerned.Concerned.TheVariants as concerned
 use Rattle.sip_verdict.specs.Keyed.{Observation}
 use Rattle.sip_verdict.specs.Listing.{has_message}
-use Rattle.sip_verdict.specs.MessageReading.{direction_of, mark_observation, fault_observation, no_cookie, heard_message, ObservesMessage, has_fault, has_no_cookie, is_heard, message_reading}
+use Rattle.sip_verdict.specs.MessageReading.{direction_of, mark_observation, fault_observation, no_cookie, heard_message, message_observation, ObservesMessage, has_fault, has_no_cookie, is_heard, message_reading, ConcernsNone}
+use Rattle.sip_verdict.specs.inner.Concerned.{each}
+use Rattle.sip_verdict.proofs.MessageUnique.{observes_one}
 
 -- what is observed of a message that went this way is observed of its entry
 pub observes : (before : List (Observation KeyParts)) (item : Item) (e : Observation KeyParts) (direction : Direction) → direction_of item.action ≡ Some direction → ObservesMessage direction item e
     → message_reading.Observes before item e
 observes before item e direction goes seen = subst (λ d. MatchOption d (e ≡ mark_observation item.moment) (λ way. ObservesMessage way item e)) (sym goes) seen
+
+-- what is observed of a mark
+pub observes_mark : (before : List (Observation KeyParts)) (item : Item) → direction_of item.action ≡ None → message_reading.Observes before item (mark_observation item.moment)
+observes_mark before item stays = subst (λ d. MatchOption d (mark_observation item.moment ≡ mark_observation item.moment) (λ way. ObservesMessage way item (mark_observation item.moment))) (sym stays) refl
 
 -- an entry whose message went some way is no mark
 pub going : (action : Action) (direction : Direction) → direction_of action ≡ Some direction → action ≡ Mark → ⊥
@@ -44,6 +55,11 @@ observes_fault item direction text fault same has = has_fault fault (subst (λ t
 pub observes_no_cookie : (item : Item) (direction : Direction) (text : List ℕ) (r : message.Reading) → text ≡ item.text → Reads text r → lacks_cookie r direction ≡ true
     → ObservesMessage direction item (fault_observation item no_cookie)
 observes_no_cookie item direction text r same reads lacks = has_no_cookie r (subst (λ t. Reads t r) same reads) lacks refl
+
+-- that it concerns no key
+pub observes_none : (item : Item) (direction : Direction) (text : List ℕ) (r : message.Reading) → text ≡ item.text → Reads text r → lacks_cookie r direction ≡ false → Concerns r direction []
+    → ObservesMessage direction item (message_observation item r [])
+observes_none item direction text r same reads has concerns = is_heard r [] (subst (λ t. Reads t r) same reads) has concerns refl
 
 -- the event of an entry with a message that was read, whose bytes have this number
 abbrev pub event_of : Item → message.Reading → ℕ → NumberedEvent
@@ -68,3 +84,65 @@ event_fits item r texts event number is keeps limit = (subst (FitsBook texts) (s
 pub event_kept : (item : Item) (r : message.Reading) (texts : Texts) (event : NumberedEvent) (number : ℕ) (bytes : List ℕ) → event ≡ event_of item r number → Keeps texts number → text_of texts number ≡ bytes
     → Keeps texts event.number × (text_of texts event.number ≡ bytes)
 event_kept item r texts event number bytes is keeps text = let same : number ≡ event.number = sym (ap (λ e. e.number) is) in (subst (Keeps texts) same keeps, subst (λ n. text_of texts n ≡ bytes) same text)
+
+-- What concerns no key.
+
+-- without a branch there is no key
+no_keys : {A B : Type 0} (own other : A → B) (cancels : Bool) (branch : Option A) → branch ≡ None
+    → option_to_list (option_map own branch) ++ option_to_list (if cancels then option_map other branch else None) ≡ []
+no_keys own other cancels (Some x) none = absurd cc
+no_keys own other true None none = refl
+no_keys own other false None none = refl
+
+-- and without a key no branch
+no_branch : {A B : Type 0} (own other : A → B) (cancels : Bool) (branch : Option A)
+    → option_to_list (option_map own branch) ++ option_to_list (if cancels then option_map other branch else None) ≡ [] → branch ≡ None
+no_branch own other cancels None none = refl
+no_branch own other cancels (Some x) none = absurd cc
+
+-- nor where the cookie lacks
+lacks_branch : {A : Type 0} (sends : Bool) (branch : Option A) → (sends && not (is_some branch)) ≡ true → branch ≡ None
+lacks_branch sends None lacks = refl
+lacks_branch true (Some x) lacks = absurd (false≢true lacks)
+lacks_branch false (Some x) lacks = absurd (false≢true lacks)
+
+-- a message without a branch concerns no key, whichever way it went
+branchless : (direction : Direction) (item : Item) (r : message.Reading) → Reads item.text r → branch_of r ≡ None → (e : Observation KeyParts) × ObservesMessage direction item e × (e.keys ≡ [])
+branchless direction item r reads none = go (lacks_cookie r direction) refl
+  where
+    go : (lacks : Bool) → lacks_cookie r direction ≡ lacks → (e : Observation KeyParts) × ObservesMessage direction item e × (e.keys ≡ [])
+    go true lacks = (fault_observation item no_cookie, has_no_cookie r reads lacks refl, refl)
+    go false has = (message_observation item r [], is_heard r [] reads has (sym (no_keys _ _ (is_sent_cancel r.message.start direction) (branch_of r) none)) refl, refl)
+
+-- bytes that concern none one way concern none the other way
+other_way : (way direction : Direction) (i j : Item) (e : Observation KeyParts) → i.text ≡ j.text → ObservesMessage way i e → e.keys ≡ [] → (f : Observation KeyParts) × ObservesMessage direction j f × (f.keys ≡ [])
+other_way way direction i j e same (has_fault fault has is) none = (fault_observation j fault, has_fault fault (subst (λ t. FaultOf t (Some fault)) same has) refl, refl)
+other_way way direction i j e same (has_no_cookie r reads lacks is) none =
+    branchless direction j r (subst (λ t. Reads t r) same reads) (lacks_branch (is_sent_request r.message.start way) (branch_of r) lacks)
+other_way way direction i j e same (is_heard r keys reads fine concerns is) none =
+    branchless direction j r (subst (λ t. Reads t r) same reads) (no_branch _ _ (is_sent_cancel r.message.start way) (branch_of r) (sym concerns ∙ sym (ap (λ o. o.keys) is) ∙ none))
+
+-- an entry with a message went some way
+went : (action : Action) → has_message action ≡ true → (direction : Direction) × (direction_of action ≡ Some direction)
+went Sent says = (way.Sent, refl)
+went Received says = (way.Received, refl)
+went Failed says = (way.Sent, refl)
+went Mark says = absurd (false≢true says)
+
+-- entries whose messages have the same bytes concern no key alike
+pub none_alike : (i j : Item) → i.text ≡ j.text → has_message i.action ≡ true → has_message j.action ≡ true → ConcernsNone i → ConcernsNone j
+none_alike i j same i_says j_says (e, seen, none) =
+    let (way, i_goes) = went i.action i_says in
+    let (direction, j_goes) = went j.action j_says in
+    let (f, f_seen, f_none) = other_way way direction i j e same (subst (λ d. MatchOption d (e ≡ mark_observation i.moment) (λ way. ObservesMessage way i e)) i_goes seen) none in
+    (f, observes [] j f direction j_goes f_seen, f_none)
+
+-- an entry of which some key is observed concerns one
+pub concerns_some : (i : Item) (keys : List KeyParts) (e : Observation KeyParts) → message_reading.Observes [] i e → e.keys ≡ keys → keys ≢ [] → ¬ ConcernsNone i
+concerns_some i keys e seen are some (f, f_seen, none) = some (sym are ∙ ap (λ o. o.keys) (observes_one [] i e f seen f_seen) ∙ none)
+
+-- those that are some are keys
+pub each_some : {T : Type 0} (c : Concerned T) → c ≢ concerned.None → each c ≢ []
+each_some concerned.None some none = some refl
+each_some (concerned.Own own) some none = cc
+each_some (concerned.OwnAndCancelled own cancelled) some none = cc

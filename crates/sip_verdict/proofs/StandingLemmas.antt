@@ -19,18 +19,21 @@ use Rattle.sip_states.specs.declared.any_set.AnySet.{AnySet}
 use Rattle.sip_log.specs.Spelling.{Item}
 use Rattle.sip_verdict.specs.declared.concerned.Concerned.{Concerned}
 use Rattle.sip_verdict.specs.declared.concerned.Concerned.TheVariants as concerned
+use Rattle.sip_verdict.specs.declared.observing.Told.{Told}
+use Rattle.sip_verdict.specs.declared.observing.Told.TheVariants.{Unheard, Heard}
 use Rattle.sip_verdict.specs.declared.verdict.Verdict.{Verdict}
 use Rattle.sip_verdict.specs.Keyed.{Observation, events_of, keys_of}
 use Rattle.sip_verdict.specs.Keyed as keyed
-use Rattle.sip_verdict.specs.MessageReading.{key_machines, message_reading, mark_observation}
+use Rattle.sip_verdict.specs.MessageReading.{key_machines, message_reading}
 use Rattle.sip_verdict.specs.inner.Concerned.{each}
+use Rattle.sip_verdict.specs.inner.Observing.{IsObserved}
 use Rattle.sip_verdict.specs.inner.Tracking.{IsReady, TracksBefore, IsJudged}
 use Rattle.sip_states.specs.AnySet.{meaning_of}
 use Rattle.sip_verdict.specs.inner.TablesTracking.{key_keeping, transactions_of, TablesTrack, TablesTrackBefore, AreTold, TouchesEach, HaveNumbers, MayPass, MayHear, IsOnRecord, AreOnRecord, AllAreOnRecord, MayTake}
 use Rattle.sip_verdict.proofs.Leading.{Leads-grow}
 use Rattle.sip_states.proofs.ByMachine.{seen_by_names_of, some_machine, of_set, to_set}
 use Rattle.sip_verdict.proofs.TrackingLemmas.{AreKept, kept_tracked, before_none, before_touched}
-use Rattle.sip_verdict.proofs.TablesTouching.{touches_times, touches_few, touches_recorded, kept_each, have_numbers, told_mark, told_event}
+use Rattle.sip_verdict.proofs.TablesTouching.{touches_times, touches_few, touches_recorded, kept_each, have_numbers, told_unheard, told_event}
 
 -- the book has the same messages, or one more
 abbrev pub IsGrown : Texts → ℕ → List ℕ → Texts → Type 0
@@ -139,32 +142,37 @@ are_given t (n ∷ ns) (k ∷ ks) (low, at, rest) =
     All-cons (IsGiven t) n ns (let within = slice_get_within t.keys (n - 1) k at in record { low = low; high = omega arith }) (are_given t ns ks rest)
 
 module _ (verdict : Option Verdict) (old mid last : Texts) (number : ℕ) (bytes : List ℕ) (grown : IsGrown old number bytes mid) (i : Item) (moment count : ℕ) where
-  -- a mark
-  pub mark_judged : (t v : Tabled) → i.moment ≡ moment → ((es : List (Observation KeyParts)) → message_reading.Observes es i (mark_observation i.moment))
+  -- this was told of the entry
+  abbrev Tells : Told → Type 0
+  Tells told = (es : List (Observation KeyParts)) → (e : Observation KeyParts) × message_reading.Observes es i e × IsObserved mid i told e
+
+  -- an entry that is not heard
+  pub unheard_judged : (t v : Tabled) → i.moment ≡ moment → Tells Unheard
       → ((es : List (Observation KeyParts)) (e : Observation KeyParts) → e.fault ≡ None → AreTold mid t.keys moment None e → TablesTrackBefore mid es e t → count ≡ length es + 1
       → IsJudged (key_machines t.times) (key_keeping last t.times) es e (transactions_of v) verdict)
       → (es : List (Observation KeyParts)) → TablesTrack old es t → count ≡ length es + 1
       → (e : Observation KeyParts) × message_reading.Observes es i e × IsJudged (key_machines t.times) (key_keeping last t.times) es e (transactions_of v) verdict × HaveNumbers v.keys [] e.keys
-  mark_judged t v at observes judged es tracks counts = (
-    mark_observation i.moment,
-    observes es,
-    judged es (mark_observation i.moment) refl (told_mark mid t.keys moment (mark_observation i.moment) at refl)
-        (before_none (key_machines t.times) (key_keeping mid t.times) es (mark_observation i.moment) (transactions_of t) refl (grown_track old mid number bytes grown es t tracks)) counts,
-    tt,
-  )
+  unheard_judged t v at tells judged es tracks counts =
+      let (e, seen, (fine, e_at, none)) = tells es in (
+        e,
+        seen,
+        judged es e fine (told_unheard mid t.keys moment e (e_at ∙ at) none)
+            (before_none (key_machines t.times) (key_keeping mid t.times) es e (transactions_of t) none (grown_track old mid number bytes grown es t tracks)) counts,
+        subst (HaveNumbers v.keys []) (sym none) tt,
+      )
 
   -- a message that is heard
   pub heard_judged : (event : NumberedEvent) (concerned : Concerned KeyParts) (numbers : Concerned ℕ) (t u v : Tabled) → length t.sets ≡ length t.keys → TouchesEach (each concerned) (each numbers) t u
       → AllPairs (λ a b. a ≢ b) u.keys → v.keys ≡ u.keys → event.moment ≡ moment
-      → ((es : List (Observation KeyParts)) → message_reading.Observes es i (record { fault = None; event = heard mid event; keys = each concerned }))
+      → Tells (Heard event concerned)
       → ((es : List (Observation KeyParts)) (e : Observation KeyParts) → e.fault ≡ None
       → AreTold mid u.keys moment (Some (record { event = event; concerned = numbers })) e → TablesTrackBefore mid es e u → count ≡ length es + 1
       → IsJudged (key_machines u.times) (key_keeping last u.times) es e (transactions_of v) verdict)
       → (es : List (Observation KeyParts)) → TablesTrack old es t → count ≡ length es + 1
       → (e : Observation KeyParts) × message_reading.Observes es i e × IsJudged (key_machines t.times) (key_keeping last t.times) es e (transactions_of v) verdict × HaveNumbers v.keys (each numbers) e.keys
-  heard_judged event concerned numbers t u v long touched apart keys at observes judged es tracks counts = (
+  heard_judged event concerned numbers t u v long touched apart keys at tells judged es tracks counts = (
     seen,
-    observes es,
+    (let (e, observed, is) = tells es in subst (message_reading.Observes es i) is observed),
     subst (λ p. IsJudged (key_machines p) (key_keeping last p) es seen (transactions_of v) verdict) times
         (judged es seen refl (told_event mid u.keys moment (record { event = event; concerned = numbers }) seen apart have at refl)
         (subst (λ p. TracksBefore (key_machines p) (key_keeping mid p) es seen (transactions_of u)) (sym times)

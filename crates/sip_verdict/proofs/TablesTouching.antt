@@ -229,9 +229,9 @@ same_numbers all apart (i ∷ ns) (key ∷ ks) (some, there, rest) n k at = λ j
         let both : Some key ≡ Some k = sym there ∙ ap (slice_get all) place ∙ at in
         (same_key-decides k key).1 (let own : k ≡ key = cc in own)))
 
--- a mark tells each key its moment
-pub told_mark : (texts : Texts) (keys : List KeyParts) (moment : ℕ) (e : Observation KeyParts) → e.event.moment ≡ moment → e.keys ≡ [] → AreTold texts keys moment None e
-told_mark texts keys moment e at none n k there = record { at = at; event = tt; concerned = λ p. ap (list_any (same_key k)) none }
+-- an entry that is not heard tells each key its moment
+pub told_unheard : (texts : Texts) (keys : List KeyParts) (moment : ℕ) (e : Observation KeyParts) → e.event.moment ≡ moment → e.keys ≡ [] → AreTold texts keys moment None e
+told_unheard texts keys moment e at none n k there = record { at = at; event = tt; concerned = λ p. ap (list_any (same_key k)) none }
 
 -- an event is told to the keys that it concerns
 pub told_event : (texts : Texts) (keys : List KeyParts) (moment : ℕ) (h : Hearing) (e : Observation KeyParts) → AllPairs (λ a b. a ≢ b) keys → HaveNumbers keys (each h.concerned) e.keys → e.event.moment ≡ moment

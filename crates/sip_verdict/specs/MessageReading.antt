@@ -73,3 +73,7 @@ message_reading = record {
   machines = key_machines;
   Observes = λ before item e. MatchOption (direction_of item.action) (e ≡ mark_observation item.moment) (λ direction. ObservesMessage direction item e);
 }
+
+-- the entry concerns no key
+abbrev pub ConcernsNone : Item → Type 0
+ConcernsNone item = (e : Observation KeyParts) × message_reading.Observes [] item e × (e.keys ≡ [])

@@ -6,7 +6,7 @@ ghost use Rattle.sip_key.specs.Key.{KeyParts};
 ghost use Rattle.sip_log.specs.Told.{item};
 ghost use Rattle.sip_verdict.specs.Keyed.{Observation};
 ghost use Rattle.sip_verdict.specs.MessageReading.{direction_of, message_reading};
-ghost use Rattle.sip_verdict.specs.inner.Observing.{observation_of, AreKeysOf, IsKept, IsHeard};
+ghost use Rattle.sip_verdict.specs.inner.Observing.{AreKeysOf, IsObserved, IsKept, IsHeard};
 
 use crate::concerned::Concerned;
 use sip_key::{Direction, Key, KeyError, cancelled_key, key_of};
@@ -18,11 +18,12 @@ use std::alloc::{AllocError, Global};
 /// What an entry says to the judge.
 #[derive(Drop)]
 pub(crate) enum Told {
-    /// A mark: its moment was reached.
-    Mark,
+    /// Nothing that a transaction hears: a mark, or a message that concerns none and is not kept. Its moment was reached.
+    Unheard,
     /// The message has this fault.
     Fault(Fault),
-    /// The event of a message that is kept in the book, and the keys of the transactions that it concerns.
+    /// The event of a message that is kept in the book, and the keys of the transactions that it concerns, of which there are
+    /// some.
     Heard {
         event: Event,
         concerned: Concerned<Key>,
@@ -64,17 +65,18 @@ fn keys_of(
     })
 }
 
-/// Reads the message of an entry, and keeps it in the book if it has no fault. The book is as before on an error.
+/// Reads the message of an entry, and keeps it in the book if it concerns a transaction. The book is as before on an error.
 pub(crate) fn observe(alloc: Global, book: &mut Book, entry: &Entry) -> Result<Told, AllocError>
     requires limit { entry.now.moment ≤ last_moment }
     requires numbered { (n : ℕ) → Keeps book.old n → n < entry.now.number }
-    ensures observed { IfOk result (λ told. (es : List (Observation KeyParts)) → message_reading.Observes es (item entry.now) (observation_of book.new (item entry.now) told)) }
+    ensures observed { IfOk result (λ told. (es : List (Observation KeyParts)) → (e : Observation KeyParts) × message_reading.Observes es (item entry.now) e
+        × IsObserved book.new (item entry.now) told e) }
     ensures heard { IfOk result (IsHeard book.new entry.now.moment) }
     ensures kept { IfOk result (IsKept book.old book.new entry.now) }
     ensures err { OnErr result (book.new ≡ book.old) }
 {
     let Some(direction) = direction_of(entry.action) else {
-        return Ok(Told::Mark);
+        return Ok(Told::Unheard);
     };
     let message = match Message::read(alloc, entry.bytes.as_slice()) {
         Ok(message) => message,
@@ -86,6 +88,9 @@ pub(crate) fn observe(alloc: Global, book: &mut Book, entry: &Entry) -> Result<T
         Err(KeyError::NoCookie) => return Ok(Told::Fault(NO_COOKIE)),
         Err(KeyError::Memory) => return Err(AllocError),
     };
+    if let Concerned::None = concerned {
+        return Ok(Told::Unheard);
+    }
     let number = book.add(entry.number, entry.bytes.as_slice())?;
     let event = Event::of(entry.moment, entry.action, number, &message);
     Ok(Told::Heard { event, concerned })

@@ -1,5 +1,5 @@
 //! What is kept of the entries of a log that were judged.
-ghost use Rattle.std.specs.Prelude.{◌≡◌, ◌≢◌, ◌≤◌, ◌<◌, ◌+◌, ◌++◌, ◌∷◌, [], ℕ, None, List, All, AllPairs, IfOk, IfNone, OnOk, length, string_bytes};
+ghost use Rattle.std.specs.Prelude.{◌≡◌, ◌≢◌, ◌≤◌, ◌<◌, ◌+◌, ◌++◌, ◌∷◌, [], ℕ, None, List, All, AllPairs, Contains, IfOk, IfNone, OnOk, length, string_bytes};
 ghost use Rattle.std.specs.Option.{ForSome, option_copied};
 ghost use Rattle.sip_key.specs.Key.{KeyParts};
 ghost use Rattle.sip_machine.specs.Times.{last_moment};
@@ -10,7 +10,7 @@ ghost use Rattle.sip_log.specs.Spelling.{Item};
 ghost use Rattle.sip_log.specs.Told.{item};
 ghost use Rattle.sip_verdict.specs.Keyed.{Observation, newest_moment};
 ghost use Rattle.sip_verdict.specs.Named.{AreMany, IsNamed, key_messages};
-ghost use Rattle.sip_verdict.specs.MessageReading.{key_machines, message_reading};
+ghost use Rattle.sip_verdict.specs.MessageReading.{key_machines, message_reading, ConcernsNone};
 ghost use Rattle.sip_verdict.specs.Listing.{first_entry};
 ghost use Rattle.sip_verdict.specs.ListingOf.{key_words};
 ghost use Rattle.sip_verdict.specs.inner.Concerned.{each};
@@ -31,7 +31,7 @@ use sip_states::Tables;
 use std::alloc::{AllocError, Global};
 use std::hash::BuildHasher;
 
-/// The messages of a log so far, and the transactions in the order of their first messages. An entry touches those that it
+/// The messages of a log so far that concern a transaction, and the transactions in the order of their first messages. An entry touches those that it
 /// concerns; until when each can wait is on record.
 #[derive(Drop)]
 pub(crate) struct Standing<H: BuildHasher> {
@@ -100,7 +100,7 @@ impl<H: BuildHasher> Standing<H> {
         ensures keys { OnOk result (self.new.tables.keys ≡ self.old.tables.keys) }
         ensures may { OnOk result (MayPass self.new.book self.new.tables moment) }
         ensures recorded { OnOk result (AllAreOnRecord self.new.tables) }
-        ensures fewer { OnOk result ((n : ℕ) → Keeps self.new.book n → Keeps self.old.book n) }
+        ensures fewer { OnOk result (All (Contains self.old.book) self.new.book) }
         ensures tracks { OnOk result ((es : List (Observation KeyParts)) → TablesTrack self.old.book es self.old.tables → TablesTrack self.new.book es self.new.tables) }
         ensures named { OnOk result ((es : List (Observation KeyParts)) → TablesTrack self.old.book es self.old.tables → newest_moment es ≡ moment
             → AreMany (IsNamed (key_machines self.old.tables.times) key_messages es) (length self.new.book)) }
@@ -159,6 +159,7 @@ impl<H: BuildHasher> Standing<H> {
         ensures times { OnOk result (self.new.tables.times ≡ self.old.tables.times) }
         ensures may { IfOk result (λ verdict. IfNone verdict (MayTake self.new.book self.new.tables (entry.now.number + 1) entry.now.moment)) }
         ensures numbered { IfOk result (λ verdict. IfNone verdict (StaysNumbered (item entry.now) entry.now.number self.old.book self.new.book)) }
+        ensures keyless { OnOk result (ConcernsNone (item entry.now) → self.new.book ≡ self.old.book) }
         ensures judged { IfOk result (λ verdict. (es : List (Observation KeyParts)) → TablesTrack self.old.book es self.old.tables
             → entry.now.number ≡ length es + 1
             → (e : Observation KeyParts) × message_reading.Observes es (item entry.now) e
@@ -193,6 +194,7 @@ impl<H: BuildHasher> Standing<H> {
         ensures may { IfOk result (λ taken. IfNone taken.verdict (MayTake self.new.book self.new.tables (entry.now.number + 1) entry.now.moment)) }
         ensures numbered { IfOk result (λ taken. IfNone taken.verdict (StaysNumbered (item entry.now) entry.now.number self.old.book self.new.book)) }
         ensures given { IfOk result (λ taken. All (IsGiven self.new.tables) (each taken.concerned)) }
+        ensures keyless { OnOk result (ConcernsNone (item entry.now) → self.new.book ≡ self.old.book) }
         ensures judged { IfOk result (λ taken. (es : List (Observation KeyParts)) → TablesTrack self.old.book es self.old.tables
             → entry.now.number ≡ length es + 1
             → (e : Observation KeyParts) × message_reading.Observes es (item entry.now) e
@@ -202,7 +204,7 @@ impl<H: BuildHasher> Standing<H> {
         let told = observe(alloc, &mut self.book, entry)?;
         self.book.known();
         match told {
-            Told::Mark => {
+            Told::Unheard => {
                 let verdict = self.pass(entry.number, entry.moment, None)?;
                 Ok(Taken {
                     verdict,

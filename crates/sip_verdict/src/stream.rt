@@ -1,11 +1,11 @@
 //! A judge that takes the entries of a log as they come.
-ghost use Rattle.std.specs.Prelude.{◌≡◌, ◌↔◌, [], Some, List, IsTrue, IfOk, IfNone, OnOk, length};
+ghost use Rattle.std.specs.Prelude.{◌≡◌, ◌↔◌, [], Some, List, All, Contains, IsTrue, IfOk, IfNone, OnOk, length};
 ghost use Rattle.sip_key.specs.Key.{KeyParts};
 ghost use Rattle.sip_log.specs.Told.{item};
 ghost use Rattle.sip_verdict.specs.declared.stage.Stage.TheVariants.{Open};
 ghost use Rattle.sip_verdict.specs.declared.verdict.Verdict.TheVariants.{Legal};
 ghost use Rattle.sip_verdict.specs.Keyed.{Observation, keys_of};
-ghost use Rattle.sip_verdict.specs.MessageReading.{key_machines, message_reading};
+ghost use Rattle.sip_verdict.specs.MessageReading.{key_machines, message_reading, ConcernsNone};
 ghost use Rattle.sip_verdict.specs.Named.{AreFew, key_messages};
 ghost use Rattle.sip_verdict.specs.Judging.{StandsFor, MayComeNext, IsNext, CanAnswer, stage_behind, last_verdict};
 
@@ -97,6 +97,7 @@ impl<H: BuildHasher + Drop> Judge<H> {
         ensures answers { CanAnswer self.old.stage result }
         ensures stage { self.new.stage ≡ stage_behind result }
         ensures newest { IfOk result (λ verdict. IfNone verdict ((self.new.number ≡ entry.now.number) × (self.new.moment ≡ entry.now.moment))) }
+        ensures keyless { OnOk result (ConcernsNone (item entry.now) → All (Contains self.old.texts) self.new.texts) }
         ensures times { OnOk result (self.new.tables.times ≡ self.old.tables.times) }
     {
         match self.stage {

@@ -1,11 +1,11 @@
 //! Judges entries, and forgets the messages that no transaction needs any more.
-ghost use Rattle.std.specs.Prelude.{◌≡◌, ◌≤◌, ◌+◌, List, IfOk, IfNone, OnOk, length};
+ghost use Rattle.std.specs.Prelude.{◌≡◌, ◌≤◌, ◌+◌, List, All, Contains, IfOk, IfNone, OnOk, length};
 ghost use Rattle.sip_key.specs.Key.{KeyParts};
 ghost use Rattle.sip_machine.specs.Times.{last_moment};
 ghost use Rattle.sip_log.specs.Log.{most_entries};
 ghost use Rattle.sip_log.specs.Told.{item};
 ghost use Rattle.sip_verdict.specs.Keyed.{Observation};
-ghost use Rattle.sip_verdict.specs.MessageReading.{message_reading};
+ghost use Rattle.sip_verdict.specs.MessageReading.{message_reading, ConcernsNone};
 ghost use Rattle.sip_verdict.specs.Judging.{AreFollowed};
 ghost use Rattle.sip_verdict.specs.inner.Sweeping.{AreFollowedOn};
 ghost use Rattle.sip_verdict.specs.inner.TablesTracking.{MayTake};
@@ -34,6 +34,7 @@ pub(crate) fn judge_next<H: BuildHasher>(
     ensures times { OnOk result (standing.new.tables.times ≡ standing.old.tables.times) }
     ensures may { IfOk result (λ verdict. IfNone verdict (MayTake standing.new.book standing.new.tables (entry.now.number + 1) entry.now.moment)) }
     ensures left { left.new ≤ most_entries + 1 }
+    ensures keyless { OnOk result (ConcernsNone (item entry.now) → All (Contains standing.old.book) standing.new.book) }
     ensures judged { IfOk result (λ verdict. (es : List (Observation KeyParts)) → AreFollowed standing.old.book standing.old.tables left.old es
         → entry.now.number ≡ length es + 1
         → (e : Observation KeyParts) × message_reading.Observes es (item entry.now) e

@@ -134,6 +134,26 @@ fn keeps_what_is_needed(rt: HostRuntime) -> Result<(), Fail> {
     Ok(())
 }
 
+/// A message without the cookie concerns no transaction and is not kept: not as the first entry, and not behind one that is.
+#[test]
+fn keeps_no_message_without_a_key(rt: HostRuntime) -> Result<(), Fail> {
+    let log = log_of(
+        rt.alloc(),
+        "R 0 OPTIONS branch=abc; S 0 OPTIONS; R 0 OPTIONS branch=abc; R 10 200 OPTIONS branch=abc; \
+         S 20 200 OPTIONS branch=abc; M 30; R 30 200 OPTIONS",
+    )?;
+    let (kept, verdict) = kept_behind_each(&rt, log.as_str())?;
+    assert_eq!(rt;
+        verdict,
+        Some(Verdict::Legal {
+            entries: 7,
+            transactions: 1
+        })
+    );
+    assert!(rt; kept.as_slice() == [0, 1, 1, 1, 1, 1, 2].as_slice());
+    Ok(())
+}
+
 /// A repeat that comes too early is told at once, and told again of whatever comes behind it.
 #[test]
 fn tells_a_verdict_again(rt: HostRuntime) -> Result<(), Fail> {

@@ -1,5 +1,5 @@
 -- The book of a log's messages, and what is listed of one entry.
-use Rattle.std.specs.Prelude.{◌≡◌, ◌<◌, ◌+◌, ◌-◌, ◌++◌, ◌∷◌, [], ℕ, true, Some, List, All, IsAscii, codes, length, slice_get, string_bytes}
+use Rattle.std.specs.Prelude.{◌≡◌, ◌<◌, ◌+◌, ◌-◌, ◌++◌, ◌∷◌, [], ℕ, Some, List, All, IsAscii, codes, length, slice_get, string_bytes}
 use Rattle.sip_key.specs.Key.{KeyParts}
 use Rattle.sip_machine.specs.Texts.{Texts, Keeps, text_of}
 use Rattle.sip_states.specs.Tables.{Tabled}
@@ -9,14 +9,15 @@ use Rattle.sip_listing.specs.Transaction.{transaction_text, Lists}
 use Rattle.sip_verdict.specs.declared.listing.Listing.{Listing}
 use Rattle.sip_verdict.specs.declared.listing.Listing.TheVariants.{Text, Stopped, NoEntry}
 use Rattle.sip_verdict.specs.Keyed.{Observation, Machines}
+use Rattle.sip_verdict.specs.MessageReading.{ConcernsNone}
 use Rattle.sip_verdict.specs.Verdicts.{IsGood, IsTrouble}
-use Rattle.sip_verdict.specs.Listing.{Words, has_message, first_entry, IsEntryText}
+use Rattle.sip_verdict.specs.Listing.{Words, first_entry, IsEntryText}
 
--- the book keeps the messages of these entries, each under the number of the first that has it
+-- the book keeps the messages of these entries that concern a key, each under the number of the first that has it
 pub record AreNumbered (items : List Item) (texts : Texts) : Type 0 where
   pub some : (n : ℕ) → Keeps texts n → 0 < n
   pub numbered : (n : ℕ) → Keeps texts n → first_entry items (text_of texts n) ≡ n
-  pub kept : All (λ i. has_message i.action ≡ true → (n : ℕ) × Keeps texts n × (text_of texts n ≡ i.text)) items
+  pub kept : All (λ i. ¬ ConcernsNone i → (n : ℕ) × Keeps texts n × (text_of texts n ≡ i.text)) items
 
 -- with the next entry, which has this number, the book is as before, or keeps its message too
 abbrev pub StaysNumbered : Item → ℕ → Texts → Texts → Type 0

@@ -9,12 +9,13 @@ use Rattle.sip_key.specs.declared.concern.KeyError.{KeyError}
 use Rattle.sip_key.specs.declared.concern.KeyError.TheVariants as error
 use Rattle.sip_log.specs.declared.entry.Entry.{Entry}
 use Rattle.sip_log.specs.Spelling.{Item}
+use Rattle.sip_log.specs.Told.{item}
 use Rattle.sip_verdict.specs.declared.concerned.Concerned.{Concerned}
 use Rattle.sip_verdict.specs.declared.observing.Told.{Told}
-use Rattle.sip_verdict.specs.declared.observing.Told.TheVariants.{Mark, Fault, Heard}
+use Rattle.sip_verdict.specs.declared.observing.Told.TheVariants.{Unheard, Fault, Heard}
 use Rattle.sip_verdict.specs.Keyed.{Observation}
 use Rattle.sip_verdict.specs.Listing.{has_message}
-use Rattle.sip_verdict.specs.MessageReading.{mark_observation, fault_observation}
+use Rattle.sip_verdict.specs.MessageReading.{fault_observation, ConcernsNone}
 use Rattle.sip_verdict.specs.inner.Concerned.{each}
 
 -- What the judge is told of an entry.
@@ -25,22 +26,22 @@ AreKeysOf r direction (Ok concerned) = (lacks_cookie r direction ≡ false) × C
 AreKeysOf r direction (Err error.NoCookie) = lacks_cookie r direction ≡ true
 AreKeysOf r direction (Err error.Memory) = Unit {0}
 
--- what is observed of an entry of which this is told, beside the texts of a book
-abbrev pub observation_of : Texts → Item → Told → Observation KeyParts
-observation_of texts item Mark = mark_observation item.moment
-observation_of texts item (Fault fault) = fault_observation item fault
-observation_of texts item (Heard event concerned) = record { fault = None; event = heard texts event; keys = each concerned }
+-- what is observed of an entry of which this is told, beside the texts of a book: of one that is not heard, its moment
+abbrev pub IsObserved : Texts → Item → Told → Observation KeyParts → Type 0
+IsObserved texts i Unheard e = (e.fault ≡ None) × (e.event.moment ≡ i.moment) × (e.keys ≡ [])
+IsObserved texts i (Fault fault) e = e ≡ fault_observation i fault
+IsObserved texts i (Heard event concerned) e = e ≡ record { fault = None; event = heard texts event; keys = each concerned }
 
 -- an event that is told is of this moment, the book keeps its message, and its keys differ
 abbrev pub IsHeard : Texts → ℕ → Told → Type 0
-IsHeard texts moment Mark = Unit {0}
+IsHeard texts moment Unheard = Unit {0}
 IsHeard texts moment (Fault fault) = Unit {0}
 IsHeard texts moment (Heard event concerned) = FitsBook texts event × (event.moment ≡ moment) × AllPairs (λ a b. a ≢ b) (each concerned)
 
--- the book keeps the entry's message if it is heard, under the event's number, and nothing else is kept or lost
+-- the book keeps the entry's message if it is heard, which concerns some key, under the event's number, and nothing else is kept or lost
 abbrev pub IsKept : Texts → Texts → Entry → Told → Type 0
-IsKept old new entry Mark = (has_message entry.action ≡ false) × (new ≡ old)
+IsKept old new entry Unheard = new ≡ old
 IsKept old new entry (Fault fault) = new ≡ old
 IsKept old new entry (Heard event concerned) =
-    (has_message entry.action ≡ true) × Keeps new event.number × (text_of new event.number ≡ entry.bytes.items)
+    (has_message entry.action ≡ true) × ¬ ConcernsNone (item entry) × Keeps new event.number × (text_of new event.number ≡ entry.bytes.items)
     × ((new ≡ old) ⊎ (new ≡ old ++ (entry.number, entry.bytes.items) ∷ []))

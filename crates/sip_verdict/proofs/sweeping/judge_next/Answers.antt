@@ -1,6 +1,7 @@
-use Rattle.std.proofs.Common.{◌≤◌, ◌+◌, length, arith}
+use Rattle.std.proofs.Common.{◌≤◌, ◌+◌, All, Contains, length, subst, arith}
 use Rattle.sip_log.specs.Told.{item}
 use Rattle.sip_verdict.proofs.FollowedLemmas.{followed_kept, followed_swept, swept_take}
+use Rattle.sip_verdict.proofs.SweptBook.{same_within, within_keeps}
 use Rattle.sip_verdict.proofs.sweeping.judge_next.Goals as goal
 
 pub returns-then-kept-left-clause-judged : goal.returns-then-kept-left-clause-judged
@@ -18,13 +19,23 @@ returns-clause-may g c =
     let new = c.sweep.new.self in
     let e = c.args.entry.now in
     let swept = c.in_ok-sweep.ensures in
-    swept_take mid.book new.book mid.tables new.tables (e.number + 1) e.moment (rw c.in_default.is at c.in_ok-verdict.ensures.may) swept.may swept.recorded swept.fewer swept.keys
+    swept_take mid.book new.book mid.tables new.tables (e.number + 1) e.moment (rw c.in_default.is at c.in_ok-verdict.ensures.may) swept.may swept.recorded (within_keeps mid.book new.book swept.fewer) swept.keys
 
 pub returns-clause-left : goal.returns-clause-left
 returns-clause-left g c =
     let may = rw c.in_default.is at c.in_ok-verdict.ensures.may in
-    let high = c.kept-2.ensures.few (c.args.entry.now.number + 1) (λ n keeps. may.numbered n (c.in_ok-sweep.ensures.fewer n keeps)) in
+    let fewer = within_keeps c.entry.new.self.book c.sweep.new.self.book c.in_ok-sweep.ensures.fewer in
+    let high = c.kept-2.ensures.few (c.args.entry.now.number + 1) (λ n keeps. may.numbered n (fewer n keeps)) in
     omega (arith, high, c.requires.count)
+
+pub returns-clause-keyless : goal.returns-clause-keyless
+returns-clause-keyless g c none = subst (λ b. All (Contains b) c.sweep.new.self.book) (c.in_ok-verdict.ensures.keyless none) c.in_ok-sweep.ensures.fewer
+
+pub returns-then-kept-left-clause-keyless : goal.returns-then-kept-left-clause-keyless
+returns-then-kept-left-clause-keyless g c none = same_within c.args.standing.now.book c.entry.new.self.book (c.in_ok-verdict.ensures.keyless none)
+
+pub returns-in-Some-clause-keyless : goal.returns-in-Some-clause-keyless
+returns-in-Some-clause-keyless g c none = same_within c.args.standing.now.book c.entry.new.self.book (c.in_ok-verdict.ensures.keyless none)
 
 pub returns-clause-judged : goal.returns-clause-judged
 returns-clause-judged g c =

@@ -1,11 +1,9 @@
-use Rattle.std.proofs.Common.{length, refl, sym, subst}
-use Rattle.std.proofs.lemmas.List.Elements.{All-contains}
-use Rattle.sip_machine.specs.Texts.{Keeps}
-use Rattle.sip_machine.proofs.RetainLemmas.{Keeps-only}
+use Rattle.std.proofs.Common.{All, Contains, length, refl, sym, subst}
 use Rattle.sip_verdict.specs.Named.{IsNamed, AreMany, key_messages}
 use Rattle.sip_verdict.specs.MessageReading.{key_machines}
 use Rattle.sip_verdict.specs.inner.TablesTracking.{MayPass, TablesTrack}
 use Rattle.sip_verdict.proofs.NamedTables.{many_named}
+use Rattle.sip_verdict.proofs.SweptBook.{only_within}
 use Rattle.sip_verdict.proofs.SweptTables.{named_is, swept_may, swept_track, swept_recorded, swept_kept}
 use Rattle.sip_verdict.proofs.standing.Standing.sweep.Goals as goal
 
@@ -54,7 +52,7 @@ returns-clause-fewer g c =
     let named = named_is u c.new-named.result.items c.named.new.out.items c.new-named.ensures.items c.in_ok-named.ensures.ok numbers c.deref.ensures.value in
     let advances = c.in_ok-advance_all.ensures.ok in
     let kept = swept_kept s.book c.known.ensures s.tables u c.args.moment advances c.requires.may numbers named.0 named.1 in
-    λ n keeps. All-contains (Keeps s.book) numbers n kept (Keeps-only s.book numbers c.known.ensures named.0 kept n (subst (λ b. Keeps b n) c.retain_only.ensures keeps))
+    subst (λ b. All (Contains s.book) b) (sym c.retain_only.ensures) (only_within s.book c.known.ensures numbers kept)
 
 pub returns-clause-tracks : goal.returns-clause-tracks
 returns-clause-tracks g c =

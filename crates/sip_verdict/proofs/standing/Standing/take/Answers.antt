@@ -1,11 +1,11 @@
-use Rattle.std.proofs.Common.{◌∙◌, ap, inl, refl, arith, subst, sym}
+use Rattle.std.proofs.Common.{[], ◌∙◌, ap, inl, refl, arith, subst, sym}
 use Rattle.sip_log.specs.Told.{item}
-use Rattle.sip_verdict.specs.MessageReading.{fault_observation}
+use Rattle.sip_verdict.specs.MessageReading.{fault_observation, message_reading}
 use Rattle.sip_verdict.specs.inner.Numbering.{StaysNumbered}
 use Rattle.sip_verdict.specs.inner.TablesTracking.{HaveNumbers, MayHear}
 use Rattle.sip_verdict.specs.inner.Concerned.{each}
-use Rattle.sip_verdict.proofs.NumberingLemmas.{numbered_mark, numbered_heard, unless_trouble}
-use Rattle.sip_verdict.proofs.StandingLemmas.{grown_may, touched_recorded, few_keys, are_given, may_hear, same_some, may_next, mark_judged, heard_judged}
+use Rattle.sip_verdict.proofs.NumberingLemmas.{numbered_none, numbered_heard, unless_trouble}
+use Rattle.sip_verdict.proofs.StandingLemmas.{grown_may, touched_recorded, few_keys, are_given, may_hear, same_some, may_next, unheard_judged, heard_judged}
 use Rattle.sip_verdict.proofs.TablesTouching.{touches_may, have_numbers}
 use Rattle.sip_verdict.proofs.standing.Standing.take.Goals as goal
 
@@ -14,7 +14,7 @@ pass-requires-in-Heard-clause-may g c =
     let s = c.args.self.now in
     let e = c.args.entry.now in
     touches_may c.observe.new.book e.moment (each c.in-Heard.concerned) (each c.in_ok-concerned-in-Heard.concerned) s.tables c.touch_each.new.tables
-    (grown_may s.book c.observe.new.book e.number e.bytes.items (rw c.in-Heard.is at c.in_ok-told.ensures.kept).3 s.tables e.moment c.requires.may.passes) c.in_ok-concerned-in-Heard.ensures
+    (grown_may s.book c.observe.new.book e.number e.bytes.items (rw c.in-Heard.is at c.in_ok-told.ensures.kept).4 s.tables e.moment c.requires.may.passes) c.in_ok-concerned-in-Heard.ensures
 
 pub pass-requires-in-Heard-clause-hear : goal.pass-requires-in-Heard-clause-hear
 pass-requires-in-Heard-clause-hear g c =
@@ -29,37 +29,39 @@ pass-requires-in-Heard-clause-recorded g c =
     touched_recorded (each c.in-Heard.concerned) (each c.in_ok-concerned-in-Heard.concerned) c.args.self.now.tables c.touch_each.new.tables c.in_ok-concerned-in-Heard.ensures
     c.requires.may.passes.long c.requires.may.recorded
 
-pub returns-in_ok-verdict-in-Mark-clause-may : goal.returns-in_ok-verdict-in-Mark-clause-may
-returns-in_ok-verdict-in-Mark-clause-may g c =
+pub returns-in_ok-verdict-in-Unheard-clause-may : goal.returns-in_ok-verdict-in-Unheard-clause-may
+returns-in_ok-verdict-in-Unheard-clause-may g c =
     let s = c.args.self.now in
     let e = c.args.entry.now in
-    let passed = c.in_ok-verdict-in-Mark in
+    let passed = c.in_ok-verdict-in-Unheard in
     may_next passed.verdict s.book c.observe.new.book c.pass.new.self.book s.tables s.tables c.pass.new.self.tables e.number e.moment e.bytes.items c.requires.may
-    (inl (rw c.in-Mark.is at c.in_ok-told.ensures.kept).1) (omega arith) passed.ensures.keys passed.ensures.book passed.ensures.may passed.ensures.recorded
+    (inl (rw c.in-Unheard.is at c.in_ok-told.ensures.kept)) (omega arith) passed.ensures.keys passed.ensures.book passed.ensures.may passed.ensures.recorded
 
-pub returns-in_ok-verdict-in-Mark-clause-numbered : goal.returns-in_ok-verdict-in-Mark-clause-numbered
-returns-in_ok-verdict-in-Mark-clause-numbered g c =
+pub returns-in_ok-verdict-in-Unheard-clause-numbered : goal.returns-in_ok-verdict-in-Unheard-clause-numbered
+returns-in_ok-verdict-in-Unheard-clause-numbered g c =
     let s = c.args.self.now in
     let e = c.args.entry.now in
-    let kept = rw c.in-Mark.is at c.in_ok-told.ensures.kept in
+    let kept = rw c.in-Unheard.is at c.in_ok-told.ensures.kept in
+    let told = (rw c.in-Unheard.is at c.in_ok-told.ensures.observed) [] in
     let new = c.pass.new.self.book in
-    unless_trouble (StaysNumbered (item e) e.number s.book new) c.in_ok-verdict-in-Mark.verdict
-    (numbered_mark (item e) e.number s.book new kept.0 (c.in_ok-verdict-in-Mark.ensures.book ∙ kept.1))
+    unless_trouble (StaysNumbered (item e) e.number s.book new) c.in_ok-verdict-in-Unheard.verdict
+    (numbered_none (item e) e.number s.book new (told.0, told.1, told.2.2) (c.in_ok-verdict-in-Unheard.ensures.book ∙ kept))
 
-pub returns-in_ok-verdict-in-Mark-clause-judged : goal.returns-in_ok-verdict-in-Mark-clause-judged
-returns-in_ok-verdict-in-Mark-clause-judged g c =
+pub returns-in_ok-verdict-in-Unheard-clause-judged : goal.returns-in_ok-verdict-in-Unheard-clause-judged
+returns-in_ok-verdict-in-Unheard-clause-judged g c =
     let s = c.args.self.now in
     let e = c.args.entry.now in
-    mark_judged c.in_ok-verdict-in-Mark.verdict s.book c.observe.new.book c.pass.new.self.book e.number e.bytes.items (inl (rw c.in-Mark.is at c.in_ok-told.ensures.kept).1) (item e) e.moment e.number
-    s.tables c.pass.new.self.tables refl (rw c.in-Mark.is at c.in_ok-told.ensures.observed) c.in_ok-verdict-in-Mark.ensures.judged
+    unheard_judged c.in_ok-verdict-in-Unheard.verdict s.book c.observe.new.book c.pass.new.self.book e.number e.bytes.items (inl (rw c.in-Unheard.is at c.in_ok-told.ensures.kept)) (item e) e.moment e.number
+    s.tables c.pass.new.self.tables refl (rw c.in-Unheard.is at c.in_ok-told.ensures.observed) c.in_ok-verdict-in-Unheard.ensures.judged
 
 pub returns-in-Fault-clause-judged : goal.returns-in-Fault-clause-judged
-returns-in-Fault-clause-judged g c = λ es tracks counts. (
-  fault_observation (item c.args.entry.now) c.in-Fault.fault,
-  (rw c.in-Fault.is at c.in_ok-told.ensures.observed) es,
-  (counts, refl),
-  tt,
-)
+returns-in-Fault-clause-judged g c = λ es tracks counts.
+    let (e, seen, is) = (rw c.in-Fault.is at c.in_ok-told.ensures.observed) es in (
+      fault_observation (item c.args.entry.now) c.in-Fault.fault,
+      subst (message_reading.Observes es (item c.args.entry.now)) is seen,
+      (counts, refl),
+      tt,
+    )
 
 pub returns-in_ok-verdict-in-Heard-clause-may : goal.returns-in_ok-verdict-in-Heard-clause-may
 returns-in_ok-verdict-in-Heard-clause-may g c =
@@ -67,7 +69,7 @@ returns-in_ok-verdict-in-Heard-clause-may g c =
     let e = c.args.entry.now in
     let passed = c.in_ok-verdict-in-Heard in
     may_next passed.verdict s.book c.observe.new.book c.pass-in-Heard.new.self.book s.tables c.touch_each.new.tables c.pass-in-Heard.new.self.tables e.number e.moment e.bytes.items c.requires.may
-    (rw c.in-Heard.is at c.in_ok-told.ensures.kept).3
+    (rw c.in-Heard.is at c.in_ok-told.ensures.kept).4
     (few_keys c.in-Heard.concerned (each c.in_ok-concerned-in-Heard.concerned) s.tables c.touch_each.new.tables c.in_ok-concerned-in-Heard.ensures)
     passed.ensures.keys passed.ensures.book passed.ensures.may passed.ensures.recorded
 
@@ -80,7 +82,7 @@ returns-in_ok-verdict-in-Heard-clause-numbered g c =
     let new = c.pass-in-Heard.new.self.book in
     unless_trouble (StaysNumbered (item e) e.number s.book new) c.in_ok-verdict-in-Heard.verdict
     (subst (StaysNumbered (item e) e.number s.book) (sym c.in_ok-verdict-in-Heard.ensures.book)
-    (numbered_heard (item e) e.number c.in-Heard.event.number s.book mid kept.0 kept.1 kept.2 c.requires.may.numbered c.known.ensures kept.3))
+    (numbered_heard (item e) e.number c.in-Heard.event.number s.book mid kept.0 kept.1 kept.2 kept.3 c.requires.may.numbered c.known.ensures kept.4))
 
 pub returns-in_ok-verdict-in-Heard-clause-given : goal.returns-in_ok-verdict-in-Heard-clause-given
 returns-in_ok-verdict-in-Heard-clause-given g c =
@@ -94,7 +96,7 @@ pub returns-in_ok-verdict-in-Heard-clause-judged : goal.returns-in_ok-verdict-in
 returns-in_ok-verdict-in-Heard-clause-judged g c =
     let s = c.args.self.now in
     let e = c.args.entry.now in
-    heard_judged c.in_ok-verdict-in-Heard.verdict s.book c.observe.new.book c.pass-in-Heard.new.self.book e.number e.bytes.items (rw c.in-Heard.is at c.in_ok-told.ensures.kept).3 (item e) e.moment e.number
+    heard_judged c.in_ok-verdict-in-Heard.verdict s.book c.observe.new.book c.pass-in-Heard.new.self.book e.number e.bytes.items (rw c.in-Heard.is at c.in_ok-told.ensures.kept).4 (item e) e.moment e.number
     c.in-Heard.event c.in-Heard.concerned c.in_ok-concerned-in-Heard.concerned s.tables c.touch_each.new.tables c.pass-in-Heard.new.self.tables
     c.requires.may.passes.long c.in_ok-concerned-in-Heard.ensures c.known-in-Heard.ensures.unique c.in_ok-verdict-in-Heard.ensures.keys (rw c.in-Heard.is at c.in_ok-told.ensures.heard).1
     (rw c.in-Heard.is at c.in_ok-told.ensures.observed) c.in_ok-verdict-in-Heard.ensures.judged

@@ -1,6 +1,7 @@
-use Rattle.std.proofs.Common.{◌+◌, ◌∙◌, refl, sym, ap, subst}
+use Rattle.std.proofs.Common.{◌+◌, ◌∙◌, All, Contains, refl, sym, ap, subst}
 use Rattle.sip_verdict.specs.Judging.{Judging, AreFollowed, MayComeNext}
 use Rattle.sip_verdict.proofs.JudgeLemmas.{may_take_next, stands_on}
+use Rattle.sip_verdict.proofs.SweptBook.{same_within}
 use Rattle.sip_verdict.proofs.stream.Judge.entry.Goals as goal
 
 pub judge_next-requires-clause-may : goal.judge_next-requires-clause-may
@@ -20,3 +21,12 @@ returns-in-Ok-None-clause-judged g c es stands =
     let now : Judging = record { number = e.number; moment = e.moment; texts = new.standing.book; tables = new.standing.tables; left = new.left; stage = c.self.inside.stage } in
     stands_on c.args.self.now now e next refl refl c.in-Open.is es stands
     ((rw c.in-Ok-None.field-0-is at c.in-Ok-None.ensures.judged) es (subst (λ j. AreFollowed j.texts j.tables j.left es) (sym is) stands.follows) (next ∙ ap (λ n. n + 1) stands.number))
+
+pub returns-in-Ok-None-clause-keyless : goal.returns-in-Ok-None-clause-keyless
+returns-in-Ok-None-clause-keyless g c none = subst (λ j. All (Contains j.texts) c.judge_next.new.standing.book) c.self.view_is (c.in-Ok-None.ensures.keyless none)
+
+pub returns-in-Ok-Some-clause-keyless : goal.returns-in-Ok-Some-clause-keyless
+returns-in-Ok-Some-clause-keyless g c none = subst (λ j. All (Contains j.texts) c.judge_next.new.standing.book) c.self.view_is (c.in-Ok-Some.ensures.keyless none)
+
+pub returns-in-Told-clause-keyless : goal.returns-in-Told-clause-keyless
+returns-in-Told-clause-keyless g c none = same_within c.args.self.now.texts c.args.self.now.texts refl

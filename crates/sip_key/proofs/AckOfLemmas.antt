@@ -11,7 +11,9 @@ use Rattle.sip_message.specs.StartLine.{StartLine, request}
 use Rattle.sip_key.specs.Solid.{solid}
 use Rattle.sip_message.specs.Reading.{Reading}
 use Rattle.sip_message.specs.Reads.{Reads}
-use Rattle.sip_message.proofs.lemmas.message.Views.{same_reading}
+use Rattle.sip_message.specs.Says.{Said}
+use Rattle.sip_message.specs.SaidOf.{said_of}
+use Rattle.sip_message.proofs.lemmas.says.Reading.{reads-says, said-is}
 use Rattle.sip_key.specs.AckOf.{IsAckLine, IsAckOf, AckOf}
 
 -- a request whose method is ACK, and another with the same URI
@@ -47,16 +49,16 @@ solid-begins values more None none steps empty =
 solid-begins values more (Some x) none steps empty =
     sym (solid-joined x.now more) ∙ ap (λ vs. solid (join_with_byte comma vs)) (sym steps)
 
-along : (a a' i i' r r' : Reading) → a' ≡ a → i' ≡ i → r' ≡ r → IsAckOf a' i' r' → IsAckOf a i r
+along : (a a' i i' r r' : Said) → a' ≡ a → i' ≡ i → r' ≡ r → IsAckOf a' i' r' → IsAckOf a i r
 along a a' i i' r r' p q s is =
-    let P : Reading → Type 0 = λ x. IsAckOf x i' r' in
-    let Q : Reading → Type 0 = λ y. IsAckOf a y r' in
-    let R : Reading → Type 0 = λ z. IsAckOf a i z in
+    let P : Said → Type 0 = λ x. IsAckOf x i' r' in
+    let Q : Said → Type 0 = λ y. IsAckOf a y r' in
+    let R : Said → Type 0 = λ z. IsAckOf a i z in
     subst R s (subst Q q (subst P p is))
 
 -- texts are so related exactly if the messages are that they spell
-pub ack-of_bytes : (ack invite response : List ℕ) (a i r : Reading) → Reads ack a → Reads invite i → Reads response r → AckOf ack invite response ↔ IsAckOf a i r
+pub ack-of_bytes : (ack invite response : List ℕ) (a i r : Reading) → Reads ack a → Reads invite i → Reads response r → AckOf ack invite response ↔ IsAckOf (said_of a) (said_of i) (said_of r)
 ack-of_bytes ack invite response a i r reads_a reads_i reads_r = (
-  λ of. along a of.0 i of.1 r of.2 (same_reading ack of.0 a of.3 reads_a) (same_reading invite of.1 i of.4 reads_i) (same_reading response of.2 r of.5 reads_r) of.6,
-  λ is. (a, i, r, reads_a, reads_i, reads_r, is),
+  λ of. along (said_of a) of.0 (said_of i) of.1 (said_of r) of.2 (said-is ack a of.0 reads_a of.3) (said-is invite i of.1 reads_i of.4) (said-is response r of.2 reads_r of.5) of.6,
+  λ is. (said_of a, said_of i, said_of r, reads-says ack a reads_a, reads-says invite i reads_i, reads-says response r reads_r, is),
 )

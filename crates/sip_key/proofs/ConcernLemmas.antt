@@ -5,11 +5,13 @@ use Rattle.sip_text.specs.Uri.{Port}
 use Rattle.sip_message.specs.declared.name.Known.TheVariants as known_name
 use Rattle.sip_message.specs.Field.{Field}
 use Rattle.sip_message.specs.Elements.{Element, AreElements, values}
-use Rattle.sip_message.specs.Reading.{Reading, Parts, HasParts}
+use Rattle.sip_message.specs.Reading.{Parts, HasParts}
+use Rattle.sip_message.specs.Says.{Said}
 use Rattle.sip_key.specs.declared.role.Role.{Role}
 use Rattle.sip_key.specs.declared.role.Direction.{Direction}
 use Rattle.sip_key.specs.Key.{KeyParts}
-use Rattle.sip_key.specs.Concerns.{branch_of, role_of, sent_by_of, method_of, own_key, is_sent_request, lacks_cookie}
+use Rattle.sip_key.specs.Branch.{cookie_branch}
+use Rattle.sip_key.specs.Concerns.{role_of, sent_by_of, method_of, own_key, is_sent, lacks_cookie}
 
 -- the port of the first element is one
 first-port : (vals : List (List ℕ)) (e : Element) (es : List Element) → AreElements vals (e ∷ es) → IfSome e.1.port Port
@@ -28,19 +30,19 @@ and-false true = refl
 and-false false = refl
 
 -- a key of these parts is the message's own
-pub own-is : (r : Reading) (d : Direction) (role : Role) (branch sent_by method : List ℕ) {k : KeyParts}
+pub own-is : (r : Said) (d : Direction) (role : Role) (branch sent_by method : List ℕ) {k : KeyParts}
     → k ≡ record { role = role; branch = branch; sent_by = sent_by; method = method }
-    → role ≡ role_of r.message.start d
-    → branch_of r ≡ Some branch
-    → sent_by ≡ sent_by_of role r.parts.via.1
-    → method ≡ method_of r.message.start r.parts.cseq.1
+    → role ≡ role_of r.start d
+    → cookie_branch r.via.branch ≡ Some branch
+    → sent_by ≡ sent_by_of role r.via
+    → method ≡ method_of r.start r.cseq.1
     → (Some k ≡ own_key r d) × (lacks_cookie r d ≡ false)
 own-is r d role branch sent_by method key by_role by_branch by_sent_by by_method =
-    let sent_by_is : sent_by ≡ sent_by_of (role_of r.message.start d) r.parts.via.1 =
-    by_sent_by ∙ ap (λ s. sent_by_of s r.parts.via.1) by_role in
+    let sent_by_is : sent_by ≡ sent_by_of (role_of r.start d) r.via =
+    by_sent_by ∙ ap (λ s. sent_by_of s r.via) by_role in
     let f : List ℕ → KeyParts =
-    λ b. record { role = role_of r.message.start d; branch = b; sent_by = sent_by_of (role_of r.message.start d) r.parts.via.1; method = method_of r.message.start r.parts.cseq.1 } in
+    λ b. record { role = role_of r.start d; branch = b; sent_by = sent_by_of (role_of r.start d) r.via; method = method_of r.start r.cseq.1 } in
     let own : own_key r d ≡ Some (f branch) = ap (option_map f) by_branch in (
       ap Some (key ∙ (λ i. record { role = by_role i; branch = branch; sent_by = sent_by_is i; method = by_method i })) ∙ sym own,
-      ap (λ o. is_sent_request r.message.start d && not (is_some o)) by_branch ∙ and-false (is_sent_request r.message.start d),
+      ap (λ o. is_sent (λ method. true) r.start d && not (is_some o)) by_branch ∙ and-false (is_sent (λ method. true) r.start d),
     )

@@ -12,12 +12,14 @@ use Rattle.sip_text.specs.Grammar.{Token}
 use Rattle.sip_message.specs.StartLine.{StartLine, request, status, StartText}
 use Rattle.sip_message.specs.Reading.{Reading}
 use Rattle.sip_message.specs.Reads.{Reads}
+use Rattle.sip_message.specs.SaidOf.{said_of, said_via}
 use Rattle.sip_message.proofs.lemmas.text.Cuts as each
 use Rattle.sip_message.proofs.lemmas.field.OneWay.{each-token}
 use Rattle.sip_key.specs.declared.role.Role.TheVariants.{Client}
 use Rattle.sip_key.specs.declared.role.Direction.{Direction}
 use Rattle.sip_key.specs.Key.{KeyParts}
-use Rattle.sip_key.specs.Concerns.{branch_of, role_of, sent_by_of, method_of, is_sent_cancel, own_key, cancelled_key, Concerns}
+use Rattle.sip_key.specs.Branch.{cookie_branch}
+use Rattle.sip_key.specs.Concerns.{role_of, sent_by_of, method_of, is_sent, own_key, cancelled_key, Concerns}
 
 -- a byte in a range is not above it
 range_low : (low high b : ℕ) → is_in_range low high b ≡ true → b ≤ high
@@ -75,16 +77,16 @@ made_key P f h None = All-nil P
 made_key P f h (Some branch) = All-cons P (f branch) [] (h branch) (All-nil P)
 
 -- the methods of the keys that a message concerns are ASCII
-pub keys_ascii : (bytes : List ℕ) (r : Reading) (d : Direction) (keys : List KeyParts) → Reads bytes r → Concerns r d keys → All (λ k. IsAscii k.method) keys
-keys_ascii bytes r d keys reads is = subst (All (λ k. IsAscii k.method)) (sym is) (All-append (λ k. IsAscii k.method) (option_to_list (own_key r d)) (option_to_list (cancelled_key r d)) own cancelled)
+pub keys_ascii : (bytes : List ℕ) (r : Reading) (d : Direction) (keys : List KeyParts) → Reads bytes r → Concerns (said_of r) d keys → All (λ k. IsAscii k.method) keys
+keys_ascii bytes r d keys reads is = subst (All (λ k. IsAscii k.method)) (sym is) (All-append (λ k. IsAscii k.method) (option_to_list (own_key (said_of r) d)) (option_to_list (cancelled_key (said_of r) d)) own cancelled)
   where
-    own : All (λ k. IsAscii k.method) (option_to_list (own_key r d))
+    own : All (λ k. IsAscii k.method) (option_to_list (own_key (said_of r) d))
     own = made_key (λ k. IsAscii k.method)
-        (λ branch. record { role = role_of r.message.start d; branch = branch; sent_by = sent_by_of (role_of r.message.start d) r.parts.via.1; method = method_of r.message.start r.parts.cseq.1 })
-        (λ branch. method_ascii reads.text.first r.parts.cseq.1 r.message.start reads.text.is_start reads.parts.is.cseq.2.is_method) (branch_of r)
+        (λ branch. record { role = role_of r.message.start d; branch = branch; sent_by = sent_by_of (role_of r.message.start d) (said_via r.parts.via); method = method_of r.message.start r.parts.cseq.1 })
+        (λ branch. method_ascii reads.text.first r.parts.cseq.1 r.message.start reads.text.is_start reads.parts.is.cseq.2.is_method) (cookie_branch (said_of r).via.branch)
 
-    cancelled : All (λ k. IsAscii k.method) (option_to_list (cancelled_key r d))
-    cancelled = either (λ o. All (λ k. IsAscii k.method) (option_to_list o)) (is_sent_cancel r.message.start d)
-        (option_map (λ branch. record { role = Client; branch = branch; sent_by = []; method = codes "INVITE" }) (branch_of r)) None
-        (made_key (λ k. IsAscii k.method) (λ branch. record { role = Client; branch = branch; sent_by = []; method = codes "INVITE" }) (λ branch. invite_ascii) (branch_of r))
+    cancelled : All (λ k. IsAscii k.method) (option_to_list (cancelled_key (said_of r) d))
+    cancelled = either (λ o. All (λ k. IsAscii k.method) (option_to_list o)) (is_sent (λ method. bytes_eq method (codes "CANCEL")) r.message.start d)
+        (option_map (λ branch. record { role = Client; branch = branch; sent_by = []; method = codes "INVITE" }) (cookie_branch (said_of r).via.branch)) None
+        (made_key (λ k. IsAscii k.method) (λ branch. record { role = Client; branch = branch; sent_by = []; method = codes "INVITE" }) (λ branch. invite_ascii) (cookie_branch (said_of r).via.branch))
         (All-nil (λ k. IsAscii k.method))

@@ -6,7 +6,7 @@ use Rattle.sip_text.specs.Case.{folded}
 abbrev pub has_cookie : List ℕ → Bool
 has_cookie branch = bytes_eq (take 7 (folded branch)) (codes "z9hg4bk")
 
--- a branch in lower case, as parameter values are compared (section 7.3.1), if it is there and has the cookie
+-- a branch in lower case, as parameter values are compared (section 7.3.1), if it is there and begins with the magic cookie z9hG4bK
 abbrev pub cookie_branch : Option (List ℕ) → Option (List ℕ)
 cookie_branch None = None
-cookie_branch (Some branch) = if has_cookie branch then Some (folded branch) else None
+cookie_branch (Some branch) = if bytes_eq (take 7 (folded branch)) (codes "z9hg4bk") then Some (folded branch) else None

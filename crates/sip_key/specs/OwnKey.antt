@@ -1,6 +1,6 @@
 -- What is answered of a key.
 use Rattle.std.specs.Prelude.{◌≡◌, true, false, Option, Result, Ok, Err}
-use Rattle.sip_message.specs.Reading.{Reading}
+use Rattle.sip_message.specs.Says.{Said}
 use Rattle.sip_key.specs.declared.role.Direction.{Direction}
 use Rattle.sip_key.specs.Key.{KeyParts}
 use Rattle.sip_key.specs.declared.concern.KeyError.{KeyError}
@@ -8,7 +8,7 @@ use Rattle.sip_key.specs.declared.concern.KeyError.TheVariants as error
 use Rattle.sip_key.specs.Concerns.{own_key, lacks_cookie}
 
 -- the message's own key, or that it lacks the cookie; of memory nothing is said
-abbrev pub IsOwnKey : Reading → Direction → Result (Option KeyParts) KeyError → Type 0
-IsOwnKey r direction (Ok key) = (key ≡ own_key r direction) × (lacks_cookie r direction ≡ false)
-IsOwnKey r direction (Err error.NoCookie) = lacks_cookie r direction ≡ true
-IsOwnKey r direction (Err error.Memory) = Unit {0}
+abbrev pub IsOwnKey : Said → Direction → Result (Option KeyParts) KeyError → Type 0
+IsOwnKey s direction (Ok key) = (key ≡ own_key s direction) × (lacks_cookie s direction ≡ false)
+IsOwnKey s direction (Err error.NoCookie) = lacks_cookie s direction ≡ true
+IsOwnKey s direction (Err error.Memory) = Unit {0}

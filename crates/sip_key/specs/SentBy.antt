@@ -1,7 +1,6 @@
 -- sent-by (RFC 3261, sections 17.2.3 and 18.2.2).
-use Rattle.std.specs.Prelude.{ℕ, List, ◌∷◌, ◌++◌, Option, None, Some, decimal}
+use Rattle.std.specs.Prelude.{ℕ, List, ◌++◌, Option, None, Some, codes, decimal}
 use Rattle.std.specs.Str.Parse.{digits_value}
-use Rattle.sip_text.specs.Bytes.{colon}
 use Rattle.sip_text.specs.Case.{folded}
 
 -- the port as a number, 5060 where there is none
@@ -11,4 +10,4 @@ port_number (Some port) = digits_value 10 port
 
 -- sent-by as keys have it: the host in lower case, ":" and the number of the port
 abbrev pub sent_by : List ℕ → Option (List ℕ) → List ℕ
-sent_by host port = folded host ++ colon ∷ decimal (port_number port)
+sent_by host port = folded host ++ (codes ":" ++ decimal (port_number port))

@@ -2,7 +2,8 @@
 ghost use Rattle.std.specs.Prelude.{◌≡◌, ◌↔◌, [], IsTrue};
 ghost use Rattle.sip_key.specs.Solid.{solid};
 ghost use Rattle.sip_message.specs.ValueParts.{start_parts};
-ghost use Rattle.sip_key.specs.AckOf.{IsAckLine, IsAckOf, SameSolid, route};
+ghost use Rattle.sip_key.specs.AckOf.{IsAckLine, IsAckOf, SameSolid};
+ghost use Rattle.sip_message.specs.SaidOf.{said_of};
 
 use crate::solid::{next_solid, same_solid};
 use sip_message::{Message, Routes, StartLine};
@@ -12,7 +13,7 @@ use std::marker::Model;
 /// (RFC 3261, section 17.1.1.3); whether they are such is not asked. From, To, Via and Route are compared
 /// but for blanks, the rest byte for byte. It takes no memory.
 pub fn is_ack_of(ack: &Message<'_>, invite: &Message<'_>, response: &Message<'_>) -> bool
-    ensures { IsTrue result ↔ IsAckOf ack.now invite.now response.now }
+    ensures { IsTrue result ↔ IsAckOf (said_of ack.now) (said_of invite.now) (said_of response.now) }
 {
     is_ack_line(ack.start(), invite.start())
         && ack.call_id() == invite.call_id()
@@ -38,7 +39,7 @@ fn is_ack_line(ack: StartLine<'_>, invite: StartLine<'_>) -> bool
 
 // One Via element in all.
 fn has_one_via(message: &Message<'_>) -> bool
-    ensures { IsTrue result ↔ (message.now.parts.others ≡ []) }
+    ensures { IsTrue result ↔ ((said_of message.now).others ≡ []) }
 {
     let mut vias = message.vias();
     vias.next();
@@ -47,7 +48,7 @@ fn has_one_via(message: &Message<'_>) -> bool
 
 // The same Route values, joined by commas.
 fn same_route(a: &Message<'_>, b: &Message<'_>) -> bool
-    ensures { IsTrue result ↔ SameSolid (route a.now) (route b.now) }
+    ensures { IsTrue result ↔ SameSolid (said_of a.now).route (said_of b.now).route }
 {
     SolidRoute::new(a.routes()).eq(SolidRoute::new(b.routes()))
 }

@@ -8,6 +8,7 @@ ghost use Rattle.sip_message.specs.ValueParts.{start_parts};
 ghost use Rattle.sip_message.specs.ViaParts.{element};
 ghost use Rattle.sip_key.specs.Concerns.{cancelled_key, method_of, own_key, role_of, sent_by_of};
 ghost use Rattle.sip_key.specs.OwnKey.{IsOwnKey};
+ghost use Rattle.sip_message.specs.SaidOf.{said_of, said_via};
 
 use crate::branch::has_cookie;
 use crate::key::Key;
@@ -47,7 +48,7 @@ pub fn key_of(
     message: &Message<'_>,
     direction: Direction,
 ) -> Result<Option<Key>, KeyError>
-    ensures { IsOwnKey message.now direction result }
+    ensures { IsOwnKey (said_of message.now) direction result }
 {
     message.known();
     let start = message.start();
@@ -70,8 +71,8 @@ pub fn cancelled_key(
     message: &Message<'_>,
     direction: Direction,
 ) -> Result<Option<Key>, AllocError>
-    ensures key { IfOk result (λ key. key ≡ cancelled_key message.now direction) }
-    ensures other { IfOk result (λ key. IfSome key (λ k. own_key message.now direction ≢ Some k)) }
+    ensures key { IfOk result (λ key. key ≡ cancelled_key (said_of message.now) direction) }
+    ensures other { IfOk result (λ key. IfSome key (λ k. own_key (said_of message.now) direction ≢ Some k)) }
 {
     match (message.start(), direction) {
         (StartLine::Request { method, .. }, Direction::Sent) if method == b"CANCEL".as_slice() => {}
@@ -111,7 +112,7 @@ fn key_with(
     method: &[u8],
 ) -> Result<Key, AllocError>
     requires { IfSome (option_copied via.port) Port }
-    ensures { IfOk result (λ key. key ≡ record { role = role; branch = folded branch.now; sent_by = sent_by_of role (element via.entry).1; method = method.now }) }
+    ensures { IfOk result (λ key. key ≡ record { role = role; branch = folded branch.now; sent_by = sent_by_of role (said_via (element via.entry)); method = method.now }) }
 {
     match role {
         Role::Client => Key::client(alloc, branch, method),

@@ -3,6 +3,7 @@ ghost use Rattle.std.specs.Prelude.{◌≡◌, ◌↔◌, ℕ, List, true};
 ghost use Rattle.sip_message.specs.Reading.{Reading};
 ghost use Rattle.sip_message.specs.Reads.{Reads};
 ghost use Rattle.sip_key.specs.Key.{KeyParts, same_key};
+ghost use Rattle.sip_message.specs.SaidOf.{said_of};
 ghost use Rattle.sip_key.specs.AckOf.{AckOf, IsAckOf};
 
 use crate::key::Key;
@@ -15,7 +16,7 @@ pub fn keys_are_equal_by_their_parts()
 
 /// Three texts are an ACK, an INVITE and a response to it exactly if the messages that they spell are.
 pub fn an_ack_is_told_by_its_bytes()
-    ensures { (ack invite response : List ℕ) (a i r : Reading) → Reads ack a → Reads invite i → Reads response r → AckOf ack invite response ↔ IsAckOf a i r }
+    ensures { (ack invite response : List ℕ) (a i r : Reading) → Reads ack a → Reads invite i → Reads response r → AckOf ack invite response ↔ IsAckOf (said_of a) (said_of i) (said_of r) }
 {}
 
 /// Keys that feed a hasher alike are the same key: each part of a key is fed.

@@ -17,3 +17,4 @@ pub mod SpellingLemmas
 pub mod SplitLemmas
 pub mod ToldLemmas
 pub mod WindowLemmas
+pub mod LogSaysLemmas

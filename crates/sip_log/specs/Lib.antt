@@ -1,4 +1,5 @@
 pub mod Log
+pub mod LogSays
 pub mod LogFault
 pub mod Next
 pub mod Reading

@@ -1,10 +1,11 @@
 //! Laws of the format and of its devices. The functions do nothing: their contracts are the laws.
-ghost use Rattle.std.specs.Prelude.{◌≡◌, ◌<◌, ◌≤◌, ◌++◌, ℕ, List, length, flat_map};
+ghost use Rattle.std.specs.Prelude.{◌≡◌, ◌↔◌, ◌<◌, ◌≤◌, ◌++◌, ℕ, List, length, flat_map};
 ghost use Rattle.sip_times.specs.Times.{Times, AreTimes};
 ghost use Rattle.sip_log.specs.Next.{Next, gives};
 ghost use Rattle.sip_log.specs.Spelling.{Item, header_text, entry_text};
 ghost use Rattle.sip_log.specs.Turn.{ComeInTurn};
-ghost use Rattle.sip_log.specs.Log.{IsEntry, IsWithinLimits, most_entries, ComesNext, InOrder, LogEnd, Clean, Log, Holds, IsLogOf};
+ghost use Rattle.sip_log.specs.Log.{IsEntry, IsWithinLimits, most_entries, ComesNext, InOrder, LogEnd, Clean, IsLog, NoHeader, Log, Holds, IsLogOf};
+ghost use Rattle.sip_log.specs.LogSays.{LogSays, LacksHeader};
 
 use crate::sink::Sink;
 use crate::source::Source;
@@ -29,6 +30,12 @@ pub fn each_input_has_a_log()
 /// And only one.
 pub fn an_input_has_one_log()
     ensures { (input : List ℕ) (one other : Log) → IsLogOf input one → IsLogOf input other → one ≡ other }
+{}
+
+/// What an input says as a log, in which the theorem has it, is its log, and it lacks a header exactly if none stands at its front.
+pub fn an_input_says_its_log()
+    ensures log { (input : List ℕ) (p : Times) (items : List Item) (end : LogEnd) → LogSays input p items end ↔ IsLog input p items end }
+    ensures header { (input : List ℕ) → LacksHeader input ↔ NoHeader input }
 {}
 
 /// A header and entries, written one after another, are the log of what was written.

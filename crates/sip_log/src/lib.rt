@@ -22,7 +22,7 @@ pub use entry::Entry;
 pub use laws::{
     a_sink_through_a_reference_is_that_sink, a_source_through_a_reference_is_that_source,
     an_entry_is_read_as_it_was_written, an_entry_is_written_as_it_was_read, an_input_has_one_log,
-    each_input_has_a_log, what_is_written_is_read,
+    an_input_says_its_log, each_input_has_a_log, what_is_written_is_read,
 };
 pub use log_error::LogError;
 pub use progress::Progress;

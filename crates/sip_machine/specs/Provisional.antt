@@ -1,10 +1,11 @@
 use Rattle.std.specs.Prelude.{◌≡◌, ℕ, List}
 use Rattle.sip_message.specs.StartLine.{status}
-use Rattle.sip_message.specs.Message.{Message, Spells}
+use Rattle.sip_message.specs.Outcome.{gives}
+use Rattle.sip_message.specs.Says.{Said, Says}
 
--- the bytes spell a 100 (Trying), RFC 3261 section 21.1.1, which a server may send and need not; bytes that spell no message are none
+-- the bytes say a 100 (Trying), RFC 3261 section 21.1.1, which a server may send and need not; bytes that say no message are none
 pub record Is100 (bytes : List ℕ) : Type 0 where
-  pub message : Message
+  pub said : Said
   pub reason : List ℕ
-  pub spells : Spells bytes message
-  pub start : message.start ≡ status 100 reason
+  pub says : Says bytes (gives said)
+  pub start : said.start ≡ status 100 reason

@@ -10,3 +10,4 @@ pub mod via
 pub mod asked
 pub mod message
 pub mod canon
+pub mod says

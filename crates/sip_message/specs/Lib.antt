@@ -22,3 +22,5 @@ pub mod Reading
 pub mod ValueParts
 pub mod Reads
 pub mod Transport
+pub mod Says
+pub mod SaidOf

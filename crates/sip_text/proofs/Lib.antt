@@ -25,3 +25,4 @@ pub mod UriPartLemmas
 pub mod UriPortLemmas
 pub mod UriSchemeLemmas
 pub mod UriSipLemmas
+pub mod ProfileLemmas

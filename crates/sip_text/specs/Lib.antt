@@ -3,10 +3,12 @@ pub mod Bytes
 pub mod Grammar
 pub mod Blanks
 pub mod Case
+pub mod Chars
 pub mod Class
 pub mod Cut
 pub mod Host
 pub mod HostTests
 pub mod Quoted
 pub mod Uri
+pub mod Profile
 pub mod UriCut

@@ -25,6 +25,8 @@ use Rattle.sip_verdict.specs.inner.Numbering.{Appends, AppendsEach, IsTextOf}
 use Rattle.sip_verdict.proofs.Keys.{contains-among}
 use Rattle.sip_verdict.proofs.TablesPassing.{All-place, zip-place, keys_are}
 use Rattle.sip_verdict.proofs.TablesTouching.{keys_exact}
+use Rattle.sip_message.proofs.lemmas.says.Reading.{says-reads}
+use Rattle.sip_key.specs.Concerns.{Concerns}
 use Rattle.sip_key.proofs.MethodLemmas.{keys_ascii}
 use Rattle.sip_verdict.proofs.ListingLemmas.{TellsBook, told_set, standing_lines}
 
@@ -32,8 +34,10 @@ use Rattle.sip_verdict.proofs.ListingLemmas.{TellsBook, told_set, standing_lines
 
 message_ascii : (i : Item) (e : Observation KeyParts) (d : Direction) → ObservesMessage d i e → All (λ k. IsAscii k.method) e.keys
 message_ascii i e d (has_fault fault has is) = subst (All (λ k. IsAscii k.method)) (sym (ap (λ x. x.keys) is)) (All-nil (λ k. IsAscii k.method))
-message_ascii i e d (has_no_cookie r reads lacks is) = subst (All (λ k. IsAscii k.method)) (sym (ap (λ x. x.keys) is)) (All-nil (λ k. IsAscii k.method))
-message_ascii i e d (is_heard r keys reads has concerns is) = subst (All (λ k. IsAscii k.method)) (sym (ap (λ x. x.keys) is)) (keys_ascii i.text r d keys reads concerns)
+message_ascii i e d (has_no_cookie s says lacks is) = subst (All (λ k. IsAscii k.method)) (sym (ap (λ x. x.keys) is)) (All-nil (λ k. IsAscii k.method))
+message_ascii i e d (is_heard s keys says has concerns is) =
+    let read = says-reads i.text s says in
+    subst (All (λ k. IsAscii k.method)) (sym (ap (λ x. x.keys) is)) (keys_ascii i.text read.0 d keys read.1 (subst (λ x. Concerns x d keys) read.2 concerns))
 
 ways_ascii : (i : Item) (e : Observation KeyParts) (way : Option Direction) → MatchOption way (e ≡ mark_observation i.moment) (λ d. ObservesMessage d i e) → All (λ k. IsAscii k.method) e.keys
 ways_ascii i e None is = subst (All (λ k. IsAscii k.method)) (sym (ap (λ x. x.keys) is)) (All-nil (λ k. IsAscii k.method))

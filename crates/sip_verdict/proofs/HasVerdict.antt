@@ -5,7 +5,9 @@ use Rattle.sip_message.specs.declared.fault.Fault.{Fault}
 use Rattle.sip_message.specs.Faults.{FaultOf}
 use Rattle.sip_message.specs.Reading as message
 use Rattle.sip_message.specs.Reads.{Reads}
+use Rattle.sip_message.specs.SaidOf.{said_of}
 use Rattle.sip_message.proofs.lemmas.message.Total.{reading-or-fault}
+use Rattle.sip_message.proofs.lemmas.says.Reading.{reads-says, fault-says}
 use Rattle.sip_key.specs.declared.role.Direction.{Direction}
 use Rattle.sip_key.specs.declared.role.Direction.TheVariants as way
 use Rattle.sip_key.specs.Key.{KeyParts}
@@ -104,14 +106,14 @@ observes_message : (direction : Direction) (item : Item) → Weakly ((e : Observ
 observes_message direction item never = reading-or-fault item.text no_reading no_fault
   where
     no_fault : (fault : Fault) → ¬ (FaultOf item.text (Some fault))
-    no_fault fault is = never (_, has_fault fault is refl)
+    no_fault fault is = never (_, has_fault fault (fault-says item.text fault is) refl)
 
     no_reading : (r : message.Reading) → ¬ (Reads item.text r)
-    no_reading r reads = by_cookie (lacks_cookie r direction) refl
+    no_reading r reads = by_cookie (lacks_cookie (said_of r) direction) refl
       where
-        by_cookie : (b : Bool) → lacks_cookie r direction ≡ b → ⊥
-        by_cookie true lacks = never (_, has_no_cookie r reads lacks refl)
-        by_cookie false has = never (_, is_heard r _ reads has refl refl)
+        by_cookie : (b : Bool) → lacks_cookie (said_of r) direction ≡ b → ⊥
+        by_cookie true lacks = never (_, has_no_cookie (said_of r) (reads-says item.text r reads) lacks refl)
+        by_cookie false has = never (_, is_heard (said_of r) _ (reads-says item.text r reads) has refl refl)
 
 -- and of each entry
 sees_entry : Sees message_reading

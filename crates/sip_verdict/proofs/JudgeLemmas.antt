@@ -23,7 +23,10 @@ use Rattle.sip_verdict.specs.inner.Sweeping.{AreFollowedOn, StandsForRead}
 use Rattle.sip_verdict.specs.inner.TablesTracking.{MayTake}
 use Rattle.sip_verdict.specs.inner.Walking.{HasRead}
 use Rattle.sip_verdict.proofs.JudgeTables.{may_later}
+use Rattle.sip_verdict.specs.Reading.{IsVerdictBy}
+use Rattle.sip_log.proofs.ReadingLemmas.{IfSome-map}
 use Rattle.sip_verdict.proofs.JudgingLemmas.{observed-push, judged_ends, judged_trouble}
+use Rattle.sip_verdict.proofs.VerdictLemmas.{by-verdict}
 use Rattle.sip_verdict.proofs.FollowedLemmas.{observed_moment, followed_keys}
 
 -- an entry may be taken that may come next
@@ -51,19 +54,24 @@ stands_on j k e next number moment goes_on es stands (seen, observed, follows) =
   },
 )
 
+-- a verdict by the reading of messages is one
+pub verdict_of : (start : Option (List ℕ)) (v : Verdict) → IfSome start (λ input. IsVerdictBy message_reading input v) → IfSome start (λ input. IsVerdictOf input v)
+verdict_of start v is = IfSome-map start (λ input. IsVerdictBy message_reading input v) (λ input. IsVerdictOf input v) (λ input. by-verdict input v) is
+
 module _ (start : Option (List ℕ)) (now : log.Reading) (j : Judging) (read : StandsForRead j start now) where
   -- the log ends: the entries are legal
   pub read_ends : IfSome start (λ input. IsLog input j.tables.times read.items Clean)
       → IfSome start (λ input. IsVerdictOf input (Legal (length read.es) (length (keys_of (key_machines j.tables.times) read.es))))
   read_ends logs =
-      judged_ends message_reading j.tables.times _ start now read read.follows.follows.tracks.good Clean (Legal (length read.es) (length (keys_of (key_machines j.tables.times) read.es))) refl logs
+      let legal : Verdict = Legal (length read.es) (length (keys_of (key_machines j.tables.times) read.es)) in
+      verdict_of start legal (judged_ends message_reading j.tables.times _ start now read read.follows.follows.tracks.good Clean legal refl logs)
 
   -- the next entry cannot be read
   pub read_stops : (count : ℕ) (reason : LogReason) → count ≡ j.number → (fault : LogFault) × (reason ≡ reason_of fault) × IfSome start (λ input. IsLog input j.tables.times read.items (Stops fault))
       → IfSome start (λ input. IsVerdictOf input (FaultOfLog (count + 1) reason))
   read_stops count reason counts (fault, is, logs) =
-      judged_ends message_reading j.tables.times _ start now read read.follows.follows.tracks.good (Stops fault) (FaultOfLog (count + 1) reason)
-      (ap (λ c. FaultOfLog (c + 1) reason) (counts ∙ read.follows.number) ∙ ap (FaultOfLog (length read.es + 1)) is) logs
+      verdict_of start (FaultOfLog (count + 1) reason) (judged_ends message_reading j.tables.times _ start now read read.follows.follows.tracks.good (Stops fault) (FaultOfLog (count + 1) reason)
+      (ap (λ c. FaultOfLog (c + 1) reason) (counts ∙ read.follows.number) ∙ ap (FaultOfLog (length read.es + 1)) is) logs)
 
   module _ (e : Entry) (new : log.Reading) (more : HasRead start j.tables.times (read.items ++ item e ∷ []) new) (k : Judging) (times : k.tables.times ≡ j.tables.times) where
     -- it was judged, and is in no trouble
@@ -84,4 +92,4 @@ module _ (start : Option (List ℕ)) (now : log.Reading) (j : Judging) (read : S
         → IfSome start (λ input. IsVerdictOf input v)
     read_trouble v says =
         let h = says read.es read.follows in
-        judged_trouble message_reading j.tables.times _ start now read read.follows.follows.tracks.good (item e) new more h.0 h.1 v (subst (λ p. IsTrouble (key_machines p) read.es h.0 v) times h.2)
+        verdict_of start v (judged_trouble message_reading j.tables.times _ start now read read.follows.follows.tracks.good (item e) new more h.0 h.1 v (subst (λ p. IsTrouble (key_machines p) read.es h.0 v) times h.2))

@@ -11,12 +11,13 @@ use Rattle.sip_verdict.specs.MessageReading.{direction_of, mark_observation, mes
 use Rattle.sip_verdict.specs.LegalLog.{IsFormed, IsLegalLog}
 use Rattle.sip_verdict.specs.VerdictOf.{IsVerdictOf}
 use Rattle.sip_verdict.proofs.LegalRuns.{legal_has_runs}
+use Rattle.sip_verdict.proofs.VerdictLemmas.{verdict-by}
 
 -- a message that is observed without a fault is of the grammar
 formed : (direction : Direction) (item : Item) (e : Observation KeyParts) → e.fault ≡ None → ObservesMessage direction item e → IsFormed direction item.text
 formed direction item e none (has_fault fault has is) = let h : Some fault ≡ None = sym (ap (λ x. x.fault) is) ∙ none in cc
-formed direction item e none (has_no_cookie r reads lacks is) = let h : Some no_cookie ≡ None = sym (ap (λ x. x.fault) is) ∙ none in cc
-formed direction item e none (is_heard r keys reads fine concerns is) = (r, reads, fine)
+formed direction item e none (has_no_cookie s says lacks is) = let h : Some no_cookie ≡ None = sym (ap (λ x. x.fault) is) ∙ none in cc
+formed direction item e none (is_heard s keys says fine concerns is) = (s, says, fine)
 
 -- so is the message of an entry, if it has one
 formed_going : (direction : Option Direction) (item : Item) (e : Observation KeyParts) → e.fault ≡ None → MatchOption direction (e ≡ mark_observation item.moment) (λ d. ObservesMessage d item e)
@@ -37,5 +38,5 @@ all_formed before (item ∷ items) (e ∷ es) seen none =
 -- a legal log has messages of the grammar, and runs
 pub legal_log : (input : List ℕ) (entries transactions : ℕ) → IsVerdictOf input (Legal entries transactions) → IsLegalLog input entries transactions
 legal_log input entries transactions v =
-    let runs = legal_has_runs message_reading input entries transactions v in
+    let runs = legal_has_runs message_reading input entries transactions (verdict-by input (Legal entries transactions) v) in
     record { runs = runs; formed = all_formed [] runs.whole.items runs.es runs.whole.observed runs.formed }

@@ -35,3 +35,4 @@ pub mod TrackingLemmas
 pub mod Unique
 pub mod WalkingLemmas
 pub mod WalksLemmas
+pub mod VerdictLemmas

@@ -7,6 +7,10 @@ use Rattle.sip_message.specs.Transport.{is_reliable}
 use Rattle.sip_message.specs.Reading as message
 use Rattle.sip_message.specs.Reads.{Reads}
 use Rattle.sip_message.specs.Faults.{FaultOf}
+use Rattle.sip_message.specs.Outcome.{gives, stops}
+use Rattle.sip_message.specs.Says.{Says}
+use Rattle.sip_message.specs.SaidOf.{said_of}
+use Rattle.sip_message.proofs.lemmas.says.Reading.{reads-says, fault-says}
 use Rattle.sip_key.specs.declared.role.Direction.{Direction}
 use Rattle.sip_key.specs.declared.role.Direction.TheVariants as way
 use Rattle.sip_key.specs.Key.{KeyParts}
@@ -49,12 +53,12 @@ going_says Mark direction goes = cc
 
 -- a fault of its bytes
 pub observes_fault : (item : Item) (direction : Direction) (text : List ℕ) (fault : Fault) → text ≡ item.text → FaultOf text (Some fault) → ObservesMessage direction item (fault_observation item fault)
-observes_fault item direction text fault same has = has_fault fault (subst (λ t. FaultOf t (Some fault)) same has) refl
+observes_fault item direction text fault same has = has_fault fault (subst (λ t. Says t (stops fault)) same (fault-says text fault has)) refl
 
 -- that it lacks the cookie
-pub observes_no_cookie : (item : Item) (direction : Direction) (text : List ℕ) (r : message.Reading) → text ≡ item.text → Reads text r → lacks_cookie r direction ≡ true
+pub observes_no_cookie : (item : Item) (direction : Direction) (text : List ℕ) (r : message.Reading) → text ≡ item.text → Reads text r → lacks_cookie (said_of r) direction ≡ true
     → ObservesMessage direction item (fault_observation item no_cookie)
-observes_no_cookie item direction text r same reads lacks = has_no_cookie r (subst (λ t. Reads t r) same reads) lacks refl
+observes_no_cookie item direction text r same reads lacks = has_no_cookie (said_of r) (subst (λ t. Says t (gives (said_of r))) same (reads-says text r reads)) lacks refl
 
 -- that it concerns no key
 pub observes_none : (item : Item) (direction : Direction) (text : List ℕ) (r : message.Reading) → text ≡ item.text → Reads text r → lacks_cookie r direction ≡ false → Concerns r direction []
@@ -67,12 +71,12 @@ event_of item r number = record { moment = item.moment; action = item.action; nu
 
 -- its event and its keys
 pub observes_heard : (item : Item) (direction : Direction) (text : List ℕ) (r : message.Reading) (texts : Texts) (event : NumberedEvent) (number : ℕ) (keys : List KeyParts) → text ≡ item.text → Reads text r
-    → lacks_cookie r direction ≡ false → Concerns r direction keys → event ≡ event_of item r number → text_of texts number ≡ item.text
+    → lacks_cookie (said_of r) direction ≡ false → Concerns (said_of r) direction keys → event ≡ event_of item r number → text_of texts number ≡ item.text
     → ObservesMessage direction item (record { fault = None; event = heard texts event; keys = keys })
 observes_heard item direction text r texts event number keys same reads has concerns event_is kept =
-    is_heard r keys (subst (λ t. Reads t r) same reads) has concerns (ap (λ h. record { fault = None; event = h; keys = keys }) (ap (heard texts) event_is ∙ alike))
+    is_heard (said_of r) keys (subst (λ t. Says t (gives (said_of r))) same (reads-says text r reads)) has concerns (ap (λ h. record { fault = None; event = h; keys = keys }) (ap (heard texts) event_is ∙ alike))
   where
-    alike : heard texts (event_of item r number) ≡ heard_message item r
+    alike : heard texts (event_of item r number) ≡ heard_message item (said_of r)
     alike = ap (λ t. record { moment = item.moment; action = item.action; text = t; kind = kind_of r.message.start; reliable = is_reliable r.parts.via.1.transport }) kept
 
 -- the event fits the book that keeps its message

@@ -28,7 +28,10 @@ use Rattle.sip_verdict.specs.inner.Tracking.{Tracks, IsJudged}
 use Rattle.sip_verdict.specs.inner.TablesTracking.{key_keeping, transactions_of, TablesTrack}
 use Rattle.sip_verdict.specs.inner.Numbering.{AreNumbered, StaysNumbered, IsListedEntry}
 use Rattle.sip_verdict.specs.inner.Walking.{HasRead, Walks, WalksOn, IsBehind, listed_behind}
+use Rattle.sip_verdict.specs.Reading.{IsVerdictBy}
 use Rattle.sip_verdict.proofs.JudgingLemmas.{observed-push, judged_ends, judged_trouble}
+use Rattle.sip_verdict.proofs.VerdictLemmas.{verdict-by}
+use Rattle.sip_verdict.proofs.JudgeLemmas.{verdict_of}
 use Rattle.sip_verdict.proofs.NumberingLemmas.{numbered_start}
 use Rattle.sip_verdict.proofs.TrackingLemmas.{tracks_none}
 use Rattle.sip_verdict.proofs.WalkingLemmas.{read_log, read_count}
@@ -65,15 +68,15 @@ trouble_low m es e (FaultOfLog entry reason) count many is = absurd is
 -- what is listed of a later entry where this verdict comes before it
 pub listed_before : (start : Option (List ℕ)) (entry count : ℕ) (v : Verdict) → count < entry → IfSome start (λ input. IsVerdictOf input v) → IsBehind count v → IfSome start (λ input. IsListingOf input entry (listed_behind v))
 listed_before start entry count (Legal whole transactions) low is behind =
-    IfSome-map start (λ input. IsVerdictOf input (Legal whole transactions)) (λ input. IsListingOf input entry NoEntry) (λ input verdict. inr (whole, transactions, verdict, omega (arith, behind, low))) is
+    IfSome-map start (λ input. IsVerdictOf input (Legal whole transactions)) (λ input. IsListingOf input entry NoEntry) (λ input verdict. inr (whole, transactions, verdict-by input (Legal whole transactions) verdict, omega (arith, behind, low))) is
 listed_before start entry count (Malformed at fault) low is behind =
-    IfSome-map start (λ input. IsVerdictOf input (Malformed at fault)) (λ input. IsListingOf input entry (Stopped (Malformed at fault))) (λ input verdict. (verdict, omega (arith, behind, low))) is
+    IfSome-map start (λ input. IsVerdictOf input (Malformed at fault)) (λ input. IsListingOf input entry (Stopped (Malformed at fault))) (λ input verdict. (verdict-by input (Malformed at fault) verdict, omega (arith, behind, low))) is
 listed_before start entry count (Breach at transaction) low is behind =
-    IfSome-map start (λ input. IsVerdictOf input (Breach at transaction)) (λ input. IsListingOf input entry (Stopped (Breach at transaction))) (λ input verdict. (verdict, omega (arith, behind, low))) is
+    IfSome-map start (λ input. IsVerdictOf input (Breach at transaction)) (λ input. IsListingOf input entry (Stopped (Breach at transaction))) (λ input verdict. (verdict-by input (Breach at transaction) verdict, omega (arith, behind, low))) is
 listed_before start entry count (Undecided at transaction) low is behind =
-    IfSome-map start (λ input. IsVerdictOf input (Undecided at transaction)) (λ input. IsListingOf input entry (Stopped (Undecided at transaction))) (λ input verdict. (verdict, omega (arith, behind, low))) is
+    IfSome-map start (λ input. IsVerdictOf input (Undecided at transaction)) (λ input. IsListingOf input entry (Stopped (Undecided at transaction))) (λ input verdict. (verdict-by input (Undecided at transaction) verdict, omega (arith, behind, low))) is
 listed_before start entry count (FaultOfLog at reason) low is behind =
-    IfSome-map start (λ input. IsVerdictOf input (FaultOfLog at reason)) (λ input. IsListingOf input entry (Stopped (FaultOfLog at reason))) (λ input verdict. (verdict, omega (arith, behind, low))) is
+    IfSome-map start (λ input. IsVerdictOf input (FaultOfLog at reason)) (λ input. IsListingOf input entry (Stopped (FaultOfLog at reason))) (λ input verdict. (verdict-by input (FaultOfLog at reason) verdict, omega (arith, behind, low))) is
 
 module _ (start : Option (List ℕ)) (now : log.Reading) (texts : Texts) (t : Tabled) (walks : Walks start now texts t) where
   -- so many entries were judged
@@ -92,7 +95,7 @@ module _ (start : Option (List ℕ)) (now : log.Reading) (texts : Texts) (t : Ta
   walks_end count many counts long logs =
       let j = walks.judged in
       let keys : many ≡ length (keys_of (key_machines t.times) j.es) = long ∙ sym (length-map (transactions_of t) (λ x. x.0)) ∙ ap length j.follows.keys in (
-        judged_ends message_reading t.times _ start now j j.follows.good Clean (Legal count many) (ap (λ c. Legal c many) (counts ∙ judged_count) ∙ ap (Legal (length j.es)) keys) logs,
+        verdict_of start (Legal count many) (judged_ends message_reading t.times _ start now j j.follows.good Clean (Legal count many) (ap (λ c. Legal c many) (counts ∙ judged_count) ∙ ap (Legal (length j.es)) keys) logs),
         refl,
       )
 
@@ -101,8 +104,8 @@ module _ (start : Option (List ℕ)) (now : log.Reading) (texts : Texts) (t : Ta
       → IfSome start (λ input. IsVerdictOf input (FaultOfLog (count + 1) reason))
   walks_fault count reason counts (fault, is, logs) =
       let j = walks.judged in
-      judged_ends message_reading t.times _ start now j j.follows.good (Stops fault) (FaultOfLog (count + 1) reason)
-      (ap (λ c. FaultOfLog (c + 1) reason) (counts ∙ judged_count) ∙ ap (FaultOfLog (length j.es + 1)) is) logs
+      verdict_of start (FaultOfLog (count + 1) reason) (judged_ends message_reading t.times _ start now j j.follows.good (Stops fault) (FaultOfLog (count + 1) reason)
+      (ap (λ c. FaultOfLog (c + 1) reason) (counts ∙ judged_count) ∙ ap (FaultOfLog (length j.es + 1)) is) logs)
 
   module _ (count : ℕ) (counts : count ≡ now.count) (e : Entry) (next : e.number ≡ now.count + 1) (new : log.Reading) (read : HasRead start t.times (walks.judged.items ++ item e ∷ []) new) where
     number_is : e.number ≡ length walks.judged.es + 1
@@ -130,7 +133,7 @@ module _ (start : Option (List ℕ)) (now : log.Reading) (texts : Texts) (t : Ta
     walks_on texts2 u (Some v) says numbered times =
         let j = walks.judged in
         let h = says j.es j.follows number_is in
-        (judged_trouble message_reading t.times _ start now j j.follows.good (item e) new read h.0 h.1 v h.2, behind_trouble (key_machines t.times) j.es h.0 v count (counts ∙ judged_count) h.2)
+        (verdict_of start v (judged_trouble message_reading t.times _ start now j j.follows.good (item e) new read h.0 h.1 v h.2), behind_trouble (key_machines t.times) j.es h.0 v count (counts ∙ judged_count) h.2)
 
     -- what is listed of it
     pub walks_listed : (listing : Listing)
@@ -142,7 +145,7 @@ module _ (start : Option (List ℕ)) (now : log.Reading) (texts : Texts) (t : Ta
     walks_listed (Stopped v) says =
         let j = walks.judged in
         let h = says j.es j.items [] j.follows walks.numbered j.long number_is in
-        IfSome-map start (λ input. IsVerdictOf input v) (λ input. IsListingOf input (count + 1) (Stopped v)) (λ input verdict. (verdict, trouble_low (key_machines t.times) j.es h.0 v count (counts ∙ judged_count) h.2))
+        IfSome-map start (λ input. IsVerdictBy message_reading input v) (λ input. IsListingOf input (count + 1) (Stopped v)) (λ input verdict. (verdict, trouble_low (key_machines t.times) j.es h.0 v count (counts ∙ judged_count) h.2))
         (judged_trouble message_reading t.times _ start now j j.follows.good (item e) new read h.0 h.1 v h.2)
     walks_listed (Text text) says =
         let j = walks.judged in

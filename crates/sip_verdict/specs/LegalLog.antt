@@ -1,7 +1,7 @@
 -- What a legal log is.
 use Rattle.std.specs.Prelude.{◌≡◌, ℕ, false, List, All, IfSome}
-use Rattle.sip_message.specs.Reading.{Reading}
-use Rattle.sip_message.specs.Reads.{Reads}
+use Rattle.sip_message.specs.Outcome.{gives}
+use Rattle.sip_message.specs.Says.{Said, Says}
 use Rattle.sip_key.specs.declared.role.Direction.{Direction}
 use Rattle.sip_key.specs.Concerns.{lacks_cookie}
 use Rattle.sip_verdict.specs.Reading.{HasRuns}
@@ -9,7 +9,7 @@ use Rattle.sip_verdict.specs.MessageReading.{direction_of, message_reading}
 
 -- the bytes are a message of the grammar, RFC 3261 sections 7 and 25, with the cookie if it is a request that is sent, section 8.1.1.7
 abbrev pub IsFormed : Direction → List ℕ → Type 0
-IsFormed direction text = (r : Reading) × Reads text r × (lacks_cookie r direction ≡ false)
+IsFormed direction text = (s : Said) × Says text (gives s) × (lacks_cookie s direction ≡ false)
 
 -- the log of the input has so many entries, each with a message of the grammar if it has one, and so many transactions, each with a run over them
 pub record IsLegalLog (input : List ℕ) (entries transactions : ℕ) : Type 0 where

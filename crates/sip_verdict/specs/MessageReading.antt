@@ -4,9 +4,8 @@ use Rattle.sip_message.specs.declared.fault.Fault.{Fault}
 use Rattle.sip_message.specs.declared.fault.Unit.TheVariants.{Head}
 use Rattle.sip_message.specs.declared.fault.Reason.TheVariants.{NoCookie}
 use Rattle.sip_message.specs.Transport.{is_reliable}
-use Rattle.sip_message.specs.Reading as message
-use Rattle.sip_message.specs.Reads.{Reads}
-use Rattle.sip_message.specs.Faults.{FaultOf}
+use Rattle.sip_message.specs.Outcome.{gives, stops}
+use Rattle.sip_message.specs.Says.{Said, Says}
 use Rattle.sip_key.specs.declared.role.Direction.{Direction}
 use Rattle.sip_key.specs.declared.role.Direction.TheVariants as way
 use Rattle.sip_key.specs.Key.{KeyParts, same_key}
@@ -40,19 +39,12 @@ mark_observation moment = record { fault = None; event = record { moment = momen
 
 -- nothing but its moment is seen of an entry whose message has a fault
 abbrev pub fault_observation : Item → Fault → Observation KeyParts
-fault_observation item fault = record {
-  fault = Some fault;
-  event = record { moment = item.moment; action = item.action; text = item.text; kind = Request Other; reliable = false };
-  keys = [];
-}
+fault_observation item fault =
+    record { fault = Some fault; event = record { moment = item.moment; action = item.action; text = item.text; kind = Request Other; reliable = false }; keys = [] }
 
 -- an entry with its message as a machine hears it: a method or a code, sections 7.1 and 7.2, over the transport of the top Via
-abbrev pub heard_message : Item → message.Reading → Heard
-heard_message item r = record { moment = item.moment; action = item.action; text = item.text; kind = kind_of r.message.start; reliable = is_reliable r.parts.via.1.transport }
-
--- a message without a fault is heard, and concerns these keys
-abbrev pub message_observation : Item → message.Reading → List KeyParts → Observation KeyParts
-message_observation item r keys = record { fault = None; event = heard_message item r; keys = keys }
+abbrev pub heard_message : Item → Said → Heard
+heard_message item s = record { moment = item.moment; action = item.action; text = item.text; kind = kind_of s.start; reliable = is_reliable s.via.transport }
 
 -- the fault of a request that is sent without the cookie, section 8.1.1.7
 abbrev pub no_cookie : Fault
@@ -61,11 +53,12 @@ no_cookie = record { unit = Head; reason = NoCookie }
 -- what is observed of an entry whose message went this way
 pub data ObservesMessage (direction : Direction) (item : Item) (e : Observation KeyParts) : Type 0 where
   -- the first fault of its bytes, sections 7 and 25
-  has_fault : (fault : Fault) → FaultOf item.text (Some fault) → e ≡ fault_observation item fault → ObservesMessage direction item e
+  has_fault : (fault : Fault) → Says item.text (stops fault) → e ≡ fault_observation item fault → ObservesMessage direction item e
   -- else, that it is sent and lacks the cookie
-  has_no_cookie : (r : message.Reading) → Reads item.text r → lacks_cookie r direction ≡ true → e ≡ fault_observation item no_cookie → ObservesMessage direction item e
+  has_no_cookie : (s : Said) → Says item.text (gives s) → lacks_cookie s direction ≡ true → e ≡ fault_observation item no_cookie → ObservesMessage direction item e
   -- else its event and its keys, sections 17.1.3, 17.2.3 and 9.1
-  is_heard : (r : message.Reading) (keys : List KeyParts) → Reads item.text r → lacks_cookie r direction ≡ false → Concerns r direction keys → e ≡ message_observation item r keys → ObservesMessage direction item e
+  is_heard : (s : Said) (keys : List KeyParts) → Says item.text (gives s) → lacks_cookie s direction ≡ false → Concerns s direction keys
+      → e ≡ record { fault = None; event = heard_message item s; keys = keys } → ObservesMessage direction item e
 
 -- how a log of messages is read: an entry without a message is a mark; what is observed of an entry does not depend on those before it
 abbrev pub message_reading : Reading KeyParts

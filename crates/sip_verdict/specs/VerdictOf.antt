@@ -1,8 +1,74 @@
-use Rattle.std.specs.Prelude.{ℕ, List}
+-- The verdict of an input, its messages being those of RFC 3261.
+use Rattle.std.specs.Prelude.{◌≡◌, ◌≢◌, ◌+◌, ◌<◌, ◌⊎◌, ℕ, true, Some, None, MatchOption, List, [], ◌∷◌, ◌++◌, length, map, filter, fold, flat_map, if◌then◌else◌, All, AllPairs}
+use Rattle.std.specs.List.{list_any}
+use Rattle.sip_key.specs.Key.{KeyParts, same_key}
+use Rattle.sip_machine.specs.Times.{Times}
+use Rattle.sip_machine.specs.Heard.{Heard}
+use Rattle.sip_states.specs.KeyMachine.{machine_of_key, PhaseOf, rules_of}
+use Rattle.sip_states.specs.Runs.{Run, After}
+use Rattle.sip_log.specs.Spelling.{Item}
+use Rattle.sip_log.specs.Log.{LogEnd, Clean, Stops}
+use Rattle.sip_log.specs.LogSays.{LogSays, LacksHeader}
 use Rattle.sip_verdict.specs.declared.verdict.Verdict.{Verdict}
-use Rattle.sip_verdict.specs.Reading.{IsVerdictBy}
-use Rattle.sip_verdict.specs.MessageReading.{message_reading}
+use Rattle.sip_verdict.specs.declared.verdict.Verdict.TheVariants.{Legal, Malformed, Breach, Undecided, LogFault}
+use Rattle.sip_verdict.specs.declared.log_reason.LogReason.TheVariants.{Header}
+use Rattle.sip_verdict.specs.LogReason.{reason_of}
+use Rattle.sip_verdict.specs.Keyed.{Observation}
+use Rattle.sip_verdict.specs.MessageReading.{direction_of, mark_observation, ObservesMessage}
 
--- the verdict of an input, its messages being those of RFC 3261
+-- what is observed of an entry: of one without a message that it is a mark; what stood before it has no part in it
+abbrev pub Sees : Item → Observation KeyParts → Type 0
+Sees item e = MatchOption (direction_of item.action) (e ≡ mark_observation item.moment) (λ direction. ObservesMessage direction item e)
+
+-- the keys of the entries, in the order of their first appearance
+abbrev pub keys_in : List (Observation KeyParts) → List KeyParts
+keys_in es = fold (λ keys key. if list_any (same_key key) keys then keys else keys ++ key ∷ []) [] (flat_map (λ e. e.keys) es)
+
+-- the events of the entries that concern the key, in order
+abbrev pub events_for : KeyParts → List (Observation KeyParts) → List Heard
+events_for key es = map (λ e. e.event) (filter (λ e. list_any (same_key key) e.keys) es)
+
+-- the key has a run over the entries, by the machine of its role and method (RFC 3261 section 17), which waits until the newest
+abbrev pub RunsOver : Times → List (Observation KeyParts) → KeyParts → Type 0
+RunsOver p es key =
+    (y : PhaseOf (machine_of_key key)) × Run (rules_of p (machine_of_key key)) (events_for key es) (fold (λ moment e. e.event.moment) 0 es) y
+
+-- the entry behind these concerns the key, and its runs that end with the entry's step can stand in more than 1,024 states
+abbrev pub IsWideAt : Times → List (Observation KeyParts) → Observation KeyParts → KeyParts → Type 0
+IsWideAt p front e key =
+    (list_any (same_key key) e.keys ≡ true)
+    × ((many : List (PhaseOf (machine_of_key key))) × AllPairs (λ x y. x ≢ y) many × (1024 < length many)
+    × All (After (rules_of p (machine_of_key key)) (events_for key front) e.event) many)
+
+-- the number, from 1, of the first key of which P holds
+abbrev pub IsFirstKey : (KeyParts → Type 0) → List KeyParts → ℕ → Type 0
+IsFirstKey P keys number =
+    (before : List KeyParts) × (key : KeyParts) × (rest : List KeyParts)
+    × (keys ≡ before ++ key ∷ rest) × P key × All (λ k. ¬ (P k)) before × (number ≡ length before + 1)
+
+-- the verdict of the entry behind these, which is in trouble: its fault, else the first key without a run, else the first that is too wide
+abbrev pub HasTrouble : Times → List (Observation KeyParts) → Observation KeyParts → Verdict → Type 0
+HasTrouble p front e (Malformed entry fault) = (entry ≡ length front + 1) × (e.fault ≡ Some fault)
+HasTrouble p front e (Breach entry transaction) =
+    (entry ≡ length front + 1) × (e.fault ≡ None) × IsFirstKey (λ key. ¬ (RunsOver p (front ++ e ∷ []) key)) (keys_in (front ++ e ∷ [])) transaction
+HasTrouble p front e (Undecided entry transaction) =
+    (entry ≡ length front + 1) × (e.fault ≡ None) × All (RunsOver p (front ++ e ∷ [])) (keys_in (front ++ e ∷ []))
+    × IsFirstKey (IsWideAt p front e) (keys_in (front ++ e ∷ [])) transaction
+HasTrouble p front e v = ⊥
+
+-- the verdict of the entries that are left and of how they end, behind others in no trouble: that the log is legal, or that the next entry
+-- cannot be read; or that of the next entry, if it is in trouble, and if it is not, that of what is left behind it
+abbrev pub IsVerdictBehind : Times → List (Observation KeyParts) → List Item → LogEnd → Verdict → Type 0
+IsVerdictBehind p es [] Clean v = v ≡ Legal (length es) (length (keys_in es))
+IsVerdictBehind p es [] (Stops fault) v = v ≡ LogFault (length es + 1) (reason_of fault)
+IsVerdictBehind p es (item ∷ items) end v =
+    (e : Observation KeyParts) × Sees item e
+    × (HasTrouble p es e v
+    ⊎ ((e.fault ≡ None) × All (RunsOver p (es ++ e ∷ [])) (keys_in (es ++ e ∷ [])) × All (λ key. ¬ (IsWideAt p es e key)) (keys_in (es ++ e ∷ []))
+    × IsVerdictBehind p (es ++ e ∷ []) items end v))
+
+-- the verdict of an input, its messages being those of RFC 3261: that of its header, or of its entries
 abbrev pub IsVerdictOf : List ℕ → Verdict → Type 0
-IsVerdictOf input v = IsVerdictBy message_reading input v
+IsVerdictOf input v =
+    (LacksHeader input × (v ≡ LogFault 0 Header))
+    ⊎ ((p : Times) × (items : List Item) × (end : LogEnd) × LogSays input p items end × IsVerdictBehind p [] items end v)

@@ -37,10 +37,9 @@ IsGood {K} m es = (front : List (Observation K)) (e : Observation K) (rest : Lis
 
 -- the verdict of the entry after these, which is in trouble: its fault, else the first key without a run, else the first that is too wide
 abbrev pub IsTrouble : {K : Type 0} → Machines K → List (Observation K) → Observation K → Verdict → Type 0
-IsTrouble m front e (Legal entries transactions) = ⊥
 IsTrouble m front e (Malformed entry fault) = (entry ≡ length front + 1) × (e.fault ≡ Some fault)
 IsTrouble m front e (Breach entry transaction) =
     (entry ≡ length front + 1) × (e.fault ≡ None) × IsFirst (λ key. ¬ HasRun m key (front ++ e ∷ [])) (keys_of m (front ++ e ∷ [])) transaction
 IsTrouble m front e (Undecided entry transaction) =
     (entry ≡ length front + 1) × (e.fault ≡ None) × AllRun m (front ++ e ∷ []) × IsFirst (IsTooWide m front e) (keys_of m (front ++ e ∷ [])) transaction
-IsTrouble m front e (LogFault entry reason) = ⊥
+IsTrouble m front e v = ⊥

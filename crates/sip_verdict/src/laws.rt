@@ -1,11 +1,12 @@
 //! Laws of verdicts. The functions do nothing: their contracts are the laws.
-ghost use Rattle.std.specs.Prelude.{◌≡◌, ◌≤◌, ◌++◌, ℕ, List, AllPairs};
+ghost use Rattle.std.specs.Prelude.{◌≡◌, ◌↔◌, ◌≤◌, ◌++◌, ℕ, List, AllPairs};
 ghost use Rattle.sip_verdict.specs.VerdictOf.{IsVerdictOf};
 ghost use Rattle.sip_verdict.specs.LegalLog.{IsLegalLog};
 ghost use Rattle.sip_verdict.specs.declared.verdict.Verdict.TheVariants.{Legal};
 ghost use Rattle.sip_verdict.specs.declared.verdict.Verdict.{Verdict as VerdictValue};
 ghost use Rattle.sip_verdict.specs.Keyed.{Observation, HasRun};
-ghost use Rattle.sip_verdict.specs.MessageReading.{key_machines};
+ghost use Rattle.sip_verdict.specs.MessageReading.{key_machines, message_reading};
+ghost use Rattle.sip_verdict.specs.Reading.{IsVerdictBy};
 ghost use Rattle.sip_key.specs.Key.{KeyParts};
 ghost use Rattle.sip_machine.specs.Times.{Times};
 
@@ -19,6 +20,11 @@ pub fn an_input_has_one_verdict(_one: &Verdict, _other: &Verdict)
 /// And it has one: none is without.
 pub fn an_input_has_a_verdict()
     ensures { (input : List ℕ) → ¬ ((verdict : VerdictValue) → ¬ IsVerdictOf input verdict) }
+{}
+
+/// The verdict of an input is that by the reading of messages.
+pub fn a_verdict_is_that_by_the_reading_of_messages()
+    ensures { (input : List ℕ) (verdict : VerdictValue) → IsVerdictOf input verdict ↔ IsVerdictBy message_reading input verdict }
 {}
 
 /// A legal log is read whole, has so many entries and transactions, each message is of the grammar, and each transaction has

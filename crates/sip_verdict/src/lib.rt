@@ -26,8 +26,8 @@ mod walking;
 pub use judge_error::JudgeError;
 pub use judging::{judge, judge_bytes};
 pub use laws::{
-    a_legal_log_has_runs, a_run_over_entries_holds_one_over_fewer, an_input_has_a_verdict,
-    an_input_has_one_verdict,
+    a_legal_log_has_runs, a_run_over_entries_holds_one_over_fewer,
+    a_verdict_is_that_by_the_reading_of_messages, an_input_has_a_verdict, an_input_has_one_verdict,
 };
 pub use listing::{Listing, states_at};
 pub use log_reason::LogReason;

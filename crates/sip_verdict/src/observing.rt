@@ -3,6 +3,7 @@ ghost use Rattle.std.specs.Prelude.{◌≤◌, ◌<◌, ◌≡◌, ℕ, List, If
 ghost use Rattle.sip_machine.specs.Times.{last_moment};
 ghost use Rattle.sip_machine.specs.Texts.{Keeps};
 ghost use Rattle.sip_key.specs.Key.{KeyParts};
+ghost use Rattle.sip_message.specs.SaidOf.{said_of};
 ghost use Rattle.sip_log.specs.Told.{item};
 ghost use Rattle.sip_verdict.specs.Keyed.{Observation};
 ghost use Rattle.sip_verdict.specs.MessageReading.{direction_of, message_reading};
@@ -54,7 +55,7 @@ fn keys_of(
     message: &Message<'_>,
     direction: Direction,
 ) -> Result<Concerned<Key>, KeyError>
-    ensures { AreKeysOf message.now direction result }
+    ensures { AreKeysOf (said_of message.now) direction result }
 {
     let Some(own) = key_of(alloc, message, direction)? else {
         return Ok(Concerned::None);

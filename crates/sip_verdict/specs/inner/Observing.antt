@@ -1,7 +1,7 @@
 use Rattle.std.specs.Prelude.{◌≡◌, ◌≢◌, ◌⊎◌, ◌++◌, ◌∷◌, [], ℕ, true, false, None, AllPairs, Result, Ok, Err}
 use Rattle.sip_machine.specs.Texts.{Texts, Keeps, text_of}
 use Rattle.sip_machine.specs.Heard.{heard, FitsBook}
-use Rattle.sip_message.specs.Reading.{Reading}
+use Rattle.sip_message.specs.Says.{Said}
 use Rattle.sip_key.specs.Key.{KeyParts}
 use Rattle.sip_key.specs.Concerns.{Concerns, lacks_cookie}
 use Rattle.sip_key.specs.declared.role.Direction.{Direction}
@@ -21,10 +21,10 @@ use Rattle.sip_verdict.specs.inner.Concerned.{each}
 -- What the judge is told of an entry.
 
 -- the keys of the transactions that a message concerns, which differ, or that it lacks the cookie; of memory nothing is said
-abbrev pub AreKeysOf : Reading → Direction → Result (Concerned KeyParts) KeyError → Type 0
-AreKeysOf r direction (Ok concerned) = (lacks_cookie r direction ≡ false) × Concerns r direction (each concerned) × AllPairs (λ a b. a ≢ b) (each concerned)
-AreKeysOf r direction (Err error.NoCookie) = lacks_cookie r direction ≡ true
-AreKeysOf r direction (Err error.Memory) = Unit {0}
+abbrev pub AreKeysOf : Said → Direction → Result (Concerned KeyParts) KeyError → Type 0
+AreKeysOf s direction (Ok concerned) = (lacks_cookie s direction ≡ false) × Concerns s direction (each concerned) × AllPairs (λ a b. a ≢ b) (each concerned)
+AreKeysOf s direction (Err error.NoCookie) = lacks_cookie s direction ≡ true
+AreKeysOf s direction (Err error.Memory) = Unit {0}
 
 -- what is observed of an entry of which this is told, beside the texts of a book: of one that is not heard, its moment
 abbrev pub IsObserved : Texts → Item → Told → Observation KeyParts → Type 0

@@ -2,6 +2,7 @@ use Rattle.std.specs.Prelude.{IfSome, Some}
 use Rattle.std.proofs.Common.{sym, ◌∙◌, ap, subst}
 use Rattle.sip_text.specs.Uri.{Port}
 use Rattle.sip_message.specs.Elements.{Element}
+use Rattle.sip_message.specs.SaidOf.{said_of, said_via}
 use Rattle.sip_key.specs.Branch.{cookie_branch}
 use Rattle.sip_key.specs.Concerns.{role_of, sent_by_of}
 use Rattle.sip_key.proofs.ConcernLemmas.{top-port, own-is}
@@ -17,8 +18,8 @@ returns c =
     let d = c.args.direction in
     let start = c.start-start.ensures in
     let via = c.top_via-via.ensures in
-    own-is c.args.message.now d _ _ _ _ c.in_ok-key.ensures
+    own-is (said_of c.args.message.now) d _ _ _ _ c.in_ok-key.ensures
     (c.role_of-role.ensures ∙ ap (λ s. role_of s d) start)
     (sym (ap (λ (e : Element). cookie_branch e.1.branch) via) ∙ c.in-Some.ensures)
-    (ap (λ (e : Element). sent_by_of c.role_of-role.result e.1) via)
+    (ap (λ (e : Element). sent_by_of c.role_of-role.result (said_via e)) via)
     c.method_of.ensures

@@ -43,7 +43,7 @@ row-values k (f ∷ fs) rows = at (is_named k f.name) refl (row-values k fs rows
     at false is later = later
 
 -- the values of a name are those that were found
-found-values : (n : ℕ) (k : Known) (fs : List Field) → values k fs ≡ map (λ x. x.1) (found_from n k fs)
+pub found-values : (n : ℕ) (k : Known) (fs : List Field) → values k fs ≡ map (λ x. x.1) (found_from n k fs)
 found-values n k [] = refl
 found-values n k (f ∷ fs) = at (is_named k f.name) (found-values (n + 1) k fs)
   where

@@ -1,5 +1,6 @@
 use Rattle.sip_verdict.proofs.HasVerdict.{has_verdict}
+use Rattle.sip_verdict.proofs.VerdictLemmas.{by-verdict}
 use Rattle.sip_verdict.proofs.laws.an_input_has_a_verdict.Goals as goal
 
 pub returns : goal.returns
-returns c = has_verdict
+returns c = λ input never. has_verdict input (λ v is. never v (by-verdict input v is))

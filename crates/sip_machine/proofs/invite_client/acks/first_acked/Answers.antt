@@ -4,18 +4,18 @@ use Rattle.std.proofs.lemmas.List.Elements.{All-more, All-get_or}
 use Rattle.sip_machine.specs.Texts.{Keeps, text_of}
 use Rattle.sip_machine.specs.inner.Acks.{PaysDebt}
 use Rattle.sip_machine.proofs.RunsLemmas.{none, All-each, start_after, first_one, one_less, sum-told}
-use Rattle.sip_machine.proofs.AckLemmas.{Reads-fault}
+use Rattle.sip_machine.proofs.AckLemmas.{Says-fault}
 use Rattle.sip_machine.proofs.invite_client.acks.first_acked.Goals as goal
 
 pub returns-in-None : goal.returns-in-None
 returns-in-None c =
     let fault = rw (c.in-None.is, c.number.ensures) at c.in_ok-ack.ensures in
-    λ k d low pays. Reads-fault (text_of c.args.book.now c.args.event.now.number) fault.0 fault.1 pays.0.0 pays.0.3
+    λ k d low pays. Says-fault (text_of c.args.book.now c.args.event.now.number) fault.0 fault.1 pays.0.0 pays.0.3
 
 pub returns-in-None-2 : goal.returns-in-None-2
 returns-in-None-2 c =
     let fault = rw c.in-None-2.is at c.in_ok-invite.ensures in
-    λ k d low pays. Reads-fault (text_of c.args.book.now c.args.request) fault.0 fault.1 pays.0.1 pays.0.4
+    λ k d low pays. Says-fault (text_of c.args.book.now c.args.request) fault.0 fault.1 pays.0.1 pays.0.4
 
 pub pays-requires : goal.pays-requires
 pays-requires c =

@@ -1,0 +1,6 @@
+pub mod Alike
+pub mod Via
+pub mod Values
+pub mod Names
+pub mod Bytes
+pub mod Reading

@@ -1,0 +1,87 @@
+-- Two readings that come to the same.
+use Rattle.std.proofs.Common.{◌≡◌, refl, sym, ap, ◌∙◌, subst}
+use Rattle.std.specs.Prelude.{⊤}
+use Rattle.sip_message.specs.declared.fault.Fault.{Fault}
+use Rattle.sip_message.specs.Outcome.{Outcome, gives, stops, Gives, Demand, Holds, Then, passes, stopped}
+
+-- both give values that Q relates, or stop at one fault
+abbrev pub Alike : {X Y : Type 0} → (X → Y → Type 0) → Outcome X → Outcome Y → Type 0
+Alike Q (gives x) (gives y) = Q x y
+Alike Q (stops f) (stops g) = f ≡ g
+Alike Q (gives x) (stops g) = ⊥
+Alike Q (stops f) (gives y) = ⊥
+
+-- what comes of the one comes of the other
+pub record Same {X Y : Type 0} (Q : X → Y → Type 0) (S : Outcome X → Type 0) (T : Outcome Y → Type 0) : Type 0 where
+  pub to : (a : Outcome X) → S a → (b : Outcome Y) × T b × Alike Q a b
+  pub back : (b : Outcome Y) → T b → (a : Outcome X) × S a × Alike Q a b
+
+-- the values are equal
+abbrev pub Equal : {X : Type 0} → X → X → Type 0
+Equal x y = x ≡ y
+
+pub same-demand : {X Y : Type 0} (Q : X → Y → Type 0) (R : X → Type 0) (P : Y → Type 0) (fault : Fault) → ((x : X) → R x → (y : Y) × P y × Q x y) → ((y : Y) → P y → (x : X) × R x × Q x y) → Same Q (Demand R fault) (Demand P fault)
+same-demand {X = X} {Y = Y} Q R P fault go come = record { to = to; back = back }
+  where
+    to : (a : Outcome X) → Demand R fault a → (b : Outcome Y) × Demand P fault b × Alike Q a b
+    to (gives x) s = let y = go x s in (gives y.0, y.1, y.2)
+    to (stops g) s = (stops g, ((λ y p. let x = come y p in s.0 x.0 x.1), s.1), refl)
+
+    back : (b : Outcome Y) → Demand P fault b → (a : Outcome X) × Demand R fault a × Alike Q a b
+    back (gives y) t = let x = come y t in (gives x.0, x.1, x.2)
+    back (stops g) t = (stops g, ((λ x r. let y = go x r in t.0 y.0 y.1), t.1), refl)
+
+pub same-holds : (A B : Type 0) (fault : Fault) → (A → B) → (B → A) → Same {X = Unit {0}} {Y = Unit {0}} Equal (Holds A fault) (Holds B fault)
+same-holds A B fault go come = same-demand Equal (λ _. A) (λ _. B) fault (λ x a. (x, go a, refl)) (λ y b. (y, come b, refl))
+
+pub same-gives : {X Y : Type 0} (Q : X → Y → Type 0) (x : X) (y : Y) → Q x y → Same Q (Gives x) (Gives y)
+same-gives Q x y q = record {
+  to = λ a a_is. (gives y, refl, subst (λ o. Alike Q o (gives y)) (sym a_is) q);
+  back = λ b b_is. (gives x, refl, subst (λ o. Alike Q (gives x) o) (sym b_is) q);
+}
+
+-- a reading comes to what it comes to
+pub same-self : {X : Type 0} (S : Outcome X → Type 0) → Same Equal S S
+same-self {X = X} S = record { to = to; back = back }
+  where
+    to : (a : Outcome X) → S a → (b : Outcome X) × S b × Alike Equal a b
+    to (gives x) s = (gives x, s, refl)
+    to (stops f) s = (stops f, s, refl)
+
+    back : (b : Outcome X) → S b → (a : Outcome X) × S a × Alike Equal a b
+    back (gives x) s = (gives x, s, refl)
+    back (stops f) s = (stops f, s, refl)
+
+-- two steps in a row
+pub same-then : {X Y U V : Type 0} (Q : X → Y → Type 0) (W : U → V → Type 0) {S : Outcome X → Type 0} {T : Outcome Y → Type 0} (A : X → Outcome U → Type 0) (B : Y → Outcome V → Type 0)
+    → Same Q S T → ((x : X) (y : Y) → Q x y → Same W (A x) (B y)) → Same W (Then S A) (Then T B)
+same-then {X = X} {Y = Y} {U = U} {V = V} Q W {S = S} {T = T} A B first later = record { to = to; back = back }
+  where
+    to-gives : (x : X) (out : Outcome U) → A x out → (b : Outcome Y) → T b → Alike Q (gives x) b → (o : Outcome V) × Then T B o × Alike W out o
+    to-gives x out a (gives y) t q = let m = (later x y q).to out a in (m.0, passes y t m.1, m.2)
+    to-gives x out a (stops g) t q = absurd q
+
+    to-stops : (f : Fault) (out : Outcome U) → out ≡ stops f → (b : Outcome Y) → T b → Alike Q (stops f) b → (o : Outcome V) × Then T B o × Alike W out o
+    to-stops f out out_is (gives y) t q = absurd q
+    to-stops f out out_is (stops g) t q = (stops g, stopped g t refl, subst (λ o. Alike W o (stops g)) (sym out_is) q)
+
+    to : (a : Outcome U) → Then S A a → (b : Outcome V) × Then T B b × Alike W a b
+    to out (passes x s a) = let m = first.to (gives x) s in to-gives x out a m.0 m.1 m.2
+    to out (stopped f s out_is) = let m = first.to (stops f) s in to-stops f out out_is m.0 m.1 m.2
+
+    back-gives : (y : Y) (out : Outcome V) → B y out → (a : Outcome X) → S a → Alike Q a (gives y) → (o : Outcome U) × Then S A o × Alike W o out
+    back-gives y out b (gives x) s q = let m = (later x y q).back out b in (m.0, passes x s m.1, m.2)
+    back-gives y out b (stops g) s q = absurd q
+
+    back-stops : (f : Fault) (out : Outcome V) → out ≡ stops f → (a : Outcome X) → S a → Alike Q a (stops f) → (o : Outcome U) × Then S A o × Alike W o out
+    back-stops f out out_is (gives x) s q = absurd q
+    back-stops f out out_is (stops g) s q = (stops g, stopped g s refl, subst (λ o. Alike W (stops g) o) (sym out_is) q)
+
+    back : (b : Outcome V) → Then T B b → (a : Outcome U) × Then S A a × Alike W a b
+    back out (passes y t b) = let m = first.back (gives y) t in back-gives y out b m.0 m.1 m.2
+    back out (stopped f t out_is) = let m = first.back (stops f) t in back-stops f out out_is m.0 m.1 m.2
+
+-- where the first gives the same value
+pub same-next : {X U V : Type 0} (W : U → V → Type 0) {S T : Outcome X → Type 0} (A : X → Outcome U → Type 0) (B : X → Outcome V → Type 0)
+    → Same Equal S T → ((x : X) → Same W (A x) (B x)) → Same W (Then S A) (Then T B)
+same-next W A B first later = same-then Equal W A B first (λ x y x_is. subst (λ z. Same W (A x) (B z)) x_is (later x))

@@ -1,0 +1,268 @@
+-- What bytes are read as, and what they say: the start line and the fields are the same.
+use Rattle.std.proofs.Common.{◌≡◌, ℕ, ◌+◌, ◌≤◌, Bool, true, false, cond, ◌||◌, List, [], ◌∷◌, ◌++◌, length, map, Option, None, Some, inl, inr, refl, sym, ap, ◌∙◌, subst, arith}
+use Rattle.std.specs.Prelude.{⊤, ◌==◌, codes, bytes_eq, filter, IfSome, is_some}
+use Rattle.std.specs.List.{AllByRecursion}
+use Prim.Native.String.{String}
+use Rattle.std.proofs.lemmas.Bool.{both_ways, or_cases, or_left, or_right}
+use Rattle.std.proofs.lemmas.Slice.Eq.{bytes_eq-Decides}
+use Rattle.std.proofs.lemmas.List.{length-append}
+use Rattle.sip_text.specs.Text.{One, Byte, Exactly, ◌then◌, ◌or◌, Many}
+use Rattle.sip_text.specs.Case.{folded}
+use Rattle.sip_text.specs.Chars.{AnyCase}
+use Rattle.sip_text.specs.Grammar.{Token, Sws}
+use Rattle.sip_message.specs.declared.name.Known.{Known}
+use Rattle.sip_message.specs.declared.name.Known.TheVariants as known_name
+use Rattle.sip_message.specs.declared.fault.Reason.TheVariants as reason
+use Rattle.sip_message.specs.Unfold.{is_blank, OpensSolid, EndsSolid}
+use Rattle.sip_message.specs.Lines.{IsHead, HasNoBareEnd, BeginsBlank, IsFolded, IsLines}
+use Rattle.sip_message.specs.StartLine.{StartLine, request, status, StartText}
+use Rattle.sip_message.specs.Name.{FieldName, name_of, is_named}
+use Rattle.sip_message.specs.Field.{Field, Row, NameText, ValueText}
+use Rattle.sip_message.specs.Elements.{Element, ElementsText}
+use Rattle.sip_message.specs.Via.{ViaParts, ViasText}
+use Rattle.sip_message.specs.Message.{Message, found, found_from, is_stream, IsStream, MethodFits, HasLength, IsEnough, IsNoMore, length_in, content_length}
+use Rattle.sip_message.specs.Outcome.{Outcome, gives, stops, Gives, Demand, Holds, Then, passes, stopped}
+use Rattle.sip_message.specs.Faults.{at_head, at_line, at_body, second_line, IsNamed, IsValue, FieldOf, FieldsOf, NamesOf, BodyOf, LinesOf, HeadOf, IsCut, ReadOf}
+use Rattle.sip_message.specs.Says.{StartSays, SaidVia, ViasSay, CSeqSays, full_name, RowSays, SaidField, all, is_lws_byte, IsTrimmed, FieldSays, FieldsSay, FirstOf, NoSecond, OneOf, NamesSay, MethodSays, StreamSays, BodySays, CutSays, OpensBlank, LinesSay, LinesTell, BytesTell}
+use Rattle.sip_message.specs.SaidOf.{said_via}
+use Rattle.sip_message.proofs.lemmas.says.Alike.{Alike, Same, Equal, same-demand, same-holds, same-gives, same-self, same-then, same-next}
+use Rattle.sip_message.proofs.lemmas.says.Via.{vias-said, said-vias, elements-first, via-elements}
+use Rattle.sip_message.proofs.lemmas.says.Values.{start-said, said-start, cseq-said, said-cseq}
+use Rattle.sip_message.proofs.lemmas.says.Names.{row-said, named-via, named-from, named-to, named-call-id, named-cseq, named-content-length}
+
+-- a text that opens solid begins with no byte of a blank run
+opens-trimmed : (t : List ℕ) → OpensSolid t → ¬ ((One is_lws_byte then (λ behind. ⊤)) t)
+opens-trimmed [] opens (u, v, (b, blank, u_is), any, whole) = absurd (omega (arith, ap length whole, length-append u v, ap length u_is))
+opens-trimmed (c ∷ t) opens (u, v, (b, blank, u_is), any, whole) =
+    let same : c ∷ t ≡ b ∷ v = whole ∙ ap (λ z. z ++ v) u_is in
+    let first : c ≡ b = cc in
+    both_ways (is_blank c) opens (subst (λ x. is_blank x ≡ true) (sym first) blank)
+
+trimmed-opens : (t : List ℕ) → ¬ ((One is_lws_byte then (λ behind. ⊤)) t) → OpensSolid t
+trimmed-opens [] none = tt
+trimmed-opens (c ∷ t) none = at (is_blank c) refl
+  where
+    at : (b : Bool) → is_blank c ≡ b → is_blank c ≡ false
+    at true is = absurd (none (c ∷ [], t, (c, is, refl), tt, refl))
+    at false is = is
+
+last-solid : (u : List ℕ) (b : ℕ) → EndsSolid (u ++ b ∷ []) → is_blank b ≡ false
+last-solid [] b ends = ends
+last-solid (c ∷ []) b ends = ends
+last-solid (c ∷ d ∷ u) b ends = last-solid (d ∷ u) b ends
+
+ends-trimmed : (t : List ℕ) → EndsSolid t → ¬ (((λ before. ⊤) then One is_lws_byte) t)
+ends-trimmed t ends (u, v, any, (b, blank, v_is), whole) =
+    both_ways (is_blank b) (last-solid u b (subst EndsSolid (whole ∙ ap (λ z. u ++ z) v_is) ends)) blank
+
+trimmed-ends : (t : List ℕ) → ¬ (((λ before. ⊤) then One is_lws_byte) t) → EndsSolid t
+trimmed-ends [] none = tt
+trimmed-ends (c ∷ []) none = at (is_blank c) refl
+  where
+    at : (b : Bool) → is_blank c ≡ b → is_blank c ≡ false
+    at true is = absurd (none ([], c ∷ [], tt, (c, is, refl), refl))
+    at false is = is
+trimmed-ends (c ∷ d ∷ t) none =
+    trimmed-ends (d ∷ t) (λ last. none (c ∷ last.0, last.1, tt, last.3, ap (λ z. c ∷ z) last.4))
+
+-- a field, and what it says
+abbrev pub IsField : ℕ → Field → SaidField → Type 0
+IsField n f g =
+    (token : List ℕ) × (f.name ≡ name_of token) × (g.name ≡ full_name (folded token)) × (g.line ≡ n) × (g.value ≡ f.value)
+
+abbrev pub AreFields : ℕ → List Field → List SaidField → Type 0
+AreFields n [] [] = ⊤
+AreFields n (f ∷ fs) (g ∷ gs) = IsField n f g × AreFields (n + 1) fs gs
+AreFields n [] (g ∷ gs) = ⊥
+AreFields n (f ∷ fs) [] = ⊥
+
+-- a name and what follows its colon
+abbrev SaidName : List ℕ → List ℕ × List ℕ → Type 0
+SaidName line y = ((λ t. Token t × (y.0 ≡ t)) then (Many (One (λ byte. byte == 0x20 || byte == 0x09)) then (Byte 58 then Exactly y.1))) line
+
+abbrev IsSame : FieldName × List ℕ → List ℕ × List ℕ → Type 0
+IsSame x y = (x.0 ≡ name_of y.0) × (x.1 ≡ y.1)
+
+same-named : (n : ℕ) (line : List ℕ) → Same IsSame (Demand (IsNamed line) (at_line n reason.FieldLine)) (Demand (SaidName line) (at_line n reason.FieldLine))
+same-named n line = same-demand IsSame (IsNamed line) (SaidName line) (at_line n reason.FieldLine) to back
+  where
+    to : (x : FieldName × List ℕ) → IsNamed line x → (y : List ℕ × List ℕ) × SaidName line y × IsSame x y
+    to x s =
+        let w = s.whole in
+        ((s.spelled, x.1), (w.0, w.1, (subst Token (sym w.2) s.is_token, sym w.2), w.3, w.4), (s.name_is, refl))
+
+    back : (y : List ℕ × List ℕ) → SaidName line y → (x : FieldName × List ℕ) × IsNamed line x × IsSame x y
+    back y (u, v, (token, same), rest, whole) =
+        ((name_of y.0, y.1), record { spelled = y.0; is_token = subst Token (sym same) token; name_is = refl; whole = (u, v, sym same, rest, whole) }, (refl, refl))
+
+-- a value
+abbrev SaidValue : List ℕ × List ℕ → List ℕ → Type 0
+SaidValue y value = (IsTrimmed value × (Sws then Exactly value then Sws) y.1) × RowSays (full_name (folded y.0)) value
+
+same-value : (n : ℕ) (x : FieldName × List ℕ) (y : List ℕ × List ℕ) → IsSame x y → Same Equal (Demand (IsValue x) (at_line n reason.Value)) (Demand (SaidValue y) (at_line n reason.Value))
+same-value n x y same = same-demand Equal (IsValue x) (SaidValue y) (at_line n reason.Value) to back
+  where
+    to : (v : List ℕ) → IsValue x v → (w : List ℕ) × SaidValue y w × (v ≡ w)
+    to v (text, row) =
+        (v, (((opens-trimmed v text.opens, ends-trimmed v text.ends), subst (Sws then Exactly v then Sws) same.1 text.whole), (row-said y.0 v).0 (subst (λ n. Row n v) same.0 row)), refl)
+
+    back : (w : List ℕ) → SaidValue y w → (v : List ℕ) × IsValue x v × (v ≡ w)
+    back w (((first, last), whole), row) =
+        (w, (record { opens = trimmed-opens w first; ends = trimmed-ends w last; whole = subst (Sws then Exactly w then Sws) (sym same.1) whole }, subst (λ n. Row n w) (sym same.0) ((row-said y.0 w).1 row)), refl)
+
+same-field : (n : ℕ) (line : List ℕ) → Same (IsField n) (FieldOf n line) (FieldSays n line)
+same-field n line =
+    same-then IsSame (IsField n) _ _ (same-named n line) (λ x y same.
+    same-then Equal (IsField n) _ _ (same-value n x y same) (λ v w v_is.
+    same-gives (IsField n) _ _ (y.0, same.0, refl, refl, sym v_is)))
+
+same-fields : (n : ℕ) (lines : List (List ℕ)) → Same (AreFields n) (FieldsOf n lines) (FieldsSay n lines)
+same-fields n [] = same-gives (AreFields n) [] [] tt
+same-fields n (line ∷ lines) =
+    same-then (IsField n) (AreFields n) _ _ (same-field n line) (λ f g one.
+    same-then (AreFields (n + 1)) (AreFields n) _ _ (same-fields (n + 1) lines) (λ fs gs more.
+    same-gives (AreFields n) _ _ (one, more)))
+
+-- the fields of a name
+pub all-found : (k : Known) (key : String) → ((token : List ℕ) → is_named k (name_of token) ≡ bytes_eq (full_name (folded token)) (codes key)) → (n : ℕ) (fs : List Field) (gs : List SaidField) → AreFields n fs gs → found_from n k fs ≡ all key gs
+all-found k key same n [] [] are = refl
+all-found k key same n [] (g ∷ gs) are = absurd are
+all-found k key same n (f ∷ fs) [] are = absurd are
+all-found k key same n (f ∷ fs) (g ∷ gs) ((token, f_is, g_is, line_is, value_is), are) =
+    at (is_named k f.name) (bytes_eq g.name (codes key)) (ap (is_named k) f_is ∙ same token ∙ sym (ap (λ x. bytes_eq x (codes key)) g_is)) (all-found k key same (n + 1) fs gs are)
+  where
+    pair : ◌≡◌ {A = ℕ × List ℕ} (n, f.value) (g.line, g.value)
+    pair = λ i. (sym line_is i, sym value_is i)
+
+    at : (b c : Bool) → b ≡ c → found_from (n + 1) k fs ≡ all key gs
+        → cond b ((n, f.value) ∷ found_from (n + 1) k fs) (found_from (n + 1) k fs) ≡ map (λ h. (h.line, h.value)) (cond c (g ∷ filter (λ h. bytes_eq h.name (codes key)) gs) (filter (λ h. bytes_eq h.name (codes key)) gs))
+    at true true b_is later = ap (λ x. x ∷ found_from (n + 1) k fs) pair ∙ ap (λ z. (g.line, g.value) ∷ z) later
+    at false false b_is later = later
+    at true false b_is later = absurd (both_ways true b_is refl)
+    at false true b_is later = absurd (both_ways true (sym b_is) refl)
+
+-- the names, by their fields
+abbrev NamesIn : (v f t i c l : List (ℕ × List ℕ)) → Outcome ((ℕ × List ℕ) × (ℕ × List ℕ)) → Type 0
+NamesIn v f t i c l =
+    Then (FirstOf v) (λ via. Then (OneOf f) (λ _. Then (OneOf t) (λ _. Then (OneOf i) (λ _. Then (OneOf c) (λ cseq. Then (NoSecond l) (λ _. Gives (via, cseq)))))))
+
+same-names : (fs : List Field) (gs : List SaidField) → AreFields 1 fs gs → Same Equal (NamesOf fs) (NamesSay gs)
+same-names fs gs are =
+    let v = all-found known_name.Via "via" named-via 1 fs gs are in
+    let f = all-found known_name.From "from" named-from 1 fs gs are in
+    let t = all-found known_name.To "to" named-to 1 fs gs are in
+    let i = all-found known_name.CallId "call-id" named-call-id 1 fs gs are in
+    let c = all-found known_name.CSeq "cseq" named-cseq 1 fs gs are in
+    let l = all-found known_name.ContentLength "content-length" named-content-length 1 fs gs are in
+    subst (λ x. Same Equal (NamesOf fs) (NamesIn x (all "from" gs) (all "to" gs) (all "call-id" gs) (all "cseq" gs) (all "content-length" gs))) v
+    (subst (λ x. Same Equal (NamesOf fs) (NamesIn (found known_name.Via fs) x (all "to" gs) (all "call-id" gs) (all "cseq" gs) (all "content-length" gs))) f
+    (subst (λ x. Same Equal (NamesOf fs) (NamesIn (found known_name.Via fs) (found known_name.From fs) x (all "call-id" gs) (all "cseq" gs) (all "content-length" gs))) t
+    (subst (λ x. Same Equal (NamesOf fs) (NamesIn (found known_name.Via fs) (found known_name.From fs) (found known_name.To fs) x (all "cseq" gs) (all "content-length" gs))) i
+    (subst (λ x. Same Equal (NamesOf fs) (NamesIn (found known_name.Via fs) (found known_name.From fs) (found known_name.To fs) (found known_name.CallId fs) x (all "content-length" gs))) c
+    (subst (λ x. Same Equal (NamesOf fs) (NamesIn (found known_name.Via fs) (found known_name.From fs) (found known_name.To fs) (found known_name.CallId fs) (found known_name.CSeq fs) x)) l
+    (same-self (NamesOf fs)))))))
+
+-- a transport that is a stream
+stream-kind : (t : List ℕ) → is_stream t ≡ true → (AnyCase "tcp" or AnyCase "tls") t
+stream-kind t is = elim (or_cases (bytes_eq (folded t) (codes "tcp")) (bytes_eq (folded t) (codes "tls")) is) [
+  | inl tcp ↦ inl ((bytes_eq-Decides (folded t) (codes "tcp")).0 tcp)
+  | inr tls ↦ inr ((bytes_eq-Decides (folded t) (codes "tls")).0 tls)
+]
+
+kind-stream : (t : List ℕ) → (AnyCase "tcp" or AnyCase "tls") t → is_stream t ≡ true
+kind-stream t (inl tcp) = or_left (bytes_eq (folded t) (codes "tcp")) (bytes_eq (folded t) (codes "tls")) ((bytes_eq-Decides (folded t) (codes "tcp")).1 tcp)
+kind-stream t (inr tls) = or_right (bytes_eq (folded t) (codes "tcp")) (bytes_eq (folded t) (codes "tls")) ((bytes_eq-Decides (folded t) (codes "tls")).1 tls)
+
+stream-said : (via : List ℕ) → IsStream via → StreamSays via
+stream-said via (transport, (v, vias, text, transport_is), stream) =
+    let row = via-elements via v vias text in
+    (said_via (row.0, v), map said_via row.1, vias-said ((row.0, v) ∷ row.1) via row.2, stream-kind v.transport (subst (λ t. is_stream t ≡ true) transport_is stream))
+
+said-stream : (via : List ℕ) → StreamSays via → IsStream via
+said-stream via (s, more, said, kind) = let es = said-vias (s ∷ more) via said in at es.0 es.1 es.2
+  where
+    at : (es : List Element) → ElementsText via es → s ∷ more ≡ map said_via es → IsStream via
+    at [] text are = absurd text
+    at (e ∷ es) text are =
+        let first : s ≡ said_via e = cc in
+        let row = elements-first via e es text in
+        (e.1.transport, (e.1, row.0, row.1, refl), kind-stream e.1.transport (subst (AnyCase "tcp" or AnyCase "tls") (ap (λ x. x.transport) first) kind))
+
+-- the method
+method-said : (start : StartLine) (cseq : List ℕ) → MethodFits start cseq → MethodSays start cseq
+method-said (request m u) cseq (n, text) = (n, cseq-said cseq n m text)
+method-said (status code why) cseq any = tt
+
+said-method : (start : StartLine) (cseq : List ℕ) → MethodSays start cseq → MethodFits start cseq
+said-method (request m u) cseq (n, says) = (n, said-cseq cseq n m says)
+said-method (status code why) cseq any = tt
+
+-- the method and the body
+abbrev Beside : List ℕ → Unit {0} → Type 0
+Beside x y = ⊤
+
+same-body : (start : StartLine) (cseq : ℕ × List ℕ) (via : List ℕ) (len : Option ℕ) (rest : List ℕ) → Same Beside (BodyOf start cseq via len rest) (BodySays start cseq via len rest)
+same-body start cseq via len rest =
+    same-next Beside _ _ (same-holds (MethodFits start cseq.1) (MethodSays start cseq.1) _ (method-said start cseq.1) (said-method start cseq.1)) (λ _.
+    same-next Beside _ _ (same-holds (HasLength via len) (StreamSays via → is_some len ≡ true) _ (λ has stream. has (said-stream via stream)) (λ has stream. has (stream-said via stream))) (λ _.
+    same-next Beside _ _ (same-self (Holds (IsEnough len rest) (at_body reason.ShortBody))) (λ _.
+    same-next Beside _ _ (same-holds (IsNoMore via len rest) (StreamSays via → IfSome len (λ n. length rest ≤ n)) _ (λ few stream. few (said-stream via stream)) (λ few stream. few (stream-said via stream))) (λ _.
+    same-gives Beside _ _ tt))))
+
+-- a message as it is read, and its start line and fields as they are said
+abbrev pub IsTold : Message → StartLine × List SaidField → Type 0
+IsTold m told = (m.start ≡ told.0) × AreFields 1 m.fields told.1
+
+same-told : (rest first : List ℕ) (others : List (List ℕ)) → Same IsTold (LinesOf rest first others) (LinesTell rest first others)
+same-told rest first others =
+    same-next IsTold _ _ (same-demand Equal (StartText first) (StartSays first) (at_line 0 reason.StartLine) (λ s text. (s, start-said first s text, refl)) (λ s says. (s, said-start first s says, refl))) (λ start.
+    same-then (AreFields 1) IsTold _ _ (same-fields 1 others) (λ fs gs are.
+    same-next IsTold _ _ (same-names fs gs are) (λ names.
+    same-then Beside IsTold _ _ (subst (λ x. Same Beside (BodyOf start names.1 names.0.1 (content_length fs) rest) (BodySays start names.1 names.0.1 (length_in x) rest)) (all-found known_name.ContentLength "content-length" named-content-length 1 fs gs are) (same-body start names.1 names.0.1 (content_length fs) rest)) (λ body y any.
+    same-gives IsTold _ _ (refl, are)))))
+
+-- the lines
+begins-opens : (t : List ℕ) → BeginsBlank t → OpensBlank t
+begins-opens [] begins = absurd begins
+begins-opens (b ∷ t) begins = (b ∷ [], t, (b, begins, refl), tt, refl)
+
+opens-begins : (t : List ℕ) → OpensBlank t → BeginsBlank t
+opens-begins t (u, v, (b, blank, u_is), any, whole) = subst BeginsBlank (sym (whole ∙ ap (λ z. z ++ v) u_is)) blank
+
+each-map : {X : Type 0} (P Q : X → Type 0) (xs : List X) → ((x : X) → P x → Q x) → AllByRecursion P xs → AllByRecursion Q xs
+each-map P Q [] go each = tt
+each-map P Q (x ∷ xs) go each = (go x each.0, each-map P Q xs go each.1)
+
+-- in a line a blank stands behind each CRLF
+abbrev Folds : List ℕ → Type 0
+Folds line = (u v : List ℕ) → line ≡ u ++ (codes "\r\n" ++ v) → OpensBlank v
+
+lines-said : (head first : List ℕ) (others : List (List ℕ)) → IsLines head first others → LinesSay head first others
+lines-said head first others lines = (
+  lines.whole,
+  each-map IsFolded Folds (first ∷ others) (λ line folds u v whole. begins-opens v (folds u v whole)) lines.folded,
+  each-map (λ line. ¬ (BeginsBlank line)) (λ line. ¬ (OpensBlank line)) others (λ line none opens. none (opens-begins line opens)) lines.cut,
+)
+
+said-lines : (head first : List ℕ) (others : List (List ℕ)) → LinesSay head first others → IsLines head first others
+said-lines head first others (whole, folds, cut) = record {
+  whole = whole;
+  folded = each-map Folds IsFolded (first ∷ others) (λ line fold u v is. opens-begins v (fold u v is)) folds;
+  cut = each-map (λ line. ¬ (OpensBlank line)) (λ line. ¬ (BeginsBlank line)) others (λ line none begins. none (begins-opens line begins)) cut;
+}
+
+-- the head and what follows it
+same-cut : (bytes : List ℕ) → Same Equal (Demand (IsCut bytes) (at_head reason.NoHeadEnd)) (Demand (CutSays bytes) (at_head reason.NoHeadEnd))
+same-cut bytes =
+    same-demand Equal (IsCut bytes) (CutSays bytes) (at_head reason.NoHeadEnd)
+    (λ cut head. (cut, (head.front, head.head_is, head.whole, head.first), refl))
+    (λ cut says. (cut, record { front = says.0; head_is = says.1; whole = says.2; first = says.3 }, refl))
+
+-- bytes tell the start line and the fields of the message that they are read as, or its fault
+pub same-read : (bytes : List ℕ) → Same IsTold (ReadOf bytes) (BytesTell bytes)
+same-read bytes =
+    same-next IsTold _ _ (same-cut bytes) (λ cut.
+    same-next IsTold _ _ (same-self (Holds (HasNoBareEnd cut.0) (at_head reason.BareLineEnd))) (λ _. record {
+      to = λ out head. let told = (same-told cut.1 head.0 head.1).to out head.3 in (told.0, (head.0, head.1, lines-said cut.0 head.0 head.1 head.2, told.1), told.2);
+      back = λ out head. let read = (same-told cut.1 head.0 head.1).back out head.3 in (read.0, (head.0, head.1, said-lines cut.0 head.0 head.1 head.2, read.1), read.2);
+    }))

@@ -1,0 +1,124 @@
+-- The names of fields, and what a field of a name may hold.
+use Rattle.std.proofs.Common.{◌≡◌, ℕ, Bool, true, false, cond, ◌||◌, List, [], ◌∷◌, map, refl, sym, ap, ◌∙◌, subst}
+use Rattle.std.specs.Bool.{Decides}
+use Rattle.std.specs.Prelude.{bytes_eq, codes}
+use Rattle.std.specs.List.{AllByRecursion}
+use Rattle.std.proofs.lemmas.Bool.{both_ways}
+use Rattle.std.proofs.lemmas.Slice.Eq.{bytes_eq-Decides}
+use Rattle.sip_text.specs.Case.{folded}
+use Rattle.sip_message.specs.declared.name.Known.{Known}
+use Rattle.sip_message.specs.declared.name.Known.TheVariants as known_name
+use Rattle.sip_message.specs.Name.{FieldName, known, other, spellings, name_by, name_of, is_named}
+use Rattle.sip_message.specs.Field.{Row}
+use Rattle.sip_message.specs.Elements.{Element, ElementsText}
+use Rattle.sip_message.specs.Via.{ViaParts, ViasText}
+use Rattle.sip_message.specs.Says.{full_name, RowSays, SaidVia, ViasSay, Address, CSeqSays}
+use Rattle.sip_message.specs.SaidOf.{said_via}
+use Rattle.sip_message.proofs.lemmas.says.Via.{vias-said, said-vias, via-elements, elements-via}
+use Rattle.sip_message.proofs.lemmas.says.Values.{address-said, said-address, cseq-said, said-cseq}
+
+-- what holds of each spelling and its name, and of a text that is none of them, holds of the name that a text spells
+by-name : (P : List ℕ → FieldName → Type 0) (list : List (List ℕ × Known)) (text : List ℕ) → AllByRecursion (λ s. P (s.0) (known (s.1))) list
+    → (AllByRecursion (λ s. folded text ≡ s.0 → ⊥) list → P (folded text) (other text)) → P (folded text) (name_by list text)
+by-name P [] text each none = none tt
+by-name P ((s, k) ∷ more) text each none =
+    at (bytes_eq (folded text) s) (bytes_eq-Decides (folded text) s) (λ differs. by-name P more text each.1 (λ rest. none (differs, rest)))
+  where
+    at : (b : Bool) → Decides b (folded text ≡ s) → ((folded text ≡ s → ⊥) → P (folded text) (name_by more text)) → P (folded text) (cond b (known k) (name_by more text))
+    at true is later = subst (λ f. P f (known k)) (sym (is.0 refl)) each.0
+    at false is later = later (λ same. both_ways false refl (is.1 same))
+
+-- two texts that differ
+miss : (f s : List ℕ) → (f ≡ s → ⊥) → bytes_eq f s ≡ false
+miss f s differs = at (bytes_eq f s) (bytes_eq-Decides f s)
+  where
+    at : (b : Bool) → Decides b (f ≡ s) → b ≡ false
+    at true is = absurd (differs (is.0 refl))
+    at false is = refl
+
+skip : {X : Type 0} (b : Bool) (x y : X) → b ≡ false → cond b x y ≡ y
+skip b x y is = ap (λ z. cond z x y) is
+
+neither : (a b : Bool) → a ≡ false → b ≡ false → (a || b) ≡ false
+neither a b a_is b_is = ap (λ z. z || b) a_is ∙ b_is
+
+-- the one way or the other
+abbrev Ways : Type 0 → Type 0 → Type 0
+Ways A B = (A → B) × (B → A)
+
+skips : (b : Bool) (X Y : Type 0) → b ≡ false → Ways (cond b X Y) Y
+skips true X Y is = absurd (both_ways true is refl)
+skips false X Y is = ((λ y. y), (λ y. y))
+
+-- a text that is no spelling
+abbrev IsForeign : List ℕ → Type 0
+IsForeign f = AllByRecursion (λ s. f ≡ s.0 → ⊥) spellings
+
+-- is a name in full
+foreign-name : (f : List ℕ) → IsForeign f → full_name f ≡ f
+foreign-name f (via, (v, (from, (f_, (to, (t, (call_id, (i, (cseq, (content_length, (l, (contact, (m, (content_encoding, (e, (content_type, (c, (subject, (s, (supported, (k, (route, end)))))))))))))))))))))) =
+    skip (bytes_eq f (codes "v")) _ _ (miss f _ v) ∙ skip (bytes_eq f (codes "f")) _ _ (miss f _ f_) ∙ skip (bytes_eq f (codes "t")) _ _ (miss f _ t)
+    ∙ skip (bytes_eq f (codes "i")) _ _ (miss f _ i) ∙ skip (bytes_eq f (codes "l")) _ _ (miss f _ l)
+
+-- and its value is not looked into
+foreign-row : (f v : List ℕ) → IsForeign f → Ways (Row (other f) v) (RowSays f v)
+foreign-row f value (via, (v, (from, (f_, (to, (t, (call_id, (i, (cseq, (content_length, (l, (contact, (m, (content_encoding, (e, (content_type, (c, (subject, (s, (supported, (k, (route, end)))))))))))))))))))))) =
+    let one = skips (bytes_eq f (codes "via")) _ _ (miss f _ via) in
+    let two = skips (bytes_eq f (codes "from") || bytes_eq f (codes "to")) _ _ (neither _ _ (miss f _ from) (miss f _ to)) in
+    let three = skips (bytes_eq f (codes "call-id")) _ _ (miss f _ call_id) in
+    let four = skips (bytes_eq f (codes "cseq")) _ _ (miss f _ cseq) in
+    let five = skips (bytes_eq f (codes "content-length")) _ _ (miss f _ content_length) in
+    ((λ is. one.1 (two.1 (three.1 (four.1 (five.1 is))))), (λ is. five.0 (four.0 (three.0 (two.0 (one.0 is))))))
+
+via-row : (v : List ℕ) → Ways (Row (known known_name.Via) v) ((vias : List SaidVia) × ViasSay vias v)
+via-row v = (
+  (λ row. let es = via-elements v row.0 row.1 row.2 in (map said_via ((es.0, row.0) ∷ es.1), vias-said ((es.0, row.0) ∷ es.1) v es.2)),
+  (λ said. let es = said-vias said.0 v said.1 in elements-via v es.0 es.1),
+)
+
+address-row : (v : List ℕ) → Ways (Row (known known_name.From) v) (Address v)
+address-row v = ((λ row. address-said v row.0 row.1), said-address v)
+
+cseq-row : (v : List ℕ) → Ways (Row (known known_name.CSeq) v) ((said : ℕ × List ℕ) × CSeqSays said v)
+cseq-row v = ((λ row. ((row.0, row.1), cseq-said v row.0 row.1 row.2)), at)
+  where
+    at : (said : ℕ × List ℕ) × CSeqSays said v → Row (known known_name.CSeq) v
+    at ((n, m), says) = (n, m, said-cseq v n m says)
+
+same-row : (X : Type 0) → Ways X X
+same-row X = ((λ is. is), (λ is. is))
+
+-- the rows are the same
+pub row-said : (token v : List ℕ) → Ways (Row (name_of token) v) (RowSays (full_name (folded token)) v)
+row-said token v =
+    by-name (λ f name. Ways (Row name v) (RowSays (full_name f) v)) spellings token
+    (via-row v, (via-row v, (address-row v, (address-row v, (address-row v, (address-row v, (same-row _, (same-row _, (cseq-row v, (same-row _, (same-row _, (same-row _, (same-row _, (same-row _, (same-row _, (same-row _, (same-row _, (same-row _, (same-row _, (same-row _, (same-row _, (same-row _, tt))))))))))))))))))))))
+    (λ foreign. let row = foreign-row (folded token) v foreign in subst (λ f. Ways (Row (other token) v) (RowSays f v)) (sym (foreign-name (folded token) foreign)) row)
+
+-- and so are the names that are asked for
+named : (k : Known) (key : List ℕ) → AllByRecursion (λ s. is_named k (known (s.1)) ≡ bytes_eq (full_name (s.0)) key) spellings → ((f : List ℕ) → IsForeign f → f ≡ key → ⊥)
+    → (token : List ℕ) → is_named k (name_of token) ≡ bytes_eq (full_name (folded token)) key
+named k key each differs token =
+    by-name (λ f name. is_named k name ≡ bytes_eq (full_name f) key) spellings token each
+    (λ foreign. sym (ap (λ f. bytes_eq f key) (foreign-name (folded token) foreign) ∙ miss (folded token) key (differs (folded token) foreign)))
+
+pub named-via : (token : List ℕ) → is_named known_name.Via (name_of token) ≡ bytes_eq (full_name (folded token)) (codes "via")
+named-via = named known_name.Via (codes "via") (refl, (refl, (refl, (refl, (refl, (refl, (refl, (refl, (refl, (refl, (refl, (refl, (refl, (refl, (refl, (refl, (refl, (refl, (refl, (refl, (refl, (refl, tt)))))))))))))))))))))) (λ f foreign. foreign.0)
+
+pub named-from : (token : List ℕ) → is_named known_name.From (name_of token) ≡ bytes_eq (full_name (folded token)) (codes "from")
+named-from = named known_name.From (codes "from") (refl, (refl, (refl, (refl, (refl, (refl, (refl, (refl, (refl, (refl, (refl, (refl, (refl, (refl, (refl, (refl, (refl, (refl, (refl, (refl, (refl, (refl, tt)))))))))))))))))))))) (λ f foreign. foreign.1.1.0)
+
+pub named-to : (token : List ℕ) → is_named known_name.To (name_of token) ≡ bytes_eq (full_name (folded token)) (codes "to")
+named-to = named known_name.To (codes "to") (refl, (refl, (refl, (refl, (refl, (refl, (refl, (refl, (refl, (refl, (refl, (refl, (refl, (refl, (refl, (refl, (refl, (refl, (refl, (refl, (refl, (refl, tt)))))))))))))))))))))) (λ f foreign. foreign.1.1.1.1.0)
+
+pub named-call-id : (token : List ℕ) → is_named known_name.CallId (name_of token) ≡ bytes_eq (full_name (folded token)) (codes "call-id")
+named-call-id = named known_name.CallId (codes "call-id") (refl, (refl, (refl, (refl, (refl, (refl, (refl, (refl, (refl, (refl, (refl, (refl, (refl, (refl, (refl, (refl, (refl, (refl, (refl, (refl, (refl, (refl, tt)))))))))))))))))))))) (λ f foreign. foreign.1.1.1.1.1.1.0)
+
+pub named-cseq : (token : List ℕ) → is_named known_name.CSeq (name_of token) ≡ bytes_eq (full_name (folded token)) (codes "cseq")
+named-cseq = named known_name.CSeq (codes "cseq") (refl, (refl, (refl, (refl, (refl, (refl, (refl, (refl, (refl, (refl, (refl, (refl, (refl, (refl, (refl, (refl, (refl, (refl, (refl, (refl, (refl, (refl, tt)))))))))))))))))))))) (λ f foreign. foreign.1.1.1.1.1.1.1.1.0)
+
+pub named-content-length : (token : List ℕ) → is_named known_name.ContentLength (name_of token) ≡ bytes_eq (full_name (folded token)) (codes "content-length")
+named-content-length = named known_name.ContentLength (codes "content-length") (refl, (refl, (refl, (refl, (refl, (refl, (refl, (refl, (refl, (refl, (refl, (refl, (refl, (refl, (refl, (refl, (refl, (refl, (refl, (refl, (refl, (refl, tt)))))))))))))))))))))) (λ f foreign. foreign.1.1.1.1.1.1.1.1.1.0)
+
+pub named-route : (token : List ℕ) → is_named known_name.Route (name_of token) ≡ bytes_eq (full_name (folded token)) (codes "route")
+named-route = named known_name.Route (codes "route") (refl, (refl, (refl, (refl, (refl, (refl, (refl, (refl, (refl, (refl, (refl, (refl, (refl, (refl, (refl, (refl, (refl, (refl, (refl, (refl, (refl, (refl, tt)))))))))))))))))))))) (λ f foreign. foreign.1.1.1.1.1.1.1.1.1.1.1.1.1.1.1.1.1.1.1.1.1.0)

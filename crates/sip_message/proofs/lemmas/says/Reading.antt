@@ -1,0 +1,144 @@
+-- What bytes say is what their one reading says.
+use Rattle.std.proofs.Common.{◌≡◌, ◌↔◌, ℕ, ◌+◌, List, [], ◌∷◌, ◌++◌, map, refl, sym, ap, ◌∙◌, subst}
+use Rattle.std.specs.Prelude.{codes, bytes_eq}
+use Rattle.std.specs.List.{join_with_byte}
+use Prim.Native.String.{String}
+use Rattle.sip_message.specs.declared.fault.Fault.{Fault}
+use Rattle.sip_message.specs.declared.name.Known.{Known}
+use Rattle.sip_message.specs.declared.name.Known.TheVariants as known_name
+use Rattle.sip_message.specs.Name.{name_of, is_named}
+use Rattle.sip_message.specs.Params.{comma}
+use Rattle.sip_message.specs.StartLine.{StartLine}
+use Rattle.sip_message.specs.Address.{AddressParts}
+use Rattle.sip_message.specs.Field.{Field}
+use Rattle.sip_message.specs.Elements.{Element, AreElements, values}
+use Rattle.sip_message.specs.Message.{Message, found_from}
+use Rattle.sip_message.specs.Outcome.{Outcome, gives, stops, passes, stopped}
+use Rattle.sip_message.specs.Faults.{ReadOf}
+use Rattle.sip_message.specs.Reading.{Reading, Parts, HasParts, IsValueOf, AddressValue}
+use Rattle.sip_message.specs.Reads.{Reads}
+use Rattle.sip_message.specs.Says.{full_name, SaidField, all, said_values, Said, SaidVia, ViasTell, IsFirstOf, CSeqSays, FieldsTell, BytesTell, Says}
+use Rattle.sip_message.specs.SaidOf.{said_via, said_of}
+use Rattle.sip_text.specs.Case.{folded}
+use Rattle.sip_message.proofs.lemmas.asked.Parts.{found-values, has-parts}
+use Rattle.sip_message.proofs.lemmas.asked.OneWay.{parts-one}
+use Rattle.sip_message.proofs.lemmas.message.Outcome.{no_value, given, fault_is}
+use Rattle.sip_message.proofs.lemmas.message.Faults.{read-text, text-read}
+use Rattle.sip_message.proofs.lemmas.message.Views.{same_reading}
+use Rattle.sip_message.proofs.lemmas.says.Alike.{Alike}
+use Rattle.sip_message.proofs.lemmas.says.Via.{are-said, said-are}
+use Rattle.sip_message.proofs.lemmas.says.Values.{value-said, said-value}
+use Rattle.sip_message.proofs.lemmas.says.Names.{named-via, named-from, named-to, named-call-id, named-cseq, named-route}
+use Rattle.sip_message.proofs.lemmas.says.Bytes.{AreFields, IsTold, all-found, same-read}
+
+-- the values of a name are those that are said
+values-said : (k : Known) (key : String) → ((token : List ℕ) → is_named k (name_of token) ≡ bytes_eq (full_name (folded token)) (codes key)) → (fs : List Field) (gs : List SaidField) → AreFields 1 fs gs → values k fs ≡ said_values key gs
+values-said k key same fs gs are = found-values 1 k fs ∙ ap (map (λ found. found.1)) (all-found k key same 1 fs gs are)
+
+first-of : (k : Known) (key : String) (fs : List Field) (gs : List SaidField) (text : List ℕ) → values k fs ≡ said_values key gs → IsValueOf k fs text → IsFirstOf (said_values key gs) text
+first-of k key fs gs text same (more, first) = (more, sym same ∙ first)
+
+value-of : (k : Known) (key : String) (fs : List Field) (gs : List SaidField) (text : List ℕ) → values k fs ≡ said_values key gs → IsFirstOf (said_values key gs) text → IsValueOf k fs text
+value-of k key fs gs text same (more, first) = (more, same ∙ first)
+
+one-first : (vs : List (List ℕ)) (a b : List ℕ) → IsFirstOf vs a → IsFirstOf vs b → a ≡ b
+one-first vs a b (more, first) (later, other) = let same : a ∷ more ≡ b ∷ later = sym first ∙ other in cc
+
+whole-of : (a : List ℕ × AddressParts) (text : List ℕ) → AddressValue text a → text ≡ a.0
+whole-of (whole, a) text (address, same) = sym same
+
+-- the parts of fields are what they say
+parts-tell : (m : Message) (start : StartLine) (gs : List SaidField) (p : Parts) → IsTold m (start, gs) → HasParts m.fields p → FieldsTell start gs (said_of (record { message = m; parts = p }))
+parts-tell m start gs p (start_is, are) parts =
+    let via = values-said known_name.Via "via" named-via m.fields gs are in
+    let from = values-said known_name.From "from" named-from m.fields gs are in
+    let to = values-said known_name.To "to" named-to m.fields gs are in
+    let call_id = values-said known_name.CallId "call-id" named-call-id m.fields gs are in
+    let cseq = values-said known_name.CSeq "cseq" named-cseq m.fields gs are in
+    let route = values-said known_name.Route "route" named-route m.fields gs are in
+    record {
+      start_is = start_is;
+      vias = subst (λ vs. ViasTell vs (map said_via (p.via ∷ p.others))) via (are-said (values known_name.Via m.fields) (p.via ∷ p.others) parts.vias);
+      from = subst (IsFirstOf (said_values "from" gs)) (whole-of p.from parts.from.0 parts.from.2) (first-of known_name.From "from" m.fields gs parts.from.0 from parts.from.1);
+      to = subst (IsFirstOf (said_values "to" gs)) (whole-of p.to parts.to.0 parts.to.2) (first-of known_name.To "to" m.fields gs parts.to.0 to parts.to.1);
+      call_id = first-of known_name.CallId "call-id" m.fields gs p.call_id call_id parts.call_id;
+      cseq = (parts.cseq.0, first-of known_name.CSeq "cseq" m.fields gs parts.cseq.0 cseq parts.cseq.1, value-said parts.cseq.0 p.cseq parts.cseq.2);
+      route_is = ap (join_with_byte comma) route;
+    }
+
+-- what fields say are the parts that they have
+tell-parts : (m : Message) (start : StartLine) (gs : List SaidField) (p : Parts) (s : Said) → IsTold m (start, gs) → HasParts m.fields p → FieldsTell start gs s
+    → (q : Parts) × HasParts m.fields q × (s ≡ said_of (record { message = m; parts = q }))
+tell-parts m start gs p s (start_is, are) parts tells = at es.0 es.1 es.2
+  where
+    es : (es : List Element) × AreElements (values known_name.Via m.fields) es × (s.via ∷ s.others ≡ map said_via es)
+    es = said-are (values known_name.Via m.fields) (s.via ∷ s.others) (subst (λ vs. ViasTell vs (s.via ∷ s.others)) (sym (values-said known_name.Via "via" named-via m.fields gs are)) tells.vias)
+
+    at : (es : List Element) → AreElements (values known_name.Via m.fields) es → s.via ∷ s.others ≡ map said_via es → (q : Parts) × HasParts m.fields q × (s ≡ said_of (record { message = m; parts = q }))
+    at [] elements vias = let none : ◌≡◌ {A = List SaidVia} (s.via ∷ s.others) [] = vias in cc
+    at (e ∷ es) elements vias =
+        let all_vias : ◌≡◌ {A = List SaidVia} (s.via ∷ s.others) (said_via e ∷ map said_via es) = vias in
+        let via : s.via ≡ said_via e = cc in
+        let others : s.others ≡ map said_via es = cc in
+        let told = parts-tell m start gs p (start_is, are) parts in
+        let from : s.from ≡ p.from.0 = one-first (said_values "from" gs) s.from p.from.0 tells.from told.from in
+        let to : s.to ≡ p.to.0 = one-first (said_values "to" gs) s.to p.to.0 tells.to told.to in
+        let start_same : s.start ≡ m.start = tells.start_is ∙ sym start_is in
+        let route : s.route ≡ join_with_byte comma (values known_name.Route m.fields) = tells.route_is ∙ sym told.route_is in
+        let q : Parts = record { via = e; others = es; from = p.from; to = p.to; call_id = s.call_id; cseq = s.cseq } in (
+          q,
+          record {
+            vias = elements;
+            from = parts.from;
+            to = parts.to;
+            call_id = value-of known_name.CallId "call-id" m.fields gs s.call_id (values-said known_name.CallId "call-id" named-call-id m.fields gs are) tells.call_id;
+            cseq = (tells.cseq.0, value-of known_name.CSeq "cseq" m.fields gs tells.cseq.0 (values-said known_name.CSeq "cseq" named-cseq m.fields gs are) tells.cseq.1, said-value tells.cseq.0 s.cseq tells.cseq.2);
+          },
+          (λ i. record { start = start_same i; via = via i; others = others i; from = from i; to = to i; call_id = s.call_id; cseq = s.cseq; route = route i }),
+        )
+
+-- bytes say what their reading says
+pub reads-says : (bytes : List ℕ) (r : Reading) → Reads bytes r → Says bytes (gives (said_of r))
+reads-says bytes r reads = let told = (same-read bytes).to (gives r.message) (text-read bytes r.message reads.text) in at told.0 told.1 told.2
+  where
+    at : (b : Outcome (StartLine × List SaidField)) → BytesTell bytes b → Alike IsTold (gives r.message) b → Says bytes (gives (said_of r))
+    at (gives y) tells is_told = passes y tells (said_of r, parts-tell r.message y.0 y.1 r.parts is_told reads.parts.is, refl)
+    at (stops f) tells is_told = absurd is_told
+
+-- and have a reading that says it
+pub says-reads : (bytes : List ℕ) (s : Said) → Says bytes (gives s) → (r : Reading) × Reads bytes r × (s ≡ said_of r)
+says-reads bytes s (stopped f tells is) = absurd (no_value is)
+says-reads bytes s (passes y tells (t, fields, is)) = let read = (same-read bytes).back (gives y) tells in at read.0 read.1 read.2
+  where
+    at : (a : Outcome Message) → ReadOf bytes a → Alike IsTold a (gives y) → (r : Reading) × Reads bytes r × (s ≡ said_of r)
+    at (stops f) read is_told = absurd is_told
+    at (gives m) read is_told =
+        let text = read-text bytes m read in
+        let parts = has-parts bytes m text in
+        let q = tell-parts m y.0 y.1 parts.0 s is_told parts.1 (subst (FieldsTell y.0 y.1) (sym (given is)) fields) in (
+          record { message = m; parts = q.0 },
+          record { text = text; parts = record { is = q.1; only = λ other others. parts-one m.fields other q.0 others q.1 } },
+          q.2,
+        )
+
+-- and their first fault is the one with which they are not read
+pub fault-says : (bytes : List ℕ) (f : Fault) → ReadOf bytes (stops f) → Says bytes (stops f)
+fault-says bytes f read = let told = (same-read bytes).to (stops f) read in at told.0 told.1 told.2
+  where
+    at : (b : Outcome (StartLine × List SaidField)) → BytesTell bytes b → Alike IsTold (stops f) b → Says bytes (stops f)
+    at (gives y) tells is_told = absurd is_told
+    at (stops g) tells same = stopped g tells (ap (λ z. stops z) same)
+
+pub says-fault : (bytes : List ℕ) (f : Fault) → Says bytes (stops f) → ReadOf bytes (stops f)
+says-fault bytes f (passes y tells (t, fields, is)) = absurd (no_value (sym is))
+says-fault bytes f (stopped g tells is) = let read = (same-read bytes).back (stops g) tells in at read.0 read.1 read.2
+  where
+    at : (a : Outcome Message) → ReadOf bytes a → Alike IsTold a (stops g) → ReadOf bytes (stops f)
+    at (gives m) read is_told = absurd is_told
+    at (stops h) read same = subst (λ z. ReadOf bytes (stops z)) (same ∙ sym (fault_is is)) read
+
+-- so they say one message
+pub said-is : (bytes : List ℕ) (r : Reading) (s : Said) → Reads bytes r → Says bytes (gives s) → s ≡ said_of r
+said-is bytes r s reads says =
+    let other = says-reads bytes s says in
+    other.2 ∙ ap said_of (same_reading bytes other.0 r other.1 reads)

@@ -1,0 +1,143 @@
+-- What start lines, addresses and CSeq say, and their parts.
+use Rattle.std.proofs.Common.{◌≡◌, ℕ, Bool, true, false, List, [], ◌∷◌, ◌++◌, Option, None, Some, IfSome, inl, inr, refl, sym, ap, ◌∙◌, subst}
+use Rattle.std.specs.Char.{is_ascii_digit}
+use Rattle.std.specs.List.{AllByRecursion}
+use Rattle.std.specs.Prelude.{⊤, codes, not}
+use Rattle.std.specs.Str.Parse.{digits_value}
+use Rattle.std.proofs.lemmas.List.{append-nil}
+use Rattle.sip_text.specs.Bytes.{equals, is_one_of}
+use Rattle.sip_text.specs.Text.{One, Byte, Exactly, ◌then◌, ◌or◌, Optional, Many}
+use Rattle.sip_text.specs.Grammar.{Token, Sws, Blanks}
+use Rattle.sip_text.specs.Uri.{UriText}
+use Rattle.sip_text.specs.Profile as profile
+use Rattle.sip_text.proofs.ManyLemmas.{many-map}
+use Rattle.sip_text.proofs.ProfileLemmas.{uri-parts, parts-uri}
+use Rattle.sip_message.specs.Params.{left_angle, Mark, ParamValue, ParamText}
+use Rattle.sip_message.specs.Address.{DisplayName, AddressParts, BeforeUri, AddressText, name_addr, addr_spec}
+use Rattle.sip_message.specs.StartLine.{StartLine, request, status, is_reason_byte, StartText}
+use Rattle.sip_message.specs.Values.{Digits, CSeqText}
+use Rattle.sip_message.specs.Reading.{CSeqValue}
+use Rattle.sip_message.specs.Says.{StartSays, Address, CSeqSays}
+use Rattle.sip_message.proofs.lemmas.params.Closed.{ParamSet, AllOk, TailSet, tail-set, set-tail}
+
+-- start lines
+pub start-said : (line : List ℕ) (start : StartLine) → StartText line start → StartSays line start
+start-said line (request m u) (token, (parts, uri), (a, w1, a_is, (s1, w2, s1_is, (b, w3, b_is, (s2, v, s2_is, version, w3_is), w2_is), w1_is), whole)) =
+    (a, w1, (subst Token (sym a_is) token, sym a_is), (s1, w2, s1_is, (b, w3, (subst profile.Uri (sym b_is) (parts-uri u parts uri), sym b_is), (s2, v, s2_is, version, w3_is), w2_is), w1_is), whole)
+start-said line (status code why) (bytes, (v, w1, version, (s1, w2, s1_is, (c, w3, c_is, (s2, r, s2_is, r_is, w3_is), w2_is), w1_is), whole)) =
+    (v, w1, version, (s1, w2, s1_is, (c, w3, (c_is.digits, c_is.code_is, c_is.low, c_is.high), (s2, r, s2_is, (subst (Many (One is_reason_byte)) (sym r_is) bytes, sym r_is), w3_is), w2_is), w1_is), whole)
+
+pub said-start : (line : List ℕ) (start : StartLine) → StartSays line start → StartText line start
+said-start line (request m u) (a, w1, (token, m_is), (s1, w2, s1_is, (b, w3, (uri, u_is), (s2, v, s2_is, version, w3_is), w2_is), w1_is), whole) =
+    (subst Token (sym m_is) token, uri-parts u (subst profile.Uri (sym u_is) uri), (a, w1, sym m_is, (s1, w2, s1_is, (b, w3, sym u_is, (s2, v, s2_is, version, w3_is), w2_is), w1_is), whole))
+said-start line (status code why) (v, w1, version, (s1, w2, s1_is, (c, w3, (digits, code_is, low, high), (s2, r, s2_is, (bytes, r_is), w3_is), w2_is), w1_is), whole) =
+    (subst (Many (One is_reason_byte)) (sym r_is) bytes, (v, w1, version, (s1, w2, s1_is, (c, w3, record { digits = digits; code_is = code_is; low = low; high = high }, (s2, r, s2_is, sym r_is, w3_is), w2_is), w1_is), whole))
+
+-- of a parameter nothing is asked
+abbrev Any : List ℕ → Option (List ℕ) → Type 0
+Any name value = ⊤
+
+any-params : (ps : List (List ℕ × Option (List ℕ))) → AllOk Any ps
+any-params [] = tt
+any-params (p ∷ ps) = (tt, any-params ps)
+
+abbrev Generic : List ℕ → Type 0
+Generic = Token then Optional (Mark equals then ParamValue)
+
+generic-param : (x : List ℕ) → ParamSet Any x → Generic x
+generic-param x (n, None, ok, (token, x_is)) = (x, [], subst Token (sym x_is) token, inl refl, sym (append-nil x))
+generic-param x (n, Some v, ok, (token, kind, (a, b, a_is, (c, d, mark, d_is, b_is), whole))) =
+    (a, b, subst Token (sym a_is) token, inr (c, d, mark, subst ParamValue (sym d_is) kind, b_is), whole)
+
+param-generic : (x : List ℕ) → Generic x → ParamSet Any x
+param-generic x (a, r, token, inl none, whole) = (a, None, tt, (token, whole ∙ ap (λ t. a ++ t) none ∙ append-nil a))
+param-generic x (a, r, token, inr (c, d, mark, kind, r_is), whole) = (a, Some d, tt, (token, kind, (a, r, refl, (c, d, mark, refl, r_is), whole)))
+
+abbrev Params : List ℕ → Type 0
+Params = Many (profile.Mark ";" then Generic)
+
+params-of : (text : List ℕ) → TailSet Any text → Params text
+params-of text tail =
+    many-map (profile.Mark ";" then ParamSet Any) (profile.Mark ";" then Generic) text
+    (λ u piece. (piece.0, piece.1, piece.2, generic-param piece.1 piece.3, piece.4)) (tail-set Any text tail)
+
+of-params : (text : List ℕ) → Params text → TailSet Any text
+of-params text params =
+    set-tail Any text
+    (many-map (profile.Mark ";" then Generic) (profile.Mark ";" then ParamSet Any) text
+    (λ u piece. (piece.0, piece.1, piece.2, param-generic piece.1 piece.3, piece.4)) params)
+
+-- what stands before the URI
+abbrev Before : List ℕ → Type 0
+Before = Byte left_angle or (DisplayName then Sws then Byte left_angle)
+
+before-uri : (display : Option (List ℕ)) (text : List ℕ) → IfSome display DisplayName → BeforeUri display text → Before text
+before-uri None text fits angle = inl angle
+before-uri (Some d) text fits (x, y, x_is, rest, whole) = inr (x, y, subst DisplayName (sym x_is) fits, rest, whole)
+
+uri-before : (text : List ℕ) → Before text → (display : Option (List ℕ)) × IfSome display DisplayName × BeforeUri display text
+uri-before text (inl angle) = (None, tt, angle)
+uri-before text (inr (x, y, fits, rest, whole)) = (Some x, fits, (x, y, refl, rest, whole))
+
+abbrev Bare : List ℕ → Type 0
+Bare = Many (One (λ byte. not (is_one_of (codes ",?;") byte)))
+
+-- addresses
+pub address-said : (text : List ℕ) (a : AddressParts) → AddressText text a → Address text
+address-said text a (name_addr fits (b, w1, before, (u, w2, u_is, (g, t, angle, tail, w2_is), w1_is), whole)) =
+    inl (
+      b,
+      w1,
+      before-uri a.display b fits.display before,
+      (u, w2, subst profile.Uri (sym u_is) (parts-uri a.uri_text a.uri fits.uri), (g, t, angle, params-of t (a.params, fits.params.0, fits.params.1, any-params fits.params.0, tail), w2_is), w1_is),
+      whole,
+    )
+address-said text a (addr_spec fits none bare (u, t, u_is, tail, whole)) =
+    inr (
+      u,
+      t,
+      (subst profile.Uri (sym u_is) (parts-uri a.uri_text a.uri fits.uri), subst Bare (sym u_is) bare),
+      params-of t (a.params, fits.params.0, fits.params.1, any-params fits.params.0, tail),
+      whole,
+    )
+
+pub said-address : (text : List ℕ) → Address text → (a : AddressParts) × AddressText text a
+said-address text (inl (b, w1, before, (u, w2, uri, (g, t, angle, params, w2_is), w1_is), whole)) =
+    let tail = of-params t params in
+    let parts = uri-parts u uri in
+    let display = uri-before b before in
+    (
+      record { display = display.0; uri_text = u; uri = parts.0; params = tail.0 },
+      name_addr (record { display = display.1; uri = parts.1; params = (tail.1, tail.2) }) (b, w1, display.2, (u, w2, refl, (g, t, angle, tail.4, w2_is), w1_is), whole),
+    )
+said-address text (inr (u, t, (uri, bare), params, whole)) =
+    let tail = of-params t params in
+    let parts = uri-parts u uri in
+    (
+      record { display = None; uri_text = u; uri = parts.0; params = tail.0 },
+      addr_spec (record { display = tt; uri = parts.1; params = (tail.1, tail.2) }) refl bare (u, t, refl, tail.4, whole),
+    )
+
+-- CSeq
+pub cseq-said : (text : List ℕ) (n : ℕ) (m : List ℕ) → CSeqText text n m → CSeqSays (n, m) text
+cseq-said text n m c = at c.whole
+  where
+    at : (Exactly c.digits then Blanks then Exactly m) text → CSeqSays (n, m) text
+    at (d, w, d_is, (s, word, blanks, m_is, w_is), whole) =
+        (c.low, (d, w, (subst Digits (sym d_is) c.are_digits, c.number_is ∙ ap (digits_value 10) (sym d_is)), (s, word, blanks, (subst Token (sym m_is) c.is_method, sym m_is), w_is), whole))
+
+pub said-cseq : (text : List ℕ) (n : ℕ) (m : List ℕ) → CSeqSays (n, m) text → CSeqText text n m
+said-cseq text n m (low, (d, w, (digits, n_is), (s, word, blanks, (token, m_is), w_is), whole)) = record {
+  digits = d;
+  are_digits = digits;
+  number_is = n_is;
+  low = low;
+  is_method = subst Token (sym m_is) token;
+  whole = (d, w, refl, (s, word, blanks, sym m_is, w_is), whole);
+}
+
+pub value-said : (text : List ℕ) (c : ℕ × List ℕ) → CSeqValue text c → CSeqSays c text
+value-said text (n, m) = cseq-said text n m
+
+pub said-value : (text : List ℕ) (c : ℕ × List ℕ) → CSeqSays c text → CSeqValue text c
+said-value text (n, m) = said-cseq text n m

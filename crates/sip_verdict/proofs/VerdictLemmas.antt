@@ -1,0 +1,91 @@
+-- The verdict of an input by one recursion for SIP messages is that by any reading's, for theirs.
+use Rattle.std.proofs.Common.{◌≡◌, ◌⊎◌, inl, inr, ◌+◌, ℕ, Some, None, List, [], ◌∷◌, ◌++◌, length, All, refl}
+use Rattle.std.proofs.lemmas.List.Elements.{All-weaker}
+use Rattle.sip_key.specs.Key.{KeyParts}
+use Rattle.sip_machine.specs.Times.{Times}
+use Rattle.sip_log.specs.Spelling.{Item}
+use Rattle.sip_log.specs.Log.{LogEnd, Clean, Stops}
+use Rattle.sip_log.proofs.LogSaysLemmas.{log-says, says-log, lacks-header, header-lacks}
+use Rattle.sip_verdict.specs.declared.verdict.Verdict.{Verdict}
+use Rattle.sip_verdict.specs.declared.verdict.Verdict.TheVariants.{Legal, Malformed, Breach, Undecided, LogFault}
+use Rattle.sip_verdict.specs.Keyed.{Observation, HasRun}
+use Rattle.sip_verdict.specs.Verdicts.{IsFirst, IsTooWide, IsFine, IsTrouble}
+use Rattle.sip_verdict.specs.Reading.{Judges, IsVerdictBy}
+use Rattle.sip_verdict.specs.MessageReading.{key_machines, message_reading}
+use Rattle.sip_verdict.specs.VerdictOf.{RunsOver, IsWideAt, IsFirstKey, HasTrouble, IsVerdictBehind, IsVerdictOf}
+
+-- the first key of which a fact holds
+first-key : (P Q : KeyParts → Type 0) → ((k : KeyParts) → P k → Q k) → ((k : KeyParts) → Q k → P k) → (keys : List KeyParts) (n : ℕ) → IsFirst P keys n → IsFirstKey Q keys n
+first-key P Q go come keys n first =
+    (first.before, first.key, first.rest, first.is, go first.key first.holds, All-weaker (λ k. ¬ (P k)) (λ k. ¬ (Q k)) (λ k none q. none (come k q)) first.before first.earlier, first.counts)
+
+key-first : (P Q : KeyParts → Type 0) → ((k : KeyParts) → P k → Q k) → ((k : KeyParts) → Q k → P k) → (keys : List KeyParts) (n : ℕ) → IsFirstKey P keys n → IsFirst Q keys n
+key-first P Q go come keys n (before, key, rest, whole, holds, earlier, counts) =
+    record { before = before; key = key; rest = rest; is = whole; holds = go key holds; earlier = All-weaker (λ k. ¬ (P k)) (λ k. ¬ (Q k)) (λ k none q. none (come k q)) before earlier; counts = counts }
+
+module _ (p : Times) (front : List (Observation KeyParts)) (e : Observation KeyParts) where
+  -- a key that is too wide
+  wide-at : (key : KeyParts) → IsTooWide (key_machines p) front e key → IsWideAt p front e key
+  wide-at key is = (is.concerned, (is.wide.many, is.wide.distinct, is.wide.wide, is.wide.each))
+
+  at-wide : (key : KeyParts) → IsWideAt p front e key → IsTooWide (key_machines p) front e key
+  at-wide key (concerned, (many, distinct, wide, each)) = record { concerned = concerned; wide = record { many = many; distinct = distinct; wide = wide; each = each } }
+
+  -- an entry in trouble
+  has-trouble : (v : Verdict) → IsTrouble (key_machines p) front e v → HasTrouble p front e v
+  has-trouble (Legal entries transactions) is = is
+  has-trouble (Malformed entry fault) is = is
+  has-trouble (Breach entry transaction) (at, formed, first) = (at, formed, first-key _ _ (λ k none. none) (λ k none. none) _ transaction first)
+  has-trouble (Undecided entry transaction) (at, formed, runs, first) = (at, formed, runs, first-key _ _ wide-at at-wide _ transaction first)
+  has-trouble (LogFault entry reason) is = is
+
+  trouble-has : (v : Verdict) → HasTrouble p front e v → IsTrouble (key_machines p) front e v
+  trouble-has (Legal entries transactions) is = is
+  trouble-has (Malformed entry fault) is = is
+  trouble-has (Breach entry transaction) (at, formed, first) = (at, formed, key-first _ _ (λ k none. none) (λ k none. none) _ transaction first)
+  trouble-has (Undecided entry transaction) (at, formed, runs, first) = (at, formed, runs, key-first _ _ at-wide wide-at _ transaction first)
+  trouble-has (LogFault entry reason) is = is
+
+-- the entries that are left
+behind-verdict : (p : Times) (es : List (Observation KeyParts)) (items : List Item) (end : LogEnd) (v : Verdict) → Judges message_reading p es items end v → IsVerdictBehind p es items end v
+behind-verdict p es [] Clean v is = is
+behind-verdict p es [] (Stops fault) v is = is
+behind-verdict p es (item ∷ items) end v (e, sees, inl trouble) = (e, sees, inl (has-trouble p es e v trouble))
+behind-verdict p es (item ∷ items) end v (e, sees, inr (fine, more)) =
+    (
+      e,
+      sees,
+      inr (
+        fine.formed,
+        fine.runs,
+        All-weaker (λ key. ¬ (IsTooWide (key_machines p) es e key)) (λ key. ¬ (IsWideAt p es e key)) (λ key none wide. none (at-wide p es e key wide)) _ fine.narrow,
+        behind-verdict p (es ++ e ∷ []) items end v more,
+      ),
+    )
+
+verdict-behind : (p : Times) (es : List (Observation KeyParts)) (items : List Item) (end : LogEnd) (v : Verdict) → IsVerdictBehind p es items end v → Judges message_reading p es items end v
+verdict-behind p es [] Clean v is = is
+verdict-behind p es [] (Stops fault) v is = is
+verdict-behind p es (item ∷ items) end v (e, sees, inl trouble) = (e, sees, inl (trouble-has p es e v trouble))
+verdict-behind p es (item ∷ items) end v (e, sees, inr (formed, runs, narrow, more)) =
+    (
+      e,
+      sees,
+      inr (
+        record {
+          formed = formed;
+          runs = runs;
+          narrow = All-weaker (λ key. ¬ (IsWideAt p es e key)) (λ key. ¬ (IsTooWide (key_machines p) es e key)) (λ key none wide. none (wide-at p es e key wide)) _ narrow;
+        },
+        verdict-behind p (es ++ e ∷ []) items end v more,
+      ),
+    )
+
+-- the verdict of an input
+pub by-verdict : (input : List ℕ) (v : Verdict) → IsVerdictBy message_reading input v → IsVerdictOf input v
+by-verdict input v (inl (none, is)) = inl (lacks-header input none, is)
+by-verdict input v (inr (p, items, end, log, judges)) = inr (p, items, end, log-says input p items end log, behind-verdict p [] items end v judges)
+
+pub verdict-by : (input : List ℕ) (v : Verdict) → IsVerdictOf input v → IsVerdictBy message_reading input v
+verdict-by input v (inl (none, is)) = inl (header-lacks input none, is)
+verdict-by input v (inr (p, items, end, says, judges)) = inr (p, items, end, says-log input p items end says, verdict-behind p [] items end v judges)

@@ -1,5 +1,5 @@
 -- What the judge is told of an entry is what is observed of it.
-use Rattle.std.specs.Prelude.{not, is_some, option_map, option_to_list, if◌then◌else◌}
+use Rattle.std.specs.Prelude.{not, codes, bytes_eq, is_some, option_map, option_to_list, if◌then◌else◌}
 use Rattle.std.proofs.Common.{◌≡◌, ◌≢◌, ◌≤◌, ◌&&◌, ℕ, Bool, true, false, Option, Some, None, MatchOption, List, [], ◌++◌, refl, sym, ap, ◌∙◌, subst}
 use Rattle.std.proofs.lemmas.Bool.{false≢true}
 use Rattle.sip_message.specs.declared.fault.Fault.{Fault}
@@ -8,13 +8,14 @@ use Rattle.sip_message.specs.Reading as message
 use Rattle.sip_message.specs.Reads.{Reads}
 use Rattle.sip_message.specs.Faults.{FaultOf}
 use Rattle.sip_message.specs.Outcome.{gives, stops}
-use Rattle.sip_message.specs.Says.{Says}
+use Rattle.sip_message.specs.Says.{Said, Says}
 use Rattle.sip_message.specs.SaidOf.{said_of}
 use Rattle.sip_message.proofs.lemmas.says.Reading.{reads-says, fault-says}
 use Rattle.sip_key.specs.declared.role.Direction.{Direction}
 use Rattle.sip_key.specs.declared.role.Direction.TheVariants as way
 use Rattle.sip_key.specs.Key.{KeyParts}
-use Rattle.sip_key.specs.Concerns.{Concerns, branch_of, is_sent_cancel, is_sent_request, lacks_cookie}
+use Rattle.sip_key.specs.Branch.{cookie_branch}
+use Rattle.sip_key.specs.Concerns.{Concerns, is_sent, lacks_cookie}
 use Rattle.sip_times.specs.declared.action.Action.{Action}
 use Rattle.sip_times.specs.declared.action.Action.TheVariants.{Sent, Received, Failed, Mark}
 use Rattle.sip_machine.specs.Message.{kind_of}
@@ -27,7 +28,7 @@ use Rattle.sip_verdict.specs.declared.concerned.Concerned.{Concerned}
 use Rattle.sip_verdict.specs.declared.concerned.Concerned.TheVariants as concerned
 use Rattle.sip_verdict.specs.Keyed.{Observation}
 use Rattle.sip_verdict.specs.Listing.{has_message}
-use Rattle.sip_verdict.specs.MessageReading.{direction_of, mark_observation, fault_observation, no_cookie, heard_message, message_observation, ObservesMessage, has_fault, has_no_cookie, is_heard, message_reading, ConcernsNone}
+use Rattle.sip_verdict.specs.MessageReading.{direction_of, mark_observation, fault_observation, no_cookie, heard_message, ObservesMessage, has_fault, has_no_cookie, is_heard, message_reading, ConcernsNone}
 use Rattle.sip_verdict.specs.inner.Concerned.{each}
 use Rattle.sip_verdict.proofs.MessageUnique.{observes_one}
 
@@ -60,10 +61,14 @@ pub observes_no_cookie : (item : Item) (direction : Direction) (text : List ℕ)
     → ObservesMessage direction item (fault_observation item no_cookie)
 observes_no_cookie item direction text r same reads lacks = has_no_cookie (said_of r) (subst (λ t. Says t (gives (said_of r))) same (reads-says text r reads)) lacks refl
 
+-- of a message that concerns no key its event
+abbrev pub keyless_observation : Item → Said → Observation KeyParts
+keyless_observation item s = record { fault = None; event = heard_message item s; keys = [] }
+
 -- that it concerns no key
-pub observes_none : (item : Item) (direction : Direction) (text : List ℕ) (r : message.Reading) → text ≡ item.text → Reads text r → lacks_cookie r direction ≡ false → Concerns r direction []
-    → ObservesMessage direction item (message_observation item r [])
-observes_none item direction text r same reads has concerns = is_heard r [] (subst (λ t. Reads t r) same reads) has concerns refl
+pub observes_none : (item : Item) (direction : Direction) (text : List ℕ) (r : message.Reading) → text ≡ item.text → Reads text r → lacks_cookie (said_of r) direction ≡ false → Concerns (said_of r) direction []
+    → ObservesMessage direction item (keyless_observation item (said_of r))
+observes_none item direction text r same reads has concerns = is_heard (said_of r) [] (subst (λ t. Says t (gives (said_of r))) same (reads-says text r reads)) has concerns refl
 
 -- the event of an entry with a message that was read, whose bytes have this number
 abbrev pub event_of : Item → message.Reading → ℕ → NumberedEvent
@@ -111,20 +116,22 @@ lacks_branch true (Some x) lacks = absurd (false≢true lacks)
 lacks_branch false (Some x) lacks = absurd (false≢true lacks)
 
 -- a message without a branch concerns no key, whichever way it went
-branchless : (direction : Direction) (item : Item) (r : message.Reading) → Reads item.text r → branch_of r ≡ None → (e : Observation KeyParts) × ObservesMessage direction item e × (e.keys ≡ [])
-branchless direction item r reads none = go (lacks_cookie r direction) refl
+branchless : (direction : Direction) (item : Item) (s : Said) → Says item.text (gives s) → cookie_branch s.via.branch ≡ None → (e : Observation KeyParts) × ObservesMessage direction item e × (e.keys ≡ [])
+branchless direction item s says none = go (lacks_cookie s direction) refl
   where
-    go : (lacks : Bool) → lacks_cookie r direction ≡ lacks → (e : Observation KeyParts) × ObservesMessage direction item e × (e.keys ≡ [])
-    go true lacks = (fault_observation item no_cookie, has_no_cookie r reads lacks refl, refl)
-    go false has = (message_observation item r [], is_heard r [] reads has (sym (no_keys _ _ (is_sent_cancel r.message.start direction) (branch_of r) none)) refl, refl)
+    go : (lacks : Bool) → lacks_cookie s direction ≡ lacks → (e : Observation KeyParts) × ObservesMessage direction item e × (e.keys ≡ [])
+    go true lacks = (fault_observation item no_cookie, has_no_cookie s says lacks refl, refl)
+    go false has =
+        (keyless_observation item s, is_heard s [] says has (sym (no_keys _ _ (is_sent (λ method. bytes_eq method (codes "CANCEL")) s.start direction) (cookie_branch s.via.branch) none)) refl, refl)
 
 -- bytes that concern none one way concern none the other way
 other_way : (way direction : Direction) (i j : Item) (e : Observation KeyParts) → i.text ≡ j.text → ObservesMessage way i e → e.keys ≡ [] → (f : Observation KeyParts) × ObservesMessage direction j f × (f.keys ≡ [])
-other_way way direction i j e same (has_fault fault has is) none = (fault_observation j fault, has_fault fault (subst (λ t. FaultOf t (Some fault)) same has) refl, refl)
-other_way way direction i j e same (has_no_cookie r reads lacks is) none =
-    branchless direction j r (subst (λ t. Reads t r) same reads) (lacks_branch (is_sent_request r.message.start way) (branch_of r) lacks)
-other_way way direction i j e same (is_heard r keys reads fine concerns is) none =
-    branchless direction j r (subst (λ t. Reads t r) same reads) (no_branch _ _ (is_sent_cancel r.message.start way) (branch_of r) (sym concerns ∙ sym (ap (λ o. o.keys) is) ∙ none))
+other_way way direction i j e same (has_fault fault has is) none = (fault_observation j fault, has_fault fault (subst (λ t. Says t (stops fault)) same has) refl, refl)
+other_way way direction i j e same (has_no_cookie s says lacks is) none =
+    branchless direction j s (subst (λ t. Says t (gives s)) same says) (lacks_branch (is_sent (λ method. true) s.start way) (cookie_branch s.via.branch) lacks)
+other_way way direction i j e same (is_heard s keys says fine concerns is) none =
+    branchless direction j s (subst (λ t. Says t (gives s)) same says)
+    (no_branch _ _ (is_sent (λ method. bytes_eq method (codes "CANCEL")) s.start way) (cookie_branch s.via.branch) (sym concerns ∙ sym (ap (λ o. o.keys) is) ∙ none))
 
 -- an entry with a message went some way
 went : (action : Action) → has_message action ≡ true → (direction : Direction) × (direction_of action ≡ Some direction)

@@ -1,8 +1,9 @@
 use Rattle.std.proofs.Common.{[], inl, inr, refl, sym, ap, ◌∙◌}
+use Rattle.sip_message.specs.SaidOf.{said_of}
 use Rattle.sip_log.specs.Told.{item}
-use Rattle.sip_verdict.specs.MessageReading.{mark_observation, message_observation}
+use Rattle.sip_verdict.specs.MessageReading.{mark_observation}
 use Rattle.sip_verdict.specs.inner.Concerned.{each}
-use Rattle.sip_verdict.proofs.ObservingLemmas.{going, observes, observes_mark, observes_fault, observes_no_cookie, observes_none, observes_heard, concerns_some, each_some, event_fits, going_says, event_kept}
+use Rattle.sip_verdict.proofs.ObservingLemmas.{going, observes, observes_mark, observes_fault, observes_no_cookie, keyless_observation, observes_none, observes_heard, concerns_some, each_some, event_fits, going_says, event_kept}
 use Rattle.sip_verdict.proofs.observing.observe.Goals as goal
 
 pub returns-in_default-clause-observed : goal.returns-in_default-clause-observed
@@ -12,7 +13,7 @@ pub returns-in-None-clause-observed : goal.returns-in-None-clause-observed
 returns-in-None-clause-observed c es =
     let i = item c.args.entry.now in
     let keys = rw c.in-None.is at c.in-Ok-keys_of.ensures in (
-      message_observation i c.in-Ok.message [],
+      keyless_observation i (said_of c.in-Ok.message),
       observes es i _ c.in-Some.direction (sym c.direction_of.ensures ∙ c.in-Some.is)
           (observes_none i c.in-Some.direction c.as_slice.result.now c.in-Ok.message c.as_slice.ensures.value c.in-Ok.ensures keys.0 keys.1),
       (refl, refl, refl),

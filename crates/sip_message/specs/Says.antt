@@ -1,6 +1,6 @@
 -- What bytes say, or their first fault: the message, the fields and the values of RFC 3261 (sections 7, 18.3, 20 and 25.1).
 -- "Lenient" and "Own" mark where this profile takes more than the standard, or chose other than it.
-use Rattle.std.specs.Prelude.{◌≡◌, ◌⊎◌, ℕ, ◌+◌, ◌≤◌, ◌<◌, ◌^◌, ◌||◌, ◌&&◌, ◌==◌, not, cond, Bool, true, List, [], ◌∷◌, ◌++◌, length, map, filter, flat_map, Option, None, Some, IfSome, is_some, nat_le, codes, bytes_eq, if◌then◌else◌, ⊤}
+use Rattle.std.specs.Prelude.{◌≡◌, ℕ, ◌+◌, ◌≤◌, ◌<◌, ◌^◌, ◌||◌, ◌&&◌, ◌==◌, not, cond, Bool, true, List, [], ◌∷◌, ◌++◌, length, map, filter, flat_map, Option, None, Some, IfSome, is_some, nat_le, codes, bytes_eq, if◌then◌else◌, ⊤}
 use Rattle.std.specs.List.{AllByRecursion, join_with_byte}
 use Rattle.std.specs.Int.{is_in_range}
 use Rattle.std.specs.Char.{is_ascii_alphanumeric, is_ascii_digit}
@@ -8,9 +8,8 @@ use Rattle.std.specs.Str.Parse.{digits_value}
 use Prim.Native.String.{String}
 use Rattle.sip_text.specs.Text.{One, Exactly, ◌then◌, ◌or◌, Optional, Many, OneOrMore, Between}
 use Rattle.sip_text.specs.Case.{folded}
-use Rattle.sip_text.specs.Chars.{Lit, AnyCase, is_among, is_alphanum_or, ◌is◌, EachSays}
+use Rattle.sip_text.specs.Chars.{Lit, AnyCase, is_among, ◌is◌, EachSays}
 use Rattle.sip_text.specs.Profile.{Token, Wsp, Lws, Blanks, Sws, Mark, Quoted, Ipv6, Bracketed, Host, Port, Uri}
-use Rattle.sip_message.specs.declared.fault.Fault.{Fault}
 use Rattle.sip_message.specs.declared.fault.Reason.TheVariants as reason
 use Rattle.sip_message.specs.StartLine.{StartLine, request, status}
 use Rattle.sip_message.specs.Message.{length_in}

@@ -1,12 +1,12 @@
 -- The profile's hosts and URIs are the texts that have the parts of one.
-use Rattle.std.proofs.Common.{◌≡◌, ℕ, Bool, true, false, List, [], ◌∷◌, ◌++◌, Option, None, Some, IsNone, IfSome, inl, inr, refl, sym, ap, ◌∙◌, subst}
+use Rattle.std.proofs.Common.{◌≡◌, ℕ, Bool, true, false, List, [], ◌∷◌, ◌++◌, Option, None, Some, IsNone, IfSome, inl, inr, refl, sym, ap, ◌∙◌}
 use Rattle.std.proofs.lemmas.Bool.{both_ways}
 use Rattle.std.proofs.lemmas.List.{append_assoc}
 use Rattle.sip_text.specs.Bytes.{colon, question, at_sign}
-use Rattle.sip_text.specs.Text.{Byte, ◌then◌, ◌or◌, Optional, Many, OneOrMore, led}
+use Rattle.sip_text.specs.Text.{Byte, ◌then◌, ◌or◌, Optional, OneOrMore, led}
 use Rattle.sip_text.specs.Case.{folded}
 use Rattle.sip_text.specs.Host.{HostParts, HostText, host_text, name, v4, v6}
-use Rattle.sip_text.specs.Uri.{User, Password, Port, Headers, SipParts, SipFits, userinfo_text, hostport_text, sip_text, scheme_name, UriParts, UriText, sip, other}
+use Rattle.sip_text.specs.Uri.{User, Password, Port, Headers, SipParts, userinfo_text, hostport_text, sip_text, scheme_name, UriParts, UriText, sip, other}
 use Rattle.sip_text.specs.Profile.{Host, SipScheme, Userinfo, Uri}
 use Rattle.sip_text.proofs.ManyLemmas.{many-map}
 
@@ -97,9 +97,8 @@ uri-parts text (inl (s, r1, scheme, (c, r2, c_is, (i, r3, info, (h, r4, host, (o
     let headers_is = optional-led question Headers Headers b (λ u is. is) headers in
     let p : SipParts = record { secure = named.0; user = info_parts.user; password = info_parts.password; host = host_is.0; port = port_is.0; params = a; headers = headers_is.0 } in
     let rest : r3 ≡ hostport_text p.host p.port ++ p.params ++ led question p.headers =
-        e3 ∙ ap (λ t. t ++ r4) host_is.2 ∙ ap (λ t. host_text host_is.0 ++ t) (e4 ∙ ap (λ t. t ++ r5) port_is.2 ∙ ap (λ t. led colon port_is.0 ++ t) (e5 ∙ ap (λ t. a ++ t) headers_is.2))
-        ∙ sym (append_assoc (host_text host_is.0 ++ led colon port_is.0) a (led question headers_is.0) ∙ append_assoc (host_text host_is.0) (led colon port_is.0) (a ++ led question headers_is.0)) in
-    (
+    e3 ∙ ap (λ t. t ++ r4) host_is.2 ∙ ap (λ t. host_text host_is.0 ++ t) (e4 ∙ ap (λ t. t ++ r5) port_is.2 ∙ ap (λ t. led colon port_is.0 ++ t) (e5 ∙ ap (λ t. a ++ t) headers_is.2))
+    ∙ sym (append_assoc (host_text host_is.0 ++ led colon port_is.0) a (led question headers_is.0) ∙ append_assoc (host_text host_is.0) (led colon port_is.0) (a ++ led question headers_is.0)) in (
       sip p,
       (
         s,

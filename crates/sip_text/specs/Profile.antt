@@ -1,6 +1,6 @@
 -- Tokens, blanks, hosts and URIs as sets of texts (RFC 3261, section 25.1).
 -- "Lenient" and "Own" mark where this profile takes more than the standard, or chose other than it.
-use Rattle.std.specs.Prelude.{◌≡◌, ℕ, ◌≤◌, ◌||◌, ◌==◌, Bool, nat_le, List}
+use Rattle.std.specs.Prelude.{ℕ, ◌≤◌, ◌||◌, ◌==◌, Bool, nat_le, List}
 use Rattle.std.specs.Int.{is_in_range}
 use Rattle.std.specs.Char.{is_ascii_alphabetic, is_ascii_alphanumeric, is_ascii_digit, is_ascii_hexdigit}
 use Rattle.std.specs.Str.Parse.{digits_value}

@@ -1,5 +1,5 @@
-use Rattle.std.proofs.Common.{◌≡◌, subst, sym}
-use Rattle.sip_message.specs.Outcome.{gives, stops}
+use Rattle.std.proofs.Common.{subst, sym}
+use Rattle.sip_message.specs.Outcome.{gives}
 use Rattle.sip_message.specs.Says.{Says}
 use Rattle.sip_message.proofs.lemmas.says.Reading.{reads-says, says-reads, fault-says, says-fault}
 use Rattle.sip_message.proofs.laws.bytes_say_what_they_are_read_as.Goals as goal

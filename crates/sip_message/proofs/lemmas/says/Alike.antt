@@ -1,6 +1,5 @@
 -- Two readings that come to the same.
-use Rattle.std.proofs.Common.{◌≡◌, refl, sym, ap, ◌∙◌, subst}
-use Rattle.std.specs.Prelude.{⊤}
+use Rattle.std.proofs.Common.{◌≡◌, refl, sym, subst}
 use Rattle.sip_message.specs.declared.fault.Fault.{Fault}
 use Rattle.sip_message.specs.Outcome.{Outcome, gives, stops, Gives, Demand, Holds, Then, passes, stopped}
 

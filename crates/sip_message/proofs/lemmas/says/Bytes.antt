@@ -1,5 +1,5 @@
 -- What bytes are read as, and what they say: the start line and the fields are the same.
-use Rattle.std.proofs.Common.{◌≡◌, ℕ, ◌+◌, ◌≤◌, Bool, true, false, cond, ◌||◌, List, [], ◌∷◌, ◌++◌, length, map, Option, None, Some, inl, inr, refl, sym, ap, ◌∙◌, subst, arith}
+use Rattle.std.proofs.Common.{◌≡◌, ℕ, ◌+◌, ◌≤◌, Bool, true, false, cond, ◌||◌, List, [], ◌∷◌, ◌++◌, length, map, Option, inl, inr, refl, sym, ap, ◌∙◌, subst, arith}
 use Rattle.std.specs.Prelude.{⊤, ◌==◌, codes, bytes_eq, filter, IfSome, is_some}
 use Rattle.std.specs.List.{AllByRecursion}
 use Prim.Native.String.{String}
@@ -14,18 +14,17 @@ use Rattle.sip_message.specs.declared.name.Known.{Known}
 use Rattle.sip_message.specs.declared.name.Known.TheVariants as known_name
 use Rattle.sip_message.specs.declared.fault.Reason.TheVariants as reason
 use Rattle.sip_message.specs.Unfold.{is_blank, OpensSolid, EndsSolid}
-use Rattle.sip_message.specs.Lines.{IsHead, HasNoBareEnd, BeginsBlank, IsFolded, IsLines}
+use Rattle.sip_message.specs.Lines.{HasNoBareEnd, BeginsBlank, IsFolded, IsLines}
 use Rattle.sip_message.specs.StartLine.{StartLine, request, status, StartText}
 use Rattle.sip_message.specs.Name.{FieldName, name_of, is_named}
-use Rattle.sip_message.specs.Field.{Field, Row, NameText, ValueText}
+use Rattle.sip_message.specs.Field.{Field, Row}
 use Rattle.sip_message.specs.Elements.{Element, ElementsText}
-use Rattle.sip_message.specs.Via.{ViaParts, ViasText}
 use Rattle.sip_message.specs.Message.{Message, found, found_from, is_stream, IsStream, MethodFits, HasLength, IsEnough, IsNoMore, length_in, content_length}
-use Rattle.sip_message.specs.Outcome.{Outcome, gives, stops, Gives, Demand, Holds, Then, passes, stopped}
-use Rattle.sip_message.specs.Faults.{at_head, at_line, at_body, second_line, IsNamed, IsValue, FieldOf, FieldsOf, NamesOf, BodyOf, LinesOf, HeadOf, IsCut, ReadOf}
-use Rattle.sip_message.specs.Says.{StartSays, SaidVia, ViasSay, CSeqSays, full_name, RowSays, SaidField, all, is_lws_byte, IsTrimmed, FieldSays, FieldsSay, FirstOf, NoSecond, OneOf, NamesSay, MethodSays, StreamSays, BodySays, CutSays, OpensBlank, LinesSay, LinesTell, BytesTell}
+use Rattle.sip_message.specs.Outcome.{Outcome, Gives, Demand, Holds, Then}
+use Rattle.sip_message.specs.Faults.{at_head, at_line, at_body, IsNamed, IsValue, FieldOf, FieldsOf, NamesOf, BodyOf, LinesOf, IsCut, ReadOf}
+use Rattle.sip_message.specs.Says.{StartSays, full_name, RowSays, SaidField, all, is_lws_byte, IsTrimmed, FieldSays, FieldsSay, FirstOf, NoSecond, OneOf, NamesSay, MethodSays, StreamSays, BodySays, CutSays, OpensBlank, LinesSay, LinesTell, BytesTell}
 use Rattle.sip_message.specs.SaidOf.{said_via}
-use Rattle.sip_message.proofs.lemmas.says.Alike.{Alike, Same, Equal, same-demand, same-holds, same-gives, same-self, same-then, same-next}
+use Rattle.sip_message.proofs.lemmas.says.Alike.{Same, Equal, same-demand, same-holds, same-gives, same-self, same-then, same-next}
 use Rattle.sip_message.proofs.lemmas.says.Via.{vias-said, said-vias, elements-first, via-elements}
 use Rattle.sip_message.proofs.lemmas.says.Values.{start-said, said-start, cseq-said, said-cseq}
 use Rattle.sip_message.proofs.lemmas.says.Names.{row-said, named-via, named-from, named-to, named-call-id, named-cseq, named-content-length}

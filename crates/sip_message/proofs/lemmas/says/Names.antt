@@ -10,8 +10,6 @@ use Rattle.sip_message.specs.declared.name.Known.{Known}
 use Rattle.sip_message.specs.declared.name.Known.TheVariants as known_name
 use Rattle.sip_message.specs.Name.{FieldName, known, other, spellings, name_by, name_of, is_named}
 use Rattle.sip_message.specs.Field.{Row}
-use Rattle.sip_message.specs.Elements.{Element, ElementsText}
-use Rattle.sip_message.specs.Via.{ViaParts, ViasText}
 use Rattle.sip_message.specs.Says.{full_name, RowSays, SaidVia, ViasSay, Address, CSeqSays}
 use Rattle.sip_message.specs.SaidOf.{said_via}
 use Rattle.sip_message.proofs.lemmas.says.Via.{vias-said, said-vias, via-elements, elements-via}

@@ -1,5 +1,5 @@
 -- What bytes say is what their one reading says.
-use Rattle.std.proofs.Common.{◌≡◌, ◌↔◌, ℕ, ◌+◌, List, [], ◌∷◌, ◌++◌, map, refl, sym, ap, ◌∙◌, subst}
+use Rattle.std.proofs.Common.{◌≡◌, ℕ, List, [], ◌∷◌, map, refl, sym, ap, ◌∙◌, subst}
 use Rattle.std.specs.Prelude.{codes, bytes_eq}
 use Rattle.std.specs.List.{join_with_byte}
 use Prim.Native.String.{String}
@@ -12,12 +12,12 @@ use Rattle.sip_message.specs.StartLine.{StartLine}
 use Rattle.sip_message.specs.Address.{AddressParts}
 use Rattle.sip_message.specs.Field.{Field}
 use Rattle.sip_message.specs.Elements.{Element, AreElements, values}
-use Rattle.sip_message.specs.Message.{Message, found_from}
+use Rattle.sip_message.specs.Message.{Message}
 use Rattle.sip_message.specs.Outcome.{Outcome, gives, stops, passes, stopped}
 use Rattle.sip_message.specs.Faults.{ReadOf}
 use Rattle.sip_message.specs.Reading.{Reading, Parts, HasParts, IsValueOf, AddressValue}
 use Rattle.sip_message.specs.Reads.{Reads}
-use Rattle.sip_message.specs.Says.{full_name, SaidField, all, said_values, Said, SaidVia, ViasTell, IsFirstOf, CSeqSays, FieldsTell, BytesTell, Says}
+use Rattle.sip_message.specs.Says.{full_name, SaidField, said_values, Said, SaidVia, ViasTell, IsFirstOf, FieldsTell, BytesTell, Says}
 use Rattle.sip_message.specs.SaidOf.{said_via, said_of}
 use Rattle.sip_text.specs.Case.{folded}
 use Rattle.sip_message.proofs.lemmas.asked.Parts.{found-values, has-parts}

@@ -1,18 +1,15 @@
 -- What start lines, addresses and CSeq say, and their parts.
-use Rattle.std.proofs.Common.{◌≡◌, ℕ, Bool, true, false, List, [], ◌∷◌, ◌++◌, Option, None, Some, IfSome, inl, inr, refl, sym, ap, ◌∙◌, subst}
-use Rattle.std.specs.Char.{is_ascii_digit}
-use Rattle.std.specs.List.{AllByRecursion}
+use Rattle.std.proofs.Common.{ℕ, List, [], ◌∷◌, ◌++◌, Option, None, Some, IfSome, inl, inr, refl, sym, ap, ◌∙◌, subst}
 use Rattle.std.specs.Prelude.{⊤, codes, not}
 use Rattle.std.specs.Str.Parse.{digits_value}
 use Rattle.std.proofs.lemmas.List.{append-nil}
 use Rattle.sip_text.specs.Bytes.{equals, is_one_of}
 use Rattle.sip_text.specs.Text.{One, Byte, Exactly, ◌then◌, ◌or◌, Optional, Many}
 use Rattle.sip_text.specs.Grammar.{Token, Sws, Blanks}
-use Rattle.sip_text.specs.Uri.{UriText}
 use Rattle.sip_text.specs.Profile as profile
 use Rattle.sip_text.proofs.ManyLemmas.{many-map}
 use Rattle.sip_text.proofs.ProfileLemmas.{uri-parts, parts-uri}
-use Rattle.sip_message.specs.Params.{left_angle, Mark, ParamValue, ParamText}
+use Rattle.sip_message.specs.Params.{left_angle, Mark, ParamValue}
 use Rattle.sip_message.specs.Address.{DisplayName, AddressParts, BeforeUri, AddressText, name_addr, addr_spec}
 use Rattle.sip_message.specs.StartLine.{StartLine, request, status, is_reason_byte, StartText}
 use Rattle.sip_message.specs.Values.{Digits, CSeqText}
@@ -105,15 +102,13 @@ pub said-address : (text : List ℕ) → Address text → (a : AddressParts) × 
 said-address text (inl (b, w1, before, (u, w2, uri, (g, t, angle, params, w2_is), w1_is), whole)) =
     let tail = of-params t params in
     let parts = uri-parts u uri in
-    let display = uri-before b before in
-    (
+    let display = uri-before b before in (
       record { display = display.0; uri_text = u; uri = parts.0; params = tail.0 },
       name_addr (record { display = display.1; uri = parts.1; params = (tail.1, tail.2) }) (b, w1, display.2, (u, w2, refl, (g, t, angle, tail.4, w2_is), w1_is), whole),
     )
 said-address text (inr (u, t, (uri, bare), params, whole)) =
     let tail = of-params t params in
-    let parts = uri-parts u uri in
-    (
+    let parts = uri-parts u uri in (
       record { display = None; uri_text = u; uri = parts.0; params = tail.0 },
       addr_spec (record { display = tt; uri = parts.1; params = (tail.1, tail.2) }) refl bare (u, t, refl, tail.4, whole),
     )

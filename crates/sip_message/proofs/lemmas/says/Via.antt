@@ -1,8 +1,8 @@
 -- What the values of Via say, and their parts.
-use Rattle.std.proofs.Common.{◌≡◌, ℕ, Bool, true, false, List, [], ◌∷◌, ◌++◌, length, map, Option, None, Some, IfSome, inl, inr, refl, sym, ap, ◌∙◌, subst, arith}
+use Rattle.std.proofs.Common.{◌≡◌, ℕ, List, [], ◌∷◌, ◌++◌, length, map, Option, None, Some, IfSome, inl, inr, refl, sym, ap, ◌∙◌, subst, arith}
 use Rattle.std.specs.Prelude.{codes}
 use Rattle.std.proofs.lemmas.Bool.{both_ways}
-use Rattle.std.proofs.lemmas.List.{append-nil, append_assoc, length-append}
+use Rattle.std.proofs.lemmas.List.{append-nil, append_assoc}
 use Rattle.sip_text.specs.Bytes.{semicolon}
 use Rattle.sip_text.specs.Text.{◌then◌}
 use Rattle.sip_text.specs.Case.{folded, SameText}
@@ -124,7 +124,7 @@ via-said text v (fits, (a, w1, a_is, (s, w2, slash1, (b, w3, b_is, (r, w4, slash
     let ps = params-said fits.params.0 v.branch q (tail-params q v.params fits.params.0 fits.params.1 params) fits.params.2 in
     let host : profile.Host h × (host_text v.host ≡ h) = (subst profile.Host (sym h_is) (parts-host (host_text v.host) v.host fits.host), sym h_is) in
     let behind : (profile.Blanks then ((λ t. profile.Host t × (host_text v.host ≡ t)) then (PortSays v.port then SaidParams ps.0))) w5 =
-        (sp, w6, blanks, (h, w7, host, (p, q, port-said v.port p fits.port port, ps.1, w7_is), w6_is), w5_is) in (
+    (sp, w6, blanks, (h, w7, host, (p, q, port-said v.port p fits.port port, ps.1, w7_is), w6_is), w5_is) in (
       ps.0,
       ps.2,
       refl,

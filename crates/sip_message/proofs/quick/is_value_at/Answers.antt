@@ -1,4 +1,4 @@
-use Rattle.std.proofs.Common.{rules, ◌≡◌, refl, sym, ap, ◌∙◌, subst}
+use Rattle.std.proofs.Common.{◌≡◌, refl, sym, ap, ◌∙◌, subst}
 use Rattle.sip_message.specs.declared.name.Known.TheVariants as known_name
 use Rattle.sip_message.specs.Name.{known}
 use Rattle.sip_message.specs.Field.{Row}

@@ -1,7 +1,5 @@
-use Rattle.std.proofs.Common.{sym, ap, subst}
-use Rattle.sip_message.specs.Field.{ValueText, Row}
-use Rattle.sip_message.specs.Views.{name_parts}
-use Rattle.sip_message.specs.inner.Kept.{KeepsMore}
+use Rattle.std.proofs.Common.{subst}
+use Rattle.sip_message.specs.Field.{ValueText}
 use Rattle.sip_message.specs.inner.Plain.{segment}
 use Rattle.sip_message.proofs.QuickLemmas.{value-open}
 use Rattle.sip_message.proofs.quick.ordinary_value.Goals as goal

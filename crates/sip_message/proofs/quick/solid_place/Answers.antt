@@ -1,4 +1,4 @@
-use Rattle.std.proofs.Common.{◌≡◌, ◌+◌, ◌∷◌, [], option_copied, sym, ap, ◌∙◌, subst, arith}
+use Rattle.std.proofs.Common.{◌∷◌, [], option_copied, sym, ap, ◌∙◌, subst, arith}
 use Rattle.sip_text.specs.Bytes.{space}
 use Rattle.sip_text.proofs.CutLemmas.{past-some}
 use Rattle.sip_message.specs.Field.{ValueText}

@@ -2,6 +2,7 @@
 ghost use Rattle.std.specs.Prelude.{◌≡◌, ℕ, List, [], MatchOption};
 ghost use Rattle.sip_times.specs.Times.{Times, AreTimes};
 ghost use Rattle.sip_times.specs.declared.rules.Rules.{Rules};
+ghost use Rattle.sip_times.specs.declared.rules.Rules.TheVariants.{R6026};
 ghost use Rattle.sip_log.specs.Spelling.{rules_text};
 ghost use Rattle.sip_log.specs.inner.Header.{NumberAfter, Tolerances, TimesLine, title_text, ComesFirst, ComesSecond, ComesThird};
 ghost use Rattle.sip_log.specs.Next.{gives};
@@ -83,10 +84,14 @@ fn read_third<R: Source>(
     format: Format,
     times: Params,
 ) -> Result<(Format, Params), LogError>
+    requires { times.rules ≡ R6026 }
     ensures { Says (unread window.old (R.left source.old)) (unread window.new (R.left source.new))
         (R.has_failed source.old) (R.has_failed source.new) (ComesThird format times) gives result }
 {
-    if !window.hold(source, 1)? || window.as_slice()[0] != b'r' {
+    if !window.hold(source, 1)? {
+        return Ok((format, times));
+    }
+    if window.as_slice()[0] != b'r' {
         return Ok((format, times));
     }
     if !window.hold(source, RULES)? {

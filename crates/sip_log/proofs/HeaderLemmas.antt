@@ -230,7 +230,7 @@ rules-length R3261 = refl
 rules-length R6026 = refl
 
 -- and begins with r
-rules-first : (rules : Rules) (rest : List ℕ) → get_or (rules_text rules ++ rest) 0 0 ≡ 114
+pub rules-first : (rules : Rules) (rest : List ℕ) → get_or (rules_text rules ++ rest) 0 0 ≡ 114
 rules-first R3261 rest = refl
 rules-first R6026 rest = refl
 

@@ -88,19 +88,21 @@ second-read format p within one = record {
   rules = refl;
 }
 
-one-line : (w1 d1 w2 d2 w4 d4 w d end rest : List ℕ) → (w1 ++ (d1 ++ (w2 ++ (d2 ++ (w4 ++ (d4 ++ (w ++ (d ++ [])))))))) ++ (end ++ rest) ≡ ((w1 ++ d1 ++ w2 ++ d2 ++ w4 ++ d4) ++ (w ++ d ++ end)) ++ rest
-one-line w1 d1 w2 d2 w4 d4 w d end rest = simp (append_assoc, append-nil)
+one-line : (t w1 d1 w2 d2 w4 d4 w d end rest : List ℕ)
+    → t ++ ((w1 ++ (d1 ++ (w2 ++ (d2 ++ (w4 ++ (d4 ++ (w ++ (d ++ [])))))))) ++ (end ++ rest)) ≡ (t ++ (w1 ++ d1 ++ w2 ++ d2 ++ w4 ++ d4) ++ w ++ d ++ end) ++ rest
+one-line t w1 d1 w2 d2 w4 d4 w d end rest = simp (append_assoc, append-nil)
 
-two-line : (w1 d1 w2 d2 w4 d4 v e w d end rest : List ℕ) → (w1 ++ (d1 ++ (w2 ++ (d2 ++ (w4 ++ (d4 ++ (v ++ (e ++ (w ++ (d ++ [])))))))))) ++ (end ++ rest) ≡ ((w1 ++ d1 ++ w2 ++ d2 ++ w4 ++ d4) ++ (v ++ e ++ w ++ d ++ end)) ++ rest
-two-line w1 d1 w2 d2 w4 d4 v e w d end rest = simp (append_assoc, append-nil)
+two-line : (t w1 d1 w2 d2 w4 d4 v e w d end rest : List ℕ)
+    → t ++ ((w1 ++ (d1 ++ (w2 ++ (d2 ++ (w4 ++ (d4 ++ (v ++ (e ++ (w ++ (d ++ [])))))))))) ++ (end ++ rest)) ≡ (t ++ (w1 ++ d1 ++ w2 ++ d2 ++ w4 ++ d4) ++ v ++ e ++ w ++ d ++ end) ++ rest
+two-line t w1 d1 w2 d2 w4 d4 v e w d end rest = simp (append_assoc, append-nil)
 
 -- line 1, line 2 with its line feed, and what is behind them
 lines-parts : (format : Format) (p : Times) (rest : List ℕ) → title_text format ++ (second_text format p ++ line_feed ∷ rest) ≡ lines_text format p ++ rest
-unfolding second_text, end_text
+unfolding second_text end_text
 lines-parts One p rest =
-    ap (λ (t : List ℕ). title_text One ++ t) (one-line (codes "t1 ") (decimal p.t1) (codes " t2 ") (decimal p.t2) (codes " t4 ") (decimal p.t4) (codes " tolerance ") (decimal p.late) (line_feed ∷ []) rest)
+    one-line (title_text One) (codes "t1 ") (decimal p.t1) (codes " t2 ") (decimal p.t2) (codes " t4 ") (decimal p.t4) (codes " tolerance ") (decimal p.late) (line_feed ∷ []) rest
 lines-parts Two p rest =
-    ap (λ (t : List ℕ). title_text Two ++ t) (two-line (codes "t1 ") (decimal p.t1) (codes " t2 ") (decimal p.t2) (codes " t4 ") (decimal p.t4) (codes " early ") (decimal p.early) (codes " late ") (decimal p.late) (line_feed ∷ []) rest)
+    two-line (title_text Two) (codes "t1 ") (decimal p.t1) (codes " t2 ") (decimal p.t2) (codes " t4 ") (decimal p.t4) (codes " early ") (decimal p.early) (codes " late ") (decimal p.late) (line_feed ∷ []) rest
 
 -- the limits do not speak of the rules
 pub within-under : (rules : Rules) (p : Times) → AreTimes p → AreTimes (under rules p)
@@ -130,7 +132,7 @@ pub header-spelled : (format : Format) (input : List ℕ) (p : Times) (behind : 
 header-spelled format input p behind (inr (none, same)) = cc
 header-spelled format input p behind (inl (f, rest, title, inr (none, same))) = cc
 header-spelled format input p behind (inl (f, rest, title, inl (q, rest2, front, (rules, left, line, same)))) =
-    let first : (format, p) ≡ (f, under rules q) = cc in
+    let first : ◌≡◌ {A = Format × Times} (format, p) (f, under rules q) = cc in
     let second : behind ≡ left = cc in
     let spelled = second-spelled f front.line q front.within front.times in
     let is : Header f (under rules q) input left = record {

@@ -75,7 +75,8 @@ impl Progress {
     {
         let mut window = Window::new(alloc)?;
         match read_header(&mut window, source) {
-            Ok((format, params)) => {
+            Ok(header) => {
+                let (format, params) = header;
                 let progress = Progress {
                     alloc,
                     stage: Stage::Entries(window),
@@ -109,7 +110,8 @@ impl Progress {
             Stage::Fresh => {
                 let mut window = Window::new(self.alloc)?;
                 match read_header(&mut window, source) {
-                    Ok((format, params)) => {
+                    Ok(header) => {
+                        let (format, params) = header;
                         self.format = format;
                         self.params = Some(params);
                         self.entry(window, source)

@@ -14,7 +14,7 @@ use Rattle.sip_log.specs.LogFault as faults
 use Rattle.sip_log.specs.Spelling.{line_feed, space, rules_text}
 use Rattle.sip_log.specs.Next.{Next, gives, stops}
 use Rattle.sip_log.specs.inner.Number.{IsNumber, cut}
-use Rattle.sip_log.specs.inner.Header.{NumberAfter, Parted, Tolerances, TimesLine, TimesFront, title_text, ComesFirst, ComesSecond, ComesThird}
+use Rattle.sip_log.specs.inner.Header.{NumberAfter, Parted, Tolerances, TimesLine, title_text, ComesFirst, ComesSecond, ComesThird}
 use Rattle.sip_log.proofs.SplitLemmas.{Lacks, Lacks-append, Lacks-word, cut-one, part-one}
 use Rattle.sip_log.proofs.FrontLemmas.{line-held, line-none}
 use Rattle.sip_log.proofs.NumberLemmas.{IsNumber-no_space, IsNumber-no_line_feed, IsNumber-one, IsNumber-short}

@@ -4,7 +4,7 @@ use Rattle.std.specs.Prelude.{codes}
 use Rattle.std.specs.Char.{digit_value}
 use Rattle.std.specs.Str.Parse.{AllDigits, digits_value}
 use Rattle.std.proofs.lemmas.Bool.{cases_eq, cases_lt}
-use Rattle.std.proofs.lemmas.List.{append-nil, append_cancel_left, length-append, length-take-le}
+use Rattle.std.proofs.lemmas.List.{append-nil, length-append, length-take-le}
 use Rattle.sip_times.specs.Times.{Times, AreTimes, under, last_moment}
 use Rattle.sip_times.specs.declared.rules.Rules.{Rules}
 use Rattle.sip_times.specs.declared.rules.Rules.TheVariants.{R3261, R6026}

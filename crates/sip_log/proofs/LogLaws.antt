@@ -8,7 +8,7 @@ use Rattle.sip_times.specs.declared.action.Action.{Action}
 use Rattle.sip_log.specs.declared.format.Format.{Format}
 use Rattle.sip_log.specs.declared.format.Format.TheVariants.{One, Two}
 use Rattle.sip_log.specs.LogFault.{LogFault}
-use Rattle.sip_log.specs.Spelling.{line_feed, space, letter, Item, HasMessage, rules_text, RulesLine, Header}
+use Rattle.sip_log.specs.Spelling.{line_feed, space, Item, HasMessage, rules_text, RulesLine, Header}
 use Rattle.sip_log.specs.inner.Line.{Numbers, Head, message, plain, HeadLine}
 use Rattle.sip_log.specs.Log.{FrontLine, LogEnd, Clean, Stops, next_at}
 use Rattle.sip_log.specs.Next.{Next, gives}

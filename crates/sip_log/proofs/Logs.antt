@@ -1,7 +1,7 @@
 -- The log of an input: there is one, and only one.
 use Rattle.std.proofs.Common.{◌≡◌, ◌≢◌, inl, inr, ◌≤◌, ◌+◌, ℕ, suc, List, [], ◌∷◌, ◌++◌, length, get_or, refl, subst, sym, ap, ◌∙◌, arith, append_assoc}
 use Rattle.std.specs.Prelude.{flat_map}
-use Rattle.std.proofs.lemmas.List.{append-nil, append_cancel_left}
+use Rattle.std.proofs.lemmas.List.{append-nil}
 use Rattle.sip_times.specs.Times.{Times, AreTimes}
 use Rattle.sip_times.specs.declared.rules.Rules.{Rules}
 use Rattle.sip_times.specs.declared.rules.Rules.TheVariants.{R3261, R6026}

@@ -1,5 +1,5 @@
 -- What an answer says, by what it says in other words.
-use Rattle.std.proofs.Common.{◌≡◌, inl, inr, ℕ, Bool, List, ◌++◌, Option, Some, None, IfSome, Result, Ok, Err, IsSome, OnOk, refl, subst, sym, ap, ◌∙◌}
+use Rattle.std.proofs.Common.{◌≡◌, inl, inr, ℕ, Bool, List, Option, Some, None, IfSome, Result, Ok, Err, IsSome, OnOk, refl, subst, sym, ap, ◌∙◌}
 use Rattle.std.specs.Io.KnownBytes.{prepend_known}
 use Rattle.sip_times.specs.Times.{Times}
 use Rattle.sip_log.specs.declared.format.Format.{Format}
@@ -99,9 +99,11 @@ Says-headed old mid new before between after format p (Err e) first says =
 pub headed : (old new : Option (List ℕ)) (before after : Bool) (format : Format) (p : Times)
     → (after ≡ before) × IfSome old (λ xs. (ys : List ℕ) × (new ≡ Some ys) × read.ComesFirst xs (gives (format, p) ys))
     → Says {A = Times} old new before after (Heads format) gives (Ok p)
-headed old new before after format p says =
-    (says.0, IfSome-map old (λ xs. (ys : List ℕ) × (new ≡ Some ys) × read.ComesFirst xs (gives (format, p) ys)) (λ xs. (ys : List ℕ) × (new ≡ Some ys) × Heads format xs (gives p ys))
-    (λ xs w. (w.0, w.1, header-spelled format xs p w.0 w.2)) says.1)
+headed old new before after format p says = (
+  says.0,
+  IfSome-map old (λ xs. (ys : List ℕ) × (new ≡ Some ys) × read.ComesFirst xs (gives (format, p) ys)) (λ xs. (ys : List ℕ) × (new ≡ Some ys) × Heads format xs (gives p ys))
+      (λ xs w. (w.0, w.1, header-spelled format xs p w.0 w.2)) says.1,
+)
 
 -- and so does its fault
 pub unheaded : (old new : Option (List ℕ)) (before after : Bool) (format : Format) (e : LogError) → FailsAs before after (λ fault. IfSome old (λ xs. read.ComesFirst xs (stops fault))) e

@@ -1,4 +1,4 @@
-use Rattle.std.specs.Prelude.{◌≡◌, ◌+◌, ◌<◌, ◌≤◌, ◌++◌, ℕ, Bool, List, length, Option, Some, None, Result, Ok, Err, IfSome, IsSome, OnOk}
+use Rattle.std.specs.Prelude.{◌≡◌, ◌+◌, ◌<◌, ◌≤◌, ℕ, Bool, List, length, Option, Some, None, Result, Ok, Err, IfSome, IsSome, OnOk}
 use Rattle.std.specs.Io.KnownBytes.{prepend_known}
 use Rattle.sip_times.specs.Times.{Times, last_moment}
 use Rattle.sip_log.specs.declared.entry.Entry.{Entry}

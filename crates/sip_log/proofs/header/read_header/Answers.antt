@@ -1,6 +1,6 @@
-use Rattle.std.proofs.Common.{length, drop, take, arith, ap, ◌∙◌, sym, subst}
+use Rattle.std.proofs.Common.{drop}
 use Rattle.sip_log.specs.LogFault as faults
-use Rattle.sip_log.specs.inner.Header.{title_text, ComesFirst, ComesSecond}
+use Rattle.sip_log.specs.inner.Header.{ComesFirst, ComesSecond}
 use Rattle.sip_log.specs.Next.{gives}
 use Rattle.sip_log.specs.inner.Window.{items}
 use Rattle.sip_log.proofs.SaysLemmas.{Says-step, Says-fault}

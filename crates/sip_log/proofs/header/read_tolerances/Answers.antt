@@ -1,6 +1,5 @@
-use Rattle.std.proofs.Common.{◌≡◌, List, ℕ, [], refl, subst, sym}
+use Rattle.std.proofs.Common.{[], subst}
 use Rattle.std.specs.Prelude.{codes}
-use Rattle.sip_log.specs.declared.format.Format.TheVariants.{One, Two}
 use Rattle.sip_log.specs.inner.Header.{NumberAfter, Tolerances}
 use Rattle.sip_log.proofs.HeaderLemmas.{NumberAfter-one}
 use Rattle.sip_log.proofs.header.read_tolerances.Goals as goal

@@ -37,7 +37,7 @@ fn readers_and_writers_look(rt: HostRuntime) -> Result<(), Fail> {
     let told = format!(in rt.alloc(); "{reader:?}")?;
     assert_eq!(rt;
         told.as_str(),
-        "LogReader { source: FromRead { reader: [115, 105], failure: None }, \
+        "LogReader { source: FromRead { reader: [115, 105], failure: None, ended: false }, \
          progress: Progress { alloc: Global, stage: Fresh, format: One, params: None, count: 0, last: 0 } }"
     );
     let mut reader = LogReader::new(rt.alloc(), bytes);

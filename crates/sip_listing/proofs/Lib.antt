@@ -1,1 +1,2 @@
 pub mod LinesLemmas
+mod StateLemmas

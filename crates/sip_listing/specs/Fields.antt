@@ -2,6 +2,7 @@ use Rattle.std.specs.Prelude.{◌≡◌, ◌++◌, ℕ, Bool, true, false, Optio
 use Rattle.std.specs.List.{flat_map}
 use Rattle.sip_machine.specs.Texts.{Texts, text_of}
 use Rattle.sip_machine.specs.Debts.{Owed}
+use Rattle.sip_machine.specs.Told.{Field, Flag, Number, Message}
 
 -- The words of which the text of a state is made. A message is told by a number.
 
@@ -22,6 +23,12 @@ optional_field name (Some value) = number_field name value
 abbrev pub flag_field : List ℕ → Bool → List ℕ
 flag_field name true = field name (codes "yes")
 flag_field name false = field name (codes "no")
+
+-- a field of a phase
+abbrev pub field_text : Field ℕ → List ℕ
+field_text (Flag name is) = flag_field name is
+field_text (Number name value) = optional_field name value
+field_text (Message name number) = optional_field name number
 
 -- whether what is owed has to be sent
 abbrev pub duty : Bool → List ℕ

@@ -1,8 +1,4 @@
 pub mod Fields
-pub mod InviteClient
-pub mod PlainClient
-pub mod InviteServer
-pub mod PlainServer
 pub mod State
 pub mod Lines
 pub mod Transaction

@@ -5,14 +5,10 @@ use Rattle.sip_key.specs.Key.{KeyParts}
 use Rattle.sip_machine.specs.Texts.{Texts}
 use Rattle.sip_machine.specs.Times.{Times}
 use Rattle.sip_states.specs.Held.{Held}
-use Rattle.sip_states.specs.KeyMachine.{MachineKind, OfInviteClient, OfPlainClient, OfInviteServer, OfPlainServer, transaction, PhaseOf, StateOf, by_machine}
+use Rattle.sip_states.specs.KeyMachine.{MachineKind, transaction, PhaseOf, StateOf, by_machine}
 use Rattle.sip_states.specs.declared.any_set.AnySet.{AnySet}
 use Rattle.sip_states.specs.AnySet.{meaning_of, OfSet}
 use Rattle.sip_listing.specs.Fields.{Tells}
-use Rattle.sip_listing.specs.InviteClient.{invite_client_text}
-use Rattle.sip_listing.specs.PlainClient.{plain_client_text}
-use Rattle.sip_listing.specs.InviteServer.{invite_server_text}
-use Rattle.sip_listing.specs.PlainServer.{plain_server_text}
 use Rattle.sip_listing.specs.State.{owing_text}
 use Rattle.sip_listing.specs.Lines.{AreInOrder, indented}
 
@@ -36,16 +32,9 @@ transaction_line number key count =
 abbrev pub transaction_text : ℕ → KeyParts → List (List ℕ) → List ℕ
 transaction_text number key lines = transaction_line number key (length lines) ++ indented lines
 
--- the text of a phase of a machine, whose messages are told by these numbers
-abbrev pub phase_text : (machine : MachineKind) → (List ℕ → ℕ) → (transaction machine).Phase → List ℕ
-phase_text OfInviteClient number x = invite_client_text number x
-phase_text OfPlainClient number x = plain_client_text number x
-phase_text OfInviteServer number x = invite_server_text number x
-phase_text OfPlainServer number x = plain_server_text number x
-
--- and of a state
+-- the text of a state of a machine, whose messages are told by these numbers
 abbrev pub state_text : (machine : MachineKind) → (List ℕ → ℕ) → PhaseOf machine → List ℕ
-state_text machine number x = owing_text (phase_text machine) number x
+state_text machine number x = owing_text (transaction machine).figure.told number x
 
 -- What the code lists, whose messages are numbers of a book.
 

@@ -1,14 +1,15 @@
 //! The words of which the text of a state is made.
 ghost use Rattle.std.specs.Prelude.{◌≡◌, ◌++◌, OnOk, flat_map, replicate, string_bytes};
-ghost use Rattle.sip_listing.specs.Fields.{field, number_field, optional_field, flag_field, owed_field};
+ghost use Rattle.sip_listing.specs.Fields.{field, field_text, number_field, optional_field, flag_field, owed_field};
+ghost use Rattle.sip_machine.specs.Told.{field_of};
 ghost use Rattle.sip_listing.specs.inner.FieldLaws.{debts_fields};
 
 use itoa::Buffer;
-use sip_machine::{Debt, Run};
+use sip_machine::{Debt, Field, Run};
 use std::alloc::AllocError;
 
 /// Appends a value with its name, behind a blank.
-fn push_field(line: &mut String, name: &str, value: &str) -> Result<(), AllocError>
+fn push_named(line: &mut String, name: &str, value: &str) -> Result<(), AllocError>
     ensures { OnOk result (string_bytes line.new ≡ string_bytes line.old ++ field name.now value.now) }
 {
     line.push_str(" ")?;
@@ -18,14 +19,14 @@ fn push_field(line: &mut String, name: &str, value: &str) -> Result<(), AllocErr
 }
 
 /// Appends a moment, an interval, or the number of a message.
-pub(crate) fn push_number(line: &mut String, name: &str, value: u64) -> Result<(), AllocError>
+fn push_number(line: &mut String, name: &str, value: u64) -> Result<(), AllocError>
     ensures { OnOk result (string_bytes line.new ≡ string_bytes line.old ++ number_field name.now value) }
 {
-    push_field(line, name, Buffer::new().format(value))
+    push_named(line, name, Buffer::new().format(value))
 }
 
 /// Appends one that there may not be.
-pub(crate) fn push_optional(
+fn push_optional(
     line: &mut String,
     name: &str,
     value: Option<u64>,
@@ -33,16 +34,27 @@ pub(crate) fn push_optional(
     ensures { OnOk result (string_bytes line.new ≡ string_bytes line.old ++ optional_field name.now value) }
 {
     match value {
-        None => push_field(line, name, "none"),
+        None => push_named(line, name, "none"),
         Some(value) => push_number(line, name, value),
     }
 }
 
 /// Appends whether it is so.
-pub(crate) fn push_flag(line: &mut String, name: &str, value: bool) -> Result<(), AllocError>
+fn push_flag(line: &mut String, name: &str, value: bool) -> Result<(), AllocError>
     ensures { OnOk result (string_bytes line.new ≡ string_bytes line.old ++ flag_field name.now value) }
 {
-    push_field(line, name, if value { "yes" } else { "no" })
+    push_named(line, name, if value { "yes" } else { "no" })
+}
+
+/// Appends a field of a phase.
+pub(crate) fn push_field(line: &mut String, field: Field) -> Result<(), AllocError>
+    ensures { OnOk result (string_bytes line.new ≡ string_bytes line.old ++ field_text (field_of field)) }
+{
+    match field {
+        Field::Flag(name, is) => push_flag(line, name, is),
+        Field::Number(name, value) => push_optional(line, name, value),
+        Field::Message(name, number) => push_optional(line, name, number.map(u64::from)),
+    }
 }
 
 /// Appends a message that is owed, with its deadline.

@@ -2,13 +2,8 @@
 #![tactic(auto)]
 
 mod fields;
-mod invite_client;
-mod invite_server;
 mod lines;
-mod plain_client;
-mod plain_server;
 mod state;
-mod told;
 mod transaction;
 
 pub use transaction::push_transaction;

@@ -1,29 +1,29 @@
 //! The text of a state: its phase, and what is owed.
-use crate::fields::push_owes;
-use crate::told::Told;
-use sip_machine::{Owing, Phase};
+ghost use Rattle.std.specs.Prelude.{◌≡◌, ◌++◌, OnOk, string_bytes};
+ghost use Rattle.sip_machine.specs.Told.{told_of};
+ghost use Rattle.sip_listing.specs.State.{phase_text};
+ghost use Rattle.sip_listing.specs.inner.StateLine.{state_line};
+
+use crate::fields::{push_field, push_owes};
+use sip_machine::Told;
+use sip_states::ToldState;
 use std::alloc::AllocError;
 
-impl<P: Told + Phase> Told for Owing<P> {
-    ghost use Rattle.sip_machine.specs.Figure.{Owing as Holds};
-    ghost use Rattle.sip_machine.specs.Owing.{owing_seen, owing_names};
-    ghost use Rattle.sip_listing.specs.State.{owing_text};
-    ghost use Rattle.sip_listing.specs.inner.StateLine.{owing_line, owing_told};
+/// Appends the text of a state, whose messages are told by their numbers in the book.
+pub(crate) fn push_state(line: &mut String, state: &ToldState) -> Result<(), AllocError>
+    ensures { OnOk result (string_bytes line.new ≡ string_bytes line.old ++ state_line state.now) }
+{
+    push_phase(line, &state.phase)?;
+    push_owes(line, &state.owes)
+}
 
-    ghost Seen = { Holds P.Seen };
-
-    ghost seen = { owing_seen P.seen };
-
-    ghost names = { owing_names P.names };
-
-    ghost text = { owing_text P.text };
-
-    ghost line = { owing_line P.line };
-
-    ghost told = { λ number texts x told. owing_told P.seen P.names P.text P.line number texts x (P.told number texts x.phase) told };
-
-    fn push_text(&self, out: &mut String) -> Result<(), AllocError> {
-        self.phase.push_text(out)?;
-        push_owes(out, self.owes.runs())
+/// Appends the text of a phase.
+fn push_phase(line: &mut String, told: &Told) -> Result<(), AllocError>
+    ensures { OnOk result (string_bytes line.new ≡ string_bytes line.old ++ phase_text (told_of told.now)) }
+{
+    line.push_str(told.name)?;
+    for field in &told.fields {
+        push_field(line, *field)?;
     }
+    Ok(())
 }

@@ -1,5 +1,5 @@
 //! A transaction in a listing: its number, its key in words, and its states.
-ghost use Rattle.std.specs.Prelude.{◌≡◌, ◌++◌, List, ℕ, IfOk, OnOk, IsAscii, decimal, map, string_bytes};
+ghost use Rattle.std.specs.Prelude.{◌≡◌, ◌++◌, List, ℕ, OnOk, IsAscii, decimal, string_bytes};
 ghost use Rattle.sip_listing.specs.Transaction.{key_text, role_text, transaction_line, transaction_text, Lists};
 
 use crate::lines::{lines_of, push_indented};
@@ -20,7 +20,7 @@ pub fn push_transaction(
     ensures { OnOk result ((lines : List (List ℕ)) × Lists set.now lines
         × (IsAscii key.now.method → string_bytes text.new ≡ string_bytes text.old ++ transaction_text number key.now lines)) }
 {
-    let lines = set_lines(alloc, set)?;
+    let lines = lines_of(alloc, &set.told(alloc)?)?;
     push_line(text, number, key, lines.len())?;
     push_indented(text, &lines)?;
     Ok(())
@@ -54,18 +54,6 @@ fn push_key(text: &mut String, key: &Key) -> Result<(), AllocError>
     text.push_str(" ")?;
     push_ascii(text, key.method())?;
     Ok(())
-}
-
-/// The lines of the set's states.
-fn set_lines(alloc: Global, set: &AnySet) -> Result<Vec<String>, AllocError>
-    ensures { IfOk result (λ lines. Lists set.now (map string_bytes lines.items)) }
-{
-    match set {
-        AnySet::InviteClient(set) => lines_of(alloc, set.states()),
-        AnySet::PlainClient(set) => lines_of(alloc, set.states()),
-        AnySet::InviteServer(set) => lines_of(alloc, set.states()),
-        AnySet::PlainServer(set) => lines_of(alloc, set.states()),
-    }
 }
 
 /// The side of a transaction in a word.

@@ -1,4 +1,4 @@
-use Rattle.std.specs.Prelude.{◌≡◌, ◌≤◌, ◌*◌, ◌⊎◌, ℕ, Bool, true, false, Option, Some, None, List, [], ◌∷◌, if◌then◌else◌}
+use Rattle.std.specs.Prelude.{◌≡◌, ◌≤◌, ◌*◌, ◌⊎◌, ℕ, Bool, true, false, Option, Some, None, List, [], ◌∷◌, codes, if◌then◌else◌}
 use Rattle.sip_key.specs.AckOf.{AckOf}
 use Rattle.sip_machine.specs.declared.event.Method.TheVariants.{Invite, Ack, Cancel}
 use Rattle.sip_machine.specs.declared.event.Kind.{Kind}
@@ -11,9 +11,10 @@ use Rattle.sip_machine.specs.Limits.{open_at, close_at, window_at}
 use Rattle.sip_machine.specs.Texts.{Texts, text_of}
 use Rattle.sip_machine.specs.Heard.{Heard}
 use Rattle.sip_machine.specs.Retransmits.{Retransmits}
-use Rattle.sip_machine.specs.Waiting.{Waiting, waiting_closes, waiting_seen, WaitingInRange}
+use Rattle.sip_machine.specs.Waiting.{Waiting, waiting_closes, waiting_fields, waiting_seen, WaitingInRange}
 use Rattle.sip_machine.specs.Message.{IsProvisional, IsSuccess, IsUnsuccessful}
 use Rattle.sip_machine.specs.Figure.{Figure, After, keeps, gains}
+use Rattle.sip_machine.specs.Told.{Told, Flag, Number, Message}
 use Rattle.sip_machine.specs.Transaction.{Coded}
 
 -- The INVITE client transaction, RFC 3261 section 17.1.1 and its figure 5, with the accepted state of RFC 6026 section 7.2.
@@ -103,10 +104,21 @@ closes p (Accepted set) = close_at p set (timer_m p) ∷ []
 closes p (Completed reliable request set) = if reliable then close_at p set 0 ∷ [] else []
 closes p x = []
 
+-- a phase in words
+abbrev pub told : InviteClientPhase → Told (List ℕ)
+told Idle = record { name = codes "idle"; fields = [] }
+told (Calling w) = record { name = codes "calling"; fields = waiting_fields w.reliable w.request w.start w.set w.interval }
+told (Proceeding reliable request cancel) =
+    record { name = codes "proceeding"; fields = Flag (codes "reliable") reliable ∷ Message (codes "request") (Some request) ∷ Number (codes "cancel") cancel ∷ [] }
+told (Accepted set) = record { name = codes "accepted"; fields = Number (codes "set") (Some set) ∷ [] }
+told (Completed reliable request set) =
+    record { name = codes "completed"; fields = Flag (codes "reliable") reliable ∷ Message (codes "request") (Some request) ∷ Number (codes "set") (Some set) ∷ [] }
+told Ended = record { name = codes "ended"; fields = [] }
+
 -- the figure of the INVITE client
 abbrev pub invite_client : Figure InviteClientPhase
 invite_client =
-    record { idle = Idle; ended = Ended; Receives = Receives; Sends = Sends; Satisfies = Satisfies; ends_refused = ends_refused; window = timer_window; closes = closes }
+    record { idle = Idle; ended = Ended; Receives = Receives; Sends = Sends; Satisfies = Satisfies; ends_refused = ends_refused; window = timer_window; closes = closes; told = told }
 
 -- The phases of the code, whose messages are numbers of a book.
 
@@ -134,13 +146,6 @@ InviteClientInRange (code.Accepted set) = set ≤ last_moment
 InviteClientInRange (code.Completed reliable request set) = set ≤ last_moment
 InviteClientInRange x = Unit {0}
 
--- the messages that a phase names: the INVITE, which may be sent again, and of which an ACK is made
-abbrev pub invite_client_messages : InviteClientPhase → List (List ℕ)
-invite_client_messages (Calling w) = w.request ∷ []
-invite_client_messages (Proceeding reliable request cancel) = request ∷ []
-invite_client_messages (Completed reliable request set) = request ∷ []
-invite_client_messages x = []
-
 -- how the code has it
 abbrev pub invite_client_coded : Coded InviteClientPhase
 invite_client_coded =
@@ -152,5 +157,4 @@ invite_client_coded =
       InRange = InviteClientInRange;
       idle = code.Idle;
       ended = code.Ended;
-      messages = invite_client_messages;
     }

@@ -1,6 +1,7 @@
 pub use Rattle.sip_times.specs.Times
 pub use Rattle.sip_times.specs.Limits
 pub mod Texts
+pub mod Told
 pub mod Message
 pub mod NumberedEvent
 pub mod Heard

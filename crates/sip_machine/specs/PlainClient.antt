@@ -1,4 +1,4 @@
-use Rattle.std.specs.Prelude.{◌≡◌, ◌≤◌, ◌*◌, ◌⊎◌, ℕ, Bool, true, Option, None, List, [], ◌∷◌, if◌then◌else◌, min}
+use Rattle.std.specs.Prelude.{◌≡◌, ◌≤◌, ◌*◌, ◌⊎◌, ℕ, Bool, true, Option, Some, None, List, [], ◌∷◌, codes, if◌then◌else◌, min}
 use Rattle.sip_machine.specs.declared.event.Kind.{Kind}
 use Rattle.sip_machine.specs.declared.event.Kind.TheVariants.{Request, Response}
 use Rattle.sip_machine.specs.declared.plain_client.PlainClientPhase.{PlainClientPhase as CodePhase}
@@ -9,9 +9,10 @@ use Rattle.sip_machine.specs.Limits.{close_at, window_at}
 use Rattle.sip_machine.specs.Texts.{Texts}
 use Rattle.sip_machine.specs.Heard.{Heard}
 use Rattle.sip_machine.specs.Retransmits.{Retransmits}
-use Rattle.sip_machine.specs.Waiting.{Waiting, waiting_closes, waiting_seen, WaitingInRange}
+use Rattle.sip_machine.specs.Waiting.{Waiting, waiting_closes, waiting_fields, waiting_seen, WaitingInRange}
 use Rattle.sip_machine.specs.Message.{IsProvisional, IsFinal}
 use Rattle.sip_machine.specs.Figure.{Figure, After, keeps}
+use Rattle.sip_machine.specs.Told.{Told, Flag, Number}
 use Rattle.sip_machine.specs.Transaction.{Coded}
 
 -- The non-INVITE client transaction, RFC 3261 section 17.1.2 and its figure 6.
@@ -63,10 +64,18 @@ closes p (Proceeding w) = waiting_closes p w (timer_f p)
 closes p (Completed reliable set) = close_at p set (timer_k p reliable) ∷ []
 closes p x = []
 
+-- a phase in words
+abbrev pub told : PlainClientPhase → Told (List ℕ)
+told Idle = record { name = codes "idle"; fields = [] }
+told (Trying w) = record { name = codes "trying"; fields = waiting_fields w.reliable w.request w.start w.set w.interval }
+told (Proceeding w) = record { name = codes "proceeding"; fields = waiting_fields w.reliable w.request w.start w.set w.interval }
+told (Completed reliable set) = record { name = codes "completed"; fields = Flag (codes "reliable") reliable ∷ Number (codes "set") (Some set) ∷ [] }
+told Ended = record { name = codes "ended"; fields = [] }
+
 -- the figure of the non-INVITE client: it owes nothing, and a refused request ends it, section 17.1.4
 abbrev pub plain_client : Figure PlainClientPhase
 plain_client =
-    record { idle = Idle; ended = Ended; Receives = Receives; Sends = Sends; Satisfies = λ x k e message. ⊥; ends_refused = λ x k. true; window = timer_window; closes = closes }
+    record { idle = Idle; ended = Ended; Receives = Receives; Sends = Sends; Satisfies = λ x k e message. ⊥; ends_refused = λ x k. true; window = timer_window; closes = closes; told = told }
 
 -- The phases of the code, whose messages are numbers of a book.
 
@@ -91,12 +100,6 @@ PlainClientInRange (code.Proceeding w) = WaitingInRange w
 PlainClientInRange (code.Completed reliable set) = set ≤ last_moment
 PlainClientInRange x = Unit {0}
 
--- the messages that a phase names: the request, which may be sent again
-abbrev pub plain_client_messages : PlainClientPhase → List (List ℕ)
-plain_client_messages (Trying w) = w.request ∷ []
-plain_client_messages (Proceeding w) = w.request ∷ []
-plain_client_messages x = []
-
 -- how the code has it
 abbrev pub plain_client_coded : Coded PlainClientPhase
 plain_client_coded =
@@ -108,5 +111,4 @@ plain_client_coded =
       InRange = PlainClientInRange;
       idle = code.Idle;
       ended = code.Ended;
-      messages = plain_client_messages;
     }

@@ -11,7 +11,7 @@ pub record Transaction : Type 1 where
   pub figure : Figure Phase
 
 -- the phases of the code, whose messages are numbers of a book, and how debts lie beside them: what a phase stands for, what it names, which are
--- in range, the one before anything was sent or received, and the one after an end; and the messages of which a phase holds the bytes
+-- in range, the one before anything was sent or received, and the one after an end
 pub record Coded (Phase : Type 0) : Type 1 where
   pub Code : Type 0
   pub Debts : Type 0
@@ -20,7 +20,6 @@ pub record Coded (Phase : Type 0) : Type 1 where
   pub InRange : Code → Type 0
   pub idle : Code
   pub ended : Code
-  pub messages : Phase → List (List ℕ)
 
 -- the state of the code before anything was sent or received
 abbrev pub idle_state : {Phase : Type 0} (c : Coded Phase) → CodeOwing c.Code c.Debts

@@ -20,6 +20,7 @@ use crate::owes::Owes;
 use crate::owing::Owing;
 use crate::phases::{Change, Phase, Phases, Turn};
 use crate::timers::timeout;
+use crate::told::{Field, Told};
 use crate::waiting::Waiting;
 use sip_times::Params;
 use std::alloc::{AllocError, Global};
@@ -314,6 +315,43 @@ impl Phases for InviteClient {
             InviteClientPhase::Proceeding { request, .. } => Some(request),
             InviteClientPhase::Completed { request, .. } => Some(request),
             _ => None,
+        }
+    }
+
+    fn told(alloc: Global, phase: &InviteClientPhase) -> Result<Told, AllocError> {
+        match *phase {
+            InviteClientPhase::Idle => Told::new(alloc, "idle", &[]),
+            InviteClientPhase::Calling(waiting) => Told::new(alloc, "calling", &waiting.fields()),
+            InviteClientPhase::Proceeding {
+                reliable,
+                request,
+                cancel,
+            } => Told::new(
+                alloc,
+                "proceeding",
+                &[
+                    Field::Flag("reliable", reliable),
+                    Field::Message("request", Some(request)),
+                    Field::Number("cancel", cancel),
+                ],
+            ),
+            InviteClientPhase::Accepted { set } => {
+                Told::new(alloc, "accepted", &[Field::Number("set", Some(set))])
+            }
+            InviteClientPhase::Completed {
+                reliable,
+                request,
+                set,
+            } => Told::new(
+                alloc,
+                "completed",
+                &[
+                    Field::Flag("reliable", reliable),
+                    Field::Message("request", Some(request)),
+                    Field::Number("set", Some(set)),
+                ],
+            ),
+            InviteClientPhase::Ended => Told::new(alloc, "ended", &[]),
         }
     }
 

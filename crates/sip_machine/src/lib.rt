@@ -21,6 +21,7 @@ mod provisional;
 mod push;
 mod retransmits;
 mod timers;
+mod told;
 mod waiting;
 
 pub use book::Book;
@@ -36,4 +37,5 @@ pub use phases::{Change, Phase, Phases, Turn};
 pub use plain_client::{PlainClient, PlainClientPhase, PlainClientState};
 pub use plain_server::{PlainServer, PlainServerPhase, PlainServerState};
 pub use sip_times::{Action, Params};
+pub use told::{Field, Told};
 pub use waiting::Waiting;

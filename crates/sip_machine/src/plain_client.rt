@@ -8,6 +8,7 @@ use crate::owes::Owes;
 use crate::owing::Owing;
 use crate::phases::{Change, Phase, Phases, Turn};
 use crate::timers::{linger, timeout};
+use crate::told::{Field, Told};
 use crate::waiting::Waiting;
 use sip_times::Params;
 use std::alloc::{AllocError, Global};
@@ -215,6 +216,25 @@ impl Phases for PlainClient {
             PlainClientPhase::Proceeding(waiting) => Some(waiting.request),
             PlainClientPhase::Completed { .. } | PlainClientPhase::Idle | PlainClientPhase::Ended =>
                 None,
+        }
+    }
+
+    fn told(alloc: Global, phase: &PlainClientPhase) -> Result<Told, AllocError> {
+        match *phase {
+            PlainClientPhase::Idle => Told::new(alloc, "idle", &[]),
+            PlainClientPhase::Trying(waiting) => Told::new(alloc, "trying", &waiting.fields()),
+            PlainClientPhase::Proceeding(waiting) => {
+                Told::new(alloc, "proceeding", &waiting.fields())
+            }
+            PlainClientPhase::Completed { reliable, set } => Told::new(
+                alloc,
+                "completed",
+                &[
+                    Field::Flag("reliable", reliable),
+                    Field::Number("set", Some(set)),
+                ],
+            ),
+            PlainClientPhase::Ended => Told::new(alloc, "ended", &[]),
         }
     }
 

@@ -1,15 +1,17 @@
 //! A request that a client sent, and that waits for its response (RFC 3261 sections 17.1.1.2 and 17.1.2.2).
-ghost use Rattle.std.specs.Prelude.{◌≡◌, ◌≤◌, ◌↔◌, IsTrue, Some};
+ghost use Rattle.std.specs.Prelude.{◌≡◌, ◌≤◌, ◌↔◌, IsTrue, Some, map};
 ghost use Rattle.sip_machine.specs.Texts.{Texts, Keeps, text_of};
 ghost use Rattle.sip_machine.specs.Heard.{FitsBook, heard};
 ghost use Rattle.sip_machine.specs.Retransmits.{Retransmits};
 ghost use Rattle.sip_machine.specs.Debts.{earliest};
-ghost use Rattle.sip_machine.specs.Waiting.{waiting_closes, waiting_seen, WaitingInRange};
+ghost use Rattle.sip_machine.specs.Waiting.{waiting_closes, waiting_fields, waiting_seen, WaitingInRange};
+ghost use Rattle.sip_machine.specs.Told.{field_of};
 
 use crate::book::Book;
 use crate::event::Event;
 use crate::limit::earlier;
 use crate::retransmits::retransmits;
+use crate::told::Field;
 use sip_times::Params;
 
 /// A request that waits for its response. Moments and intervals are in milliseconds.
@@ -60,5 +62,18 @@ impl Waiting {
         } else {
             earlier(given_up, Some(params.closes(self.set, self.interval)))
         }
+    }
+
+    /// What its phase tells of it.
+    pub(crate) fn fields(&self) -> [Field; 5]
+        ensures { map field_of result ≡ waiting_fields self.now.reliable self.now.request self.now.start self.now.set self.now.interval }
+    {
+        [
+            Field::Flag("reliable", self.reliable),
+            Field::Message("request", Some(self.request)),
+            Field::Number("start", Some(self.start)),
+            Field::Number("set", Some(self.set)),
+            Field::Number("interval", Some(self.interval)),
+        ]
     }
 }

@@ -4,6 +4,7 @@ pub mod inner
 pub mod KeyMachine
 pub mod Meaning
 pub mod AnySet
+pub mod Told
 pub mod Agenda
 pub mod Tables
 pub mod TablesLends

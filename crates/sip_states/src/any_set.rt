@@ -4,8 +4,10 @@ ghost use Rattle.sip_machine.specs.Heard.{FitsBook};
 ghost use Rattle.sip_machine.specs.Naming.{AppendsAll};
 ghost use Rattle.sip_states.specs.AnySet.{moment_of, start_of, IsEmpty, IsKeptSet, IsKnownSet, Waits, Takes, IsTooWide, IsAgendaOf};
 ghost use Rattle.sip_states.specs.Sweep.{numbers_of};
+ghost use Rattle.sip_states.specs.Told.{AreTold};
 
 use crate::state_set::{StateSet, TakeError};
+use crate::told::{ToldState, told_states};
 use sip_key::{Key, Role};
 use sip_machine::{Book, Event, InviteClient, InviteServer, Params, PlainClient, PlainServer};
 use std::alloc::{AllocError, Global};
@@ -124,6 +126,18 @@ impl AnySet {
             AnySet::PlainClient(set) => set.names(out),
             AnySet::InviteServer(set) => set.names(out),
             AnySet::PlainServer(set) => set.names(out),
+        }
+    }
+
+    /// Its states in words, in no order of their own.
+    pub fn told(&self, alloc: Global) -> Result<Vec<ToldState>, AllocError>
+        ensures { IfOk result (λ told. AreTold self.now told.items) }
+    {
+        match self {
+            AnySet::InviteClient(set) => told_states(alloc, set),
+            AnySet::PlainClient(set) => told_states(alloc, set),
+            AnySet::InviteServer(set) => told_states(alloc, set),
+            AnySet::PlainServer(set) => told_states(alloc, set),
         }
     }
 

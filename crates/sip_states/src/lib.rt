@@ -10,6 +10,7 @@ mod marks;
 mod state_set;
 mod steps;
 mod tables;
+mod told;
 
 pub use any_set::AnySet;
 pub use laws::{
@@ -19,3 +20,4 @@ pub use laws::{
 };
 pub use state_set::{StateSet, TakeError};
 pub use tables::Tables;
+pub use told::ToldState;

@@ -1,23 +1,20 @@
 use Rattle.std.specs.Cmp.Lexicographic.{slice_cmp}
 use Rattle.std.specs.Ordering.{is_lt, nat_cmp}
-use Rattle.std.proofs.Common.{◌≡◌, ◌≤◌, ◌∙◌, ap, sym, subst, length, map, string_bytes, IsPermutation}
+use Rattle.std.proofs.Common.{◌≡◌, ◌≤◌, ◌∙◌, ap, subst, length, map, string_bytes, IsPermutation}
 use Rattle.std.proofs.lemmas.List.{take_all}
 use Rattle.std.proofs.lemmas.List.Sorted.{IsPermutation-map}
-use Rattle.sip_listing.specs.Fields.{Tells}
-use Rattle.sip_listing.proofs.LinesLemmas.{IsSortedBy-map, map-agree}
+use Rattle.sip_listing.specs.inner.StateLine.{state_line}
+use Rattle.sip_listing.proofs.LinesLemmas.{IsSortedBy-map}
 use Rattle.sip_listing.proofs.lines.lines_of.Goals as goal
 
 pub returns : goal.returns
-returns g c =
-    let T = g.T.Told in
+returns c =
     let states = c.args.states.now in
     let unsorted = c.loop-state.lines.items in
     let sorted = c.sort.new.self.items in
     let all_passed : length states ≤ c.loop-state.state-index = c.loop-state-test.false in
-    let pushed : map string_bytes unsorted ≡ map T.line states = c.loop-state.invariant ∙ ap (λ xs. map T.line xs) (take_all c.loop-state.state-index states all_passed) in
-    λ number texts all.
-    let told = map-agree (λ x. Tells number texts (T.names x)) (λ x. T.text number (T.seen texts x)) T.line (g.met.T.Told.told number texts) states all in
+    let pushed : map string_bytes unsorted ≡ map state_line states = c.loop-state.invariant ∙ ap (λ xs. map state_line xs) (take_all c.loop-state.state-index states all_passed) in
     record {
-      same = subst (λ ys. IsPermutation ys (map string_bytes sorted)) (pushed ∙ sym told) (IsPermutation-map string_bytes unsorted sorted c.in_ok-sort.ensures.permutation);
+      same = subst (λ ys. IsPermutation ys (map string_bytes sorted)) pushed (IsPermutation-map string_bytes unsorted sorted c.in_ok-sort.ensures.permutation);
       ascending = IsSortedBy-map string_bytes (λ x y. is_lt (slice_cmp nat_cmp x y)) sorted c.in_ok-sort.ensures.sorted;
     }

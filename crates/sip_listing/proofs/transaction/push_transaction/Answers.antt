@@ -1,11 +1,12 @@
 use Rattle.std.proofs.Common.{rules, map, string_bytes, append_assoc}
 use Rattle.std.proofs.lemmas.List.{length-map}
+use Rattle.sip_listing.proofs.StateLemmas.{listed}
 use Rattle.sip_listing.proofs.transaction.push_transaction.Goals as goal
 
 pub returns : goal.returns
 returns c = (
   map string_bytes c.in_ok-lines.lines.items,
-  c.in_ok-lines.ensures,
+  listed c.args.set.now c.in_ok-told.result.items (map string_bytes c.in_ok-lines.lines.items) c.in_ok-told.ensures c.in_ok-lines.ensures,
   λ ascii.
       let said = c.in_ok-push_line.ensures ascii in
       search (rules, append_assoc, length-map),

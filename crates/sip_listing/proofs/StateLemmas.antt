@@ -1,0 +1,76 @@
+-- The text of a set's states, from their words.
+use Rattle.std.proofs.Common.{◌≡◌, ◌++◌, ◌∙◌, ℕ, Some, None, List, [], ◌∷◌, All, map, refl, sym, ap, ap₂, subst}
+use Rattle.std.specs.List.{filter_map}
+use Rattle.std.proofs.lemmas.List.Elements.{All-head, All-tail}
+use Rattle.sip_machine.specs.declared.owing.Owing.{Owing as CodeOwing}
+use Rattle.sip_machine.specs.Texts.{Texts, text_of}
+use Rattle.sip_machine.specs.Owes.{owes_names, owes_seen}
+use Rattle.sip_machine.specs.Owing.{owing_seen, owing_names}
+use Rattle.sip_machine.specs.Told.{Field, Told, Flag, Number, Message, field_by, told_by, told_of, field_message, messages_told}
+use Rattle.sip_machine.specs.inner.DebtLaws.{All-front, All-back}
+use Rattle.sip_machine.specs.inner.Runs.{debts_of}
+use Rattle.sip_states.specs.KeyMachine.{transaction, coded, of_machine, to_machine}
+use Rattle.sip_states.specs.Told.{said, meant, AreToldAs, AreTold}
+use Rattle.sip_states.specs.declared.any_set.AnySet.{AnySet}
+use Rattle.sip_states.specs.declared.told.ToldState.{ToldState}
+use Rattle.sip_states.proofs.ByMachine.{some_machine, of_set}
+use Rattle.sip_listing.specs.Fields.{Tells, owes_fields}
+use Rattle.sip_listing.specs.State.{phase_text, owing_text}
+use Rattle.sip_listing.specs.Lines.{AreInOrder}
+use Rattle.sip_listing.specs.Transaction.{TellsSet, AreLinesOfHeld, AreLinesOfSet, Lists}
+use Rattle.sip_listing.specs.inner.FieldLaws.{debts_fields, debts_told, first_told, others_told}
+use Rattle.sip_listing.specs.inner.StateLine.{state_line}
+
+module _ (number : List ℕ → ℕ) (texts : Texts) where
+  -- messages that are told by their numbers in the book are those numbers again
+  fields_back : (fields : List (Field ℕ)) → Tells number texts (filter_map field_message fields) → map (field_by number) (map (field_by (text_of texts)) fields) ≡ fields
+  fields_back [] tells = refl
+  fields_back (Flag name is ∷ fields) tells = ap (λ more. Flag name is ∷ more) (fields_back fields tells)
+  fields_back (Number name value ∷ fields) tells = ap (λ more. Number name value ∷ more) (fields_back fields tells)
+  fields_back (Message name None ∷ fields) tells = ap (λ more. Message name None ∷ more) (fields_back fields tells)
+  fields_back (Message name (Some n) ∷ fields) tells =
+      ap₂ (λ m more. Message name (Some m) ∷ more) (first_told number texts n (filter_map field_message fields) tells)
+      (fields_back fields (others_told number texts n (filter_map field_message fields) tells))
+
+  told_back : (told : Told ℕ) → Tells number texts (messages_told told) → told_by number (told_by (text_of texts) told) ≡ told
+  told_back told tells =
+      let fields = fields_back told.fields tells in
+      let e : record { name = told.name; fields = map (field_by number) (map (field_by (text_of texts)) told.fields) } ≡ record { name = told.name; fields = told.fields } = rw fields refl in
+      e
+
+  module _ {S D X : Type 0} (words : X → Told (List ℕ)) (seen : Texts → S → X) (names : S → List ℕ) where
+    -- the text of a state is that of the words that tell it
+    state_told : (x : CodeOwing S D) (state : ToldState) → said texts state ≡ meant words seen names texts x → Tells number texts (owing_names names x)
+        → owing_text words number (owing_seen seen texts x) ≡ state_line state
+    state_told x state says tells =
+        let of_phase : Tells number texts (names x.phase) = All-front (λ name. number (text_of texts name) ≡ name) (names x.phase) (owes_names x.owes) tells in
+        let of_debts : Tells number texts (owes_names x.owes) = All-back (λ name. number (text_of texts name) ≡ name) (names x.phase) (owes_names x.owes) tells in
+        let back = told_back (told_of state.phase) (subst (Tells number texts) (sym (ap (λ s. s.1.0) says)) of_phase) in
+        ap₂ (λ told debts. phase_text told ++ debts)
+        (ap (told_by number) (sym (ap (λ s. s.0) says)) ∙ back)
+        (debts_told number texts x.owes of_debts ∙ ap debts_fields (sym (ap (λ s. s.1.1) says)))
+
+    -- and so are those of several
+    states_told : (xs : List (CodeOwing S D)) (states : List ToldState) → map (said texts) states ≡ map (meant words seen names texts) xs
+        → All (λ x. Tells number texts (owing_names names x)) xs → map (λ x. owing_text words number (owing_seen seen texts x)) xs ≡ map state_line states
+    states_told [] [] are tells = refl
+    states_told [] (state ∷ states) are tells = absurd (cc)
+    states_told (x ∷ xs) [] are tells = absurd (cc)
+    states_told (x ∷ xs) (state ∷ states) are tells =
+        let first : said texts state ≡ meant words seen names texts x = cc in
+        let more : map (said texts) states ≡ map (meant words seen names texts) xs = cc in
+        ap₂ (λ line lines. line ∷ lines) (state_told x state first (All-head (λ x. Tells number texts (owing_names names x)) x xs tells))
+        (states_told xs states more (All-tail (λ x. Tells number texts (owing_names names x)) x xs tells))
+
+-- the lines of the words that tell a set list it
+pub listed : (set : AnySet) (states : List ToldState) (lines : List (List ℕ)) → AreTold set states → AreInOrder (map state_line states) lines → Lists set lines
+listed set states lines are in_order number texts tells =
+    let (machine, s, is) = some_machine set in
+    let c = coded machine in
+    let words = (transaction machine).figure.told in
+    let told = of_machine (λ kind held. AreToldAs (transaction kind).figure.told (coded kind).seen (coded kind).names held.states states) machine s
+    (subst (λ x. AreTold x states) is are) in
+    let known = of_set (λ X M S m s. All (λ x. Tells number texts (m.names x)) s.states) machine s (subst (TellsSet number texts) is tells) in
+    let same = states_told number texts words c.seen c.names s.states states (told texts) known in
+    subst (λ x. AreLinesOfSet number texts x lines) (sym is)
+    (to_machine (λ kind held. AreLinesOfHeld number texts kind held lines) machine s (subst (λ ts. AreInOrder ts lines) (sym same) in_order))

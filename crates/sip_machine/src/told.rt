@@ -1,0 +1,38 @@
+//! A phase in words, as a listing tells it.
+ghost use Rattle.std.specs.Prelude.{◌≡◌, IfOk};
+
+use std::alloc::{AllocError, Global};
+
+/// A name with its value.
+#[derive(Clone, Copy, Debug)]
+pub enum Field {
+    /// Whether it is so.
+    Flag(&'static str, bool),
+    /// A moment or an interval in milliseconds, if there is one.
+    Number(&'static str, Option<u64>),
+    /// A message by its number in the `Book`, if there is one.
+    Message(&'static str, Option<u32>),
+}
+
+/// The name of a phase, and its fields in their order.
+#[derive(Debug, Drop)]
+pub struct Told {
+    pub name: &'static str,
+    pub fields: Vec<Field>,
+}
+
+impl Told {
+    pub(crate) fn new(
+        alloc: Global,
+        name: &'static str,
+        fields: &[Field],
+    ) -> Result<Told, AllocError>
+        ensures name { IfOk result (λ told. told.name.now ≡ name.now) }
+        ensures fields { IfOk result (λ told. told.fields.items ≡ fields.now) }
+    {
+        Ok(Told {
+            name,
+            fields: fields.to_vec(alloc)?,
+        })
+    }
+}

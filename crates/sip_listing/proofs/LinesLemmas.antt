@@ -1,8 +1,7 @@
-use Rattle.std.specs.Prelude.{◌≡◌, ◌++◌, ◌+◌, ◌<◌, ℕ, Bool, List, [], ◌∷◌, All, length, map}
+use Rattle.std.specs.Prelude.{◌≡◌, ◌++◌, ◌+◌, ◌<◌, ℕ, Bool, List, [], ◌∷◌, length, map}
 use Rattle.std.specs.List.Sorted.{IsSortedBy}
-use Rattle.std.proofs.Common.{refl, ap₂, subst, arith, append_assoc}
+use Rattle.std.proofs.Common.{refl, subst, arith, append_assoc}
 use Rattle.std.proofs.lemmas.List.{get_or-map, length-map}
-use Rattle.std.proofs.lemmas.List.Elements.{All-head, All-tail}
 
 -- Lists of what stands for others.
 
@@ -14,11 +13,6 @@ IsSortedBy-map f lt (x ∷ xs) sorted =
     let within : k + 1 < length (x ∷ xs) = subst (λ n. k + 1 < n) (length-map (x ∷ xs) f) high in
     let before : k < length (x ∷ xs) = omega arith in
     rw (get_or-map f (x ∷ xs) (k + 1) x d within, get_or-map f (x ∷ xs) k x d before) (sorted k x low within)
-
--- two functions that agree on each element give one list
-pub map-agree : {X Y : Type 0} (P : X → Type 0) (f h : X → Y) → ((x : X) → P x → f x ≡ h x) → (xs : List X) → All P xs → map f xs ≡ map h xs
-map-agree P f h agree [] all = refl
-map-agree P f h agree (x ∷ xs) all = ap₂ (λ y ys. y ∷ ys) (agree x (All-head P x xs all)) (map-agree P f h agree xs (All-tail P x xs all))
 
 -- what was appended in five pieces
 pub five_appended : (old a b c d e after_a after_b after_c after_d after_e : List ℕ) → after_a ≡ old ++ a → after_b ≡ after_a ++ b →

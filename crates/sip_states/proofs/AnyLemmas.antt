@@ -8,19 +8,19 @@ use Rattle.sip_states.specs.Meaning.{Meaning, IsKnown, Waiting, Given, HasWaited
 
 module _ {X M S T E : Type 0} (m : Meaning X M S) (old new : Held M S) where
   -- the clauses of `StateSet::advance`, as one
-  pub HasWaited-on_ok : (moment : ℕ) (r : Result T E)
+  pub has_waited : (moment : ℕ) (r : Result T E)
       → OnOk r ((new.machine ≡ old.machine) × (new.moment ≡ moment))
       → OnOk r ((texts : Texts) → IsBook texts → IsKnown m texts old → StandFor m.names m.in_range m.seen texts (Waiting m texts old moment) new.states)
       → OnOk r (length new.states ≤ length old.states + 1)
       → OnOk r (HasWaited m moment old new)
-  HasWaited-on_ok moment (Ok x) at states one_more = record { machine = at.0; at = at.1; states = states; one_more = one_more }
-  HasWaited-on_ok moment (Err e) at states one_more = tt
+  has_waited moment (Ok x) at states one_more = record { machine = at.0; at = at.1; states = states; one_more = one_more }
+  has_waited moment (Err e) at states one_more = tt
 
   -- those of `StateSet::take`
-  pub HasTaken-on_ok : (texts : Texts) (e : NumberedEvent) (r : Result T E)
+  pub has_taken : (texts : Texts) (e : NumberedEvent) (r : Result T E)
       → OnOk r ((new.machine ≡ old.machine) × (new.moment ≡ e.moment))
       → OnOk r (StandFor m.names m.in_range m.seen texts (Given m texts old e) new.states)
       → OnOk r (length new.states ≤ widest)
       → OnOk r (HasTaken m texts e old new)
-  HasTaken-on_ok texts e (Ok x) at states few = record { machine = at.0; at = at.1; states = states; few = few }
-  HasTaken-on_ok texts e (Err _) at states few = tt
+  has_taken texts e (Ok x) at states few = record { machine = at.0; at = at.1; states = states; few = few }
+  has_taken texts e (Err _) at states few = tt

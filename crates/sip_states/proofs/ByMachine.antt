@@ -3,15 +3,16 @@ use Rattle.std.proofs.Common.{◌≡◌, [], ◌∷◌, ◌++◌, ℕ, All, Cont
 use Rattle.std.proofs.lemmas.List.Elements.{All-nil}
 use Rattle.sip_machine.specs.Times.{Times}
 use Rattle.sip_machine.specs.Texts.{Texts, Keeps, text_of}
+use Rattle.sip_machine.specs.Naming.{AppendsAll}
 use Rattle.sip_machine.specs.Rules.{IsLawful, Knows}
 use Rattle.sip_machine.specs.Transaction.{idle_state}
 use Rattle.sip_machine.specs.inner.FigureLaws.{rules_lawful}
 use Rattle.sip_machine.specs.inner.OwingLaws.{owing_by_names, quiet_stands}
 use Rattle.sip_states.specs.Held.{Held}
-use Rattle.sip_states.specs.KeyMachine.{MachineKind, transaction, coded, is_coded, PhaseOf, rules_of, StateOf, set_of, held_of, held_is, set_is, start_is, start_of_machine, of_machine, to_machine}
+use Rattle.sip_states.specs.KeyMachine.{MachineKind, transaction, coded, is_coded, PhaseOf, rules_of, StateOf, set_of, held_of, held_is, set_is, start_is, start_of_machine, of_machine, to_machine, of_one_machine}
 use Rattle.sip_states.specs.Meaning.{Meaning}
 use Rattle.sip_states.specs.AnySet.{meaning_of, OfHeld, OfSet, OfHelds, OfSets, moment_of}
-use Rattle.sip_states.specs.Sweep.{names_of, numbers_of}
+use Rattle.sip_states.specs.Sweep.{names_of, numbers_of, AppendsNumbers}
 use Rattle.sip_states.specs.declared.any_set.AnySet.{AnySet}
 
 -- its rules are those of its machine
@@ -39,6 +40,10 @@ first_is_of machine texts p =
 pub first_knows : (machine : MachineKind) (texts : Texts) → Knows (meaning_of machine).names texts (first_of machine)
 first_knows machine texts = subst (λ names. All (Keeps texts) (names ++ [])) (sym (is_coded machine).idle_names) (All-nil (Keeps texts))
 
+-- each set is one of some machine
+pub some_machine : (set : AnySet) → (machine : MachineKind) × (s : Held Times (StateOf machine)) × (set ≡ set_of machine s)
+some_machine set = ((held_of set).0, (held_of set).1, set_is set)
+
 -- the moment of a set
 pub moment_is : (machine : MachineKind) (s : Held Times (StateOf machine)) → moment_of (set_of machine s) ≡ s.moment
 moment_is machine s = ap (λ (h : (kind : MachineKind) × Held Times (StateOf kind)). h.1.moment) (held_is machine s)
@@ -47,14 +52,17 @@ moment_is machine s = ap (λ (h : (kind : MachineKind) × Held Times (StateOf ki
 pub numbers_are : (machine : MachineKind) (s : Held Times (StateOf machine)) → numbers_of (set_of machine s) ≡ names_of machine s
 numbers_are machine s = ap (λ (h : (kind : MachineKind) × Held Times (StateOf kind)). names_of h.0 h.1) (held_is machine s)
 
+-- which it appends
+pub numbers_appended : (set : AnySet) (old new : List ℕ) → AppendsNumbers set old new → AppendsAll (numbers_of set) old new
+numbers_appended set old new appends =
+    let (machine, s, is) = some_machine set in
+    let by_names = of_machine (λ kind held. AppendsAll (names_of kind held) old new) machine s (subst (λ x. AppendsNumbers x old new) is appends) in
+    subst (λ ns. AppendsAll ns old new) (sym (ap numbers_of is ∙ numbers_are machine s)) by_names
+
 -- the set that a machine starts with names nothing
 pub start_silent : (p : Times) (machine : MachineKind) → numbers_of (start_of_machine p machine) ≡ []
 start_silent p machine =
     ap numbers_of (start_is p machine) ∙ numbers_are machine (record { machine = p; moment = 0; states = first_of machine ∷ [] }) ∙ ap (λ names. (names ++ []) ++ []) (is_coded machine).idle_names
-
--- each set is one of some machine
-pub some_machine : (set : AnySet) → (machine : MachineKind) × (s : Held Times (StateOf machine)) × (set ≡ set_of machine s)
-some_machine set = ((held_of set).0, (held_of set).1, set_is set)
 
 module _ (P : (X M S : Type 0) → Meaning X M S → Held M S → Type 0) where
   -- what holds of a set of a machine
@@ -67,4 +75,4 @@ module _ (P : (X M S : Type 0) → Meaning X M S → Held M S → Type 0) where
 -- what holds of two of them
 pub of_sets : (P : (X M S : Type 0) → Meaning X M S → Held M S → Held M S → Type 0) (machine : MachineKind) (s : Held Times (StateOf machine)) (new : AnySet) → OfSets P (set_of machine s) new
     → (t : Held Times (StateOf machine)) × (new ≡ set_of machine t) × P (PhaseOf machine) Times (StateOf machine) (meaning_of machine) s t
-of_sets P machine s new both = of_machine (λ kind held. OfHelds P kind held new) machine s both
+of_sets P machine s new both = of_one_machine (OfHelds P) machine s new both

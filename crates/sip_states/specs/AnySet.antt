@@ -9,7 +9,7 @@ use Rattle.sip_machine.specs.Owing.{owing_seen, owing_names, OwingInRange}
 use Rattle.sip_machine.specs.Transaction.{ended_state}
 use Rattle.sip_states.specs.Runs.{IsWide}
 use Rattle.sip_states.specs.Held.{Held}
-use Rattle.sip_states.specs.KeyMachine.{MachineKind, machine_of_key, transaction, coded, PhaseOf, StateOf, set_of, held_of, by_machine, start_of_machine}
+use Rattle.sip_states.specs.KeyMachine.{MachineKind, machine_of_key, transaction, coded, PhaseOf, StateOf, held_of, by_machine, by_one_machine, start_of_machine}
 use Rattle.sip_states.specs.Meaning.{Meaning, IsKeptBy, IsKnown, Given, HasWaited, HasTaken, HasAgenda}
 use Rattle.sip_states.specs.declared.any_set.AnySet.{AnySet}
 
@@ -37,14 +37,13 @@ module _ (P : (X M S : Type 0) → Meaning X M S → Held M S → Type 0) where
   OfSet set = by_machine OfHeld set
 
 module _ (P : (X M S : Type 0) → Meaning X M S → Held M S → Held M S → Type 0) where
-  -- the new set is of this machine, as the old one is, and P of the two
-  abbrev pub OfHelds : (machine : MachineKind) → Held Times (StateOf machine) → AnySet → Type 0
-  OfHelds machine s new =
-      (t : Held Times (StateOf machine)) × (new ≡ set_of machine t) × P (PhaseOf machine) Times (StateOf machine) (meaning_of machine) s t
+  -- P of two sets of this machine
+  abbrev pub OfHelds : (machine : MachineKind) → Held Times (StateOf machine) → Held Times (StateOf machine) → Type 0
+  OfHelds machine s t = P (PhaseOf machine) Times (StateOf machine) (meaning_of machine) s t
 
   -- the new set is of the old one's machine, and P of the two
   abbrev pub OfSets : AnySet → AnySet → Type 0
-  OfSets set new = by_machine (λ machine s. OfHelds machine s new) set
+  OfSets set new = by_one_machine OfHelds set new
 
 -- the moment of the set
 abbrev pub moment_of : AnySet → ℕ

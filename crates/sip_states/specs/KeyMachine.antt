@@ -96,6 +96,14 @@ by_machine P (PlainClient s) = P OfPlainClient s
 by_machine P (InviteServer s) = P OfInviteServer s
 by_machine P (PlainServer s) = P OfPlainServer s
 
+-- P of two sets that are of one machine
+abbrev pub by_one_machine : ((machine : MachineKind) → Held Times (StateOf machine) → Held Times (StateOf machine) → Type 0) → AnySet → AnySet → Type 0
+by_one_machine P (InviteClient s) (InviteClient t) = P OfInviteClient s t
+by_one_machine P (PlainClient s) (PlainClient t) = P OfPlainClient s t
+by_one_machine P (InviteServer s) (InviteServer t) = P OfInviteServer s t
+by_one_machine P (PlainServer s) (PlainServer t) = P OfPlainServer s t
+by_one_machine P old new = ⊥
+
 -- the set that a machine starts with: its first state, at moment 0
 abbrev pub start_of_machine : Times → MachineKind → AnySet
 start_of_machine p OfInviteClient = InviteClient (record { machine = p; moment = 0; states = idle_state (coded OfInviteClient) ∷ [] })
@@ -135,3 +143,11 @@ module _ (P : (machine : MachineKind) → Held Times (StateOf machine) → Type 
   to_machine OfPlainClient s holds = holds
   to_machine OfInviteServer s holds = holds
   to_machine OfPlainServer s holds = holds
+
+pub of_one_machine : (P : (machine : MachineKind) → Held Times (StateOf machine) → Held Times (StateOf machine) → Type 0) (machine : MachineKind) (s : Held Times (StateOf machine)) (new : AnySet)
+    → by_one_machine P (set_of machine s) new → (t : Held Times (StateOf machine)) × (new ≡ set_of machine t) × P machine s t
+of_one_machine P OfInviteClient s (InviteClient t) holds = (t, refl, holds)
+of_one_machine P OfPlainClient s (PlainClient t) holds = (t, refl, holds)
+of_one_machine P OfInviteServer s (InviteServer t) holds = (t, refl, holds)
+of_one_machine P OfPlainServer s (PlainServer t) holds = (t, refl, holds)
+of_one_machine P machine s new holds = absurd holds

@@ -2,8 +2,9 @@
 use Rattle.std.specs.Prelude.{◌≡◌, ◌<◌, ◌⊎◌, ◌↔◌, ◌++◌, [], ℕ, List, Some, AllPairs, Contains, flat_map, length, slice_get}
 use Rattle.sip_machine.specs.Times.{Times}
 use Rattle.sip_machine.specs.Owing.{owing_names}
+use Rattle.sip_machine.specs.Naming.{AppendsAll}
 use Rattle.sip_states.specs.Held.{Held}
-use Rattle.sip_states.specs.KeyMachine.{MachineKind, coded, StateOf, held_of}
+use Rattle.sip_states.specs.KeyMachine.{MachineKind, coded, StateOf, held_of, by_machine}
 use Rattle.sip_states.specs.declared.any_set.AnySet.{AnySet}
 use Rattle.sip_states.specs.AnySet.{Waits}
 use Rattle.sip_states.specs.Tables.{Tabled}
@@ -15,6 +16,10 @@ names_of machine s = flat_map (owing_names (coded machine).names) s.states
 -- and those of any set
 abbrev pub numbers_of : AnySet → List ℕ
 numbers_of set = names_of (held_of set).0 (held_of set).1
+
+-- they were appended, each at least once
+abbrev pub AppendsNumbers : AnySet → List ℕ → List ℕ → Type 0
+AppendsNumbers set old new = by_machine (λ machine s. AppendsAll (names_of machine s) old new) set
 
 -- the set has waited until the moment; or it names nothing, and stays
 abbrev pub IsAdvanced : ℕ → AnySet → AnySet → Type 0

@@ -1,9 +1,8 @@
 //! The states of one transaction, whichever machine it has.
 ghost use Rattle.std.specs.Prelude.{◌≡◌, ◌↔◌, ◌≤◌, IfOk, IsErrOf, IsTrue, OnErr, OnOk};
 ghost use Rattle.sip_machine.specs.Heard.{FitsBook};
-ghost use Rattle.sip_machine.specs.Naming.{AppendsAll};
 ghost use Rattle.sip_states.specs.AnySet.{moment_of, start_of, IsEmpty, IsKeptSet, IsKnownSet, Waits, Takes, IsTooWide, IsAgendaOf};
-ghost use Rattle.sip_states.specs.Sweep.{numbers_of};
+ghost use Rattle.sip_states.specs.Sweep.{AppendsNumbers};
 ghost use Rattle.sip_states.specs.Told.{AreTold};
 
 use crate::state_set::{StateSet, TakeError};
@@ -49,6 +48,7 @@ impl AnySet {
     }
 
     /// Lets the set wait until the moment, in milliseconds. On an error it is as before.
+    #[tactic(auto, using(crate::proofs::AnyLemmas::has_waited))]
     pub fn advance(&mut self, moment: u64) -> Result<(), AllocError>
         requires { moment_of self.old ≤ moment }
         ensures ok { OnOk result (Waits moment self.old self.new) }
@@ -63,6 +63,7 @@ impl AnySet {
     }
 
     /// Takes the event. On an error the set is as before.
+    #[tactic(auto, using(crate::proofs::AnyLemmas::has_taken))]
     pub fn take(&mut self, book: &Book, event: &Event) -> Result<(), TakeError>
         requires order { moment_of self.old ≤ event.now.moment }
         requires fits { FitsBook book.now event.now }
@@ -119,7 +120,7 @@ impl AnySet {
 
     /// Appends the numbers of the messages that its states name, each at least once.
     pub(crate) fn names(&self, out: &mut Vec<u32>) -> Result<(), AllocError>
-        ensures { OnOk result (AppendsAll (numbers_of self.now) out.old.items out.new.items) }
+        ensures { OnOk result (AppendsNumbers self.now out.old.items out.new.items) }
     {
         match self {
             AnySet::InviteClient(set) => set.names(out),

@@ -5,6 +5,7 @@ use Rattle.std.proofs.lemmas.List.{length-set, nil_from_length}
 use Rattle.indexmap.specs.IndexMap.{values}
 use Rattle.sip_states.specs.Sweep.{numbers_of}
 use Rattle.sip_states.specs.inner.Marks.{IsMarked}
+use Rattle.sip_states.proofs.ByMachine.{numbers_appended}
 use Rattle.sip_states.proofs.NamesLemmas.{names_nothing}
 use Rattle.sip_states.proofs.AdvanceLemmas.{item_among, unmarked}
 use Rattle.sip_states.proofs.tables.unmark_silent.Goals as goal
@@ -31,7 +32,8 @@ loop-place-preserved-then-is_empty g c =
     let set = c.index.result.now in
     let none : length c.names.new.out.items ≡ 0 = grind (arith, common_steps) in
     let empty : c.names.new.out.items ≡ [] = nil_from_length c.names.new.out.items none in
-    let silent : numbers_of set ≡ [] = names_nothing (numbers_of set) c.clear.new.self.items c.names.new.out.items c.clear.ensures.items empty c.in_ok-names.ensures in
+    let silent : numbers_of set ≡ [] = names_nothing (numbers_of set) c.clear.new.self.items c.names.new.out.items c.clear.ensures.items empty
+    (numbers_appended set c.clear.new.self.items c.names.new.out.items c.in_ok-names.ensures) in
     record {
       long = ap length c.unmark.ensures ∙ length-set marks index false ∙ c.loop-place.invariant.long;
       marked = rw c.unmark.ensures (unmarked marks (values c.args.sets.now) index set c.loop-place.invariant.marked (rw c.loop-place.invariant.same at c.index.ensures) silent);

@@ -9,6 +9,7 @@ use Rattle.sip_states.specs.Sweep.{numbers_of}
 use Rattle.sip_states.specs.Tables.{Tabled}
 use Rattle.sip_states.specs.inner.Marks.{IsMarked}
 use Rattle.sip_states.proofs.NamesLemmas.{appends_more}
+use Rattle.sip_states.proofs.ByMachine.{numbers_appended}
 use Rattle.sip_states.proofs.AdvanceLemmas.{place_among, numbers_at, numbers_at-is, marked_names, named_if}
 use Rattle.sip_states.proofs.tables.Tables.named.Goals as goal
 
@@ -30,7 +31,8 @@ loop-index-preserved g c =
     let low : i < length items = omega arith in
     let at : slice_get t.sets index ≡ Some c.index.result.now = ap (λ (u : Tabled). slice_get u.sets index) (sym c.self.view_is) ∙ c.index.ensures in
     appends_more (numbers_at t.sets) items i 0 [] c.loop-index.found.items c.names.new.out.items low c.loop-index.invariant
-    (subst (λ ns. AppendsAll ns c.loop-index.found.items c.names.new.out.items) (sym (numbers_at-is t.sets index c.index.result.now at)) c.in_ok-names.ensures)
+    (subst (λ ns. AppendsAll ns c.loop-index.found.items c.names.new.out.items) (sym (numbers_at-is t.sets index c.index.result.now at))
+    (numbers_appended c.index.result.now c.loop-index.found.items c.names.new.out.items c.in_ok-names.ensures))
 
 pub returns-clause-ok : goal.returns-clause-ok
 returns-clause-ok g c =

@@ -9,7 +9,7 @@ use Rattle.sip_machine.specs.Owing.{owing_seen, owing_names}
 use Rattle.sip_machine.specs.Told.{Field, Told, Flag, Number, Message, field_by, told_by, told_of, field_message, messages_told}
 use Rattle.sip_machine.specs.inner.DebtLaws.{All-front, All-back}
 use Rattle.sip_machine.specs.inner.Runs.{debts_of}
-use Rattle.sip_states.specs.KeyMachine.{transaction, coded, of_machine, to_machine}
+use Rattle.sip_states.specs.KeyMachine.{coded, of_machine, to_machine}
 use Rattle.sip_states.specs.Told.{said, meant, AreToldAs, AreTold}
 use Rattle.sip_states.specs.declared.any_set.AnySet.{AnySet}
 use Rattle.sip_states.specs.declared.told.ToldState.{ToldState}
@@ -67,8 +67,8 @@ pub listed : (set : AnySet) (states : List ToldState) (lines : List (List ℕ)) 
 listed set states lines are in_order number texts tells =
     let (machine, s, is) = some_machine set in
     let c = coded machine in
-    let words = (transaction machine).figure.told in
-    let told = of_machine (λ kind held. AreToldAs (transaction kind).figure.told (coded kind).seen (coded kind).names held.states states) machine s
+    let words = c.told in
+    let told = of_machine (λ kind held. AreToldAs (coded kind).told (coded kind).seen (coded kind).names held.states states) machine s
     (subst (λ x. AreTold x states) is are) in
     let known = of_set (λ X M S m s. All (λ x. Tells number texts (m.names x)) s.states) machine s (subst (TellsSet number texts) is tells) in
     let same = states_told number texts words c.seen c.names s.states states (told texts) known in

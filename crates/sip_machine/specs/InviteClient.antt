@@ -104,21 +104,10 @@ closes p (Accepted set) = close_at p set (timer_m p) ∷ []
 closes p (Completed reliable request set) = if reliable then close_at p set 0 ∷ [] else []
 closes p x = []
 
--- a phase in words
-abbrev pub told : InviteClientPhase → Told (List ℕ)
-told Idle = record { name = codes "idle"; fields = [] }
-told (Calling w) = record { name = codes "calling"; fields = waiting_fields w.reliable w.request w.start w.set w.interval }
-told (Proceeding reliable request cancel) =
-    record { name = codes "proceeding"; fields = Flag (codes "reliable") reliable ∷ Message (codes "request") (Some request) ∷ Number (codes "cancel") cancel ∷ [] }
-told (Accepted set) = record { name = codes "accepted"; fields = Number (codes "set") (Some set) ∷ [] }
-told (Completed reliable request set) =
-    record { name = codes "completed"; fields = Flag (codes "reliable") reliable ∷ Message (codes "request") (Some request) ∷ Number (codes "set") (Some set) ∷ [] }
-told Ended = record { name = codes "ended"; fields = [] }
-
 -- the figure of the INVITE client
 abbrev pub invite_client : Figure InviteClientPhase
 invite_client =
-    record { idle = Idle; ended = Ended; Receives = Receives; Sends = Sends; Satisfies = Satisfies; ends_refused = ends_refused; window = timer_window; closes = closes; told = told }
+    record { idle = Idle; ended = Ended; Receives = Receives; Sends = Sends; Satisfies = Satisfies; ends_refused = ends_refused; window = timer_window; closes = closes }
 
 -- The phases of the code, whose messages are numbers of a book.
 
@@ -146,6 +135,17 @@ InviteClientInRange (code.Accepted set) = set ≤ last_moment
 InviteClientInRange (code.Completed reliable request set) = set ≤ last_moment
 InviteClientInRange x = Unit {0}
 
+-- a phase in words, as a listing tells it
+abbrev pub invite_client_told : InviteClientPhase → Told (List ℕ)
+invite_client_told Idle = record { name = codes "idle"; fields = [] }
+invite_client_told (Calling w) = record { name = codes "calling"; fields = waiting_fields w.reliable w.request w.start w.set w.interval }
+invite_client_told (Proceeding reliable request cancel) =
+    record { name = codes "proceeding"; fields = Flag (codes "reliable") reliable ∷ Message (codes "request") (Some request) ∷ Number (codes "cancel") cancel ∷ [] }
+invite_client_told (Accepted set) = record { name = codes "accepted"; fields = Number (codes "set") (Some set) ∷ [] }
+invite_client_told (Completed reliable request set) =
+    record { name = codes "completed"; fields = Flag (codes "reliable") reliable ∷ Message (codes "request") (Some request) ∷ Number (codes "set") (Some set) ∷ [] }
+invite_client_told Ended = record { name = codes "ended"; fields = [] }
+
 -- how the code has it
 abbrev pub invite_client_coded : Coded InviteClientPhase
 invite_client_coded =
@@ -157,4 +157,5 @@ invite_client_coded =
       InRange = InviteClientInRange;
       idle = code.Idle;
       ended = code.Ended;
+      told = invite_client_told;
     }

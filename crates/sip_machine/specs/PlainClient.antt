@@ -64,18 +64,10 @@ closes p (Proceeding w) = waiting_closes p w (timer_f p)
 closes p (Completed reliable set) = close_at p set (timer_k p reliable) ∷ []
 closes p x = []
 
--- a phase in words
-abbrev pub told : PlainClientPhase → Told (List ℕ)
-told Idle = record { name = codes "idle"; fields = [] }
-told (Trying w) = record { name = codes "trying"; fields = waiting_fields w.reliable w.request w.start w.set w.interval }
-told (Proceeding w) = record { name = codes "proceeding"; fields = waiting_fields w.reliable w.request w.start w.set w.interval }
-told (Completed reliable set) = record { name = codes "completed"; fields = Flag (codes "reliable") reliable ∷ Number (codes "set") (Some set) ∷ [] }
-told Ended = record { name = codes "ended"; fields = [] }
-
 -- the figure of the non-INVITE client: it owes nothing, and a refused request ends it, section 17.1.4
 abbrev pub plain_client : Figure PlainClientPhase
 plain_client =
-    record { idle = Idle; ended = Ended; Receives = Receives; Sends = Sends; Satisfies = λ x k e message. ⊥; ends_refused = λ x k. true; window = timer_window; closes = closes; told = told }
+    record { idle = Idle; ended = Ended; Receives = Receives; Sends = Sends; Satisfies = λ x k e message. ⊥; ends_refused = λ x k. true; window = timer_window; closes = closes }
 
 -- The phases of the code, whose messages are numbers of a book.
 
@@ -100,6 +92,14 @@ PlainClientInRange (code.Proceeding w) = WaitingInRange w
 PlainClientInRange (code.Completed reliable set) = set ≤ last_moment
 PlainClientInRange x = Unit {0}
 
+-- a phase in words, as a listing tells it
+abbrev pub plain_client_told : PlainClientPhase → Told (List ℕ)
+plain_client_told Idle = record { name = codes "idle"; fields = [] }
+plain_client_told (Trying w) = record { name = codes "trying"; fields = waiting_fields w.reliable w.request w.start w.set w.interval }
+plain_client_told (Proceeding w) = record { name = codes "proceeding"; fields = waiting_fields w.reliable w.request w.start w.set w.interval }
+plain_client_told (Completed reliable set) = record { name = codes "completed"; fields = Flag (codes "reliable") reliable ∷ Number (codes "set") (Some set) ∷ [] }
+plain_client_told Ended = record { name = codes "ended"; fields = [] }
+
 -- how the code has it
 abbrev pub plain_client_coded : Coded PlainClientPhase
 plain_client_coded =
@@ -111,4 +111,5 @@ plain_client_coded =
       InRange = PlainClientInRange;
       idle = code.Idle;
       ended = code.Ended;
+      told = plain_client_told;
     }

@@ -2,6 +2,7 @@ use Rattle.std.specs.Prelude.{ℕ, List, []}
 use Rattle.sip_machine.specs.declared.owing.Owing.{Owing as CodeOwing}
 use Rattle.sip_machine.specs.Texts.{Texts}
 use Rattle.sip_machine.specs.Figure.{Figure}
+use Rattle.sip_machine.specs.Told.{Told}
 
 -- A transaction of RFC 3261 section 17, and how the code has it.
 
@@ -11,7 +12,7 @@ pub record Transaction : Type 1 where
   pub figure : Figure Phase
 
 -- the phases of the code, whose messages are numbers of a book, and how debts lie beside them: what a phase stands for, what it names, which are
--- in range, the one before anything was sent or received, and the one after an end
+-- in range, the one before anything was sent or received, and the one after an end; and a phase in words
 pub record Coded (Phase : Type 0) : Type 1 where
   pub Code : Type 0
   pub Debts : Type 0
@@ -20,6 +21,7 @@ pub record Coded (Phase : Type 0) : Type 1 where
   pub InRange : Code → Type 0
   pub idle : Code
   pub ended : Code
+  pub told : Phase → Told (List ℕ)
 
 -- the state of the code before anything was sent or received
 abbrev pub idle_state : {Phase : Type 0} (c : Coded Phase) → CodeOwing c.Code c.Debts

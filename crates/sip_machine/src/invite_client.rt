@@ -90,7 +90,7 @@ impl InviteClient {
 impl Phases for InviteClient {
     ghost use Rattle.std.specs.Prelude.{refl, []};
     ghost use Rattle.sip_machine.specs.declared.invite_client.InviteClientPhase.TheVariants.{Idle, Ended};
-    ghost use Rattle.sip_machine.specs.InviteClient.{InviteClientPhase as Seen, invite_client, invite_client_seen, invite_client_names, InviteClientInRange};
+    ghost use Rattle.sip_machine.specs.InviteClient.{InviteClientPhase as Seen, invite_client, invite_client_told, invite_client_seen, invite_client_names, InviteClientInRange};
     ghost use Rattle.sip_machine.specs.inner.InviteClientLaws.{invite_client_is_figure, invite_client_window_same, invite_client_closes_same, invite_client_exact, invite_client_apart, invite_client_by_names};
 
     type Phase = InviteClientPhase;
@@ -106,6 +106,8 @@ impl Phases for InviteClient {
     ghost names = { invite_client_names };
 
     ghost in_range = { InviteClientInRange };
+
+    ghost told = { invite_client_told };
 
     ghost idle = { λ p. Idle };
 

@@ -62,7 +62,7 @@ impl PlainClient {
 impl Phases for PlainClient {
     ghost use Rattle.std.specs.Prelude.{refl, []};
     ghost use Rattle.sip_machine.specs.declared.plain_client.PlainClientPhase.TheVariants.{Idle, Ended};
-    ghost use Rattle.sip_machine.specs.PlainClient.{PlainClientPhase as Seen, plain_client, plain_client_seen, plain_client_names, PlainClientInRange};
+    ghost use Rattle.sip_machine.specs.PlainClient.{PlainClientPhase as Seen, plain_client, plain_client_told, plain_client_seen, plain_client_names, PlainClientInRange};
     ghost use Rattle.sip_machine.specs.inner.PlainClientLaws.{plain_client_is_figure, plain_client_window_same, plain_client_closes_same, plain_client_exact, plain_client_apart, plain_client_by_names};
 
     type Phase = PlainClientPhase;
@@ -78,6 +78,8 @@ impl Phases for PlainClient {
     ghost names = { plain_client_names };
 
     ghost in_range = { PlainClientInRange };
+
+    ghost told = { plain_client_told };
 
     ghost idle = { λ p. Idle };
 

@@ -5,7 +5,7 @@ use Rattle.sip_machine.specs.declared.owing.Owing.{Owing as CodeOwing}
 use Rattle.sip_machine.specs.Texts.{Texts, text_of}
 use Rattle.sip_machine.specs.Told.{Told, told_by, told_of, messages_told}
 use Rattle.sip_machine.specs.inner.Runs.{debts_of}
-use Rattle.sip_states.specs.KeyMachine.{transaction, coded, by_machine}
+use Rattle.sip_states.specs.KeyMachine.{coded, by_machine}
 use Rattle.sip_states.specs.declared.any_set.AnySet.{AnySet}
 use Rattle.sip_states.specs.declared.told.ToldState.{ToldState}
 
@@ -28,4 +28,4 @@ module _ {S D X : Type 0} (words : X → Told (List ℕ)) (seen : Texts → S �
 
 -- these are the states of the set in words
 abbrev pub AreTold : AnySet → List ToldState → Type 0
-AreTold set told = by_machine (λ machine s. AreToldAs (transaction machine).figure.told (coded machine).seen (coded machine).names s.states told) set
+AreTold set told = by_machine (λ machine s. AreToldAs (coded machine).told (coded machine).seen (coded machine).names s.states told) set

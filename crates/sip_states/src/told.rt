@@ -18,7 +18,7 @@ pub(crate) fn told_states<M: Phases>(
     alloc: Global,
     set: &StateSet<M>,
 ) -> Result<Vec<ToldState>, AllocError>
-    ensures { IfOk result (λ told. AreToldAs M.figure.told M.seen M.names set.now.states told.items) }
+    ensures { IfOk result (λ told. AreToldAs M.told M.seen M.names set.now.states told.items) }
 {
     let mut told = Vec::new(alloc);
     for state in set.states() {

@@ -13,8 +13,8 @@ pub record IsCoded {X : Type 0} (f : Figure X) (c : Coded X) : Type 0 where
   pub by_names : (a b : Texts) (x : c.Code) → ((n : ℕ) → Contains (c.names x) n → text_of a n ≡ text_of b n) → c.seen a x ≡ c.seen b x
   pub window_same : (a b : Texts) (p : Times) (x : c.Code) → f.window p (c.seen a x) ≡ f.window p (c.seen b x)
   pub closes_same : (a b : Texts) (p : Times) (x : c.Code) → f.closes p (c.seen a x) ≡ f.closes p (c.seen b x)
-  pub named : (texts : Texts) (x : c.Code) → messages_told (f.told (c.seen texts x)) ≡ map (text_of texts) (c.names x)
+  pub named : (texts : Texts) (x : c.Code) → messages_told (c.told (c.seen texts x)) ≡ map (text_of texts) (c.names x)
   pub idle_is : (texts : Texts) → c.seen texts c.idle ≡ f.idle
   pub idle_names : c.names c.idle ≡ []
-  pub idle_silent : messages_told (f.told f.idle) ≡ []
-  pub ended_silent : messages_told (f.told f.ended) ≡ []
+  pub idle_silent : messages_told (c.told f.idle) ≡ []
+  pub ended_silent : messages_told (c.told f.ended) ≡ []

@@ -14,7 +14,7 @@ use Rattle.sip_machine.specs.Texts.{Texts, IsBook, text_of}
 use Rattle.sip_machine.specs.Heard.{Heard}
 use Rattle.sip_machine.specs.Rules.{Knows}
 use Rattle.sip_machine.specs.Figure.{IsFigure, After}
-use Rattle.sip_machine.specs.InviteClient.{InviteClientPhase, Idle, Calling, Proceeding, Completed, Receives, Sends, closes, timer_window, timer_b, timer_m, invite_client, invite_client_seen, invite_client_names, invite_client_coded}
+use Rattle.sip_machine.specs.InviteClient.{InviteClientPhase, Idle, Calling, Proceeding, Completed, Receives, Sends, closes, timer_window, timer_b, timer_m, invite_client, invite_client_told, invite_client_seen, invite_client_names, invite_client_coded}
 use Rattle.sip_machine.specs.Told.{messages_told}
 use Rattle.sip_machine.specs.inner.Coded.{IsCoded}
 use Rattle.sip_machine.specs.inner.MessageLaws.{option_exact, message_apart}
@@ -109,7 +109,7 @@ invite_client_is_figure =
     }
 
 -- what a phase names is what its words tell
-invite_client_named : (texts : Texts) (x : CodePhase) → messages_told (invite_client.told (invite_client_seen texts x)) ≡ map (text_of texts) (invite_client_names x)
+invite_client_named : (texts : Texts) (x : CodePhase) → messages_told (invite_client_told (invite_client_seen texts x)) ≡ map (text_of texts) (invite_client_names x)
 invite_client_named texts code.Idle = refl
 invite_client_named texts x = refl
 

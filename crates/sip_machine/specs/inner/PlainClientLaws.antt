@@ -12,7 +12,7 @@ use Rattle.sip_machine.specs.Texts.{Texts, IsBook, text_of}
 use Rattle.sip_machine.specs.Heard.{Heard}
 use Rattle.sip_machine.specs.Rules.{Knows}
 use Rattle.sip_machine.specs.Figure.{IsFigure, After}
-use Rattle.sip_machine.specs.PlainClient.{PlainClientPhase, Idle, Trying, Proceeding, Receives, Sends, closes, timer_window, timer_f, timer_k, plain_client, plain_client_seen, plain_client_names, plain_client_coded}
+use Rattle.sip_machine.specs.PlainClient.{PlainClientPhase, Idle, Trying, Proceeding, Receives, Sends, closes, timer_window, timer_f, timer_k, plain_client, plain_client_told, plain_client_seen, plain_client_names, plain_client_coded}
 use Rattle.sip_machine.specs.Told.{messages_told}
 use Rattle.sip_machine.specs.inner.Coded.{IsCoded}
 use Rattle.sip_machine.specs.inner.WaitingLaws.{waiting_exact, waiting_apart, waiting_by_names, timer_starts, repeat_starts, patience_lasts}
@@ -86,7 +86,7 @@ plain_client_is_figure =
     }
 
 -- what a phase names is what its words tell
-plain_client_named : (texts : Texts) (x : CodePhase) → messages_told (plain_client.told (plain_client_seen texts x)) ≡ map (text_of texts) (plain_client_names x)
+plain_client_named : (texts : Texts) (x : CodePhase) → messages_told (plain_client_told (plain_client_seen texts x)) ≡ map (text_of texts) (plain_client_names x)
 plain_client_named texts code.Idle = refl
 plain_client_named texts x = refl
 

@@ -21,6 +21,9 @@ use Rattle.sip_listing.specs.Transaction.{TellsSet, AreLinesOfHeld, AreLinesOfSe
 use Rattle.sip_listing.specs.inner.FieldLaws.{debts_fields, debts_told, first_told, others_told}
 use Rattle.sip_listing.specs.inner.StateLine.{state_line}
 
+abbrev telling : List ℕ → List (Field ℕ) → Told ℕ
+telling name fields = record { name = name; fields = fields }
+
 module _ (number : List ℕ → ℕ) (texts : Texts) where
   -- messages that are told by their numbers in the book are those numbers again
   fields_back : (fields : List (Field ℕ)) → Tells number texts (filter_map field_message fields) → map (field_by number) (map (field_by (text_of texts)) fields) ≡ fields
@@ -33,10 +36,7 @@ module _ (number : List ℕ → ℕ) (texts : Texts) where
       (fields_back fields (others_told number texts n (filter_map field_message fields) tells))
 
   told_back : (told : Told ℕ) → Tells number texts (messages_told told) → told_by number (told_by (text_of texts) told) ≡ told
-  told_back told tells =
-      let fields = fields_back told.fields tells in
-      let e : record { name = told.name; fields = map (field_by number) (map (field_by (text_of texts)) told.fields) } ≡ record { name = told.name; fields = told.fields } = rw fields refl in
-      e
+  told_back told tells = ap (telling told.name) (fields_back told.fields tells)
 
   module _ {S D X : Type 0} (words : X → Told (List ℕ)) (seen : Texts → S → X) (names : S → List ℕ) where
     -- the text of a state is that of the words that tell it
@@ -64,7 +64,7 @@ module _ (number : List ℕ → ℕ) (texts : Texts) where
 
 -- the lines of the words that tell a set list it
 pub listed : (set : AnySet) (states : List ToldState) (lines : List (List ℕ)) → AreTold set states → AreInOrder (map state_line states) lines → Lists set lines
-listed set states lines are in_order number texts tells =
+listed set states lines are in_order = λ number texts tells.
     let (machine, s, is) = some_machine set in
     let c = coded machine in
     let words = c.told in

@@ -47,10 +47,10 @@ fn push_flag(line: &mut String, name: &str, value: bool) -> Result<(), AllocErro
 }
 
 /// Appends a field of a phase.
-pub(crate) fn push_field(line: &mut String, field: Field) -> Result<(), AllocError>
-    ensures { OnOk result (string_bytes line.new ≡ string_bytes line.old ++ field_text (field_of field)) }
+pub(crate) fn push_field(line: &mut String, told: Field) -> Result<(), AllocError>
+    ensures { OnOk result (string_bytes line.new ≡ string_bytes line.old ++ field_text (field_of told)) }
 {
-    match field {
+    match told {
         Field::Flag(name, is) => push_flag(line, name, is),
         Field::Number(name, value) => push_optional(line, name, value),
         Field::Message(name, number) => push_optional(line, name, number.map(u64::from)),

@@ -20,7 +20,8 @@ pub fn push_transaction(
     ensures { OnOk result ((lines : List (List ℕ)) × Lists set.now lines
         × (IsAscii key.now.method → string_bytes text.new ≡ string_bytes text.old ++ transaction_text number key.now lines)) }
 {
-    let lines = lines_of(alloc, &set.told(alloc)?)?;
+    let told = set.told(alloc)?;
+    let lines = lines_of(alloc, &told)?;
     push_line(text, number, key, lines.len())?;
     push_indented(text, &lines)?;
     Ok(())

@@ -6,7 +6,7 @@ use Rattle.sip_listing.proofs.transaction.push_transaction.Goals as goal
 pub returns : goal.returns
 returns c = (
   map string_bytes c.in_ok-lines.lines.items,
-  listed c.args.set.now c.in_ok-told.result.items (map string_bytes c.in_ok-lines.lines.items) c.in_ok-told.ensures c.in_ok-lines.ensures,
+  listed c.args.set.now c.in_ok-told.told.items (map string_bytes c.in_ok-lines.lines.items) c.in_ok-told.ensures (rw c.deref.ensures.value at c.in_ok-lines.ensures),
   λ ascii.
       let said = c.in_ok-push_line.ensures ascii in
       search (rules, append_assoc, length-map),

@@ -26,11 +26,7 @@ fn push_number(line: &mut String, name: &str, value: u64) -> Result<(), AllocErr
 }
 
 /// Appends one that there may not be.
-fn push_optional(
-    line: &mut String,
-    name: &str,
-    value: Option<u64>,
-) -> Result<(), AllocError>
+fn push_optional(line: &mut String, name: &str, value: Option<u64>) -> Result<(), AllocError>
     ensures { OnOk result (string_bytes line.new ≡ string_bytes line.old ++ optional_field name.now value) }
 {
     match value {

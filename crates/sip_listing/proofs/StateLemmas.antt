@@ -4,17 +4,16 @@ use Rattle.std.specs.List.{filter_map}
 use Rattle.std.proofs.lemmas.List.Elements.{All-head, All-tail}
 use Rattle.sip_machine.specs.declared.owing.Owing.{Owing as CodeOwing}
 use Rattle.sip_machine.specs.Texts.{Texts, text_of}
-use Rattle.sip_machine.specs.Owes.{owes_names, owes_seen}
+use Rattle.sip_machine.specs.Owes.{owes_names}
 use Rattle.sip_machine.specs.Owing.{owing_seen, owing_names}
 use Rattle.sip_machine.specs.Told.{Field, Told, Flag, Number, Message, field_by, told_by, told_of, field_message, messages_told}
 use Rattle.sip_machine.specs.inner.DebtLaws.{All-front, All-back}
-use Rattle.sip_machine.specs.inner.Runs.{debts_of}
 use Rattle.sip_states.specs.KeyMachine.{coded, of_machine, to_machine}
 use Rattle.sip_states.specs.Told.{said, meant, AreToldAs, AreTold}
 use Rattle.sip_states.specs.declared.any_set.AnySet.{AnySet}
 use Rattle.sip_states.specs.declared.told.ToldState.{ToldState}
 use Rattle.sip_states.proofs.ByMachine.{some_machine, of_set}
-use Rattle.sip_listing.specs.Fields.{Tells, owes_fields}
+use Rattle.sip_listing.specs.Fields.{Tells}
 use Rattle.sip_listing.specs.State.{phase_text, owing_text}
 use Rattle.sip_listing.specs.Lines.{AreInOrder}
 use Rattle.sip_listing.specs.Transaction.{TellsSet, AreLinesOfHeld, AreLinesOfSet, Lists}

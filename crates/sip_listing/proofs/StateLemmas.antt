@@ -9,7 +9,7 @@ use Rattle.sip_machine.specs.Owing.{owing_seen, owing_names}
 use Rattle.sip_machine.specs.Told.{Field, Told, Flag, Number, Message, field_by, told_by, told_of, field_message, messages_told}
 use Rattle.sip_machine.specs.inner.DebtLaws.{All-front, All-back}
 use Rattle.sip_states.specs.KeyMachine.{coded, of_machine, to_machine}
-use Rattle.sip_states.specs.Told.{said, meant, AreToldAs, AreTold}
+use Rattle.sip_states.specs.Told.{Saying, said, meant, AreToldAs, AreTold}
 use Rattle.sip_states.specs.declared.any_set.AnySet.{AnySet}
 use Rattle.sip_states.specs.declared.told.ToldState.{ToldState}
 use Rattle.sip_states.proofs.ByMachine.{some_machine, of_set}
@@ -44,10 +44,10 @@ module _ (number : List ℕ → ℕ) (texts : Texts) where
     state_told x state says tells =
         let of_phase : Tells number texts (names x.phase) = All-front (λ name. number (text_of texts name) ≡ name) (names x.phase) (owes_names x.owes) tells in
         let of_debts : Tells number texts (owes_names x.owes) = All-back (λ name. number (text_of texts name) ≡ name) (names x.phase) (owes_names x.owes) tells in
-        let back = told_back (told_of state.phase) (subst (Tells number texts) (sym (ap (λ s. s.1.0) says)) of_phase) in
+        let back = told_back (told_of state.phase) (subst (Tells number texts) (sym (ap (λ (s : Saying). s.1.0) says)) of_phase) in
         ap₂ (λ told debts. phase_text told ++ debts)
-        (ap (told_by number) (sym (ap (λ s. s.0) says)) ∙ back)
-        (debts_told number texts x.owes of_debts ∙ ap debts_fields (sym (ap (λ s. s.1.1) says)))
+        (ap (told_by number) (sym (ap (λ (s : Saying). s.0) says)) ∙ back)
+        (debts_told number texts x.owes of_debts ∙ ap debts_fields (sym (ap (λ (s : Saying). s.1.1) says)))
 
     -- and so are those of several
     states_told : (xs : List (CodeOwing S D)) (states : List ToldState) → map (said texts) states ≡ map (meant words seen names texts) xs

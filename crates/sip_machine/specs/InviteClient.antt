@@ -1,4 +1,4 @@
-use Rattle.std.specs.Prelude.{◌≡◌, ◌≤◌, ◌*◌, ◌⊎◌, ℕ, Bool, true, false, Option, Some, None, List, [], ◌∷◌, codes, if◌then◌else◌}
+use Rattle.std.specs.Prelude.{◌≡◌, ◌≤◌, ◌*◌, ◌⊎◌, ℕ, Bool, true, false, Option, Some, None, List, [], ◌∷◌, ◌++◌, if◌then◌else◌, codes}
 use Rattle.sip_key.specs.AckOf.{AckOf}
 use Rattle.sip_machine.specs.declared.event.Method.TheVariants.{Invite, Ack, Cancel}
 use Rattle.sip_machine.specs.declared.event.Kind.{Kind}
@@ -11,9 +11,9 @@ use Rattle.sip_machine.specs.Limits.{open_at, close_at, window_at}
 use Rattle.sip_machine.specs.Texts.{Texts, text_of}
 use Rattle.sip_machine.specs.Heard.{Heard}
 use Rattle.sip_machine.specs.Retransmits.{Retransmits}
-use Rattle.sip_machine.specs.Waiting.{Waiting, waiting_closes, waiting_fields, waiting_seen, WaitingInRange}
+use Rattle.sip_machine.specs.Waiting.{Waiting, waiting_seen, WaitingInRange, waiting_fields}
 use Rattle.sip_machine.specs.Message.{IsProvisional, IsSuccess, IsUnsuccessful}
-use Rattle.sip_machine.specs.Figure.{Figure, After, keeps, gains}
+use Rattle.sip_machine.specs.Figure.{Figure, Change, keeps, gains, closes_of}
 use Rattle.sip_machine.specs.Told.{Told, Flag, Number, Message}
 use Rattle.sip_machine.specs.Transaction.{Coded}
 
@@ -21,31 +21,14 @@ use Rattle.sip_machine.specs.Transaction.{Coded}
 
 -- the phases of section 17.1.1.2 and of RFC 6026, with the one before the INVITE and the one after the end
 pub data InviteClientPhase : Type 0 where
-  Idle : InviteClientPhase
+  Idle Ended : InviteClientPhase
   Calling : Waiting → InviteClientPhase
   Proceeding : (reliable : Bool) (request : List ℕ) (cancel : Option ℕ) → InviteClientPhase
   Accepted : (set : ℕ) → InviteClientPhase
   Completed : (reliable : Bool) (request : List ℕ) (set : ℕ) → InviteClientPhase
-  Ended : InviteClientPhase
-
--- timer B, section 17.1.1.2: 64*T1 from the first INVITE on
-abbrev pub timer_b : Times → ℕ
-timer_b p = 64 * p.t1
-
--- timer D, section 17.1.1.2: at least 32 seconds over an unreliable transport, and 0 over a reliable one
-abbrev pub timer_d : ℕ
-timer_d = 32000
-
--- timer M, RFC 6026 section 7.2: 64*T1 over every transport
-abbrev pub timer_m : Times → ℕ
-timer_m p = 64 * p.t1
-
--- how long a cancelled INVITE waits for its final response at least, section 9.1: 64*T1 from the CANCEL on
-abbrev pub give_up : Times → ℕ
-give_up p = 64 * p.t1
 
 -- the rows of a received response
-abbrev pub Receives : Times → InviteClientPhase → Kind → Heard → After InviteClientPhase → Type 0
+abbrev pub Receives : Times → InviteClientPhase → Kind → Heard → InviteClientPhase × Change → Type 0
 -- 17.1.1.2: a provisional one stops timers A and B; RFC 6026: a 2xx starts timer M; 17.1.1.2: any other starts timer D, and is owed an ACK
 Receives p (Calling w) (Response code) e y =
     (IsProvisional code × (y ≡ (Proceeding w.reliable w.request None, keeps)))
@@ -59,7 +42,7 @@ Receives p (Completed reliable request set) (Response code) e y = IsUnsuccessful
 Receives p x k e y = ⊥
 
 -- the rows of a sent request
-abbrev pub Sends : Times → InviteClientPhase → Kind → Heard → After InviteClientPhase → Type 0
+abbrev pub Sends : Times → InviteClientPhase → Kind → Heard → InviteClientPhase × Change → Type 0
 -- 17.1.1.2: timers A and B start, A at T1
 Sends p Idle (Request Invite) e y =
     y ≡ (Calling (record { reliable = e.reliable; request = e.text; start = e.moment; set = e.moment; interval = p.t1 }), keeps)
@@ -89,25 +72,31 @@ ends_refused x (Request Invite) = true
 ends_refused (Completed reliable request set) (Request Ack) = true
 ends_refused x k = false
 
--- when the timers of a phase let it end: timers B and M; giving up behind a CANCEL, section 9.1; timer D, which has no last moment where it runs
+-- when the timers of a phase let it end
 abbrev pub timer_window : Times → InviteClientPhase → Option (ℕ × Option ℕ)
-timer_window p (Calling w) = window_at p w.start (timer_b p)
-timer_window p (Proceeding reliable request (Some first)) = Some (open_at p first (give_up p), None)
-timer_window p (Accepted set) = window_at p set (timer_m p)
-timer_window p (Completed reliable request set) = if reliable then window_at p set 0 else Some (open_at p set timer_d, None)
+-- timer B, section 17.1.1.2: 64*T1 from the first INVITE on
+timer_window p (Calling w) = window_at p w.start (64 * p.t1)
+-- section 9.1: a cancelled INVITE waits for its final response for 64*T1 from the CANCEL on at least
+timer_window p (Proceeding reliable request (Some first)) = Some (open_at p first (64 * p.t1), None)
+-- timer M, RFC 6026 section 7.2: 64*T1 over every transport
+timer_window p (Accepted set) = window_at p set (64 * p.t1)
+-- timer D, section 17.1.1.2: at least 32 seconds over an unreliable transport, without a last moment, and 0 over a reliable one
+timer_window p (Completed reliable request set) = if reliable then window_at p set 0 else Some (open_at p set 32000, None)
 timer_window p x = None
 
--- until when they let it last: timer B, and A over an unreliable transport; timer M; timer D over a reliable one
-abbrev pub closes : Times → InviteClientPhase → List ℕ
-closes p (Calling w) = waiting_closes p w (timer_b p)
-closes p (Accepted set) = close_at p set (timer_m p) ∷ []
-closes p (Completed reliable request set) = if reliable then close_at p set 0 ∷ [] else []
-closes p x = []
+-- by when a phase has to send: timer A, over an unreliable transport
+abbrev pub sends_by : Times → InviteClientPhase → List ℕ
+sends_by p (Calling w) = if w.reliable then [] else close_at p w.set w.interval ∷ []
+sends_by p x = []
 
 -- the figure of the INVITE client
 abbrev pub invite_client : Figure InviteClientPhase
 invite_client =
-    record { idle = Idle; ended = Ended; Receives = Receives; Sends = Sends; Satisfies = Satisfies; ends_refused = ends_refused; window = timer_window; closes = closes }
+    record { idle = Idle; ended = Ended; Receives = Receives; Sends = Sends; Satisfies = Satisfies; ends_refused = ends_refused; window = timer_window; sends_by = sends_by }
+
+-- until when its timers let a phase last
+abbrev pub closes : Times → InviteClientPhase → List ℕ
+closes p x = closes_of (timer_window p x) ++ sends_by p x
 
 -- The phases of the code, whose messages are numbers of a book.
 

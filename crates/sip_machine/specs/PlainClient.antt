@@ -1,4 +1,4 @@
-use Rattle.std.specs.Prelude.{◌≡◌, ◌≤◌, ◌*◌, ◌⊎◌, ℕ, Bool, true, Option, Some, None, List, [], ◌∷◌, codes, if◌then◌else◌, min}
+use Rattle.std.specs.Prelude.{◌≡◌, ◌≤◌, ◌*◌, ◌⊎◌, ℕ, Bool, true, Option, None, List, [], ◌∷◌, ◌++◌, if◌then◌else◌, min, Some, codes}
 use Rattle.sip_machine.specs.declared.event.Kind.{Kind}
 use Rattle.sip_machine.specs.declared.event.Kind.TheVariants.{Request, Response}
 use Rattle.sip_machine.specs.declared.plain_client.PlainClientPhase.{PlainClientPhase as CodePhase}
@@ -9,9 +9,9 @@ use Rattle.sip_machine.specs.Limits.{close_at, window_at}
 use Rattle.sip_machine.specs.Texts.{Texts}
 use Rattle.sip_machine.specs.Heard.{Heard}
 use Rattle.sip_machine.specs.Retransmits.{Retransmits}
-use Rattle.sip_machine.specs.Waiting.{Waiting, waiting_closes, waiting_fields, waiting_seen, WaitingInRange}
+use Rattle.sip_machine.specs.Waiting.{Waiting, waiting_seen, WaitingInRange, waiting_fields}
 use Rattle.sip_machine.specs.Message.{IsProvisional, IsFinal}
-use Rattle.sip_machine.specs.Figure.{Figure, After, keeps}
+use Rattle.sip_machine.specs.Figure.{Figure, Change, keeps, closes_of}
 use Rattle.sip_machine.specs.Told.{Told, Flag, Number}
 use Rattle.sip_machine.specs.Transaction.{Coded}
 
@@ -19,29 +19,19 @@ use Rattle.sip_machine.specs.Transaction.{Coded}
 
 -- the phases of section 17.1.2.2, with the one before the request and the one after the end
 pub data PlainClientPhase : Type 0 where
-  Idle : PlainClientPhase
-  Trying : Waiting → PlainClientPhase
-  Proceeding : Waiting → PlainClientPhase
+  Idle Ended : PlainClientPhase
+  Trying Proceeding : Waiting → PlainClientPhase
   Completed : (reliable : Bool) (set : ℕ) → PlainClientPhase
-  Ended : PlainClientPhase
-
--- timer F, section 17.1.2.2: 64*T1 from the first request on
-abbrev pub timer_f : Times → ℕ
-timer_f p = 64 * p.t1
-
--- timer K, section 17.1.2.2: T4 over an unreliable transport, 0 over a reliable one
-abbrev pub timer_k : Times → Bool → ℕ
-timer_k p reliable = if reliable then 0 else p.t4
 
 -- the rows of a received response: a provisional one leaves timer E as it is, and a final one starts timer K
-abbrev pub Receives : Times → PlainClientPhase → Kind → Heard → After PlainClientPhase → Type 0
+abbrev pub Receives : Times → PlainClientPhase → Kind → Heard → PlainClientPhase × Change → Type 0
 Receives p (Trying w) (Response code) e y =
     (IsProvisional code × (y ≡ (Proceeding w, keeps))) ⊎ (IsFinal code × (y ≡ (Completed w.reliable e.moment, keeps)))
 Receives p (Proceeding w) (Response code) e y = IsFinal code × (y ≡ (Completed w.reliable e.moment, keeps))
 Receives p x k e y = ⊥
 
 -- the rows of a sent request: timers E and F start, E at T1; E fires, and starts again at twice its interval up to T2, in proceeding at T2
-abbrev pub Sends : Times → PlainClientPhase → Kind → Heard → After PlainClientPhase → Type 0
+abbrev pub Sends : Times → PlainClientPhase → Kind → Heard → PlainClientPhase × Change → Type 0
 Sends p Idle (Request method) e y =
     y ≡ (Trying (record { reliable = e.reliable; request = e.text; start = e.moment; set = e.moment; interval = p.t1 }), keeps)
 Sends p (Trying w) (Request method) e y =
@@ -50,24 +40,28 @@ Sends p (Proceeding w) (Request method) e y =
     Retransmits p w.reliable w.request w.set w.interval e × (y ≡ (Proceeding (record w { set = e.moment; interval = p.t2 }), keeps))
 Sends p x k e y = ⊥
 
--- when the timers of a phase let it end: timers F and K
+-- when the timers of a phase let it end, section 17.1.2.2: timer F, 64*T1 from the first request on; timer K, T4 over an unreliable transport, 0 over
+-- a reliable one
 abbrev pub timer_window : Times → PlainClientPhase → Option (ℕ × Option ℕ)
-timer_window p (Trying w) = window_at p w.start (timer_f p)
-timer_window p (Proceeding w) = window_at p w.start (timer_f p)
-timer_window p (Completed reliable set) = window_at p set (timer_k p reliable)
+timer_window p (Trying w) = window_at p w.start (64 * p.t1)
+timer_window p (Proceeding w) = window_at p w.start (64 * p.t1)
+timer_window p (Completed reliable set) = window_at p set (if reliable then 0 else p.t4)
 timer_window p x = None
 
--- until when they let it last: timer F, and E over an unreliable transport; timer K
-abbrev pub closes : Times → PlainClientPhase → List ℕ
-closes p (Trying w) = waiting_closes p w (timer_f p)
-closes p (Proceeding w) = waiting_closes p w (timer_f p)
-closes p (Completed reliable set) = close_at p set (timer_k p reliable) ∷ []
-closes p x = []
+-- by when a phase has to send: timer E, over an unreliable transport
+abbrev pub sends_by : Times → PlainClientPhase → List ℕ
+sends_by p (Trying w) = if w.reliable then [] else close_at p w.set w.interval ∷ []
+sends_by p (Proceeding w) = if w.reliable then [] else close_at p w.set w.interval ∷ []
+sends_by p x = []
 
 -- the figure of the non-INVITE client: it owes nothing, and a refused request ends it, section 17.1.4
 abbrev pub plain_client : Figure PlainClientPhase
 plain_client =
-    record { idle = Idle; ended = Ended; Receives = Receives; Sends = Sends; Satisfies = λ x k e message. ⊥; ends_refused = λ x k. true; window = timer_window; closes = closes }
+    record { idle = Idle; ended = Ended; Receives = Receives; Sends = Sends; Satisfies = λ x k e message. ⊥; ends_refused = λ x k. true; window = timer_window; sends_by = sends_by }
+
+-- until when its timers let a phase last
+abbrev pub closes : Times → PlainClientPhase → List ℕ
+closes p x = closes_of (timer_window p x) ++ sends_by p x
 
 -- The phases of the code, whose messages are numbers of a book.
 

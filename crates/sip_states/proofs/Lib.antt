@@ -8,6 +8,7 @@ pub mod Following
 pub mod Listed
 pub mod Reaching
 pub mod RunLemmas
+pub mod StandsLemmas
 pub mod Stepping
 pub mod TablesLemmas
 pub mod Taking

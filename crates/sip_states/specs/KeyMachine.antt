@@ -24,10 +24,7 @@ use Rattle.sip_states.specs.declared.any_set.AnySet.TheVariants.{InviteClient, P
 
 -- the machines of section 17
 pub data MachineKind : Type 0 where
-  OfInviteClient : MachineKind
-  OfPlainClient : MachineKind
-  OfInviteServer : MachineKind
-  OfPlainServer : MachineKind
+  OfInviteClient OfPlainClient OfInviteServer OfPlainServer : MachineKind
 
 -- the machine of a role, for the method INVITE or any other
 abbrev pub machine_of : Role → Bool → MachineKind

@@ -1,4 +1,5 @@
 pub mod Runs
+pub mod Stands
 pub mod Held
 pub mod inner
 pub mod KeyMachine

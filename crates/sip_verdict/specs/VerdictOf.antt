@@ -4,8 +4,9 @@ use Rattle.std.specs.List.{list_any}
 use Rattle.sip_key.specs.Key.{KeyParts, same_key}
 use Rattle.sip_machine.specs.Times.{Times}
 use Rattle.sip_machine.specs.Heard.{Heard}
-use Rattle.sip_states.specs.KeyMachine.{machine_of_key, PhaseOf, rules_of}
-use Rattle.sip_states.specs.Runs.{Run, After}
+use Rattle.sip_machine.specs.Figure.{Owing}
+use Rattle.sip_states.specs.KeyMachine.{machine_of_key, transaction}
+use Rattle.sip_states.specs.Stands.{Stands, StandsBehind}
 use Rattle.sip_log.specs.Spelling.{Item}
 use Rattle.sip_log.specs.Log.{LogEnd, Clean, Stops}
 use Rattle.sip_log.specs.LogSays.{LogSays, LacksHeader}
@@ -31,14 +32,16 @@ events_for key es = map (λ e. e.event) (filter (λ e. list_any (same_key key) e
 -- the key has a run over the entries, by the machine of its role and method (RFC 3261 section 17), which waits until the newest
 abbrev pub RunsOver : Times → List (Observation KeyParts) → KeyParts → Type 0
 RunsOver p es key =
-    (y : PhaseOf (machine_of_key key)) × Run (rules_of p (machine_of_key key)) (events_for key es) (fold (λ moment e. e.event.moment) 0 es) y
+    let key_machine = transaction (machine_of_key key) in
+    (y : Owing key_machine.Phase) × Stands key_machine.figure p (events_for key es) (fold (λ moment e. e.event.moment) 0 es) y
 
 -- the entry behind these concerns the key, and its runs that end with the entry's step can stand in more than 1,024 states
 abbrev pub IsWideAt : Times → List (Observation KeyParts) → Observation KeyParts → KeyParts → Type 0
 IsWideAt p front e key =
+    let key_machine = transaction (machine_of_key key) in
     (list_any (same_key key) e.keys ≡ true)
-    × ((many : List (PhaseOf (machine_of_key key))) × AllPairs (λ x y. x ≢ y) many × (1024 < length many)
-    × All (After (rules_of p (machine_of_key key)) (events_for key front) e.event) many)
+    × ((many : List (Owing key_machine.Phase)) × AllPairs (λ x y. x ≢ y) many × (1024 < length many)
+    × All (StandsBehind key_machine.figure p (events_for key front) e.event) many)
 
 -- the number, from 1, of the first key of which P holds
 abbrev pub IsFirstKey : (KeyParts → Type 0) → List KeyParts → ℕ → Type 0

@@ -1,4 +1,4 @@
-use Rattle.std.specs.Prelude.{◌≡◌, ◌≤◌, ◌*◌, ℕ, Bool, true, false, None, [], ◌∷◌, All, Contains, map, if◌then◌else◌}
+use Rattle.std.specs.Prelude.{◌≡◌, ◌≤◌, ◌*◌, ℕ, Bool, true, false, None, Some, [], ◌∷◌, ◌++◌, All, Contains, map, if◌then◌else◌}
 use Rattle.std.proofs.Common.{refl, ap, inl, inr, arith}
 use Rattle.std.proofs.lemmas.Bool.Decides.{nat_tests}
 use Rattle.std.proofs.lemmas.List.Elements.{All-nil}
@@ -9,12 +9,12 @@ use Rattle.sip_machine.specs.declared.invite_client.InviteClientPhase.{InviteCli
 use Rattle.sip_machine.specs.declared.invite_client.InviteClientPhase.TheVariants as code
 use Rattle.sip_machine.specs.contracts.invite_client.InviteClientPhasePartialEq.TheImpl as derived
 use Rattle.sip_machine.specs.Times.{Times}
-use Rattle.sip_machine.specs.Limits.{close_at}
+use Rattle.sip_machine.specs.Limits.{open_at, close_at, window_at}
 use Rattle.sip_machine.specs.Texts.{Texts, IsBook, text_of}
 use Rattle.sip_machine.specs.Heard.{Heard}
 use Rattle.sip_machine.specs.Rules.{Knows}
-use Rattle.sip_machine.specs.Figure.{IsFigure, After}
-use Rattle.sip_machine.specs.InviteClient.{InviteClientPhase, Idle, Calling, Proceeding, Completed, Receives, Sends, closes, timer_window, timer_b, timer_m, invite_client, invite_client_told, invite_client_seen, invite_client_names, invite_client_coded}
+use Rattle.sip_machine.specs.Figure.{IsFigure, After, closes_of}
+use Rattle.sip_machine.specs.InviteClient.{InviteClientPhase, Idle, Calling, Proceeding, Completed, Receives, Sends, closes, timer_window, invite_client, invite_client_seen, invite_client_names, invite_client_coded, invite_client_told}
 use Rattle.sip_machine.specs.Told.{messages_told}
 use Rattle.sip_machine.specs.inner.Coded.{IsCoded}
 use Rattle.sip_machine.specs.inner.MessageLaws.{option_exact, message_apart}
@@ -71,7 +71,7 @@ invite_client_closes_same a b p code.Idle = refl
 invite_client_closes_same a b p x = refl
 
 -- timer D, where it has to fire, is not past as it starts
-timer_d_starts : (p : Times) (reliable : Bool) (t : ℕ) → All (λ m. t ≤ m) (if reliable then close_at p t 0 ∷ [] else [])
+timer_d_starts : (p : Times) (reliable : Bool) (t : ℕ) → All (λ m. t ≤ m) (closes_of (if reliable then window_at p t 0 else Some (open_at p t 32000, None)) ++ [])
 timer_d_starts p true t = timer_starts p t 0
 timer_d_starts p false t = All-nil (λ m. t ≤ m)
 
@@ -79,19 +79,19 @@ timer_d_starts p false t = All-nil (λ m. t ≤ m)
 received : (p : Times) (x : InviteClientPhase) (k : Kind) (e : Heard) (y : After InviteClientPhase) → All (λ m. e.moment ≤ m) (closes p x) →
     Receives p x k e y → All (λ m. e.moment ≤ m) (closes p y.0)
 received p (Calling w) (Response code) e y running (inl provisional) = rw provisional.1 (All-nil (λ m. e.moment ≤ m))
-received p (Calling w) (Response code) e y running (inr (inl success)) = rw success.1 (timer_starts p e.moment (timer_m p))
+received p (Calling w) (Response code) e y running (inr (inl success)) = rw success.1 (timer_starts p e.moment (64 * p.t1))
 received p (Calling w) (Response code) e y running (inr (inr unsuccessful)) = rw unsuccessful.1 (timer_d_starts p w.reliable e.moment)
-received p (Proceeding reliable request cancel) (Response code) e y running (inl success) = rw success.1 (timer_starts p e.moment (timer_m p))
+received p (Proceeding reliable request cancel) (Response code) e y running (inl success) = rw success.1 (timer_starts p e.moment (64 * p.t1))
 received p (Proceeding reliable request cancel) (Response code) e y running (inr unsuccessful) = rw unsuccessful.1 (timer_d_starts p reliable e.moment)
 received p (Completed reliable request set) (Response code) e y running h = rw h.1 running
 received p x k e y running h = absurd h
 
 sent : (p : Times) (x : InviteClientPhase) (k : Kind) (e : Heard) (y : After InviteClientPhase) → All (λ m. e.moment ≤ m) (closes p x) →
     Sends p x k e y → All (λ m. e.moment ≤ m) (closes p y.0)
-sent p Idle (Request Invite) e y running h = rw h (repeat_starts p e.moment (close_at p e.moment (timer_b p)) p.t1 e.reliable (omega arith))
+sent p Idle (Request Invite) e y running h = rw h (repeat_starts p e.moment (close_at p e.moment (64 * p.t1)) p.t1 e.reliable (omega arith))
 sent p Idle (Request Ack) e y running h = rw h running
 sent p (Calling w) (Request Invite) e y running h =
-    rw h.1 (repeat_starts p e.moment (close_at p w.start (timer_b p)) (2 * w.interval) w.reliable (patience_lasts p w e.moment (timer_b p) running))
+    rw h.1 (repeat_starts p e.moment (close_at p w.start (64 * p.t1)) (2 * w.interval) w.reliable (patience_lasts p w e.moment (64 * p.t1) running))
 sent p (Calling w) (Request Cancel) e y running h = absurd h
 sent p (Proceeding reliable request None) (Request Cancel) e y running h = rw h running
 sent p x (Request Cancel) e y running h = rw h running

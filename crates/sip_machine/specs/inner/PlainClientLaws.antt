@@ -1,4 +1,4 @@
-use Rattle.std.specs.Prelude.{◌≡◌, ◌≤◌, ◌*◌, ℕ, true, All, Contains, map, min}
+use Rattle.std.specs.Prelude.{◌≡◌, ◌≤◌, ◌*◌, ℕ, true, All, Contains, map, min, if◌then◌else◌}
 use Rattle.std.proofs.Common.{refl, ap, inl, inr, arith}
 use Rattle.std.proofs.lemmas.Bool.Decides.{nat_tests}
 use Rattle.sip_machine.specs.declared.event.Kind.{Kind}
@@ -12,7 +12,7 @@ use Rattle.sip_machine.specs.Texts.{Texts, IsBook, text_of}
 use Rattle.sip_machine.specs.Heard.{Heard}
 use Rattle.sip_machine.specs.Rules.{Knows}
 use Rattle.sip_machine.specs.Figure.{IsFigure, After}
-use Rattle.sip_machine.specs.PlainClient.{PlainClientPhase, Idle, Trying, Proceeding, Receives, Sends, closes, timer_window, timer_f, timer_k, plain_client, plain_client_told, plain_client_seen, plain_client_names, plain_client_coded}
+use Rattle.sip_machine.specs.PlainClient.{PlainClientPhase, Idle, Trying, Proceeding, Receives, Sends, closes, timer_window, plain_client, plain_client_seen, plain_client_names, plain_client_coded, plain_client_told}
 use Rattle.sip_machine.specs.Told.{messages_told}
 use Rattle.sip_machine.specs.inner.Coded.{IsCoded}
 use Rattle.sip_machine.specs.inner.WaitingLaws.{waiting_exact, waiting_apart, waiting_by_names, timer_starts, repeat_starts, patience_lasts}
@@ -61,17 +61,17 @@ plain_client_closes_same a b p x = refl
 received : (p : Times) (x : PlainClientPhase) (k : Kind) (e : Heard) (y : After PlainClientPhase) → All (λ m. e.moment ≤ m) (closes p x) →
     Receives p x k e y → All (λ m. e.moment ≤ m) (closes p y.0)
 received p (Trying w) (Response code) e y running h =
-    elim h [ inl provisional ↦ rw provisional.1 running | inr final ↦ rw final.1 (timer_starts p e.moment (timer_k p w.reliable)) ]
-received p (Proceeding w) (Response code) e y running h = rw h.1 (timer_starts p e.moment (timer_k p w.reliable))
+    elim h [ inl provisional ↦ rw provisional.1 running | inr final ↦ rw final.1 (timer_starts p e.moment (if w.reliable then 0 else p.t4)) ]
+received p (Proceeding w) (Response code) e y running h = rw h.1 (timer_starts p e.moment (if w.reliable then 0 else p.t4))
 received p x k e y running h = absurd h
 
 sent : (p : Times) (x : PlainClientPhase) (k : Kind) (e : Heard) (y : After PlainClientPhase) → All (λ m. e.moment ≤ m) (closes p x) →
     Sends p x k e y → All (λ m. e.moment ≤ m) (closes p y.0)
-sent p Idle (Request method) e y running h = rw h (repeat_starts p e.moment (close_at p e.moment (timer_f p)) p.t1 e.reliable (omega arith))
+sent p Idle (Request method) e y running h = rw h (repeat_starts p e.moment (close_at p e.moment (64 * p.t1)) p.t1 e.reliable (omega arith))
 sent p (Trying w) (Request method) e y running h =
-    rw h.1 (repeat_starts p e.moment (close_at p w.start (timer_f p)) (min (2 * w.interval) p.t2) w.reliable (patience_lasts p w e.moment (timer_f p) running))
+    rw h.1 (repeat_starts p e.moment (close_at p w.start (64 * p.t1)) (min (2 * w.interval) p.t2) w.reliable (patience_lasts p w e.moment (64 * p.t1) running))
 sent p (Proceeding w) (Request method) e y running h =
-    rw h.1 (repeat_starts p e.moment (close_at p w.start (timer_f p)) p.t2 w.reliable (patience_lasts p w e.moment (timer_f p) running))
+    rw h.1 (repeat_starts p e.moment (close_at p w.start (64 * p.t1)) p.t2 w.reliable (patience_lasts p w e.moment (64 * p.t1) running))
 sent p x k e y running h = absurd h
 
 pub plain_client_is_figure : IsFigure plain_client

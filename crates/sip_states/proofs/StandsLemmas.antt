@@ -25,18 +25,18 @@ closes-within h (Some (from, Some to)) = (λ all. All-head (λ m. h ≤ m) to []
 
 -- an open window that has not closed
 open-within : (h : ℕ) (window : Option (ℕ × Option ℕ)) → IsSomeAnd window (λ w. w.0 ≤ h) → IfSome window (λ w. IfSome w.1 (λ close. h ≤ close)) → IsOpenAt h window
-open-within h None open low = open
-open-within h (Some (from, None)) open low = (open, tt)
-open-within h (Some (from, Some to)) open low = (open, low)
+open-within h None opening low = opening
+open-within h (Some (from, None)) opening low = (opening, tt)
+open-within h (Some (from, Some to)) opening low = (opening, low)
 
-within-open : (h : ℕ) (window : Option (ℕ × Option ℕ)) → IsOpenAt h window → IsSomeAnd window (λ w. w.0 ≤ h)
-within-open h None open = open
-within-open h (Some (from, to)) open = open.0
+within-opening : (h : ℕ) (window : Option (ℕ × Option ℕ)) → IsOpenAt h window → IsSomeAnd window (λ w. w.0 ≤ h)
+within-opening h None opening = opening
+within-opening h (Some (from, to)) opening = opening.0
 
 -- a window that opens where nothing has to be sent
 open-owed : (h : ℕ) (owed : Bool) (window : Option (ℕ × Option ℕ)) → IsOpenAt h (if owed then None else window) → (owed ≡ false) × IsOpenAt h window
-open-owed h true window open = absurd open
-open-owed h false window open = (refl, open)
+open-owed h true window opening = absurd opening
+open-owed h false window opening = (refl, opening)
 
 module _ {X : Type 0} (f : Figure X) (is : IsFigure f) (p : Times) where
   -- a state lasts as long as it waits

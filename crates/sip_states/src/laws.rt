@@ -6,18 +6,27 @@ ghost use Rattle.sip_machine.specs.declared.event.Method.TheVariants.{Invite, Ac
 ghost use Rattle.sip_machine.specs.declared.event.Method.{Method};
 ghost use Rattle.sip_machine.specs.Figure.{Owing};
 ghost use Rattle.sip_machine.specs.Heard.{Heard};
-ghost use Rattle.sip_machine.specs.InviteClient.{InviteClientPhase};
-ghost use Rattle.sip_machine.specs.InviteServer.{InviteServerPhase};
+ghost use Rattle.sip_machine.specs.InviteClient.{InviteClientPhase, invite_client};
+ghost use Rattle.sip_machine.specs.InviteServer.{InviteServerPhase, invite_server};
 ghost use Rattle.sip_machine.specs.Limits.{open_at};
 ghost use Rattle.sip_machine.specs.Message.{IsFinal};
-ghost use Rattle.sip_machine.specs.PlainClient.{PlainClientPhase};
-ghost use Rattle.sip_machine.specs.PlainServer.{PlainServerPhase};
+ghost use Rattle.sip_machine.specs.PlainClient.{PlainClientPhase, plain_client};
+ghost use Rattle.sip_machine.specs.PlainServer.{PlainServerPhase, plain_server};
 ghost use Rattle.sip_machine.specs.Times.{Times};
-ghost use Rattle.sip_states.specs.KeyMachine.{rules_of, OfInviteClient, OfPlainClient, OfInviteServer, OfPlainServer};
+ghost use Rattle.sip_states.specs.KeyMachine.{MachineKind, PhaseOf, transaction, rules_of};
 ghost use Rattle.sip_states.specs.Runs.{Wait, Gives, Run, After};
+ghost use Rattle.sip_states.specs.Stands.{Stands, StandsBehind};
 ghost use Rattle.sip_times.specs.declared.action.Action.TheVariants.{Sent, Received};
 
 use sip_machine::Machine;
+
+/// A run by the rules of a machine is one in the words of the standard, and an event leads from it to the same states.
+pub fn a_run_by_rules_stands()
+    ensures stands { (p : Times) (machine : MachineKind) (events : List Heard) (m : ℕ) (y : PhaseOf machine) →
+        Run (rules_of p machine) events m y ↔ Stands (transaction machine).figure p events m y }
+    ensures behind { (p : Times) (machine : MachineKind) (events : List Heard) (e : Heard) (y : PhaseOf machine) →
+        After (rules_of p machine) events e y ↔ StandsBehind (transaction machine).figure p events e y }
+{}
 
 /// One wait or two lead to the same states.
 pub fn in_one_wait_or_two<M: Machine>(_machine: &M)
@@ -46,24 +55,24 @@ pub fn a_run_holds_one_over_fewer_events<M: Machine>(_machine: &M)
 pub fn behind_a_final_response_a_client_sends_no_request()
     ensures invite { (p : Times) (before between behind : List Heard) (request final e : Heard) (code : ℕ) (y : Owing InviteClientPhase) →
         request.action ≡ Sent → request.kind ≡ Request Invite → final.action ≡ Received → final.kind ≡ Response code → IsFinal code → e.action ≡ Sent →
-        After (rules_of p OfInviteClient) (before ++ request ∷ (between ++ final ∷ behind)) e y → (e.kind ≡ Request Ack) ⊎ (e.kind ≡ Request Cancel) }
+        StandsBehind invite_client p (before ++ request ∷ (between ++ final ∷ behind)) e y → (e.kind ≡ Request Ack) ⊎ (e.kind ≡ Request Cancel) }
     ensures plain { (p : Times) (before between behind : List Heard) (request final e : Heard) (code : ℕ) (y : Owing PlainClientPhase) →
         request.action ≡ Sent → (method : Method) × (request.kind ≡ Request method) → final.action ≡ Received → final.kind ≡ Response code → IsFinal code →
-        e.action ≡ Sent → After (rules_of p OfPlainClient) (before ++ request ∷ (between ++ final ∷ behind)) e y → ⊥ }
+        e.action ≡ Sent → StandsBehind plain_client p (before ++ request ∷ (between ++ final ∷ behind)) e y → ⊥ }
 {}
 
 /// The INVITE with which a client begins is sent again byte for byte, over an unreliable transport alone, and T1 later at the earliest,
 /// the tolerance aside (section 17.1.1.2).
 pub fn an_invite_is_sent_again_after_t1()
     ensures { (p : Times) (first : Heard) (between : List Heard) (e : Heard) (y : Owing InviteClientPhase) → first.action ≡ Sent → first.kind ≡ Request Invite →
-        e.action ≡ Sent → e.kind ≡ Request Invite → After (rules_of p OfInviteClient) (first ∷ between) e y →
+        e.action ≡ Sent → e.kind ≡ Request Invite → StandsBehind invite_client p (first ∷ between) e y →
         (e.text ≡ first.text) × (first.reliable ≡ false) × (open_at p first.moment p.t1 ≤ e.moment) }
 {}
 
 /// A server sends nothing before a request came in (section 17.2).
 pub fn a_server_sends_when_it_was_asked()
-    ensures invite { (p : Times) (events : List Heard) (e : Heard) (y : Owing InviteServerPhase) → After (rules_of p OfInviteServer) events e y → e.action ≡ Sent →
+    ensures invite { (p : Times) (events : List Heard) (e : Heard) (y : Owing InviteServerPhase) → StandsBehind invite_server p events e y → e.action ≡ Sent →
         Any (λ f. (f.action ≡ Received) × ((method : Method) × (f.kind ≡ Request method))) events }
-    ensures plain { (p : Times) (events : List Heard) (e : Heard) (y : Owing PlainServerPhase) → After (rules_of p OfPlainServer) events e y → e.action ≡ Sent →
+    ensures plain { (p : Times) (events : List Heard) (e : Heard) (y : Owing PlainServerPhase) → StandsBehind plain_server p events e y → e.action ≡ Sent →
         Any (λ f. (f.action ≡ Received) × ((method : Method) × (f.kind ≡ Request method))) events }
 {}

@@ -75,8 +75,8 @@ module _ (p : Times) (front : List (Observation KeyParts)) (e : Observation KeyP
   trouble-has : (v : Verdict) → HasTrouble p front e v → IsTrouble (key_machines p) front e v
   trouble-has (Legal entries transactions) is = is
   trouble-has (Malformed entry fault) is = is
-  trouble-has (Breach entry transaction) (at, formed, first) = (at, formed, key-first (λ key. ¬ HasRun (key_machines p) key (front ++ e ∷ [])) (λ key. ¬ (RunsOver p (front ++ e ∷ []) key))
-      (λ k none over. none (over-run p (front ++ e ∷ []) k over)) (λ k none run. none (run-over p (front ++ e ∷ []) k run)) _ transaction first)
+  trouble-has (Breach entry transaction) (at, formed, first) = (at, formed, key-first (λ key. ¬ (RunsOver p (front ++ e ∷ []) key)) (λ key. ¬ HasRun (key_machines p) key (front ++ e ∷ []))
+      (λ k none run. none (run-over p (front ++ e ∷ []) k run)) (λ k none over. none (over-run p (front ++ e ∷ []) k over)) _ transaction first)
   trouble-has (Undecided entry transaction) (at, formed, runs, first) =
       (at, formed, All-weaker (RunsOver p (front ++ e ∷ [])) (λ key. HasRun (key_machines p) key (front ++ e ∷ [])) (over-run p (front ++ e ∷ [])) _ runs, key-first _ _ at-wide wide-at _ transaction first)
   trouble-has (LogFault entry reason) is = is

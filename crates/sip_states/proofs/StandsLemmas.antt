@@ -29,9 +29,9 @@ open-within h None opening low = opening
 open-within h (Some (from, None)) opening low = (opening, tt)
 open-within h (Some (from, Some to)) opening low = (opening, low)
 
-within-opening : (h : ℕ) (window : Option (ℕ × Option ℕ)) → IsOpenAt h window → IsSomeAnd window (λ w. w.0 ≤ h)
-within-opening h None opening = opening
-within-opening h (Some (from, to)) opening = opening.0
+within-open : (h : ℕ) (window : Option (ℕ × Option ℕ)) → IsOpenAt h window → IsSomeAnd window (λ w. w.0 ≤ h)
+within-open h None opening = opening
+within-open h (Some (from, to)) opening = opening.0
 
 -- a window that opens where nothing has to be sent
 open-owed : (h : ℕ) (owed : Bool) (window : Option (ℕ × Option ℕ)) → IsOpenAt h (if owed then None else window) → (owed ≡ false) × IsOpenAt h window

@@ -1,19 +1,18 @@
 -- A run in the words of the standard is one by the rules of its figure.
-use Rattle.std.proofs.Common.{◌≡◌, ◌≤◌, ◌↔◌, ℕ, Option, Some, None, IfSome, IsSomeAnd, Bool, true, false, List, [], ◌∷◌, ◌++◌, All, if◌then◌else◌, refl, sym, ◌∙◌, ap, subst}
+use Rattle.std.proofs.Common.{◌≡◌, ◌≤◌, ◌↔◌, ℕ, Option, Some, None, IfSome, IsSomeAnd, Bool, true, false, List, [], ◌∷◌, ◌++◌, All, if◌then◌else◌, refl, sym, ◌∙◌, subst, arith}
 use Rattle.std.specs.List.{list_any}
 use Rattle.std.proofs.lemmas.List.{append_assoc, append-nil}
 use Rattle.std.proofs.lemmas.List.Elements.{All-head, All-nil, All-cons, All-append}
 use Rattle.sip_machine.specs.Times.{Times}
 use Rattle.sip_machine.specs.Limits.{IsWithin, IsOpenAt}
 use Rattle.sip_machine.specs.Heard.{Heard}
-use Rattle.sip_machine.specs.Rules.{Rules, IsLawful, Waits, Hide}
-use Rattle.sip_machine.specs.Debts.{Owed, unless_owed}
-use Rattle.sip_machine.specs.Figure.{Figure, IsFigure, Owing, quiet, Takes as TakesEvent, Lasts, MayEnd, closes_of, closes_at, rules_of}
+use Rattle.sip_machine.specs.Rules.{Waits, Hide}
+use Rattle.sip_machine.specs.Figure.{Figure, IsFigure, Owing, quiet, Lasts, MayEnd, closes_of, closes_at, rules_of}
 use Rattle.sip_machine.specs.inner.DebtLaws.{All-front, All-back}
-use Rattle.sip_machine.specs.inner.OwesLaws.{AreDue, IsWithin-owed}
+use Rattle.sip_machine.specs.inner.OwesLaws.{IsWithin-owed}
 use Rattle.sip_machine.specs.inner.FigureLaws.{rules_lawful}
 use Rattle.sip_states.specs.Stands.{Stands, begins, waits, ends, takes, StandsBehind}
-use Rattle.sip_states.specs.Runs.{Step, Hides, Takes, moment_of_step, Goes, Reaches, taken, Wait, Gives, Run, After}
+use Rattle.sip_states.specs.Runs.{Step, Hides, Takes, Goes, taken, Run, After}
 use Rattle.sip_states.proofs.Waiting.{IsWithin-none, Wait-stay}
 use Rattle.sip_states.proofs.RunLemmas.{taken-append, Goes-push, Run-wait, After-run}
 

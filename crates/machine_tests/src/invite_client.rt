@@ -1,6 +1,6 @@
 //! The INVITE client, with moments worked out by hand for T1 500 and a tolerance of 50.
 ghost use Rattle.std.specs.Prelude.{All, IfOk};
-ghost use Rattle.sip_machine.specs.Heard.{FitsBook};
+ghost use Rattle.sip_machine.specs.MachineEvent.{FitsBook};
 ghost use Rattle.sip_machine.specs.Rules.{Knows};
 ghost use Rattle.sip_machine.specs.Owing.{owing_names, OwingInRange};
 ghost use Rattle.sip_machine.specs.InviteClient.{invite_client_names, InviteClientInRange};

@@ -1,6 +1,6 @@
 //! The non-INVITE client, with moments worked out by hand for T1 500, T2 4000, T4 5000 and a tolerance of 50.
 ghost use Rattle.std.specs.Prelude.{◌≡◌, false, All, IfOk};
-ghost use Rattle.sip_machine.specs.Heard.{FitsBook};
+ghost use Rattle.sip_machine.specs.MachineEvent.{FitsBook};
 ghost use Rattle.sip_machine.specs.Rules.{Knows};
 ghost use Rattle.sip_machine.specs.Owing.{owing_names, OwingInRange};
 ghost use Rattle.sip_machine.specs.PlainClient.{plain_client_names, PlainClientInRange};

@@ -6,10 +6,10 @@ use Rattle.sip_machine.specs.declared.owing.Owing.{Owing as CodeOwing}
 use Rattle.sip_machine.specs.Texts.{Texts, text_of}
 use Rattle.sip_machine.specs.Owes.{owes_names}
 use Rattle.sip_machine.specs.Owing.{owing_seen, owing_names}
-use Rattle.sip_machine.specs.Told.{Field, Told, Flag, Number, Message, field_by, told_by, told_of, field_message, messages_told}
+use Rattle.sip_machine.specs.Told.{ToldField, Told, Flag, Number, Message, field_by, told_by, told_of, field_message, messages_told}
 use Rattle.sip_machine.specs.inner.DebtLaws.{All-front, All-back}
-use Rattle.sip_states.specs.KeyMachine.{coded, of_machine, to_machine}
-use Rattle.sip_states.specs.Told.{Saying, said, meant, AreToldAs, AreTold}
+use Rattle.sip_states.specs.KeyMachine.{coded_of, of_machine, to_machine}
+use Rattle.sip_states.specs.Told.{Saying, said_state, meant, AreToldAs, AreTold}
 use Rattle.sip_states.specs.declared.any_set.AnySet.{AnySet}
 use Rattle.sip_states.specs.declared.told.ToldState.{ToldState}
 use Rattle.sip_states.proofs.ByMachine.{some_machine, of_set}
@@ -20,12 +20,12 @@ use Rattle.sip_listing.specs.Transaction.{TellsSet, AreLinesOfHeld, AreLinesOfSe
 use Rattle.sip_listing.specs.inner.FieldLaws.{debts_fields, debts_told, first_told, others_told}
 use Rattle.sip_listing.specs.inner.StateLine.{state_line}
 
-abbrev telling : List ℕ → List (Field ℕ) → Told ℕ
+abbrev telling : List ℕ → List (ToldField ℕ) → Told ℕ
 telling name fields = record { name = name; fields = fields }
 
 module _ (number : List ℕ → ℕ) (texts : Texts) where
   -- messages that are told by their numbers in the book are those numbers again
-  fields_back : (fields : List (Field ℕ)) → Tells number texts (filter_map field_message fields) → map (field_by number) (map (field_by (text_of texts)) fields) ≡ fields
+  fields_back : (fields : List (ToldField ℕ)) → Tells number texts (filter_map field_message fields) → map (field_by number) (map (field_by (text_of texts)) fields) ≡ fields
   fields_back [] tells = refl
   fields_back (Flag name is ∷ fields) tells = ap (λ more. Flag name is ∷ more) (fields_back fields tells)
   fields_back (Number name value ∷ fields) tells = ap (λ more. Number name value ∷ more) (fields_back fields tells)
@@ -39,7 +39,7 @@ module _ (number : List ℕ → ℕ) (texts : Texts) where
 
   module _ {S D X : Type 0} (words : X → Told (List ℕ)) (seen : Texts → S → X) (names : S → List ℕ) where
     -- the text of a state is that of the words that tell it
-    state_told : (x : CodeOwing S D) (state : ToldState) → said texts state ≡ meant words seen names texts x → Tells number texts (owing_names names x)
+    state_told : (x : CodeOwing S D) (state : ToldState) → said_state texts state ≡ meant words seen names texts x → Tells number texts (owing_names names x)
         → owing_text words number (owing_seen seen texts x) ≡ state_line state
     state_told x state says tells =
         let of_phase : Tells number texts (names x.phase) = All-front (λ name. number (text_of texts name) ≡ name) (names x.phase) (owes_names x.owes) tells in
@@ -50,14 +50,14 @@ module _ (number : List ℕ → ℕ) (texts : Texts) where
         (debts_told number texts x.owes of_debts ∙ ap debts_fields (sym (ap (λ (s : Saying). s.1.1) says)))
 
     -- and so are those of several
-    states_told : (xs : List (CodeOwing S D)) (states : List ToldState) → map (said texts) states ≡ map (meant words seen names texts) xs
+    states_told : (xs : List (CodeOwing S D)) (states : List ToldState) → map (said_state texts) states ≡ map (meant words seen names texts) xs
         → All (λ x. Tells number texts (owing_names names x)) xs → map (λ x. owing_text words number (owing_seen seen texts x)) xs ≡ map state_line states
     states_told [] [] are tells = refl
     states_told [] (state ∷ states) are tells = absurd (cc)
     states_told (x ∷ xs) [] are tells = absurd (cc)
     states_told (x ∷ xs) (state ∷ states) are tells =
-        let first : said texts state ≡ meant words seen names texts x = cc in
-        let more : map (said texts) states ≡ map (meant words seen names texts) xs = cc in
+        let first : said_state texts state ≡ meant words seen names texts x = cc in
+        let more : map (said_state texts) states ≡ map (meant words seen names texts) xs = cc in
         ap₂ (λ line lines. line ∷ lines) (state_told x state first (All-head (λ x. Tells number texts (owing_names names x)) x xs tells))
         (states_told xs states more (All-tail (λ x. Tells number texts (owing_names names x)) x xs tells))
 
@@ -65,9 +65,9 @@ module _ (number : List ℕ → ℕ) (texts : Texts) where
 pub listed : (set : AnySet) (states : List ToldState) (lines : List (List ℕ)) → AreTold set states → AreInOrder (map state_line states) lines → Lists set lines
 listed set states lines are in_order = λ number texts tells.
     let (machine, s, is) = some_machine set in
-    let c = coded machine in
+    let c = coded_of machine in
     let words = c.told in
-    let told = of_machine (λ kind held. AreToldAs (coded kind).told (coded kind).seen (coded kind).names held.states states) machine s
+    let told = of_machine (λ kind held. AreToldAs (coded_of kind).told (coded_of kind).seen (coded_of kind).names held.states states) machine s
     (subst (λ x. AreTold x states) is are) in
     let known = of_set (λ X M S m s. All (λ x. Tells number texts (m.names x)) s.states) machine s (subst (TellsSet number texts) is tells) in
     let same = states_told number texts words c.seen c.names s.states states (told texts) known in

@@ -2,7 +2,7 @@ use Rattle.std.specs.Prelude.{◌≡◌, ◌++◌, ℕ, Bool, true, false, Optio
 use Rattle.std.specs.List.{flat_map}
 use Rattle.sip_machine.specs.Texts.{Texts, text_of}
 use Rattle.sip_machine.specs.Debts.{Owed}
-use Rattle.sip_machine.specs.Told.{Field, Flag, Number, Message}
+use Rattle.sip_machine.specs.Told.{ToldField, Flag, Number, Message}
 
 -- The words of which the text of a state is made. A message is told by a number.
 
@@ -25,7 +25,7 @@ flag_field name true = field name (codes "yes")
 flag_field name false = field name (codes "no")
 
 -- a field of a phase
-abbrev pub field_text : Field ℕ → List ℕ
+abbrev pub field_text : ToldField ℕ → List ℕ
 field_text (Flag name is) = flag_field name is
 field_text (Number name value) = optional_field name value
 field_text (Message name number) = optional_field name number

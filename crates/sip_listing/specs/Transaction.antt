@@ -5,7 +5,7 @@ use Rattle.sip_key.specs.Key.{KeyParts}
 use Rattle.sip_machine.specs.Texts.{Texts}
 use Rattle.sip_machine.specs.Times.{Times}
 use Rattle.sip_states.specs.Held.{Held}
-use Rattle.sip_states.specs.KeyMachine.{MachineKind, coded, PhaseOf, StateOf, by_machine}
+use Rattle.sip_states.specs.KeyMachine.{MachineKind, coded_of, PhaseOf, StateOf, by_machine}
 use Rattle.sip_states.specs.declared.any_set.AnySet.{AnySet}
 use Rattle.sip_states.specs.AnySet.{meaning_of, OfSet}
 use Rattle.sip_listing.specs.Fields.{Tells}
@@ -34,7 +34,7 @@ transaction_text number key lines = transaction_line number key (length lines) +
 
 -- the text of a state of a machine, whose messages are told by these numbers
 abbrev pub state_text : (machine : MachineKind) → (List ℕ → ℕ) → PhaseOf machine → List ℕ
-state_text machine number x = owing_text (coded machine).told number x
+state_text machine number x = owing_text (coded_of machine).told number x
 
 -- What the code lists, whose messages are numbers of a book.
 

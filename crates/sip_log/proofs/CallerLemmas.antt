@@ -12,7 +12,7 @@ use Rattle.sip_log.specs.Next.{Next, ends, gives, stops}
 use Rattle.sip_log.specs.Spelling.{Item, header_text, entry_text}
 use Rattle.sip_log.specs.Log.{IsEntry, most_entries, ComesNext, InOrder, last_of, LogEnd, Clean, Stops, next_at, NoHeader, IsLog, IsFaultOf}
 use Rattle.sip_log.specs.Told.{FailsAs, item}
-use Rattle.sip_log.specs.Reading.{Stage, fresh, entries, ended, failed, Reading, Moves, Place, reading, Continues, ComesFirst, Comes, Heads, Opens, NextsAt, Nexts}
+use Rattle.sip_log.specs.Reading.{Stage, fresh, entries, ended, failed, ReaderState, Moves, Place, beside_source, Continues, ComesFirst, Comes, Heads, Opens, NextsAt, Nexts}
 use Rattle.sip_log.proofs.ReadingLemmas.{FailsAs-map}
 use Rattle.sip_log.proofs.LogExists.{Follow-some}
 use Rattle.sip_log.proofs.Logs.{follow-spelled}
@@ -30,13 +30,13 @@ HasRead start None items left = ⊥
 HasRead start (Some p) items left = IfSome start (λ input. (rest : List ℕ) × (left ≡ Some rest) × Begins input p items rest)
 
 -- what is known of a reader that was made for an input: nothing was read yet, or these entries were
-abbrev pub StandsAt : Stage → Option (List ℕ) → List Item → Reading → Type 0
+abbrev pub StandsAt : Stage → Option (List ℕ) → List Item → ReaderState → Type 0
 StandsAt fresh start items now = (items ≡ []) × (now.left ≡ start) × (now.times ≡ None) × (now.count ≡ 0) × (now.last ≡ 0)
 StandsAt entries start items now = HasRead start now.times items now.left × (now.count ≡ length items) × (now.last ≡ last_of 0 items)
 StandsAt ended start items now = Unit {0}
 StandsAt failed start items now = Unit {0}
 
-abbrev pub Stands : Option (List ℕ) → List Item → Reading → Type 0
+abbrev pub Stands : Option (List ℕ) → List Item → ReaderState → Type 0
 Stands start items now = StandsAt now.stage start items now
 
 InOrder-push : (last : ℕ) (items : List Item) (e : Item) → InOrder last items → last_of last items ≤ e.moment → IsEntry e → InOrder last (items ++ e ∷ [])
@@ -107,7 +107,7 @@ Begins-log input p items rest is =
     )
 
 -- and so they are for a reader that reads on
-pub Stands-log : (start : Option (List ℕ)) (items : List Item) (now : Reading) → now.stage ≡ entries → Stands start items now
+pub Stands-log : (start : Option (List ℕ)) (items : List Item) (now : ReaderState) → now.stage ≡ entries → Stands start items now
     → IfSome start (λ input. IfSome now.times (λ p. (more : List Item) × (end : LogEnd) × IsLog input p (items ++ more) end))
 Stands-log start items now on stands = go now.times start (subst (λ s. StandsAt s start items now) on stands).0
   where
@@ -126,7 +126,7 @@ module _ (start left : Option (List ℕ)) (before after : Bool) where
     pub count : place.count ≡ 0
     pub last : place.last ≡ 0
     pub fine : after ≡ before
-    pub stands : Stands start [] (reading place left after)
+    pub stands : Stands start [] (beside_source place left after)
 
   pub Opens-stands : (p : Times) (place : Place) → Opens start left before after (Ok (p, place)) → Opened p place
   Opens-stands p place (is, says) =
@@ -138,8 +138,8 @@ module _ (start left : Option (List ℕ)) (before after : Bool) where
         count = ap (λ (x : Place). x.count) is;
         last = ap (λ (x : Place). x.last) is;
         fine = says.0;
-        stands = subst (λ s. StandsAt s start [] (reading place left after)) (sym on)
-            (subst (λ t. HasRead start t [] (reading place left after).left) (sym times) (has start says.1), ap (λ (x : Place). x.count) is, ap (λ (x : Place). x.last) is);
+        stands = subst (λ s. StandsAt s start [] (beside_source place left after)) (sym on)
+            (subst (λ t. HasRead start t [] (beside_source place left after).left) (sym times) (has start says.1), ap (λ (x : Place). x.count) is, ap (λ (x : Place). x.last) is);
       }
     where
       has : (s : Option (List ℕ)) → IfSome s (λ xs. (ys : List ℕ) × (prepend_known place.held left ≡ Some ys) × Heads xs (gives p ys)) → HasRead s (Some p) [] (prepend_known place.held left)
@@ -147,12 +147,12 @@ module _ (start left : Option (List ℕ)) (before after : Bool) where
       has (Some xs) (ys, left_is, (times, spelled)) = (ys, left_is, Begins-header xs p ys times spelled)
 
 -- neither the end was told nor an error
-abbrev pub GoesOn : Reading → Type 0
+abbrev pub GoesOn : ReaderState → Type 0
 GoesOn now = (now.stage ≡ fresh) ⊎ (now.stage ≡ entries)
 
 -- What each answer of `next` adds.
 
-module _ (start : Option (List ℕ)) (items : List Item) (old new : Reading) where
+module _ (start : Option (List ℕ)) (items : List Item) (old new : ReaderState) where
   -- the times of the header stay
   same-times : (t : Option Times) → HasRead start t items old.left → IfSome t (λ p. new.times ≡ Some p) → new.times ≡ t
   same-times None has kept = absurd has
@@ -273,7 +273,7 @@ module _ (start : Option (List ℕ)) (items : List Item) (old new : Reading) whe
   fine-at : (s : Stage) (r : Option Entry) → NextsAt s old new (Ok r) → new.has_failed ≡ old.has_failed
   fine-at fresh r steps = steps.says.0
   fine-at entries r steps = steps.says.0
-  fine-at ended r again = ap (λ (x : Reading). x.has_failed) again.1
+  fine-at ended r again = ap (λ (x : ReaderState). x.has_failed) again.1
   fine-at failed r again = cc
 
   pub Nexts-fine : (r : Option Entry) → Nexts old new (Ok r) → new.has_failed ≡ old.has_failed
@@ -300,6 +300,6 @@ module _ (start : Option (List ℕ)) (items : List Item) (old new : Reading) whe
   Nexts-counted e nexts = counted-at old.stage e nexts
 
 -- the times of the header stay while entries are read
-pub Nexts-times : (old new : Reading) (r : Result (Option Entry) LogError) (p : Times) → old.stage ≡ entries → old.times ≡ Some p → Nexts old new r → new.times ≡ Some p
+pub Nexts-times : (old new : ReaderState) (r : Result (Option Entry) LogError) (p : Times) → old.stage ≡ entries → old.times ≡ Some p → Nexts old new r → new.times ≡ Some p
 Nexts-times old new r p on times nexts =
     subst (λ t. IfSome t (λ q. new.times ≡ Some q)) times (subst (λ s. NextsAt s old new r) on nexts).kept

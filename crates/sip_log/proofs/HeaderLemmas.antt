@@ -9,7 +9,7 @@ use Rattle.sip_log.specs.LogFault as faults
 use Rattle.sip_log.specs.Spelling.{line_feed, space}
 use Rattle.sip_log.specs.Next.{Next, gives, stops}
 use Rattle.sip_log.specs.inner.Number.{IsNumber, cut}
-use Rattle.sip_log.specs.inner.Header.{TimesLine, TimesFront, ComesFirst, ComesSecond, NumberAfter, Parted}
+use Rattle.sip_log.specs.inner.Header.{TimesLine, TimesFront, HeaderComes, ComesSecond, NumberAfter, Parted}
 use Rattle.sip_log.proofs.SplitLemmas.{Lacks, Lacks-append, Lacks-word, cut-one, part-one}
 use Rattle.sip_log.proofs.FrontLemmas.{line-held, line-none}
 use Rattle.sip_log.proofs.NumberLemmas.{IsNumber-no_space, IsNumber-no_line_feed, IsNumber-one, IsNumber-short}
@@ -192,7 +192,7 @@ abbrev pub title : List ℕ
 title = codes "sip-trace 1" ++ line_feed ∷ []
 
 -- the bytes of line 1 are not held
-pub ComesFirst-other : (held ys : List ℕ) → length title ≤ length held → held ≢ title ++ drop (length title) held → ComesFirst (held ++ ys) (stops faults.Header)
+pub ComesFirst-other : (held ys : List ℕ) → length title ≤ length held → held ≢ title ++ drop (length title) held → HeaderComes (held ++ ys) (stops faults.Header)
 ComesFirst-other held ys long other = inr (
   (λ p behind is.
       let front : take (length title) held ≡ title =
@@ -203,7 +203,7 @@ ComesFirst-other held ys long other = inr (
 
 -- what comes behind line 1 comes first in the input
 pub ComesFirst-second : (held ys : List ℕ) (next : Next Times) → held ≡ title ++ drop (length title) held
-    → ComesSecond (drop (length title) held ++ ys) next → ComesFirst (held ++ ys) next
+    → ComesSecond (drop (length title) held ++ ys) next → HeaderComes (held ++ ys) next
 ComesFirst-second held ys next is (inl (p, behind, times, same)) =
     inl (p, behind, record { rest = drop (length title) held ++ ys; title = ap (λ (t : List ℕ). t ++ ys) is; times = times }, same)
 ComesFirst-second held ys next is (inr (none, same)) =

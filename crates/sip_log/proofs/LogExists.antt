@@ -16,7 +16,7 @@ use Rattle.sip_log.specs.Log.{FrontLine, most_entries, LogEnd, Clean, Stops}
 use Rattle.sip_log.specs.Next.{Next, ends, gives, stops}
 use Rattle.sip_log.specs.inner.Unless.{Unless}
 use Rattle.sip_log.specs.inner.Header.{TimesLine, TimesFront, Header, NoFront, NumberAfter, Parted}
-use Rattle.sip_log.specs.inner.Entry.{AtMessage, AtBody, AtLine, ComesNext}
+use Rattle.sip_log.specs.inner.Entry.{MessageComes, BodyComes, LineComes, EntryComes}
 use Rattle.sip_log.specs.inner.Follow.{Follow}
 use Rattle.sip_log.specs.LogFault as faults
 use Rattle.sip_log.proofs.SplitLemmas.{Lacks, Lacks-cons, Lacks-cut, Cut, cut-one, cut-at}
@@ -179,7 +179,7 @@ Unless-some : {A : Type 0} (Demand : Type 0) (reason : LogFault) (Follows : Next
 Unless-some Demand reason Follows (inl holds) follows = let f = follows holds in (f.0, inr (holds, f.1))
 Unless-some Demand reason Follows (inr fails) follows = (stops reason, inl (fails, refl))
 
-message-some : (action : Action) (moment len : ℕ) (behind : List ℕ) → Comes (AtMessage action moment len behind)
+message-some : (action : Action) (moment len : ℕ) (behind : List ℕ) → Comes (MessageComes action moment len behind)
 message-some action moment len behind = Unless-some (len < length behind) faults.Truncated _ (at_most (suc len) (length behind))
     (λ inside.
     let text = take len behind in
@@ -189,7 +189,7 @@ message-some action moment len behind = Unless-some (len < length behind) faults
     (cases_eq b line_feed) (λ is. (gives (record { action = action; moment = moment; text = text }) after, refl)) in
     (close.0, (text, b, after, cut-at behind len inside, length-take-le len behind (omega arith), close.1)))
 
-body-some : (head : Head) (behind : List ℕ) → Comes (AtBody head behind)
+body-some : (head : Head) (behind : List ℕ) → Comes (BodyComes head behind)
 body-some (message action moment len) behind = message-some action moment len behind
 body-some (mark moment) behind = (gives (record { action = Mark; moment = moment; text = [] }) behind, refl)
 
@@ -200,7 +200,7 @@ limits-or-not (message action moment len) = elim (both _ _ (at_most moment last_
 ]
 limits-or-not (mark moment) = at_most moment last_moment
 
-line-some : (last : ℕ) (rest : List ℕ) → Comes (AtLine last rest)
+line-some : (last : ℕ) (rest : List ℕ) → Comes (LineComes last rest)
 line-some last rest = elim (front-or-not rest) [
   | inr none ↦
       let next = Unless-some (longest_line ≤ length rest) faults.Truncated (λ next. next ≡ stops faults.EntryLine) (at_most longest_line (length rest)) (λ long. (stops faults.EntryLine, refl)) in
@@ -214,7 +214,7 @@ line-some last rest = elim (front-or-not rest) [
   ]
 ]
 
-next-some : (count last : ℕ) (rest : List ℕ) → Comes (ComesNext count last rest)
+next-some : (count last : ℕ) (rest : List ℕ) → Comes (EntryComes count last rest)
 next-some count last [] = (ends, inl (refl, refl))
 next-some count last (x ∷ xs) =
     let next = Unless-some (count < most_entries) faults.Limit _ (at_most (suc count) most_entries) (λ few. line-some last (x ∷ xs)) in
@@ -225,7 +225,7 @@ Unless-gives : {A : Type 0} (Demand : Type 0) (reason : LogFault) (a : A) (behin
 Unless-gives Demand reason a behind Follows (inl (fails, same)) = cc
 Unless-gives Demand reason a behind Follows (inr (holds, follows)) = follows
 
-body-shorter : (head : Head) (rest : List ℕ) (e : Item) (behind : List ℕ) → AtBody head rest (gives e behind) → length behind ≤ length rest
+body-shorter : (head : Head) (rest : List ℕ) (e : Item) (behind : List ℕ) → BodyComes head rest (gives e behind) → length behind ≤ length rest
 body-shorter (message action moment len) rest e behind is =
     let (text, b, after, whole, size, close) = Unless-gives _ _ e behind _ is in
     let closed = Unless-gives _ _ e behind _ close in
@@ -235,7 +235,7 @@ body-shorter (mark moment) rest e behind is =
     let same : behind ≡ rest = cc in
     omega (arith, ap length same)
 
-line-shorter : (last : ℕ) (rest : List ℕ) (e : Item) (behind : List ℕ) → AtLine last rest (gives e behind) → length behind < length rest
+line-shorter : (last : ℕ) (rest : List ℕ) (e : Item) (behind : List ℕ) → LineComes last rest (gives e behind) → length behind < length rest
 line-shorter last rest e behind (inl (none, next)) = absurd (no-entry (Unless-gives _ _ e behind _ next))
   where
     no-entry : gives e behind ≢ stops faults.EntryLine
@@ -245,7 +245,7 @@ line-shorter last rest e behind (inr (line, after, front, inr (head, is, next)))
     let body = Unless-gives _ _ e behind _ (Unless-gives _ _ e behind _ next) in
     omega (arith, body-shorter head after e behind body, ap length front.whole, length-append line (line_feed ∷ after))
 
-next-shorter : (count last : ℕ) (rest : List ℕ) (e : Item) (behind : List ℕ) → ComesNext count last rest (gives e behind) → length behind < length rest
+next-shorter : (count last : ℕ) (rest : List ℕ) (e : Item) (behind : List ℕ) → EntryComes count last rest (gives e behind) → length behind < length rest
 next-shorter count last rest e behind (inl (none, same)) = cc
 next-shorter count last rest e behind (inr (some, next)) = line-shorter last rest e behind (Unless-gives _ _ e behind _ next)
 
@@ -253,7 +253,7 @@ next-shorter count last rest e behind (inr (some, next)) = line-shorter last res
 abbrev Follows : ℕ → ℕ → List ℕ → Type 0
 Follows count last rest = (es : List Item) × (end : LogEnd) × Follow count last rest es end
 
-follows-from : (count last : ℕ) (rest : List ℕ) (next : Next Item) → ComesNext count last rest next
+follows-from : (count last : ℕ) (rest : List ℕ) (next : Next Item) → EntryComes count last rest next
     → ((e : Item) (behind : List ℕ) → length behind < length rest → Follows (count + 1) e.moment behind) → Follows count last rest
 follows-from count last rest ends next more = ([], Clean, next)
 follows-from count last rest (stops reason) next more = ([], Stops reason, next)

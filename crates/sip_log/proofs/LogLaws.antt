@@ -11,7 +11,7 @@ use Rattle.sip_log.specs.Log.{FrontLine, LogEnd, Clean, Stops, next_at}
 use Rattle.sip_log.specs.Next.{Next, gives}
 use Rattle.sip_log.specs.inner.Unless.{Unless}
 use Rattle.sip_log.specs.inner.Header.{TimesLine, Header}
-use Rattle.sip_log.specs.inner.Entry.{AtClose, AtMessage, AtBody, AtHead, AtFront, AtLine, ComesNext}
+use Rattle.sip_log.specs.inner.Entry.{CloseComes, MessageComes, BodyComes, HeadComes, FormComes, LineComes, EntryComes}
 use Rattle.sip_log.specs.inner.Follow.{Follow}
 use Rattle.sip_log.proofs.SplitLemmas.{cut-one}
 use Rattle.sip_log.proofs.NumberLemmas.{IsNumber-no_space, IsNumber-one}
@@ -96,41 +96,41 @@ parts-one (x ∷ xs) ys (x2 ∷ xs2) ys2 len same =
     let rest = parts-one xs ys xs2 ys2 len2 tail in
     (λ i. head i ∷ rest.0 i, rest.1)
 
-AtClose-one : (action : Action) (moment : ℕ) (text : List ℕ) (b : ℕ) (after : List ℕ) (n n2 : Next Item) → AtClose action moment text b after n → AtClose action moment text b after n2 → n ≡ n2
+AtClose-one : (action : Action) (moment : ℕ) (text : List ℕ) (b : ℕ) (after : List ℕ) (n n2 : Next Item) → CloseComes action moment text b after n → CloseComes action moment text b after n2 → n ≡ n2
 AtClose-one action moment text b after n n2 = Unless-one _ _ n n2 _ _ (λ e e2. e ∙ sym e2)
 
-AtMessage-one : (action : Action) (moment len : ℕ) (behind : List ℕ) (n n2 : Next Item) → AtMessage action moment len behind n → AtMessage action moment len behind n2 → n ≡ n2
+AtMessage-one : (action : Action) (moment len : ℕ) (behind : List ℕ) (n n2 : Next Item) → MessageComes action moment len behind n → MessageComes action moment len behind n2 → n ≡ n2
 AtMessage-one action moment len behind n n2 = Unless-one _ _ n n2 _ _
     (λ a b.
     let parts = parts-one a.0 (a.1 ∷ a.2) b.0 (b.1 ∷ b.2) (a.4 ∙ sym b.4) (sym a.3 ∙ b.3) in
     let byte : a.1 ≡ b.1 = ap (λ (t : List ℕ). get_or t 0 0) parts.1 in
     let after : a.2 ≡ b.2 = ap (drop 1) parts.1 in
-    AtClose-one action moment b.0 b.1 b.2 n n2 (coe 0 1 (i. AtClose action moment (parts.0 i) (byte i) (after i) n) a.5) b.5)
+    AtClose-one action moment b.0 b.1 b.2 n n2 (coe 0 1 (i. CloseComes action moment (parts.0 i) (byte i) (after i) n) a.5) b.5)
 
-AtBody-one : (head : Head) (behind : List ℕ) (n n2 : Next Item) → AtBody head behind n → AtBody head behind n2 → n ≡ n2
+AtBody-one : (head : Head) (behind : List ℕ) (n n2 : Next Item) → BodyComes head behind n → BodyComes head behind n2 → n ≡ n2
 AtBody-one (message action moment len) behind n n2 a b = AtMessage-one action moment len behind n n2 a b
 AtBody-one (mark moment) behind n n2 a b = a ∙ sym b
 
-AtHead-one : (last : ℕ) (head : Head) (behind : List ℕ) (n n2 : Next Item) → AtHead last head behind n → AtHead last head behind n2 → n ≡ n2
+AtHead-one : (last : ℕ) (head : Head) (behind : List ℕ) (n n2 : Next Item) → HeadComes last head behind n → HeadComes last head behind n2 → n ≡ n2
 AtHead-one last head behind n n2 = Unless-one _ _ n n2 _ _ (Unless-one _ _ n n2 _ _ (AtBody-one head behind n n2))
 
-AtFront-one : (last : ℕ) (line behind : List ℕ) (n n2 : Next Item) → AtFront last line behind n → AtFront last line behind n2 → n ≡ n2
+AtFront-one : (last : ℕ) (line behind : List ℕ) (n n2 : Next Item) → FormComes last line behind n → FormComes last line behind n2 → n ≡ n2
 AtFront-one last line behind n n2 (inl a) (inl b) = a.1 ∙ sym b.1
 AtFront-one last line behind n n2 (inl a) (inr b) = absurd (a.0 b.0 b.1)
 AtFront-one last line behind n n2 (inr a) (inl b) = absurd (b.0 a.0 a.1)
 AtFront-one last line behind n n2 (inr a) (inr b) =
-    AtHead-one last b.0 behind n n2 (subst (λ h. AtHead last h behind n) (HeadLine-one line a.0 b.0 a.1 b.1) a.2) b.2
+    AtHead-one last b.0 behind n n2 (subst (λ h. HeadComes last h behind n) (HeadLine-one line a.0 b.0 a.1 b.1) a.2) b.2
 
-AtLine-one : (last : ℕ) (rest : List ℕ) (n n2 : Next Item) → AtLine last rest n → AtLine last rest n2 → n ≡ n2
+AtLine-one : (last : ℕ) (rest : List ℕ) (n n2 : Next Item) → LineComes last rest n → LineComes last rest n2 → n ≡ n2
 AtLine-one last rest n n2 (inl a) (inl b) = Unless-one _ _ n n2 _ _ (λ e e2. e ∙ sym e2) a.1 b.1
 AtLine-one last rest n n2 (inl a) (inr b) = absurd (a.0 b.0 b.1 b.2)
 AtLine-one last rest n n2 (inr a) (inl b) = absurd (b.0 a.0 a.1 a.2)
 AtLine-one last rest n n2 (inr a) (inr b) =
     let parts = FrontLine-one rest a.0 a.1 b.0 b.1 a.2 b.2 in
-    AtFront-one last b.0 b.1 n n2 (coe 0 1 (i. AtFront last (parts.0 i) (parts.1 i) n) a.3) b.3
+    AtFront-one last b.0 b.1 n n2 (coe 0 1 (i. FormComes last (parts.0 i) (parts.1 i) n) a.3) b.3
 
 -- one thing comes next
-pub ComesNext-one : (count last : ℕ) (rest : List ℕ) (n n2 : Next Item) → ComesNext count last rest n → ComesNext count last rest n2 → n ≡ n2
+pub ComesNext-one : (count last : ℕ) (rest : List ℕ) (n n2 : Next Item) → EntryComes count last rest n → EntryComes count last rest n2 → n ≡ n2
 ComesNext-one count last rest n n2 (inl a) (inl b) = a.1 ∙ sym b.1
 ComesNext-one count last rest n n2 (inl a) (inr b) = absurd (b.0 a.0)
 ComesNext-one count last rest n n2 (inr a) (inl b) = absurd (a.0 b.0)

@@ -5,7 +5,7 @@ use Rattle.std.proofs.lemmas.List.{append-nil, append_cancel_left}
 use Rattle.sip_times.specs.Times.{Times, AreTimes}
 use Rattle.sip_log.specs.Next.{Next, gives}
 use Rattle.sip_log.specs.Spelling.{Item, header_text, entry_text}
-use Rattle.sip_log.specs.Log.{most_entries, ComesNext, InOrder, last_of, LogEnd, Clean, next_at, IsLog, Log, Faulty, Holds, IsLogOf}
+use Rattle.sip_log.specs.Log.{most_entries, ComesNext, InOrder, last_of, LogEnd, Clean, next_at, IsLog, Log, Faulty, Readable, IsLogOf}
 use Rattle.sip_log.specs.Turn.{ComeInTurn}
 use Rattle.sip_log.specs.inner.Follow.{Follow}
 use Rattle.sip_log.specs.inner.Header as read
@@ -88,23 +88,23 @@ log_is_some input = elim (header-or-not input) [
   | inr none ↦ (Faulty, λ p behind within is. none p behind (header-read input p behind within is))
   | inl is ↦
       let follow = Follow-some 0 0 is.1 in
-      (Holds is.0 follow.0 follow.1, log-spelled input is.0 is.1 follow.0 follow.1 is.2 follow.2)
+      (Readable is.0 follow.0 follow.1, log-spelled input is.0 is.1 follow.0 follow.1 is.2 follow.2)
 ]
 
 -- an input has one log
 pub log_is_one : (input : List ℕ) (a b : Log) → IsLogOf input a → IsLogOf input b → a ≡ b
 log_is_one input Faulty Faulty is is2 = refl
-log_is_one input Faulty (Holds p es end) is is2 = absurd (is p _ is2.times is2.spelled)
-log_is_one input (Holds p es end) Faulty is is2 = absurd (is2 p _ is.times is.spelled)
-log_is_one input (Holds p es end) (Holds p2 es2 end2) is is2 =
+log_is_one input Faulty (Readable p es end) is is2 = absurd (is p _ is2.times is2.spelled)
+log_is_one input (Readable p es end) Faulty is is2 = absurd (is2 p _ is.times is.spelled)
+log_is_one input (Readable p es end) (Readable p2 es2 end2) is is2 =
     let a = log-follows input p es end is in
     let b = log-follows input p2 es2 end2 is2 in
     let header = Header-one input p p2 a.0 b.0 a.1 b.1 in
     let same = Follow-one 0 0 b.0 es es2 end end2 (subst (λ t. Follow 0 0 t es end) header.1 a.2) b.2 in
-    λ i. Holds (header.0 i) (same.0 i) (same.1 i)
+    λ i. Readable (header.0 i) (same.0 i) (same.1 i)
 
 -- what was written is the log of its bytes
-pub log-written : (p : Times) (items : List Item) → AreTimes p → length items ≤ most_entries → InOrder 0 items → IsLogOf (header_text p ++ flat_map entry_text items) (Holds p items Clean)
+pub log-written : (p : Times) (items : List Item) → AreTimes p → length items ≤ most_entries → InOrder 0 items → IsLogOf (header_text p ++ flat_map entry_text items) (Readable p items Clean)
 log-written p items times few order = record {
   times = times;
   rest = [];
@@ -128,7 +128,7 @@ turn-front count last rest (e2 ∷ items) end (e ∷ es) left follow (behind, ne
     (more.0, λ i. first i ∷ more.1 i)
 
 -- and of those of the log
-pub log-front : (input : List ℕ) (p : Times) (items : List Item) (end : LogEnd) → IsLogOf input (Holds p items end) →
+pub log-front : (input : List ℕ) (p : Times) (items : List Item) (end : LogEnd) → IsLogOf input (Readable p items end) →
     (behind left : List ℕ) (read : List Item) → input ≡ header_text p ++ behind → ComeInTurn 0 0 behind read left →
     (more : List Item) × (items ≡ read ++ more)
 log-front input p items end is behind left read whole turn =

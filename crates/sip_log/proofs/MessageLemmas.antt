@@ -5,13 +5,13 @@ use Rattle.sip_times.specs.declared.action.Action.{Action}
 use Rattle.sip_log.specs.LogFault as faults
 use Rattle.sip_log.specs.Spelling.{line_feed}
 use Rattle.sip_log.specs.Next.{gives, stops}
-use Rattle.sip_log.specs.inner.Entry.{AtClose, AtMessage}
+use Rattle.sip_log.specs.inner.Entry.{CloseComes, MessageComes}
 use Rattle.sip_log.proofs.SplitLemmas.{cut-at, cut-more}
 
 module _ (action : Action) (moment len : ℕ) (held ys : List ℕ) where
   -- a message that is held whole with the byte behind it
-  AtMessage-held : len < length held → (next : _) → AtClose action moment (take len held) (get_or held len 0) (drop (len + 1) held ++ ys) next
-      → AtMessage action moment len (held ++ ys) next
+  AtMessage-held : len < length held → (next : _) → CloseComes action moment (take len held) (get_or held len 0) (drop (len + 1) held ++ ys) next
+      → MessageComes action moment len (held ++ ys) next
   AtMessage-held inside next close = inr (
     omega (arith, length-append held ys),
     (
@@ -25,12 +25,12 @@ module _ (action : Action) (moment len : ℕ) (held ys : List ℕ) where
   )
 
   -- a byte other than LF behind the message
-  pub AtMessage-open : len < length held → get_or held len 0 ≢ line_feed → AtMessage action moment len (held ++ ys) (stops faults.EntryLine)
+  pub AtMessage-open : len < length held → get_or held len 0 ≢ line_feed → MessageComes action moment len (held ++ ys) (stops faults.EntryLine)
   AtMessage-open inside other = AtMessage-held inside (stops faults.EntryLine) (inl (other, refl))
 
   -- the message
   pub AtMessage-gives : (text : List ℕ) → len < length held → get_or held len 0 ≡ line_feed → text ≡ take len held
-      → AtMessage action moment len (held ++ ys) (gives (record { action = action; moment = moment; text = text }) (drop (len + 1) held ++ ys))
+      → MessageComes action moment len (held ++ ys) (gives (record { action = action; moment = moment; text = text }) (drop (len + 1) held ++ ys))
   AtMessage-gives text inside feed is =
       AtMessage-held inside (gives (record { action = action; moment = moment; text = text }) (drop (len + 1) held ++ ys))
       (inr (feed, ap (λ (t : List ℕ). gives (record { action = action; moment = moment; text = t }) (drop (len + 1) held ++ ys)) is))

@@ -26,7 +26,7 @@ not_above a b other = elim (cases_lt b a) as (λ _. b < a) [ inl lt ↦ lt | inr
 -- From reading to spelling.
 
 -- a message
-message-told : (action : Action) (moment len : ℕ) (behind : List ℕ) (next : Next Item) → action ≢ Mark → read.AtMessage action moment len behind next
+message-told : (action : Action) (moment len : ℕ) (behind : List ℕ) (next : Next Item) → action ≢ Mark → read.MessageComes action moment len behind next
     → Told (AtBody action len behind) (λ e after. (text : List ℕ) × (e ≡ record { action = action; moment = moment; text = text }) × (length text ≡ len) × (behind ≡ text ++ line_feed ∷ after)) next
 message-told action moment len behind next other (inl (short, same)) = inl (faults.Truncated, same, (other, inl (not_below len (length behind) short, refl)))
 message-told action moment len behind next other (inr (long, (text, b, after, whole, size, inl (unclosed, same)))) =
@@ -57,7 +57,7 @@ message-whole line action moment len text behind after other is size whole =
 
 -- a message's line, and what is behind it
 message-line-told : (last : ℕ) (line : List ℕ) (action : Action) (moment len : ℕ) (behind : List ℕ) (next : Next Item) → action ≢ Mark → line ≡ line_text action moment len
-    → read.AtHead last (message action moment len) behind next → Told (AtLine last line behind) (Entered last line behind) next
+    → read.HeadComes last (message action moment len) behind next → Told (AtLine last line behind) (Entered last line behind) next
 message-line-told last line action moment len behind next other is (inl (outside, same)) =
     inl (faults.Limit, same, inr (action, moment, len, is, inl ((λ w. outside (within-message action moment len other w)), refl)))
 message-line-told last line action moment len behind next other is (inr (inside, inl (early, same))) =
@@ -82,7 +82,7 @@ message-line-told last line action moment len behind next other is (inr (inside,
 
 -- a mark's line, and what is behind it
 mark-line-told : (last : ℕ) (line : List ℕ) (moment : ℕ) (behind : List ℕ) (next : Next Item) → line ≡ line_text Mark moment 0
-    → read.AtHead last (mark moment) behind next → Told (AtLine last line behind) (Entered last line behind) next
+    → read.HeadComes last (mark moment) behind next → Told (AtLine last line behind) (Entered last line behind) next
 mark-line-told last line moment behind next is (inl (outside, same)) =
     inl (faults.Limit, same, inr (Mark, moment, 0, is, inl ((λ w. outside w.0), refl)))
 mark-line-told last line moment behind next is (inr (inside, inl (early, same))) =
@@ -101,7 +101,7 @@ mark-line-told last line moment behind next is (inr (inside, inr (order, same)))
 
 -- a line, and what is behind it
 line-told : (last : ℕ) (line : List ℕ) (head : Head) (behind : List ℕ) (next : Next Item) → length line < 32 → HeadLine line head
-    → read.AtHead last head behind next → Told (AtLine last line behind) (Entered last line behind) next
+    → read.HeadComes last head behind next → Told (AtLine last line behind) (Entered last line behind) next
 line-told last line (message action moment len) behind next short is at =
     message-line-told last line action moment len behind next is.1 (message-spelled line action moment len short is) at
 line-told last line (mark moment) behind next short is at = mark-line-told last line moment behind next (mark-spelled line moment 0 short is) at
@@ -114,7 +114,7 @@ line-read line action moment len short is = elim (mark-or-not action) [
 ]
 
 -- the front of what is left
-front-told : (last : ℕ) (rest : List ℕ) (next : Next Item) → read.AtLine last rest next
+front-told : (last : ℕ) (rest : List ℕ) (next : Next Item) → read.LineComes last rest next
     → Told (AtFront last rest) (λ e after. (rest ≡ entry_text e ++ after) × (last ≤ e.moment) × IsEntry e) next
 front-told last rest next (inl (none, inl (few, same))) = inl (faults.Truncated, same, inl (none, inl (not_above 32 (length rest) few, refl)))
 front-told last rest next (inl (none, inr (many, same))) = inl (faults.EntryLine, same, inl (none, inr ((λ few. omega arith), refl)))
@@ -127,7 +127,7 @@ front-told last rest next (inr (line, behind, front, inr (head, is, at))) = go (
     go (inr (e, after, same, (whole, order, entry))) = inr (e, after, same, (front.whole ∙ whole, order, entry))
 
 -- what is read next is what comes next
-pub next-told : (count last : ℕ) (rest : List ℕ) (next : Next Item) → read.ComesNext count last rest next → ComesNext count last rest next
+pub next-told : (count last : ℕ) (rest : List ℕ) (next : Next Item) → read.EntryComes count last rest next → ComesNext count last rest next
 next-told count last rest next (inl (none, same)) = subst (ComesNext count last rest) (sym same) none
 next-told count last rest next (inr (some, inl (many, same))) = subst (ComesNext count last rest) (sym same) (some, inl (not_below count most_entries many, refl))
 next-told count last rest next (inr (some, inr (few, at))) = go (front-told last rest next at)

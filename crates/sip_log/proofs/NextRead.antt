@@ -22,7 +22,7 @@ use Rattle.sip_log.proofs.LogExists.{limits-or-not}
 
 -- A fault.
 
-message-stops : (action : Action) (moment len : ℕ) (behind : List ℕ) (fault : LogFault) → AtBody action len behind fault → read.AtMessage action moment len behind (stops fault)
+message-stops : (action : Action) (moment len : ℕ) (behind : List ℕ) (fault : LogFault) → AtBody action len behind fault → read.MessageComes action moment len behind (stops fault)
 message-stops action moment len behind fault (other, inl (short, same)) = inl ((λ more. omega arith), ap stops same)
 message-stops action moment len behind fault (other, inr (long, (unclosed, same))) =
     let inside : len < length behind = not_above (length behind) len long in
@@ -30,30 +30,30 @@ message-stops action moment len behind fault (other, inr (long, (unclosed, same)
 
 -- a message's numbers
 message-numbers : (last : ℕ) (action : Action) (moment len : ℕ) (behind : List ℕ) (fault : LogFault) → action ≢ Mark → AtNumbers last action moment len behind fault
-    → read.AtHead last (message action moment len) behind (stops fault)
+    → read.HeadComes last (message action moment len) behind (stops fault)
 message-numbers last action moment len behind fault other (inl (outside, same)) = inl ((λ k. outside (message-within action moment len k)), ap stops same)
 message-numbers last action moment len behind fault other (inr (inside, rest)) = elim (limits-or-not (message action moment len)) [
   | inr outside ↦ absurd (inside (λ w. outside (within-message action moment len other w)))
   | inl keeps ↦ inr (keeps, order rest)
 ]
   where
-    order : First (moment < last) faults.Order fault (AtBody action len behind fault) → read.AtMoment last (message action moment len) behind (stops fault)
+    order : First (moment < last) faults.Order fault (AtBody action len behind fault) → read.MomentComes last (message action moment len) behind (stops fault)
     order (inl (early, same)) = inl ((λ le. omega arith), ap stops same)
     order (inr (late, body)) = inr (not_below moment last late, message-stops action moment len behind fault body)
 
 -- a mark's
-mark-numbers : (last moment len : ℕ) (behind : List ℕ) (fault : LogFault) → AtNumbers last Mark moment len behind fault → read.AtHead last (mark moment) behind (stops fault)
+mark-numbers : (last moment len : ℕ) (behind : List ℕ) (fault : LogFault) → AtNumbers last Mark moment len behind fault → read.HeadComes last (mark moment) behind (stops fault)
 mark-numbers last moment len behind fault (inl (outside, same)) = inl ((λ k. outside (k, (λ other. absurd (other refl)))), ap stops same)
 mark-numbers last moment len behind fault (inr (inside, rest)) = elim (limits-or-not (mark moment)) [
   | inr outside ↦ absurd (inside (λ w. outside w.0))
   | inl keeps ↦ inr (keeps, order rest)
 ]
   where
-    order : First (moment < last) faults.Order fault (AtBody Mark len behind fault) → read.AtMoment last (mark moment) behind (stops fault)
+    order : First (moment < last) faults.Order fault (AtBody Mark len behind fault) → read.MomentComes last (mark moment) behind (stops fault)
     order (inl (early, same)) = inl ((λ le. omega arith), ap stops same)
     order (inr (late, body)) = absurd (body.0 refl)
 
-line-stops : (last : ℕ) (line behind : List ℕ) (fault : LogFault) → length line < 32 → AtLine last line behind fault → read.AtFront last line behind (stops fault)
+line-stops : (last : ℕ) (line behind : List ℕ) (fault : LogFault) → length line < 32 → AtLine last line behind fault → read.FormComes last line behind (stops fault)
 line-stops last line behind fault short (inl (none, same)) = inl (unread, ap stops same)
   where
     unread : (h : Head) → ¬ (HeadLine line h)
@@ -64,7 +64,7 @@ line-stops last line behind fault short (inr (action, moment, len, is, numbers))
   | inr other ↦ inr (message action moment len, message-read line action moment len short other is, message-numbers last action moment len behind fault other numbers)
 ]
 
-front-stops : (last : ℕ) (rest : List ℕ) (fault : LogFault) → AtFront last rest fault → read.AtLine last rest (stops fault)
+front-stops : (last : ℕ) (rest : List ℕ) (fault : LogFault) → AtFront last rest fault → read.LineComes last rest (stops fault)
 front-stops last rest fault (inl (none, inl (few, same))) = inl (none, inl ((λ many. omega arith), ap stops same))
 front-stops last rest fault (inl (none, inr (many, same))) = inl (none, inr (not_below (length rest) 32 many, ap stops same))
 front-stops last rest fault (inr (line, behind, front, at)) = inr (line, behind, front, line-stops last line behind fault front.short at)
@@ -101,7 +101,7 @@ line-lacks action moment len low small = elim (mark-or-not action) as (λ _. Lac
     letter-lacks Mark same = absurd (omega arith)
 
 -- an entry at the front is read
-entry-read : (last : ℕ) (rest : List ℕ) (e : Item) (behind : List ℕ) → rest ≡ entry_text e ++ behind → last ≤ e.moment → IsEntry e → read.AtLine last rest (gives e behind)
+entry-read : (last : ℕ) (rest : List ℕ) (e : Item) (behind : List ℕ) → rest ≡ entry_text e ++ behind → last ≤ e.moment → IsEntry e → read.LineComes last rest (gives e behind)
 entry-read last rest e behind whole order entry =
     let line = line_text e.action e.moment (length e.text) in
     let fits = line-lacks e.action e.moment (length e.text) entry.0.0 (λ other. (entry.0.1 other).1) in
@@ -127,13 +127,13 @@ entry-read last rest e behind whole order entry =
       ],
     )
   where
-    closed : e.action ≢ Mark → read.AtMessage e.action e.moment (length e.text) (body_text e.action e.text ++ behind) (gives e behind)
+    closed : e.action ≢ Mark → read.MessageComes e.action e.moment (length e.text) (body_text e.action e.text ++ behind) (gives e behind)
     closed other =
         let body : body_text e.action e.text ++ behind ≡ e.text ++ line_feed ∷ behind = ap (λ (t : List ℕ). t ++ behind) (body-message e.action e.text other) ∙ append_assoc e.text (line_feed ∷ []) behind in
         inr (omega (arith, ap length body, length-append e.text (line_feed ∷ behind)), (e.text, line_feed, behind, body, refl, inr (refl, refl)))
 
 -- what comes next is read next
-pub next-read : (count last : ℕ) (rest : List ℕ) (next : Next Item) → ComesNext count last rest next → read.ComesNext count last rest next
+pub next-read : (count last : ℕ) (rest : List ℕ) (next : Next Item) → ComesNext count last rest next → read.EntryComes count last rest next
 next-read count last rest ends is = inl (is, refl)
 next-read count last rest (gives e behind) (whole, few, order, entry) =
     inr ((λ none. omega (arith, ap length whole, ap length none, length-append (entry_text e) behind)), inr (few, entry-read last rest e behind whole order entry))

@@ -8,7 +8,7 @@ use Rattle.sip_log.specs.LogFault as faults
 use Rattle.sip_log.specs.LogFault.{LogFault}
 use Rattle.sip_log.specs.inner.Reads.{Reads}
 use Rattle.sip_log.specs.Next.{Next, stops}
-use Rattle.sip_log.specs.Told.{Says}
+use Rattle.sip_log.specs.Told.{TellsWhatComes}
 use Rattle.sip_log.proofs.ToldLemmas.{told, known}
 
 module _ {B : Type 0} {held held2 : List ℕ} {left left2 : Option (List ℕ)} {before mid : Bool} (reads : Reads held held2 left left2 before mid)
@@ -38,7 +38,7 @@ module _ {B : Type 0} {held held2 : List ℕ} {left left2 : Option (List ℕ)} {
   -- what the rest of a call says of the bytes behind, it says of those in front
   pub Says-step : {A : Type 0} (rest : List ℕ) (new : Option (List ℕ)) (after : Bool) (Q : List ℕ → Next B → Type 0) (seen : A → List ℕ → Next B)
       (r : Result A LogError) → ((ys : List ℕ) (n : Next B) → left2 ≡ Some ys → Q (rest ++ ys) n → P (held2 ++ ys) n)
-      → Says (prepend_known rest left2) new mid after Q seen r → Says (prepend_known held left) new before after P seen r
+      → TellsWhatComes (prepend_known rest left2) new mid after Q seen r → TellsWhatComes (prepend_known held left) new before after P seen r
   Says-step rest new after Q seen (Ok a) step says = (
     says.0 ∙ reads.fine,
     told reads (λ xs. (zs : List ℕ) × (new ≡ Some zs) × P xs (seen a zs))

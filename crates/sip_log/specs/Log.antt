@@ -100,12 +100,12 @@ NoHeader input = (p : Times) (behind : List ℕ) → AreTimes p → input ≢ he
 -- a log: one with a faulty header, or times, entries and how they end
 pub data Log : Type 0 where
   Faulty : Log
-  Holds : Times → List Item → LogEnd → Log
+  Readable : Times → List Item → LogEnd → Log
 
 -- the log of an input
 abbrev pub IsLogOf : List ℕ → Log → Type 0
 IsLogOf input Faulty = NoHeader input
-IsLogOf input (Holds p items end) = IsLog input p items end
+IsLogOf input (Readable p items end) = IsLog input p items end
 
 -- the fault for which the log of an input cannot be read to its end: no header stands at its front, or its entries stop so
 abbrev pub IsFaultOf : List ℕ → LogFault → Type 0

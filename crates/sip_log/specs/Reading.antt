@@ -8,7 +8,7 @@ use Rattle.sip_log.specs.LogFault.{Header}
 use Rattle.sip_log.specs.Next.{Next, ends, gives, stops}
 use Rattle.sip_log.specs.Spelling.{Item, header_text}
 use Rattle.sip_log.specs.Log.{most_entries, NoHeader, ComesNext}
-use Rattle.sip_log.specs.Told.{Says, next_of}
+use Rattle.sip_log.specs.Told.{TellsWhatComes, next_of}
 
 -- How a log is read, call by call.
 
@@ -28,7 +28,7 @@ pub record Place : Type 0 where
   pub last : ℕ
 
 -- the same beside a source: what is left to read, where it is known, and whether a read has failed
-pub record Reading : Type 0 where
+pub record ReaderState : Type 0 where
   pub stage : Stage
   pub left : Option (List ℕ)
   pub times : Option Times
@@ -37,8 +37,8 @@ pub record Reading : Type 0 where
   pub has_failed : Bool
 
 -- a place beside what its source has left
-abbrev pub reading : Place → Option (List ℕ) → Bool → Reading
-reading p left has_failed = record { stage = p.stage; left = prepend_known p.held left; times = p.times; count = p.count; last = p.last; has_failed = has_failed }
+abbrev pub beside_source : Place → Option (List ℕ) → Bool → ReaderState
+beside_source p left has_failed = record { stage = p.stage; left = prepend_known p.held left; times = p.times; count = p.count; last = p.last; has_failed = has_failed }
 
 -- the entry has the next number, is not before the last one, and is within the limits
 pub record Continues (number last : ℕ) (e : Entry) : Type 0 where
@@ -48,7 +48,7 @@ pub record Continues (number last : ℕ) (e : Entry) : Type 0 where
   pub length_high : length e.bytes.items ≤ 65535
 
 -- what an answer behind so many entries, the last at this moment, says that needs no bytes: the number, the order, and how it goes on
-abbrev pub Moves : ℕ → ℕ → Reading → Result (Option Entry) LogError → Type 0
+abbrev pub Moves : ℕ → ℕ → ReaderState → Result (Option Entry) LogError → Type 0
 Moves count last new (Ok (Some e)) = (new.stage ≡ entries) × Continues (count + 1) last e × (new.count ≡ e.number) × (new.last ≡ e.moment) × (count < most_entries)
 Moves count last new (Ok None) = (new.stage ≡ ended) × (new.count ≡ count) × (new.last ≡ last)
 Moves count last new (Err e) = (new.stage ≡ failed) × (new.count ≡ count) × (new.last ≡ last)
@@ -59,22 +59,22 @@ ComesFirst None xs next = NoHeader xs × (next ≡ stops Header)
 ComesFirst (Some p) xs next = (behind : List ℕ) × AreTimes p × (xs ≡ header_text p ++ behind) × ComesNext 0 0 behind next
 
 -- what comes in the rest of an input
-abbrev pub Comes : Stage → Reading → Option Times → List ℕ → Next Item → Type 0
+abbrev pub Comes : Stage → ReaderState → Option Times → List ℕ → Next Item → Type 0
 Comes fresh old times xs next = ComesFirst times xs next
 Comes entries old times xs next = ComesNext old.count old.last xs next
 Comes ended old times xs next = ⊥
 Comes failed old times xs next = ⊥
 
 -- one call that reads: what comes in the rest of the input, and what is left behind it
-pub record Steps (old new : Reading) (r : Result (Option Entry) LogError) : Type 0 where
+pub record ReadsNext (old new : ReaderState) (r : Result (Option Entry) LogError) : Type 0 where
   pub moves : Moves old.count old.last new r
   pub times : OnOk r (IsSome new.times)
   pub kept : IfSome old.times (λ p. new.times ≡ Some p)
-  pub says : Says old.left new.left old.has_failed new.has_failed (Comes old.stage old new.times) next_of r
+  pub says : TellsWhatComes old.left new.left old.has_failed new.has_failed (Comes old.stage old new.times) next_of r
 
-abbrev pub NextsAt : Stage → Reading → Reading → Result (Option Entry) LogError → Type 0
-NextsAt fresh old new r = Steps old new r
-NextsAt entries old new r = Steps old new r
+abbrev pub NextsAt : Stage → ReaderState → ReaderState → Result (Option Entry) LogError → Type 0
+NextsAt fresh old new r = ReadsNext old new r
+NextsAt entries old new r = ReadsNext old new r
 NextsAt ended old new r = (r ≡ Ok None) × (new ≡ old)
 NextsAt failed old new r = (r ≡ Err errors.Failed) × (new ≡ old)
 
@@ -88,9 +88,9 @@ Heads xs (stops fault) = NoHeader xs × (fault ≡ Header)
 abbrev pub Opens : Option (List ℕ) → Option (List ℕ) → Bool → Bool → Result (Times × Place) LogError → Type 0
 Opens old left before after (Ok (p, place)) =
     (place ≡ record { stage = entries; held = place.held; times = Some p; count = 0; last = 0 })
-    × Says {A = Times} old (prepend_known place.held left) before after Heads gives (Ok p)
-Opens old left before after (Err e) = Says {A = Times} old left before after Heads gives (Err e)
+    × TellsWhatComes {A = Times} old (prepend_known place.held left) before after Heads gives (Ok p)
+Opens old left before after (Err e) = TellsWhatComes {A = Times} old left before after Heads gives (Err e)
 
 -- one call: it reads, unless the end was told or an error was, which it tells again
-abbrev pub Nexts : Reading → Reading → Result (Option Entry) LogError → Type 0
+abbrev pub Nexts : ReaderState → ReaderState → Result (Option Entry) LogError → Type 0
 Nexts old new r = NextsAt old.stage old new r

@@ -21,9 +21,9 @@ FailsAs before after P errors.Memory = Unit {0}
 FailsAs before after P errors.Failed = ⊥
 
 -- a value with what is left tells what comes in the input by P, and an error the fault; nothing where the bytes are not known
-abbrev pub Says : {A B : Type 0} → Option (List ℕ) → Option (List ℕ) → Bool → Bool → (List ℕ → Next B → Type 0) → (A → List ℕ → Next B) → Result A LogError → Type 0
-Says old new before after P seen (Ok a) = (after ≡ before) × IfSome old (λ xs. (ys : List ℕ) × (new ≡ Some ys) × P xs (seen a ys))
-Says old new before after P seen (Err e) = FailsAs before after (λ fault. IfSome old (λ xs. P xs (stops fault))) e
+abbrev pub TellsWhatComes : {A B : Type 0} → Option (List ℕ) → Option (List ℕ) → Bool → Bool → (List ℕ → Next B → Type 0) → (A → List ℕ → Next B) → Result A LogError → Type 0
+TellsWhatComes old new before after P seen (Ok a) = (after ≡ before) × IfSome old (λ xs. (ys : List ℕ) × (new ≡ Some ys) × P xs (seen a ys))
+TellsWhatComes old new before after P seen (Err e) = FailsAs before after (λ fault. IfSome old (λ xs. P xs (stops fault))) e
 
 -- the entry of a log that the code's entry is
 abbrev pub item : Entry → Item

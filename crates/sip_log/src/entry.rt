@@ -3,9 +3,9 @@ ghost use Rattle.std.specs.Prelude.{◌≡◌, ◌+◌, ◌<◌, ◌≤◌, IfOk
 ghost use Rattle.sip_times.specs.Times.{last_moment};
 ghost use Rattle.sip_log.specs.inner.Line.{KeepsLimits, cut_head, head_of, moment_of};
 ghost use Rattle.sip_log.specs.inner.Window.{unread};
-ghost use Rattle.sip_log.specs.inner.Entry.{AtMessage, AtBody, AtHead, AtLine, ComesNext};
+ghost use Rattle.sip_log.specs.inner.Entry.{MessageComes, BodyComes, HeadComes, LineComes, EntryComes};
 ghost use Rattle.sip_log.specs.Log.{most_entries};
-ghost use Rattle.sip_log.specs.Told.{Says, entry_next, next_of};
+ghost use Rattle.sip_log.specs.Told.{TellsWhatComes, entry_next, next_of};
 ghost use Rattle.sip_log.specs.Reading.{Continues};
 ghost use Rattle.sip_log.specs.inner.Line as log;
 
@@ -42,8 +42,8 @@ pub(crate) fn next_entry<R: Source>(
     requires { count ≤ most_entries }
     ensures few { IfOk result (λ e. OnSome e (count < most_entries)) }
     ensures entry { IfOk result (λ e. IfSome e (Continues (count + 1) last)) }
-    ensures says { Says (unread window.old (R.left source.old)) (unread window.new (R.left source.new))
-        (R.has_failed source.old) (R.has_failed source.new) (ComesNext count last) next_of result }
+    ensures says { TellsWhatComes (unread window.old (R.left source.old)) (unread window.new (R.left source.new))
+        (R.has_failed source.old) (R.has_failed source.new) (EntryComes count last) next_of result }
 {
     if !window.hold(source, 1)? {
         return Ok(None);
@@ -66,8 +66,8 @@ fn read_entry<R: Source>(
     last: u64,
 ) -> Result<Entry, LogError>
     ensures entry { IfOk result (Continues number last) }
-    ensures says { Says (unread window.old (R.left source.old)) (unread window.new (R.left source.new))
-        (R.has_failed source.old) (R.has_failed source.new) (AtLine last) entry_next result }
+    ensures says { TellsWhatComes (unread window.old (R.left source.old)) (unread window.new (R.left source.new))
+        (R.has_failed source.old) (R.has_failed source.new) (LineComes last) entry_next result }
 {
     let Some(len) = window.line_len(source, LONGEST_LINE)? else {
         if window.as_slice().len() < LONGEST_LINE {
@@ -92,8 +92,8 @@ fn after_line<R: Source>(
     head: Head,
 ) -> Result<Entry, LogError>
     ensures entry { IfOk result (Continues number last) }
-    ensures says { (h : log.Head) → head ≡ cut_head h → Says (unread window.old (R.left source.old)) (unread window.new (R.left source.new))
-        (R.has_failed source.old) (R.has_failed source.new) (AtHead last h) entry_next result }
+    ensures says { (h : log.Head) → head ≡ cut_head h → TellsWhatComes (unread window.old (R.left source.old)) (unread window.new (R.left source.new))
+        (R.has_failed source.old) (R.has_failed source.new) (HeadComes last h) entry_next result }
 {
     if !head.is_within_limits() {
         return Err(LogError::Limit);
@@ -114,8 +114,8 @@ fn read_body<R: Source>(
 ) -> Result<Entry, LogError>
     requires { KeepsLimits (head_of head) }
     ensures entry { IfOk result (Continues number (moment_of (head_of head))) }
-    ensures says { Says (unread window.old (R.left source.old)) (unread window.new (R.left source.new))
-        (R.has_failed source.old) (R.has_failed source.new) (AtBody (head_of head)) entry_next result }
+    ensures says { TellsWhatComes (unread window.old (R.left source.old)) (unread window.new (R.left source.new))
+        (R.has_failed source.old) (R.has_failed source.new) (BodyComes (head_of head)) entry_next result }
 {
     match head {
         Head::Message(action, moment, len) => {
@@ -143,8 +143,8 @@ fn read_message<R: Source>(
     requires moment { moment ≤ last_moment }
     requires len { len ≤ 65535 }
     ensures entry { IfOk result (Continues number moment) }
-    ensures says { Says (unread window.old (R.left source.old)) (unread window.new (R.left source.new))
-        (R.has_failed source.old) (R.has_failed source.new) (AtMessage action moment len) entry_next result }
+    ensures says { TellsWhatComes (unread window.old (R.left source.old)) (unread window.new (R.left source.new))
+        (R.has_failed source.old) (R.has_failed source.new) (MessageComes action moment len) entry_next result }
 {
     let len = len as usize;
     if !window.hold(source, len + 1)? {

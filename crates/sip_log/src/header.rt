@@ -1,10 +1,10 @@
 //! The first two lines of a log: the format and the times of the element.
 ghost use Rattle.std.specs.Prelude.{◌≡◌, ℕ, List, MatchOption};
 ghost use Rattle.sip_times.specs.Times.{Times, AreTimes};
-ghost use Rattle.sip_log.specs.inner.Header.{NumberAfter, TimesLine, ComesFirst, ComesSecond};
+ghost use Rattle.sip_log.specs.inner.Header.{NumberAfter, TimesLine, HeaderComes, ComesSecond};
 ghost use Rattle.sip_log.specs.Next.{gives};
 ghost use Rattle.sip_log.specs.inner.Number.{cut};
-ghost use Rattle.sip_log.specs.Told.{Says};
+ghost use Rattle.sip_log.specs.Told.{TellsWhatComes};
 ghost use Rattle.sip_log.specs.inner.Window.{unread};
 
 use crate::log_error::LogError;
@@ -22,8 +22,8 @@ pub(crate) fn read_header<R: Source>(
     window: &mut Window,
     source: &mut R,
 ) -> Result<Params, LogError>
-    ensures { Says (unread window.old (R.left source.old)) (unread window.new (R.left source.new))
-        (R.has_failed source.old) (R.has_failed source.new) ComesFirst gives result }
+    ensures { TellsWhatComes (unread window.old (R.left source.old)) (unread window.new (R.left source.new))
+        (R.has_failed source.old) (R.has_failed source.new) HeaderComes gives result }
 {
     let title = b"sip-trace 1\n";
     if !window.hold(source, title.len())? {
@@ -38,7 +38,7 @@ pub(crate) fn read_header<R: Source>(
 
 /// Reads line 2.
 fn read_second<R: Source>(window: &mut Window, source: &mut R) -> Result<Params, LogError>
-    ensures { Says (unread window.old (R.left source.old)) (unread window.new (R.left source.new))
+    ensures { TellsWhatComes (unread window.old (R.left source.old)) (unread window.new (R.left source.new))
         (R.has_failed source.old) (R.has_failed source.new) ComesSecond gives result }
 {
     let Some(len) = window.line_len(source, LONGEST_TIMES)? else {

@@ -4,7 +4,7 @@ ghost use Rattle.sip_times.specs.Times.{Times, AreTimes};
 ghost use Rattle.sip_log.specs.Next.{Next, gives};
 ghost use Rattle.sip_log.specs.Spelling.{Item, header_text, entry_text};
 ghost use Rattle.sip_log.specs.Turn.{ComeInTurn};
-ghost use Rattle.sip_log.specs.Log.{IsEntry, IsWithinLimits, most_entries, ComesNext, InOrder, LogEnd, Clean, IsLog, NoHeader, Log, Holds, IsLogOf};
+ghost use Rattle.sip_log.specs.Log.{IsEntry, IsWithinLimits, most_entries, ComesNext, InOrder, LogEnd, Clean, IsLog, NoHeader, Log, Readable, IsLogOf};
 ghost use Rattle.sip_log.specs.LogSays.{LogSays, LacksHeader};
 
 use crate::sink::Sink;
@@ -41,7 +41,7 @@ pub fn an_input_says_its_log()
 /// A header and entries, written one after another, are the log of what was written.
 pub fn what_is_written_is_read()
     ensures { (p : Times) (items : List Item) → AreTimes p → length items ≤ most_entries → InOrder 0 items →
-        IsLogOf (header_text p ++ flat_map entry_text items) (Holds p items Clean) }
+        IsLogOf (header_text p ++ flat_map entry_text items) (Readable p items Clean) }
 {}
 
 /// Behind any entries, an entry that is written there is what comes next, whatever stands behind it.
@@ -58,7 +58,7 @@ pub fn an_entry_is_written_as_it_was_read()
 
 /// Entries that were read in turn behind the header are a front of the log's, whatever is left to read.
 pub fn entries_read_in_turn_are_a_front_of_the_log()
-    ensures { (input : List ℕ) (p : Times) (items : List Item) (end : LogEnd) → IsLogOf input (Holds p items end) →
+    ensures { (input : List ℕ) (p : Times) (items : List Item) (end : LogEnd) → IsLogOf input (Readable p items end) →
         (behind left : List ℕ) (read : List Item) → input ≡ header_text p ++ behind → ComeInTurn 0 0 behind read left →
         (more : List Item) × (items ≡ read ++ more) }
 {}

@@ -1,8 +1,8 @@
 //! How far a log was read.
 ghost use Rattle.std.specs.Prelude.{◌≡◌, ℕ, List, [], None, IsSome};
-ghost use Rattle.sip_log.specs.Reading.{Stage, fresh, failed, Place, reading, Moves, Opens, Nexts};
-ghost use Rattle.sip_log.specs.Told.{Says, next_of};
-ghost use Rattle.sip_log.specs.inner.Entry.{ComesNext};
+ghost use Rattle.sip_log.specs.Reading.{Stage, fresh, failed, Place, beside_source, Moves, Opens, Nexts};
+ghost use Rattle.sip_log.specs.Told.{TellsWhatComes, next_of};
+ghost use Rattle.sip_log.specs.inner.Entry.{EntryComes};
 
 use crate::entry::{Entry, next_entry};
 use crate::header::read_header;
@@ -97,8 +97,8 @@ impl Progress {
     /// `LogError::Io` is answered only if the source has failed: in this call, if it had not before. After an
     /// error every later call answers `LogError::Failed`. The source must be the same one in each call.
     pub fn next<R: Source>(&mut self, source: &mut R) -> Result<Option<Entry>, LogError>
-        ensures { Nexts (reading self.old (R.left source.old) (R.has_failed source.old))
-            (reading self.new (R.left source.new) (R.has_failed source.new)) result }
+        ensures { Nexts (beside_source self.old (R.left source.old) (R.has_failed source.old))
+            (beside_source self.new (R.left source.new) (R.has_failed source.new)) result }
     {
         match mem::replace(&mut self.stage, Stage::Failed) {
             Stage::Fresh => {
@@ -128,10 +128,10 @@ impl Progress {
     ) -> Result<Option<Entry>, LogError>
         requires stage { self.old.stage ≡ failed }
         requires times { IsSome self.old.times }
-        ensures moves { Moves self.old.count self.old.last (reading self.new (R.left source.new) (R.has_failed source.new)) result }
+        ensures moves { Moves self.old.count self.old.last (beside_source self.new (R.left source.new) (R.has_failed source.new)) result }
         ensures times { self.new.times ≡ self.old.times }
-        ensures says { Says (unread window (R.left source.old)) (reading self.new (R.left source.new) (R.has_failed source.new)).left
-            (R.has_failed source.old) (R.has_failed source.new) (ComesNext self.old.count self.old.last) next_of result }
+        ensures says { TellsWhatComes (unread window (R.left source.old)) (beside_source self.new (R.left source.new) (R.has_failed source.new)).left
+            (R.has_failed source.old) (R.has_failed source.new) (EntryComes self.old.count self.old.last) next_of result }
     {
         match next_entry(self.alloc, &mut window, source, self.count, self.last) {
             Ok(Some(entry)) => {

@@ -1,6 +1,6 @@
 //! Reads a log, entry by entry.
 ghost use Rattle.std.specs.Prelude.{◌≡◌, None};
-ghost use Rattle.sip_log.specs.Reading.{fresh, Reading, reading, Nexts};
+ghost use Rattle.sip_log.specs.Reading.{fresh, ReaderState, beside_source, Nexts};
 
 use crate::entry::Entry;
 use crate::log_error::LogError;
@@ -18,11 +18,11 @@ pub struct LogReader<R: Source> {
 }
 
 impl<R: Source> Model for LogReader<R> {
-    ghost use Rattle.sip_log.specs.Reading.{Reading, reading};
+    ghost use Rattle.sip_log.specs.Reading.{ReaderState, beside_source};
 
-    ghost Value = { Reading };
+    ghost Value = { ReaderState };
 
-    ghost view = { λ r. reading r.progress (R.left r.source) (R.has_failed r.source) };
+    ghost view = { λ r. beside_source r.progress (R.left r.source) (R.has_failed r.source) };
 }
 
 impl<R: Source> LogReader<R> {

@@ -9,7 +9,7 @@ use Rattle.sip_machine.specs.declared.outbox.Debt.{Debt}
 use Rattle.sip_machine.specs.Times.{Times, last_moment}
 use Rattle.sip_machine.specs.Limits.{open_at, close_at, window_at}
 use Rattle.sip_machine.specs.Texts.{Texts, text_of}
-use Rattle.sip_machine.specs.Heard.{Heard}
+use Rattle.sip_machine.specs.MachineEvent.{MachineEvent}
 use Rattle.sip_machine.specs.Retransmits.{Retransmits}
 use Rattle.sip_machine.specs.Waiting.{Waiting, waiting_seen, WaitingInRange, waiting_fields}
 use Rattle.sip_machine.specs.Message.{IsProvisional, IsSuccess, IsUnsuccessful}
@@ -28,7 +28,7 @@ pub data InviteClientPhase : Type 0 where
   Completed : (reliable : Bool) (request : List ℕ) (set : ℕ) → InviteClientPhase
 
 -- the rows of a received response
-abbrev pub Receives : Times → InviteClientPhase → Kind → Heard → InviteClientPhase × Change → Type 0
+abbrev pub Receives : Times → InviteClientPhase → Kind → MachineEvent → InviteClientPhase × Change → Type 0
 -- 17.1.1.2: a provisional one stops timers A and B; RFC 6026: a 2xx starts timer M; 17.1.1.2: any other starts timer D, and is owed an ACK
 Receives p (Calling w) (Response code) e y =
     (IsProvisional code × (y ≡ (Proceeding w.reliable w.request None, keeps)))
@@ -42,7 +42,7 @@ Receives p (Completed reliable request set) (Response code) e y = IsUnsuccessful
 Receives p x k e y = ⊥
 
 -- the rows of a sent request
-abbrev pub Sends : Times → InviteClientPhase → Kind → Heard → InviteClientPhase × Change → Type 0
+abbrev pub Sends : Times → InviteClientPhase → Kind → MachineEvent → InviteClientPhase × Change → Type 0
 -- 17.1.1.2: timers A and B start, A at T1
 Sends p Idle (Request Invite) e y =
     y ≡ (Calling (record { reliable = e.reliable; request = e.text; start = e.moment; set = e.moment; interval = p.t1 }), keeps)
@@ -62,7 +62,7 @@ Sends p Ended (Request Cancel) e y = y ≡ (Ended, keeps)
 Sends p x k e y = ⊥
 
 -- an ACK of the INVITE pays the response that it is for, section 17.1.1.3
-abbrev pub Satisfies : InviteClientPhase → Kind → Heard → List ℕ → Type 0
+abbrev pub Satisfies : InviteClientPhase → Kind → MachineEvent → List ℕ → Type 0
 Satisfies (Completed reliable request set) (Request Ack) e response = AckOf e.text request response
 Satisfies x k e response = ⊥
 

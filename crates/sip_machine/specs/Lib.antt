@@ -4,7 +4,7 @@ pub mod Texts
 pub mod Told
 pub mod Message
 pub mod NumberedEvent
-pub mod Heard
+pub mod MachineEvent
 pub mod Retransmits
 pub mod Waiting
 pub mod Rules

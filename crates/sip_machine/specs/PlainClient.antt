@@ -7,7 +7,7 @@ use Rattle.sip_machine.specs.declared.debts.NoDebts.{NoDebts}
 use Rattle.sip_machine.specs.Times.{Times, last_moment}
 use Rattle.sip_machine.specs.Limits.{close_at, window_at}
 use Rattle.sip_machine.specs.Texts.{Texts}
-use Rattle.sip_machine.specs.Heard.{Heard}
+use Rattle.sip_machine.specs.MachineEvent.{MachineEvent}
 use Rattle.sip_machine.specs.Retransmits.{Retransmits}
 use Rattle.sip_machine.specs.Waiting.{Waiting, waiting_seen, WaitingInRange, waiting_fields}
 use Rattle.sip_machine.specs.Message.{IsProvisional, IsFinal}
@@ -24,14 +24,14 @@ pub data PlainClientPhase : Type 0 where
   Completed : (reliable : Bool) (set : ℕ) → PlainClientPhase
 
 -- the rows of a received response: a provisional one leaves timer E as it is, and a final one starts timer K
-abbrev pub Receives : Times → PlainClientPhase → Kind → Heard → PlainClientPhase × Change → Type 0
+abbrev pub Receives : Times → PlainClientPhase → Kind → MachineEvent → PlainClientPhase × Change → Type 0
 Receives p (Trying w) (Response code) e y =
     (IsProvisional code × (y ≡ (Proceeding w, keeps))) ⊎ (IsFinal code × (y ≡ (Completed w.reliable e.moment, keeps)))
 Receives p (Proceeding w) (Response code) e y = IsFinal code × (y ≡ (Completed w.reliable e.moment, keeps))
 Receives p x k e y = ⊥
 
 -- the rows of a sent request: timers E and F start, E at T1; E fires, and starts again at twice its interval up to T2, in proceeding at T2
-abbrev pub Sends : Times → PlainClientPhase → Kind → Heard → PlainClientPhase × Change → Type 0
+abbrev pub Sends : Times → PlainClientPhase → Kind → MachineEvent → PlainClientPhase × Change → Type 0
 Sends p Idle (Request method) e y =
     y ≡ (Trying (record { reliable = e.reliable; request = e.text; start = e.moment; set = e.moment; interval = p.t1 }), keeps)
 Sends p (Trying w) (Request method) e y =

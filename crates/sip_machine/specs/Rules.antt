@@ -1,13 +1,13 @@
 use Rattle.std.specs.Prelude.{◌≡◌, ◌≢◌, ◌↔◌, ◌⊎◌, ℕ, Option, None, List, All, Contains, AllPairs, map}
 use Rattle.sip_machine.specs.Limits.{IsWithin, IsOpenAt}
 use Rattle.sip_machine.specs.Texts.{Texts, Keeps}
-use Rattle.sip_machine.specs.Heard.{Heard}
+use Rattle.sip_machine.specs.MachineEvent.{MachineEvent}
 
 -- a machine over states X: its first state, its ended state, its visible steps, when it may end and how long it may stay
 pub record Rules (X : Type 0) : Type 1 where
   pub first : X
   pub ended : X
-  pub Take : X → Heard → X → Type 0
+  pub Take : X → MachineEvent → X → Type 0
   pub window : X → Option (ℕ × Option ℕ)
   pub until : X → Option ℕ
 
@@ -31,7 +31,7 @@ pub record IsLawful {X : Type 0} (r : Rules X) : Type 0 where
   pub first_stays : r.until r.first ≡ None
   pub ended_has_no_end : r.window r.ended ≡ None
   pub ended_stays : r.until r.ended ≡ None
-  pub fresh : (x : X) (e : Heard) (y : X) → r.Take x e y → Waits r y e.moment
+  pub fresh : (x : X) (e : MachineEvent) (y : X) → r.Take x e y → Waits r y e.moment
 
 -- the messages that a state names are kept
 abbrev pub Knows : {S : Type 0} → (S → List ℕ) → Texts → S → Type 0

@@ -3,7 +3,7 @@ use Rattle.sip_machine.specs.declared.waiting.Waiting.{Waiting as CodeWaiting}
 use Rattle.sip_machine.specs.Times.{Times, last_moment}
 use Rattle.sip_machine.specs.Limits.{close_at}
 use Rattle.sip_machine.specs.Texts.{Texts, text_of}
-use Rattle.sip_machine.specs.Told.{Field, Flag, Number, Message}
+use Rattle.sip_machine.specs.Told.{ToldField, Flag, Number, Message}
 
 -- a request that waits for its response, sections 17.1.1.2 and 17.1.2.2: when timer B or F started, and when timer A or E was set, and for how long
 pub record Waiting : Type 0 where
@@ -18,7 +18,7 @@ abbrev pub waiting_closes : Times → Waiting → ℕ → List ℕ
 waiting_closes p w patience = close_at p w.start patience ∷ (if w.reliable then [] else close_at p w.set w.interval ∷ [])
 
 -- what its phase tells of it
-abbrev pub waiting_fields : {M : Type 0} → (reliable : Bool) (request : M) (start set interval : ℕ) → List (Field M)
+abbrev pub waiting_fields : {M : Type 0} → (reliable : Bool) (request : M) (start set interval : ℕ) → List (ToldField M)
 waiting_fields reliable request start set interval =
     Flag (codes "reliable") reliable ∷ Message (codes "request") (Some request) ∷ Number (codes "start") (Some start)
     ∷ Number (codes "set") (Some set) ∷ Number (codes "interval") (Some interval) ∷ []

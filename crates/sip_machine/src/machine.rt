@@ -1,6 +1,6 @@
 //! What every machine of a transaction (RFC 3261 section 17) offers, and the laws that it keeps.
 ghost use Rattle.std.specs.Prelude.{◌≡◌, ◌++◌, [], ℕ, List, Option, OnOk, OnErr, Contains, true};
-ghost use Rattle.sip_machine.specs.Heard.{FitsBook, heard};
+ghost use Rattle.sip_machine.specs.MachineEvent.{FitsBook, event_in};
 ghost use Rattle.sip_machine.specs.Texts.{Texts, IsBook, text_of};
 ghost use Rattle.sip_machine.specs.Rules.{Rules, IsLawful, Knows, StandFor};
 ghost use Rattle.sip_machine.specs.Naming.{AppendsAll};
@@ -63,7 +63,7 @@ pub trait Machine: Drop {
         requires in_range { in_range state.now }
         ensures ok { OnOk result ((added : List Self.State) × (out.new.items ≡ out.old.items ++ added)
             × StandFor names in_range seen book.now
-            ((rules self.now).Take (seen book.now state.now) (heard book.now event.now)) added) }
+            ((rules self.now).Take (seen book.now state.now) (event_in book.now event.now)) added) }
         ensures err { OnErr result (out.new.items ≡ out.old.items) };
 
     /// From when, and until when if there is such a moment, the state may end; None if it may not.

@@ -2,7 +2,7 @@
 ghost use Rattle.std.specs.Prelude.{◌≤◌, ◌<◌, ◌^◌, ◌↔◌, IsTrue};
 ghost use Rattle.sip_machine.specs.Times.{last_moment};
 ghost use Rattle.sip_machine.specs.Texts.{Keeps, text_of};
-ghost use Rattle.sip_machine.specs.Heard.{FitsBook, heard};
+ghost use Rattle.sip_machine.specs.MachineEvent.{FitsBook, event_in};
 ghost use Rattle.sip_machine.specs.Retransmits.{Retransmits};
 
 use crate::book::Book;
@@ -24,7 +24,7 @@ pub(crate) fn retransmits(
     requires set { set ≤ last_moment }
     requires interval { interval < 2 ^ 50 }
     ensures { IsTrue result ↔
-        Retransmits params.now reliable (text_of book.now message) set interval (heard book.now event.now) }
+        Retransmits params.now reliable (text_of book.now message) set interval (event_in book.now event.now) }
 {
     book.known();
     event.number() == message && !reliable && params.opens(set, interval) <= event.moment()

@@ -1,11 +1,11 @@
 //! A request that a client sent, and that waits for its response (RFC 3261 sections 17.1.1.2 and 17.1.2.2).
 ghost use Rattle.std.specs.Prelude.{◌≡◌, ◌≤◌, ◌↔◌, IsTrue, Some, map};
 ghost use Rattle.sip_machine.specs.Texts.{Texts, Keeps, text_of};
-ghost use Rattle.sip_machine.specs.Heard.{FitsBook, heard};
+ghost use Rattle.sip_machine.specs.MachineEvent.{FitsBook, event_in};
 ghost use Rattle.sip_machine.specs.Retransmits.{Retransmits};
 ghost use Rattle.sip_machine.specs.Debts.{earliest};
 ghost use Rattle.sip_machine.specs.Waiting.{waiting_closes, waiting_fields, waiting_seen, WaitingInRange};
-ghost use Rattle.sip_machine.specs.Told.{field_of};
+ghost use Rattle.sip_machine.specs.Told.{told_field};
 
 use crate::book::Book;
 use crate::event::Event;
@@ -37,7 +37,7 @@ impl Waiting {
         requires in_range { WaitingInRange self.now }
         ensures { IsTrue result ↔
             Retransmits params.now self.now.reliable (text_of book.now self.now.request) self.now.set self.now.interval
-            (heard book.now event.now) }
+            (event_in book.now event.now) }
     {
         retransmits(
             params,
@@ -66,7 +66,7 @@ impl Waiting {
 
     /// What its phase tells of it.
     pub(crate) fn fields(&self) -> [Field; 5]
-        ensures { map field_of result ≡ waiting_fields self.now.reliable self.now.request self.now.start self.now.set self.now.interval }
+        ensures { map told_field result ≡ waiting_fields self.now.reliable self.now.request self.now.start self.now.set self.now.interval }
     {
         [
             Field::Flag("reliable", self.reliable),

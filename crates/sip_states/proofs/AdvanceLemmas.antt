@@ -12,7 +12,7 @@ use Rattle.sip_key.specs.Key.{KeyParts}
 use Rattle.sip_machine.specs.Times.{Times}
 use Rattle.sip_machine.proofs.TextLaws.{Contains-nil, Contains-cons_cases}
 use Rattle.sip_states.specs.KeyMachine.{machine_of_key}
-use Rattle.sip_states.specs.AnySet.{Waits, moment_of, start_of}
+use Rattle.sip_states.specs.AnySet.{SetWaits, moment_of, start_of}
 use Rattle.sip_states.specs.Tables.{Tabled}
 use Rattle.sip_states.specs.Sweep.{numbers_of, IsAdvanced, AppendsNamed}
 use Rattle.sip_states.specs.inner.Marks.{IsMarked, AreMarked}
@@ -47,7 +47,7 @@ advances_none moment old = record { long = refl; each = λ n a b was is. inr (Co
 
 -- one more has
 pub advances_more : (moment : ℕ) (indices : List ℕ) (old now : List AnySet) (index : ℕ) (set after : AnySet) → AdvancesAt moment indices old now → ¬ Contains indices index
-    → slice_get now index ≡ Some set → Waits moment set after → AdvancesAt moment (indices ++ index ∷ []) old (slice_set now index after)
+    → slice_get now index ≡ Some set → SetWaits moment set after → AdvancesAt moment (indices ++ index ∷ []) old (slice_set now index after)
 advances_more moment indices old now index set after up fresh at waits = record {
   long = length-set now index after ∙ up.long;
   each = λ n a b was is. elim (set_place now index n after b is) [
@@ -55,7 +55,7 @@ advances_more moment indices old now index set after up fresh at waits = record 
       | inl early ↦ absurd (fresh (subst (Contains indices) here.0 early.0))
       | inr same ↦ inl (
         subst (Contains (indices ++ index ∷ [])) (sym here.0) (Contains-push indices index),
-        subst (λ x. Waits moment a x) here.1 (subst (λ x. Waits moment x after) same.1 waits),
+        subst (λ x. SetWaits moment a x) here.1 (subst (λ x. SetWaits moment x after) same.1 waits),
       )
     ]
     | inr other ↦ elim (up.each n a b was other.1) [

@@ -9,36 +9,36 @@ use Rattle.sip_machine.specs.Transaction.{idle_state}
 use Rattle.sip_machine.specs.inner.FigureLaws.{rules_lawful}
 use Rattle.sip_machine.specs.inner.OwingLaws.{owing_by_names, quiet_stands}
 use Rattle.sip_states.specs.Held.{Held}
-use Rattle.sip_states.specs.KeyMachine.{MachineKind, transaction, coded, is_coded, PhaseOf, rules_of, StateOf, set_of, held_of, held_is, set_is, start_is, start_of_machine, of_machine, to_machine, of_one_machine}
+use Rattle.sip_states.specs.KeyMachine.{MachineKind, transaction_of, coded_of, coded_holds, PhaseOf, key_rules, StateOf, set_of, held_of, held_is, set_is, start_is, start_of_machine, of_machine, to_machine, of_one_machine}
 use Rattle.sip_states.specs.Meaning.{Meaning}
 use Rattle.sip_states.specs.AnySet.{meaning_of, OfHeld, OfSet, OfHelds, OfSets, moment_of}
 use Rattle.sip_states.specs.Sweep.{names_of, numbers_of, AppendsNumbers}
 use Rattle.sip_states.specs.declared.any_set.AnySet.{AnySet}
 
 -- its rules are those of its machine
-pub rules_are : (p : Times) (machine : MachineKind) → (meaning_of machine).rules p ≡ rules_of p machine
+pub rules_are : (p : Times) (machine : MachineKind) → (meaning_of machine).rules p ≡ key_rules p machine
 rules_are p machine = refl
 
 -- which are lawful
 pub lawful_of : (machine : MachineKind) (p : Times) → IsLawful ((meaning_of machine).rules p)
-lawful_of machine p = rules_lawful (transaction machine).figure (is_coded machine).is_figure p
+lawful_of machine p = rules_lawful (transaction_of machine).figure (coded_holds machine).is_figure p
 
 -- a state stands for the same beside any book that has the messages that it names
 pub seen_by_names_of : (machine : MachineKind) (a b : Texts) (x : StateOf machine)
     → ((n : ℕ) → Contains ((meaning_of machine).names x) n → text_of a n ≡ text_of b n) → (meaning_of machine).seen a x ≡ (meaning_of machine).seen b x
-seen_by_names_of machine a b x h = owing_by_names (coded machine).names (coded machine).seen a b ((is_coded machine).by_names a b) x h
+seen_by_names_of machine a b x h = owing_by_names (coded_of machine).names (coded_of machine).seen a b ((coded_holds machine).by_names a b) x h
 
 -- the first state
 abbrev pub first_of : (machine : MachineKind) → StateOf machine
-first_of machine = idle_state (coded machine)
+first_of machine = idle_state (coded_of machine)
 
 pub first_is_of : (machine : MachineKind) (texts : Texts) (p : Times) → (meaning_of machine).seen texts (first_of machine) ≡ ((meaning_of machine).rules p).first
 first_is_of machine texts p =
-    quiet_stands (coded machine).seen texts (coded machine).idle (transaction machine).figure.idle ((is_coded machine).idle_is texts)
+    quiet_stands (coded_of machine).seen texts (coded_of machine).idle (transaction_of machine).figure.idle ((coded_holds machine).idle_is texts)
 
 -- it names no message
 pub first_knows : (machine : MachineKind) (texts : Texts) → Knows (meaning_of machine).names texts (first_of machine)
-first_knows machine texts = subst (λ names. All (Keeps texts) (names ++ [])) (sym (is_coded machine).idle_names) (All-nil (Keeps texts))
+first_knows machine texts = subst (λ names. All (Keeps texts) (names ++ [])) (sym (coded_holds machine).idle_names) (All-nil (Keeps texts))
 
 -- each set is one of some machine
 pub some_machine : (set : AnySet) → (machine : MachineKind) × (s : Held Times (StateOf machine)) × (set ≡ set_of machine s)
@@ -62,7 +62,7 @@ numbers_appended set old new appends =
 -- the set that a machine starts with names nothing
 pub start_silent : (p : Times) (machine : MachineKind) → numbers_of (start_of_machine p machine) ≡ []
 start_silent p machine =
-    ap numbers_of (start_is p machine) ∙ numbers_are machine (record { machine = p; moment = 0; states = first_of machine ∷ [] }) ∙ ap (λ names. (names ++ []) ++ []) (is_coded machine).idle_names
+    ap numbers_of (start_is p machine) ∙ numbers_are machine (record { machine = p; moment = 0; states = first_of machine ∷ [] }) ∙ ap (λ names. (names ++ []) ++ []) (coded_holds machine).idle_names
 
 module _ (P : (X M S : Type 0) → Meaning X M S → Held M S → Type 0) where
   -- what holds of a set of a machine

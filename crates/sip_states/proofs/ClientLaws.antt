@@ -9,33 +9,33 @@ use Rattle.sip_machine.specs.declared.event.Kind.{Kind}
 use Rattle.sip_machine.specs.declared.event.Kind.TheVariants.{Request, Response}
 use Rattle.sip_machine.specs.Times.{Times}
 use Rattle.sip_machine.specs.Limits.{open_at}
-use Rattle.sip_machine.specs.Heard.{Heard}
+use Rattle.sip_machine.specs.MachineEvent.{MachineEvent}
 use Rattle.sip_machine.specs.Message.{IsFinal}
 use Rattle.sip_machine.specs.Debts.{Owed, unexpired}
-use Rattle.sip_machine.specs.Figure.{Figure, After as Row, Owing, led, Emits, Fails, Steps, rules_of as rules_of_figure}
+use Rattle.sip_machine.specs.Figure.{Figure, After as Row, Owing, led_to, Emits, Fails, Steps, rules_of as rules_of_figure}
 use Rattle.sip_machine.specs.InviteClient as invite
 use Rattle.sip_machine.specs.PlainClient as plain
-use Rattle.sip_states.specs.Runs.{Step, Hides, Takes, Does, Goes, taken, After}
-use Rattle.sip_states.specs.KeyMachine.{OfInviteClient, OfPlainClient, rules_of}
+use Rattle.sip_states.specs.Runs.{Step, Hides, Takes, Does, Goes, taken, AfterRun}
+use Rattle.sip_states.specs.KeyMachine.{OfInviteClient, OfPlainClient, key_rules}
 use Rattle.sip_states.proofs.RunLemmas.{Goes-last}
 use Rattle.sip_states.proofs.FewerLemmas.{Goes-through}
 
 -- what every row of a figure keeps of a phase, and the end has
 record IsKept {X : Type 0} (f : Figure X) (p : Times) (P : X → Type 0) : Type 0 where
   pub ended : P f.ended
-  pub received : (x : X) (k : Kind) (e : Heard) (y : Row X) → f.Receives p x k e y → P x → P y.0
-  pub sent : (x : X) (k : Kind) (e : Heard) (y : Row X) → f.Sends p x k e y → P x → P y.0
+  pub received : (x : X) (k : Kind) (e : MachineEvent) (y : Row X) → f.Receives p x k e y → P x → P y.0
+  pub sent : (x : X) (k : Kind) (e : MachineEvent) (y : Row X) → f.Sends p x k e y → P x → P y.0
 
 module _ {X : Type 0} (f : Figure X) (p : Times) (P : X → Type 0) (kept : IsKept f p P) where
-  emits_keeps : (e : Heard) (x y : Owing X) → Emits f p e x y → P x.phase → P y.phase
+  emits_keeps : (e : MachineEvent) (x y : Owing X) → Emits f p e x y → P x.phase → P y.phase
   emits_keeps e x y (inl (row, is_row, is)) holds = rw is (kept.sent x.phase e.kind e row is_row holds)
   emits_keeps e x y (inr (left, pays, is)) holds = rw is holds
 
-  fails_keeps : (ends : Bool) (e : Heard) (x y : Owing X) → Fails ends f p e x y → P x.phase → P y.phase
+  fails_keeps : (ends : Bool) (e : MachineEvent) (x y : Owing X) → Fails ends f p e x y → P x.phase → P y.phase
   fails_keeps true e x y (some, is) holds = rw is kept.ended
   fails_keeps false e x y h holds = emits_keeps e x y h holds
 
-  steps_keep : (a : Action) (e : Heard) (x y : Owing X) → Steps f p a e x y → P x.phase → P y.phase
+  steps_keep : (a : Action) (e : MachineEvent) (x y : Owing X) → Steps f p a e x y → P x.phase → P y.phase
   steps_keep Received e x y (inl (row, is_row, is)) holds = rw is (kept.received x.phase e.kind e row is_row holds)
   steps_keep Received e x y (inr (none, same)) holds = rw same holds
   steps_keep Sent e x y h holds = emits_keeps e x y h holds
@@ -49,19 +49,19 @@ module _ {X : Type 0} (f : Figure X) (p : Times) (P : X → Type 0) (kept : IsKe
 
 module _ {X : Type 0} (f : Figure X) (p : Times) where
   -- a state when an event comes
-  abbrev when : Heard → Owing X → Owing X
+  abbrev when : MachineEvent → Owing X → Owing X
   when e x = record { phase = x.phase; owes = unexpired e.moment x.owes }
 
   -- the step of an event with this action
-  step_of : (a : Action) (e : Heard) (x y : Owing X) → e.action ≡ a → Does (rules_of_figure f p) x (Takes e) y → Steps f p a e (when e x) y
+  step_of : (a : Action) (e : MachineEvent) (x y : Owing X) → e.action ≡ a → Does (rules_of_figure f p) x (Takes e) y → Steps f p a e (when e x) y
   step_of a e x y is does = subst (λ b. Steps f p b e (when e x) y) is does.1.1
 
 -- Ranks: 0 before a request, 1 before its final response, 2 behind it; no row leads to a lower one.
 
 record IsRanked {X : Type 0} (f : Figure X) (p : Times) (rank : X → ℕ) : Type 0 where
   pub ended : rank f.ended ≡ 2
-  pub received : (x : X) (k : Kind) (e : Heard) (y : Row X) → f.Receives p x k e y → rank x ≤ rank y.0
-  pub sent : (x : X) (k : Kind) (e : Heard) (y : Row X) → f.Sends p x k e y → rank x ≤ rank y.0
+  pub received : (x : X) (k : Kind) (e : MachineEvent) (y : Row X) → f.Receives p x k e y → rank x ≤ rank y.0
+  pub sent : (x : X) (k : Kind) (e : MachineEvent) (y : Row X) → f.Sends p x k e y → rank x ≤ rank y.0
 
 module _ {X : Type 0} (f : Figure X) (p : Times) (rank : X → ℕ) (ranked : IsRanked f p rank) where
   rank_kept : (n : ℕ) → n ≤ 2 → IsKept f p (λ x. n ≤ rank x)
@@ -73,12 +73,12 @@ module _ {X : Type 0} (f : Figure X) (p : Times) (rank : X → ℕ) (ranked : Is
 
   -- what leads to ranks 1 and 2, and what may be sent from rank 2
   module _ (IsFirst IsSent : Kind → Type 0)
-      (opens : (e : Heard) (x y : Owing X) → Emits f p e x y → IsFirst e.kind → 1 ≤ rank y.phase)
-      (finishes : (code : ℕ) (e : Heard) (x y : Owing X) → Steps f p Received e x y → e.kind ≡ Response code → IsFinal code → 1 ≤ rank x.phase → 2 ≤ rank y.phase)
-      (sends : (e : Heard) (x y : Owing X) → Emits f p e x y → 2 ≤ rank x.phase → IsSent e.kind) where
-    behind_final : (before between behind : List Heard) (request final e : Heard) (code : ℕ) (y : Owing X) → request.action ≡ Sent → IsFirst request.kind →
+      (opens : (e : MachineEvent) (x y : Owing X) → Emits f p e x y → IsFirst e.kind → 1 ≤ rank y.phase)
+      (finishes : (code : ℕ) (e : MachineEvent) (x y : Owing X) → Steps f p Received e x y → e.kind ≡ Response code → IsFinal code → 1 ≤ rank x.phase → 2 ≤ rank y.phase)
+      (sends : (e : MachineEvent) (x y : Owing X) → Emits f p e x y → 2 ≤ rank x.phase → IsSent e.kind) where
+    behind_final : (before between behind : List MachineEvent) (request final e : MachineEvent) (code : ℕ) (y : Owing X) → request.action ≡ Sent → IsFirst request.kind →
         final.action ≡ Received → final.kind ≡ Response code → IsFinal code → e.action ≡ Sent →
-        After (rules_of_figure f p) (before ++ request ∷ (between ++ final ∷ behind)) e y → IsSent e.kind
+        AfterRun (rules_of_figure f p) (before ++ request ∷ (between ++ final ∷ behind)) e y → IsSent e.kind
     behind_final before between behind request final e code y request_sent first final_received is_response is_final e_sent after =
         let r = rules_of_figure f p in
         let last = Goes-last r r.first 0 after.steps (Takes e) y after.goes in
@@ -91,10 +91,10 @@ module _ {X : Type 0} (f : Figure X) (p : Times) (rank : X → ℕ) (ranked : Is
         sends e (when f p e last.before) y (step_of f p Sent e last.before y e_sent last.does) still
 
 -- the row of a received message leads on, where there is one
-module _ {X : Type 0} (f : Figure X) (p : Times) (rank : X → ℕ) (x y : Owing X) (e : Heard) (row : Row X) where
+module _ {X : Type 0} (f : Figure X) (p : Times) (rank : X → ℕ) (x y : Owing X) (e : MachineEvent) (row : Row X) where
   leads_on : (k : Kind) → e.kind ≡ k → f.Receives p x.phase k e row → ((other : Row X) → f.Receives p x.phase k e other → 2 ≤ rank other.0) → Steps f p Received e x y → 2 ≤ rank y.phase
   leads_on k is is_row all (inl (other, is_other, to)) = rw to (all other (subst (λ j. f.Receives p x.phase j e other) is is_other))
-  leads_on k is is_row all (inr (none, same)) = absurd (none (led p e.moment x.owes row) (row, subst (λ j. f.Receives p x.phase j e row) (sym is) is_row, refl))
+  leads_on k is is_row all (inr (none, same)) = absurd (none (led_to p e.moment x.owes row) (row, subst (λ j. f.Receives p x.phase j e row) (sym is) is_row, refl))
 
 -- The INVITE client.
 
@@ -106,7 +106,7 @@ invite_rank (invite.Accepted set) = 2
 invite_rank (invite.Completed reliable request set) = 2
 invite_rank invite.Ended = 2
 
-invite_received : (p : Times) (x : invite.InviteClientPhase) (k : Kind) (e : Heard) (y : Row invite.InviteClientPhase) → invite.Receives p x k e y → invite_rank x ≤ invite_rank y.0
+invite_received : (p : Times) (x : invite.InviteClientPhase) (k : Kind) (e : MachineEvent) (y : Row invite.InviteClientPhase) → invite.Receives p x k e y → invite_rank x ≤ invite_rank y.0
 invite_received p (invite.Calling w) (Response code) e y (inl h) = rw h.1 (omega arith)
 invite_received p (invite.Calling w) (Response code) e y (inr (inl h)) = rw h.1 (omega arith)
 invite_received p (invite.Calling w) (Response code) e y (inr (inr h)) = rw h.1 (omega arith)
@@ -115,7 +115,7 @@ invite_received p (invite.Proceeding reliable request cancel) (Response code) e 
 invite_received p (invite.Completed reliable request set) (Response code) e y h = rw h.1 (omega arith)
 invite_received p x k e y h = absurd h
 
-invite_sent : (p : Times) (x : invite.InviteClientPhase) (k : Kind) (e : Heard) (y : Row invite.InviteClientPhase) → invite.Sends p x k e y → invite_rank x ≤ invite_rank y.0
+invite_sent : (p : Times) (x : invite.InviteClientPhase) (k : Kind) (e : MachineEvent) (y : Row invite.InviteClientPhase) → invite.Sends p x k e y → invite_rank x ≤ invite_rank y.0
 invite_sent p invite.Idle k e y h = omega arith
 invite_sent p (invite.Calling w) (Request Invite) e y h = rw h.1 (omega arith)
 invite_sent p (invite.Proceeding reliable request None) (Request Cancel) e y h = rw h (omega arith)
@@ -129,7 +129,7 @@ invite_ranked : (p : Times) → IsRanked invite.invite_client p invite_rank
 invite_ranked p = record { ended = refl; received = invite_received p; sent = invite_sent p }
 
 -- an INVITE that is sent leaves idle
-invite_opens_row : (p : Times) (x : invite.InviteClientPhase) (e : Heard) (y : Row invite.InviteClientPhase) → invite.Sends p x (Request Invite) e y → 1 ≤ invite_rank y.0
+invite_opens_row : (p : Times) (x : invite.InviteClientPhase) (e : MachineEvent) (y : Row invite.InviteClientPhase) → invite.Sends p x (Request Invite) e y → 1 ≤ invite_rank y.0
 invite_opens_row p invite.Idle e y h = rw h (omega arith)
 invite_opens_row p (invite.Calling w) e y h = rw h.1 (omega arith)
 invite_opens_row p (invite.Proceeding reliable request None) e y h = absurd h
@@ -137,19 +137,19 @@ invite_opens_row p (invite.Proceeding reliable request (Some first)) e y h = abs
 invite_opens_row p x e y h = absurd h
 
 -- only an ACK pays
-pays_ack : (x : invite.InviteClientPhase) (k : Kind) (e : Heard) (response : List ℕ) → invite.Satisfies x k e response → k ≡ Request Ack
+pays_ack : (x : invite.InviteClientPhase) (k : Kind) (e : MachineEvent) (response : List ℕ) → invite.Satisfies x k e response → k ≡ Request Ack
 pays_ack (invite.Completed reliable request set) (Request Ack) e response h = refl
 pays_ack x k e response h = absurd h
 
 no_invite : Request Invite ≡ Request Ack → ⊥
 no_invite same = cc
 
-invite_opens : (p : Times) (e : Heard) (x y : Owing invite.InviteClientPhase) → Emits invite.invite_client p e x y → e.kind ≡ Request Invite → 1 ≤ invite_rank y.phase
+invite_opens : (p : Times) (e : MachineEvent) (x y : Owing invite.InviteClientPhase) → Emits invite.invite_client p e x y → e.kind ≡ Request Invite → 1 ≤ invite_rank y.phase
 invite_opens p e x y (inl (row, is_row, to)) is = rw to (invite_opens_row p x.phase e row (subst (λ k. invite.Sends p x.phase k e row) is is_row))
 invite_opens p e x y (inr (left, pays, to)) is = absurd (no_invite (sym is ∙ pays_ack x.phase e.kind e pays.first.message pays.holds.0))
 
 -- a final response leaves calling and proceeding
-module _ (p : Times) (code : ℕ) (e : Heard) (y : Owing invite.InviteClientPhase) (is : e.kind ≡ Response code) (final : IsFinal code) where
+module _ (p : Times) (code : ℕ) (e : MachineEvent) (y : Owing invite.InviteClientPhase) (is : e.kind ≡ Response code) (final : IsFinal code) where
   still_over : (phase : invite.InviteClientPhase) (owes : List Owed) → 2 ≤ invite_rank phase → Steps invite.invite_client p Received e (record { phase = phase; owes = owes }) y → 2 ≤ invite_rank y.phase
   still_over phase owes over h = steps_keep invite.invite_client p (λ x. 2 ≤ invite_rank x) (rank_kept invite.invite_client p invite_rank (invite_ranked p) 2 (omega arith)) Received e _ y h over
 
@@ -179,7 +179,7 @@ module _ (p : Times) (code : ℕ) (e : Heard) (y : Owing invite.InviteClientPhas
   invite_finishes invite.Ended owes low h = still_over invite.Ended owes (omega arith) h
 
 -- behind it only an ACK or a CANCEL is sent
-invite_sends_row : (p : Times) (x : invite.InviteClientPhase) (k : Kind) (e : Heard) (y : Row invite.InviteClientPhase) → 2 ≤ invite_rank x → invite.Sends p x k e y → (k ≡ Request Ack) ⊎ (k ≡ Request Cancel)
+invite_sends_row : (p : Times) (x : invite.InviteClientPhase) (k : Kind) (e : MachineEvent) (y : Row invite.InviteClientPhase) → 2 ≤ invite_rank x → invite.Sends p x k e y → (k ≡ Request Ack) ⊎ (k ≡ Request Cancel)
 invite_sends_row p invite.Idle k e y low h = absurd (omega arith)
 invite_sends_row p (invite.Calling w) k e y low h = absurd (omega arith)
 invite_sends_row p (invite.Proceeding reliable request cancel) k e y low h = absurd (omega arith)
@@ -188,21 +188,21 @@ invite_sends_row p (invite.Completed reliable request set) (Request Cancel) e y 
 invite_sends_row p invite.Ended (Request Cancel) e y low h = inr refl
 invite_sends_row p x k e y low h = absurd h
 
-invite_sends : (p : Times) (e : Heard) (x y : Owing invite.InviteClientPhase) → Emits invite.invite_client p e x y → 2 ≤ invite_rank x.phase → (e.kind ≡ Request Ack) ⊎ (e.kind ≡ Request Cancel)
+invite_sends : (p : Times) (e : MachineEvent) (x y : Owing invite.InviteClientPhase) → Emits invite.invite_client p e x y → 2 ≤ invite_rank x.phase → (e.kind ≡ Request Ack) ⊎ (e.kind ≡ Request Cancel)
 invite_sends p e x y (inl (row, is_row, to)) low = invite_sends_row p x.phase e.kind e row low is_row
 invite_sends p e x y (inr (left, pays, to)) low = inl (pays_ack x.phase e.kind e pays.first.message pays.holds.0)
 
 -- behind a final response of its INVITE a client sends ACK and CANCEL alone
-pub invite_behind_final : (p : Times) (before between behind : List Heard) (request final e : Heard) (code : ℕ) (y : Owing invite.InviteClientPhase) → request.action ≡ Sent → request.kind ≡ Request Invite →
+pub invite_behind_final : (p : Times) (before between behind : List MachineEvent) (request final e : MachineEvent) (code : ℕ) (y : Owing invite.InviteClientPhase) → request.action ≡ Sent → request.kind ≡ Request Invite →
     final.action ≡ Received → final.kind ≡ Response code → IsFinal code → e.action ≡ Sent →
-    After (rules_of p OfInviteClient) (before ++ request ∷ (between ++ final ∷ behind)) e y → (e.kind ≡ Request Ack) ⊎ (e.kind ≡ Request Cancel)
+    AfterRun (key_rules p OfInviteClient) (before ++ request ∷ (between ++ final ∷ behind)) e y → (e.kind ≡ Request Ack) ⊎ (e.kind ≡ Request Cancel)
 invite_behind_final p =
     behind_final invite.invite_client p invite_rank (invite_ranked p) (λ k. k ≡ Request Invite) (λ k. (k ≡ Request Ack) ⊎ (k ≡ Request Cancel)) (invite_opens p)
     (λ code e x y h is final low. invite_finishes p code e y is final x.phase x.owes low h) (invite_sends p)
 
 -- An INVITE that is sent again.
 
-module _ (p : Times) (one : Heard) where
+module _ (p : Times) (one : MachineEvent) where
   -- a client that waits for a response holds this INVITE, and has waited T1 or longer since it was sent last
   abbrev Awaits : invite.InviteClientPhase → Type 0
   Awaits invite.Idle = ⊥
@@ -212,7 +212,7 @@ module _ (p : Times) (one : Heard) where
   Awaits (invite.Completed reliable request set) = Unit {0}
   Awaits invite.Ended = Unit {0}
 
-  awaits_received : (x : invite.InviteClientPhase) (k : Kind) (e : Heard) (y : Row invite.InviteClientPhase) → invite.Receives p x k e y → Awaits x → Awaits y.0
+  awaits_received : (x : invite.InviteClientPhase) (k : Kind) (e : MachineEvent) (y : Row invite.InviteClientPhase) → invite.Receives p x k e y → Awaits x → Awaits y.0
   awaits_received (invite.Calling w) (Response code) e y (inl h) holds = rw h.1 tt
   awaits_received (invite.Calling w) (Response code) e y (inr (inl h)) holds = rw h.1 tt
   awaits_received (invite.Calling w) (Response code) e y (inr (inr h)) holds = rw h.1 tt
@@ -221,7 +221,7 @@ module _ (p : Times) (one : Heard) where
   awaits_received (invite.Completed reliable request set) (Response code) e y h holds = rw h.1 tt
   awaits_received x k e y h holds = absurd h
 
-  awaits_sent : (x : invite.InviteClientPhase) (k : Kind) (e : Heard) (y : Row invite.InviteClientPhase) → invite.Sends p x k e y → Awaits x → Awaits y.0
+  awaits_sent : (x : invite.InviteClientPhase) (k : Kind) (e : MachineEvent) (y : Row invite.InviteClientPhase) → invite.Sends p x k e y → Awaits x → Awaits y.0
   awaits_sent invite.Idle k e y h holds = absurd holds
   awaits_sent (invite.Calling w) (Request Invite) e y h holds = rw h.1 (holds.0, holds.1, omega (arith, h.0.fires, holds.2), omega (arith, holds.3))
   awaits_sent (invite.Proceeding reliable request None) (Request Cancel) e y h holds = rw h tt
@@ -241,20 +241,20 @@ module _ (p : Times) (one : Heard) where
   awaits_opens y (inr (left, pays, to)) is = absurd (no_invite (sym is ∙ pays_ack invite.Idle one.kind one pays.first.message pays.holds.0))
 
   -- and again
-  again : (x : invite.InviteClientPhase) (e : Heard) (y : Row invite.InviteClientPhase) → invite.Sends p x (Request Invite) e y → Awaits x → (e.text ≡ one.text) × (one.reliable ≡ false) × (open_at p one.moment p.t1 ≤ e.moment)
+  again : (x : invite.InviteClientPhase) (e : MachineEvent) (y : Row invite.InviteClientPhase) → invite.Sends p x (Request Invite) e y → Awaits x → (e.text ≡ one.text) × (one.reliable ≡ false) × (open_at p one.moment p.t1 ≤ e.moment)
   again invite.Idle e y h holds = absurd holds
   again (invite.Calling w) e y h holds = (h.0.same ∙ holds.0, sym holds.1 ∙ h.0.unreliable, omega (arith, h.0.fires, holds.2, holds.3))
   again (invite.Proceeding reliable request None) e y h holds = absurd h
   again (invite.Proceeding reliable request (Some first)) e y h holds = absurd h
   again x e y h holds = absurd h
 
-  again_emits : (e : Heard) (x y : Owing invite.InviteClientPhase) → Emits invite.invite_client p e x y → e.kind ≡ Request Invite → Awaits x.phase → (e.text ≡ one.text) × (one.reliable ≡ false) × (open_at p one.moment p.t1 ≤ e.moment)
+  again_emits : (e : MachineEvent) (x y : Owing invite.InviteClientPhase) → Emits invite.invite_client p e x y → e.kind ≡ Request Invite → Awaits x.phase → (e.text ≡ one.text) × (one.reliable ≡ false) × (open_at p one.moment p.t1 ≤ e.moment)
   again_emits e x y (inl (row, is_row, to)) is holds = again x.phase e row (subst (λ k. invite.Sends p x.phase k e row) is is_row) holds
   again_emits e x y (inr (left, pays, to)) is holds = absurd (no_invite (sym is ∙ pays_ack x.phase e.kind e pays.first.message pays.holds.0))
 
   -- behind it, a client that waits awaits its response
-  from_first : (h : ℕ) (steps : List Step) (y : Owing invite.InviteClientPhase) (m : ℕ) (between : List Heard) → one.action ≡ Sent → one.kind ≡ Request Invite →
-      Goes (rules_of p OfInviteClient) (record { phase = invite.Idle; owes = [] }) h steps y m → taken steps ≡ one ∷ between → Awaits y.phase
+  from_first : (h : ℕ) (steps : List Step) (y : Owing invite.InviteClientPhase) (m : ℕ) (between : List MachineEvent) → one.action ≡ Sent → one.kind ≡ Request Invite →
+      Goes (key_rules p OfInviteClient) (record { phase = invite.Idle; owes = [] }) h steps y m → taken steps ≡ one ∷ between → Awaits y.phase
   from_first h [] y m between sent is goes takes = absurd (cc)
   from_first h (Hides t ∷ steps) y m between sent is (z, low, hides, goes) takes = absurd hides.opened
   from_first h (Takes e ∷ steps) y m between sent is (z, low, does, goes) takes =
@@ -264,10 +264,10 @@ module _ (p : Times) (one : Heard) where
       goes_keep invite.invite_client p Awaits awaits_kept z e.moment steps y m goes (awaits_opens z emits is)
 
   -- the INVITE that begins a run is sent again byte for byte, over an unreliable transport, and T1 later or more, the tolerance aside
-  pub invite_again : (between : List Heard) (e : Heard) (y : Owing invite.InviteClientPhase) → one.action ≡ Sent → one.kind ≡ Request Invite → e.action ≡ Sent → e.kind ≡ Request Invite →
-      After (rules_of p OfInviteClient) (one ∷ between) e y → (e.text ≡ one.text) × (one.reliable ≡ false) × (open_at p one.moment p.t1 ≤ e.moment)
+  pub invite_again : (between : List MachineEvent) (e : MachineEvent) (y : Owing invite.InviteClientPhase) → one.action ≡ Sent → one.kind ≡ Request Invite → e.action ≡ Sent → e.kind ≡ Request Invite →
+      AfterRun (key_rules p OfInviteClient) (one ∷ between) e y → (e.text ≡ one.text) × (one.reliable ≡ false) × (open_at p one.moment p.t1 ≤ e.moment)
   invite_again between e y one_sent one_is e_sent e_is after =
-      let r = rules_of p OfInviteClient in
+      let r = key_rules p OfInviteClient in
       let last = Goes-last r r.first 0 after.steps (Takes e) y after.goes in
       let awaits = from_first 0 after.steps last.before last.at between one_sent one_is last.goes after.takes in
       again_emits e (when invite.invite_client p e last.before) y (step_of invite.invite_client p Sent e last.before y e_sent last.does) e_is awaits
@@ -281,13 +281,13 @@ plain_rank (plain.Proceeding w) = 1
 plain_rank (plain.Completed reliable set) = 2
 plain_rank plain.Ended = 2
 
-plain_received : (p : Times) (x : plain.PlainClientPhase) (k : Kind) (e : Heard) (y : Row plain.PlainClientPhase) → plain.Receives p x k e y → plain_rank x ≤ plain_rank y.0
+plain_received : (p : Times) (x : plain.PlainClientPhase) (k : Kind) (e : MachineEvent) (y : Row plain.PlainClientPhase) → plain.Receives p x k e y → plain_rank x ≤ plain_rank y.0
 plain_received p (plain.Trying w) (Response code) e y (inl h) = rw h.1 (omega arith)
 plain_received p (plain.Trying w) (Response code) e y (inr h) = rw h.1 (omega arith)
 plain_received p (plain.Proceeding w) (Response code) e y h = rw h.1 (omega arith)
 plain_received p x k e y h = absurd h
 
-plain_sent : (p : Times) (x : plain.PlainClientPhase) (k : Kind) (e : Heard) (y : Row plain.PlainClientPhase) → plain.Sends p x k e y → plain_rank x ≤ plain_rank y.0
+plain_sent : (p : Times) (x : plain.PlainClientPhase) (k : Kind) (e : MachineEvent) (y : Row plain.PlainClientPhase) → plain.Sends p x k e y → plain_rank x ≤ plain_rank y.0
 plain_sent p plain.Idle k e y h = omega arith
 plain_sent p (plain.Trying w) (Request method) e y h = rw h.1 (omega arith)
 plain_sent p (plain.Proceeding w) (Request method) e y h = rw h.1 (omega arith)
@@ -299,17 +299,17 @@ plain_ranked p = record { ended = refl; received = plain_received p; sent = plai
 abbrev IsRequest : Kind → Type 0
 IsRequest k = (method : Method) × (k ≡ Request method)
 
-plain_opens_row : (p : Times) (x : plain.PlainClientPhase) (method : Method) (e : Heard) (y : Row plain.PlainClientPhase) → plain.Sends p x (Request method) e y → 1 ≤ plain_rank y.0
+plain_opens_row : (p : Times) (x : plain.PlainClientPhase) (method : Method) (e : MachineEvent) (y : Row plain.PlainClientPhase) → plain.Sends p x (Request method) e y → 1 ≤ plain_rank y.0
 plain_opens_row p plain.Idle method e y h = rw h (omega arith)
 plain_opens_row p (plain.Trying w) method e y h = rw h.1 (omega arith)
 plain_opens_row p (plain.Proceeding w) method e y h = rw h.1 (omega arith)
 plain_opens_row p x method e y h = absurd h
 
-plain_opens : (p : Times) (e : Heard) (x y : Owing plain.PlainClientPhase) → Emits plain.plain_client p e x y → IsRequest e.kind → 1 ≤ plain_rank y.phase
+plain_opens : (p : Times) (e : MachineEvent) (x y : Owing plain.PlainClientPhase) → Emits plain.plain_client p e x y → IsRequest e.kind → 1 ≤ plain_rank y.phase
 plain_opens p e x y (inl (row, is_row, to)) is = rw to (plain_opens_row p x.phase is.0 e row (subst (λ k. plain.Sends p x.phase k e row) is.1 is_row))
 plain_opens p e x y (inr (left, pays, to)) is = absurd pays.holds.0
 
-module _ (p : Times) (code : ℕ) (e : Heard) (y : Owing plain.PlainClientPhase) (is : e.kind ≡ Response code) (final : IsFinal code) where
+module _ (p : Times) (code : ℕ) (e : MachineEvent) (y : Owing plain.PlainClientPhase) (is : e.kind ≡ Response code) (final : IsFinal code) where
   plain_still_over : (phase : plain.PlainClientPhase) (owes : List Owed) → 2 ≤ plain_rank phase → Steps plain.plain_client p Received e (record { phase = phase; owes = owes }) y → 2 ≤ plain_rank y.phase
   plain_still_over phase owes over h = steps_keep plain.plain_client p (λ x. 2 ≤ plain_rank x) (rank_kept plain.plain_client p plain_rank (plain_ranked p) 2 (omega arith)) Received e _ y h over
 
@@ -324,21 +324,21 @@ module _ (p : Times) (code : ℕ) (e : Heard) (y : Owing plain.PlainClientPhase)
   plain_finishes (plain.Completed reliable set) owes low h = plain_still_over (plain.Completed reliable set) owes (omega arith) h
   plain_finishes plain.Ended owes low h = plain_still_over plain.Ended owes (omega arith) h
 
-plain_sends_row : (p : Times) (x : plain.PlainClientPhase) (k : Kind) (e : Heard) (y : Row plain.PlainClientPhase) → 2 ≤ plain_rank x → plain.Sends p x k e y → ⊥
+plain_sends_row : (p : Times) (x : plain.PlainClientPhase) (k : Kind) (e : MachineEvent) (y : Row plain.PlainClientPhase) → 2 ≤ plain_rank x → plain.Sends p x k e y → ⊥
 plain_sends_row p plain.Idle k e y low h = omega arith
 plain_sends_row p (plain.Trying w) k e y low h = omega arith
 plain_sends_row p (plain.Proceeding w) k e y low h = omega arith
 plain_sends_row p (plain.Completed reliable set) k e y low h = h
 plain_sends_row p plain.Ended k e y low h = h
 
-plain_sends : (p : Times) (e : Heard) (x y : Owing plain.PlainClientPhase) → Emits plain.plain_client p e x y → 2 ≤ plain_rank x.phase → ⊥
+plain_sends : (p : Times) (e : MachineEvent) (x y : Owing plain.PlainClientPhase) → Emits plain.plain_client p e x y → 2 ≤ plain_rank x.phase → ⊥
 plain_sends p e x y (inl (row, is_row, to)) low = plain_sends_row p x.phase e.kind e row low is_row
 plain_sends p e x y (inr (left, pays, to)) low = pays.holds.0
 
 -- behind a final response of its request a client sends nothing
-pub plain_behind_final : (p : Times) (before between behind : List Heard) (request final e : Heard) (code : ℕ) (y : Owing plain.PlainClientPhase) → request.action ≡ Sent → IsRequest request.kind →
+pub plain_behind_final : (p : Times) (before between behind : List MachineEvent) (request final e : MachineEvent) (code : ℕ) (y : Owing plain.PlainClientPhase) → request.action ≡ Sent → IsRequest request.kind →
     final.action ≡ Received → final.kind ≡ Response code → IsFinal code → e.action ≡ Sent →
-    After (rules_of p OfPlainClient) (before ++ request ∷ (between ++ final ∷ behind)) e y → ⊥
+    AfterRun (key_rules p OfPlainClient) (before ++ request ∷ (between ++ final ∷ behind)) e y → ⊥
 plain_behind_final p =
     behind_final plain.plain_client p plain_rank (plain_ranked p) IsRequest (λ k. ⊥) (plain_opens p)
     (λ code e x y h is final low. plain_finishes p code e y is final x.phase x.owes low h) (plain_sends p)

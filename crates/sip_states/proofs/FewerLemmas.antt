@@ -2,17 +2,17 @@
 use Rattle.std.proofs.Common.{◌≡◌, ◌≤◌, ◌<◌, ℕ, List, [], ◌∷◌, ◌++◌, All, refl, ap, subst, arith}
 use Rattle.std.proofs.Math.Decide.{dec_le}
 use Rattle.std.proofs.lemmas.List.Elements.{All-nil, All-cons, All-head, All-tail, All-weaker}
-use Rattle.sip_machine.specs.Heard.{Heard}
+use Rattle.sip_machine.specs.MachineEvent.{MachineEvent}
 use Rattle.sip_machine.specs.Rules.{Rules, Waits, Hide}
 use Rattle.sip_states.specs.Runs.{Step, Hides, Takes, moment_of_step, Does, Goes, Reaches, taken, Run}
 use Rattle.sip_states.proofs.Waiting.{IsWithin-earlier}
 
 -- an event is not before the moment
-abbrev NotBefore : ℕ → Heard → Type 0
+abbrev NotBefore : ℕ → MachineEvent → Type 0
 NotBefore m e = m ≤ e.moment
 
 -- an event is not behind it
-abbrev NotBehind : ℕ → Heard → Type 0
+abbrev NotBehind : ℕ → MachineEvent → Type 0
 NotBehind m e = e.moment ≤ m
 
 module _ {X : Type 0} (r : Rules X) where
@@ -25,7 +25,7 @@ module _ {X : Type 0} (r : Rules X) where
       All-cons (NotBefore h) e (taken steps) low (All-weaker (NotBefore e.moment) (NotBefore h) (λ f later. omega arith) (taken steps) (Goes-low z e.moment steps y m goes))
 
   -- steps over just these events lead to a state that waits until m
-  record Stands (x : X) (h : ℕ) (events : List Heard) (m : ℕ) : Type 0 where
+  record Stands (x : X) (h : ℕ) (events : List MachineEvent) (m : ℕ) : Type 0 where
     pub state : X
     pub steps : List Step
     pub stands : Reaches r x h steps state m
@@ -36,7 +36,7 @@ module _ {X : Type 0} (r : Rules X) where
   stays x h m reached waits = record { state = x; steps = []; stands = record { last = h; goes = (refl, refl); reached = reached; waits = waits }; takes = refl }
 
   -- an end before them
-  hides : (x : X) (h t : ℕ) (z : X) (events : List Heard) (m : ℕ) → h ≤ t → Hide r x t z → Stands z t events m → Stands x h events m
+  hides : (x : X) (h t : ℕ) (z : X) (events : List MachineEvent) (m : ℕ) → h ≤ t → Hide r x t z → Stands z t events m → Stands x h events m
   hides x h t z events m low does s = record {
     state = s.state;
     steps = Hides t ∷ s.steps;
@@ -45,7 +45,7 @@ module _ {X : Type 0} (r : Rules X) where
   }
 
   -- an event before them
-  takes : (x : X) (h : ℕ) (e : Heard) (z : X) (events : List Heard) (m : ℕ) → h ≤ e.moment → Does r x (Takes e) z → Stands z e.moment events m → Stands x h (e ∷ events) m
+  takes : (x : X) (h : ℕ) (e : MachineEvent) (z : X) (events : List MachineEvent) (m : ℕ) → h ≤ e.moment → Does r x (Takes e) z → Stands z e.moment events m → Stands x h (e ∷ events) m
   takes x h e z events m low does s = record {
     state = s.state;
     steps = Takes e ∷ s.steps;
@@ -54,14 +54,14 @@ module _ {X : Type 0} (r : Rules X) where
   }
 
   -- steps over events and more, up to a moment between them
-  Goes-fewer : (x : X) (h : ℕ) (steps : List Step) (y : X) (last : ℕ) (events more : List Heard) (m n : ℕ) → Goes r x h steps y last → Waits r y n → taken steps ≡ events ++ more →
+  Goes-fewer : (x : X) (h : ℕ) (steps : List Step) (y : X) (last : ℕ) (events more : List MachineEvent) (m n : ℕ) → Goes r x h steps y last → Waits r y n → taken steps ≡ events ++ more →
       All (NotBehind m) events → All (NotBefore m) more → h ≤ m → m ≤ n → Stands x h events m
   Goes-fewer x h [] y last [] more m n goes waits is low high from to = stays x h m from (IsWithin-earlier m n (r.until x) to (subst (λ z. Waits r z n) goes.0 waits))
   Goes-fewer x h [] y last (e ∷ events) more m n goes waits is low high from to = absurd (cc)
   Goes-fewer x h (Hides t ∷ steps) y last events more m n (z, after, does, goes) waits is low high from to =
       by_end (dec_le t m) (λ early. Goes-fewer z t steps y last events more m n goes waits is low high early to)
     where
-      of_events : m < t → (es : List Heard) → taken steps ≡ es ++ more → All (NotBehind m) es → Stands x h es m
+      of_events : m < t → (es : List MachineEvent) → taken steps ≡ es ++ more → All (NotBehind m) es → Stands x h es m
       of_events late [] is low = stays x h m from (IsWithin-earlier m t (r.until x) (omega (arith, late)) does.waited)
       of_events late (e ∷ es) is low =
           let here : t ≤ e.moment = All-head (NotBefore t) e (es ++ more) (subst (All (NotBefore t)) is (Goes-low z t steps y last goes)) in
@@ -83,14 +83,14 @@ module _ {X : Type 0} (r : Rules X) where
       (takes x h f z events m after does (Goes-fewer z f.moment steps y last events more m n goes waits (cc) (All-tail (NotBehind m) e events low) high early to))
 
   -- a run over events and more holds one over the events, which stands at any moment between them
-  pub Run-fewer : (events more : List Heard) (m n : ℕ) (y : X) → All (λ e. e.moment ≤ m) events → All (λ e. m ≤ e.moment) more → m ≤ n → Run r (events ++ more) n y → (x : X) × Run r events m x
+  pub Run-fewer : (events more : List MachineEvent) (m n : ℕ) (y : X) → All (λ e. e.moment ≤ m) events → All (λ e. m ≤ e.moment) more → m ≤ n → Run r (events ++ more) n y → (x : X) × Run r events m x
   Run-fewer events more m n y low high to run =
       let stands = run.stands in
       let s = Goes-fewer r.first 0 run.steps y stands.last events more m n stands.goes stands.waits run.takes low high (omega arith) to in
       (s.state, record { steps = s.steps; stands = s.stands; takes = s.takes })
 
   -- steps that take an event among others: to the state before it, and from the one behind it
-  pub record Through (x : X) (h : ℕ) (e : Heard) (rest : List Heard) (y : X) (m : ℕ) : Type 0 where
+  pub record Through (x : X) (h : ℕ) (e : MachineEvent) (rest : List MachineEvent) (y : X) (m : ℕ) : Type 0 where
     pub front : List Step
     pub before : X
     pub at : ℕ
@@ -102,11 +102,11 @@ module _ {X : Type 0} (r : Rules X) where
     pub takes : taken steps ≡ rest
 
   -- one step more before them
-  step_before : (x : X) (h : ℕ) (step : Step) (z : X) (e : Heard) (rest : List Heard) (y : X) (m : ℕ) → h ≤ moment_of_step step → Does r x step z → Through z (moment_of_step step) e rest y m → Through x h e rest y m
+  step_before : (x : X) (h : ℕ) (step : Step) (z : X) (e : MachineEvent) (rest : List MachineEvent) (y : X) (m : ℕ) → h ≤ moment_of_step step → Does r x step z → Through z (moment_of_step step) e rest y m → Through x h e rest y m
   step_before x h step z e rest y m low does t =
       record { front = step ∷ t.front; before = t.before; at = t.at; to = (z, low, does, t.to); behind = t.behind; does = t.does; steps = t.steps; goes = t.goes; takes = t.takes }
 
-  pub Goes-through : (x : X) (h : ℕ) (steps : List Step) (y : X) (m : ℕ) (front : List Heard) (e : Heard) (rest : List Heard) → Goes r x h steps y m → taken steps ≡ front ++ e ∷ rest → Through x h e rest y m
+  pub Goes-through : (x : X) (h : ℕ) (steps : List Step) (y : X) (m : ℕ) (front : List MachineEvent) (e : MachineEvent) (rest : List MachineEvent) → Goes r x h steps y m → taken steps ≡ front ++ e ∷ rest → Through x h e rest y m
   Goes-through x h [] y m [] e rest goes is = absurd (cc)
   Goes-through x h [] y m (f ∷ front) e rest goes is = absurd (cc)
   Goes-through x h (Hides t ∷ steps) y m front e rest (z, low, does, goes) is = step_before x h (Hides t) z e rest y m low does (Goes-through z t steps y m front e rest goes is)

@@ -1,7 +1,7 @@
 use Rattle.std.proofs.Common.{◌≡◌, ◌≤◌, ◌↔◌, ℕ, List, [], ◌∷◌, ◌++◌, map, refl, ap, subst, ◌∙◌}
-use Rattle.sip_machine.specs.Heard.{Heard}
+use Rattle.sip_machine.specs.MachineEvent.{MachineEvent}
 use Rattle.sip_machine.specs.Rules.{Rules}
-use Rattle.sip_states.specs.Runs.{Step, Hides, Takes, moment_of_step, Does, Goes, Reaches, taken, Wait, Gives, Run, After}
+use Rattle.sip_states.specs.Runs.{Step, Hides, Takes, moment_of_step, Does, Goes, Reaches, taken, Wait, RunGives, Run, AfterRun}
 
 -- Runs one step at a time: a run is a run to its last event and a wait from there.
 
@@ -23,22 +23,22 @@ taken-append (Hides t ∷ front) rest = taken-append front rest
 taken-append (Takes f ∷ front) rest = ap (λ s. f ∷ s) (taken-append front rest)
 
 -- steps split at the one that takes the last event
-pub record SplitAt (steps : List Step) (fs : List Heard) (f : Heard) : Type 0 where
+pub record SplitAt (steps : List Step) (fs : List MachineEvent) (f : MachineEvent) : Type 0 where
   pub front : List Step
   pub ends : List ℕ
   pub is : steps ≡ front ++ Takes f ∷ map Hides ends
   pub takes : taken front ≡ fs
 
 -- the first of two steps is the last event's
-here : (steps : List Step) (g f : Heard) → g ≡ f → (ends : List ℕ) → steps ≡ map Hides ends → SplitAt (Takes g ∷ steps) [] f
+here : (steps : List Step) (g f : MachineEvent) → g ≡ f → (ends : List ℕ) → steps ≡ map Hides ends → SplitAt (Takes g ∷ steps) [] f
 here steps g f first ends is = record { front = []; ends = ends; is = rw (first, is); takes = refl }
 
 -- or the last event's is a later one
-later : (steps : List Step) (g k : Heard) (fs : List Heard) (f : Heard) → g ≡ k → SplitAt steps fs f → SplitAt (Takes g ∷ steps) (k ∷ fs) f
+later : (steps : List Step) (g k : MachineEvent) (fs : List MachineEvent) (f : MachineEvent) → g ≡ k → SplitAt steps fs f → SplitAt (Takes g ∷ steps) (k ∷ fs) f
 later steps g k fs f first s = record { front = Takes g ∷ s.front; ends = s.ends; is = ap (λ more. Takes g ∷ more) s.is; takes = rw (first, s.takes) }
 
 -- steps that take events take the last one somewhere, and end after it
-pub split_last : (steps : List Step) (fs : List Heard) (f : Heard) → taken steps ≡ fs ++ f ∷ [] → SplitAt steps fs f
+pub split_last : (steps : List Step) (fs : List MachineEvent) (f : MachineEvent) → taken steps ≡ fs ++ f ∷ [] → SplitAt steps fs f
 split_last [] [] f e = absurd (cc)
 split_last [] (g ∷ fs) f e = absurd (cc)
 split_last (Hides t ∷ steps) fs f e =
@@ -90,7 +90,7 @@ module _ {X : Type 0} (r : Rules X) where
       (z, low, does, Goes-push z (moment_of_step s) front step y (record { before = l.before; at = l.at; goes = goes; low = l.low; does = l.does }))
 
   -- a run to the last event, and the wait after it
-  wait_of_run : (fs : List Heard) (f : Heard) (m : ℕ) (y : X) (run : Run r (fs ++ f ∷ []) m y) → SplitAt run.steps fs f → Wait r (After r fs f) f.moment m y
+  wait_of_run : (fs : List MachineEvent) (f : MachineEvent) (m : ℕ) (y : X) (run : Run r (fs ++ f ∷ []) m y) → SplitAt run.steps fs f → Wait r (AfterRun r fs f) f.moment m y
   wait_of_run fs f m y run s =
       let p = Goes-split r.first 0 s.front (Takes f) (map Hides s.ends) y run.stands.last (subst (λ steps. Goes r r.first 0 steps y run.stands.last) s.is run.stands.goes) in
       record {
@@ -101,7 +101,7 @@ module _ {X : Type 0} (r : Rules X) where
       }
 
   -- a wait after the last event of a run is a run
-  run_of_wait : (fs : List Heard) (f : Heard) (m : ℕ) (y : X) → Wait r (After r fs f) f.moment m y → Run r (fs ++ f ∷ []) m y
+  run_of_wait : (fs : List MachineEvent) (f : MachineEvent) (m : ℕ) (y : X) → Wait r (AfterRun r fs f) f.moment m y → Run r (fs ++ f ∷ []) m y
   run_of_wait fs f m y w =
       record {
         steps = w.begins.steps ++ Takes f ∷ map Hides w.ends;
@@ -115,7 +115,7 @@ module _ {X : Type 0} (r : Rules X) where
       }
 
   -- a run over events and one more is a wait from a last state of that one
-  pub Run-wait : (fs : List Heard) (f : Heard) (m : ℕ) (y : X) → Run r (fs ++ f ∷ []) m y ↔ Wait r (After r fs f) f.moment m y
+  pub Run-wait : (fs : List MachineEvent) (f : MachineEvent) (m : ℕ) (y : X) → Run r (fs ++ f ∷ []) m y ↔ Wait r (AfterRun r fs f) f.moment m y
   Run-wait fs f m y = (λ run. wait_of_run fs f m y run (split_last run.steps fs f run.takes), run_of_wait fs f m y)
 
   -- a run over no event is a wait from the first state
@@ -127,7 +127,7 @@ module _ {X : Type 0} (r : Rules X) where
   )
 
   -- the last states after one more event are what it gives from where the runs stand at its moment
-  pub After-run : (events : List Heard) (e : Heard) (y : X) → After r events e y ↔ Gives r (Run r events e.moment) e y
+  pub After-run : (events : List MachineEvent) (e : MachineEvent) (y : X) → AfterRun r events e y ↔ RunGives r (Run r events e.moment) e y
   After-run events e y = (
     λ after. let l = Goes-last r.first 0 after.steps (Takes e) y after.goes in
         record {
@@ -145,14 +145,14 @@ module _ {X : Type 0} (r : Rules X) where
   )
 
   -- the last states after a first event are what it gives from where one waits in the first state
-  pub After-first : (e : Heard) (y : X) → After r [] e y ↔ Gives r (Wait r (λ x. x ≡ r.first) 0 e.moment) e y
+  pub After-first : (e : MachineEvent) (y : X) → AfterRun r [] e y ↔ RunGives r (Wait r (λ x. x ≡ r.first) 0 e.moment) e y
   After-first e y = (
     λ after. let g = (After-run [] e y).0 after in record { before = g.before; among = (Run-wait_first e.moment g.before).0 g.among; takes = g.takes },
     λ g. (After-run [] e y).1 (record { before = g.before; among = (Run-wait_first e.moment g.before).1 g.among; takes = g.takes }),
   )
 
   -- and those after one more are what it gives from where one waits in the last states before
-  pub After-next : (events : List Heard) (e f : Heard) (y : X) → After r (events ++ e ∷ []) f y ↔ Gives r (Wait r (After r events e) e.moment f.moment) f y
+  pub After-next : (events : List MachineEvent) (e f : MachineEvent) (y : X) → AfterRun r (events ++ e ∷ []) f y ↔ RunGives r (Wait r (AfterRun r events e) e.moment f.moment) f y
   After-next events e f y = (
     λ after. let g = (After-run (events ++ e ∷ []) f y).0 after in record { before = g.before; among = (Run-wait events e f.moment g.before).0 g.among; takes = g.takes },
     λ g. (After-run (events ++ e ∷ []) f y).1 (record { before = g.before; among = (Run-wait events e f.moment g.before).1 g.among; takes = g.takes }),

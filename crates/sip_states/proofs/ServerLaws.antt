@@ -7,28 +7,28 @@ use Rattle.sip_machine.specs.declared.event.Method.{Method}
 use Rattle.sip_machine.specs.declared.event.Kind.{Kind}
 use Rattle.sip_machine.specs.declared.event.Kind.TheVariants.{Request, Response}
 use Rattle.sip_machine.specs.Times.{Times}
-use Rattle.sip_machine.specs.Heard.{Heard}
+use Rattle.sip_machine.specs.MachineEvent.{MachineEvent}
 use Rattle.sip_machine.specs.Debts.{Owed, unexpired}
 use Rattle.sip_machine.specs.Figure.{Figure, After as Row, Owing, quiet, Emits, Fails, Steps, rules_of as rules_of_figure}
 use Rattle.sip_machine.specs.InviteServer as invite
 use Rattle.sip_machine.specs.PlainServer as plain
-use Rattle.sip_states.specs.Runs.{Step, Hides, Takes, Goes, taken, After}
-use Rattle.sip_states.specs.KeyMachine.{OfInviteServer, OfPlainServer, rules_of}
+use Rattle.sip_states.specs.Runs.{Step, Hides, Takes, Goes, taken, AfterRun}
+use Rattle.sip_states.specs.KeyMachine.{OfInviteServer, OfPlainServer, key_rules}
 use Rattle.sip_states.proofs.Waiting.{IsOpenAt-none}
 use Rattle.sip_states.proofs.RunLemmas.{Goes-last}
 
 -- a request that came in
-abbrev IsAsked : Heard → Type 0
+abbrev IsAsked : MachineEvent → Type 0
 IsAsked e = (e.action ≡ Received) × ((method : Method) × (e.kind ≡ Request method))
 
 -- in its idle phase a server has no timer, sends nothing, and leaves only for a request
 record IsAsleep {X : Type 0} (f : Figure X) (p : Times) : Type 0 where
   pub no_end : f.window p f.idle ≡ None
-  pub silent : (k : Kind) (e : Heard) (y : Row X) → f.Sends p f.idle k e y → ⊥
-  pub woken : (k : Kind) (e : Heard) (y : Row X) → f.Receives p f.idle k e y → (method : Method) × (k ≡ Request method)
+  pub silent : (k : Kind) (e : MachineEvent) (y : Row X) → f.Sends p f.idle k e y → ⊥
+  pub woken : (k : Kind) (e : MachineEvent) (y : Row X) → f.Receives p f.idle k e y → (method : Method) × (k ≡ Request method)
 
 module _ {X : Type 0} (f : Figure X) (p : Times) (asleep : IsAsleep f p) where
-  emits_nothing : (e : Heard) (y : Owing X) → Emits f p e (quiet f.idle) y → ⊥
+  emits_nothing : (e : MachineEvent) (y : Owing X) → Emits f p e (quiet f.idle) y → ⊥
   emits_nothing e y (inl (row, is_row, to)) = asleep.silent e.kind e row is_row
   emits_nothing e y (inr (left, pays, to)) = none_owed pays.before pays.whole
     where
@@ -36,12 +36,12 @@ module _ {X : Type 0} (f : Figure X) (p : Times) (asleep : IsAsleep f p) where
       none_owed [] is = cc
       none_owed (owed ∷ before) is = cc
 
-  fails_nothing : (ends : Bool) (e : Heard) (y : Owing X) → Fails ends f p e (quiet f.idle) y → ⊥
+  fails_nothing : (ends : Bool) (e : MachineEvent) (y : Owing X) → Fails ends f p e (quiet f.idle) y → ⊥
   fails_nothing true e y (some, to) = emits_nothing e some.0 some.1
   fails_nothing false e y h = emits_nothing e y h
 
   -- a step stays there, or is a request's
-  stays_or_asked : (e : Heard) (y : Owing X) (a : Action) → e.action ≡ a → Steps f p a e (quiet f.idle) y → (y ≡ quiet f.idle) ⊎ IsAsked e
+  stays_or_asked : (e : MachineEvent) (y : Owing X) (a : Action) → e.action ≡ a → Steps f p a e (quiet f.idle) y → (y ≡ quiet f.idle) ⊎ IsAsked e
   stays_or_asked e y Received is (inl (row, is_row, to)) = inr (is, asleep.woken e.kind e row is_row)
   stays_or_asked e y Received is (inr (none, same)) = inl same
   stays_or_asked e y Sent is h = absurd (emits_nothing e y h)
@@ -64,7 +64,7 @@ module _ {X : Type 0} (f : Figure X) (p : Times) (asleep : IsAsleep f p) where
       by_step (inr asked) rest = inr (0, e, omega arith, refl, asked)
 
   -- so what it sends comes behind one
-  sends_when_asked : (events : List Heard) (e : Heard) (y : Owing X) → After (rules_of_figure f p) events e y → e.action ≡ Sent → Any IsAsked events
+  sends_when_asked : (events : List MachineEvent) (e : MachineEvent) (y : Owing X) → AfterRun (rules_of_figure f p) events e y → e.action ≡ Sent → Any IsAsked events
   sends_when_asked events e y after sent =
       let r = rules_of_figure f p in
       let last = Goes-last r r.first 0 after.steps (Takes e) y after.goes in
@@ -75,18 +75,18 @@ module _ {X : Type 0} (f : Figure X) (p : Times) (asleep : IsAsleep f p) where
           absurd (emits_nothing e y (subst (λ a. Steps f p a e (quiet f.idle) y) sent (subst (λ z. Steps f p e.action e (record { phase = z.phase; owes = unexpired e.moment z.owes }) y) same step)))
       by_state x step (inr asked) = subst (Any IsAsked) after.takes asked
 
-invite_woken : (p : Times) (k : Kind) (e : Heard) (y : Row invite.InviteServerPhase) → invite.Receives p invite.Idle k e y → (method : Method) × (k ≡ Request method)
+invite_woken : (p : Times) (k : Kind) (e : MachineEvent) (y : Row invite.InviteServerPhase) → invite.Receives p invite.Idle k e y → (method : Method) × (k ≡ Request method)
 invite_woken p (Request method) e y h = (method, refl)
 invite_woken p (Response code) e y h = absurd h
 
 -- an INVITE server sends nothing before it is asked
-pub invite_sends_when_asked : (p : Times) (events : List Heard) (e : Heard) (y : Owing invite.InviteServerPhase) → After (rules_of p OfInviteServer) events e y → e.action ≡ Sent → Any IsAsked events
+pub invite_sends_when_asked : (p : Times) (events : List MachineEvent) (e : MachineEvent) (y : Owing invite.InviteServerPhase) → AfterRun (key_rules p OfInviteServer) events e y → e.action ≡ Sent → Any IsAsked events
 invite_sends_when_asked p = sends_when_asked invite.invite_server p (record { no_end = refl; silent = λ k e y h. h; woken = invite_woken p })
 
-plain_woken : (p : Times) (k : Kind) (e : Heard) (y : Row plain.PlainServerPhase) → plain.Receives p plain.Idle k e y → (method : Method) × (k ≡ Request method)
+plain_woken : (p : Times) (k : Kind) (e : MachineEvent) (y : Row plain.PlainServerPhase) → plain.Receives p plain.Idle k e y → (method : Method) × (k ≡ Request method)
 plain_woken p (Request method) e y h = (method, refl)
 plain_woken p (Response code) e y h = absurd h
 
 -- nor does any other server
-pub plain_sends_when_asked : (p : Times) (events : List Heard) (e : Heard) (y : Owing plain.PlainServerPhase) → After (rules_of p OfPlainServer) events e y → e.action ≡ Sent → Any IsAsked events
+pub plain_sends_when_asked : (p : Times) (events : List MachineEvent) (e : MachineEvent) (y : Owing plain.PlainServerPhase) → AfterRun (key_rules p OfPlainServer) events e y → e.action ≡ Sent → Any IsAsked events
 plain_sends_when_asked p = sends_when_asked plain.plain_server p (record { no_end = refl; silent = λ k e y h. h; woken = plain_woken p })

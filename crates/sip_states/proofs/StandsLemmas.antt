@@ -5,14 +5,14 @@ use Rattle.std.proofs.lemmas.List.{append_assoc, append-nil}
 use Rattle.std.proofs.lemmas.List.Elements.{All-head, All-nil, All-cons, All-append}
 use Rattle.sip_machine.specs.Times.{Times}
 use Rattle.sip_machine.specs.Limits.{IsWithin, IsOpenAt}
-use Rattle.sip_machine.specs.Heard.{Heard}
+use Rattle.sip_machine.specs.MachineEvent.{MachineEvent}
 use Rattle.sip_machine.specs.Rules.{Waits, Hide}
 use Rattle.sip_machine.specs.Figure.{Figure, IsFigure, Owing, quiet, Lasts, MayEnd, closes_of, closes_at, rules_of}
 use Rattle.sip_machine.specs.inner.DebtLaws.{All-front, All-back}
 use Rattle.sip_machine.specs.inner.OwesLaws.{IsWithin-owed}
 use Rattle.sip_machine.specs.inner.FigureLaws.{rules_lawful}
 use Rattle.sip_states.specs.Stands.{Stands, begins, waits, ends, takes, StandsBehind}
-use Rattle.sip_states.specs.Runs.{Step, Hides, Takes, Goes, taken, Run, After}
+use Rattle.sip_states.specs.Runs.{Step, Hides, Takes, Goes, taken, Run, AfterRun}
 use Rattle.sip_states.proofs.Waiting.{IsWithin-none, Wait-stay}
 use Rattle.sip_states.proofs.RunLemmas.{taken-append, Goes-push, Run-wait, After-run}
 
@@ -66,7 +66,7 @@ module _ {X : Type 0} (f : Figure X) (is : IsFigure f) (p : Times) where
       let opened = open-owed h (list_any (λ owed. owed.must) x.owes) (f.window p x.phase) hide.opened in (within-open h (f.window p x.phase) opened.1, opened.0)
 
   -- from where a run stands steps lead on
-  goes-stand : (events : List Heard) (h : ℕ) (x : Owing X) → Stands f p events h x → (steps : List Step) (y : Owing X) (m : ℕ) →
+  goes-stand : (events : List MachineEvent) (h : ℕ) (x : Owing X) → Stands f p events h x → (steps : List Step) (y : Owing X) (m : ℕ) →
       Goes (rules_of f p) x h steps y m → Stands f p (events ++ taken steps) m y
   goes-stand events h x stands [] y m goes = rw (goes.0, goes.1, append-nil events) stands
   goes-stand events h x stands (Hides t ∷ steps) y m (z, low, does, goes) =
@@ -76,14 +76,14 @@ module _ {X : Type 0} (f : Figure X) (is : IsFigure f) (p : Times) where
       let led = takes events e x z (waits events h e.moment x stands low ((lasts-waits x e.moment).1 does.0)) (does.1).1 in
       subst (λ es. Stands f p es m y) (append_assoc events (e ∷ []) (taken steps)) (goes-stand (events ++ e ∷ []) e.moment z led steps y m goes)
 
-  run-stands : (events : List Heard) (m : ℕ) (y : Owing X) → Run (rules_of f p) events m y → Stands f p events m y
+  run-stands : (events : List MachineEvent) (m : ℕ) (y : Owing X) → Run (rules_of f p) events m y → Stands f p events m y
   run-stands events m y run =
       let stands = run.stands in
       let there = goes-stand [] 0 (quiet f.idle) begins run.steps y stands.last stands.goes in
       waits events stands.last m y (subst (λ es. Stands f p es stands.last y) run.takes there) stands.reached ((lasts-waits y m).1 stands.waits)
 
   -- where a run stands, one by the rules does
-  stands-run : (events : List Heard) (m : ℕ) (y : Owing X) → Stands f p events m y → Run (rules_of f p) events m y
+  stands-run : (events : List MachineEvent) (m : ℕ) (y : Owing X) → Stands f p events m y → Run (rules_of f p) events m y
   stands-run _ _ _ begins =
       record {
         steps = [];
@@ -116,14 +116,14 @@ module _ {X : Type 0} (f : Figure X) (is : IsFigure f) (p : Times) where
       let r = rules_of f p in
       let taking : r.Take x e y = (run.stands.waits, led) in
       (Run-wait r events e e.moment y).1
-      (Wait-stay r (After r events e) e.moment e.moment y
+      (Wait-stay r (AfterRun r events e) e.moment e.moment y
       (record { among = (After-run r events e y).1 (record { before = x; among = run; takes = taking }); reached = omega arith; waits = (rules_lawful f is p).fresh x e y taking }))
 
-  pub stands-runs : (events : List Heard) (m : ℕ) (y : Owing X) → Stands f p events m y ↔ Run (rules_of f p) events m y
+  pub stands-runs : (events : List MachineEvent) (m : ℕ) (y : Owing X) → Stands f p events m y ↔ Run (rules_of f p) events m y
   stands-runs events m y = (stands-run events m y, run-stands events m y)
 
   -- where an event leads from there, it does by the rules
-  pub behind-after : (events : List Heard) (e : Heard) (y : Owing X) → StandsBehind f p events e y ↔ After (rules_of f p) events e y
+  pub behind-after : (events : List MachineEvent) (e : MachineEvent) (y : Owing X) → StandsBehind f p events e y ↔ AfterRun (rules_of f p) events e y
   behind-after events e y = (
     λ behind.
         let (x, stands, led) = behind in

@@ -2,7 +2,7 @@ use Rattle.std.proofs.Common.{◌≡◌, ◌≢◌, ◌↔◌, ◌≤◌, ◌⊎
 use Rattle.std.proofs.lemmas.List.{map-append}
 use Rattle.std.proofs.lemmas.List.Elements.{All-nil, All-append, All-contains, Contains-get_or, Contains-append_left, Contains-append_right, Contains-append_cases, Contains-push, Contains-push_cases}
 use Rattle.sip_machine.specs.Texts.{Texts, IsBook}
-use Rattle.sip_machine.specs.Heard.{Heard}
+use Rattle.sip_machine.specs.MachineEvent.{MachineEvent}
 use Rattle.sip_machine.specs.Rules.{Rules, Waits, Knows, StandFor}
 use Rattle.sip_states.specs.inner.Ways.{SomeCanEnd, Covers, GivesFrom, GivesAfter}
 use Rattle.sip_states.proofs.Listed.{Contains-none, Contains-map, Contains-from_map}
@@ -33,7 +33,7 @@ module _ {X S : Type 0} (names : S → List ℕ) (InRange : S → Type 0) (seen 
         in_range = rw is (All-append InRange xs ys c.in_range s.in_range);
       }
 
-  module _ (r : Rules X) (e : Heard) where
+  module _ (r : Rules X) (e : MachineEvent) where
     -- no states give none
     pub gives_none : Covers names InRange seen texts (GivesFrom seen texts r [] e) []
     gives_none =
@@ -86,7 +86,7 @@ module _ {X S : Type 0} (names : S → List ℕ) (InRange : S → Type 0) (seen 
         )) found c
 
 module _ {X S : Type 0} (names : S → List ℕ) (InRange : S → Type 0) (seen : Texts → S → X) (r : Rules X) (ended : S) (window : S → Option (ℕ × Option ℕ)) (until : S → Option ℕ)
-    (follows : Follows names seen r ended window until) (texts : Texts) (xs : List S) (h : ℕ) (e : Heard) (low : h ≤ e.moment) where
+    (follows : Follows names seen r ended window until) (texts : Texts) (xs : List S) (h : ℕ) (e : MachineEvent) (low : h ≤ e.moment) where
   -- a state that can wait is one in which one can stand
   stayed_gives : (y : X) → GivesFrom seen texts r xs e y → GivesAfter seen texts r xs h e y
   stayed_gives y g =

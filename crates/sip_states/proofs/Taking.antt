@@ -3,11 +3,11 @@ use Rattle.std.proofs.lemmas.List.{length-map}
 use Rattle.std.proofs.lemmas.List.Elements.{All-contains_itself, All-head, All-weaker, Contains-get_or}
 use Rattle.sip_machine.specs.Limits.{IsWithin}
 use Rattle.sip_machine.specs.Texts.{Texts}
-use Rattle.sip_machine.specs.Heard.{Heard}
+use Rattle.sip_machine.specs.MachineEvent.{MachineEvent}
 use Rattle.sip_machine.specs.Rules.{Rules, IsLawful, Waits, StandFor}
 use Rattle.sip_states.specs.Held.{IsKept}
 use Rattle.sip_states.specs.inner.Ways.{Advances}
-use Rattle.sip_states.specs.Runs.{Gives, IsWide, widest}
+use Rattle.sip_states.specs.Runs.{RunGives, IsWide, widest}
 use Rattle.sip_states.proofs.Few.{distinct_few}
 use Rattle.sip_states.proofs.Following.{Follows, seen_waits, ended_stays}
 use Rattle.sip_states.proofs.Listed.{Contains-map}
@@ -48,15 +48,15 @@ few_narrow names InRange seen texts P new stands few w =
 
 module _ {X S : Type 0} (names : S → List ℕ) (InRange : S → Type 0) (seen : Texts → S → X) (texts : Texts) (r : Rules X) where
   -- a state that an event gave can wait at its moment
-  pub took_waits : IsLawful r → (P : X → Type 0) (e : Heard) (new : List S) → StandFor names InRange seen texts (Gives r P e) new → All (λ s. Waits r (seen texts s) e.moment) new
+  pub took_waits : IsLawful r → (P : X → Type 0) (e : MachineEvent) (new : List S) → StandFor names InRange seen texts (RunGives r P e) new → All (λ s. Waits r (seen texts s) e.moment) new
   took_waits lawful P e new gives k d within =
       let given = (gives.members (seen texts (get_or new k d))).0 (Contains-map (seen texts) new (get_or new k d) (Contains-get_or new k d within)) in
       lawful.fresh given.before e (seen texts (get_or new k d)) given.takes
 
 -- after an event the set is kept, if it is not too wide
 pub took_kept : {M X S : Type 0} (names : S → List ℕ) (InRange : S → Type 0) (seen : Texts → S → X) (r : M → Rules X) (ended : M → S) (window : M → S → Option (ℕ × Option ℕ)) (until : M → S → Option ℕ)
-    (machine : M) → Follows names seen (r machine) (ended machine) (window machine) (until machine) → (texts : Texts) (P : X → Type 0) (e : Heard) (new : List S) →
-    StandFor names InRange seen texts (Gives (r machine) P e) new → AllPairs (λ x y. x ≢ y) new → length new ≤ widest →
+    (machine : M) → Follows names seen (r machine) (ended machine) (window machine) (until machine) → (texts : Texts) (P : X → Type 0) (e : MachineEvent) (new : List S) →
+    StandFor names InRange seen texts (RunGives (r machine) P e) new → AllPairs (λ x y. x ≢ y) new → length new ≤ widest →
     IsKept InRange until ended (record { machine = machine; moment = e.moment; states = new })
 took_kept names InRange seen r ended window until machine follows texts P e new s apart few =
     record {

@@ -1,8 +1,8 @@
 use Rattle.std.proofs.Common.{◌≡◌, ◌≤◌, ◌↔◌, ◌⊎◌, inl, inr, ℕ, Option, Some, None, List, [], ◌∷◌, map, refl, sym, subst, arith}
 use Rattle.sip_machine.specs.Limits.{IsWithin, IsOpenAt}
-use Rattle.sip_machine.specs.Heard.{Heard}
+use Rattle.sip_machine.specs.MachineEvent.{MachineEvent}
 use Rattle.sip_machine.specs.Rules.{Rules, IsLawful, Waits, Hide}
-use Rattle.sip_states.specs.Runs.{Hides, Reaches, Wait, Gives}
+use Rattle.sip_states.specs.Runs.{Hides, Reaches, Wait, RunGives}
 
 -- Waits: since the ended state has no end, at most one hidden step matters.
 
@@ -48,7 +48,7 @@ module _ {X : Type 0} (r : Rules X) where
   )
 
   -- an event gives the same from the same states
-  pub Gives-iff : (S T : X → Type 0) → ((x : X) → S x ↔ T x) → (e : Heard) (y : X) → Gives r S e y ↔ Gives r T e y
+  pub Gives-iff : (S T : X → Type 0) → ((x : X) → S x ↔ T x) → (e : MachineEvent) (y : X) → RunGives r S e y ↔ RunGives r T e y
   Gives-iff S T same e y = (
     λ g. record { before = g.before; among = (same g.before).0 g.among; takes = g.takes },
     λ g. record { before = g.before; among = (same g.before).1 g.among; takes = g.takes },

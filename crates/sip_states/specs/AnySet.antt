@@ -9,15 +9,15 @@ use Rattle.sip_machine.specs.Owing.{owing_seen, owing_names, OwingInRange}
 use Rattle.sip_machine.specs.Transaction.{ended_state}
 use Rattle.sip_states.specs.Runs.{IsWide}
 use Rattle.sip_states.specs.Held.{Held}
-use Rattle.sip_states.specs.KeyMachine.{MachineKind, machine_of_key, transaction, coded, PhaseOf, StateOf, held_of, by_machine, by_one_machine, start_of_machine}
+use Rattle.sip_states.specs.KeyMachine.{MachineKind, machine_of_key, transaction_of, coded_of, PhaseOf, StateOf, held_of, by_machine, by_one_machine, start_of_machine}
 use Rattle.sip_states.specs.Meaning.{Meaning, IsKeptBy, IsKnown, Given, HasWaited, HasTaken, HasAgenda}
 use Rattle.sip_states.specs.declared.any_set.AnySet.{AnySet}
 
 -- what the states of a machine mean
 abbrev pub meaning_of : (machine : MachineKind) → Meaning (PhaseOf machine) Times (StateOf machine)
 meaning_of machine =
-    let figure = (transaction machine).figure in
-    let c = coded machine in
+    let figure = (transaction_of machine).figure in
+    let c = coded_of machine in
     record {
       names = owing_names c.names;
       seen = owing_seen c.seen;
@@ -62,16 +62,16 @@ abbrev pub IsKnownSet : Texts → AnySet → Type 0
 IsKnownSet texts set = OfSet (λ X M S m s. IsKnown m texts s) set
 
 -- it has waited until the moment
-abbrev pub Waits : ℕ → AnySet → AnySet → Type 0
-Waits moment old new = OfSets (λ X M S m s t. HasWaited m moment s t) old new
+abbrev pub SetWaits : ℕ → AnySet → AnySet → Type 0
+SetWaits moment old new = OfSets (λ X M S m s t. HasWaited m moment s t) old new
 
 -- it has taken the event
-abbrev pub Takes : Texts → NumberedEvent → AnySet → AnySet → Type 0
-Takes texts e old new = OfSets (λ X M S m s t. HasTaken m texts e s t) old new
+abbrev pub SetTakes : Texts → NumberedEvent → AnySet → AnySet → Type 0
+SetTakes texts e old new = OfSets (λ X M S m s t. HasTaken m texts e s t) old new
 
 -- the event leads to more states than are followed
-abbrev pub IsTooWide : Texts → NumberedEvent → AnySet → Type 0
-IsTooWide texts e set = OfSet (λ X M S m s. IsWide (Given m texts s e)) set
+abbrev pub IsSetTooWide : Texts → NumberedEvent → AnySet → Type 0
+IsSetTooWide texts e set = OfSet (λ X M S m s. IsWide (Given m texts s e)) set
 
 -- a wait can last until exactly the moments within the limit
 abbrev pub IsAgendaOf : Option ℕ → AnySet → Type 0

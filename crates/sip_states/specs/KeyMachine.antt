@@ -38,39 +38,39 @@ abbrev pub machine_of_key : KeyParts → MachineKind
 machine_of_key key = machine_of key.role (bytes_eq key.method (codes "INVITE"))
 
 -- the figure of each machine
-abbrev pub transaction : MachineKind → Transaction
-transaction OfInviteClient = record { Phase = InviteClientPhase; figure = invite_client }
-transaction OfPlainClient = record { Phase = PlainClientPhase; figure = plain_client }
-transaction OfInviteServer = record { Phase = InviteServerPhase; figure = invite_server }
-transaction OfPlainServer = record { Phase = PlainServerPhase; figure = plain_server }
+abbrev pub transaction_of : MachineKind → Transaction
+transaction_of OfInviteClient = record { Phase = InviteClientPhase; figure = invite_client }
+transaction_of OfPlainClient = record { Phase = PlainClientPhase; figure = plain_client }
+transaction_of OfInviteServer = record { Phase = InviteServerPhase; figure = invite_server }
+transaction_of OfPlainServer = record { Phase = PlainServerPhase; figure = plain_server }
 
 -- the states of each machine: a phase, and what is owed
 abbrev pub PhaseOf : MachineKind → Type 0
-PhaseOf machine = Owing (transaction machine).Phase
+PhaseOf machine = Owing (transaction_of machine).Phase
 
 -- its rules with these times
-abbrev pub rules_of : Times → (machine : MachineKind) → Rules (PhaseOf machine)
-rules_of p machine = rules_of_figure (transaction machine).figure p
+abbrev pub key_rules : Times → (machine : MachineKind) → Rules (PhaseOf machine)
+key_rules p machine = rules_of_figure (transaction_of machine).figure p
 
 -- How the code has the machines, and the sets of their states.
 
 -- how the code has each machine
-abbrev pub coded : (machine : MachineKind) → Coded (transaction machine).Phase
-coded OfInviteClient = invite_client_coded
-coded OfPlainClient = plain_client_coded
-coded OfInviteServer = invite_server_coded
-coded OfPlainServer = plain_server_coded
+abbrev pub coded_of : (machine : MachineKind) → Coded (transaction_of machine).Phase
+coded_of OfInviteClient = invite_client_coded
+coded_of OfPlainClient = plain_client_coded
+coded_of OfInviteServer = invite_server_coded
+coded_of OfPlainServer = plain_server_coded
 
 -- as it is
-pub is_coded : (machine : MachineKind) → IsCoded (transaction machine).figure (coded machine)
-is_coded OfInviteClient = invite_client_is_coded
-is_coded OfPlainClient = plain_client_is_coded
-is_coded OfInviteServer = invite_server_is_coded
-is_coded OfPlainServer = plain_server_is_coded
+pub coded_holds : (machine : MachineKind) → IsCoded (transaction_of machine).figure (coded_of machine)
+coded_holds OfInviteClient = invite_client_is_coded
+coded_holds OfPlainClient = plain_client_is_coded
+coded_holds OfInviteServer = invite_server_is_coded
+coded_holds OfPlainServer = plain_server_is_coded
 
 -- the states of each machine as the code has them
 abbrev pub StateOf : MachineKind → Type 0
-StateOf machine = CodeOwing (coded machine).Code (coded machine).Debts
+StateOf machine = CodeOwing (coded_of machine).Code (coded_of machine).Debts
 
 -- a set of this machine
 abbrev pub set_of : (machine : MachineKind) → Held Times (StateOf machine) → AnySet
@@ -103,10 +103,10 @@ by_one_machine P old new = ⊥
 
 -- the set that a machine starts with: its first state, at moment 0
 abbrev pub start_of_machine : Times → MachineKind → AnySet
-start_of_machine p OfInviteClient = InviteClient (record { machine = p; moment = 0; states = idle_state (coded OfInviteClient) ∷ [] })
-start_of_machine p OfPlainClient = PlainClient (record { machine = p; moment = 0; states = idle_state (coded OfPlainClient) ∷ [] })
-start_of_machine p OfInviteServer = InviteServer (record { machine = p; moment = 0; states = idle_state (coded OfInviteServer) ∷ [] })
-start_of_machine p OfPlainServer = PlainServer (record { machine = p; moment = 0; states = idle_state (coded OfPlainServer) ∷ [] })
+start_of_machine p OfInviteClient = InviteClient (record { machine = p; moment = 0; states = idle_state (coded_of OfInviteClient) ∷ [] })
+start_of_machine p OfPlainClient = PlainClient (record { machine = p; moment = 0; states = idle_state (coded_of OfPlainClient) ∷ [] })
+start_of_machine p OfInviteServer = InviteServer (record { machine = p; moment = 0; states = idle_state (coded_of OfInviteServer) ∷ [] })
+start_of_machine p OfPlainServer = PlainServer (record { machine = p; moment = 0; states = idle_state (coded_of OfPlainServer) ∷ [] })
 
 -- Whichever its machine is, that is what a set is.
 
@@ -122,7 +122,7 @@ set_is (PlainClient s) = refl
 set_is (InviteServer s) = refl
 set_is (PlainServer s) = refl
 
-pub start_is : (p : Times) (machine : MachineKind) → start_of_machine p machine ≡ set_of machine (record { machine = p; moment = 0; states = idle_state (coded machine) ∷ [] })
+pub start_is : (p : Times) (machine : MachineKind) → start_of_machine p machine ≡ set_of machine (record { machine = p; moment = 0; states = idle_state (coded_of machine) ∷ [] })
 start_is p OfInviteClient = refl
 start_is p OfPlainClient = refl
 start_is p OfInviteServer = refl

@@ -2,9 +2,9 @@
 use Rattle.std.specs.Prelude.{◌≡◌, ◌≤◌, ◌+◌, ℕ, Option, List, All, Contains, length, map}
 use Rattle.sip_machine.specs.Texts.{Texts, IsBook}
 use Rattle.sip_machine.specs.NumberedEvent.{NumberedEvent}
-use Rattle.sip_machine.specs.Heard.{heard}
+use Rattle.sip_machine.specs.MachineEvent.{event_in}
 use Rattle.sip_machine.specs.Rules.{Rules, Knows, StandFor}
-use Rattle.sip_states.specs.Runs.{Wait, Gives, IsAgenda, widest}
+use Rattle.sip_states.specs.Runs.{Wait, RunGives, IsAgenda, widest}
 use Rattle.sip_states.specs.Held.{Held, IsKept}
 
 -- what a machine M with states S of the code means: the messages that a state names, what it stands for, which moments it may have, the rules,
@@ -32,7 +32,7 @@ module _ {X M S : Type 0} (m : Meaning X M S) where
 
   -- where one can stand after the event
   abbrev pub Given : Texts → Held M S → NumberedEvent → X → Type 0
-  Given texts s e = Gives (m.rules s.machine) (Waiting texts s e.moment) (heard texts e)
+  Given texts s e = RunGives (m.rules s.machine) (Waiting texts s e.moment) (event_in texts e)
 
   -- the set, once it has waited until the moment
   pub record HasWaited (moment : ℕ) (old new : Held M S) : Type 0 where

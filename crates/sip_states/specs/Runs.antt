@@ -1,12 +1,12 @@
 use Rattle.std.specs.Prelude.{◌≡◌, ◌≢◌, ◌≤◌, ◌<◌, ◌↔◌, ℕ, Option, List, [], ◌∷◌, ◌++◌, length, map, All, AllPairs}
 use Rattle.sip_machine.specs.Limits.{IsWithin}
-use Rattle.sip_machine.specs.Heard.{Heard}
+use Rattle.sip_machine.specs.MachineEvent.{MachineEvent}
 use Rattle.sip_machine.specs.Rules.{Rules, Waits, Hide}
 
 -- a step of a run: an end at any moment, or an event
 pub data Step : Type 0 where
   Hides : ℕ → Step
-  Takes : Heard → Step
+  Takes : MachineEvent → Step
 
 abbrev pub moment_of_step : Step → ℕ
 moment_of_step (Hides h) = h
@@ -30,7 +30,7 @@ pub record Reaches {X : Type 0} (r : Rules X) (x : X) (h : ℕ) (steps : List St
   pub waits : Waits r y m
 
 -- the events that the steps take, in order
-abbrev pub taken : List Step → List Heard
+abbrev pub taken : List Step → List MachineEvent
 taken [] = []
 taken (Hides h ∷ steps) = taken steps
 taken (Takes e ∷ steps) = e ∷ taken steps
@@ -43,19 +43,19 @@ pub record Wait {X : Type 0} (r : Rules X) (S : X → Type 0) (h m : ℕ) (y : X
   pub stands : Reaches r start h (map Hides ends) y m
 
 -- a state that e gives from one of S
-pub record Gives {X : Type 0} (r : Rules X) (S : X → Type 0) (e : Heard) (y : X) : Type 0 where
+pub record RunGives {X : Type 0} (r : Rules X) (S : X → Type 0) (e : MachineEvent) (y : X) : Type 0 where
   pub before : X
   pub among : S before
   pub takes : r.Take before e y
 
 -- a run takes just these events, in order, from the first state at moment 0, and stands in y at m
-pub record Run {X : Type 0} (r : Rules X) (events : List Heard) (m : ℕ) (y : X) : Type 0 where
+pub record Run {X : Type 0} (r : Rules X) (events : List MachineEvent) (m : ℕ) (y : X) : Type 0 where
   pub steps : List Step
   pub stands : Reaches r r.first 0 steps y m
   pub takes : taken steps ≡ events
 
 -- y is the last state of a run over these events and e, whose last step is that of e
-pub record After {X : Type 0} (r : Rules X) (events : List Heard) (e : Heard) (y : X) : Type 0 where
+pub record AfterRun {X : Type 0} (r : Rules X) (events : List MachineEvent) (e : MachineEvent) (y : X) : Type 0 where
   pub steps : List Step
   pub goes : Goes r r.first 0 (steps ++ Takes e ∷ []) y e.moment
   pub takes : taken steps ≡ events

@@ -4,14 +4,14 @@ use Rattle.sip_machine.specs.Times.{Times}
 use Rattle.sip_machine.specs.Owing.{owing_names}
 use Rattle.sip_machine.specs.Naming.{AppendsAll}
 use Rattle.sip_states.specs.Held.{Held}
-use Rattle.sip_states.specs.KeyMachine.{MachineKind, coded, StateOf, held_of, by_machine}
+use Rattle.sip_states.specs.KeyMachine.{MachineKind, coded_of, StateOf, held_of, by_machine}
 use Rattle.sip_states.specs.declared.any_set.AnySet.{AnySet}
-use Rattle.sip_states.specs.AnySet.{Waits}
+use Rattle.sip_states.specs.AnySet.{SetWaits}
 use Rattle.sip_states.specs.Tables.{Tabled}
 
 -- the numbers of the messages that the states of a set of this machine name
 abbrev pub names_of : (machine : MachineKind) → Held Times (StateOf machine) → List ℕ
-names_of machine s = flat_map (owing_names (coded machine).names) s.states
+names_of machine s = flat_map (owing_names (coded_of machine).names) s.states
 
 -- and those of any set
 abbrev pub numbers_of : AnySet → List ℕ
@@ -23,7 +23,7 @@ AppendsNumbers set old new = by_machine (λ machine s. AppendsAll (names_of mach
 
 -- the set has waited until the moment; or it names nothing, and stays
 abbrev pub IsAdvanced : ℕ → AnySet → AnySet → Type 0
-IsAdvanced moment old new = Waits moment old new ⊎ ((new ≡ old) × (numbers_of old ≡ []))
+IsAdvanced moment old new = SetWaits moment old new ⊎ ((new ≡ old) × (numbers_of old ≡ []))
 
 -- nothing but the sets changes, and P holds of each and what came of it
 pub record ChangesSets (P : AnySet → AnySet → Type 0) (old new : Tabled) : Type 0 where

@@ -5,7 +5,7 @@ use Rattle.sip_machine.specs.declared.owing.Owing.{Owing as CodeOwing}
 use Rattle.sip_machine.specs.Texts.{Texts, text_of}
 use Rattle.sip_machine.specs.Told.{Told, told_by, told_of, messages_told}
 use Rattle.sip_machine.specs.inner.Runs.{debts_of}
-use Rattle.sip_states.specs.KeyMachine.{coded, by_machine}
+use Rattle.sip_states.specs.KeyMachine.{coded_of, by_machine}
 use Rattle.sip_states.specs.declared.any_set.AnySet.{AnySet}
 use Rattle.sip_states.specs.declared.told.ToldState.{ToldState}
 
@@ -14,18 +14,18 @@ abbrev pub Saying : Type 0
 Saying = Told (List ℕ) × List ℕ × List Debt
 
 -- what these words say, beside the texts of a book
-abbrev pub said : Texts → ToldState → Saying
-said texts state = (told_by (text_of texts) (told_of state.phase), messages_told (told_of state.phase), debts_of state.owes.items)
+abbrev pub said_state : Texts → ToldState → Saying
+said_state texts state = (told_by (text_of texts) (told_of state.phase), messages_told (told_of state.phase), debts_of state.owes.items)
 
 module _ {S D X : Type 0} (words : X → Told (List ℕ)) (seen : Texts → S → X) (names : S → List ℕ) where
-  -- what is to be said of a state of the code
+  -- what is to be said_state of a state of the code
   abbrev pub meant : Texts → CodeOwing S D → Saying
   meant texts x = (words (seen texts x.phase), names x.phase, x.owes)
 
   -- these words say it of these states, one by one
   abbrev pub AreToldAs : List (CodeOwing S D) → List ToldState → Type 0
-  AreToldAs states told = (texts : Texts) → map (said texts) told ≡ map (meant texts) states
+  AreToldAs states told = (texts : Texts) → map (said_state texts) told ≡ map (meant texts) states
 
 -- these are the states of the set in words
 abbrev pub AreTold : AnySet → List ToldState → Type 0
-AreTold set told = by_machine (λ machine s. AreToldAs (coded machine).told (coded machine).seen (coded machine).names s.states told) set
+AreTold set told = by_machine (λ machine s. AreToldAs (coded_of machine).told (coded_of machine).seen (coded_of machine).names s.states told) set

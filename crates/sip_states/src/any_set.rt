@@ -1,7 +1,7 @@
 //! The states of one transaction, whichever machine it has.
 ghost use Rattle.std.specs.Prelude.{◌≡◌, ◌↔◌, ◌≤◌, IfOk, IsErrOf, IsTrue, OnErr, OnOk};
-ghost use Rattle.sip_machine.specs.Heard.{FitsBook};
-ghost use Rattle.sip_states.specs.AnySet.{moment_of, start_of, IsEmpty, IsKeptSet, IsKnownSet, Waits, Takes, IsTooWide, IsAgendaOf};
+ghost use Rattle.sip_machine.specs.MachineEvent.{FitsBook};
+ghost use Rattle.sip_states.specs.AnySet.{moment_of, start_of, IsEmpty, IsKeptSet, IsKnownSet, SetWaits, SetTakes, IsSetTooWide, IsAgendaOf};
 ghost use Rattle.sip_states.specs.Sweep.{AppendsNumbers};
 ghost use Rattle.sip_states.specs.Told.{AreTold};
 
@@ -51,7 +51,7 @@ impl AnySet {
     #[tactic(auto, using(crate::proofs::AnyLemmas::has_waited))]
     pub fn advance(&mut self, moment: u64) -> Result<(), AllocError>
         requires { moment_of self.old ≤ moment }
-        ensures ok { OnOk result (Waits moment self.old self.new) }
+        ensures ok { OnOk result (SetWaits moment self.old self.new) }
         ensures err { OnErr result (self.new ≡ self.old) }
     {
         match self {
@@ -62,14 +62,14 @@ impl AnySet {
         }
     }
 
-    /// Takes the event. On an error the set is as before.
+    /// SetTakes the event. On an error the set is as before.
     #[tactic(auto, using(crate::proofs::AnyLemmas::has_taken))]
     pub fn take(&mut self, book: &Book, event: &Event) -> Result<(), TakeError>
         requires order { moment_of self.old ≤ event.now.moment }
         requires fits { FitsBook book.now event.now }
         requires known { IsKnownSet book.now self.old }
-        ensures ok { OnOk result (Takes book.now event.now self.old self.new) }
-        ensures too_many { IsErrOf result TakeError.TooMany → IsTooWide book.now event.now self.old }
+        ensures ok { OnOk result (SetTakes book.now event.now self.old self.new) }
+        ensures too_many { IsErrOf result TakeError.TooMany → IsSetTooWide book.now event.now self.old }
         ensures err { OnErr result (self.new ≡ self.old) }
     {
         match self {

@@ -5,7 +5,7 @@ ghost use Rattle.sip_machine.specs.declared.event.Kind.TheVariants.{Request, Res
 ghost use Rattle.sip_machine.specs.declared.event.Method.TheVariants.{Invite, Ack, Cancel};
 ghost use Rattle.sip_machine.specs.declared.event.Method.{Method};
 ghost use Rattle.sip_machine.specs.Figure.{Owing};
-ghost use Rattle.sip_machine.specs.Heard.{Heard};
+ghost use Rattle.sip_machine.specs.MachineEvent.{MachineEvent};
 ghost use Rattle.sip_machine.specs.InviteClient.{InviteClientPhase, invite_client};
 ghost use Rattle.sip_machine.specs.InviteServer.{InviteServerPhase, invite_server};
 ghost use Rattle.sip_machine.specs.Limits.{open_at};
@@ -13,8 +13,8 @@ ghost use Rattle.sip_machine.specs.Message.{IsFinal};
 ghost use Rattle.sip_machine.specs.PlainClient.{PlainClientPhase, plain_client};
 ghost use Rattle.sip_machine.specs.PlainServer.{PlainServerPhase, plain_server};
 ghost use Rattle.sip_machine.specs.Times.{Times};
-ghost use Rattle.sip_states.specs.KeyMachine.{MachineKind, PhaseOf, transaction, rules_of};
-ghost use Rattle.sip_states.specs.Runs.{Wait, Gives, Run, After};
+ghost use Rattle.sip_states.specs.KeyMachine.{MachineKind, PhaseOf, transaction_of, key_rules};
+ghost use Rattle.sip_states.specs.Runs.{Wait, RunGives, Run, AfterRun};
 ghost use Rattle.sip_states.specs.Stands.{Stands, StandsBehind};
 ghost use Rattle.sip_times.specs.declared.action.Action.TheVariants.{Sent, Received};
 
@@ -22,10 +22,10 @@ use sip_machine::Machine;
 
 /// A run by the rules of a machine is one in the words of the standard, and an event leads from it to the same states.
 pub fn a_run_by_rules_stands()
-    ensures stands { (p : Times) (machine : MachineKind) (events : List Heard) (m : ℕ) (y : PhaseOf machine) →
-        Run (rules_of p machine) events m y ↔ Stands (transaction machine).figure p events m y }
-    ensures behind { (p : Times) (machine : MachineKind) (events : List Heard) (e : Heard) (y : PhaseOf machine) →
-        After (rules_of p machine) events e y ↔ StandsBehind (transaction machine).figure p events e y }
+    ensures stands { (p : Times) (machine : MachineKind) (events : List MachineEvent) (m : ℕ) (y : PhaseOf machine) →
+        Run (key_rules p machine) events m y ↔ Stands (transaction_of machine).figure p events m y }
+    ensures behind { (p : Times) (machine : MachineKind) (events : List MachineEvent) (e : MachineEvent) (y : PhaseOf machine) →
+        AfterRun (key_rules p machine) events e y ↔ StandsBehind (transaction_of machine).figure p events e y }
 {}
 
 /// One wait or two lead to the same states.
@@ -38,25 +38,25 @@ pub fn in_one_wait_or_two<M: Machine>(_machine: &M)
 /// The last states of runs are exactly what waiting and then stepping gives: from the first state at
 /// moment 0, and from the last states at the event before.
 pub fn by_waiting_and_stepping<M: Machine>(_machine: &M)
-    ensures first { (e : Heard) (y : M.Seen) → After (M.rules _machine.now) [] e y
-        ↔ Gives (M.rules _machine.now) (Wait (M.rules _machine.now) (λ x. x ≡ (M.rules _machine.now).first) 0 e.moment) e y }
-    ensures next { (events : List Heard) (e f : Heard) (y : M.Seen) → After (M.rules _machine.now) (events ++ e ∷ []) f y
-        ↔ Gives (M.rules _machine.now) (Wait (M.rules _machine.now) (After (M.rules _machine.now) events e) e.moment f.moment) f y }
+    ensures first { (e : MachineEvent) (y : M.Seen) → AfterRun (M.rules _machine.now) [] e y
+        ↔ RunGives (M.rules _machine.now) (Wait (M.rules _machine.now) (λ x. x ≡ (M.rules _machine.now).first) 0 e.moment) e y }
+    ensures next { (events : List MachineEvent) (e f : MachineEvent) (y : M.Seen) → AfterRun (M.rules _machine.now) (events ++ e ∷ []) f y
+        ↔ RunGives (M.rules _machine.now) (Wait (M.rules _machine.now) (AfterRun (M.rules _machine.now) events e) e.moment f.moment) f y }
 {}
 
 /// A run over some events holds one over the first of them, which stands at any moment from those to the others.
 pub fn a_run_holds_one_over_fewer_events<M: Machine>(_machine: &M)
-    ensures { (events more : List Heard) (m n : ℕ) (y : M.Seen) → All (λ e. e.moment ≤ m) events → All (λ e. m ≤ e.moment) more → m ≤ n →
+    ensures { (events more : List MachineEvent) (m n : ℕ) (y : M.Seen) → All (λ e. e.moment ≤ m) events → All (λ e. m ≤ e.moment) more → m ≤ n →
         Run (M.rules _machine.now) (events ++ more) n y → (x : M.Seen) × Run (M.rules _machine.now) events m x }
 {}
 
 /// Behind the final response to its INVITE a client sends nothing but ACK and CANCEL (RFC 3261 sections 17.1.1.2, 17.1.1.3 and 9.1),
 /// and behind that to any other request it sends nothing (section 17.1.2.2).
 pub fn behind_a_final_response_a_client_sends_no_request()
-    ensures invite { (p : Times) (before between behind : List Heard) (request final e : Heard) (code : ℕ) (y : Owing InviteClientPhase) →
+    ensures invite { (p : Times) (before between behind : List MachineEvent) (request final e : MachineEvent) (code : ℕ) (y : Owing InviteClientPhase) →
         request.action ≡ Sent → request.kind ≡ Request Invite → final.action ≡ Received → final.kind ≡ Response code → IsFinal code → e.action ≡ Sent →
         StandsBehind invite_client p (before ++ request ∷ (between ++ final ∷ behind)) e y → (e.kind ≡ Request Ack) ⊎ (e.kind ≡ Request Cancel) }
-    ensures plain { (p : Times) (before between behind : List Heard) (request final e : Heard) (code : ℕ) (y : Owing PlainClientPhase) →
+    ensures plain { (p : Times) (before between behind : List MachineEvent) (request final e : MachineEvent) (code : ℕ) (y : Owing PlainClientPhase) →
         request.action ≡ Sent → (method : Method) × (request.kind ≡ Request method) → final.action ≡ Received → final.kind ≡ Response code → IsFinal code →
         e.action ≡ Sent → StandsBehind plain_client p (before ++ request ∷ (between ++ final ∷ behind)) e y → ⊥ }
 {}
@@ -64,15 +64,15 @@ pub fn behind_a_final_response_a_client_sends_no_request()
 /// The INVITE with which a client begins is sent again byte for byte, over an unreliable transport alone, and T1 later at the earliest,
 /// the tolerance aside (section 17.1.1.2).
 pub fn an_invite_is_sent_again_after_t1()
-    ensures { (p : Times) (first : Heard) (between : List Heard) (e : Heard) (y : Owing InviteClientPhase) → first.action ≡ Sent → first.kind ≡ Request Invite →
+    ensures { (p : Times) (first : MachineEvent) (between : List MachineEvent) (e : MachineEvent) (y : Owing InviteClientPhase) → first.action ≡ Sent → first.kind ≡ Request Invite →
         e.action ≡ Sent → e.kind ≡ Request Invite → StandsBehind invite_client p (first ∷ between) e y →
         (e.text ≡ first.text) × (first.reliable ≡ false) × (open_at p first.moment p.t1 ≤ e.moment) }
 {}
 
 /// A server sends nothing before a request came in (section 17.2).
 pub fn a_server_sends_when_it_was_asked()
-    ensures invite { (p : Times) (events : List Heard) (e : Heard) (y : Owing InviteServerPhase) → StandsBehind invite_server p events e y → e.action ≡ Sent →
+    ensures invite { (p : Times) (events : List MachineEvent) (e : MachineEvent) (y : Owing InviteServerPhase) → StandsBehind invite_server p events e y → e.action ≡ Sent →
         Any (λ f. (f.action ≡ Received) × ((method : Method) × (f.kind ≡ Request method))) events }
-    ensures plain { (p : Times) (events : List Heard) (e : Heard) (y : Owing PlainServerPhase) → StandsBehind plain_server p events e y → e.action ≡ Sent →
+    ensures plain { (p : Times) (events : List MachineEvent) (e : MachineEvent) (y : Owing PlainServerPhase) → StandsBehind plain_server p events e y → e.action ≡ Sent →
         Any (λ f. (f.action ≡ Received) × ((method : Method) × (f.kind ≡ Request method))) events }
 {}

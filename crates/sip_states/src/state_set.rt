@@ -1,11 +1,11 @@
 //! The states in which the runs of a machine can stand at a moment.
 ghost use Rattle.std.specs.Prelude.{◌≡◌, ◌≢◌, ◌↔◌, ◌+◌, [], ◌∷◌, ◌≤◌, OnOk, OnErr, All, Contains, IfOk, IsErrOf, IsTrue, flat_map, length, map};
 ghost use Rattle.sip_machine.specs.Texts.{Texts, IsBook};
-ghost use Rattle.sip_machine.specs.Heard.{FitsBook, heard};
+ghost use Rattle.sip_machine.specs.MachineEvent.{FitsBook, event_in};
 ghost use Rattle.sip_machine.specs.Naming.{AppendsAll};
 ghost use Rattle.sip_machine.specs.Rules.{Knows, StandFor};
 ghost use Rattle.sip_states.specs.Held.{IsKept};
-ghost use Rattle.sip_states.specs.Runs.{Wait, Gives, IsAgenda, IsWide, widest};
+ghost use Rattle.sip_states.specs.Runs.{Wait, RunGives, IsAgenda, IsWide, widest};
 
 use crate::each_once::keep_each_once;
 use crate::ends::{advance_states, last_of_all};
@@ -101,12 +101,12 @@ impl<M: Machine> StateSet<M> {
         requires known { All (Knows M.names book.now) self.old.states }
         ensures at { OnOk result ((self.new.machine ≡ self.old.machine) × (self.new.moment ≡ event.now.moment)) }
         ensures states { OnOk result (StandFor M.names M.in_range M.seen book.now
-            (Gives (M.rules self.old.machine) (Wait (M.rules self.old.machine) (Contains (map (M.seen book.now) self.old.states)) self.old.moment event.now.moment)
-            (heard book.now event.now)) self.new.states) }
+            (RunGives (M.rules self.old.machine) (Wait (M.rules self.old.machine) (Contains (map (M.seen book.now) self.old.states)) self.old.moment event.now.moment)
+            (event_in book.now event.now)) self.new.states) }
         ensures few { OnOk result (length self.new.states ≤ widest) }
         ensures too_many { IsErrOf result TakeError.TooMany → IsWide
-            (Gives (M.rules self.old.machine) (Wait (M.rules self.old.machine) (Contains (map (M.seen book.now) self.old.states)) self.old.moment event.now.moment)
-            (heard book.now event.now)) }
+            (RunGives (M.rules self.old.machine) (Wait (M.rules self.old.machine) (Contains (map (M.seen book.now) self.old.states)) self.old.moment event.now.moment)
+            (event_in book.now event.now)) }
         ensures err { OnErr result (self.new ≡ self.old) }
     {
         book.known();
@@ -128,7 +128,7 @@ impl<M: Machine> StateSet<M> {
         Ok(())
     }
 
-    /// Gives back the room that no state takes.
+    /// RunGives back the room that no state takes.
     pub(crate) fn trim(&mut self)
         ensures { self.new ≡ self.old }
     {

@@ -1,6 +1,6 @@
 //! What an event gives from states.
 ghost use Rattle.std.specs.Prelude.{◌≡◌, ◌≤◌, [], All, OnOk};
-ghost use Rattle.sip_machine.specs.Heard.{FitsBook, heard};
+ghost use Rattle.sip_machine.specs.MachineEvent.{FitsBook, event_in};
 ghost use Rattle.sip_machine.specs.Rules.{Knows};
 ghost use Rattle.sip_states.specs.inner.Ways.{Covers, GivesAfter};
 
@@ -24,7 +24,7 @@ pub(crate) fn find_given<M: Machine>(
     requires in_range { All M.in_range states.now }
     requires none { found.old.items ≡ [] }
     ensures { OnOk result (Covers M.names M.in_range M.seen book.now
-        (GivesAfter M.seen book.now (M.rules machine.now) states.now from (heard book.now event.now)) found.new.items) }
+        (GivesAfter M.seen book.now (M.rules machine.now) states.now from (event_in book.now event.now)) found.new.items) }
 {
     let to = event.moment();
     for state in states {

@@ -3,7 +3,7 @@ use Rattle.std.proofs.Common.{◌≡◌, ◌≤◌, ℕ, List, [], ◌∷◌, �
 use Rattle.std.specs.Prelude.{filter, fold, AllPairs}
 use Rattle.std.proofs.lemmas.List.{map-append}
 use Rattle.std.proofs.lemmas.List.Elements.{All-nil, All-cons, All-head, All-map, All-filter, filter-append}
-use Rattle.sip_machine.specs.Heard.{Heard}
+use Rattle.sip_machine.specs.MachineEvent.{MachineEvent}
 use Rattle.sip_states.specs.Runs.{Run}
 use Rattle.sip_states.proofs.Few.{AllPairs-head, AllPairs-tail}
 use Rattle.sip_states.proofs.FewerLemmas.{Run-fewer}
@@ -57,7 +57,7 @@ module _ {K : Type 0} where
 
 module _ {K : Type 0} (m : Machines K) (key : K) where
   -- what holds of entries holds of their events
-  events-all : (P : Heard → Type 0) (es : List (Observation K)) → All (λ e. P e.event) es → All P (events_of m key es)
+  events-all : (P : MachineEvent → Type 0) (es : List (Observation K)) → All (λ e. P e.event) es → All P (events_of m key es)
   events-all P es all = All-map P (λ e. e.event) (filter (concerns m key) es) (All-filter (concerns m key) (λ e. P e.event) es all)
 
   events-append : (front more : List (Observation K)) → events_of m key (front ++ more) ≡ events_of m key front ++ events_of m key more

@@ -9,9 +9,9 @@ use Rattle.sip_key.specs.Key.{KeyParts}
 use Rattle.sip_machine.specs.Times.{Times}
 use Rattle.sip_machine.specs.Texts.{Texts}
 use Rattle.sip_machine.specs.NumberedEvent.{NumberedEvent}
-use Rattle.sip_machine.specs.Heard.{heard}
+use Rattle.sip_machine.specs.MachineEvent.{event_in}
 use Rattle.sip_machine.proofs.OutboxLemmas.{All-position_None}
-use Rattle.sip_states.specs.KeyMachine.{machine_of_key, rules_of}
+use Rattle.sip_states.specs.KeyMachine.{machine_of_key, key_rules}
 use Rattle.sip_states.specs.AnySet.{moment_of}
 use Rattle.sip_states.specs.Agenda.{is_overdue}
 use Rattle.sip_states.specs.Tables.{Tabled, IsGiven, due_of}
@@ -87,8 +87,8 @@ module _ (texts : Texts) (p : Times) (es : List (Observation KeyParts)) (e : Obs
       first (IsTooWide m es e) number h.same h.says.1,
     )
 
-  -- one more has heard the event
-  module _ (event : NumberedEvent) (is_event : (n : ℕ) (key : KeyParts) → slice_get keys n ≡ Some key → e.event ≡ heard texts event) (number : ℕ) (ns : List ℕ) (once : is_among ns number ≡ false) (t u : Tabled) (outcome : Outcome)
+  -- one more has event_in the event
+  module _ (event : NumberedEvent) (is_event : (n : ℕ) (key : KeyParts) → slice_get keys n ≡ Some key → e.event ≡ event_in texts event) (number : ℕ) (ns : List ℕ) (once : is_among ns number ≡ false) (t u : Tabled) (outcome : Outcome)
       (h : IsHalfway (number ∷ ns) t outcome) (given : IsGiven t number) (fate : Fate) (own : Hears texts event number t u fate) where
     abbrev place : ℕ
     place = number - 1
@@ -105,7 +105,7 @@ module _ (texts : Texts) (p : Times) (es : List (Observation KeyParts)) (e : Obs
     left : IsPassed m k es e (mine.0, own.after) fate
     left =
         own_passed m k es e (mine.0, own.after) before.0 fate
-        (subst (λ f. IsStepped (rules_of p (machine_of_key mine.0)) (events_of m mine.0 es) f (λ fs. LeadsOf texts p (machine_of_key mine.0) fs own.after)
+        (subst (λ f. IsStepped (key_rules p (machine_of_key mine.0)) (events_of m mine.0 es) f (λ fs. LeadsOf texts p (machine_of_key mine.0) fs own.after)
         (λ f. StandsOf texts p (machine_of_key mine.0) (events_of m mine.0 es) f own.after) fate) (sym (is_event place mine.0 mine.1))
         (own.stepped p (machine_of_key mine.0) (events_of m mine.0 es) before.1))
 
@@ -157,8 +157,8 @@ module _ (texts : Texts) (p : Times) (es : List (Observation KeyParts)) (e : Obs
       passed = more_passed fate left;
     }
 
-  -- each has heard it
-  pub halfway_each : (event : NumberedEvent) → ((n : ℕ) (key : KeyParts) → slice_get keys n ≡ Some key → e.event ≡ heard texts event) → (ns : List ℕ) (t u : Tabled) (before after : Outcome) → IsHalfway ns t before → All (IsGiven t) ns
+  -- each has event_in it
+  pub halfway_each : (event : NumberedEvent) → ((n : ℕ) (key : KeyParts) → slice_get keys n ≡ Some key → e.event ≡ event_in texts event) → (ns : List ℕ) (t u : Tabled) (before after : Outcome) → IsHalfway ns t before → All (IsGiven t) ns
       → AllPairs (λ a b. a ≢ b) ns → HearsEach texts event ns t before u after → IsHalfway [] u after
   halfway_each event is_event [] t u before after h given apart (same, fine) = subst (λ o. IsHalfway [] u o) (sym fine) (subst (λ x. IsHalfway [] x before) (sym same) h)
   halfway_each event is_event (n ∷ ns) t u before after h given apart (between, one, first, rest) =
@@ -167,7 +167,7 @@ module _ (texts : Texts) (p : Times) (es : List (Observation KeyParts)) (e : Obs
       (one_more event is_event n ns (first_apart n ns apart) t between before h (All-head (IsGiven t) n ns given) first.0 first.1))
       (heard_given texts event n t between one first ns (All-tail (IsGiven t) n ns given)) (AllPairs-tail n ns apart) rest
 
--- no set has heard the event yet
+-- no set has event_in the event yet
 module _ (texts : Texts) (p : Times) (es : List (Observation KeyParts)) (e : Observation KeyParts) (moment : ℕ) (hearing : Option Hearing) (t : Tabled) (may : MayPass texts t moment)
     (recorded : AreOnRecord (hearers hearing) t) (told : AreTold texts t.keys moment hearing e) (ready : All (IsReady (key_machines p) (key_keeping texts p) es) (transactions_of t)) where
   -- a key, its set and its last moment on record
@@ -187,14 +187,14 @@ module _ (texts : Texts) (p : Times) (es : List (Observation KeyParts)) (e : Obs
     late None on is = absurd (false≢true is)
     late (Some limit) on is = λ run.
         overdue_none texts p (machine_of_key key) (events_of (key_machines p) key es) s leads limit (recorded.each n s (Some limit) here on) moment low is
-        (subst (RunsUntil (rules_of p (machine_of_key key)) (events_of (key_machines p) key es)) at_moment (run_still (key_machines p) (key_keeping texts p) es e (key, s) run))
+        (subst (RunsUntil (key_rules p (machine_of_key key)) (events_of (key_machines p) key es)) at_moment (run_still (key_machines p) (key_keeping texts p) es e (key, s) run))
 
     -- and up to it, it goes on
     in_time : (r : Option (Option ℕ)) → slice_get t.records n ≡ Some r → is_overdue moment r ≡ false → is_among (hearers hearing) (n + 1) ≡ false → GoesOn (key_machines p) (key_keeping texts p) es e (key, s)
     in_time None on is other = absurd (false≢true (sym other ∙ recorded.each n s None here on))
     in_time (Some limit) on is other =
         other_passed (key_machines p) (key_keeping texts p) es e (key, s) ((told n key at).concerned p ∙ other)
-        (subst (RunsUntil (rules_of p (machine_of_key key)) (events_of (key_machines p) key es)) (sym at_moment)
+        (subst (RunsUntil (key_rules p (machine_of_key key)) (events_of (key_machines p) key es)) (sym at_moment)
         (in_time_some texts p (machine_of_key key) (events_of (key_machines p) key es) s leads limit (recorded.each n s (Some limit) here on) moment low is)) leads
 
   -- each key has a set and a place for its last moment
@@ -259,8 +259,8 @@ module _ (texts : Texts) (p : Times) (es : List (Observation KeyParts)) (e : Obs
       halfway_all texts p es e t.keys t may.long (overdue_outcome (due_of t moment))
       (subst (λ ns. IsHalfway texts p es e t.keys ns t (overdue_outcome (due_of t moment))) none halfway_start)
 
-  -- and of one whose event was heard by each that it concerns
-  pub heard_outcome : (event : NumberedEvent) → ((n : ℕ) (key : KeyParts) → slice_get t.keys n ≡ Some key → e.event ≡ heard texts event) → All (IsGiven t) (hearers hearing) → AllPairs (λ a b. a ≢ b) (hearers hearing) → (u : Tabled)
+  -- and of one whose event was event_in by each that it concerns
+  pub heard_outcome : (event : NumberedEvent) → ((n : ℕ) (key : KeyParts) → slice_get t.keys n ≡ Some key → e.event ≡ event_in texts event) → All (IsGiven t) (hearers hearing) → AllPairs (λ a b. a ≢ b) (hearers hearing) → (u : Tabled)
       → length u.sets ≡ length u.keys → (outcome : Outcome) → HearsEach texts event (hearers hearing) t (overdue_outcome (due_of t moment)) u outcome
       → IsOutcome (key_machines p) (key_keeping texts p) es e (transactions_of u) outcome
   heard_outcome event is_event given apart u long outcome heard_each =

@@ -16,7 +16,7 @@ use Rattle.sip_times.specs.declared.action.Action.{Action}
 use Rattle.sip_times.specs.declared.action.Action.TheVariants.{Sent, Received, Failed, Mark}
 use Rattle.sip_machine.specs.Times.{Times}
 use Rattle.sip_log.specs.Spelling.{Item}
-use Rattle.sip_log.specs.Log.{LogEnd, Clean, Stops, Log, Faulty, Holds, IsLogOf}
+use Rattle.sip_log.specs.Log.{LogEnd, Clean, Stops, Log, Faulty, Readable, IsLogOf}
 use Rattle.sip_log.proofs.Logs.{log_is_some}
 use Rattle.sip_verdict.specs.declared.verdict.Verdict.{Verdict}
 use Rattle.sip_verdict.specs.declared.verdict.Verdict.TheVariants.{Legal, Malformed, Breach, Undecided, LogFault}
@@ -24,7 +24,7 @@ use Rattle.sip_verdict.specs.declared.log_reason.LogReason.TheVariants.{Header}
 use Rattle.sip_verdict.specs.LogReason.{reason_of}
 use Rattle.sip_verdict.specs.Keyed.{Observation, Machines, keys_of, HasRun}
 use Rattle.sip_verdict.specs.Verdicts.{IsFirst, IsTooWide, AllRun, IsFine, IsTrouble}
-use Rattle.sip_verdict.specs.Reading.{Reading, Judges, IsVerdictBy}
+use Rattle.sip_verdict.specs.Reading.{EntryReading, Judges, IsVerdictBy}
 use Rattle.sip_verdict.specs.MessageReading.{message_reading, direction_of, mark_observation, ObservesMessage, has_fault, has_no_cookie, is_heard}
 
 -- it is not false
@@ -63,10 +63,10 @@ all_of P (key ∷ keys) all never =
     All-head (λ k. ¬ (¬ (P k))) key keys all (λ holds. all_of P keys (All-tail (λ k. ¬ (¬ (P k))) key keys all) (λ later. never (All-cons P key keys holds later)))
 
 -- something is observed of each entry
-abbrev Sees : {K : Type 0} → Reading K → Type 0
+abbrev Sees : {K : Type 0} → EntryReading K → Type 0
 Sees {K} r = (before : List (Observation K)) (item : Item) → Weakly ((e : Observation K) × r.Observes before item e)
 
-module _ {K : Type 0} (r : Reading K) (sees : Sees r) where
+module _ {K : Type 0} (r : EntryReading K) (sees : Sees r) where
   module _ (m : Machines K) (es : List (Observation K)) (e : Observation K) where
     abbrev keys : List K
     keys = keys_of m (es ++ e ∷ [])
@@ -99,7 +99,7 @@ module _ {K : Type 0} (r : Reading K) (sees : Sees r) where
   -- and so has an input
   verdict_of_log : (input : List ℕ) (log : Log) → IsLogOf input log → Weakly ((v : Verdict) × IsVerdictBy r input v)
   verdict_of_log input Faulty is never = never (LogFault 0 Header, inl (is, refl))
-  verdict_of_log input (Holds p items end) is never = judges_some p [] items end (λ one. never (one.0, inr (p, items, end, is, one.1)))
+  verdict_of_log input (Readable p items end) is never = judges_some p [] items end (λ one. never (one.0, inr (p, items, end, is, one.1)))
 
 -- something is observed of each message
 observes_message : (direction : Direction) (item : Item) → Weakly ((e : Observation KeyParts) × ObservesMessage direction item e)

@@ -1,10 +1,10 @@
 -- What an event leaves of the runs of one transaction, whatever its machine is.
 use Rattle.std.proofs.Common.{◌≡◌, ◌≢◌, ◌≤◌, ℕ, List, [], ◌∷◌, ◌++◌, Contains, map, length, sym, ◌∙◌, subst}
 use Rattle.sip_machine.specs.Texts.{Texts}
-use Rattle.sip_machine.specs.Heard.{Heard}
+use Rattle.sip_machine.specs.MachineEvent.{MachineEvent}
 use Rattle.sip_machine.specs.Rules.{Rules, IsLawful, StandFor}
 use Rattle.sip_verdict.specs.declared.passing.Fate.TheVariants.{Runs, NoRun, TooWide}
-use Rattle.sip_states.specs.Runs.{Wait, Gives, After, IsWide, widest}
+use Rattle.sip_states.specs.Runs.{Wait, RunGives, AfterRun, IsWide, widest}
 use Rattle.sip_states.specs.Held.{Held}
 use Rattle.sip_verdict.specs.inner.Leads.{Leads}
 use Rattle.sip_verdict.specs.inner.Stepping.{LeadsTo, IsStepped}
@@ -13,25 +13,25 @@ use Rattle.sip_verdict.proofs.OneMachine.{none_runs, some_runs, took_after, took
 use Rattle.sip_states.proofs.Taking.{took_waits}
 
 module _ {M X S : Type 0} (names : S → List ℕ) (InRange : S → Type 0) (seen : Texts → S → X) (rules : M → Rules X) (lawful : (machine : M) → IsLawful (rules machine))
-    (texts : Texts) (machine : M) (events : List Heard) (set new : Held M S) (leads : LeadsTo names seen rules texts machine set events) where
+    (texts : Texts) (machine : M) (events : List MachineEvent) (set new : Held M S) (leads : LeadsTo names seen rules texts machine set events) where
   -- where one can stand at a moment after waiting from the set, by the rules of this machine
   abbrev WaitFrom : M → ℕ → X → Type 0
   WaitFrom own moment = Wait (rules own) (Contains (map (seen texts) set.states)) set.moment moment
 
   -- a set of the same machine at the moment leads to the runs over its events
-  led : (more : List Heard) (moment : ℕ) → new.machine ≡ set.machine → new.moment ≡ moment → Leads names seen texts (rules machine) more moment new.states → LeadsTo names seen rules texts machine new more
+  led : (more : List MachineEvent) (moment : ℕ) → new.machine ≡ set.machine → new.moment ≡ moment → Leads names seen texts (rules machine) more moment new.states → LeadsTo names seen rules texts machine new more
   led more moment same at l = record {
     machine_is = same ∙ leads.machine_is;
     leads = subst (λ m. Leads names seen texts (rules machine) more m new.states) (sym at) l;
   }
 
   -- the new set is just the last states of the runs that end with an event
-  abbrev pub Stands : Heard → Type 0
-  Stands e = StandFor names InRange seen texts (After (rules machine) events e) new.states
+  abbrev pub Stands : MachineEvent → Type 0
+  Stands e = StandFor names InRange seen texts (AfterRun (rules machine) events e) new.states
 
-  module _ (e : Heard) (low : set.moment ≤ e.moment) (gives : StandFor names InRange seen texts (Gives (rules set.machine) (WaitFrom set.machine e.moment) e) new.states) where
-    given : StandFor names InRange seen texts (Gives (rules machine) (WaitFrom machine e.moment) e) new.states
-    given = subst (λ own. StandFor names InRange seen texts (Gives (rules own) (WaitFrom own e.moment) e) new.states) leads.machine_is gives
+  module _ (e : MachineEvent) (low : set.moment ≤ e.moment) (gives : StandFor names InRange seen texts (RunGives (rules set.machine) (WaitFrom set.machine e.moment) e) new.states) where
+    given : StandFor names InRange seen texts (RunGives (rules machine) (WaitFrom machine e.moment) e) new.states
+    given = subst (λ own. StandFor names InRange seen texts (RunGives (rules own) (WaitFrom own e.moment) e) new.states) leads.machine_is gives
 
     taken : Leads names seen texts (rules machine) (events ++ e ∷ []) e.moment new.states
     taken = Leads-take names InRange seen texts (rules machine) events set.moment set.states leads.leads e low new.states given
@@ -57,8 +57,8 @@ module _ {M X S : Type 0} (names : S → List ℕ) (InRange : S → Type 0) (see
     )
 
   -- too many come out: there is a run, and too many last states
-  pub heard_wide : (e : Heard) → set.moment ≤ e.moment → IsWide (Gives (rules set.machine) (WaitFrom set.machine e.moment) e)
+  pub heard_wide : (e : MachineEvent) → set.moment ≤ e.moment → IsWide (RunGives (rules set.machine) (WaitFrom set.machine e.moment) e)
       → IsStepped (rules machine) events e (LeadsTo names seen rules texts machine new) Stands TooWide
   heard_wide e low wide =
       wide_runs names seen texts (rules machine) (lawful machine) events set.moment set.states leads.leads e low
-      (subst (λ own. IsWide (Gives (rules own) (WaitFrom own e.moment) e)) leads.machine_is wide)
+      (subst (λ own. IsWide (RunGives (rules own) (WaitFrom own e.moment) e)) leads.machine_is wide)

@@ -58,7 +58,7 @@ stands_on j k e next number moment goes_on es stands (seen, observed, follows) =
 pub verdict_of : (start : Option (List ℕ)) (v : Verdict) → IfSome start (λ input. IsVerdictBy message_reading input v) → IfSome start (λ input. IsVerdictOf input v)
 verdict_of start v is = IfSome-map start (λ input. IsVerdictBy message_reading input v) (λ input. IsVerdictOf input v) (λ input. by-verdict input v) is
 
-module _ (start : Option (List ℕ)) (now : log.Reading) (j : Judging) (read : StandsForRead j start now) where
+module _ (start : Option (List ℕ)) (now : log.ReaderState) (j : Judging) (read : StandsForRead j start now) where
   -- the log ends: the entries are legal
   pub read_ends : IfSome start (λ input. IsLog input j.tables.times read.items Clean)
       → IfSome start (λ input. IsVerdictOf input (Legal (length read.es) (length (keys_of (key_machines j.tables.times) read.es))))
@@ -73,7 +73,7 @@ module _ (start : Option (List ℕ)) (now : log.Reading) (j : Judging) (read : S
       verdict_of start (FaultOfLog (count + 1) reason) (judged_ends message_reading j.tables.times _ start now read read.follows.follows.tracks.good (Stops fault) (FaultOfLog (count + 1) reason)
       (ap (λ c. FaultOfLog (c + 1) reason) (counts ∙ read.follows.number) ∙ ap (FaultOfLog (length read.es + 1)) is) logs)
 
-  module _ (e : Entry) (new : log.Reading) (more : HasRead start j.tables.times (read.items ++ item e ∷ []) new) (k : Judging) (times : k.tables.times ≡ j.tables.times) where
+  module _ (e : Entry) (new : log.ReaderState) (more : HasRead start j.tables.times (read.items ++ item e ∷ []) new) (k : Judging) (times : k.tables.times ≡ j.tables.times) where
     -- it was judged, and is in no trouble
     pub read_on : ((es : List (Observation KeyParts)) → StandsFor j es → (seen : Observation KeyParts) × message_reading.Observes es (item e) seen × IsNext k es seen None) → StandsForRead k start new
     read_on says =

@@ -9,11 +9,11 @@ use Rattle.sip_log.proofs.ReadingLemmas.{IfSome-map}
 use Rattle.sip_verdict.specs.declared.verdict.Verdict.{Verdict}
 use Rattle.sip_verdict.specs.Keyed.{Observation}
 use Rattle.sip_verdict.specs.Verdicts.{IsGood, IsTrouble}
-use Rattle.sip_verdict.specs.Reading.{Reading, AreObserved, Judges, IsVerdictBy}
+use Rattle.sip_verdict.specs.Reading.{EntryReading, AreObserved, Judges, IsVerdictBy}
 use Rattle.sip_verdict.specs.inner.Walking.{HasRead, Judged}
 use Rattle.sip_verdict.proofs.WalkingLemmas.{read_log}
 
-module _ {K : Type 0} (r : Reading K) where
+module _ {K : Type 0} (r : EntryReading K) where
   -- one more is observed of one more
   pub observed-push : (before : List (Observation K)) (xs : List Item) (es : List (Observation K)) (x : Item) (e : Observation K) → AreObserved r before xs es → r.Observes (before ++ es) x e
       → AreObserved r before (xs ++ x ∷ []) (es ++ e ∷ [])
@@ -39,7 +39,7 @@ module _ {K : Type 0} (r : Reading K) where
         ),
       )
 
-  module _ (p : Times) (Follows : List (Observation K) → Type 0) (start : Option (List ℕ)) (now : log.Reading) (judged : Judged r p Follows start now) (good : IsGood (r.machines p) judged.es) where
+  module _ (p : Times) (Follows : List (Observation K) → Type 0) (start : Option (List ℕ)) (now : log.ReaderState) (judged : Judged r p Follows start now) (good : IsGood (r.machines p) judged.es) where
     -- the log goes on so behind them
     goes_on : (rest : List Item) (end : LogEnd) (v : Verdict) → Judges r p judged.es rest end v → (input : List ℕ) → IsLog input p (judged.items ++ rest) end → IsVerdictBy r input v
     goes_on rest end v left input is = inr (p, judged.items ++ rest, end, is, judges_front p end v [] judged.items rest judged.es judged.observed good left)
@@ -51,7 +51,7 @@ module _ {K : Type 0} (r : Reading K) where
         (λ input is. goes_on [] end v left input (subst (λ all. IsLog input p all end) (sym (append-nil judged.items)) is)) logs
 
     -- the next one is in trouble
-    pub judged_trouble : (i : Item) (new : log.Reading) → HasRead start p (judged.items ++ i ∷ []) new → (e : Observation K) → r.Observes judged.es i e → (v : Verdict) → IsTrouble (r.machines p) judged.es e v
+    pub judged_trouble : (i : Item) (new : log.ReaderState) → HasRead start p (judged.items ++ i ∷ []) new → (e : Observation K) → r.Observes judged.es i e → (v : Verdict) → IsTrouble (r.machines p) judged.es e v
         → IfSome start (λ input. IsVerdictBy r input v)
     judged_trouble i new read e seen v is =
         IfSome-map start (λ input. (more : List Item) × (end : LogEnd) × IsLog input p ((judged.items ++ i ∷ []) ++ more) end) (λ input. IsVerdictBy r input v)

@@ -1,9 +1,9 @@
 use Rattle.std.proofs.Common.{◌≡◌, ◌≤◌, ◌↔◌, ℕ, List, [], ◌∷◌, ◌++◌, All, Contains, map, get_or, subst, arith}
 use Rattle.std.proofs.lemmas.List.Elements.{All-cons, All-nil, All-weaker, Contains-get_or}
 use Rattle.sip_machine.specs.Texts.{Texts, text_of}
-use Rattle.sip_machine.specs.Heard.{Heard}
+use Rattle.sip_machine.specs.MachineEvent.{MachineEvent}
 use Rattle.sip_machine.specs.Rules.{Rules, Waits, Knows, StandFor}
-use Rattle.sip_states.specs.Runs.{Wait, Gives, Run, After}
+use Rattle.sip_states.specs.Runs.{Wait, RunGives, Run, AfterRun}
 use Rattle.sip_machine.proofs.RuleLaws.{AgreeOn, AgreeOn-grow, map-seen}
 use Rattle.sip_verdict.specs.inner.Leads.{Leads}
 use Rattle.sip_states.proofs.Listed.{Contains-single, Contains-none, Contains-map}
@@ -33,22 +33,22 @@ module _ {X S : Type 0} (names : S → List ℕ) (seen : Texts → S → X) wher
       }
 
   -- an event gives from where a set leads exactly the last states of runs
-  pub gives_after : (texts : Texts) (r : Rules X) (events : List Heard) (moment : ℕ) (states : List S) → Leads names seen texts r events moment states →
-      (e : Heard) → moment ≤ e.moment → (x : X) → Gives r (Wait r (Contains (map (seen texts) states)) moment e.moment) e x ↔ After r events e x
+  pub gives_after : (texts : Texts) (r : Rules X) (events : List MachineEvent) (moment : ℕ) (states : List S) → Leads names seen texts r events moment states →
+      (e : MachineEvent) → moment ≤ e.moment → (x : X) → RunGives r (Wait r (Contains (map (seen texts) states)) moment e.moment) e x ↔ AfterRun r events e x
   gives_after texts r events moment states leads e low x =
       iff_trans
       (Gives-iff r (Wait r (Contains (map (seen texts) states)) moment e.moment) (Run r events e.moment) (λ y. leads.runs e.moment y low) e x)
       (iff_sym (After-run r events e x))
 
   -- an empty set leads to no run
-  pub Leads-none : (texts : Texts) (r : Rules X) (events : List Heard) (moment : ℕ) (states : List S) → Leads names seen texts r events moment states →
+  pub Leads-none : (texts : Texts) (r : Rules X) (events : List MachineEvent) (moment : ℕ) (states : List S) → Leads names seen texts r events moment states →
       states ≡ [] → (n : ℕ) → moment ≤ n → (x : X) → Run r events n x → ⊥
   Leads-none texts r events moment states leads none n low x run =
       let wait = (leads.runs n x low).1 run in
       Contains-none wait.start (subst (λ xs. Contains (map (seen texts) xs) wait.start) none wait.begins)
 
   -- a state of the set that can wait at its moment is where a run stands
-  pub Leads-some : (texts : Texts) (r : Rules X) (events : List Heard) (moment : ℕ) (states : List S) → Leads names seen texts r events moment states →
+  pub Leads-some : (texts : Texts) (r : Rules X) (events : List MachineEvent) (moment : ℕ) (states : List S) → Leads names seen texts r events moment states →
       (s : S) → Contains states s → Waits r (seen texts s) moment → Run r events moment (seen texts s)
   Leads-some texts r events moment states leads s member waits =
       let reached : moment ≤ moment = omega arith in
@@ -58,7 +58,7 @@ module _ {X S : Type 0} (names : S → List ℕ) (seen : Texts → S → X) wher
 
   -- a set leads to the same beside a book that agrees on what it names
   pub Leads-book : ((a b : Texts) (x : S) → ((n : ℕ) → Contains (names x) n → text_of a n ≡ text_of b n) → seen a x ≡ seen b x) →
-      (a b : Texts) (r : Rules X) (events : List Heard) (moment : ℕ) (states : List S) → All (AgreeOn names a b) states →
+      (a b : Texts) (r : Rules X) (events : List MachineEvent) (moment : ℕ) (states : List S) → All (AgreeOn names a b) states →
       Leads names seen a r events moment states → Leads names seen b r events moment states
   Leads-book by_names a b r events moment states agree leads =
       record {
@@ -68,7 +68,7 @@ module _ {X S : Type 0} (names : S → List ℕ) (seen : Texts → S → X) wher
 
   -- and so when the book grows
   pub Leads-grow : ((a b : Texts) (x : S) → ((n : ℕ) → Contains (names x) n → text_of a n ≡ text_of b n) → seen a x ≡ seen b x) →
-      (texts : Texts) (number : ℕ) (bytes : List ℕ) (r : Rules X) (events : List Heard) (moment : ℕ) (states : List S) →
+      (texts : Texts) (number : ℕ) (bytes : List ℕ) (r : Rules X) (events : List MachineEvent) (moment : ℕ) (states : List S) →
       Leads names seen texts r events moment states → Leads names seen (texts ++ (number, bytes) ∷ []) r events moment states
   Leads-grow by_names texts number bytes r events moment states leads =
       Leads-book by_names texts (texts ++ (number, bytes) ∷ []) r events moment states
@@ -76,14 +76,14 @@ module _ {X S : Type 0} (names : S → List ℕ) (seen : Texts → S → X) wher
 
 module _ {X S : Type 0} (names : S → List ℕ) (InRange : S → Type 0) (seen : Texts → S → X) (texts : Texts) (r : Rules X) where
   -- what an event gives from where a set leads leads on
-  pub Leads-take : (events : List Heard) (moment : ℕ) (states : List S) → Leads names seen texts r events moment states →
-      (e : Heard) → moment ≤ e.moment → (new : List S) → StandFor names InRange seen texts (Gives r (Wait r (Contains (map (seen texts) states)) moment e.moment) e) new →
+  pub Leads-take : (events : List MachineEvent) (moment : ℕ) (states : List S) → Leads names seen texts r events moment states →
+      (e : MachineEvent) → moment ≤ e.moment → (new : List S) → StandFor names InRange seen texts (RunGives r (Wait r (Contains (map (seen texts) states)) moment e.moment) e) new →
       Leads names seen texts r (events ++ e ∷ []) e.moment new
   Leads-take events moment states leads e low new gives =
       record {
         known = gives.known;
         runs = λ n x later.
             iff_trans
-            (Wait-iff r (Contains (map (seen texts) new)) (After r events e) (λ y. iff_trans (gives.members y) (gives_after names seen texts r events moment states leads e low y)) e.moment n x)
+            (Wait-iff r (Contains (map (seen texts) new)) (AfterRun r events e) (λ y. iff_trans (gives.members y) (gives_after names seen texts r events moment states leads e low y)) e.moment n x)
             (iff_sym (Run-wait r events e n x));
       }

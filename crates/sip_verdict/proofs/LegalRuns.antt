@@ -7,7 +7,7 @@ use Rattle.sip_log.specs.Log.{LogEnd, Clean, Stops, IsLog}
 use Rattle.sip_log.specs.Spelling.{Item}
 use Rattle.sip_verdict.specs.Keyed.{Observation, Machines, HasRun}
 use Rattle.sip_verdict.specs.Verdicts.{AllRun, IsGood}
-use Rattle.sip_verdict.specs.Reading.{Reading, AreObserved, Judges, IsVerdictBy, HasRuns}
+use Rattle.sip_verdict.specs.Reading.{EntryReading, AreObserved, Judges, IsVerdictBy, HasRuns}
 use Rattle.sip_verdict.proofs.JudgingLemmas.{observed-push}
 use Rattle.sip_verdict.proofs.Unique.{good-nil, good-push}
 
@@ -38,7 +38,7 @@ good_runs {K} m es good = go (empty_or_last es)
 good_formed : {K : Type 0} (m : Machines K) (es : List (Observation K)) → IsGood m es → All (λ e. e.fault ≡ None) es
 good_formed m es good = All-from_splits (λ e. e.fault ≡ None) es (λ front e rest is. (good front e rest is).formed)
 
-module _ {K : Type 0} (r : Reading K) (input : List ℕ) (entries transactions : ℕ) (p : Times) where
+module _ {K : Type 0} (r : EntryReading K) (input : List ℕ) (entries transactions : ℕ) (p : Times) where
   -- where the verdict of what is left is that the log is legal, it ends cleanly, with no entry in trouble
   legal_end : (done : List Item) (es : List (Observation K)) (rest : List Item) (end : LogEnd) → IsLog input p (done ++ rest) end → AreObserved r [] done es → IsGood (r.machines p) es →
       Judges r p es rest end (Legal entries transactions) → HasRuns r input entries transactions
@@ -58,6 +58,6 @@ module _ {K : Type 0} (r : Reading K) (input : List ℕ) (entries transactions :
       (observed-push r [] done es item e observed seen) (good-push (r.machines p) es e good fine) left
 
 -- a legal log has runs
-pub legal_has_runs : {K : Type 0} (r : Reading K) (input : List ℕ) (entries transactions : ℕ) → IsVerdictBy r input (Legal entries transactions) → HasRuns r input entries transactions
+pub legal_has_runs : {K : Type 0} (r : EntryReading K) (input : List ℕ) (entries transactions : ℕ) → IsVerdictBy r input (Legal entries transactions) → HasRuns r input entries transactions
 legal_has_runs r input entries transactions (inl faulty) = let e = faulty.1 in cc
 legal_has_runs r input entries transactions (inr (p, items, end, log, judges)) = legal_end r input entries transactions p [] [] items end log tt (good-nil (r.machines p)) judges

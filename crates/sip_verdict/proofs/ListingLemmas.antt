@@ -3,10 +3,10 @@ use Rattle.std.proofs.Common.{◌≡◌, ℕ, List, [], ◌∷◌, All, map, ref
 use Rattle.std.proofs.lemmas.List.Elements.{All-weaker}
 use Rattle.sip_machine.specs.Times.{Times}
 use Rattle.sip_machine.specs.Texts.{Texts, Keeps, text_of}
-use Rattle.sip_machine.specs.Heard.{Heard}
+use Rattle.sip_machine.specs.MachineEvent.{MachineEvent}
 use Rattle.sip_machine.specs.Rules.{Knows, StandFor}
-use Rattle.sip_states.specs.Runs.{After}
-use Rattle.sip_states.specs.KeyMachine.{MachineKind, rules_of, of_machine}
+use Rattle.sip_states.specs.Runs.{AfterRun}
+use Rattle.sip_states.specs.KeyMachine.{MachineKind, key_rules, of_machine}
 use Rattle.sip_states.specs.Meaning.{IsKnown}
 use Rattle.sip_states.specs.AnySet.{meaning_of, IsKnownSet}
 use Rattle.sip_states.specs.declared.any_set.AnySet.{AnySet}
@@ -49,8 +49,8 @@ stood_lines names InRange seen texts text P xs lines stand in_order = record {
 }
 
 -- the lines that list a set are those of exactly the states where it stands
-pub standing_lines : (number : List ℕ → ℕ) (texts : Texts) (p : Times) (machine : MachineKind) (events : List Heard) (e : Heard) (set : AnySet) (lines : List (List ℕ))
-    → StandsOf texts p machine events e set → TellsSet number texts set → Lists set lines → AreLinesOf (state_text machine number) (After (rules_of p machine) events e) lines
+pub standing_lines : (number : List ℕ → ℕ) (texts : Texts) (p : Times) (machine : MachineKind) (events : List MachineEvent) (e : MachineEvent) (set : AnySet) (lines : List (List ℕ))
+    → StandsOf texts p machine events e set → TellsSet number texts set → Lists set lines → AreLinesOf (state_text machine number) (AfterRun (key_rules p machine) events e) lines
 standing_lines number texts p machine events e set lines (s, is, stand) told lists =
     let listed = of_machine (λ kind held. AreLinesOfHeld number texts kind held lines) machine s (subst (λ x. AreLinesOfSet number texts x lines) is (lists number texts told)) in
     stood_lines _ _ _ texts (state_text machine number) _ s.states lines stand listed

@@ -11,7 +11,7 @@ use Rattle.sip_key.specs.Key.{KeyParts}
 use Rattle.sip_key.specs.Concerns.{Concerns, lacks_cookie, own_key, cancelled_key}
 use Rattle.sip_log.specs.Spelling.{Item}
 use Rattle.sip_verdict.specs.Keyed.{Observation}
-use Rattle.sip_verdict.specs.MessageReading.{fault_observation, heard_message, ObservesMessage, has_fault, has_no_cookie, is_heard, direction_of, mark_observation, message_reading}
+use Rattle.sip_verdict.specs.MessageReading.{fault_observation, message_event, ObservesMessage, has_fault, has_no_cookie, is_heard, direction_of, mark_observation, message_reading}
 
 -- bytes that have a fault say no message
 fault_says_none : (text : List ℕ) (fault : Fault) (s : Said) → Says text (stops fault) → Says text (gives s) → ⊥
@@ -29,7 +29,7 @@ cookie_once text direction s t a b lacks has = let e : true ≡ false = sym lack
 
 -- a message that is heard
 abbrev heard_as : Item → Said → List KeyParts → Observation KeyParts
-heard_as item s keys = record { fault = None; event = heard_message item s; keys = keys }
+heard_as item s keys = record { fault = None; event = message_event item s; keys = keys }
 
 -- they are heard alike, and concern the same keys
 heard_once : (item : Item) (direction : Direction) (s t : Said) (keys more : List KeyParts) → s ≡ t → Concerns s direction keys → Concerns t direction more → heard_as item s keys ≡ heard_as item t more

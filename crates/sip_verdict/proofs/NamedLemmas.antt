@@ -7,11 +7,11 @@ use Rattle.sip_machine.specs.Times.{Times}
 use Rattle.sip_machine.specs.declared.outbox.Debt.{Debt}
 use Rattle.sip_machine.specs.Texts.{Texts, text_of}
 use Rattle.sip_machine.specs.Owes.{owes_seen, owes_names}
-use Rattle.sip_machine.specs.Heard.{Heard}
+use Rattle.sip_machine.specs.MachineEvent.{MachineEvent}
 use Rattle.sip_machine.specs.Rules.{Rules, IsLawful, StandFor}
 use Rattle.sip_machine.proofs.TextLaws.{Contains-nil, Contains-cons_cases}
 use Rattle.sip_states.specs.Runs.{Wait, Run}
-use Rattle.sip_states.specs.KeyMachine.{MachineKind, coded, is_coded, StateOf}
+use Rattle.sip_states.specs.KeyMachine.{MachineKind, coded_of, coded_holds, StateOf}
 use Rattle.sip_states.specs.AnySet.{meaning_of}
 use Rattle.sip_states.proofs.Listed.{Contains-map, Contains-from_map, Contains-here, Contains-there, Contains-none}
 use Rattle.sip_states.proofs.Waiting.{StaysFrom, EndsFrom, Wait-cases}
@@ -40,11 +40,11 @@ abbrev pub IsNumberOf : Texts → List ℕ → List ℕ → Type 0
 IsNumberOf texts numbers text = (n : ℕ) × Contains numbers n × (text_of texts n ≡ text)
 
 -- a state of a run names the text
-abbrev pub RunNames : {X : Type 0} → Rules X → (X → List (List ℕ)) → List Heard → ℕ → List ℕ → Type 0
+abbrev pub RunNames : {X : Type 0} → Rules X → (X → List (List ℕ)) → List MachineEvent → ℕ → List ℕ → Type 0
 RunNames {X} r messages events moment text = (y : X) × Run r events moment y × Contains (messages y) text
 
 module _ {X S : Type 0} (names : S → List ℕ) (InRange : S → Type 0) (seen : Texts → S → X) (messages : X → List (List ℕ))
-    (named : (texts : Texts) (x : S) → messages (seen texts x) ≡ map (text_of texts) (names x)) (texts : Texts) (r : Rules X) (events : List Heard) where
+    (named : (texts : Texts) (x : S) → messages (seen texts x) ≡ map (text_of texts) (names x)) (texts : Texts) (r : Rules X) (events : List MachineEvent) where
   -- once a set that leads to the runs has waited until a moment, its states name just what the states of the runs name there
   pub waited_names : (at moment : ℕ) (old new : List S) → at ≤ moment → Leads names seen texts r events at old
       → StandFor names InRange seen texts (Wait r (Contains (map (seen texts) old)) at moment) new → (text : List ℕ)
@@ -85,12 +85,12 @@ owed_named texts (debt ∷ owes) = ap (λ rest. text_of texts debt.message ∷ r
 -- what a state names is what it stands for
 pub named_of : (machine : MachineKind) (texts : Texts) (x : StateOf machine) → messages_of machine ((meaning_of machine).seen texts x) ≡ map (text_of texts) ((meaning_of machine).names x)
 named_of machine texts x =
-    ap₂ (λ of_phase owed. of_phase ++ owed) ((is_coded machine).named texts x.phase) (owed_named texts x.owes)
-    ∙ sym (map-append (text_of texts) ((coded machine).names x.phase) (owes_names x.owes))
+    ap₂ (λ of_phase owed. of_phase ++ owed) ((coded_holds machine).named texts x.phase) (owed_named texts x.owes)
+    ∙ sym (map-append (text_of texts) ((coded_of machine).names x.phase) (owes_names x.owes))
 
 -- the first and the ended state name nothing
 pub first_silent : (machine : MachineKind) (p : Times) → messages_of machine ((meaning_of machine).rules p).first ≡ []
-first_silent machine p = ap (λ messages. messages ++ []) (is_coded machine).idle_silent
+first_silent machine p = ap (λ messages. messages ++ []) (coded_holds machine).idle_silent
 
 pub ended_silent : (machine : MachineKind) (p : Times) → messages_of machine ((meaning_of machine).rules p).ended ≡ []
-ended_silent machine p = ap (λ messages. messages ++ []) (is_coded machine).ended_silent
+ended_silent machine p = ap (λ messages. messages ++ []) (coded_holds machine).ended_silent

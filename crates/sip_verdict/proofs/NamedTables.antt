@@ -8,14 +8,14 @@ use Rattle.sip_key.specs.inner.KeyLaws.{same_key-decides}
 use Rattle.sip_machine.specs.Times.{Times}
 use Rattle.sip_machine.specs.Texts.{Texts, IsBook, Keeps, text_of}
 use Rattle.sip_machine.specs.Retained.{only}
-use Rattle.sip_machine.specs.Heard.{Heard}
+use Rattle.sip_machine.specs.MachineEvent.{MachineEvent}
 use Rattle.sip_machine.specs.Rules.{Rules, IsLawful, StandFor}
 use Rattle.sip_machine.proofs.RetainLemmas.{length-only}
 use Rattle.sip_states.specs.Runs.{Wait, Run}
 use Rattle.sip_states.specs.Held.{Held}
-use Rattle.sip_states.specs.KeyMachine.{MachineKind, PhaseOf, StateOf, rules_of, machine_of_key}
+use Rattle.sip_states.specs.KeyMachine.{MachineKind, PhaseOf, StateOf, key_rules, machine_of_key}
 use Rattle.sip_states.specs.Meaning.{HasWaited}
-use Rattle.sip_states.specs.AnySet.{meaning_of, moment_of, Waits}
+use Rattle.sip_states.specs.AnySet.{meaning_of, moment_of, SetWaits}
 use Rattle.sip_states.specs.Sweep.{numbers_of, IsAdvanced}
 use Rattle.sip_states.specs.Tables.{Tabled}
 use Rattle.sip_states.specs.declared.any_set.AnySet.{AnySet}
@@ -41,15 +41,15 @@ stays_first {X} r lawful m y run = go ((Wait-cases r lawful (λ x. x ≡ r.first
     go (inr ends) = absurd (IsOpenAt-none ends.at (r.window ends.start) (ap r.window ends.among ∙ lawful.first_has_no_end) ends.hides.opened)
 
 -- a key without events names nothing
-pub no_events_silent : (p : Times) (moment : ℕ) (machine : MachineKind) (events : List Heard) (text : List ℕ) → events ≡ [] → RunNames (rules_of p machine) (messages_of machine) events moment text → ⊥
+pub no_events_silent : (p : Times) (moment : ℕ) (machine : MachineKind) (events : List MachineEvent) (text : List ℕ) → events ≡ [] → RunNames (key_rules p machine) (messages_of machine) events moment text → ⊥
 no_events_silent p moment machine events text none named =
     let q = (meaning_of machine).rules p in
-    let (y, run, has) = subst (λ s. RunNames s (messages_of machine) [] moment text) (sym (rules_are p machine)) (subst (λ es. RunNames (rules_of p machine) (messages_of machine) es moment text) none named) in
+    let (y, run, has) = subst (λ s. RunNames s (messages_of machine) [] moment text) (sym (rules_are p machine)) (subst (λ es. RunNames (key_rules p machine) (messages_of machine) es moment text) none named) in
     Contains-none text (subst (λ ts. Contains ts text) (ap (messages_of machine) (stays_first q (lawful_of machine p) moment y run) ∙ first_silent machine p) has)
 
 module _ (texts : Texts) (book : IsBook texts) (p : Times) (moment : ℕ) where
   -- one key: its runs name just what its set names
-  module _ (machine : MachineKind) (events : List Heard) (old new : AnySet) (leads : LeadsOf texts p machine events old) (low : moment_of old ≤ moment) (text : List ℕ) where
+  module _ (machine : MachineKind) (events : List MachineEvent) (old new : AnySet) (leads : LeadsOf texts p machine events old) (low : moment_of old ≤ moment) (text : List ℕ) where
     abbrev held : Held Times (StateOf machine)
     held = leads.0
 
@@ -62,7 +62,7 @@ module _ (texts : Texts) (book : IsBook texts) (p : Times) (moment : ℕ) where
     by_set : IsAdvanced moment old new → RunNames r (messages_of machine) events moment text ↔ IsNumberOf texts (numbers_of new) text
     by_set (inl waits) =
         let m = meaning_of machine in
-        let (t, new_is, waited) = of_sets (λ X M S m s u. HasWaited m moment s u) machine held new (subst (λ o. Waits moment o new) leads.1 waits) in
+        let (t, new_is, waited) = of_sets (λ X M S m s u. HasWaited m moment s u) machine held new (subst (λ o. SetWaits moment o new) leads.1 waits) in
         let stand = subst (λ q. StandFor m.names m.in_range m.seen texts (Wait (m.rules q) (Contains (map (m.seen texts) held.states)) held.moment moment) t.states) leads.2.machine_is
         (waited.states texts book leads.2.leads.known) in
         subst (λ ns. RunNames r (messages_of machine) events moment text ↔ IsNumberOf texts ns text) (sym (ap numbers_of new_is ∙ numbers_are machine t))
@@ -74,7 +74,7 @@ module _ (texts : Texts) (book : IsBook texts) (p : Times) (moment : ℕ) where
       λ h. absurd (Contains-none h.0 (subst (λ ns. Contains ns h.0) (ap numbers_of same ∙ silent) h.1)),
     )
 
-    pub key_named : IsAdvanced moment old new → RunNames (rules_of p machine) (messages_of machine) events moment text ↔ IsNumberOf texts (numbers_of new) text
+    pub key_named : IsAdvanced moment old new → RunNames (key_rules p machine) (messages_of machine) events moment text ↔ IsNumberOf texts (numbers_of new) text
     key_named advanced = subst (λ q. RunNames q (messages_of machine) events moment text ↔ IsNumberOf texts (numbers_of new) text) (rules_are p machine) (by_set advanced)
 
   -- all keys
@@ -91,13 +91,13 @@ module _ (texts : Texts) (book : IsBook texts) (p : Times) (moment : ℕ) where
         All-place (IsReady (key_machines p) (key_keeping texts p) es) (transactions_of t) n (key, old) (zip-place t.keys t.sets n key old at here) ready
 
     at_key : (n : ℕ) (key : KeyParts) (old new : AnySet) → slice_get t.keys n ≡ Some key → slice_get t.sets n ≡ Some old → slice_get u.sets n ≡ Some new → (text : List ℕ)
-        → RunNames (rules_of p (machine_of_key key)) (messages_of (machine_of_key key)) (events_of (key_machines p) key es) moment text ↔ IsNumberOf texts (numbers_of new) text
+        → RunNames (key_rules p (machine_of_key key)) (messages_of (machine_of_key key)) (events_of (key_machines p) key es) moment text ↔ IsNumberOf texts (numbers_of new) text
     at_key n key old new at here there text =
         key_named (machine_of_key key) (events_of (key_machines p) key es) old new (leads_at n key old at here) (All-place (λ set. moment_of set ≤ moment) t.sets n old here order) text
         (advanced n old new here there)
 
     -- what a key names is named by its set
-    from_key : (key : KeyParts) (text : List ℕ) → RunNames (rules_of p (machine_of_key key)) (messages_of (machine_of_key key)) (events_of (key_machines p) key es) moment text
+    from_key : (key : KeyParts) (text : List ℕ) → RunNames (key_rules p (machine_of_key key)) (messages_of (machine_of_key key)) (events_of (key_machines p) key es) moment text
         → (b : Bool) → list_any (same_key key) (keys_of (key_machines p) es) ≡ b → IsNumberOf texts (flat_map numbers_of u.sets) text
     from_key key text named false none = absurd (no_events_silent p moment (machine_of_key key) (events_of (key_machines p) key es) text (new_key (key_machines p) exact key es none) named)
     from_key key text named true some =
@@ -111,7 +111,7 @@ module _ (texts : Texts) (book : IsBook texts) (p : Times) (moment : ℕ) where
 
     pub tables_named : (text : List ℕ) → IsNamed (key_machines p) key_messages es text ↔ IsNumberOf texts (flat_map numbers_of u.sets) text
     tables_named text = (
-      λ h. from_key h.key text (h.state, subst (λ n. Run (rules_of p (machine_of_key h.key)) (events_of (key_machines p) h.key es) n h.state) newest h.stands, h.names)
+      λ h. from_key h.key text (h.state, subst (λ n. Run (key_rules p (machine_of_key h.key)) (events_of (key_machines p) h.key es) n h.state) newest h.stands, h.names)
           (list_any (same_key h.key) (keys_of (key_machines p) es)) refl,
       λ h. let (number, has, text_is) = h in
           let (new, (n, low, is), in_set) = Contains-from_flat_map numbers_of u.sets number has in
@@ -119,7 +119,7 @@ module _ (texts : Texts) (book : IsBook texts) (p : Times) (moment : ℕ) where
           let (old, here) = at_place t.sets n (omega (arith, low, as_long)) in
           let (key, at) = at_place t.keys n (omega (arith, low, as_long, long)) in
           let (y, run, names) = (at_key n key old new at here there text).1 (number, in_set, text_is) in
-          record { key = key; state = y; stands = subst (λ n. Run (rules_of p (machine_of_key key)) (events_of (key_machines p) key es) n y) (sym newest) run; names = names },
+          record { key = key; state = y; stands = subst (λ n. Run (key_rules p (machine_of_key key)) (events_of (key_machines p) key es) n y) (sym newest) run; names = names },
     )
 
     -- so there are just as many as messages that are kept

@@ -21,14 +21,14 @@ use Rattle.sip_times.specs.declared.action.Action.TheVariants.{Sent, Received, F
 use Rattle.sip_machine.specs.Message.{kind_of}
 use Rattle.sip_machine.specs.NumberedEvent.{NumberedEvent}
 use Rattle.sip_machine.specs.Texts.{Texts, Keeps, text_of}
-use Rattle.sip_machine.specs.Heard.{heard, FitsBook}
+use Rattle.sip_machine.specs.MachineEvent.{event_in, FitsBook}
 use Rattle.sip_machine.specs.Times.{last_moment}
 use Rattle.sip_log.specs.Spelling.{Item}
 use Rattle.sip_verdict.specs.declared.concerned.Concerned.{Concerned}
 use Rattle.sip_verdict.specs.declared.concerned.Concerned.TheVariants as concerned
 use Rattle.sip_verdict.specs.Keyed.{Observation}
 use Rattle.sip_verdict.specs.Listing.{has_message}
-use Rattle.sip_verdict.specs.MessageReading.{direction_of, mark_observation, fault_observation, no_cookie, heard_message, ObservesMessage, has_fault, has_no_cookie, is_heard, message_reading, ConcernsNone}
+use Rattle.sip_verdict.specs.MessageReading.{direction_of, mark_observation, fault_observation, no_cookie, message_event, ObservesMessage, has_fault, has_no_cookie, is_heard, message_reading, ConcernsNone}
 use Rattle.sip_verdict.specs.inner.Concerned.{each}
 use Rattle.sip_verdict.proofs.MessageUnique.{observes_one}
 
@@ -63,7 +63,7 @@ observes_no_cookie item direction text r same reads lacks = has_no_cookie (said_
 
 -- of a message that concerns no key its event
 abbrev pub keyless_observation : Item → Said → Observation KeyParts
-keyless_observation item s = record { fault = None; event = heard_message item s; keys = [] }
+keyless_observation item s = record { fault = None; event = message_event item s; keys = [] }
 
 -- that it concerns no key
 pub observes_none : (item : Item) (direction : Direction) (text : List ℕ) (r : message.Reading) → text ≡ item.text → Reads text r → lacks_cookie (said_of r) direction ≡ false → Concerns (said_of r) direction []
@@ -77,11 +77,11 @@ event_of item r number = record { moment = item.moment; action = item.action; nu
 -- its event and its keys
 pub observes_heard : (item : Item) (direction : Direction) (text : List ℕ) (r : message.Reading) (texts : Texts) (event : NumberedEvent) (number : ℕ) (keys : List KeyParts) → text ≡ item.text → Reads text r
     → lacks_cookie (said_of r) direction ≡ false → Concerns (said_of r) direction keys → event ≡ event_of item r number → text_of texts number ≡ item.text
-    → ObservesMessage direction item (record { fault = None; event = heard texts event; keys = keys })
+    → ObservesMessage direction item (record { fault = None; event = event_in texts event; keys = keys })
 observes_heard item direction text r texts event number keys same reads has concerns event_is kept =
-    is_heard (said_of r) keys (subst (λ t. Says t (gives (said_of r))) same (reads-says text r reads)) has concerns (ap (λ h. record { fault = None; event = h; keys = keys }) (ap (heard texts) event_is ∙ alike))
+    is_heard (said_of r) keys (subst (λ t. Says t (gives (said_of r))) same (reads-says text r reads)) has concerns (ap (λ h. record { fault = None; event = h; keys = keys }) (ap (event_in texts) event_is ∙ alike))
   where
-    alike : heard texts (event_of item r number) ≡ heard_message item (said_of r)
+    alike : event_in texts (event_of item r number) ≡ message_event item (said_of r)
     alike = ap (λ t. record { moment = item.moment; action = item.action; text = t; kind = kind_of r.message.start; reliable = is_reliable r.parts.via.1.transport }) kept
 
 -- the event fits the book that keeps its message

@@ -1,9 +1,9 @@
 use Rattle.std.proofs.Common.{◌≡◌, ◌≢◌, ◌≤◌, ◌↔◌, ℕ, List, [], ◌∷◌, ◌++◌, All, Contains, map, length, refl, arith}
 use Rattle.std.proofs.lemmas.List.Elements.{All-contains}
 use Rattle.sip_machine.specs.Texts.{Texts}
-use Rattle.sip_machine.specs.Heard.{Heard}
+use Rattle.sip_machine.specs.MachineEvent.{MachineEvent}
 use Rattle.sip_machine.specs.Rules.{Rules, IsLawful, Waits, StandFor}
-use Rattle.sip_states.specs.Runs.{Wait, Gives, Run, After, IsWide, widest}
+use Rattle.sip_states.specs.Runs.{Wait, RunGives, Run, AfterRun, IsWide, widest}
 use Rattle.sip_verdict.specs.inner.Leads.{Leads}
 use Rattle.sip_states.proofs.Listed.{Contains-here}
 use Rattle.sip_states.proofs.Taking.{wide_among, wide_some, few_narrow}
@@ -13,7 +13,7 @@ use Rattle.sip_verdict.proofs.Leading.{iff_trans, gives_after, Leads-none, Leads
 
 -- What one event leaves of the runs of one machine, and how a set tells it.
 
-module _ {X S : Type 0} (names : S → List ℕ) (seen : Texts → S → X) (texts : Texts) (r : Rules X) (events : List Heard) (moment : ℕ) (states : List S)
+module _ {X S : Type 0} (names : S → List ℕ) (seen : Texts → S → X) (texts : Texts) (r : Rules X) (events : List MachineEvent) (moment : ℕ) (states : List S)
     (leads : Leads names seen texts r events moment states) where
   -- an empty set means that there is no run at its moment
   pub none_runs : states ≡ [] → ¬ ((x : X) × Run r events moment x)
@@ -30,35 +30,35 @@ module _ {X S : Type 0} (names : S → List ℕ) (seen : Texts → S → X) (tex
       first_of_some (x ∷ xs) some = (x, Contains-here x xs)
 
 module _ {X S : Type 0} (names : S → List ℕ) (InRange : S → Type 0) (seen : Texts → S → X) (texts : Texts) (r : Rules X)
-    (events : List Heard) (moment : ℕ) (states : List S) (leads : Leads names seen texts r events moment states) (e : Heard) (low : moment ≤ e.moment) where
+    (events : List MachineEvent) (moment : ℕ) (states : List S) (leads : Leads names seen texts r events moment states) (e : MachineEvent) (low : moment ≤ e.moment) where
   -- after the event the set holds just the last states of the runs that end with it
-  pub took_after : (new : List S) → StandFor names InRange seen texts (Gives r (Wait r (Contains (map (seen texts) states)) moment e.moment) e) new →
-      (x : X) → Contains (map (seen texts) new) x ↔ After r events e x
+  pub took_after : (new : List S) → StandFor names InRange seen texts (RunGives r (Wait r (Contains (map (seen texts) states)) moment e.moment) e) new →
+      (x : X) → Contains (map (seen texts) new) x ↔ AfterRun r events e x
   took_after new gives x = iff_trans (gives.members x) (gives_after names seen texts r events moment states leads e low x)
 
   -- states that are not too many mean that the last states are not more
-  pub took_narrow : (new : List S) → StandFor names InRange seen texts (Gives r (Wait r (Contains (map (seen texts) states)) moment e.moment) e) new →
-      length new ≤ widest → ¬ IsWide (After r events e)
+  pub took_narrow : (new : List S) → StandFor names InRange seen texts (RunGives r (Wait r (Contains (map (seen texts) states)) moment e.moment) e) new →
+      length new ≤ widest → ¬ IsWide (AfterRun r events e)
   took_narrow new gives few wide =
-      few_narrow names InRange seen texts (Gives r (Wait r (Contains (map (seen texts) states)) moment e.moment) e) new gives few
-      (wide_among (After r events e) (Gives r (Wait r (Contains (map (seen texts) states)) moment e.moment) e)
+      few_narrow names InRange seen texts (RunGives r (Wait r (Contains (map (seen texts) states)) moment e.moment) e) new gives few
+      (wide_among (AfterRun r events e) (RunGives r (Wait r (Contains (map (seen texts) states)) moment e.moment) e)
       (λ x. (gives_after names seen texts r events moment states leads e low x).1) wide)
 
 module _ {X S : Type 0} (names : S → List ℕ) (seen : Texts → S → X) (texts : Texts) (r : Rules X) (lawful : IsLawful r)
-    (events : List Heard) (moment : ℕ) (states : List S) (leads : Leads names seen texts r events moment states) (e : Heard) (low : moment ≤ e.moment) where
+    (events : List MachineEvent) (moment : ℕ) (states : List S) (leads : Leads names seen texts r events moment states) (e : MachineEvent) (low : moment ≤ e.moment) where
   -- a state that the event gives is where a run stands at its moment
-  pub given_runs : (x : X) → Gives r (Wait r (Contains (map (seen texts) states)) moment e.moment) e x → Run r (events ++ e ∷ []) e.moment x
+  pub given_runs : (x : X) → RunGives r (Wait r (Contains (map (seen texts) states)) moment e.moment) e x → Run r (events ++ e ∷ []) e.moment x
   given_runs x given =
       (Run-wait r events e e.moment x).1
-      (Wait-stay r (After r events e) e.moment e.moment x
+      (Wait-stay r (AfterRun r events e) e.moment e.moment x
       (record { among = (gives_after names seen texts r events moment states leads e low x).0 given; reached = omega arith; waits = lawful.fresh given.before e x given.takes }))
 
   -- too many states mean that there is a run, and that the last states are too many
-  pub wide_runs : IsWide (Gives r (Wait r (Contains (map (seen texts) states)) moment e.moment) e) →
-      ((x : X) × Run r (events ++ e ∷ []) e.moment x) × IsWide (After r events e)
+  pub wide_runs : IsWide (RunGives r (Wait r (Contains (map (seen texts) states)) moment e.moment) e) →
+      ((x : X) × Run r (events ++ e ∷ []) e.moment x) × IsWide (AfterRun r events e)
   wide_runs wide =
-      let given = wide_some (Gives r (Wait r (Contains (map (seen texts) states)) moment e.moment) e) wide in (
+      let given = wide_some (RunGives r (Wait r (Contains (map (seen texts) states)) moment e.moment) e) wide in (
         (given.0, given_runs given.0 given.1),
-        wide_among (Gives r (Wait r (Contains (map (seen texts) states)) moment e.moment) e) (After r events e)
+        wide_among (RunGives r (Wait r (Contains (map (seen texts) states)) moment e.moment) e) (AfterRun r events e)
             (λ x. (gives_after names seen texts r events moment states leads e low x).0) wide,
       )

@@ -3,22 +3,22 @@ use Rattle.std.proofs.Common.{◌≡◌, ◌⊎◌, inl, inr, ℕ, List, [], ◌
 use Rattle.sip_machine.specs.Times.{Times}
 use Rattle.sip_verdict.specs.declared.verdict.Verdict.{Verdict}
 use Rattle.sip_log.specs.Spelling.{Item}
-use Rattle.sip_log.specs.Log.{LogEnd, Clean, Stops, Holds, IsLog, NoHeader}
+use Rattle.sip_log.specs.Log.{LogEnd, Clean, Stops, Readable, IsLog, NoHeader}
 use Rattle.sip_verdict.specs.Keyed.{Observation}
 use Rattle.sip_verdict.specs.Verdicts.{IsFine, IsTrouble}
-use Rattle.sip_verdict.specs.Reading.{Reading, Judges, IsVerdictBy}
+use Rattle.sip_verdict.specs.Reading.{EntryReading, Judges, IsVerdictBy}
 use Rattle.sip_log.proofs.Logs.{log_is_one}
 use Rattle.sip_verdict.proofs.Unique.{fine_no_trouble, trouble_is_one}
 
 -- an input has one log with a header
 one_log : (input : List ℕ) (p q : Times) (xs ys : List Item) (end fin : LogEnd) → IsLog input p xs end → IsLog input q ys fin → (p ≡ q) × (xs ≡ ys) × (end ≡ fin)
-one_log input p q xs ys end fin a b = let e = log_is_one input (Holds p xs end) (Holds q ys fin) a b in (cc, cc, cc)
+one_log input p q xs ys end fin a b = let e = log_is_one input (Readable p xs end) (Readable q ys fin) a b in (cc, cc, cc)
 
 -- a log has no header or holds entries
 not_both : (input : List ℕ) (p : Times) (items : List Item) (end : LogEnd) → NoHeader input → IsLog input p items end → ⊥
 not_both input p items end none is = none p _ is.times is.spelled
 
-module _ {K : Type 0} (r : Reading K) (one : (es : List (Observation K)) (item : Item) (e f : Observation K) → r.Observes es item e → r.Observes es item f → e ≡ f) where
+module _ {K : Type 0} (r : EntryReading K) (one : (es : List (Observation K)) (item : Item) (e f : Observation K) → r.Observes es item e → r.Observes es item f → e ≡ f) where
   -- entries have one verdict
   judges_one : (p : Times) (es : List (Observation K)) (items : List Item) (end : LogEnd) (v w : Verdict) → Judges r p es items end v → Judges r p es items end w → v ≡ w
   judges_one p es [] Clean v w a b = a ∙ sym b

@@ -3,11 +3,11 @@ use Rattle.std.proofs.Common.{◌≡◌, ◌≤◌, ◌↔◌, ℕ, true, false,
 use Rattle.std.proofs.lemmas.Bool.{ltb-true, ltb-false, false≢true}
 use Rattle.sip_machine.specs.Times.{Times}
 use Rattle.sip_machine.specs.Texts.{Texts}
-use Rattle.sip_machine.specs.Heard.{Heard}
+use Rattle.sip_machine.specs.MachineEvent.{MachineEvent}
 use Rattle.sip_machine.specs.Limits.{IsWithin}
 use Rattle.sip_machine.specs.Rules.{Rules}
 use Rattle.sip_states.specs.Runs.{IsAgenda}
-use Rattle.sip_states.specs.KeyMachine.{MachineKind, rules_of}
+use Rattle.sip_states.specs.KeyMachine.{MachineKind, key_rules}
 use Rattle.sip_states.specs.Meaning.{HasAgenda}
 use Rattle.sip_states.specs.AnySet.{moment_of, IsAgendaOf}
 use Rattle.sip_states.specs.Agenda.{is_overdue}
@@ -19,13 +19,13 @@ use Rattle.sip_verdict.specs.inner.TablesTracking.{LeadsOf}
 use Rattle.sip_states.proofs.ByMachine.{rules_are, moment_is, of_set}
 
 -- a run over one event more holds one that stands at its moment
-pub run_before : {X : Type 0} (r : Rules X) (events : List Heard) (e : Heard) (n : ℕ) → RunsUntil r (events ++ e ∷ []) n → RunsUntil r events e.moment
+pub run_before : {X : Type 0} (r : Rules X) (events : List MachineEvent) (e : MachineEvent) (n : ℕ) → RunsUntil r (events ++ e ∷ []) n → RunsUntil r events e.moment
 run_before r events e n (y, run) =
     let wait = (Run-wait r events e n y).0 run in
     let given = (After-run r events e wait.start).0 wait.begins in
     (given.before, given.among)
 
-module _ (texts : Texts) (p : Times) (machine : MachineKind) (events : List Heard) (set : AnySet) (leads : LeadsOf texts p machine events set) (limit : Option ℕ) (agenda : IsAgendaOf limit set)
+module _ (texts : Texts) (p : Times) (machine : MachineKind) (events : List MachineEvent) (set : AnySet) (leads : LeadsOf texts p machine events set) (limit : Option ℕ) (agenda : IsAgendaOf limit set)
     (moment : ℕ) (low : moment_of set ≤ moment) where
   -- a wait from the states of the set lasts until then just where that is within the limit
   waits : IsAgenda ((meaning_of machine).rules p) (Contains (map ((meaning_of machine).seen texts) leads.0.states)) leads.0.moment limit
@@ -37,7 +37,7 @@ module _ (texts : Texts) (p : Times) (machine : MachineKind) (events : List Hear
   not_later = subst (λ m. m ≤ moment) (ap moment_of leads.1 ∙ moment_is machine leads.0) low
 
   -- so there is a run over the events that stands then just where that is within it
-  runs_within : RunsUntil (rules_of p machine) events moment ↔ IsWithin moment limit
+  runs_within : RunsUntil (key_rules p machine) events moment ↔ IsWithin moment limit
   runs_within =
       subst (λ r. RunsUntil r events moment ↔ IsWithin moment limit) (rules_are p machine) (
         λ run. (waits moment not_later).0 (run.0, (leads.2.leads.runs moment run.0 not_later).1 run.1),
@@ -45,7 +45,7 @@ module _ (texts : Texts) (p : Times) (machine : MachineKind) (events : List Hear
       )
 
   -- none stands behind the last moment
-  pub overdue_none : is_overdue moment (Some limit) ≡ true → ¬ RunsUntil (rules_of p machine) events moment
+  pub overdue_none : is_overdue moment (Some limit) ≡ true → ¬ RunsUntil (key_rules p machine) events moment
   overdue_none late run = go limit late (runs_within.0 run)
     where
       go : (l : Option ℕ) → is_overdue moment (Some l) ≡ true → IsWithin moment l → ⊥
@@ -53,7 +53,7 @@ module _ (texts : Texts) (p : Times) (machine : MachineKind) (events : List Hear
       go (Some last) late within = omega (arith, ltb-true last moment late, within)
 
   -- and one does up to it
-  pub in_time_some : is_overdue moment (Some limit) ≡ false → RunsUntil (rules_of p machine) events moment
+  pub in_time_some : is_overdue moment (Some limit) ≡ false → RunsUntil (key_rules p machine) events moment
   in_time_some in_time = runs_within.1 (go limit in_time)
     where
       go : (l : Option ℕ) → is_overdue moment (Some l) ≡ false → IsWithin moment l

@@ -41,7 +41,7 @@ AreShown-push count (x ∷ xs) text e form n number (first, more, is_first, show
 )
 
 -- these entries were read of the input, and this text was written of them
-pub record Showed (start : Option (List ℕ)) (now : log.Reading) (old new : Option (List ℕ)) : Type 0 where
+pub record Showed (start : Option (List ℕ)) (now : log.ReaderState) (old new : Option (List ℕ)) : Type 0 where
   pub times : Times
   pub items : List Item
   pub text : List ℕ
@@ -61,7 +61,7 @@ finished (Ok answer) shown P Q same wrote f = subst P (sym same) (f wrote)
 finished (Err e) shown P Q same wrote f = tt
 
 -- nothing was shown yet
-pub showed_start : (start : Option (List ℕ)) (now : log.Reading) (p : Times) (w : Option (List ℕ)) → now.stage ≡ entries → now.times ≡ Some p → Stands start [] now → Showed start now w w
+pub showed_start : (start : Option (List ℕ)) (now : log.ReaderState) (p : Times) (w : Option (List ℕ)) → now.stage ≡ entries → now.times ≡ Some p → Stands start [] now → Showed start now w w
 showed_start start now p w on times stands = record {
   times = p;
   items = [];
@@ -73,7 +73,7 @@ showed_start start now p w on times stands = record {
   stands = stands;
 }
 
-module _ (start : Option (List ℕ)) (now : log.Reading) (old w : Option (List ℕ)) (s : Showed start now old w) (new : log.Reading) where
+module _ (start : Option (List ℕ)) (now : log.ReaderState) (old w : Option (List ℕ)) (s : Showed start now old w) (new : log.ReaderState) where
   -- so many entries were read
   count_is : now.count ≡ length s.items
   count_is = (subst (λ x. StandsAt x start s.items now) s.on s.stands).1

@@ -1,7 +1,7 @@
 -- From the events of one transaction to the entries of a log, one entry more.
 use Rattle.std.proofs.Common.{◌≡◌, Bool, true, false, List, [], ◌∷◌, ◌++◌, refl, sym, ◌∙◌, subst}
 use Rattle.std.proofs.lemmas.Bool.{false≢true}
-use Rattle.sip_machine.specs.Heard.{Heard}
+use Rattle.sip_machine.specs.MachineEvent.{MachineEvent}
 use Rattle.sip_verdict.specs.declared.passing.Fate.{Fate}
 use Rattle.sip_verdict.specs.declared.passing.Fate.TheVariants.{Runs, NoRun, TooWide}
 use Rattle.sip_verdict.specs.Keyed.{Observation, Machines, concerns, events_of, HasRun}
@@ -12,13 +12,13 @@ use Rattle.sip_verdict.proofs.Overdue.{run_before}
 
 module _ {K T : Type 0} (m : Machines K) (k : Keeping K T) (es : List (Observation K)) (e : Observation K) (t : T) where
   -- a run over the events that stands at the newest moment is one of the key
-  runs_key : (events : List Heard) → events_of m (k.key t) (es ++ e ∷ []) ≡ events → RunsUntil (m.rules (k.key t)) events e.event.moment → HasRun m (k.key t) (es ++ e ∷ [])
+  runs_key : (events : List MachineEvent) → events_of m (k.key t) (es ++ e ∷ []) ≡ events → RunsUntil (m.rules (k.key t)) events e.event.moment → HasRun m (k.key t) (es ++ e ∷ [])
   runs_key events at run =
       subst (λ now. RunsUntil (m.rules (k.key t)) (events_of m (k.key t) (es ++ e ∷ [])) now) (sym (newest_moment-push es e))
       (subst (λ fs. RunsUntil (m.rules (k.key t)) fs e.event.moment) (sym at) run)
 
   -- and the other way round
-  key_runs : (events : List Heard) → events_of m (k.key t) (es ++ e ∷ []) ≡ events → HasRun m (k.key t) (es ++ e ∷ []) → RunsUntil (m.rules (k.key t)) events e.event.moment
+  key_runs : (events : List MachineEvent) → events_of m (k.key t) (es ++ e ∷ []) ≡ events → HasRun m (k.key t) (es ++ e ∷ []) → RunsUntil (m.rules (k.key t)) events e.event.moment
   key_runs events at run =
       subst (λ fs. RunsUntil (m.rules (k.key t)) fs e.event.moment) at
       (subst (λ now. RunsUntil (m.rules (k.key t)) (events_of m (k.key t) (es ++ e ∷ [])) now) (newest_moment-push es e) run)

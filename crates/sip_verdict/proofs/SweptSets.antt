@@ -5,15 +5,15 @@ use Rattle.std.proofs.lemmas.List.Elements.{Contains-get_or}
 use Rattle.sip_machine.specs.Times.{Times}
 use Rattle.sip_machine.specs.Texts.{Texts, IsBook, Keeps, text_of}
 use Rattle.sip_machine.specs.Retained.{only}
-use Rattle.sip_machine.specs.Heard.{Heard}
+use Rattle.sip_machine.specs.MachineEvent.{MachineEvent}
 use Rattle.sip_machine.specs.Limits.{IsWithin, IsOpenAt}
 use Rattle.sip_machine.specs.Rules.{Rules, IsLawful, StandFor}
 use Rattle.sip_machine.specs.inner.OwingLaws.{window_same, until_same}
 use Rattle.sip_machine.proofs.RetainLemmas.{only-Keeps, text_of-only}
 use Rattle.sip_states.specs.Runs.{Wait, IsAgenda}
-use Rattle.sip_states.specs.KeyMachine.{MachineKind, transaction, coded, is_coded, StateOf}
+use Rattle.sip_states.specs.KeyMachine.{MachineKind, transaction_of, coded_of, coded_holds, StateOf}
 use Rattle.sip_states.specs.Meaning.{IsKnown, HasWaited, HasAgenda}
-use Rattle.sip_states.specs.AnySet.{meaning_of, moment_of, Waits, IsKnownSet, IsAgendaOf}
+use Rattle.sip_states.specs.AnySet.{meaning_of, moment_of, SetWaits, IsKnownSet, IsAgendaOf}
 use Rattle.sip_states.specs.Sweep.{numbers_of, IsAdvanced}
 use Rattle.sip_states.specs.declared.any_set.AnySet.{AnySet}
 use Rattle.sip_states.proofs.Listed.{Contains-map, Contains-from_map}
@@ -26,7 +26,7 @@ use Rattle.sip_states.proofs.ByMachine.{some_machine, lawful_of, moment_is, numb
 use Rattle.sip_verdict.proofs.NamedLemmas.{Contains-flat_map}
 
 -- once a set that leads has waited, it leads
-pub waited_leads : {X S : Type 0} (names : S → List ℕ) (InRange : S → Type 0) (seen : Texts → S → X) (texts : Texts) (r : Rules X) → IsLawful r → (events : List Heard) (at moment : ℕ) (old new : List S) → at ≤ moment
+pub waited_leads : {X S : Type 0} (names : S → List ℕ) (InRange : S → Type 0) (seen : Texts → S → X) (texts : Texts) (r : Rules X) → IsLawful r → (events : List MachineEvent) (at moment : ℕ) (old new : List S) → at ≤ moment
     → Leads names seen texts r events at old → StandFor names InRange seen texts (Wait r (Contains (map (seen texts) old)) at moment) new → Leads names seen texts r events moment new
 waited_leads names InRange seen texts r lawful events at moment old new low leads stand = record {
   known = stand.known;
@@ -37,7 +37,7 @@ waited_leads names InRange seen texts r lawful events at moment old new low lead
 
 -- and beside a book that keeps what it names
 pub kept_leads : {X S : Type 0} (names : S → List ℕ) (seen : Texts → S → X) → ((a b : Texts) (x : S) → ((n : ℕ) → Contains (names x) n → text_of a n ≡ text_of b n) → seen a x ≡ seen b x)
-    → (texts : Texts) (numbers : List ℕ) → IsBook texts → AllPairs (λ a b. a < b) numbers → All (Keeps texts) numbers → (r : Rules X) (events : List Heard) (moment : ℕ) (states : List S)
+    → (texts : Texts) (numbers : List ℕ) → IsBook texts → AllPairs (λ a b. a < b) numbers → All (Keeps texts) numbers → (r : Rules X) (events : List MachineEvent) (moment : ℕ) (states : List S)
     → ((n : ℕ) → Contains (flat_map names states) n → Contains numbers n) → Leads names seen texts r events moment states → Leads names seen (only numbers texts) r events moment states
 kept_leads names seen by_names texts numbers book up kept r events moment states within leads =
     Leads-book names seen by_names texts (only numbers texts) r events moment states
@@ -45,13 +45,13 @@ kept_leads names seen by_names texts numbers book up kept r events moment states
     (let among : Contains numbers n = within n (Contains-flat_map names states (get_or states k d) n (Contains-get_or states k d low) has) in
     (only-Keeps texts numbers book up kept n among, sym (text_of-only texts numbers book up kept n among)))) leads
 
-module _ (texts : Texts) (numbers : List ℕ) (book : IsBook texts) (up : AllPairs (λ a b. a < b) numbers) (kept : All (Keeps texts) numbers) (p : Times) (machine : MachineKind) (events : List Heard) where
+module _ (texts : Texts) (numbers : List ℕ) (book : IsBook texts) (up : AllPairs (λ a b. a < b) numbers) (kept : All (Keeps texts) numbers) (p : Times) (machine : MachineKind) (events : List MachineEvent) where
   -- the set of a key, of the tables
   pub swept_leads : (moment : ℕ) (old new : AnySet) → moment_of old ≤ moment → IsAdvanced moment old new → ((n : ℕ) → Contains (numbers_of new) n → Contains numbers n)
       → LeadsOf texts p machine events old → LeadsOf (only numbers texts) p machine events new
   swept_leads moment old new low (inl waits) within (s, is, leads) =
       let m = meaning_of machine in
-      let (t, new_is, waited) = of_sets (λ X M S m s u. HasWaited m moment s u) machine s new (subst (λ o. Waits moment o new) is waits) in
+      let (t, new_is, waited) = of_sets (λ X M S m s u. HasWaited m moment s u) machine s new (subst (λ o. SetWaits moment o new) is waits) in
       let not_later : s.moment ≤ moment = subst (λ n. n ≤ moment) (ap moment_of is ∙ moment_is machine s) low in
       let stand = subst (λ q. StandFor m.names m.in_range m.seen texts (Wait (m.rules q) (Contains (map (m.seen texts) s.states)) s.moment moment) t.states) leads.machine_is (waited.states texts book leads.leads.known) in
       let leads_on = waited_leads m.names m.in_range m.seen texts (m.rules p) (lawful_of machine p) events s.moment moment s.states t.states not_later leads.leads stand in
@@ -124,10 +124,10 @@ agenda_waited {X} names InRange seen texts r lawful at moment old new low stand 
 
 -- the timers of a state do not depend on it
 window_of : (machine : MachineKind) (p : Times) (a b : Texts) (x : StateOf machine) → ((meaning_of machine).rules p).window ((meaning_of machine).seen a x) ≡ ((meaning_of machine).rules p).window ((meaning_of machine).seen b x)
-window_of machine p a b x = window_same (transaction machine).figure (coded machine).seen a b p x ((is_coded machine).window_same a b p x.phase)
+window_of machine p a b x = window_same (transaction_of machine).figure (coded_of machine).seen a b p x ((coded_holds machine).window_same a b p x.phase)
 
 until_of : (machine : MachineKind) (p : Times) (a b : Texts) (x : StateOf machine) → ((meaning_of machine).rules p).until ((meaning_of machine).seen a x) ≡ ((meaning_of machine).rules p).until ((meaning_of machine).seen b x)
-until_of machine p a b x = until_same (transaction machine).figure (coded machine).seen a b p x ((is_coded machine).closes_same a b p x.phase)
+until_of machine p a b x = until_same (transaction_of machine).figure (coded_of machine).seen a b p x ((coded_holds machine).closes_same a b p x.phase)
 
 -- so the last moment on record stays that of the set
 pub swept_agenda : (texts : Texts) → IsBook texts → (moment : ℕ) (old new : AnySet) → moment_of old ≤ moment → IsAdvanced moment old new
@@ -137,7 +137,7 @@ swept_agenda texts book moment old new low (inl waits) known limit agenda =
     let (machine, s, is) = some_machine old in
     let m = meaning_of machine in
     let known_s = of_set (λ X M S m s. IsKnown m texts s) machine s (subst (IsKnownSet texts) is known) in
-    let (t, new_is, waited) = of_sets (λ X M S m s u. HasWaited m moment s u) machine s new (subst (λ o. Waits moment o new) is waits) in
+    let (t, new_is, waited) = of_sets (λ X M S m s u. HasWaited m moment s u) machine s new (subst (λ o. SetWaits moment o new) is waits) in
     let not_later : s.moment ≤ moment = subst (λ n. n ≤ moment) (ap moment_of is ∙ moment_is machine s) low in
     let r = m.rules s.machine in
     let stand = waited.states texts book known_s in

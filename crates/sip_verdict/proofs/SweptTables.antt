@@ -10,7 +10,7 @@ use Rattle.sip_machine.specs.Rules.{Knows}
 use Rattle.sip_machine.proofs.RetainLemmas.{only-Keeps}
 use Rattle.sip_states.specs.KeyMachine.{machine_of_key}
 use Rattle.sip_states.specs.Meaning.{HasWaited, IsKnown}
-use Rattle.sip_states.specs.AnySet.{meaning_of, moment_of, Waits, IsKnownSet}
+use Rattle.sip_states.specs.AnySet.{meaning_of, moment_of, SetWaits, IsKnownSet}
 use Rattle.sip_states.specs.Sweep.{numbers_of, IsAdvanced, AdvancesAll, AppendsNamed}
 use Rattle.sip_states.specs.Tables.{Tabled}
 use Rattle.sip_states.specs.declared.any_set.AnySet.{AnySet}
@@ -50,7 +50,7 @@ module _ (texts : Texts) (book : IsBook texts) (t u : Tabled) (moment : ℕ) (ad
       go : (old new : AnySet) → moment_of old ≤ moment → IsAdvanced moment old new → moment_of new ≤ moment
       go old new low (inl waits) =
           let (machine, s, is) = some_machine old in
-          let (v, new_is, waited) = of_sets (λ X M S m s u. HasWaited m moment s u) machine s new (subst (λ o. Waits moment o new) is waits) in
+          let (v, new_is, waited) = of_sets (λ X M S m s u. HasWaited m moment s u) machine s new (subst (λ o. SetWaits moment o new) is waits) in
           let at : moment_of new ≡ moment = ap moment_of new_is ∙ moment_is machine v ∙ waited.at in
           omega (arith, at)
       go old new low (inr stays) = subst (λ s. moment_of s ≤ moment) (sym stays.0) low
@@ -71,7 +71,7 @@ module _ (texts : Texts) (book : IsBook texts) (t u : Tabled) (moment : ℕ) (ad
       go k old new known (inl waits) has =
           let (machine, s, is) = some_machine old in
           let names = (meaning_of machine).names in
-          let (v, new_is, waited) = of_sets (λ X M S m s u. HasWaited m moment s u) machine s new (subst (λ o. Waits moment o new) is waits) in
+          let (v, new_is, waited) = of_sets (λ X M S m s u. HasWaited m moment s u) machine s new (subst (λ o. SetWaits moment o new) is waits) in
           let stand = waited.states texts book (of_set (λ X M S m s. IsKnown m texts s) machine s (subst (IsKnownSet texts) is known)) in
           let (x, among, named) = Contains-from_flat_map names v.states k (subst (λ ns. Contains ns k) (ap numbers_of new_is ∙ numbers_are machine v) has) in
           All-contains (Keeps texts) (names x) k (All-contains (Knows names texts) v.states x stand.known among) named

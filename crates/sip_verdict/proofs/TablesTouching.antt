@@ -9,7 +9,7 @@ use Rattle.sip_key.specs.Key.{KeyParts, same_key}
 use Rattle.sip_key.specs.inner.KeyLaws.{same_key-decides}
 use Rattle.sip_machine.specs.Times.{Times}
 use Rattle.sip_machine.specs.Texts.{Texts, Keeps}
-use Rattle.sip_machine.specs.Heard.{heard}
+use Rattle.sip_machine.specs.MachineEvent.{event_in}
 use Rattle.sip_states.specs.KeyMachine.{machine_of_key, start_is}
 use Rattle.sip_states.specs.Meaning.{IsKnown}
 use Rattle.sip_states.specs.AnySet.{moment_of, IsKnownSet, start_of}
@@ -229,11 +229,11 @@ same_numbers all apart (i ∷ ns) (key ∷ ks) (some, there, rest) n k at = λ j
         let both : Some key ≡ Some k = sym there ∙ ap (slice_get all) place ∙ at in
         (same_key-decides k key).1 (let own : k ≡ key = cc in own)))
 
--- an entry that is not heard tells each key its moment
+-- an entry that is not event_in tells each key its moment
 pub told_unheard : (texts : Texts) (keys : List KeyParts) (moment : ℕ) (e : Observation KeyParts) → e.event.moment ≡ moment → e.keys ≡ [] → AreTold texts keys moment None e
 told_unheard texts keys moment e at none n k there = record { at = at; event = tt; concerned = λ p. ap (list_any (same_key k)) none }
 
 -- an event is told to the keys that it concerns
 pub told_event : (texts : Texts) (keys : List KeyParts) (moment : ℕ) (h : Hearing) (e : Observation KeyParts) → AllPairs (λ a b. a ≢ b) keys → HaveNumbers keys (each h.concerned) e.keys → e.event.moment ≡ moment
-    → e.event ≡ heard texts h.event → AreTold texts keys moment (Some h) e
+    → e.event ≡ event_in texts h.event → AreTold texts keys moment (Some h) e
 told_event texts keys moment h e apart numbers at event n k there = record { at = at; event = event; concerned = λ p. same_numbers keys apart (each h.concerned) e.keys numbers n k there }

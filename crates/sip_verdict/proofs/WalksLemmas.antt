@@ -37,7 +37,7 @@ use Rattle.sip_verdict.proofs.TrackingLemmas.{tracks_none}
 use Rattle.sip_verdict.proofs.WalkingLemmas.{read_log, read_count}
 
 -- nothing was judged yet
-pub walks_start : (start : Option (List ℕ)) (now : log.Reading) (p : Times) (texts : Texts) (t : Tabled) → texts ≡ [] → t ≡ record { times = p; keys = []; sets = []; records = [] } → HasRead start p [] now → Walks start now texts t
+pub walks_start : (start : Option (List ℕ)) (now : log.ReaderState) (p : Times) (texts : Texts) (t : Tabled) → texts ≡ [] → t ≡ record { times = p; keys = []; sets = []; records = [] } → HasRead start p [] now → Walks start now texts t
 walks_start start now p texts t none empty read = subst (Walks start now texts) (sym empty) (record {
   judged = record {
     items = [];
@@ -78,7 +78,7 @@ listed_before start entry count (Undecided at transaction) low is behind =
 listed_before start entry count (FaultOfLog at reason) low is behind =
     IfSome-map start (λ input. IsVerdictOf input (FaultOfLog at reason)) (λ input. IsListingOf input entry (Stopped (FaultOfLog at reason))) (λ input verdict. (verdict-by input (FaultOfLog at reason) verdict, omega (arith, behind, low))) is
 
-module _ (start : Option (List ℕ)) (now : log.Reading) (texts : Texts) (t : Tabled) (walks : Walks start now texts t) where
+module _ (start : Option (List ℕ)) (now : log.ReaderState) (texts : Texts) (t : Tabled) (walks : Walks start now texts t) where
   -- so many entries were judged
   judged_count : now.count ≡ length walks.judged.es
   judged_count = read_count start t.times walks.judged.items now walks.judged.read ∙ walks.judged.long
@@ -107,7 +107,7 @@ module _ (start : Option (List ℕ)) (now : log.Reading) (texts : Texts) (t : Ta
       verdict_of start (FaultOfLog (count + 1) reason) (judged_ends message_reading t.times _ start now j j.follows.good (Stops fault) (FaultOfLog (count + 1) reason)
       (ap (λ c. FaultOfLog (c + 1) reason) (counts ∙ judged_count) ∙ ap (FaultOfLog (length j.es + 1)) is) logs)
 
-  module _ (count : ℕ) (counts : count ≡ now.count) (e : Entry) (next : e.number ≡ now.count + 1) (new : log.Reading) (read : HasRead start t.times (walks.judged.items ++ item e ∷ []) new) where
+  module _ (count : ℕ) (counts : count ≡ now.count) (e : Entry) (next : e.number ≡ now.count + 1) (new : log.ReaderState) (read : HasRead start t.times (walks.judged.items ++ item e ∷ []) new) where
     number_is : e.number ≡ length walks.judged.es + 1
     number_is = next ∙ ap (λ n. n + 1) judged_count
 

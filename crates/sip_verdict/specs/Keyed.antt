@@ -1,6 +1,6 @@
 use Rattle.std.specs.Prelude.{ℕ, Bool, Option, List, [], ◌∷◌, ◌++◌, if◌then◌else◌, map, filter, fold, flat_map}
 use Rattle.std.specs.List.{list_any}
-use Rattle.sip_machine.specs.Heard.{Heard}
+use Rattle.sip_machine.specs.MachineEvent.{MachineEvent}
 use Rattle.sip_machine.specs.Rules.{Rules}
 use Rattle.sip_message.specs.declared.fault.Fault.{Fault}
 use Rattle.sip_states.specs.Runs.{Run}
@@ -8,7 +8,7 @@ use Rattle.sip_states.specs.Runs.{Run}
 -- what the verdict sees of an entry: the fault of its message, if it has one, its event, and the keys of the transactions that it concerns
 pub record Observation (K : Type 0) : Type 0 where
   pub fault : Option Fault
-  pub event : Heard
+  pub event : MachineEvent
   pub keys : List K
 
 -- how keys are compared, and the machine of each
@@ -30,7 +30,7 @@ abbrev pub concerns : {K : Type 0} → Machines K → K → Observation K → Bo
 concerns m key e = list_any (m.same key) e.keys
 
 -- the events of the entries that concern the key, in order
-abbrev pub events_of : {K : Type 0} → Machines K → K → List (Observation K) → List Heard
+abbrev pub events_of : {K : Type 0} → Machines K → K → List (Observation K) → List MachineEvent
 events_of m key es = map (λ e. e.event) (filter (concerns m key) es)
 
 -- the moment of the newest entry, 0 if there is none

@@ -3,9 +3,9 @@ use Rattle.std.specs.Prelude.{◌≡◌, ◌≤◌, ◌<◌, ◌+◌, ◌⊎◌,
 use Rattle.sip_times.specs.declared.action.Action.{Action}
 use Rattle.sip_times.specs.declared.action.Action.TheVariants.{Sent, Received, Failed, Mark}
 use Rattle.sip_machine.specs.Times.{Times}
-use Rattle.sip_states.specs.Runs.{After}
+use Rattle.sip_states.specs.Runs.{AfterRun}
 use Rattle.sip_log.specs.Spelling.{Item}
-use Rattle.sip_log.specs.Log.{LogEnd, Holds, IsLogOf}
+use Rattle.sip_log.specs.Log.{LogEnd, Readable, IsLogOf}
 use Rattle.sip_listing.specs.Lines.{AreLinesOf}
 use Rattle.sip_verdict.specs.declared.verdict.Verdict.{Verdict}
 use Rattle.sip_verdict.specs.declared.verdict.Verdict.TheVariants.{Legal, Malformed, Breach, Undecided, LogFault}
@@ -13,7 +13,7 @@ use Rattle.sip_verdict.specs.declared.listing.Listing.{Listing}
 use Rattle.sip_verdict.specs.declared.listing.Listing.TheVariants.{Text, Stopped, NoEntry}
 use Rattle.sip_verdict.specs.Keyed.{Observation, Machines, keys_of, events_of}
 use Rattle.sip_verdict.specs.Verdicts.{IsFirst}
-use Rattle.sip_verdict.specs.Reading.{Reading, BeginsWell, IsVerdictBy}
+use Rattle.sip_verdict.specs.Reading.{EntryReading, BeginsWell, IsVerdictBy}
 
 -- whether the entry has a message
 abbrev pub has_message : Action → Bool
@@ -41,7 +41,7 @@ pub record IsKeyText {K : Type 0} (m : Machines K) (w : Words K m) (number : Lis
   pub place : ℕ
   pub placed : IsFirst (λ k. m.same key k ≡ true) (keys_of m (front ++ e ∷ [])) place
   pub lines : List (List ℕ)
-  pub states : AreLinesOf (w.state key number) (After (m.rules key) (events_of m key front) e.event) lines
+  pub states : AreLinesOf (w.state key number) (AfterRun (m.rules key) (events_of m key front) e.event) lines
   pub whole : text ≡ w.transaction place key lines
 
 -- the texts of these keys, one behind another
@@ -56,7 +56,7 @@ IsEntryText m w number front e [] text = text ≡ codes "no transaction\n"
 IsEntryText m w number front e (key ∷ keys) text = AreKeyTexts m w number front e (key ∷ keys) text
 
 -- the text of the entry with this number, where none up to it is in trouble; a message is told by the number of the first entry of the whole log with its bytes
-pub record IsTextAt {K : Type 0} (r : Reading K) (w : (p : Times) → Words K (r.machines p)) (input : List ℕ) (entry : ℕ) (text : List ℕ) : Type 0 where
+pub record IsTextAt {K : Type 0} (r : EntryReading K) (w : (p : Times) → Words K (r.machines p)) (input : List ℕ) (entry : ℕ) (text : List ℕ) : Type 0 where
   pub times : Times
   pub front : List (Observation K)
   pub e : Observation K
@@ -75,13 +75,13 @@ trouble_of (Undecided entry transaction) = Some entry
 trouble_of (LogFault entry reason) = Some entry
 
 -- there is no entry 0 where the log has a header, and none behind the last one of a legal log
-abbrev pub HasNoEntry : {K : Type 0} → Reading K → List ℕ → ℕ → Type 0
+abbrev pub HasNoEntry : {K : Type 0} → EntryReading K → List ℕ → ℕ → Type 0
 HasNoEntry r input entry =
-    ((entry ≡ 0) × ((times : Times) × (items : List Item) × (end : LogEnd) × IsLogOf input (Holds times items end)))
+    ((entry ≡ 0) × ((times : Times) × (items : List Item) × (end : LogEnd) × IsLogOf input (Readable times items end)))
     ⊎ ((entries : ℕ) × (transactions : ℕ) × IsVerdictBy r input (Legal entries transactions) × (entries < entry))
 
 -- the listing of an entry of an input: that the log has no such entry, or its text, unless that entry or one before it is in trouble, which is the verdict
-abbrev pub IsListingBy : {K : Type 0} (r : Reading K) → ((p : Times) → Words K (r.machines p)) → List ℕ → ℕ → Listing → Type 0
+abbrev pub IsListingBy : {K : Type 0} (r : EntryReading K) → ((p : Times) → Words K (r.machines p)) → List ℕ → ℕ → Listing → Type 0
 IsListingBy r w input entry (Text text) = IsTextAt r w input entry (string_bytes text)
 IsListingBy r w input entry (Stopped v) = IsVerdictBy r input v × IsSomeAnd (trouble_of v) (λ k. k ≤ entry)
 IsListingBy r w input entry NoEntry = HasNoEntry r input entry

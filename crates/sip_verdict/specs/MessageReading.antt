@@ -16,15 +16,15 @@ use Rattle.sip_machine.specs.declared.event.Kind.TheVariants.{Request}
 use Rattle.sip_machine.specs.declared.event.Method.TheVariants.{Other}
 use Rattle.sip_machine.specs.Message.{kind_of}
 use Rattle.sip_machine.specs.Times.{Times}
-use Rattle.sip_machine.specs.Heard.{Heard}
-use Rattle.sip_states.specs.KeyMachine.{machine_of_key, PhaseOf, rules_of}
+use Rattle.sip_machine.specs.MachineEvent.{MachineEvent}
+use Rattle.sip_states.specs.KeyMachine.{machine_of_key, PhaseOf, key_rules}
 use Rattle.sip_log.specs.Spelling.{Item}
 use Rattle.sip_verdict.specs.Keyed.{Observation, Machines}
-use Rattle.sip_verdict.specs.Reading.{Reading}
+use Rattle.sip_verdict.specs.Reading.{EntryReading}
 
 -- keys are equal by their parts, and each has the machine of its role and method, RFC 3261 section 17
 abbrev pub key_machines : Times → Machines KeyParts
-key_machines p = record { same = same_key; State = λ key. PhaseOf (machine_of_key key); rules = λ key. rules_of p (machine_of_key key) }
+key_machines p = record { same = same_key; State = λ key. PhaseOf (machine_of_key key); rules = λ key. key_rules p (machine_of_key key) }
 
 -- which way the message of an entry went: one whose send was refused was on its way out, and a mark has none
 abbrev pub direction_of : Action → Option Direction
@@ -43,8 +43,8 @@ fault_observation item fault =
     record { fault = Some fault; event = record { moment = item.moment; action = item.action; text = item.text; kind = Request Other; reliable = false }; keys = [] }
 
 -- an entry with its message as a machine hears it: a method or a code, sections 7.1 and 7.2, over the transport of the top Via
-abbrev pub heard_message : Item → Said → Heard
-heard_message item s = record { moment = item.moment; action = item.action; text = item.text; kind = kind_of s.start; reliable = is_reliable s.via.transport }
+abbrev pub message_event : Item → Said → MachineEvent
+message_event item s = record { moment = item.moment; action = item.action; text = item.text; kind = kind_of s.start; reliable = is_reliable s.via.transport }
 
 -- the fault of a request that is sent without the cookie, section 8.1.1.7
 abbrev pub no_cookie : Fault
@@ -58,10 +58,10 @@ pub data ObservesMessage (direction : Direction) (item : Item) (e : Observation 
   has_no_cookie : (s : Said) → Says item.text (gives s) → lacks_cookie s direction ≡ true → e ≡ fault_observation item no_cookie → ObservesMessage direction item e
   -- else its event and its keys, sections 17.1.3, 17.2.3 and 9.1
   is_heard : (s : Said) (keys : List KeyParts) → Says item.text (gives s) → lacks_cookie s direction ≡ false → Concerns s direction keys
-      → e ≡ record { fault = None; event = heard_message item s; keys = keys } → ObservesMessage direction item e
+      → e ≡ record { fault = None; event = message_event item s; keys = keys } → ObservesMessage direction item e
 
 -- how a log of messages is read: an entry without a message is a mark; what is observed of an entry does not depend on those before it
-abbrev pub message_reading : Reading KeyParts
+abbrev pub message_reading : EntryReading KeyParts
 message_reading = record {
   machines = key_machines;
   Observes = λ before item e. MatchOption (direction_of item.action) (e ≡ mark_observation item.moment) (λ direction. ObservesMessage direction item e);

@@ -3,12 +3,12 @@ use Rattle.std.specs.Prelude.{◌≡◌, ◌≢◌, ◌≤◌, ◌↔◌, ◌+�
 use Rattle.sip_key.specs.Key.{KeyParts}
 use Rattle.sip_machine.specs.Told.{messages_told}
 use Rattle.sip_states.specs.Runs.{Run}
-use Rattle.sip_states.specs.KeyMachine.{MachineKind, PhaseOf, machine_of_key, coded}
+use Rattle.sip_states.specs.KeyMachine.{MachineKind, PhaseOf, machine_of_key, coded_of}
 use Rattle.sip_verdict.specs.Keyed.{Observation, Machines, events_of, newest_moment}
 
 -- the messages that a state names: those that its phase tells, and what is owed
 abbrev pub messages_of : (machine : MachineKind) → PhaseOf machine → List (List ℕ)
-messages_of machine x = messages_told ((coded machine).told x.phase) ++ map (λ owed. owed.message) x.owes
+messages_of machine x = messages_told ((coded_of machine).told x.phase) ++ map (λ owed. owed.message) x.owes
 
 -- the same for the machine of each key
 abbrev pub key_messages : (key : KeyParts) → PhaseOf (machine_of_key key) → List (List ℕ)

@@ -3,7 +3,7 @@ use Rattle.sip_machine.specs.Times.{Times}
 use Rattle.sip_times.specs.declared.action.Action.{Action}
 use Rattle.sip_times.specs.declared.action.Action.TheVariants.{Sent, Received, Failed, Mark}
 use Rattle.sip_log.specs.Spelling.{line_feed, space, Item, entry_text}
-use Rattle.sip_log.specs.Log.{LogEnd, Clean, Stops, Faulty, Holds, IsLogOf}
+use Rattle.sip_log.specs.Log.{LogEnd, Clean, Stops, Faulty, Readable, IsLogOf}
 use Rattle.sip_message.specs.declared.fault.Fault.{Fault}
 use Rattle.sip_message.specs.Message.{Message, Spells}
 use Rattle.sip_message.specs.Faults.{FaultOf}
@@ -56,7 +56,7 @@ pub record ShowsEntries (input text : List ℕ) (shown : Shown) : Type 0 where
   pub items : List Item
   pub rest : List Item
   pub end : LogEnd
-  pub log : IsLogOf input (Holds times (items ++ rest) end)
+  pub log : IsLogOf input (Readable times (items ++ rest) end)
   pub front : List ℕ
   pub entries : AreShown 0 items front
   pub ends : EndsAs (length items) rest end shown

@@ -3,9 +3,9 @@ use Rattle.std.specs.Prelude.{◌≡◌, ◌≢◌, ◌+◌, ◌<◌, ◌⊎◌,
 use Rattle.std.specs.List.{list_any}
 use Rattle.sip_key.specs.Key.{KeyParts, same_key}
 use Rattle.sip_machine.specs.Times.{Times}
-use Rattle.sip_machine.specs.Heard.{Heard}
+use Rattle.sip_machine.specs.MachineEvent.{MachineEvent}
 use Rattle.sip_machine.specs.Figure.{Owing}
-use Rattle.sip_states.specs.KeyMachine.{machine_of_key, transaction}
+use Rattle.sip_states.specs.KeyMachine.{machine_of_key, transaction_of}
 use Rattle.sip_states.specs.Stands.{Stands, StandsBehind}
 use Rattle.sip_log.specs.Spelling.{Item}
 use Rattle.sip_log.specs.Log.{LogEnd, Clean, Stops}
@@ -26,19 +26,19 @@ abbrev pub keys_in : List (Observation KeyParts) → List KeyParts
 keys_in es = fold (λ keys key. if list_any (same_key key) keys then keys else keys ++ key ∷ []) [] (flat_map (λ e. e.keys) es)
 
 -- the events of the entries that concern the key, in order
-abbrev pub events_for : KeyParts → List (Observation KeyParts) → List Heard
+abbrev pub events_for : KeyParts → List (Observation KeyParts) → List MachineEvent
 events_for key es = map (λ e. e.event) (filter (λ e. list_any (same_key key) e.keys) es)
 
 -- the key has a run over the entries, by the machine of its role and method (RFC 3261 section 17), which waits until the newest
 abbrev pub RunsOver : Times → List (Observation KeyParts) → KeyParts → Type 0
 RunsOver p es key =
-    let key_machine = transaction (machine_of_key key) in
+    let key_machine = transaction_of (machine_of_key key) in
     (y : Owing key_machine.Phase) × Stands key_machine.figure p (events_for key es) (fold (λ moment e. e.event.moment) 0 es) y
 
 -- the entry behind these concerns the key, and its runs that end with the entry's step can stand in more than 1,024 states
 abbrev pub IsWideAt : Times → List (Observation KeyParts) → Observation KeyParts → KeyParts → Type 0
 IsWideAt p front e key =
-    let key_machine = transaction (machine_of_key key) in
+    let key_machine = transaction_of (machine_of_key key) in
     (list_any (same_key key) e.keys ≡ true)
     × ((many : List (Owing key_machine.Phase)) × AllPairs (λ x y. x ≢ y) many × (1024 < length many)
     × All (StandsBehind key_machine.figure p (events_for key front) e.event) many)
@@ -52,11 +52,11 @@ IsFirstKey P keys number =
 -- the verdict of the entry behind these, which is in trouble: its fault, else the first key without a run, else the first that is too wide
 abbrev pub HasTrouble : Times → List (Observation KeyParts) → Observation KeyParts → Verdict → Type 0
 HasTrouble p front e (Malformed entry fault) = (entry ≡ length front + 1) × (e.fault ≡ Some fault)
-HasTrouble p front e (Breach entry transaction) =
-    (entry ≡ length front + 1) × (e.fault ≡ None) × IsFirstKey (λ key. ¬ (RunsOver p (front ++ e ∷ []) key)) (keys_in (front ++ e ∷ [])) transaction
-HasTrouble p front e (Undecided entry transaction) =
+HasTrouble p front e (Breach entry transaction_of) =
+    (entry ≡ length front + 1) × (e.fault ≡ None) × IsFirstKey (λ key. ¬ (RunsOver p (front ++ e ∷ []) key)) (keys_in (front ++ e ∷ [])) transaction_of
+HasTrouble p front e (Undecided entry transaction_of) =
     (entry ≡ length front + 1) × (e.fault ≡ None) × All (RunsOver p (front ++ e ∷ [])) (keys_in (front ++ e ∷ []))
-    × IsFirstKey (IsWideAt p front e) (keys_in (front ++ e ∷ [])) transaction
+    × IsFirstKey (IsWideAt p front e) (keys_in (front ++ e ∷ [])) transaction_of
 HasTrouble p front e v = ⊥
 
 -- the verdict of the entries that are left and of how they end, behind others in no trouble: that the log is legal, or that the next entry

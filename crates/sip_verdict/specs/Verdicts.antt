@@ -1,7 +1,7 @@
 use Rattle.std.specs.Prelude.{◌≡◌, ◌+◌, ℕ, true, Some, None, List, [], ◌∷◌, ◌++◌, length, All}
 use Rattle.sip_verdict.specs.declared.verdict.Verdict.{Verdict}
 use Rattle.sip_verdict.specs.declared.verdict.Verdict.TheVariants.{Malformed, Breach, Undecided}
-use Rattle.sip_states.specs.Runs.{After, IsWide}
+use Rattle.sip_states.specs.Runs.{AfterRun, IsWide}
 use Rattle.sip_verdict.specs.Keyed.{Observation, Machines, concerns, keys_of, events_of, HasRun}
 
 -- The entries of a log that are in trouble.
@@ -19,7 +19,7 @@ pub record IsFirst {K : Type 0} (P : K → Type 0) (keys : List K) (number : ℕ
 -- the entry concerns the key, and its runs that end with the entry's step can stand in more than 1,024 states
 pub record IsTooWide {K : Type 0} (m : Machines K) (front : List (Observation K)) (e : Observation K) (key : K) : Type 0 where
   pub concerned : concerns m key e ≡ true
-  pub wide : IsWide (After (m.rules key) (events_of m key front) e.event)
+  pub wide : IsWide (AfterRun (m.rules key) (events_of m key front) e.event)
 
 -- each key of the entries has a run over them
 abbrev pub AllRun : {K : Type 0} → Machines K → List (Observation K) → Type 0

@@ -1,11 +1,11 @@
 //! Judges a log from its first byte to its verdict.
 ghost use Rattle.std.specs.Prelude.{◌≡◌, true, false, List, Option, ℕ, IfSome, IfOk, OnOk, IsErrOf};
-ghost use Rattle.sip_log.specs.Reading.{reading};
+ghost use Rattle.sip_log.specs.Reading.{beside_source};
 ghost use Rattle.sip_verdict.specs.VerdictOf.{IsVerdictOf};
 ghost use Rattle.sip_verdict.specs.inner.Sweeping.{IsAt, StandsForRead};
 
+use crate::beside_source::{Next, read_header, read_next};
 use crate::judge_error::JudgeError;
-use crate::reading::{Next, read_header, read_next};
 use crate::stream::Judge;
 use crate::verdict::Verdict;
 use sip_log::{Progress, Source};
@@ -47,7 +47,7 @@ fn judge_entries<R: Source, H: BuildHasher + Drop>(
     requires at { IsAt judge progress.old }
     requires first { judge.number ≡ 0 }
     ensures verdict { IfOk result (λ verdict. (start : Option (List ℕ))
-        → StandsForRead judge start (reading progress.old (R.left reader.old) (R.has_failed reader.old))
+        → StandsForRead judge start (beside_source progress.old (R.left reader.old) (R.has_failed reader.old))
         → IfSome start (λ input. IsVerdictOf input verdict)) }
     ensures ok { OnOk result (R.has_failed reader.new ≡ R.has_failed reader.old) }
     ensures io { IsErrOf result JudgeError.Io → R.has_failed reader.new ≡ true }

@@ -3,8 +3,8 @@ ghost use Rattle.std.specs.Prelude.{◌≡◌, ◌≤◌, ℕ, List, All, IfOk, 
 ghost use Rattle.std.specs.Option.{ForSome, option_copied};
 ghost use Rattle.sip_key.specs.Key.{KeyParts};
 ghost use Rattle.sip_machine.specs.Times.{Times};
-ghost use Rattle.sip_machine.specs.Heard.{Heard, heard, FitsBook};
-ghost use Rattle.sip_states.specs.KeyMachine.{MachineKind, rules_of};
+ghost use Rattle.sip_machine.specs.MachineEvent.{MachineEvent, event_in, FitsBook};
+ghost use Rattle.sip_states.specs.KeyMachine.{MachineKind, key_rules};
 ghost use Rattle.sip_states.specs.AnySet.{moment_of, IsEmpty, IsKnownSet};
 ghost use Rattle.sip_states.specs.Tables.{IsGiven, due_of};
 ghost use Rattle.sip_verdict.specs.Keyed.{Observation};
@@ -65,8 +65,8 @@ fn hear(set: &mut AnySet, book: &Book, event: &Event) -> Result<Fate, AllocError
     ensures order { OnOk result (moment_of set.new ≤ event.now.moment) }
     ensures known { OnOk result (IsKnownSet book.now set.new) }
     ensures some { IfOk result (λ fate. fate ≡ Fate.Runs → ¬ IsEmpty set.new) }
-    ensures stepped { IfOk result (λ fate. (p : Times) (machine : MachineKind) (events : List Heard) → LeadsOf book.now p machine events set.old
-        → IsStepped (rules_of p machine) events (heard book.now event.now) (λ es. LeadsOf book.now p machine es set.new) (λ e. StandsOf book.now p machine events e set.new) fate) }
+    ensures stepped { IfOk result (λ fate. (p : Times) (machine : MachineKind) (events : List MachineEvent) → LeadsOf book.now p machine events set.old
+        → IsStepped (key_rules p machine) events (event_in book.now event.now) (λ es. LeadsOf book.now p machine es set.new) (λ e. StandsOf book.now p machine events e set.new) fate) }
 {
     match set.take(book, event) {
         Ok(()) if set.is_empty() => Ok(Fate::NoRun),
@@ -89,7 +89,7 @@ fn hear_one<H: BuildHasher>(
     ensures times { OnOk result (tables.new.times ≡ tables.old.times) }
     ensures keys { OnOk result (tables.new.keys ≡ tables.old.keys) }
     ensures may { OnOk result (MayPass book.now tables.new event.now.moment) }
-    ensures heard { IfOk result (HearsOne book.now event.now number tables.old tables.new) }
+    ensures event_in { IfOk result (HearsOne book.now event.now number tables.old tables.new) }
 {
     match hear(tables.set_mut(number), book, event)? {
         Fate::Runs => {
@@ -113,7 +113,7 @@ fn hear_each<H: BuildHasher>(
     requires may { MayPass book.now tables.old hearing.now.event.moment }
     ensures times { OnOk result (tables.new.times ≡ tables.old.times) }
     ensures keys { OnOk result (tables.new.keys ≡ tables.old.keys) }
-    ensures heard { IfOk result (λ outcome. MayPass book.now tables.new hearing.now.event.moment
+    ensures event_in { IfOk result (λ outcome. MayPass book.now tables.new hearing.now.event.moment
         × HearsEach book.now hearing.now.event (each hearing.now.concerned) tables.old others tables.new outcome) }
 {
     let event = &hearing.event;

@@ -1,11 +1,11 @@
 //! Reads a log entry by entry, for those who answer the fault that ends it.
 ghost use Rattle.std.specs.Prelude.{◌≡◌, true, Some, [], Option, List, ℕ, IfOk, IfErr, IfSome, OnOk, IsErrOf};
 ghost use Rattle.sip_machine.specs.Times.{Times};
-ghost use Rattle.sip_log.specs.Reading.{entries, reading};
+ghost use Rattle.sip_log.specs.Reading.{entries, beside_source};
 ghost use Rattle.sip_log.specs.Spelling.{Item};
 ghost use Rattle.sip_verdict.specs.VerdictOf.{IsVerdictOf};
 ghost use Rattle.sip_verdict.specs.Listing.{trouble_of};
-ghost use Rattle.sip_verdict.specs.inner.Walking.{HasRead, Gives, MovesOn};
+ghost use Rattle.sip_verdict.specs.inner.Walking.{HasRead, WalkGives, MovesOn};
 
 use crate::judge_error::JudgeError;
 use crate::log_reason::{LogReason, reason_of};
@@ -32,7 +32,7 @@ pub(crate) fn read_header<R: Source>(
 ) -> Result<Result<(Params, Progress), Verdict>, JudgeError>
     ensures first { IfOk result (λ opened. IfOk opened (λ read. (read.1.count ≡ 0) × (read.1.last ≡ 0))) }
     ensures reads { IfOk result (λ opened. IfOk opened (λ read. HasRead (R.left reader.old) read.0 []
-        (reading read.1 (R.left reader.new) (R.has_failed reader.new)))) }
+        (beside_source read.1 (R.left reader.new) (R.has_failed reader.new)))) }
     ensures fault { IfOk result (λ opened. IfErr opened (λ verdict. IfSome (R.left reader.old) (λ input. IsVerdictOf input verdict)
         × (trouble_of verdict ≡ Some 0))) }
     ensures ok { OnOk result (R.has_failed reader.new ≡ R.has_failed reader.old) }
@@ -55,8 +55,8 @@ pub(crate) fn read_next<R: Source>(
     requires { progress.old.stage ≡ entries }
     ensures moves { IfOk result (λ next. MovesOn progress.old progress.new next) }
     ensures gives { IfOk result (λ next. (start : Option (List ℕ)) (times : Times) (items : List Item)
-        → HasRead start times items (reading progress.old (R.left reader.old) (R.has_failed reader.old))
-        → Gives start times items (reading progress.new (R.left reader.new) (R.has_failed reader.new)) next) }
+        → HasRead start times items (beside_source progress.old (R.left reader.old) (R.has_failed reader.old))
+        → WalkGives start times items (beside_source progress.new (R.left reader.new) (R.has_failed reader.new)) next) }
     ensures ok { OnOk result (R.has_failed reader.new ≡ R.has_failed reader.old) }
     ensures io { IsErrOf result JudgeError.Io → R.has_failed reader.new ≡ true }
 {

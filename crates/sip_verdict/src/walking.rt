@@ -1,17 +1,17 @@
 //! A walk over a log to the entry whose transactions are listed. Every message is kept, since its number is that of its first entry.
 ghost use Rattle.std.specs.Prelude.{◌≡◌, ◌+◌, ◌≤◌, true, Some, Option, List, ℕ, IfOk, IfErr, IfSome, IfNone, OnOk, IsErrOf};
 ghost use Rattle.sip_log.specs.Log.{most_entries};
-ghost use Rattle.sip_log.specs.Reading.{reading};
+ghost use Rattle.sip_log.specs.Reading.{beside_source};
 ghost use Rattle.sip_verdict.specs.declared.verdict.Verdict.TheVariants.{LogFault};
 ghost use Rattle.sip_verdict.specs.VerdictOf.{IsVerdictOf};
 ghost use Rattle.sip_verdict.specs.Listing.{trouble_of};
 ghost use Rattle.sip_verdict.specs.ListingOf.{IsListingOf};
 ghost use Rattle.sip_verdict.specs.inner.Walking.{Walks, WalksOn, MayStep};
 
+use crate::beside_source::{Next, read_header, read_next};
 use crate::judge_error::JudgeError;
 use crate::listing::Listing;
 use crate::log_reason::LogReason;
-use crate::reading::{Next, read_header, read_next};
 use crate::standing::Standing;
 use crate::verdict::Verdict;
 use sip_log::{Progress, Source};
@@ -37,7 +37,7 @@ impl<H: BuildHasher + Drop> Walk<H> {
         ensures may { IfOk result (λ opened. IfOk opened (λ walk. (walk.count ≡ 0)
             × MayStep walk.count walk.progress walk.standing.book walk.standing.tables)) }
         ensures walks { IfOk result (λ opened. IfOk opened (λ walk. Walks (R.left reader.old)
-            (reading walk.progress (R.left reader.new) (R.has_failed reader.new)) walk.standing.book walk.standing.tables)) }
+            (beside_source walk.progress (R.left reader.new) (R.has_failed reader.new)) walk.standing.book walk.standing.tables)) }
         ensures fault { IfOk result (λ opened. IfErr opened (λ verdict. IfSome (R.left reader.old) (λ input. IsVerdictOf input verdict)
             × (trouble_of verdict ≡ Some 0))) }
         ensures ok { OnOk result (R.has_failed reader.new ≡ R.has_failed reader.old) }
@@ -64,7 +64,7 @@ impl<H: BuildHasher + Drop> Walk<H> {
         requires may { MayStep self.old.count self.old.progress self.old.standing.book self.old.standing.tables }
         requires first { self.old.count ≡ 0 }
         ensures listing { IfOk result (λ listing. (start : Option (List ℕ))
-            → Walks start (reading self.old.progress (R.left reader.old) (R.has_failed reader.old)) self.old.standing.book self.old.standing.tables
+            → Walks start (beside_source self.old.progress (R.left reader.old) (R.has_failed reader.old)) self.old.standing.book self.old.standing.tables
             → IfSome start (λ input. IsListingOf input entry listing)) }
         ensures ok { OnOk result (R.has_failed reader.new ≡ R.has_failed reader.old) }
         ensures io { IsErrOf result JudgeError.Io → R.has_failed reader.new ≡ true }
@@ -86,8 +86,8 @@ impl<H: BuildHasher + Drop> Walk<H> {
         ensures may { IfOk result (λ verdict. IfNone verdict ((self.new.count ≡ self.old.count + 1)
             × MayStep self.new.count self.new.progress self.new.standing.book self.new.standing.tables)) }
         ensures walks { IfOk result (λ verdict. (start : Option (List ℕ))
-            → Walks start (reading self.old.progress (R.left reader.old) (R.has_failed reader.old)) self.old.standing.book self.old.standing.tables
-            → WalksOn start self.old.count (reading self.new.progress (R.left reader.new) (R.has_failed reader.new))
+            → Walks start (beside_source self.old.progress (R.left reader.old) (R.has_failed reader.old)) self.old.standing.book self.old.standing.tables
+            → WalksOn start self.old.count (beside_source self.new.progress (R.left reader.new) (R.has_failed reader.new))
             self.new.standing.book self.new.standing.tables verdict) }
         ensures ok { OnOk result (R.has_failed reader.new ≡ R.has_failed reader.old) }
         ensures io { IsErrOf result JudgeError.Io → R.has_failed reader.new ≡ true }
@@ -109,7 +109,7 @@ impl<H: BuildHasher + Drop> Walk<H> {
     fn list<R: Source>(&mut self, reader: &mut R) -> Result<Listing, JudgeError>
         requires { MayStep self.old.count self.old.progress self.old.standing.book self.old.standing.tables }
         ensures listing { IfOk result (λ listing. (start : Option (List ℕ))
-            → Walks start (reading self.old.progress (R.left reader.old) (R.has_failed reader.old)) self.old.standing.book self.old.standing.tables
+            → Walks start (beside_source self.old.progress (R.left reader.old) (R.has_failed reader.old)) self.old.standing.book self.old.standing.tables
             → IfSome start (λ input. IsListingOf input (self.old.count + 1) listing)) }
         ensures ok { OnOk result (R.has_failed reader.new ≡ R.has_failed reader.old) }
         ensures io { IsErrOf result JudgeError.Io → R.has_failed reader.new ≡ true }

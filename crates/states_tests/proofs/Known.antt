@@ -4,7 +4,7 @@ use Rattle.sip_machine.specs.Texts.{Texts}
 use Rattle.sip_machine.specs.Rules.{Knows, StandFor}
 use Rattle.sip_states.specs.Held.{Held}
 use Rattle.sip_states.specs.Meaning.{HasWaited}
-use Rattle.sip_states.specs.AnySet.{Waits, moment_of}
+use Rattle.sip_states.specs.AnySet.{SetWaits, moment_of}
 use Rattle.sip_states.specs.Sweep.{AdvancesSome}
 use Rattle.sip_states.specs.Tables.{Tabled}
 use Rattle.sip_states.specs.declared.any_set.AnySet.{AnySet}
@@ -18,10 +18,10 @@ module _ {X M S T E : Type 0} (names : S → List ℕ) (InRange : S → Type 0) 
   known-after (Err e) stands stays known = subst (λ (h : Held M S). All (Knows names texts) h.states) (sym stays) known
 
 -- a set that has waited until the moment is there
-waits_moment : (moment : ℕ) (a b : AnySet) → Waits moment a b → moment_of b ≡ moment
+waits_moment : (moment : ℕ) (a b : AnySet) → SetWaits moment a b → moment_of b ≡ moment
 waits_moment moment a b waits =
     let (machine, s, is) = some_machine a in
-    let (t, new_is, waited) = of_sets (λ X M S m s u. HasWaited m moment s u) machine s b (subst (λ o. Waits moment o b) is waits) in
+    let (t, new_is, waited) = of_sets (λ X M S m s u. HasWaited m moment s u) machine s b (subst (λ o. SetWaits moment o b) is waits) in
     ap moment_of new_is ∙ moment_is machine t ∙ waited.at
 
 -- where some sets have waited until the moment none is past it

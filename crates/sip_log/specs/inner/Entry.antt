@@ -11,43 +11,43 @@ use Rattle.sip_log.specs.inner.Unless.{Unless}
 -- What comes next behind the entries that were read: an entry, the end, or the first of seven cases in which it cannot be read.
 
 -- case 7, EntryLine: the byte after the message is not LF
-abbrev pub AtClose : Action → ℕ → List ℕ → ℕ → List ℕ → Next Item → Type 0
-AtClose action moment text b after next =
+abbrev pub CloseComes : Action → ℕ → List ℕ → ℕ → List ℕ → Next Item → Type 0
+CloseComes action moment text b after next =
     Unless (b ≡ line_feed) faults.EntryLine next (next ≡ gives (record { action = action; moment = moment; text = text }) after)
 
 -- case 6, Truncated: the input ends before the message and its LF are whole
-abbrev pub AtMessage : Action → ℕ → ℕ → List ℕ → Next Item → Type 0
-AtMessage action moment len behind next =
+abbrev pub MessageComes : Action → ℕ → ℕ → List ℕ → Next Item → Type 0
+MessageComes action moment len behind next =
     Unless (len < length behind) faults.Truncated next
-    ((text : List ℕ) × (b : ℕ) × (after : List ℕ) × (behind ≡ text ++ b ∷ after) × (length text ≡ len) × AtClose action moment text b after next)
+    ((text : List ℕ) × (b : ℕ) × (after : List ℕ) × (behind ≡ text ++ b ∷ after) × (length text ≡ len) × CloseComes action moment text b after next)
 
 -- a mark ends with its line, and a message stands behind it
-abbrev pub AtBody : Head → List ℕ → Next Item → Type 0
-AtBody (message action moment len) behind next = AtMessage action moment len behind next
-AtBody (mark moment) behind next = next ≡ gives (record { action = Mark; moment = moment; text = [] }) behind
+abbrev pub BodyComes : Head → List ℕ → Next Item → Type 0
+BodyComes (message action moment len) behind next = MessageComes action moment len behind next
+BodyComes (mark moment) behind next = next ≡ gives (record { action = Mark; moment = moment; text = [] }) behind
 
 -- case 5, Order: the moment is below that of the entry before
-abbrev pub AtMoment : ℕ → Head → List ℕ → Next Item → Type 0
-AtMoment last head behind next = Unless (last ≤ moment_of head) faults.Order next (AtBody head behind next)
+abbrev pub MomentComes : ℕ → Head → List ℕ → Next Item → Type 0
+MomentComes last head behind next = Unless (last ≤ moment_of head) faults.Order next (BodyComes head behind next)
 
 -- case 4, Limit: the moment or the length is outside the limits
-abbrev pub AtHead : ℕ → Head → List ℕ → Next Item → Type 0
-AtHead last head behind next = Unless (KeepsLimits head) faults.Limit next (AtMoment last head behind next)
+abbrev pub HeadComes : ℕ → Head → List ℕ → Next Item → Type 0
+HeadComes last head behind next = Unless (KeepsLimits head) faults.Limit next (MomentComes last head behind next)
 
 -- case 3, EntryLine: the line is not of the form
-abbrev pub AtFront : ℕ → List ℕ → List ℕ → Next Item → Type 0
-AtFront last line behind next =
+abbrev pub FormComes : ℕ → List ℕ → List ℕ → Next Item → Type 0
+FormComes last line behind next =
     (((head : Head) → ¬ (HeadLine line head)) × (next ≡ stops faults.EntryLine))
-    ⊎ ((head : Head) × HeadLine line head × AtHead last head behind next)
+    ⊎ ((head : Head) × HeadLine line head × HeadComes last head behind next)
 
 -- case 2: no LF is among the first 32 bytes, which is Truncated with fewer than 32 bytes left, and else EntryLine
-abbrev pub AtLine : ℕ → List ℕ → Next Item → Type 0
-AtLine last rest next =
+abbrev pub LineComes : ℕ → List ℕ → Next Item → Type 0
+LineComes last rest next =
     (((line : List ℕ) (behind : List ℕ) → ¬ (FrontLine rest line behind))
     × Unless (longest_line ≤ length rest) faults.Truncated next (next ≡ stops faults.EntryLine))
-    ⊎ ((line : List ℕ) × (behind : List ℕ) × FrontLine rest line behind × AtFront last line behind next)
+    ⊎ ((line : List ℕ) × (behind : List ℕ) × FrontLine rest line behind × FormComes last line behind next)
 
 -- behind this many entries, the last one at this moment: the end of the input; case 1, Limit: one entry more than the most; or an entry
-abbrev pub ComesNext : ℕ → ℕ → List ℕ → Next Item → Type 0
-ComesNext count last rest next =
-    ((rest ≡ []) × (next ≡ ends)) ⊎ ((rest ≢ []) × Unless (count < most_entries) faults.Limit next (AtLine last rest next))
+abbrev pub EntryComes : ℕ → ℕ → List ℕ → Next Item → Type 0
+EntryComes count last rest next =
+    ((rest ≡ []) × (next ≡ ends)) ⊎ ((rest ≢ []) × Unless (count < most_entries) faults.Limit next (LineComes last rest next))

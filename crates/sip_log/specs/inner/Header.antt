@@ -37,8 +37,8 @@ abbrev pub NoFront : List ℕ → Type 0
 NoFront input = (p : Times) (behind : List ℕ) → ¬ (Header input p behind)
 
 -- what comes first in an input: its header, and else the reason is Header
-abbrev pub ComesFirst : List ℕ → Next Times → Type 0
-ComesFirst input next =
+abbrev pub HeaderComes : List ℕ → Next Times → Type 0
+HeaderComes input next =
     ((p : Times) × (behind : List ℕ) × Header input p behind × (next ≡ gives p behind)) ⊎ (NoFront input × (next ≡ stops faults.Header))
 
 -- what comes behind line 1: line 2, and else the reason is Header

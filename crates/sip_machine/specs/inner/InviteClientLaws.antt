@@ -11,7 +11,7 @@ use Rattle.sip_machine.specs.contracts.invite_client.InviteClientPhasePartialEq.
 use Rattle.sip_machine.specs.Times.{Times}
 use Rattle.sip_machine.specs.Limits.{open_at, close_at, window_at}
 use Rattle.sip_machine.specs.Texts.{Texts, IsBook, text_of}
-use Rattle.sip_machine.specs.Heard.{Heard}
+use Rattle.sip_machine.specs.MachineEvent.{MachineEvent}
 use Rattle.sip_machine.specs.Rules.{Knows}
 use Rattle.sip_machine.specs.Figure.{IsFigure, After, closes_of}
 use Rattle.sip_machine.specs.InviteClient.{InviteClientPhase, Idle, Calling, Proceeding, Completed, Receives, Sends, closes, timer_window, invite_client, invite_client_seen, invite_client_names, invite_client_coded, invite_client_told}
@@ -76,7 +76,7 @@ timer_d_starts p true t = timer_starts p t 0
 timer_d_starts p false t = All-nil (λ m. t ≤ m)
 
 -- a row leads to a phase whose timers are not past
-received : (p : Times) (x : InviteClientPhase) (k : Kind) (e : Heard) (y : After InviteClientPhase) → All (λ m. e.moment ≤ m) (closes p x) →
+received : (p : Times) (x : InviteClientPhase) (k : Kind) (e : MachineEvent) (y : After InviteClientPhase) → All (λ m. e.moment ≤ m) (closes p x) →
     Receives p x k e y → All (λ m. e.moment ≤ m) (closes p y.0)
 received p (Calling w) (Response code) e y running (inl provisional) = rw provisional.1 (All-nil (λ m. e.moment ≤ m))
 received p (Calling w) (Response code) e y running (inr (inl success)) = rw success.1 (timer_starts p e.moment (64 * p.t1))
@@ -86,7 +86,7 @@ received p (Proceeding reliable request cancel) (Response code) e y running (inr
 received p (Completed reliable request set) (Response code) e y running h = rw h.1 running
 received p x k e y running h = absurd h
 
-sent : (p : Times) (x : InviteClientPhase) (k : Kind) (e : Heard) (y : After InviteClientPhase) → All (λ m. e.moment ≤ m) (closes p x) →
+sent : (p : Times) (x : InviteClientPhase) (k : Kind) (e : MachineEvent) (y : After InviteClientPhase) → All (λ m. e.moment ≤ m) (closes p x) →
     Sends p x k e y → All (λ m. e.moment ≤ m) (closes p y.0)
 sent p Idle (Request Invite) e y running h = rw h (repeat_starts p e.moment (close_at p e.moment (64 * p.t1)) p.t1 e.reliable (omega arith))
 sent p Idle (Request Ack) e y running h = rw h running

@@ -9,7 +9,7 @@ use Rattle.sip_machine.specs.contracts.plain_client.PlainClientPhasePartialEq.Th
 use Rattle.sip_machine.specs.Times.{Times}
 use Rattle.sip_machine.specs.Limits.{close_at}
 use Rattle.sip_machine.specs.Texts.{Texts, IsBook, text_of}
-use Rattle.sip_machine.specs.Heard.{Heard}
+use Rattle.sip_machine.specs.MachineEvent.{MachineEvent}
 use Rattle.sip_machine.specs.Rules.{Knows}
 use Rattle.sip_machine.specs.Figure.{IsFigure, After}
 use Rattle.sip_machine.specs.PlainClient.{PlainClientPhase, Idle, Trying, Proceeding, Receives, Sends, closes, timer_window, plain_client, plain_client_seen, plain_client_names, plain_client_coded, plain_client_told}
@@ -58,14 +58,14 @@ plain_client_closes_same a b p code.Idle = refl
 plain_client_closes_same a b p x = refl
 
 -- a row leads to a phase whose timers are not past
-received : (p : Times) (x : PlainClientPhase) (k : Kind) (e : Heard) (y : After PlainClientPhase) → All (λ m. e.moment ≤ m) (closes p x) →
+received : (p : Times) (x : PlainClientPhase) (k : Kind) (e : MachineEvent) (y : After PlainClientPhase) → All (λ m. e.moment ≤ m) (closes p x) →
     Receives p x k e y → All (λ m. e.moment ≤ m) (closes p y.0)
 received p (Trying w) (Response code) e y running h =
     elim h [ inl provisional ↦ rw provisional.1 running | inr final ↦ rw final.1 (timer_starts p e.moment (if w.reliable then 0 else p.t4)) ]
 received p (Proceeding w) (Response code) e y running h = rw h.1 (timer_starts p e.moment (if w.reliable then 0 else p.t4))
 received p x k e y running h = absurd h
 
-sent : (p : Times) (x : PlainClientPhase) (k : Kind) (e : Heard) (y : After PlainClientPhase) → All (λ m. e.moment ≤ m) (closes p x) →
+sent : (p : Times) (x : PlainClientPhase) (k : Kind) (e : MachineEvent) (y : After PlainClientPhase) → All (λ m. e.moment ≤ m) (closes p x) →
     Sends p x k e y → All (λ m. e.moment ≤ m) (closes p y.0)
 sent p Idle (Request method) e y running h = rw h (repeat_starts p e.moment (close_at p e.moment (64 * p.t1)) p.t1 e.reliable (omega arith))
 sent p (Trying w) (Request method) e y running h =

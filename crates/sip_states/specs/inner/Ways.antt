@@ -2,9 +2,9 @@ use Rattle.std.specs.Prelude.{◌≡◌, ◌≢◌, ◌≤◌, ◌+◌, ◌↔�
 use Rattle.std.specs.List.{Any}
 use Rattle.sip_machine.specs.Limits.{IsWithin, IsOpenAt}
 use Rattle.sip_machine.specs.Texts.{Texts}
-use Rattle.sip_machine.specs.Heard.{Heard}
+use Rattle.sip_machine.specs.MachineEvent.{MachineEvent}
 use Rattle.sip_machine.specs.Rules.{Rules, Waits, Knows}
-use Rattle.sip_states.specs.Runs.{Wait, Gives}
+use Rattle.sip_states.specs.Runs.{Wait, RunGives}
 
 -- The ways from one set of states to the next, as the code takes them.
 
@@ -60,9 +60,9 @@ pub record Covers {X S : Type 0} (names : S → List ℕ) (InRange : S → Type 
   pub in_range : All InRange xs
 
 -- what e gives from those of the states xs that can wait until its moment
-abbrev pub GivesFrom : {X S : Type 0} → (Texts → S → X) → Texts → Rules X → List S → Heard → X → Type 0
-GivesFrom seen texts r xs e y = Gives r (λ x. Contains (map (seen texts) xs) x × Waits r x e.moment) e y
+abbrev pub GivesFrom : {X S : Type 0} → (Texts → S → X) → Texts → Rules X → List S → MachineEvent → X → Type 0
+GivesFrom seen texts r xs e y = RunGives r (λ x. Contains (map (seen texts) xs) x × Waits r x e.moment) e y
 
 -- what e gives from where one can stand at its moment, after standing in one of the states xs at h
-abbrev pub GivesAfter : {X S : Type 0} → (Texts → S → X) → Texts → Rules X → List S → ℕ → Heard → X → Type 0
-GivesAfter seen texts r xs h e y = Gives r (Wait r (Contains (map (seen texts) xs)) h e.moment) e y
+abbrev pub GivesAfter : {X S : Type 0} → (Texts → S → X) → Texts → Rules X → List S → ℕ → MachineEvent → X → Type 0
+GivesAfter seen texts r xs h e y = RunGives r (Wait r (Contains (map (seen texts) xs)) h e.moment) e y

@@ -28,5 +28,5 @@ pub record IsAt (j : Judging) (place : Place) : Type 0 where
   pub few : place.count ≤ most_entries
 
 -- the judge stands for the entries that were read of the input
-abbrev pub StandsForRead : Judging → Option (List ℕ) → log.Reading → Type 0
+abbrev pub StandsForRead : Judging → Option (List ℕ) → log.ReaderState → Type 0
 StandsForRead j start now = Judged message_reading j.tables.times (StandsFor j) start now

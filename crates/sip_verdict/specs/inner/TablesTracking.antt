@@ -4,11 +4,11 @@ use Rattle.sip_key.specs.Key.{KeyParts}
 use Rattle.sip_machine.specs.Times.{Times}
 use Rattle.sip_machine.specs.Texts.{Texts, Keeps}
 use Rattle.sip_machine.specs.NumberedEvent.{NumberedEvent}
-use Rattle.sip_machine.specs.Heard.{Heard, heard, FitsBook}
+use Rattle.sip_machine.specs.MachineEvent.{MachineEvent, event_in, FitsBook}
 use Rattle.sip_machine.specs.Rules.{StandFor}
-use Rattle.sip_states.specs.Runs.{After}
+use Rattle.sip_states.specs.Runs.{AfterRun}
 use Rattle.sip_states.specs.Held.{Held}
-use Rattle.sip_states.specs.KeyMachine.{MachineKind, rules_of, machine_of_key, StateOf, set_of}
+use Rattle.sip_states.specs.KeyMachine.{MachineKind, key_rules, machine_of_key, StateOf, set_of}
 use Rattle.sip_states.specs.Meaning.{Meaning}
 use Rattle.sip_states.specs.AnySet.{meaning_of, moment_of, IsKnownSet, IsAgendaOf}
 use Rattle.sip_states.specs.Tables.{Tabled, IsGiven, Touches, with_set, with_record}
@@ -27,17 +27,17 @@ use Rattle.sip_verdict.specs.inner.Concerned.{each}
 -- What is kept of the transactions of a log: the set of each key, by the machine of the key.
 
 -- a set leads, with these times, to where the runs over the events stand
-abbrev pub LeadsBy : {X S : Type 0} → Meaning X Times S → Texts → Times → List Heard → Held Times S → Type 0
+abbrev pub LeadsBy : {X S : Type 0} → Meaning X Times S → Texts → Times → List MachineEvent → Held Times S → Type 0
 LeadsBy m texts p events s = LeadsTo m.names m.seen m.rules texts p s events
 
 -- the set is one of this machine, and leads to them
-abbrev pub LeadsOf : Texts → Times → MachineKind → List Heard → AnySet → Type 0
+abbrev pub LeadsOf : Texts → Times → MachineKind → List MachineEvent → AnySet → Type 0
 LeadsOf texts p machine events set = (s : Held Times (StateOf machine)) × (set ≡ set_of machine s) × LeadsBy (meaning_of machine) texts p events s
 
 -- the set is one of this machine, and its states are just the last states of the runs over the events and one more
-abbrev pub StandsOf : Texts → Times → MachineKind → List Heard → Heard → AnySet → Type 0
+abbrev pub StandsOf : Texts → Times → MachineKind → List MachineEvent → MachineEvent → AnySet → Type 0
 StandsOf texts p machine events e set = (s : Held Times (StateOf machine)) × (set ≡ set_of machine s)
-    × StandFor (meaning_of machine).names (meaning_of machine).in_range (meaning_of machine).seen texts (After (rules_of p machine) events e) s.states
+    × StandFor (meaning_of machine).names (meaning_of machine).in_range (meaning_of machine).seen texts (AfterRun (key_rules p machine) events e) s.states
 
 -- each key has a set of its machine
 abbrev pub key_keeping : Texts → Times → Keeping KeyParts (KeyParts × AnySet)
@@ -67,7 +67,7 @@ is_among numbers number = list_any (nat_eq number) numbers
 -- what is observed of an entry of this moment, as far as the key with this number goes: it hears the event, or waits
 pub record IsTold (texts : Texts) (moment : ℕ) (hearing : Option Hearing) (number : ℕ) (key : KeyParts) (e : Observation KeyParts) : Type 0 where
   pub at : e.event.moment ≡ moment
-  pub event : IfSome hearing (λ h. e.event ≡ heard texts h.event)
+  pub event : IfSome hearing (λ h. e.event ≡ event_in texts h.event)
   pub concerned : (p : Times) → concerns (key_machines p) key e ≡ is_among (hearers hearing) number
 
 -- the entry tells this to each of the keys
@@ -94,7 +94,7 @@ pub record MayPass (texts : Texts) (t : Tabled) (moment : ℕ) : Type 0 where
   pub known : All (IsKnownSet texts) t.sets
   pub long : length t.sets ≡ length t.keys
 
--- an event of this moment may be heard: the book keeps its message, and its numbers were given and differ
+-- an event of this moment may be event_in: the book keeps its message, and its numbers were given and differ
 pub record MayHear (texts : Texts) (t : Tabled) (moment : ℕ) (h : Hearing) : Type 0 where
   pub fits : FitsBook texts h.event
   pub at : h.event.moment ≡ moment
@@ -127,20 +127,20 @@ Leaves number set Runs old new = (limit : Option ℕ) × IsAgendaOf limit set ×
 Leaves number set NoRun old new = new ≡ with_set old number set
 Leaves number set TooWide old new = new ≡ with_set old number set
 
--- the set with this number has heard the event, which leaves this of its runs
+-- the set with this number has event_in the event, which leaves this of its runs
 pub record Hears (texts : Texts) (e : NumberedEvent) (number : ℕ) (old new : Tabled) (fate : Fate) : Type 0 where
   pub before : AnySet
   pub after : AnySet
   pub was : slice_get old.sets (number - 1) ≡ Some before
   pub leaves : Leaves number after fate old new
-  pub stepped : (p : Times) (machine : MachineKind) (events : List Heard) → LeadsOf texts p machine events before
-      → IsStepped (rules_of p machine) events (heard texts e) (λ es. LeadsOf texts p machine es after) (λ f. StandsOf texts p machine events f after) fate
+  pub stepped : (p : Times) (machine : MachineKind) (events : List MachineEvent) → LeadsOf texts p machine events before
+      → IsStepped (key_rules p machine) events (event_in texts e) (λ es. LeadsOf texts p machine es after) (λ f. StandsOf texts p machine events f after) fate
 
 -- the same, with the outcome
 abbrev pub HearsOne : Texts → NumberedEvent → ℕ → Tabled → Tabled → Outcome → Type 0
 HearsOne texts e number old new outcome = (fate : Fate) × Hears texts e number old new fate × (outcome ≡ outcome_of number fate)
 
--- those with these numbers have heard it one after another; the outcome before it, and with theirs
+-- those with these numbers have event_in it one after another; the outcome before it, and with theirs
 abbrev pub HearsEach : Texts → NumberedEvent → List ℕ → Tabled → Outcome → Tabled → Outcome → Type 0
 HearsEach texts e [] old before new after = (new ≡ old) × (after ≡ before)
 HearsEach texts e (n ∷ ns) old before new after =

@@ -1,5 +1,5 @@
 use Rattle.std.specs.Prelude.{◌≡◌, ◌⊎◌, ◌++◌, [], ◌∷◌, ℕ, true, Option, Some, None, List, All, Contains, map, min}
-use Rattle.sip_machine.specs.Heard.{Heard}
+use Rattle.sip_machine.specs.MachineEvent.{MachineEvent}
 use Rattle.sip_verdict.specs.declared.verdict.Verdict.{Verdict}
 use Rattle.sip_verdict.specs.declared.passing.Fate.{Fate}
 use Rattle.sip_verdict.specs.declared.passing.Fate.TheVariants.{Runs, NoRun, TooWide}
@@ -13,8 +13,8 @@ use Rattle.sip_verdict.specs.Verdicts.{IsFirst, IsTooWide, IsGood, IsTrouble}
 -- the key of what is kept, whether it leads to where the runs of its key over the events stand, and whether it is just where those stand that end with one more
 pub record Keeping (K T : Type 0) : Type 1 where
   pub key : T → K
-  pub Leads : T → List Heard → Type 0
-  pub Stands : T → List Heard → Heard → Type 0
+  pub Leads : T → List MachineEvent → Type 0
+  pub Stands : T → List MachineEvent → MachineEvent → Type 0
 
 -- it leads to the runs of its key over the entries
 abbrev pub IsReady : {K T : Type 0} → Machines K → Keeping K T → List (Observation K) → T → Type 0

@@ -19,7 +19,7 @@ use Rattle.sip_verdict.specs.declared.listing.Listing.{Listing}
 use Rattle.sip_verdict.specs.declared.listing.Listing.TheVariants.{Stopped, NoEntry}
 use Rattle.sip_verdict.specs.LogReason.{reason_of}
 use Rattle.sip_verdict.specs.Keyed.{Observation}
-use Rattle.sip_verdict.specs.Reading.{Reading, AreObserved}
+use Rattle.sip_verdict.specs.Reading.{EntryReading, AreObserved}
 use Rattle.sip_verdict.specs.VerdictOf.{IsVerdictOf}
 use Rattle.sip_verdict.specs.MessageReading.{message_reading}
 use Rattle.sip_verdict.specs.inner.Numbering.{AreNumbered}
@@ -28,16 +28,16 @@ use Rattle.sip_verdict.specs.inner.TablesTracking.{TablesTrack, MayTake}
 -- What is read.
 
 -- these times and entries were read of an input, and it may be read on
-pub record HasRead (start : Option (List ℕ)) (times : Times) (items : List Item) (now : log.Reading) : Type 0 where
+pub record HasRead (start : Option (List ℕ)) (times : Times) (items : List Item) (now : log.ReaderState) : Type 0 where
   pub on : now.stage ≡ entries
   pub times_are : now.times ≡ Some times
   pub stands : Stands start items now
 
 -- what comes behind them: one more, the end of the log, or the fault that ends it
-abbrev pub Gives : Option (List ℕ) → Times → List Item → log.Reading → Next → Type 0
-Gives start times items new (Entry e) = HasRead start times (items ++ item e ∷ []) new
-Gives start times items new End = IfSome start (λ input. IsLog input times items Clean)
-Gives start times items new (Fault reason) = (fault : LogFault) × (reason ≡ reason_of fault) × IfSome start (λ input. IsLog input times items (Stops fault))
+abbrev pub WalkGives : Option (List ℕ) → Times → List Item → log.ReaderState → Next → Type 0
+WalkGives start times items new (Entry e) = HasRead start times (items ++ item e ∷ []) new
+WalkGives start times items new End = IfSome start (λ input. IsLog input times items Clean)
+WalkGives start times items new (Fault reason) = (fault : LogFault) × (reason ≡ reason_of fault) × IfSome start (λ input. IsLog input times items (Stops fault))
 
 -- one more has the next number and keeps order and limits
 abbrev pub MovesOn : Place → Place → Next → Type 0
@@ -48,7 +48,7 @@ MovesOn old new (Fault reason) = Unit {0}
 -- What was judged of it.
 
 -- these entries were read of the input and this is observed of them; what was judged follows them
-pub record Judged {K : Type 0} (r : Reading K) (times : Times) (Follows : List (Observation K) → Type 0) (start : Option (List ℕ)) (now : log.Reading) : Type 0 where
+pub record Judged {K : Type 0} (r : EntryReading K) (times : Times) (Follows : List (Observation K) → Type 0) (start : Option (List ℕ)) (now : log.ReaderState) : Type 0 where
   pub items : List Item
   pub es : List (Observation K)
   pub observed : AreObserved r [] items es
@@ -57,7 +57,7 @@ pub record Judged {K : Type 0} (r : Reading K) (times : Times) (Follows : List (
   pub read : HasRead start times items now
 
 -- book and tables follow the entries that were read of the input, and the book numbers their messages
-pub record Walks (start : Option (List ℕ)) (now : log.Reading) (texts : Texts) (t : Tabled) : Type 0 where
+pub record Walks (start : Option (List ℕ)) (now : log.ReaderState) (texts : Texts) (t : Tabled) : Type 0 where
   pub judged : Judged message_reading t.times (λ (es : List (Observation KeyParts)). TablesTrack texts es t) start now
   pub numbered : AreNumbered judged.items texts
 
@@ -77,7 +77,7 @@ IsBehind count (Undecided entry transaction) = entry ≡ count + 1
 IsBehind count (FaultOfLog entry reason) = entry ≡ count + 1
 
 -- a step behind so many entries: one more was judged and is in no trouble, or this is the verdict
-abbrev pub WalksOn : Option (List ℕ) → ℕ → log.Reading → Texts → Tabled → Option Verdict → Type 0
+abbrev pub WalksOn : Option (List ℕ) → ℕ → log.ReaderState → Texts → Tabled → Option Verdict → Type 0
 WalksOn start count now texts t None = Walks start now texts t
 WalksOn start count now texts t (Some v) = IfSome start (λ input. IsVerdictOf input v) × IsBehind count v
 

@@ -1,5 +1,5 @@
 use Rattle.std.proofs.Common.{◌<◌, ◌≤◌, length, Ok, Err, None, arith}
-use Rattle.sip_log.specs.inner.Entry.{AtLine, ComesNext}
+use Rattle.sip_log.specs.inner.Entry.{LineComes, EntryComes}
 use Rattle.sip_log.specs.Log.{most_entries}
 use Rattle.sip_log.specs.Told.{entry_next}
 use Rattle.sip_log.specs.inner.Window.{items}
@@ -13,7 +13,7 @@ returns-in-Ok-clause-says g c =
     let held = items c.hold.new.self in
     let some : 1 ≤ length held = omega (arith, hold.some c.if-not-branch.false) in
     let few : c.args.count < most_entries = omega arith in
-    Says-step hold.reads (ComesNext c.args.count c.args.last) held _ _ (AtLine c.args.last) entry_next (Ok c.in-Ok.entry)
+    Says-step hold.reads (EntryComes c.args.count c.args.last) held _ _ (LineComes c.args.last) entry_next (Ok c.in-Ok.entry)
     (λ ys next left at. ComesNext-entry c.args.count c.args.last held ys next some few at)
     c.in-Ok.ensures.says
 
@@ -23,6 +23,6 @@ returns-in-Err-clause-says g c =
     let held = items c.hold.new.self in
     let some : 1 ≤ length held = omega (arith, hold.some c.if-not-branch.false) in
     let few : c.args.count < most_entries = omega arith in
-    Says-step hold.reads (ComesNext c.args.count c.args.last) held None _ (AtLine c.args.last) entry_next (Err c.in-Err.error)
+    Says-step hold.reads (EntryComes c.args.count c.args.last) held None _ (LineComes c.args.last) entry_next (Err c.in-Err.error)
     (λ ys next left at. ComesNext-entry c.args.count c.args.last held ys next some few at)
     c.in-Err.ensures.says

@@ -1,7 +1,7 @@
 use Rattle.std.proofs.Common.{◌<◌, ◌+◌, List, ℕ, length, take, drop, get_or, arith, ap, sym, ◌∙◌}
 use Rattle.sip_log.specs.LogFault as faults
 use Rattle.sip_log.specs.Next.{gives}
-use Rattle.sip_log.specs.inner.Entry.{AtMessage}
+use Rattle.sip_log.specs.inner.Entry.{MessageComes}
 use Rattle.sip_log.specs.inner.Window.{items}
 use Rattle.sip_log.proofs.SaysLemmas.{Says-value, Says-fault}
 use Rattle.sip_log.proofs.MessageLemmas.{AtMessage-open, AtMessage-gives}
@@ -14,7 +14,7 @@ returns-then-held-len-ne10-clause-says g c =
     let held = items c.hold.new.self in
     let inside : len < length held = omega (arith, hold.some) in
     let byte = ap (λ (t : List ℕ). get_or t len 0) c.as_slice-held.ensures.value in
-    Says-fault hold.reads (AtMessage c.args.action c.args.moment len) faults.EntryLine
+    Says-fault hold.reads (MessageComes c.args.action c.args.moment len) faults.EntryLine
     (λ ys left. AtMessage-open c.args.action c.args.moment len held ys inside (λ same. c.if-held-len-ne10.true (byte ∙ same)))
 
 pub returns-clause-says : goal.returns-clause-says
@@ -26,6 +26,6 @@ returns-clause-says g c =
     let byte = ap (λ (t : List ℕ). get_or t len 0) c.as_slice-held.ensures.value in
     let text = c.in_ok-bytes.ensures.items_if_clones_equal (λ x y same. same) ∙ ap (take len) c.as_slice-held.ensures.value in
     rw c.consume.ensures
-    (Says-value hold.reads (AtMessage c.args.action c.args.moment len) (drop (len + 1) held)
+    (Says-value hold.reads (MessageComes c.args.action c.args.moment len) (drop (len + 1) held)
     (λ behind. gives (record { action = c.args.action; moment = c.args.moment; text = c.in_ok-bytes.bytes.items }) behind)
     (λ ys left. AtMessage-gives c.args.action c.args.moment len held ys _ inside (sym byte ∙ c.if-held-len-ne10.false) text))

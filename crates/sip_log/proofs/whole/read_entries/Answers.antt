@@ -3,7 +3,7 @@ use Rattle.std.proofs.lemmas.List.{map-append}
 use Rattle.sip_log.specs.Spelling.{Item}
 use Rattle.sip_log.specs.Log.{IsFaultOf}
 use Rattle.sip_log.specs.Told.{FailsAs, item}
-use Rattle.sip_log.specs.Reading.{Reading, reading}
+use Rattle.sip_log.specs.Reading.{ReaderState, beside_source}
 use Rattle.sip_log.proofs.CallerLemmas.{Stands, Stands-gives, Stands-fault, Nexts-counted, Nexts-fine}
 use Rattle.sip_log.proofs.whole.read_entries.Goals as goal
 
@@ -11,8 +11,8 @@ pub loop-entry-preserved : goal.loop-entry-preserved
 loop-entry-preserved g c =
     let l = c.loop-entry in
     let start = g.R.Source.left c.args.source.now in
-    let old : Reading = reading l.progress (g.R.Source.left l.source) (g.R.Source.has_failed l.source) in
-    let new : Reading = reading c.next.new.self (g.R.Source.left c.next.new.source) (g.R.Source.has_failed c.next.new.source) in
+    let old : ReaderState = beside_source l.progress (g.R.Source.left l.source) (g.R.Source.has_failed l.source) in
+    let new : ReaderState = beside_source c.next.new.self (g.R.Source.left c.next.new.source) (g.R.Source.has_failed c.next.new.source) in
     let entry = c.in-Ok-Some.entry in
     let items : List Item = map item l.entries.items in
     let nexts = rw c.in-Ok-Some.field-0-is at c.in-Ok-Some.ensures in
@@ -30,7 +30,7 @@ pub returns-in-Err-clause-err : goal.returns-in-Err-clause-err
 returns-in-Err-clause-err g c =
     let l = c.loop-entry in
     let start = g.R.Source.left c.args.source.now in
-    let old : Reading = reading l.progress (g.R.Source.left l.source) (g.R.Source.has_failed l.source) in
-    let new : Reading = reading c.next.new.self (g.R.Source.left c.next.new.source) (g.R.Source.has_failed c.next.new.source) in
+    let old : ReaderState = beside_source l.progress (g.R.Source.left l.source) (g.R.Source.has_failed l.source) in
+    let new : ReaderState = beside_source c.next.new.self (g.R.Source.left c.next.new.source) (g.R.Source.has_failed c.next.new.source) in
     let told = Stands-fault start (map item l.entries.items) old new c.in-Err.error l.invariant.on l.invariant.stands c.in-Err.ensures in
     subst (λ before. FailsAs before new.has_failed (λ fault. IfSome start (λ input. IsFaultOf input fault)) c.in-Err.error) l.invariant.fine told

@@ -1,14 +1,14 @@
 use Rattle.std.proofs.Common.{◌≡◌, ◌-◌, ◌≤◌, map}
 use Rattle.sip_log.specs.Log.{most_entries}
 use Rattle.sip_log.specs.Told.{item}
-use Rattle.sip_log.specs.Reading.{reading}
+use Rattle.sip_log.specs.Reading.{beside_source}
 use Rattle.sip_log.proofs.CallerLemmas.{Stands, GoesOn}
 use Rattle.sip_log.proofs.whole.read_entries.Given as goal
 
 abbrev pub invariant-loop-entry : goal.invariant-loop-entry
 invariant-loop-entry g l = record {
-  on : GoesOn (reading l.progress (g.R.Source.left l.source) (g.R.Source.has_failed l.source));
-  stands : Stands (g.R.Source.left l.fn.source) (map item l.entries.items) (reading l.progress (g.R.Source.left l.source) (g.R.Source.has_failed l.source));
+  on : GoesOn (beside_source l.progress (g.R.Source.left l.source) (g.R.Source.has_failed l.source));
+  stands : Stands (g.R.Source.left l.fn.source) (map item l.entries.items) (beside_source l.progress (g.R.Source.left l.source) (g.R.Source.has_failed l.source));
   fine : g.R.Source.has_failed l.source ≡ g.R.Source.has_failed l.fn.source;
   few : l.progress.count ≤ most_entries;
 }

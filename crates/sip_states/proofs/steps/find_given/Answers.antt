@@ -1,7 +1,7 @@
 use Rattle.std.proofs.Common.{◌<◌, ◌≤◌, ◌∙◌, length, take, sym, arith, take_all}
 use Rattle.std.proofs.lemmas.List.{take_more}
 use Rattle.std.proofs.lemmas.List.Elements.{All-contains}
-use Rattle.sip_machine.specs.Heard.{heard}
+use Rattle.sip_machine.specs.MachineEvent.{event_in}
 use Rattle.sip_machine.specs.Rules.{Knows}
 use Rattle.sip_states.proofs.Advancing.{within_told}
 use Rattle.sip_states.proofs.Following.{Follows}
@@ -19,7 +19,7 @@ loop-state-preserved g c =
     let texts = c.args.book.now in
     let m = c.args.machine.now in
     let r = g.M.Machine.rules m in
-    let e = heard texts c.args.event.now in
+    let e = event_in texts c.args.event.now in
     let xs = c.args.states.now in
     let i = c.loop-state.state-index in
     let state = c.state-item.result in
@@ -46,7 +46,7 @@ returns-in_ok-successors-2 g c =
     let follows : Follows g.M.Machine.names g.M.Machine.seen (g.M.Machine.rules m) (g.M.Machine.ended m) (g.M.Machine.end_window m) (g.M.Machine.until m) =
     record { lawful = g.met.M.Machine.lawful m; ended_is = g.met.M.Machine.ended_stands m; ended_names = (g.met.M.Machine.ended_fits m).0; window_is = g.met.M.Machine.window_stands m; until_is = g.met.M.Machine.until_stands m; apart = g.met.M.Machine.apart } in
     gives_ended g.M.Machine.names g.M.Machine.in_range g.M.Machine.seen (g.M.Machine.rules m) (g.M.Machine.ended m) (g.M.Machine.end_window m) (g.M.Machine.until m) follows c.args.book.now c.args.states.now c.args.from
-    (heard c.args.book.now c.args.event.now) c.requires.order (ends.0 c.if-some_can_end.true) c.loop-state.found.items added.0 c.successors-then-some_can_end.new.out.items all (rw c.ended.ensures at added.2) added.1
+    (event_in c.args.book.now c.args.event.now) c.requires.order (ends.0 c.if-some_can_end.true) c.loop-state.found.items added.0 c.successors-then-some_can_end.new.out.items all (rw c.ended.ensures at added.2) added.1
 
 pub returns-else-some_can_end : goal.returns-else-some_can_end
 returns-else-some_can_end g c =
@@ -57,4 +57,4 @@ returns-else-some_can_end g c =
     let follows : Follows g.M.Machine.names g.M.Machine.seen (g.M.Machine.rules m) (g.M.Machine.ended m) (g.M.Machine.end_window m) (g.M.Machine.until m) =
     record { lawful = g.met.M.Machine.lawful m; ended_is = g.met.M.Machine.ended_stands m; ended_names = (g.met.M.Machine.ended_fits m).0; window_is = g.met.M.Machine.window_stands m; until_is = g.met.M.Machine.until_stands m; apart = g.met.M.Machine.apart } in
     gives_stayed g.M.Machine.names g.M.Machine.in_range g.M.Machine.seen (g.M.Machine.rules m) (g.M.Machine.ended m) (g.M.Machine.end_window m) (g.M.Machine.until m) follows c.args.book.now c.args.states.now c.args.from
-    (heard c.args.book.now c.args.event.now) c.requires.order (λ some. let k = ends.1 some in let none = c.if-some_can_end.false in absurd (cc)) c.loop-state.found.items all
+    (event_in c.args.book.now c.args.event.now) c.requires.order (λ some. let k = ends.1 some in let none = c.if-some_can_end.false in absurd (cc)) c.loop-state.found.items all

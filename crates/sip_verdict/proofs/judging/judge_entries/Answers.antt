@@ -1,6 +1,6 @@
 use Rattle.std.proofs.Common.{◌∙◌, IfSome, refl, sym, subst, arith}
 use Rattle.sip_log.specs.Reading as log
-use Rattle.sip_log.specs.Reading.{reading}
+use Rattle.sip_log.specs.Reading.{beside_source}
 use Rattle.sip_verdict.specs.VerdictOf.{IsVerdictOf}
 use Rattle.sip_verdict.proofs.JudgeLemmas.{read_on, read_ends, read_stops, read_trouble}
 use Rattle.sip_verdict.proofs.StandingLemmas.{same_some}
@@ -12,8 +12,8 @@ loop-judge-init g c = record { fine = refl; at = c.requires.at; counts = sym c.r
 pub returns-in-Some-clause-verdict : goal.returns-in-Some-clause-verdict
 returns-in-Some-clause-verdict g c start stands =
     let l = c.loop-judge in
-    let old : log.Reading = reading l.progress (g.R.Source.left l.reader) (g.R.Source.has_failed l.reader) in
-    let new : log.Reading = reading c.read_next.new.progress (g.R.Source.left c.read_next.new.reader) (g.R.Source.has_failed c.read_next.new.reader) in
+    let old : log.ReaderState = beside_source l.progress (g.R.Source.left l.reader) (g.R.Source.has_failed l.reader) in
+    let new : log.ReaderState = beside_source c.read_next.new.progress (g.R.Source.left c.read_next.new.reader) (g.R.Source.has_failed c.read_next.new.reader) in
     let read = l.invariant.stands start stands in
     let judged = c.in_ok-verdict-in-Entry.ensures in
     let more = (rw c.in-Entry.is at c.in_ok-entry.ensures.gives) start l.judge.tables.times read.items read.read in
@@ -22,8 +22,8 @@ returns-in-Some-clause-verdict g c start stands =
 pub loop-judge-preserved : goal.loop-judge-preserved
 loop-judge-preserved g c =
     let l = c.loop-judge in
-    let old : log.Reading = reading l.progress (g.R.Source.left l.reader) (g.R.Source.has_failed l.reader) in
-    let new : log.Reading = reading c.read_next.new.progress (g.R.Source.left c.read_next.new.reader) (g.R.Source.has_failed c.read_next.new.reader) in
+    let old : log.ReaderState = beside_source l.progress (g.R.Source.left l.reader) (g.R.Source.has_failed l.reader) in
+    let new : log.ReaderState = beside_source c.read_next.new.progress (g.R.Source.left c.read_next.new.reader) (g.R.Source.has_failed c.read_next.new.reader) in
     let moves = rw c.in-Entry.is at c.in_ok-entry.ensures.moves in
     let judged = c.in_ok-verdict-in-Entry.ensures in
     let newest = rw c.in_default.is at judged.newest in
@@ -46,7 +46,7 @@ loop-judge-preserved g c =
 pub returns-in-End-clause-verdict : goal.returns-in-End-clause-verdict
 returns-in-End-clause-verdict g c start stands =
     let l = c.loop-judge in
-    let old : log.Reading = reading l.progress (g.R.Source.left l.reader) (g.R.Source.has_failed l.reader) in
+    let old : log.ReaderState = beside_source l.progress (g.R.Source.left l.reader) (g.R.Source.has_failed l.reader) in
     let read = l.invariant.stands start stands in
     let logs = (rw c.in-End.is at c.in_ok-entry.ensures.gives) start l.judge.tables.times read.items read.read in
     let is = sym c.unwrap.ensures ∙ c.end.ensures.legal read.es read.follows in
@@ -55,6 +55,6 @@ returns-in-End-clause-verdict g c start stands =
 pub returns-in-Fault-clause-verdict : goal.returns-in-Fault-clause-verdict
 returns-in-Fault-clause-verdict g c start stands =
     let l = c.loop-judge in
-    let old : log.Reading = reading l.progress (g.R.Source.left l.reader) (g.R.Source.has_failed l.reader) in
+    let old : log.ReaderState = beside_source l.progress (g.R.Source.left l.reader) (g.R.Source.has_failed l.reader) in
     let read = l.invariant.stands start stands in
     read_stops start old l.judge read l.count c.in-Fault.reason l.invariant.counts ((rw c.in-Fault.is at c.in_ok-entry.ensures.gives) start l.judge.tables.times read.items read.read)

@@ -1,6 +1,6 @@
 use Rattle.std.proofs.Common.{◌≡◌, ◌-◌, Option, List, ℕ}
 use Rattle.sip_log.specs.Log.{most_entries}
-use Rattle.sip_log.specs.Reading.{reading}
+use Rattle.sip_log.specs.Reading.{beside_source}
 use Rattle.sip_verdict.specs.inner.Sweeping.{IsAt, StandsForRead}
 use Rattle.sip_verdict.proofs.judging.judge_entries.Given as goal
 
@@ -10,8 +10,8 @@ invariant-loop-judge g l =
       fine : g.R.Source.has_failed l.reader ≡ g.R.Source.has_failed l.fn.reader;
       at : IsAt l.judge l.progress;
       counts : l.count ≡ l.judge.number;
-      stands : (start : Option (List ℕ)) → StandsForRead l.fn.judge start (reading l.fn.progress (g.R.Source.left l.fn.reader) (g.R.Source.has_failed l.fn.reader))
-          → StandsForRead l.judge start (reading l.progress (g.R.Source.left l.reader) (g.R.Source.has_failed l.reader));
+      stands : (start : Option (List ℕ)) → StandsForRead l.fn.judge start (beside_source l.fn.progress (g.R.Source.left l.fn.reader) (g.R.Source.has_failed l.fn.reader))
+          → StandsForRead l.judge start (beside_source l.progress (g.R.Source.left l.reader) (g.R.Source.has_failed l.reader));
     }
 
 abbrev pub decreases-loop-judge : goal.decreases-loop-judge

@@ -2,7 +2,7 @@ use Rattle.std.proofs.Common.{◌+◌, ◌∙◌, ◌++◌, ◌∷◌, [], Some,
 use Rattle.std.specs.Io.KnownBytes.{Appends}
 use Rattle.sip_log.specs.Spelling.{line_feed}
 use Rattle.sip_log.specs.Reading as log
-use Rattle.sip_log.specs.Reading.{reading}
+use Rattle.sip_log.specs.Reading.{beside_source}
 use Rattle.sip_log.proofs.CallerLemmas.{Opens-stands, Nexts-counted, Nexts-fine}
 use Rattle.sip_verdict.specs.declared.shown.Shown.TheVariants.{End, Malformed, LogFault}
 use Rattle.sip_verdict.specs.Showing.{last_text}
@@ -23,15 +23,15 @@ loop-entry-init g c =
       few = omega (arith, opened.count);
       read = opened.fine;
       written = refl;
-      showed = showed_start start (reading progress left after) c.in-Ok.field-0-0 (g.W.Sink.written c.args.writer.now) opened.on opened.times opened.stands;
+      showed = showed_start start (beside_source progress left after) c.in-Ok.field-0-0 (g.W.Sink.written c.args.writer.now) opened.on opened.times opened.stands;
     }
 
 pub returns-in-Ok-None-clause-shown : goal.returns-in-Ok-None-clause-shown
 returns-in-Ok-None-clause-shown g c =
     let l = c.loop-entry in
     let start = g.R.Source.left c.args.reader.now in
-    let old : log.Reading = reading l.progress (g.R.Source.left l.reader) (g.R.Source.has_failed l.reader) in
-    let new : log.Reading = reading c.next.new.self (g.R.Source.left c.next.new.source) (g.R.Source.has_failed c.next.new.source) in
+    let old : log.ReaderState = beside_source l.progress (g.R.Source.left l.reader) (g.R.Source.has_failed l.reader) in
+    let new : log.ReaderState = beside_source c.next.new.self (g.R.Source.left c.next.new.source) (g.R.Source.has_failed c.next.new.source) in
     let first = g.W.Sink.written c.args.writer.now in
     let before = g.W.Sink.written l.writer in
     let after = g.W.Sink.written c.finish-in-Ok-None.new.writer in
@@ -44,8 +44,8 @@ pub returns-in-Err-next-clause-shown : goal.returns-in-Err-next-clause-shown
 returns-in-Err-next-clause-shown g c =
     let l = c.loop-entry in
     let start = g.R.Source.left c.args.reader.now in
-    let old : log.Reading = reading l.progress (g.R.Source.left l.reader) (g.R.Source.has_failed l.reader) in
-    let new : log.Reading = reading c.next.new.self (g.R.Source.left c.next.new.source) (g.R.Source.has_failed c.next.new.source) in
+    let old : log.ReaderState = beside_source l.progress (g.R.Source.left l.reader) (g.R.Source.has_failed l.reader) in
+    let new : log.ReaderState = beside_source c.next.new.self (g.R.Source.left c.next.new.source) (g.R.Source.has_failed c.next.new.source) in
     let first = g.W.Sink.written c.args.writer.now in
     let before = g.W.Sink.written l.writer in
     let after = g.W.Sink.written c.finish-in-Err-next.new.writer in
@@ -61,8 +61,8 @@ pub returns-in-Some-clause-shown : goal.returns-in-Some-clause-shown
 returns-in-Some-clause-shown g c =
     let l = c.loop-entry in
     let start = g.R.Source.left c.args.reader.now in
-    let old : log.Reading = reading l.progress (g.R.Source.left l.reader) (g.R.Source.has_failed l.reader) in
-    let new : log.Reading = reading c.next.new.self (g.R.Source.left c.next.new.source) (g.R.Source.has_failed c.next.new.source) in
+    let old : log.ReaderState = beside_source l.progress (g.R.Source.left l.reader) (g.R.Source.has_failed l.reader) in
+    let new : log.ReaderState = beside_source c.next.new.self (g.R.Source.left c.next.new.source) (g.R.Source.has_failed c.next.new.source) in
     let first = g.W.Sink.written c.args.writer.now in
     let before = g.W.Sink.written l.writer in
     let after = g.W.Sink.written c.finish-in-Some.new.writer in
@@ -79,8 +79,8 @@ pub loop-entry-preserved : goal.loop-entry-preserved
 loop-entry-preserved g c =
     let l = c.loop-entry in
     let start = g.R.Source.left c.args.reader.now in
-    let old : log.Reading = reading l.progress (g.R.Source.left l.reader) (g.R.Source.has_failed l.reader) in
-    let new : log.Reading = reading c.next.new.self (g.R.Source.left c.next.new.source) (g.R.Source.has_failed c.next.new.source) in
+    let old : log.ReaderState = beside_source l.progress (g.R.Source.left l.reader) (g.R.Source.has_failed l.reader) in
+    let new : log.ReaderState = beside_source c.next.new.self (g.R.Source.left c.next.new.source) (g.R.Source.has_failed c.next.new.source) in
     let e = c.in-Ok-Some.entry in
     let nexts = rw c.in-Ok-Some.field-0-is at c.in-Ok-Some.ensures in
     let shows = rw c.in_default.is at c.in_ok-fault.ensures in

@@ -1,6 +1,6 @@
 use Rattle.std.proofs.Common.{◌≡◌, ◌-◌, ◌≤◌}
 use Rattle.sip_log.specs.Log.{most_entries}
-use Rattle.sip_log.specs.Reading.{reading}
+use Rattle.sip_log.specs.Reading.{beside_source}
 use Rattle.sip_verdict.proofs.ShowingLemmas.{Showed}
 use Rattle.sip_verdict.proofs.showing.show.Given as goal
 
@@ -11,7 +11,7 @@ invariant-loop-entry g l =
       few : l.progress.count ≤ most_entries;
       read : g.R.Source.has_failed l.reader ≡ g.R.Source.has_failed l.fn.reader;
       written : g.W.Sink.has_failed l.writer ≡ g.W.Sink.has_failed l.fn.writer;
-      showed : Showed (g.R.Source.left l.fn.reader) (reading l.progress (g.R.Source.left l.reader) (g.R.Source.has_failed l.reader)) (g.W.Sink.written l.fn.writer) (g.W.Sink.written l.writer);
+      showed : Showed (g.R.Source.left l.fn.reader) (beside_source l.progress (g.R.Source.left l.reader) (g.R.Source.has_failed l.reader)) (g.W.Sink.written l.fn.writer) (g.W.Sink.written l.writer);
     }
 
 abbrev pub decreases-loop-entry : goal.decreases-loop-entry

@@ -1,6 +1,6 @@
 use Rattle.std.proofs.Common.{◌≡◌, Err, subst, sym, ap, ◌∙◌, refl}
 use Rattle.sip_log.specs.declared.progress.Stage.TheVariants as code
-use Rattle.sip_log.specs.Reading.{Place, reading, Nexts}
+use Rattle.sip_log.specs.Reading.{Place, beside_source, Nexts}
 use Rattle.sip_log.specs.inner.Place.{stage_of, held_at, FitsStage}
 use Rattle.sip_log.proofs.ReadingLemmas.{entries-step, fresh-step, fault-step}
 use Rattle.sip_log.proofs.progress.Progress.next.Goals as goal
@@ -15,7 +15,7 @@ returns-in-Ok g c =
     let stage : inside.stage ≡ code.Fresh = sym c.replace.ensures.value ∙ c.in-Fresh.is in
     let fits = subst (λ s. FitsStage s inside.params inside.count inside.last) stage c.self.invariant.1 in
     let old : Place = record { stage = stage_of inside.stage; held = held_at inside.stage; times = inside.params; count = inside.count; last = inside.last } in
-    subst (λ (p : Place). Nexts (reading p left failed) (reading c.entry.new.self left2 failed2) c.entry.result) c.self.view_is
+    subst (λ (p : Place). Nexts (beside_source p left failed) (beside_source c.entry.new.self left2 failed2) c.entry.result) c.self.view_is
     (fresh-step old c.entry.new.self left left2 failed failed2 c.in_ok-window-in-Fresh.window (ap held_at stage ∙ sym c.in_ok-window-in-Fresh.ensures) _ _ c.in-Ok.params c.entry.result
     (ap stage_of stage) fits.0 fits.1 fits.2 c.entry.ensures.moves c.entry.ensures.times c.in-Ok.ensures c.entry.ensures.says)
 
@@ -30,7 +30,7 @@ returns-in-Err g c =
     let fits = subst (λ s. FitsStage s inside.params inside.count inside.last) stage c.self.invariant.1 in
     let old : Place = record { stage = stage_of inside.stage; held = held_at inside.stage; times = inside.params; count = inside.count; last = inside.last } in
     let new : Place = record { stage = stage_of c.replace.new.dest; held = held_at c.replace.new.dest; times = inside.params; count = inside.count; last = inside.last } in
-    subst (λ (p : Place). Nexts (reading p left failed) (reading new left2 failed2) (Err c.in-Err.error)) c.self.view_is
+    subst (λ (p : Place). Nexts (beside_source p left failed) (beside_source new left2 failed2) (Err c.in-Err.error)) c.self.view_is
     (fault-step old new left left2 failed failed2 c.in_ok-window-in-Fresh.window (ap held_at stage ∙ sym c.in_ok-window-in-Fresh.ensures) c.in-Err.error
     (ap stage_of stage) fits.0 (ap stage_of c.replace.ensures.after) refl refl fits.0 c.in-Err.ensures)
 
@@ -45,6 +45,6 @@ returns-in-Entries g c =
     let stage : inside.stage ≡ code.Entries window = sym c.replace.ensures.value ∙ c.in-Entries.is in
     let fits = subst (λ s. FitsStage s inside.params inside.count inside.last) stage c.self.invariant.1 in
     let old : Place = record { stage = stage_of inside.stage; held = held_at inside.stage; times = inside.params; count = inside.count; last = inside.last } in
-    subst (λ (p : Place). Nexts (reading p left failed) (reading c.entry-in-Entries.new.self left2 failed2) c.entry-in-Entries.result) c.self.view_is
+    subst (λ (p : Place). Nexts (beside_source p left failed) (beside_source c.entry-in-Entries.new.self left2 failed2) c.entry-in-Entries.result) c.self.view_is
     (entries-step old c.entry-in-Entries.new.self left left2 failed failed2 window (ap held_at stage) c.entry-in-Entries.result
     (ap stage_of stage) fits c.entry-in-Entries.ensures.moves c.entry-in-Entries.ensures.times c.entry-in-Entries.ensures.says)

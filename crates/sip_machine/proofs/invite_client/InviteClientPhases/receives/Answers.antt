@@ -7,7 +7,7 @@ use Rattle.sip_machine.specs.declared.phases.Change.TheVariants.{Gains}
 use Rattle.sip_machine.specs.Times.{Times, last_moment}
 use Rattle.sip_machine.specs.Texts.{Texts, Keeps, text_of}
 use Rattle.sip_machine.specs.NumberedEvent.{NumberedEvent}
-use Rattle.sip_machine.specs.Heard.{heard}
+use Rattle.sip_machine.specs.MachineEvent.{event_in}
 use Rattle.sip_machine.specs.Waiting.{waiting_seen}
 use Rattle.sip_machine.specs.Figure.{After, gains}
 use Rattle.sip_machine.specs.Owing.{turn_seen, turn_names, TurnInRange}
@@ -19,13 +19,13 @@ use Rattle.sip_machine.proofs.invite_client.InviteClientPhases.receives.Goals.{i
 
 -- a final response of 300 to 699 leads to completed, where an ACK for it must be sent
 completes : (p : Times) (texts : Texts) (x : InviteClientPhase) (reliable : Bool) (request set status : ℕ) (k : Kind) (n : NumberedEvent) → Response status ≡ k →
-    ((y : After InviteClientPhase) → Receives p x (Response status) (heard texts n) y ↔ (y ≡ (Completed reliable (text_of texts request) set, gains true (text_of texts n.number)))) →
+    ((y : After InviteClientPhase) → Receives p x (Response status) (event_in texts n) y ↔ (y ≡ (Completed reliable (text_of texts request) set, gains true (text_of texts n.number)))) →
     All (Keeps texts) (request ∷ []) → Keeps texts n.number → set ≤ last_moment →
-    IsTheOne (turn_names invite_client_names) (TurnInRange InviteClientInRange) (turn_seen invite_client_seen) texts (Receives p x k (heard texts n))
+    IsTheOne (turn_names invite_client_names) (TurnInRange InviteClientInRange) (turn_seen invite_client_seen) texts (Receives p x k (event_in texts n))
     (record { phase = code.Completed reliable request set; change = Gains true n.number })
 completes p texts x reliable request set status k n is only known kept fits =
     rw (← is)
-    (Gains-one invite_client_names InviteClientInRange invite_client_seen texts (Receives p x (Response status) (heard texts n)) (code.Completed reliable request set) true n.number
+    (Gains-one invite_client_names InviteClientInRange invite_client_seen texts (Receives p x (Response status) (event_in texts n)) (code.Completed reliable request set) true n.number
     only known kept fits)
 
 pub returns-then-is_unsuccessful : goal.returns-then-is_unsuccessful

@@ -1,5 +1,5 @@
 use Rattle.std.proofs.Common.{◌≤◌, length, arith}
-use Rattle.sip_machine.specs.Heard.{heard}
+use Rattle.sip_machine.specs.MachineEvent.{event_in}
 use Rattle.sip_machine.specs.Rules.{StandFor}
 use Rattle.sip_states.specs.Runs.{widest}
 use Rattle.sip_states.specs.inner.Ways.{GivesAfter}
@@ -16,13 +16,13 @@ find_given-requires-clause-known g c = rw c.as_slice.ensures.value (rw (← c.se
 module _ (g : Over) (c : After-len g) where
   -- each state found once, they are what the event gives
   found_stand : StandFor g.M.Machine.names g.M.Machine.in_range g.M.Machine.seen c.args.book.now
-      (GivesAfter g.M.Machine.seen c.args.book.now (g.M.Machine.rules c.self.inside.machine) c.self.inside.states.items c.self.inside.moment (heard c.args.book.now c.args.event.now)) c.keep_each_once.new.items.items
+      (GivesAfter g.M.Machine.seen c.args.book.now (g.M.Machine.rules c.self.inside.machine) c.self.inside.states.items c.self.inside.moment (event_in c.args.book.now c.args.event.now)) c.keep_each_once.new.items.items
   found_stand =
       let m = c.self.inside.machine in
       let texts = c.args.book.now in
       let xs = c.self.inside.states.items in
       let h = c.self.inside.moment in
-      let e = heard texts c.args.event.now in
+      let e = event_in texts c.args.event.now in
       let follows : Follows g.M.Machine.names g.M.Machine.seen (g.M.Machine.rules m) (g.M.Machine.ended m) (g.M.Machine.end_window m) (g.M.Machine.until m) =
       record { lawful = g.met.M.Machine.lawful m; ended_is = g.met.M.Machine.ended_stands m; ended_names = (g.met.M.Machine.ended_fits m).0; window_is = g.met.M.Machine.window_stands m; until_is = g.met.M.Machine.until_stands m; apart = g.met.M.Machine.apart } in
       covers_stand g.M.Machine.names g.M.Machine.in_range g.M.Machine.seen (g.M.Machine.rules m) (g.M.Machine.ended m) (g.M.Machine.end_window m) (g.M.Machine.until m) follows texts xs h e
@@ -42,7 +42,7 @@ invariant_of-self-2 g c =
     record { lawful = g.met.M.Machine.lawful m; ended_is = g.met.M.Machine.ended_stands m; ended_names = (g.met.M.Machine.ended_fits m).0; window_is = g.met.M.Machine.window_stands m; until_is = g.met.M.Machine.until_stands m; apart = g.met.M.Machine.apart } in
     let few : length c.keep_each_once.new.items.items ≤ widest = let len = c.len.ensures in omega arith in
     rw (c.moment-self-inside.ensures, c.swap.ensures.x_after)
-    (took_kept g.M.Machine.names g.M.Machine.in_range g.M.Machine.seen g.M.Machine.rules g.M.Machine.ended g.M.Machine.end_window g.M.Machine.until m follows c.args.book.now _ (heard c.args.book.now c.args.event.now) c.keep_each_once.new.items.items
+    (took_kept g.M.Machine.names g.M.Machine.in_range g.M.Machine.seen g.M.Machine.rules g.M.Machine.ended g.M.Machine.end_window g.M.Machine.until m follows c.args.book.now _ (event_in c.args.book.now c.args.event.now) c.keep_each_once.new.items.items
     (found_stand g (goal.at.invariant_of-self-2 g c).After-len) c.keep_each_once.ensures.distinct few)
 
 pub returns-clause-states : goal.returns-clause-states

@@ -1,6 +1,6 @@
 use Rattle.std.proofs.Common.{◌≡◌, ◌+◌, ◌∙◌, IfSome, length, refl, sym, ap, subst, arith}
 use Rattle.sip_log.specs.Reading as log
-use Rattle.sip_log.specs.Reading.{reading}
+use Rattle.sip_log.specs.Reading.{beside_source}
 use Rattle.sip_verdict.specs.declared.verdict.Verdict.TheVariants.{Legal, LogFault}
 use Rattle.sip_verdict.specs.declared.listing.Listing.TheVariants.{Stopped}
 use Rattle.sip_verdict.specs.ListingOf.{IsListingOf}
@@ -20,8 +20,8 @@ list-requires-clause-may g c =
 pub returns-in_ok-list-in-Entry-clause-listing : goal.returns-in_ok-list-in-Entry-clause-listing
 returns-in_ok-list-in-Entry-clause-listing g c start walks =
     let s = c.args.self.now.standing in
-    let old : log.Reading = reading c.args.self.now.progress (g.R.Source.left c.args.reader.now) (g.R.Source.has_failed c.args.reader.now) in
-    let new : log.Reading = reading c.read_next.new.progress (g.R.Source.left c.read_next.new.reader) (g.R.Source.has_failed c.read_next.new.reader) in
+    let old : log.ReaderState = beside_source c.args.self.now.progress (g.R.Source.left c.args.reader.now) (g.R.Source.has_failed c.args.reader.now) in
+    let new : log.ReaderState = beside_source c.read_next.new.progress (g.R.Source.left c.read_next.new.reader) (g.R.Source.has_failed c.read_next.new.reader) in
     walks_listed start old s.book s.tables walks c.args.self.now.count c.requires.counts c.in-Entry.entry (rw c.in-Entry.is at c.in_ok-entry.ensures.moves).1.number_is new
     ((rw c.in-Entry.is at c.in_ok-entry.ensures.gives) start s.tables.times walks.judged.items walks.judged.read) c.in_ok-list-in-Entry.field-0 c.in_ok-list-in-Entry.ensures.listed
 
@@ -29,7 +29,7 @@ pub returns-in-End-clause-listing : goal.returns-in-End-clause-listing
 returns-in-End-clause-listing g c start walks =
     let s = c.args.self.now.standing in
     let count = c.args.self.now.count in
-    let old : log.Reading = reading c.args.self.now.progress (g.R.Source.left c.args.reader.now) (g.R.Source.has_failed c.args.reader.now) in
+    let old : log.ReaderState = beside_source c.args.self.now.progress (g.R.Source.left c.args.reader.now) (g.R.Source.has_failed c.args.reader.now) in
     let many = length (transactions_of s.tables) in
     let ends = walks_end start old s.book s.tables walks count many c.requires.counts refl
     ((rw c.in-End.is at c.in_ok-entry.ensures.gives) start s.tables.times walks.judged.items walks.judged.read) in
@@ -39,7 +39,7 @@ pub returns-in-Fault-clause-listing : goal.returns-in-Fault-clause-listing
 returns-in-Fault-clause-listing g c start walks =
     let s = c.args.self.now.standing in
     let count = c.args.self.now.count in
-    let old : log.Reading = reading c.args.self.now.progress (g.R.Source.left c.args.reader.now) (g.R.Source.has_failed c.args.reader.now) in
+    let old : log.ReaderState = beside_source c.args.self.now.progress (g.R.Source.left c.args.reader.now) (g.R.Source.has_failed c.args.reader.now) in
     let gives = (rw c.in-Fault.is at c.in_ok-entry.ensures.gives) start s.tables.times walks.judged.items walks.judged.read in
     let reason = c.in-Fault.reason in
     subst (λ v. IfSome start (λ input. IsListingOf input (count + 1) (Stopped v))) (sym c.fault.ensures)

@@ -1,7 +1,7 @@
 use Rattle.std.proofs.Common.{◌≡◌, ◌+◌, ◌∙◌, IfSome, ap, sym, subst, arith}
 use Rattle.std.proofs.lemmas.Result.{IfOk-weaker}
 use Rattle.sip_log.specs.Reading as log
-use Rattle.sip_log.specs.Reading.{reading}
+use Rattle.sip_log.specs.Reading.{beside_source}
 use Rattle.sip_verdict.specs.ListingOf.{IsListingOf}
 use Rattle.sip_verdict.proofs.WalksLemmas.{listed_zero, listed_before}
 use Rattle.sip_verdict.proofs.walking.Walk.listing.Goals as goal
@@ -9,7 +9,7 @@ use Rattle.sip_verdict.proofs.walking.Walk.listing.Goals as goal
 pub returns-then-entry-eq0-clause-listing : goal.returns-then-entry-eq0-clause-listing
 returns-then-entry-eq0-clause-listing g c start walks =
     let s = c.args.self.now.standing in
-    let old : log.Reading = reading c.args.self.now.progress (g.R.Source.left c.args.reader.now) (g.R.Source.has_failed c.args.reader.now) in
+    let old : log.ReaderState = beside_source c.args.self.now.progress (g.R.Source.left c.args.reader.now) (g.R.Source.has_failed c.args.reader.now) in
     listed_zero start old s.book s.tables walks c.args.entry (omega (arith, c.if-entry-eq0.true))
 
 pub returns-in-Some-clause-listing : goal.returns-in-Some-clause-listing

@@ -6,7 +6,7 @@ use Rattle.sip_machine.specs.NumberedEvent.{NumberedEvent}
 use Rattle.sip_machine.specs.Texts.{Texts, Keeps, text_of}
 
 -- an event: its moment, what was done with its message, the message's bytes and its kind, and whether its transport is reliable
-pub record Heard : Type 0 where
+pub record MachineEvent : Type 0 where
   pub moment : ℕ
   pub action : Action
   pub text : List ℕ
@@ -14,8 +14,8 @@ pub record Heard : Type 0 where
   pub reliable : Bool
 
 -- the event of the code beside the texts of a book
-abbrev pub heard : Texts → NumberedEvent → Heard
-heard texts e =
+abbrev pub event_in : Texts → NumberedEvent → MachineEvent
+event_in texts e =
     record { moment = e.moment; action = e.action; text = text_of texts e.number; kind = e.kind; reliable = e.reliable }
 
 -- the book keeps the message of the event, and its moment is within the limits

@@ -66,27 +66,27 @@ module _ (p : Times) (front : List (Observation KeyParts)) (e : Observation KeyP
   has-trouble : (v : Verdict) → IsTrouble (key_machines p) front e v → HasTrouble p front e v
   has-trouble (Legal entries transactions) is = is
   has-trouble (Malformed entry fault) is = is
-  has-trouble (Breach entry transaction_of) (at, formed, first) = (
+  has-trouble (Breach entry transaction) (at, formed, first) = (
     at,
     formed,
     first-key (λ key. ¬ HasRun (key_machines p) key (front ++ e ∷ [])) (λ key. ¬ (RunsOver p (front ++ e ∷ []) key))
-        (λ k none over. none (over-run p (front ++ e ∷ []) k over)) (λ k none run. none (run-over p (front ++ e ∷ []) k run)) _ transaction_of first,
+        (λ k none over. none (over-run p (front ++ e ∷ []) k over)) (λ k none run. none (run-over p (front ++ e ∷ []) k run)) _ transaction first,
   )
-  has-trouble (Undecided entry transaction_of) (at, formed, runs, first) =
-      (at, formed, All-weaker (λ key. HasRun (key_machines p) key (front ++ e ∷ [])) (RunsOver p (front ++ e ∷ [])) (run-over p (front ++ e ∷ [])) _ runs, first-key _ _ wide-at at-wide _ transaction_of first)
+  has-trouble (Undecided entry transaction) (at, formed, runs, first) =
+      (at, formed, All-weaker (λ key. HasRun (key_machines p) key (front ++ e ∷ [])) (RunsOver p (front ++ e ∷ [])) (run-over p (front ++ e ∷ [])) _ runs, first-key _ _ wide-at at-wide _ transaction first)
   has-trouble (LogFault entry reason) is = is
 
   trouble-has : (v : Verdict) → HasTrouble p front e v → IsTrouble (key_machines p) front e v
   trouble-has (Legal entries transactions) is = is
   trouble-has (Malformed entry fault) is = is
-  trouble-has (Breach entry transaction_of) (at, formed, first) = (
+  trouble-has (Breach entry transaction) (at, formed, first) = (
     at,
     formed,
     key-first (λ key. ¬ (RunsOver p (front ++ e ∷ []) key)) (λ key. ¬ HasRun (key_machines p) key (front ++ e ∷ []))
-        (λ k none run. none (run-over p (front ++ e ∷ []) k run)) (λ k none over. none (over-run p (front ++ e ∷ []) k over)) _ transaction_of first,
+        (λ k none run. none (run-over p (front ++ e ∷ []) k run)) (λ k none over. none (over-run p (front ++ e ∷ []) k over)) _ transaction first,
   )
-  trouble-has (Undecided entry transaction_of) (at, formed, runs, first) =
-      (at, formed, All-weaker (RunsOver p (front ++ e ∷ [])) (λ key. HasRun (key_machines p) key (front ++ e ∷ [])) (over-run p (front ++ e ∷ [])) _ runs, key-first _ _ at-wide wide-at _ transaction_of first)
+  trouble-has (Undecided entry transaction) (at, formed, runs, first) =
+      (at, formed, All-weaker (RunsOver p (front ++ e ∷ [])) (λ key. HasRun (key_machines p) key (front ++ e ∷ [])) (over-run p (front ++ e ∷ [])) _ runs, key-first _ _ at-wide wide-at _ transaction first)
   trouble-has (LogFault entry reason) is = is
 
 -- the entries that are left

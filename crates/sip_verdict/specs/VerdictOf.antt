@@ -52,11 +52,11 @@ IsFirstKey P keys number =
 -- the verdict of the entry behind these, which is in trouble: its fault, else the first key without a run, else the first that is too wide
 abbrev pub HasTrouble : Times → List (Observation KeyParts) → Observation KeyParts → Verdict → Type 0
 HasTrouble p front e (Malformed entry fault) = (entry ≡ length front + 1) × (e.fault ≡ Some fault)
-HasTrouble p front e (Breach entry transaction_of) =
-    (entry ≡ length front + 1) × (e.fault ≡ None) × IsFirstKey (λ key. ¬ (RunsOver p (front ++ e ∷ []) key)) (keys_in (front ++ e ∷ [])) transaction_of
-HasTrouble p front e (Undecided entry transaction_of) =
+HasTrouble p front e (Breach entry transaction) =
+    (entry ≡ length front + 1) × (e.fault ≡ None) × IsFirstKey (λ key. ¬ (RunsOver p (front ++ e ∷ []) key)) (keys_in (front ++ e ∷ [])) transaction
+HasTrouble p front e (Undecided entry transaction) =
     (entry ≡ length front + 1) × (e.fault ≡ None) × All (RunsOver p (front ++ e ∷ [])) (keys_in (front ++ e ∷ []))
-    × IsFirstKey (IsWideAt p front e) (keys_in (front ++ e ∷ [])) transaction_of
+    × IsFirstKey (IsWideAt p front e) (keys_in (front ++ e ∷ [])) transaction
 HasTrouble p front e v = ⊥
 
 -- the verdict of the entries that are left and of how they end, behind others in no trouble: that the log is legal, or that the next entry

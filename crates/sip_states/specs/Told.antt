@@ -18,7 +18,7 @@ abbrev pub said_state : Texts → ToldState → Saying
 said_state texts state = (told_by (text_of texts) (told_of state.phase), messages_told (told_of state.phase), debts_of state.owes.items)
 
 module _ {S D X : Type 0} (words : X → Told (List ℕ)) (seen : Texts → S → X) (names : S → List ℕ) where
-  -- what is to be said_state of a state of the code
+  -- what is to be said of a state of the code
   abbrev pub meant : Texts → CodeOwing S D → Saying
   meant texts x = (words (seen texts x.phase), names x.phase, x.owes)
 

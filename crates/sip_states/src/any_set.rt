@@ -62,7 +62,7 @@ impl AnySet {
         }
     }
 
-    /// SetTakes the event. On an error the set is as before.
+    /// Takes the event. On an error the set is as before.
     #[tactic(auto, using(crate::proofs::AnyLemmas::has_taken))]
     pub fn take(&mut self, book: &Book, event: &Event) -> Result<(), TakeError>
         requires order { moment_of self.old ≤ event.now.moment }

@@ -128,7 +128,7 @@ impl<M: Machine> StateSet<M> {
         Ok(())
     }
 
-    /// RunGives back the room that no state takes.
+    /// Gives back the room that no state takes.
     pub(crate) fn trim(&mut self)
         ensures { self.new ≡ self.old }
     {

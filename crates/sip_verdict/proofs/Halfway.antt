@@ -87,7 +87,7 @@ module _ (texts : Texts) (p : Times) (es : List (Observation KeyParts)) (e : Obs
       first (IsTooWide m es e) number h.same h.says.1,
     )
 
-  -- one more has event_in the event
+  -- one more has heard the event
   module _ (event : NumberedEvent) (is_event : (n : ℕ) (key : KeyParts) → slice_get keys n ≡ Some key → e.event ≡ event_in texts event) (number : ℕ) (ns : List ℕ) (once : is_among ns number ≡ false) (t u : Tabled) (outcome : Outcome)
       (h : IsHalfway (number ∷ ns) t outcome) (given : IsGiven t number) (fate : Fate) (own : Hears texts event number t u fate) where
     abbrev place : ℕ
@@ -157,7 +157,7 @@ module _ (texts : Texts) (p : Times) (es : List (Observation KeyParts)) (e : Obs
       passed = more_passed fate left;
     }
 
-  -- each has event_in it
+  -- each has heard it
   pub halfway_each : (event : NumberedEvent) → ((n : ℕ) (key : KeyParts) → slice_get keys n ≡ Some key → e.event ≡ event_in texts event) → (ns : List ℕ) (t u : Tabled) (before after : Outcome) → IsHalfway ns t before → All (IsGiven t) ns
       → AllPairs (λ a b. a ≢ b) ns → HearsEach texts event ns t before u after → IsHalfway [] u after
   halfway_each event is_event [] t u before after h given apart (same, fine) = subst (λ o. IsHalfway [] u o) (sym fine) (subst (λ x. IsHalfway [] x before) (sym same) h)
@@ -167,7 +167,7 @@ module _ (texts : Texts) (p : Times) (es : List (Observation KeyParts)) (e : Obs
       (one_more event is_event n ns (first_apart n ns apart) t between before h (All-head (IsGiven t) n ns given) first.0 first.1))
       (heard_given texts event n t between one first ns (All-tail (IsGiven t) n ns given)) (AllPairs-tail n ns apart) rest
 
--- no set has event_in the event yet
+-- no set has heard the event yet
 module _ (texts : Texts) (p : Times) (es : List (Observation KeyParts)) (e : Observation KeyParts) (moment : ℕ) (hearing : Option Hearing) (t : Tabled) (may : MayPass texts t moment)
     (recorded : AreOnRecord (hearers hearing) t) (told : AreTold texts t.keys moment hearing e) (ready : All (IsReady (key_machines p) (key_keeping texts p) es) (transactions_of t)) where
   -- a key, its set and its last moment on record
@@ -259,7 +259,7 @@ module _ (texts : Texts) (p : Times) (es : List (Observation KeyParts)) (e : Obs
       halfway_all texts p es e t.keys t may.long (overdue_outcome (due_of t moment))
       (subst (λ ns. IsHalfway texts p es e t.keys ns t (overdue_outcome (due_of t moment))) none halfway_start)
 
-  -- and of one whose event was event_in by each that it concerns
+  -- and of one whose event was heard by each that it concerns
   pub heard_outcome : (event : NumberedEvent) → ((n : ℕ) (key : KeyParts) → slice_get t.keys n ≡ Some key → e.event ≡ event_in texts event) → All (IsGiven t) (hearers hearing) → AllPairs (λ a b. a ≢ b) (hearers hearing) → (u : Tabled)
       → length u.sets ≡ length u.keys → (outcome : Outcome) → HearsEach texts event (hearers hearing) t (overdue_outcome (due_of t moment)) u outcome
       → IsOutcome (key_machines p) (key_keeping texts p) es e (transactions_of u) outcome

@@ -146,7 +146,7 @@ module _ (verdict : Option Verdict) (old mid last : Texts) (number : ℕ) (bytes
   abbrev Tells : Told → Type 0
   Tells told = (es : List (Observation KeyParts)) → (e : Observation KeyParts) × message_reading.Observes es i e × IsObserved mid i told e
 
-  -- an entry that is not event_in
+  -- an entry that is not heard
   pub unheard_judged : (t v : Tabled) → i.moment ≡ moment → Tells Unheard
       → ((es : List (Observation KeyParts)) (e : Observation KeyParts) → e.fault ≡ None → AreTold mid t.keys moment None e → TablesTrackBefore mid es e t → count ≡ length es + 1
       → IsJudged (key_machines t.times) (key_keeping last t.times) es e (transactions_of v) verdict)
@@ -161,7 +161,7 @@ module _ (verdict : Option Verdict) (old mid last : Texts) (number : ℕ) (bytes
         subst (HaveNumbers v.keys []) (sym none) tt,
       )
 
-  -- a message that is event_in
+  -- a message that is heard
   pub heard_judged : (event : NumberedEvent) (concerned : Concerned KeyParts) (numbers : Concerned ℕ) (t u v : Tabled) → length t.sets ≡ length t.keys → TouchesEach (each concerned) (each numbers) t u
       → AllPairs (λ a b. a ≢ b) u.keys → v.keys ≡ u.keys → event.moment ≡ moment
       → Tells (Heard event concerned)
@@ -209,7 +209,7 @@ numbers_differ all ns ks have apart i j d less low same =
     let both : Some a ≡ Some b = sym a_there ∙ ap (λ n. slice_get all (n - 1)) same ∙ b_there in
     apart i j a less (slice_get_within ks j b b_at) (get_or_from_slice_get ks i a a a_at ∙ same_some a b both ∙ sym (get_or_from_slice_get ks j b a b_at))
 
--- an event may be event_in by the numbers of the keys
+-- an event may be heard by the numbers of the keys
 pub may_hear : (texts : Texts) (moment : ℕ) (event : NumberedEvent) (concerned : Concerned KeyParts) (numbers : Concerned ℕ) (t u : Tabled) → TouchesEach (each concerned) (each numbers) t u → FitsBook texts event
     → event.moment ≡ moment → AllPairs (λ a b. a ≢ b) (each concerned) → MayHear texts u moment (record { event = event; concerned = numbers })
 may_hear texts moment event concerned numbers t u touched fits at differ =

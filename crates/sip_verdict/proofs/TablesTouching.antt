@@ -229,7 +229,7 @@ same_numbers all apart (i ∷ ns) (key ∷ ks) (some, there, rest) n k at = λ j
         let both : Some key ≡ Some k = sym there ∙ ap (slice_get all) place ∙ at in
         (same_key-decides k key).1 (let own : k ≡ key = cc in own)))
 
--- an entry that is not event_in tells each key its moment
+-- an entry that is not heard tells each key its moment
 pub told_unheard : (texts : Texts) (keys : List KeyParts) (moment : ℕ) (e : Observation KeyParts) → e.event.moment ≡ moment → e.keys ≡ [] → AreTold texts keys moment None e
 told_unheard texts keys moment e at none n k there = record { at = at; event = tt; concerned = λ p. ap (list_any (same_key k)) none }
 

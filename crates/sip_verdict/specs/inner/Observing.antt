@@ -26,7 +26,7 @@ AreKeysOf s direction (Ok concerned) = (lacks_cookie s direction ≡ false) × C
 AreKeysOf s direction (Err error.NoCookie) = lacks_cookie s direction ≡ true
 AreKeysOf s direction (Err error.Memory) = Unit {0}
 
--- what is observed of an entry of which this is told, beside the texts of a book: of one that is not event_in, its moment
+-- what is observed of an entry of which this is told, beside the texts of a book: of one that is not heard, its moment
 abbrev pub IsObserved : Texts → Item → Told → Observation KeyParts → Type 0
 IsObserved texts i Unheard e = (e.fault ≡ None) × (e.event.moment ≡ i.moment) × (e.keys ≡ [])
 IsObserved texts i (Fault fault) e = e ≡ fault_observation i fault
@@ -38,7 +38,7 @@ IsHeard texts moment Unheard = Unit {0}
 IsHeard texts moment (Fault fault) = Unit {0}
 IsHeard texts moment (Heard event concerned) = FitsBook texts event × (event.moment ≡ moment) × AllPairs (λ a b. a ≢ b) (each concerned)
 
--- the book keeps the entry's message if it is event_in, which concerns some key, under the event's number, and nothing else is kept or lost
+-- the book keeps the entry's message if it is heard, which concerns some key, under the event's number, and nothing else is kept or lost
 abbrev pub IsKept : Texts → Texts → Entry → Told → Type 0
 IsKept old new entry Unheard = new ≡ old
 IsKept old new entry (Fault fault) = new ≡ old

@@ -94,7 +94,7 @@ pub record MayPass (texts : Texts) (t : Tabled) (moment : ℕ) : Type 0 where
   pub known : All (IsKnownSet texts) t.sets
   pub long : length t.sets ≡ length t.keys
 
--- an event of this moment may be event_in: the book keeps its message, and its numbers were given and differ
+-- an event of this moment may be heard: the book keeps its message, and its numbers were given and differ
 pub record MayHear (texts : Texts) (t : Tabled) (moment : ℕ) (h : Hearing) : Type 0 where
   pub fits : FitsBook texts h.event
   pub at : h.event.moment ≡ moment
@@ -127,7 +127,7 @@ Leaves number set Runs old new = (limit : Option ℕ) × IsAgendaOf limit set ×
 Leaves number set NoRun old new = new ≡ with_set old number set
 Leaves number set TooWide old new = new ≡ with_set old number set
 
--- the set with this number has event_in the event, which leaves this of its runs
+-- the set with this number has heard the event, which leaves this of its runs
 pub record Hears (texts : Texts) (e : NumberedEvent) (number : ℕ) (old new : Tabled) (fate : Fate) : Type 0 where
   pub before : AnySet
   pub after : AnySet
@@ -140,7 +140,7 @@ pub record Hears (texts : Texts) (e : NumberedEvent) (number : ℕ) (old new : T
 abbrev pub HearsOne : Texts → NumberedEvent → ℕ → Tabled → Tabled → Outcome → Type 0
 HearsOne texts e number old new outcome = (fate : Fate) × Hears texts e number old new fate × (outcome ≡ outcome_of number fate)
 
--- those with these numbers have event_in it one after another; the outcome before it, and with theirs
+-- those with these numbers have heard it one after another; the outcome before it, and with theirs
 abbrev pub HearsEach : Texts → NumberedEvent → List ℕ → Tabled → Outcome → Tabled → Outcome → Type 0
 HearsEach texts e [] old before new after = (new ≡ old) × (after ≡ before)
 HearsEach texts e (n ∷ ns) old before new after =

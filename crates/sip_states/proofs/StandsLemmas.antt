@@ -4,7 +4,7 @@ use Rattle.std.specs.List.{list_any}
 use Rattle.std.proofs.lemmas.List.{append_assoc, append-nil}
 use Rattle.std.proofs.lemmas.List.Elements.{All-head, All-nil, All-cons, All-append}
 use Rattle.sip_machine.specs.Times.{Times}
-use Rattle.sip_machine.specs.Limits.{IsWithin, IsOpenAt}
+use Rattle.sip_machine.specs.Limits.{IsOpenAt}
 use Rattle.sip_machine.specs.MachineEvent.{MachineEvent}
 use Rattle.sip_machine.specs.Rules.{Waits, Hide}
 use Rattle.sip_machine.specs.Figure.{Figure, IsFigure, Owing, quiet, Lasts, MayEnd, closes_of, closes_at, rules_of}

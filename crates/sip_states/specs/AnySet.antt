@@ -1,5 +1,5 @@
 -- A set of states of one of the machines.
-use Rattle.std.specs.Prelude.{◌≡◌, ℕ, Option, List, []}
+use Rattle.std.specs.Prelude.{◌≡◌, ℕ, Option, []}
 use Rattle.sip_key.specs.Key.{KeyParts}
 use Rattle.sip_machine.specs.Times.{Times}
 use Rattle.sip_machine.specs.Texts.{Texts}

@@ -1,5 +1,5 @@
-use Rattle.std.proofs.Common.{Some, slice_get, ap, subst}
-use Rattle.indexmap.specs.IndexMap.{values, with_entries}
+use Rattle.std.proofs.Common.{ap}
+use Rattle.indexmap.specs.IndexMap.{with_entries}
 use Rattle.sip_states.proofs.TablesLemmas.{set_value_at-same}
 use Rattle.sip_states.proofs.tables.trim_at.Goals as goal
 

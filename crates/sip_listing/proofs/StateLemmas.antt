@@ -44,10 +44,10 @@ module _ (number : List ℕ → ℕ) (texts : Texts) where
     state_told x state says tells =
         let of_phase : Tells number texts (names x.phase) = All-front (λ name. number (text_of texts name) ≡ name) (names x.phase) (owes_names x.owes) tells in
         let of_debts : Tells number texts (owes_names x.owes) = All-back (λ name. number (text_of texts name) ≡ name) (names x.phase) (owes_names x.owes) tells in
-        let back = told_back (told_of state.phase) (subst (Tells number texts) (sym (ap (λ (s : Saying). s.1.0) says)) of_phase) in
+        let back = told_back (told_of state.phase) (subst (Tells number texts) (sym (ap (λ (s : Saying). s.1) says)) of_phase) in
         ap₂ (λ told debts. phase_text told ++ debts)
         (ap (told_by number) (sym (ap (λ (s : Saying). s.0) says)) ∙ back)
-        (debts_told number texts x.owes of_debts ∙ ap debts_fields (sym (ap (λ (s : Saying). s.1.1) says)))
+        (debts_told number texts x.owes of_debts ∙ ap debts_fields (sym (ap (λ (s : Saying). s.2) says)))
 
     -- and so are those of several
     states_told : (xs : List (CodeOwing S D)) (states : List ToldState) → map (said_state texts) states ≡ map (meant words seen names texts) xs

@@ -49,11 +49,13 @@ module _ (p : Times) (front : List (Observation KeyParts)) (e : Observation KeyP
   wide-at : (key : KeyParts) → IsTooWide (key_machines p) front e key → IsWideAt p front e key
   wide-at key is = (
     is.concerned,
-    is.wide.many,
-    is.wide.distinct,
-    is.wide.wide,
-    All-weaker (AfterRun (key_rules p (machine_of_key key)) (events_for key front) e.event) (StandsBehind (transaction_of (machine_of_key key)).figure p (events_for key front) e.event)
-        (λ y after. (behind key y).1 after) is.wide.many is.wide.each,
+    (
+      is.wide.many,
+      is.wide.distinct,
+      is.wide.wide,
+      All-weaker (AfterRun (key_rules p (machine_of_key key)) (events_for key front) e.event) (StandsBehind (transaction_of (machine_of_key key)).figure p (events_for key front) e.event)
+          (λ y after. (behind key y).1 after) is.wide.many is.wide.each,
+    ),
   )
 
   at-wide : (key : KeyParts) → IsWideAt p front e key → IsTooWide (key_machines p) front e key

@@ -89,7 +89,7 @@ fn hear_one<H: BuildHasher>(
     ensures times { OnOk result (tables.new.times ≡ tables.old.times) }
     ensures keys { OnOk result (tables.new.keys ≡ tables.old.keys) }
     ensures may { OnOk result (MayPass book.now tables.new event.now.moment) }
-    ensures event_in { IfOk result (HearsOne book.now event.now number tables.old tables.new) }
+    ensures heard { IfOk result (HearsOne book.now event.now number tables.old tables.new) }
 {
     match hear(tables.set_mut(number), book, event)? {
         Fate::Runs => {
@@ -113,7 +113,7 @@ fn hear_each<H: BuildHasher>(
     requires may { MayPass book.now tables.old hearing.now.event.moment }
     ensures times { OnOk result (tables.new.times ≡ tables.old.times) }
     ensures keys { OnOk result (tables.new.keys ≡ tables.old.keys) }
-    ensures event_in { IfOk result (λ outcome. MayPass book.now tables.new hearing.now.event.moment
+    ensures heard { IfOk result (λ outcome. MayPass book.now tables.new hearing.now.event.moment
         × HearsEach book.now hearing.now.event (each hearing.now.concerned) tables.old others tables.new outcome) }
 {
     let event = &hearing.event;

@@ -41,10 +41,6 @@ same_of_some a b h = cc
 
 -- Sets that wait.
 
--- none has
-pub advances_none : (moment : ℕ) (old : List AnySet) → AdvancesAt moment [] old old
-advances_none moment old = record { long = refl; each = λ n a b was is. inr (Contains-nil n, same_of_some b a (sym is ∙ was)) }
-
 -- one more has
 pub advances_more : (moment : ℕ) (indices : List ℕ) (old now : List AnySet) (index : ℕ) (set after : AnySet) → AdvancesAt moment indices old now → ¬ Contains indices index
     → slice_get now index ≡ Some set → SetWaits moment set after → AdvancesAt moment (indices ++ index ∷ []) old (slice_set now index after)

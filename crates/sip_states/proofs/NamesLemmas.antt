@@ -7,9 +7,6 @@ use Rattle.std.proofs.lemmas.List.Elements.{Contains-append_left, Contains-appen
 use Rattle.sip_machine.specs.Naming.{AppendsAll}
 use Rattle.sip_machine.proofs.TextLaws.{Contains-nil, Contains-cons_cases}
 
-pub appends_none : (old : List ℕ) → AppendsAll [] old old
-appends_none old = ([], sym (append-nil old), (λ n. (λ h. h, λ h. h)))
-
 -- the members of two lists, one behind the other
 pub append_members : (a b c d : List ℕ) → ((n : ℕ) → Contains a n ↔ Contains c n) → ((n : ℕ) → Contains b n ↔ Contains d n) → (n : ℕ) → Contains (a ++ b) n ↔ Contains (c ++ d) n
 append_members a b c d first second n = (

@@ -13,7 +13,6 @@ use Rattle.sip_states.proofs.Listed.{Contains-none, Contains-map}
 use Rattle.sip_log.specs.Spelling.{Item}
 use Rattle.sip_verdict.specs.declared.verdict.Verdict.{Verdict}
 use Rattle.sip_verdict.specs.Keyed.{Observation, Machines, keys_of, newest_moment}
-use Rattle.sip_verdict.specs.Verdicts.{IsTrouble}
 use Rattle.sip_verdict.specs.MessageReading.{key_machines, mark_observation, message_reading, ObservesMessage, direction_of, has_fault, has_no_cookie, is_heard}
 use Rattle.sip_verdict.specs.Named.{IsNamed, AreMany, WereNamed, key_messages}
 use Rattle.sip_verdict.specs.Judging.{AreFollowed}
@@ -101,13 +100,6 @@ module _ (old mid : Texts) (t u : Tabled) (times : u.times ≡ t.times) (number 
   abbrev Says : Option Verdict → Type 0
   Says verdict = (es : List (Observation KeyParts)) → TablesTrack old es t → number ≡ length es + 1
       → (e : Observation KeyParts) × message_reading.Observes es i e × IsJudged (key_machines t.times) (key_keeping mid t.times) es e (transactions_of u) verdict
-
-  -- it is in trouble
-  pub followed_trouble : (v : Verdict) → Says (Some v) → (left now : ℕ) (es : List (Observation KeyParts)) → AreFollowed old t left es → number ≡ length es + 1
-      → (e : Observation KeyParts) × message_reading.Observes es i e × AreFollowedOn mid u now es e (Some v)
-  followed_trouble v says left now es follows counts =
-      let h = says es follows.tracks counts in
-      (h.0, h.1, subst (λ p. IsTrouble (key_machines p) es h.0 v) (sym times) h.2)
 
   tracks_on : (es : List (Observation KeyParts)) (e : Observation KeyParts) → IsJudged (key_machines t.times) (key_keeping mid t.times) es e (transactions_of u) None → TablesTrack mid (es ++ e ∷ []) u
   tracks_on es e judged = subst (λ p. Tracks (key_machines p) (key_keeping mid p) (es ++ e ∷ []) (transactions_of u)) (sym times) judged.0

@@ -1,16 +1,6 @@
 -- Where two splits of one list stand to each other.
 use Rattle.std.proofs.Common.{◌≡◌, ◌⊎◌, inl, inr, List, [], ◌∷◌, ◌++◌, refl}
 
--- of two fronts of one list, one is a front of the other
-pub fronts_compare : {A : Type 0} (xs us ys vs : List A) → xs ++ us ≡ ys ++ vs → ((zs : List A) × (ys ≡ xs ++ zs)) ⊎ ((zs : List A) × (xs ≡ ys ++ zs))
-fronts_compare [] us ys vs e = inl (ys, refl)
-fronts_compare (x ∷ xs) us [] vs e = inr (x ∷ xs, refl)
-fronts_compare {A} (x ∷ xs) us (y ∷ ys) vs e = go (cc) (fronts_compare xs us ys vs (cc))
-  where
-    go : x ≡ y → ((zs : List A) × (ys ≡ xs ++ zs)) ⊎ ((zs : List A) × (xs ≡ ys ++ zs)) → ((zs : List A) × (y ∷ ys ≡ x ∷ xs ++ zs)) ⊎ ((zs : List A) × (x ∷ xs ≡ y ∷ ys ++ zs))
-    go same (inl h) = inl (h.0, cc)
-    go same (inr h) = inr (h.0, cc)
-
 -- two splits of one list are at the same place, or one is before the other
 pub split_compare : {A : Type 0} (xs us ys vs : List A) (x y : A) → xs ++ x ∷ us ≡ ys ++ y ∷ vs
     → ((xs ≡ ys) × (x ≡ y)) ⊎ (((zs : List A) × (ys ≡ xs ++ x ∷ zs)) ⊎ ((zs : List A) × (xs ≡ ys ++ y ∷ zs)))

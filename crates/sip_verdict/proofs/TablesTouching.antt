@@ -16,7 +16,7 @@ use Rattle.sip_states.specs.AnySet.{moment_of, IsKnownSet, start_of}
 use Rattle.sip_states.specs.Tables.{Tabled, Touches, with_key}
 use Rattle.sip_states.specs.declared.any_set.AnySet.{AnySet}
 use Rattle.sip_verdict.specs.declared.passing.Hearing.{Hearing}
-use Rattle.sip_verdict.specs.Keyed.{Observation, events_of}
+use Rattle.sip_verdict.specs.Keyed.{Observation}
 use Rattle.sip_verdict.specs.Keyed as keyed
 use Rattle.sip_verdict.specs.MessageReading.{key_machines}
 use Rattle.sip_verdict.specs.inner.Tracking.{IsTouched}
@@ -43,13 +43,6 @@ touches_elim Q more (k ∷ ks) (n ∷ ns) old new holds (between, one, rest) = t
 -- the times stay
 pub touches_times : (ks : List KeyParts) (ns : List ℕ) (old new : Tabled) → TouchesEach ks ns old new → new.times ≡ old.times
 touches_times ks ns old new h = touches_elim (λ t. t.times ≡ old.times) (λ t key same. same) ks ns old new refl h
-
--- each key has a set
-long_more : (t : Tabled) (key : KeyParts) → length t.sets ≡ length t.keys → length (t.sets ++ start_of t.times key ∷ []) ≡ length (t.keys ++ key ∷ [])
-long_more t key long = length-append t.sets (start_of t.times key ∷ []) ∙ ap (λ n. n + 1) long ∙ sym (length-append t.keys (key ∷ []))
-
-pub touches_long : (ks : List KeyParts) (ns : List ℕ) (old new : Tabled) → length old.sets ≡ length old.keys → TouchesEach ks ns old new → length new.sets ≡ length new.keys
-touches_long ks ns old new long h = touches_elim (λ t. length t.sets ≡ length t.keys) long_more ks ns old new long h
 
 -- there is at most one key more for each
 pub touches_few : (ks : List KeyParts) (ns : List ℕ) (old new : Tabled) → TouchesEach ks ns old new → length new.keys ≤ length old.keys + length ks

@@ -3,3 +3,5 @@ pub mod LaneLemmas
 pub mod TableLemmas
 pub mod WordLemmas
 pub mod RunLemmas
+pub mod HostLemmas
+pub mod HostWordLemmas

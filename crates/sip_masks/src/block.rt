@@ -1,7 +1,7 @@
 //! One block of 64 bytes: which of them are plain, and which are controls.
-ghost use Rattle.std.specs.Prelude.{◌≡◌, ℕ, ◌+◌, ◌<◌, ◌≤◌, get_or, length};
+ghost use Rattle.std.specs.Prelude.{◌≡◌, ℕ, ◌+◌, ◌<◌, ◌≤◌, ◌==◌, get_or, length};
 ghost use Rattle.sip_masks.specs.Bits.{test};
-ghost use Rattle.sip_masks.specs.Marks.{is_other, is_control};
+ghost use Rattle.sip_masks.specs.Marks.{is_other, is_control, is_strange};
 
 use std::simd::prelude::*;
 
@@ -52,4 +52,23 @@ pub(crate) fn tail(text: &[u8], at: usize) -> u8x64
         i += 1;
     }
     u8x64::from_array(last)
+}
+
+// The bytes that stand in no name of a host.
+#[inline(always)]
+pub(crate) fn strangers(v: u8x32) -> u64
+    ensures { (i : ℕ) → i < 32 → test result i ≡ is_strange (get_or v i 0) }
+{
+    let letters = ((v | u8x32::splat(0x20)) - u8x32::splat(b'a')).simd_ge(u8x32::splat(26));
+    let digits = (v - u8x32::splat(b'0')).simd_ge(u8x32::splat(10));
+    let marks = v.simd_ne(u8x32::splat(b'.')) & v.simd_ne(u8x32::splat(b'-'));
+    (letters & digits & marks).to_bitmask()
+}
+
+// The bytes that are this one.
+#[inline(always)]
+pub(crate) fn equal_to(v: u8x32, byte: u8) -> u64
+    ensures { (i : ℕ) → i < 32 → test result i ≡ (get_or v i 0 == byte) }
+{
+    v.simd_eq(u8x32::splat(byte)).to_bitmask()
 }

@@ -10,7 +10,7 @@ ghost use Rattle.sip_message.specs.inner.AddressFronts.{Words};
 ghost use Rattle.sip_message.specs.inner.Plain.{segment, Stands, PlainRun, PlainParam, HostPort, SomeUri, Opening, SomeParams, SomeAddress};
 
 use crate::params::cut_quoted;
-use sip_masks::Masks;
+use sip_masks::{Masks, is_ordinary_name};
 use sip_text::{Host, is_port, read_host};
 
 /// Whether an address stands from one place up to another, with a URI in `<` and `>`.
@@ -127,8 +127,19 @@ pub(crate) fn past_host<'a>(
     ensures { IfSome result (λ found. Stands (λ u. HostText u (host_parts found.0)) masks.now at end found.1) }
 {
     let to = past_run(masks, at, end)?;
-    let host = read_host(&masks.text()[at..to])?;
+    let host = host_at(masks.text(), at, to)?;
     Some((host, to))
+}
+
+// The host that stands between two places. Most are names of an ordinary kind.
+fn host_at(text: &[u8], at: usize, to: usize) -> Option<Host<'_>>
+    requires { (at ≤ to) × (to ≤ length text.now) }
+    ensures { IfSome result (λ host. HostText (segment at to text.now) (host_parts host)) }
+{
+    if is_ordinary_name(&text[at..], to - at) {
+        return Some(Host::Name(&text[at..to]));
+    }
+    read_host(&text[at..to])
 }
 
 /// The place behind the port.

@@ -20,5 +20,5 @@ returns c =
     let long = c.fits-v.0 in
     let low = looked_up LOW (λ x. bit_and x 15) v _ refl c.fits-v (zip2_splat bit_and v 64 15 long) (λ x h. omega (arith, and_le_r x 15)) in
     let high = looked_up HIGH (λ x. x / 16) v _ refl c.fits-v (zip2_splat down v 64 4 long) (λ x h. omega arith) in
-    classified _ is_other v _ c.fits-v
-    (equal (λ x. bit_and (get_or LOW (bit_and x 15) 0) (get_or HIGH (x / 16) 0)) 0 v long (zip2_of_maps bit_and (λ x. get_or LOW (bit_and x 15) 0) (λ x. get_or HIGH (x / 16) 0) v low high)) refl
+    classified _ is_other 64 v _ c.fits-v (omega arith)
+    (equal (λ x. bit_and (get_or LOW (bit_and x 15) 0) (get_or HIGH (x / 16) 0)) 64 0 v long (zip2_of_maps bit_and (λ x. get_or LOW (bit_and x 15) 0) (λ x. get_or HIGH (x / 16) 0) v low high)) refl

@@ -4,4 +4,5 @@ pub mod LaneLemmas
 pub mod WordLemmas
 pub mod QuickLemmas
 pub mod PlainLemmas
+pub mod PlainValueLemmas
 pub mod PlainViaLemmas

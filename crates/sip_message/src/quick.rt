@@ -18,6 +18,7 @@ use crate::field::Field;
 use crate::kept::{Kept, keep};
 use crate::name::{Known, Name, quick_name};
 use crate::plain::is_plain_address;
+use crate::plain_values::{cseq_at, is_call_id_at};
 use crate::plain_via::plain_via;
 use crate::row::{is_address, is_of_row, is_solid, trim};
 use crate::start_line::{StartLine, read_start};
@@ -207,6 +208,8 @@ fn is_value_at<'a>(
         Name::Known(Known::Via) => keep(via_at(masks, at, end), &mut kept.via),
         Name::Known(Known::From) => is_address_at(masks, at, end),
         Name::Known(Known::To) => is_address_at(masks, at, end),
+        Name::Known(Known::CallId) => is_call_id_at(masks, at, end),
+        Name::Known(Known::CSeq) => keep(cseq_at(masks, at, end), &mut kept.cseq),
         _ => is_ordinary_value(name, &masks.text()[at..end], kept),
     }
 }

@@ -5,4 +5,5 @@ pub mod WordLemmas
 pub mod QuickLemmas
 pub mod PlainLemmas
 pub mod PlainValueLemmas
+pub mod PlainStartLemmas
 pub mod PlainViaLemmas

@@ -18,10 +18,11 @@ use crate::field::Field;
 use crate::kept::{Kept, keep};
 use crate::name::{Known, Name, quick_name};
 use crate::plain::is_plain_address;
+use crate::plain_start::start_up_to;
 use crate::plain_values::{cseq_at, is_call_id_at};
 use crate::plain_via::plain_via;
 use crate::row::{is_address, is_of_row, is_solid, trim};
-use crate::start_line::{StartLine, read_start};
+use crate::start_line::StartLine;
 use crate::via::{Via, first_via};
 use sip_masks::Masks;
 use std::alloc::{AllocError, Global};
@@ -49,7 +50,7 @@ pub(crate) fn read_ordinary(
     let Some(end) = line_end(&masks, 0) else {
         return Ok(None);
     };
-    let Some(start) = read_start(&masks.text()[..end]) else {
+    let Some(start) = start_up_to(&masks, end) else {
         return Ok(None);
     };
     let Some((fields, kept, at)) = ordinary_fields(alloc, &masks, end + 2)? else {

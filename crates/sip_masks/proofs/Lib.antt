@@ -1,6 +1,7 @@
 pub mod BitLemmas
 pub mod LaneLemmas
 pub mod TableLemmas
+pub mod KindLemmas
 pub mod WordLemmas
 pub mod RunLemmas
 pub mod HostLemmas

@@ -9,7 +9,7 @@ use Rattle.sip_text.specs.Host.{Hostname}
 use Rattle.sip_text.specs.HostTests.{are_labels}
 use Rattle.sip_text.proofs.HostnameLemmas.{hostname-yes}
 use Rattle.sip_masks.specs.Bits.{test}
-use Rattle.sip_masks.specs.Marks.{is_strange}
+use Rattle.sip_masks.specs.inner.Strange.{is_strange}
 use Rattle.sip_masks.proofs.BitLemmas.{shl, test-and, test-or, test-one_low, test-one_high, test-ones, test-shl_low, test-shl_one}
 use Rattle.sip_masks.proofs.WordLemmas.{test-shr, or-false}
 use Rattle.sip_masks.proofs.RunLemmas.{none-set}

@@ -1,5 +1,5 @@
 -- The kinds of bytes, which both tables give.
-use Rattle.std.proofs.Common.{◌≡◌, ℕ, ◌/◌, ◌<◌, List, map, get_or, replicate, refl, arith, w8}
+use Rattle.std.proofs.Common.{◌≡◌, ℕ, ◌/◌, List, map, get_or, replicate, refl, arith, w8}
 use Rattle.std.proofs.lemmas.Nat.{and_le_r}
 use Rattle.std.proofs.lemmas.Simd.{zip2_splat, zip2_of_maps, swz_l}
 use lib.Bits.{bit_and}

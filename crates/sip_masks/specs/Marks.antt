@@ -2,7 +2,7 @@
 use Rattle.std.specs.Prelude.{◌≡◌, ℕ, ◌+◌, ◌*◌, ◌/◌, ◌%◌, ◌<◌, ◌≤◌, Bool, not, ◌&&◌, ◌||◌, ◌==◌, List, get_or, length, codes}
 use Rattle.std.specs.Int.{is_in_range}
 use Rattle.std.specs.Char.{is_ascii_alphanumeric}
-use Rattle.sip_text.specs.Bytes.{is_one_of, dot, hyphen, tab}
+use Rattle.sip_text.specs.Bytes.{is_one_of, tab}
 use Rattle.sip_masks.specs.Bits.{test}
 
 -- a byte of a token, of a word, of a user, of a password, of a parameter and of a header of a URI
@@ -15,10 +15,6 @@ is_other byte = not (is_plain byte)
 -- a control, HTAB aside
 abbrev pub is_control : ℕ → Bool
 is_control byte = (is_in_range 0 31 byte && not (byte == tab)) || byte == 127
-
--- a byte of no name of a host
-abbrev pub is_strange : ℕ → Bool
-is_strange byte = (not (is_ascii_alphanumeric byte) && not (byte == dot)) && not (byte == hyphen)
 
 -- of the first n places of the text, bit i says whether byte i passes the test; past the end stands NUL
 abbrev pub Marks : (ℕ → Bool) → List ℕ → List ℕ → ℕ → Type 0

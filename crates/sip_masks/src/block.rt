@@ -1,7 +1,8 @@
 //! One block of 64 bytes: which of them are plain, and which are controls.
 ghost use Rattle.std.specs.Prelude.{◌≡◌, ℕ, ◌+◌, ◌<◌, ◌≤◌, ◌==◌, get_or, length};
 ghost use Rattle.sip_masks.specs.Bits.{test};
-ghost use Rattle.sip_masks.specs.Marks.{is_other, is_control, is_strange};
+ghost use Rattle.sip_masks.specs.Marks.{is_other, is_control};
+ghost use Rattle.sip_masks.specs.inner.Strange.{is_strange};
 
 use std::simd::prelude::*;
 

@@ -1,7 +1,7 @@
 //! Plain parts of values, found by the masks of their text: each is told by the place behind it. What is not plain may
 //! still be well spelled, and is left to the readers of all values.
 ghost use Rattle.std.specs.Prelude.{◌≤◌, IfSome, IsTrue, codes, length, option_copied};
-ghost use Rattle.sip_text.specs.Grammar.{Sws};
+ghost use Rattle.sip_text.specs.Grammar.{Sws, Token};
 ghost use Rattle.sip_text.specs.Host.{HostText, host_parts};
 ghost use Rattle.sip_text.specs.Text.{Byte, Exactly};
 ghost use Rattle.sip_text.specs.Uri.{Port};
@@ -171,14 +171,15 @@ fn are_plain_params(masks: &Masks<'_, '_>, at: usize, end: usize) -> bool
 }
 
 /// The name of a parameter, its value if it has one, and the place behind it.
-#[inline]
+#[inline(always)]
 pub(crate) fn past_param<'a>(
     masks: &Masks<'a, '_>,
     at: usize,
     end: usize,
 ) -> Option<(&'a [u8], Option<&'a [u8]>, usize)>
     requires { end ≤ length masks.now }
-    ensures { IfSome result (λ p. Stands (PlainParam (p.0.now, option_copied p.1)) masks.now at end p.2) }
+    ensures param { IfSome result (λ p. Stands (PlainParam (p.0.now, option_copied p.1)) masks.now at end p.2) }
+    ensures value { IfSome result (λ p. IfSome (option_copied p.1) Token) }
 {
     let start = past_byte(masks, at, end, b';')?;
     let behind = past_run(masks, start, end)?;

@@ -23,6 +23,7 @@ use crate::plain_values::{cseq_at, is_call_id_at};
 use crate::plain_via::plain_via;
 use crate::row::{is_address, is_of_row, is_solid, trim};
 use crate::start_line::StartLine;
+use crate::values::is_length;
 use crate::via::{Via, first_via};
 use sip_masks::Masks;
 use std::alloc::{AllocError, Global};
@@ -211,6 +212,7 @@ fn is_value_at<'a>(
         Name::Known(Known::To) => is_address_at(masks, at, end),
         Name::Known(Known::CallId) => is_call_id_at(masks, at, end),
         Name::Known(Known::CSeq) => keep(cseq_at(masks, at, end), &mut kept.cseq),
+        Name::Known(Known::ContentLength) => is_length(&masks.text()[at..end]),
         _ => is_ordinary_value(name, &masks.text()[at..end], kept),
     }
 }

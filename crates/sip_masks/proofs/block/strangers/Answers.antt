@@ -1,7 +1,7 @@
 use Rattle.std.proofs.Common.{ℕ, ◌+◌, ◌-◌, ◌%◌, eqb, not, cond, refl, arith}
 use Rattle.std.proofs.lemmas.Simd.{zip2_splat, zip2_of_maps}
 use lib.Bits.{bit_and, bit_or}
-use Rattle.sip_masks.specs.Marks.{is_strange}
+use Rattle.sip_masks.specs.inner.Strange.{is_strange}
 use Rattle.sip_masks.proofs.LaneLemmas.{splatted, from_byte, classified}
 use Rattle.sip_masks.proofs.block.strangers.Goals as goal
 

@@ -2,7 +2,7 @@ use Rattle.std.proofs.Common.{◌<◌, ◌==◌, ℕ, get_or, sym, ap, ◌∙◌
 use Rattle.std.proofs.lemmas.Bool.{ne_eqb}
 use Rattle.std.proofs.lemmas.Simd.{get_or-chunk}
 use Rattle.sip_text.specs.Bytes.{dot, hyphen}
-use Rattle.sip_masks.specs.Marks.{is_strange}
+use Rattle.sip_masks.specs.inner.Strange.{is_strange}
 use Rattle.sip_masks.proofs.HostWordLemmas.{host-from, before-at}
 use Rattle.sip_masks.proofs.host.is_ordinary_name.Goals as goal
 use Rattle.sip_masks.proofs.host.is_ordinary_name.Goals.{else-top-ne0-via-then-top-ne0+else-window-top-ne46, else-top-ne0-via-else-top-ne0}

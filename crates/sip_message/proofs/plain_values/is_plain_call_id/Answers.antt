@@ -1,4 +1,4 @@
-use Rattle.std.proofs.Common.{◌≡◌, ℕ, ◌==◌, subst}
+use Rattle.std.proofs.Common.{subst}
 use Rattle.std.proofs.lemmas.Bool.{eqb-true}
 use Rattle.sip_text.specs.Bytes.{at_sign}
 use Rattle.sip_text.specs.Text.{Byte, ◌then◌}

@@ -1,4 +1,4 @@
-use Rattle.std.proofs.Common.{◌≢◌, ◌+◌, ◌*◌, length, sym, ap, ◌∙◌, subst, arith}
+use Rattle.std.proofs.Common.{◌≢◌, ◌+◌, ◌*◌, length, sym, ◌∙◌, subst, arith}
 use Rattle.std.proofs.lemmas.Bool.{eqb-false}
 use Rattle.sip_message.proofs.PlainValueLemmas.{ReadsShort, short-more, short-end}
 use Rattle.sip_message.proofs.plain_values.short_number.Goals as goal

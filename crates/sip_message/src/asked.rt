@@ -1,6 +1,6 @@
 //! The fields that the reader asks for by their names, as they come.
 ghost use Rattle.std.specs.Prelude.{◌≡◌, None, Some, IsTrue, IfSome};
-ghost use Rattle.std.specs.Option.{option_or};
+ghost use Rattle.std.specs.Option.{option_map, option_or};
 ghost use Rattle.sip_message.specs.Faults.{NamesOf};
 ghost use Rattle.sip_message.specs.Outcome.{gives};
 ghost use Rattle.sip_message.specs.Views.{slice_fields};
@@ -57,18 +57,28 @@ pub(crate) fn find_asked<'a>(fields: &[Field<'a>]) -> Option<(Named<'a>, Option<
     let (to, _) = asked.to?;
     let (call_id, _) = asked.call_id?;
     let (cseq, cseq_line) = asked.cseq?;
-    let named = Named {
-        via_line,
-        via,
-        from,
-        to,
-        call_id,
-        cseq_line,
-        cseq,
-    };
-    match asked.content_length {
-        Some((digits, _)) => Some((named, Some(digits))),
-        None => Some((named, None)),
+    Some((
+        Named {
+            via_line,
+            via,
+            from,
+            to,
+            call_id,
+            cseq_line,
+            cseq,
+        },
+        value_at(asked.content_length),
+    ))
+}
+
+// The value of the field at the place, if there is one.
+#[inline]
+fn value_at(place: Option<Place<'_>>) -> Option<&[u8]>
+    ensures { result ≡ option_map (λ it. it.0) place.entry }
+{
+    match place {
+        Some((value, _)) => Some(value),
+        None => None,
     }
 }
 

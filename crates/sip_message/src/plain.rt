@@ -6,6 +6,7 @@ ghost use Rattle.sip_text.specs.Host.{HostText, host_parts};
 ghost use Rattle.sip_text.specs.Text.{Byte, Exactly};
 ghost use Rattle.sip_text.specs.Uri.{Port};
 ghost use Rattle.sip_message.specs.Address.{DisplayName};
+ghost use Rattle.sip_message.specs.Params.{Quoted};
 ghost use Rattle.sip_message.specs.inner.AddressFronts.{Words};
 ghost use Rattle.sip_message.specs.inner.Plain.{segment, Stands, PlainRun, PlainParam, HostPort, SomeUri, Opening, SomeParams, SomeAddress};
 
@@ -58,10 +59,23 @@ fn past_name(masks: &Masks<'_, '_>, at: usize, end: usize) -> Option<usize>
     requires { (at ≤ end) × (end ≤ length masks.now) }
     ensures { IfSome result (Stands DisplayName masks.now at end) }
 {
+    if let Some(name) = past_plain_quoted(masks, at, end) {
+        return Some(name);
+    }
     match cut_quoted(&masks.text()[at..end]) {
         Some((name, _)) => Some(at + name.len()),
         None => past_words(masks, at, end),
     }
+}
+
+// The place behind a quoted string of plain words.
+fn past_plain_quoted(masks: &Masks<'_, '_>, at: usize, end: usize) -> Option<usize>
+    requires { end ≤ length masks.now }
+    ensures { IfSome result (Stands Quoted masks.now at end) }
+{
+    let first = past_byte(masks, at, end, b'"')?;
+    let close = past_words(masks, first, end)?;
+    past_byte(masks, close, end, b'"')
 }
 
 // The place behind plain runs with a SP between any two.

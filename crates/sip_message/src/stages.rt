@@ -153,7 +153,8 @@ fn find_once<'a>(fields: &[Field<'a>], name: Known) -> Result<(&'a [u8], usize),
     }
 }
 
-// The body.
+// The body. Inlined, since a Via of which a place is handed on twice is copied.
+#[inline(always)]
 pub(crate) fn read_body<'a>(
     start: StartLine<'a>,
     named: Named<'a>,

@@ -1,11 +1,11 @@
 -- One bit of a word, through the operations that join two words.
-use Rattle.std.proofs.Common.{◌≡◌, ℕ, zero, suc, ◌+◌, ◌-◌, ◌*◌, ◌/◌, ◌%◌, ◌^◌, ◌<◌, max, Bool, true, false, ◌||◌, ◌==◌, List, get_or, cond, refl, sym, ap, ◌∙◌, arith}
+use Rattle.std.proofs.Common.{◌≡◌, ℕ, zero, suc, ◌+◌, ◌-◌, ◌*◌, ◌/◌, ◌%◌, ◌^◌, ◌<◌, max, min, Bool, true, false, ◌&&◌, ◌||◌, ◌==◌, List, get_or, cond, refl, sym, ap, ◌∙◌, arith}
 use Rattle.std.specs.Int.{bit_at}
 use Rattle.std.proofs.lemmas.Bool.{agree_below_at}
 use Rattle.std.proofs.lemmas.Nat.{pow_pos}
-use Rattle.std.proofs.lemmas.Nat.Bits.{bit_at-lt, bit_at-zero, bit_at_or, bit_at_cat_low, bit_at_cat_high}
+use Rattle.std.proofs.lemmas.Nat.Bits.{bit_at-lt, bit_at-zero, bit_at_or, bit_at_and, bit_at_above, bit_at_cat_low, bit_at_cat_high}
 use Rattle.std.proofs.lemmas.Simd.{bit_mask_l}
-use lib.Bits.{bit_or}
+use lib.Bits.{bit_and, bit_or}
 use lib.Lanes.{mask_l}
 use Rattle.sip_masks.specs.Bits.{test}
 
@@ -22,6 +22,23 @@ test-or a b i =
     ∙ by-bit (λ x. (max x (bit_at b i) == 1) ≡ ((x == 1) || (bit_at b i == 1))) (bit_at a i) (bit_at-lt a i)
     (by-bit (λ y. (max 0 y == 1) ≡ (y == 1)) (bit_at b i) (bit_at-lt b i) refl refl)
     (by-bit (λ y. (max 1 y == 1) ≡ true) (bit_at b i) (bit_at-lt b i) refl refl)
+
+pub test-and : (a b i : ℕ) → test (bit_and a b) i ≡ (test a i && test b i)
+unfolding test
+test-and a b i =
+    ap (λ n. n == 1) (bit_at_and a b i)
+    ∙ by-bit (λ x. (min x (bit_at b i) == 1) ≡ ((x == 1) && (bit_at b i == 1))) (bit_at a i) (bit_at-lt a i)
+    (by-bit (λ y. (min 0 y == 1) ≡ false) (bit_at b i) (bit_at-lt b i) refl refl)
+    (by-bit (λ y. (min 1 y == 1) ≡ (y == 1)) (bit_at b i) (bit_at-lt b i) refl refl)
+
+-- the bits of 1
+pub test-one_low : test 1 0 ≡ true
+unfolding test
+test-one_low = refl
+
+pub test-one_high : (i : ℕ) → test 1 (suc i) ≡ false
+unfolding test
+test-one_high i = ap (λ n. n == 1) (bit_at_above 1 1 (suc i) (omega arith) (omega arith))
 
 -- the low bits of a number are those of its remainder
 pub test-low : (n i : ℕ) → i < 64 → test (n % 2 ^ 64) i ≡ test n i
@@ -47,6 +64,12 @@ unfolding test
 test-shl_low k i y before below =
     let none : y * 2 ^ k ≡ y * 2 ^ k + 0 = omega arith in
     test-low (y * 2 ^ k) i below ∙ ap (λ b. b == 1) (ap (λ m. bit_at m i) none ∙ bit_at_cat_low y k 0 i before ∙ bit_at-zero i)
+
+-- a word moved up by one bit
+pub test-shl_one : (j y : ℕ) → suc j < 64 → test (shl 1 y) (suc j) ≡ test y j
+test-shl_one j y below =
+    let is : 1 + j ≡ suc j = omega arith in
+    ap (test (shl 1 y)) (sym is) ∙ test-shl_high 1 j y (omega (arith, below))
 
 -- the mask of some lanes
 pub test-mask : (lanes : List Bool) (i : ℕ) → test (mask_l lanes) i ≡ get_or lanes i false

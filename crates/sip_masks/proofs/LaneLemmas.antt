@@ -1,5 +1,5 @@
 -- A mask whose lanes are made byte by byte is held to a class of bytes at each of the 256.
-use Rattle.std.proofs.Common.{◌≡◌, ℕ, ◌%◌, ◌^◌, ◌<◌, eqb, ltb, Bool, true, false, cond, List, map, length, get_or, replicate, Fits, w8, ap, ◌∙◌, arith}
+use Rattle.std.proofs.Common.{◌≡◌, ℕ, ◌%◌, ◌^◌, ◌<◌, ◌≤◌, eqb, leb, ltb, Bool, true, false, cond, List, [], ◌∷◌, map, length, get_or, replicate, refl, sym, Fits, w8, ap, ◌∙◌, arith}
 use Rattle.std.proofs.lemmas.Bool.{agree_below, agree_below_at}
 use Rattle.std.proofs.lemmas.List.{get_or-map, length-map}
 use Rattle.std.proofs.lemmas.Simd.{zip2_splat, zip2_of_maps, map-map, Each1-get_or}
@@ -8,9 +8,13 @@ use lib.Lanes.{zip2, mask_l, top, Each1}
 use Rattle.sip_masks.specs.Bits.{test}
 use Rattle.sip_masks.proofs.BitLemmas.{test-low, test-mask}
 
+-- n bytes
+abbrev pub AreBytes : ℕ → List ℕ → Type 0
+AreBytes n v = (length v ≡ n) × Each1 (Fits w8) v
+
 -- the lanes of a block of bytes
 abbrev pub IsBlock : List ℕ → Type 0
-IsBlock v = (length v ≡ 64) × Each1 (Fits w8) v
+IsBlock v = AreBytes 64 v
 
 -- what a comparison leaves in a lane
 abbrev pub hit : ℕ → ℕ → ℕ
@@ -19,19 +23,38 @@ hit a b = cond (eqb a b) 255 0
 abbrev pub below : ℕ → ℕ → ℕ
 below a b = cond (ltb a b) 255 0
 
+abbrev pub at_most : ℕ → ℕ → ℕ
+at_most a b = cond (leb a b) 255 0
+
 -- one of two classes
 pub either : (f g : ℕ → ℕ) (v : List ℕ) {a b : List ℕ} → a ≡ map f v → b ≡ map g v → zip2 bit_or a b ≡ map (λ x. bit_or (f x) (g x)) v
 either f g v p q = zip2_of_maps bit_or f g v p q
 
+-- an operation with one byte in each lane
+pub splatted : (h : ℕ → ℕ → ℕ) (f : ℕ → ℕ) (n y : ℕ) (v : List ℕ) {a : List ℕ} → length v ≡ n → a ≡ map f v → zip2 h a (replicate n y) ≡ map (λ x. h (f x) y) v
+splatted h f n y v long is = ap (λ a. zip2 h a (replicate n y)) is ∙ zip2_splat h (map f v) n y (length-map v f ∙ long) ∙ map-map (λ x. h x y) f v
+
+-- one byte in each lane
+filled : (n y : ℕ) (v : List ℕ) → length v ≡ n → replicate n y ≡ map (λ _. y) v
+filled n y v long = ap (λ k. replicate k y) (sym long) ∙ go v
+  where
+    go : (v : List ℕ) → replicate (length v) y ≡ map (λ _. y) v
+    go [] = refl
+    go (x ∷ v) = ap (λ t. y ∷ t) (go v)
+
+-- the lanes from a byte on
+pub from_byte : (f : ℕ → ℕ) (n y : ℕ) (v : List ℕ) {a : List ℕ} → length v ≡ n → a ≡ map f v → zip2 at_most (replicate n y) a ≡ map (λ x. at_most y (f x)) v
+from_byte f n y v long is = zip2_of_maps at_most (λ _. y) f v (filled n y v long) is
+
 -- the lanes that hold one byte
-pub equal : (f : ℕ → ℕ) (y : ℕ) (v : List ℕ) {a : List ℕ} → length v ≡ 64 → a ≡ map f v → zip2 hit a (replicate 64 y) ≡ map (λ x. hit (f x) y) v
-equal f y v long is = ap (λ a. zip2 hit a (replicate 64 y)) is ∙ zip2_splat hit (map f v) 64 y (length-map v f ∙ long) ∙ map-map (λ x. hit x y) f v
+pub equal : (f : ℕ → ℕ) (n y : ℕ) (v : List ℕ) {a : List ℕ} → length v ≡ n → a ≡ map f v → zip2 hit a (replicate n y) ≡ map (λ x. hit (f x) y) v
+equal f n y v long is = splatted hit f n y v long is
 
 -- the mask of the class p
-pub classified : (f : ℕ → ℕ) (p : ℕ → Bool) (v z : List ℕ) → IsBlock v → z ≡ map f v → agree_below (λ x. top 7 (f x)) p 256 ≡ true
-    → (i : ℕ) → i < 64 → test (mask_l (map (top 7) z) % 2 ^ 64) i ≡ p (get_or v i 0)
-classified f p v z block is all i small =
-    let within : i < length v = omega (arith, block.0) in
+pub classified : (f : ℕ → ℕ) (p : ℕ → Bool) (n : ℕ) (v z : List ℕ) → AreBytes n v → n ≤ 64 → z ≡ map f v → agree_below (λ x. top 7 (f x)) p 256 ≡ true
+    → (i : ℕ) → i < n → test (mask_l (map (top 7) z) % 2 ^ 64) i ≡ p (get_or v i 0)
+classified f p n v z block most is all i small =
+    let within : i < length v = omega (arith, block.0, small) in
     let lanes : map (top 7) z ≡ map (λ x. top 7 (f x)) v = ap (map (top 7)) is ∙ map-map (top 7) f v in
-    test-low _ i small ∙ test-mask (map (top 7) z) i ∙ ap (λ l. get_or l i false) lanes ∙ get_or-map (λ x. top 7 (f x)) v i 0 false within
+    test-low _ i (omega (arith, small, most)) ∙ test-mask (map (top 7) z) i ∙ ap (λ l. get_or l i false) lanes ∙ get_or-map (λ x. top 7 (f x)) v i 0 false within
     ∙ agree_below_at (λ x. top 7 (f x)) p 256 (get_or v i 0) all (Each1-get_or (Fits w8) v i 0 within block.1).fits

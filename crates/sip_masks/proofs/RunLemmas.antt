@@ -8,9 +8,9 @@ use Rattle.std.proofs.lemmas.List.Sums.{prefix_len_is}
 use Rattle.std.proofs.lemmas.Nat.Bits.{bit_at-zero, bit_at-trailing_zeros}
 use Rattle.sip_masks.specs.Bits.{test}
 
--- the bits of the word are the bytes from p on
-abbrev pub Shows : (ℕ → Bool) → List ℕ → ℕ → ℕ → Type 0
-Shows q text p word = (j : ℕ) → j < 64 → test word j ≡ q (get_or text (p + j) 0)
+-- n bits of the word are the bytes from p on
+abbrev pub Shows : ℕ → (ℕ → Bool) → List ℕ → ℕ → ℕ → Type 0
+Shows n q text p word = (j : ℕ) → j < n → test word j ≡ q (get_or text (p + j) 0)
 
 -- each byte from p up to e passes
 abbrev pub Passes : (ℕ → Bool) → List ℕ → ℕ → ℕ → Type 0
@@ -44,18 +44,18 @@ run-is f text p e from within passes stops =
     subst (λ x. f x ≡ false) (sym (get_or-drop p text (e - p) 0 ∙ ap (λ n. get_or text n 0) is)) (stops (omega (arith, below, long, from))))
 
 module _ (f q : ℕ → Bool) (opposite : (x : ℕ) → q x ≡ not (f x)) (nul : q 0 ≡ true) where
-  -- no bit is set: 64 bytes more
-  pub goes-on : (text : List ℕ) (s p word : ℕ) → word ≡ 0 → Shows q text p word → Passes f text s p → p ≤ length text → Passes f text s (p + 64) × (p + 64 ≤ length text)
-  goes-on text s p word none shows before within =
-      let unset = λ (j : ℕ) (h : j < 64). sym (shows j h) ∙ none-set word j none in (
+  -- no bit is set: n bytes more
+  pub goes-on : (text : List ℕ) (n s p word : ℕ) → word ≡ 0 → Shows n q text p word → Passes f text s p → p ≤ length text → Passes f text s (p + n) × (p + n ≤ length text)
+  goes-on text n s p word none shows before within =
+      let unset = λ (j : ℕ) (h : j < n). sym (shows j h) ∙ none-set word j none in (
         (λ k from below. elim (cases_lt k p) [
           | inl low ↦ before k from low
           | inr high ↦
               let is : p + (k - p) ≡ k = omega (arith, high) in
-              let small : k - p < 64 = omega (arith, high, below) in
-              subst (λ n. f (get_or text n 0) ≡ true) is (flipped (q (get_or text (p + (k - p)) 0)) (f (get_or text (p + (k - p)) 0)) (opposite _) (unset (k - p) small))
+              let small : k - p < n = omega (arith, high, below) in
+              subst (λ m. f (get_or text m 0) ≡ true) is (flipped (q (get_or text (p + (k - p)) 0)) (f (get_or text (p + (k - p)) 0)) (opposite _) (unset (k - p) small))
         ]),
-        elim (cases_lt (length text) (p + 64)) [
+        elim (cases_lt (length text) (p + n)) [
           | inl short ↦
               let is : p + (length text - p) ≡ length text = omega (arith, within) in
               let set_there : q (get_or text (p + (length text - p)) 0) ≡ true = ap q (get_or_past text (p + (length text - p)) 0 (omega (arith, is))) ∙ nul in
@@ -65,12 +65,17 @@ module _ (f q : ℕ → Bool) (opposite : (x : ℕ) → q x ≡ not (f x)) (nul 
       )
 
   -- the lowest bit is the end
-  pub stops-at : (text : List ℕ) (s p word : ℕ) → 0 < word → word < 2 ^ 64 → Shows q text p word → s ≤ p → Passes f text s p → p ≤ length text → prefix_len f (drop s text) ≡ p + trailing_zeros w64 word - s
-  stops-at text s p word some small shows order before within =
+  pub stops-at : (text : List ℕ) (most s p word : ℕ) → 0 < word → word < 2 ^ 64 → Shows most q text p word → ((j : ℕ) → most ≤ j → j < 64 → test word j ≡ false) → s ≤ p → Passes f text s p → p ≤ length text
+      → prefix_len f (drop s text) ≡ p + trailing_zeros w64 word - s
+  stops-at text most s p word some small shows none order before within =
       let found = lowest-set word some small in
       let n = trailing_zeros w64 word in
-      let at : q (get_or text (p + n) 0) ≡ true = sym (shows n found.0) ∙ found.1 in
-      let low = λ (j : ℕ) (h : j < n). sym (shows j (omega (arith, h, found.0))) ∙ found.2 j h in
+      let fits : n < most = elim (cases_lt n most) [
+        | inl less ↦ less
+        | inr more ↦ absurd (false≢true (sym (none n more found.0) ∙ found.1))
+      ] in
+      let at : q (get_or text (p + n) 0) ≡ true = sym (shows n fits) ∙ found.1 in
+      let low = λ (j : ℕ) (h : j < n). sym (shows j (omega (arith, h, fits))) ∙ found.2 j h in
       let inside : p + n ≤ length text = elim (cases_lt (length text) (p + n)) [
         | inl short ↦
             let is : p + (length text - p) ≡ length text = omega (arith, within) in

@@ -12,7 +12,7 @@ pub test-shr : (x r j : ℕ) → test (x / 2 ^ r) j ≡ test x (r + j)
 unfolding test
 test-shr x r j = ap (λ n. n % 2 == 1) (shr-shr x r j)
 
-test-above : (x i : ℕ) → x < 2 ^ 64 → 64 ≤ i → test x i ≡ false
+pub test-above : (x i : ℕ) → x < 2 ^ 64 → 64 ≤ i → test x i ≡ false
 unfolding test
 test-above x i small high = ap (λ n. n == 1) (bit_at_above x 64 i small high)
 

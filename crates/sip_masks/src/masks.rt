@@ -1,5 +1,5 @@
 //! The masks of a text.
-ghost use Rattle.std.specs.Prelude.{◌≡◌, ℕ, not, ◌+◌, ◌*◌, ◌/◌, ◌%◌, ◌<◌, ◌≤◌, get_or, length, take, drop};
+ghost use Rattle.std.specs.Prelude.{◌≡◌, ℕ, false, not, ◌+◌, ◌-◌, ◌*◌, ◌/◌, ◌%◌, ◌<◌, ◌≤◌, get_or, length, take, drop};
 ghost use Rattle.std.specs.List.{prefix_len};
 ghost use Rattle.sip_masks.specs.Bits.{test};
 ghost use Rattle.sip_masks.specs.Marks.{is_plain, is_control, is_other, Marks, words_for};
@@ -77,6 +77,16 @@ fn word_at(words: &[u64], p: usize) -> u64
     (words[p / 64] >> r) | ((words[p / 64 + 1] << 1) << (63 - r))
 }
 
+// The bits from place p on of the word that holds it.
+#[inline(always)]
+fn rest_at(words: &[u64], p: usize) -> u64
+    requires { p / 64 < length words.now }
+    ensures bits { (j : ℕ) → j < 64 - p % 64 → test result j ≡ test (get_or words.now ((p + j) / 64) 0) ((p + j) % 64) }
+    ensures none { (j : ℕ) → 64 - p % 64 ≤ j → test result j ≡ false }
+{
+    words[p / 64] >> (p % 64)
+}
+
 impl<'t, 'm> Masks<'t, 'm> {
     /// A front of the text with its masks, which go into the words. Mostly it ends with the block in
     /// which the first empty line ends.
@@ -137,11 +147,11 @@ impl<'t, 'm> Masks<'t, 'm> {
     {
         let mut q = p;
         loop {
-            let word = word_at(self.controls, q);
+            let word = rest_at(self.controls, q);
             if word != 0 {
                 return q + word.trailing_zeros() as usize;
             }
-            q += 64;
+            q += 64 - q % 64;
         }
     }
 }

@@ -4,4 +4,6 @@ pub mod LaneLemmas
 pub mod WordLemmas
 pub mod QuickLemmas
 pub mod PlainLemmas
+pub mod PlainValueLemmas
+pub mod PlainStartLemmas
 pub mod PlainViaLemmas

@@ -1,11 +1,11 @@
 //! The fields that the reader asks for by their names, as they come.
 ghost use Rattle.std.specs.Prelude.{◌≡◌, None, Some, IsTrue, IfSome};
-ghost use Rattle.std.specs.Option.{option_or};
+ghost use Rattle.std.specs.Option.{option_map, option_or};
 ghost use Rattle.sip_message.specs.Faults.{NamesOf};
 ghost use Rattle.sip_message.specs.Outcome.{gives};
 ghost use Rattle.sip_message.specs.Views.{slice_fields};
 ghost use Rattle.sip_message.specs.inner.Asked.{KeepsPlace};
-ghost use Rattle.sip_message.specs.inner.Stages.{names_parts, Stand};
+ghost use Rattle.sip_message.specs.inner.Stages.{names_parts, Stand, IsLength};
 
 use crate::field::Field;
 use crate::name::{Known, Name};
@@ -25,10 +25,11 @@ struct Asked<'a> {
     content_length: Option<Place<'a>>,
 }
 
-/// The named fields, where none of them is missing and none stands twice.
-pub(crate) fn find_asked<'a>(fields: &[Field<'a>]) -> Option<Named<'a>>
-    ensures names { IfSome result (λ named. NamesOf (slice_fields fields.entry) (gives (names_parts named))) }
-    ensures stand { IfSome result (λ named. Stand (slice_fields fields.entry) named) }
+/// The named fields and the value of Content-Length, where none of them is missing and none stands twice.
+pub(crate) fn find_asked<'a>(fields: &[Field<'a>]) -> Option<(Named<'a>, Option<&'a [u8]>)>
+    ensures names { IfSome result (λ found. NamesOf (slice_fields fields.entry) (gives (names_parts found.0))) }
+    ensures stand { IfSome result (λ found. Stand (slice_fields fields.entry) found.0) }
+    ensures length { IfSome result (λ found. IsLength (slice_fields fields.entry) found.1) }
 {
     let mut asked = Asked {
         via: None,
@@ -56,15 +57,29 @@ pub(crate) fn find_asked<'a>(fields: &[Field<'a>]) -> Option<Named<'a>>
     let (to, _) = asked.to?;
     let (call_id, _) = asked.call_id?;
     let (cseq, cseq_line) = asked.cseq?;
-    Some(Named {
-        via_line,
-        via,
-        from,
-        to,
-        call_id,
-        cseq_line,
-        cseq,
-    })
+    Some((
+        Named {
+            via_line,
+            via,
+            from,
+            to,
+            call_id,
+            cseq_line,
+            cseq,
+        },
+        value_at(asked.content_length),
+    ))
+}
+
+// The value of the field at the place, if there is one.
+#[inline]
+fn value_at(place: Option<Place<'_>>) -> Option<&[u8]>
+    ensures { result ≡ option_map (λ it. it.0) place.entry }
+{
+    match place {
+        Some((value, _)) => Some(value),
+        None => None,
+    }
 }
 
 // Keeps the place of a field of this name, if it is asked for. A second one of a name that stands at

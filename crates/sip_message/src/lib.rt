@@ -16,6 +16,8 @@ mod number;
 mod other;
 mod params;
 mod plain;
+mod plain_start;
+mod plain_values;
 mod plain_via;
 mod quick;
 mod row;

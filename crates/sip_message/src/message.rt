@@ -14,7 +14,7 @@ use crate::ends::is_clean;
 use crate::fault::{Fault, ReadError, Reason, Unit};
 use crate::field::{Field, read_fields};
 use crate::quick::read_ordinary;
-use crate::stages::{cut_first, cut_head, find_named, read_body};
+use crate::stages::{body_by_length, cut_first, cut_head, find_named, read_body};
 use crate::start_line::{StartLine, read_start};
 use crate::values::CSeq;
 use crate::via::Via;
@@ -94,12 +94,12 @@ impl<'a> Message<'a> {
         let Some((start, fields, kept, rest)) = read_ordinary(alloc, bytes)? else {
             return Ok(None);
         };
-        let Some(named) = find_asked(&fields) else {
+        let Some((named, length)) = find_asked(&fields) else {
             return Ok(None);
         };
         let via = kept.via.unwrap();
         let cseq = kept.cseq.unwrap();
-        let Ok(body) = read_body(start, named, &via, cseq, &fields, rest) else {
+        let Ok(body) = body_by_length(start, named, &via, cseq, length, rest) else {
             return Ok(None);
         };
         Ok(Some(Message::new(

@@ -1,16 +1,17 @@
 //! Plain parts of values, found by the masks of their text: each is told by the place behind it. What is not plain may
 //! still be well spelled, and is left to the readers of all values.
 ghost use Rattle.std.specs.Prelude.{◌≤◌, IfSome, IsTrue, codes, length, option_copied};
-ghost use Rattle.sip_text.specs.Grammar.{Sws};
+ghost use Rattle.sip_text.specs.Grammar.{Sws, Token};
 ghost use Rattle.sip_text.specs.Host.{HostText, host_parts};
 ghost use Rattle.sip_text.specs.Text.{Byte, Exactly};
 ghost use Rattle.sip_text.specs.Uri.{Port};
 ghost use Rattle.sip_message.specs.Address.{DisplayName};
+ghost use Rattle.sip_message.specs.Params.{Quoted};
 ghost use Rattle.sip_message.specs.inner.AddressFronts.{Words};
 ghost use Rattle.sip_message.specs.inner.Plain.{segment, Stands, PlainRun, PlainParam, HostPort, SomeUri, Opening, SomeParams, SomeAddress};
 
 use crate::params::cut_quoted;
-use sip_masks::Masks;
+use sip_masks::{Masks, is_ordinary_name};
 use sip_text::{Host, is_port, read_host};
 
 /// Whether an address stands from one place up to another, with a URI in `<` and `>`.
@@ -58,10 +59,23 @@ fn past_name(masks: &Masks<'_, '_>, at: usize, end: usize) -> Option<usize>
     requires { (at ≤ end) × (end ≤ length masks.now) }
     ensures { IfSome result (Stands DisplayName masks.now at end) }
 {
+    if let Some(name) = past_plain_quoted(masks, at, end) {
+        return Some(name);
+    }
     match cut_quoted(&masks.text()[at..end]) {
         Some((name, _)) => Some(at + name.len()),
         None => past_words(masks, at, end),
     }
+}
+
+// The place behind a quoted string of plain words.
+fn past_plain_quoted(masks: &Masks<'_, '_>, at: usize, end: usize) -> Option<usize>
+    requires { end ≤ length masks.now }
+    ensures { IfSome result (Stands Quoted masks.now at end) }
+{
+    let first = past_byte(masks, at, end, b'"')?;
+    let close = past_words(masks, first, end)?;
+    past_byte(masks, close, end, b'"')
 }
 
 // The place behind plain runs with a SP between any two.
@@ -127,8 +141,19 @@ pub(crate) fn past_host<'a>(
     ensures { IfSome result (λ found. Stands (λ u. HostText u (host_parts found.0)) masks.now at end found.1) }
 {
     let to = past_run(masks, at, end)?;
-    let host = read_host(&masks.text()[at..to])?;
+    let host = host_at(masks.text(), at, to)?;
     Some((host, to))
+}
+
+// The host that stands between two places. Most are names of an ordinary kind.
+fn host_at(text: &[u8], at: usize, to: usize) -> Option<Host<'_>>
+    requires { (at ≤ to) × (to ≤ length text.now) }
+    ensures { IfSome result (λ host. HostText (segment at to text.now) (host_parts host)) }
+{
+    if is_ordinary_name(&text[at..], to - at) {
+        return Some(Host::Name(&text[at..to]));
+    }
+    read_host(&text[at..to])
 }
 
 /// The place behind the port.
@@ -160,14 +185,15 @@ fn are_plain_params(masks: &Masks<'_, '_>, at: usize, end: usize) -> bool
 }
 
 /// The name of a parameter, its value if it has one, and the place behind it.
-#[inline]
+#[inline(always)]
 pub(crate) fn past_param<'a>(
     masks: &Masks<'a, '_>,
     at: usize,
     end: usize,
 ) -> Option<(&'a [u8], Option<&'a [u8]>, usize)>
     requires { end ≤ length masks.now }
-    ensures { IfSome result (λ p. Stands (PlainParam (p.0.now, option_copied p.1)) masks.now at end p.2) }
+    ensures param { IfSome result (λ p. Stands (PlainParam (p.0.now, option_copied p.1)) masks.now at end p.2) }
+    ensures value { IfSome result (λ p. IfSome (option_copied p.1) Token) }
 {
     let start = past_byte(masks, at, end, b';')?;
     let behind = past_run(masks, start, end)?;

@@ -1,14 +1,17 @@
 //! Elements of Via whose parts are plain, with no blanks but the one before the host.
 ghost use Rattle.std.specs.Prelude.{◌≤◌, IfSome, length, option_copied};
+ghost use Rattle.sip_text.specs.Grammar.{Token};
 ghost use Rattle.sip_text.specs.Uri.{Port};
 ghost use Rattle.sip_message.specs.Via.{ColonPort, ViaParams};
 ghost use Rattle.sip_message.specs.ViaParts.{element};
 ghost use Rattle.sip_message.specs.inner.ElementFronts.{FirstVia};
+ghost use Rattle.sip_message.specs.inner.ViaFronts.{BranchOf};
 ghost use Rattle.sip_message.specs.inner.Plain.{segment, Stands};
 
 use crate::plain::{past_byte, past_host, past_param, past_port, past_run};
-use crate::via::{Via, branch_of};
+use crate::via::Via;
 use sip_masks::Masks;
+use sip_text::same_text;
 
 /// The one element of Via from one place up to another.
 pub(crate) fn plain_via<'a>(masks: &Masks<'a, '_>, at: usize, end: usize) -> Option<Via<'a>>
@@ -64,8 +67,20 @@ fn plain_branch<'a>(masks: &Masks<'a, '_>, at: usize, end: usize) -> Option<Opti
         let Some((name, value, to)) = past_param(masks, from, end) else {
             return None;
         };
-        branch = branch.or(branch_of(name, value)?);
+        branch = branch.or(token_branch(name, value)?);
         from = to;
     }
     Some(branch)
+}
+
+// The branch that a parameter is whose value is a token, None within where it has another name, and None
+// where it is a branch without a value.
+fn token_branch<'a>(name: &[u8], value: Option<&'a [u8]>) -> Option<Option<&'a [u8]>>
+    requires { IfSome (option_copied value) Token }
+    ensures { IfSome result (λ branch. BranchOf (name.entry.now, option_copied value.entry) (option_copied branch)) }
+{
+    if !same_text(name, b"branch") {
+        return Some(None);
+    }
+    Some(Some(value?))
 }

@@ -18,9 +18,12 @@ use crate::field::Field;
 use crate::kept::{Kept, keep};
 use crate::name::{Known, Name, quick_name};
 use crate::plain::is_plain_address;
+use crate::plain_start::start_up_to;
+use crate::plain_values::{cseq_at, is_call_id_at};
 use crate::plain_via::plain_via;
 use crate::row::{is_address, is_of_row, is_solid, trim};
-use crate::start_line::{StartLine, read_start};
+use crate::start_line::StartLine;
+use crate::values::is_length;
 use crate::via::{Via, first_via};
 use sip_masks::Masks;
 use std::alloc::{AllocError, Global};
@@ -48,7 +51,7 @@ pub(crate) fn read_ordinary(
     let Some(end) = line_end(&masks, 0) else {
         return Ok(None);
     };
-    let Some(start) = read_start(&masks.text()[..end]) else {
+    let Some(start) = start_up_to(&masks, end) else {
         return Ok(None);
     };
     let Some((fields, kept, at)) = ordinary_fields(alloc, &masks, end + 2)? else {
@@ -207,6 +210,9 @@ fn is_value_at<'a>(
         Name::Known(Known::Via) => keep(via_at(masks, at, end), &mut kept.via),
         Name::Known(Known::From) => is_address_at(masks, at, end),
         Name::Known(Known::To) => is_address_at(masks, at, end),
+        Name::Known(Known::CallId) => is_call_id_at(masks, at, end),
+        Name::Known(Known::CSeq) => keep(cseq_at(masks, at, end), &mut kept.cseq),
+        Name::Known(Known::ContentLength) => is_length(&masks.text()[at..end]),
         _ => is_ordinary_value(name, &masks.text()[at..end], kept),
     }
 }

@@ -1,5 +1,7 @@
 //! The stages of reading.
-ghost use Rattle.std.specs.Prelude.{◌≡◌, ◌↔◌, ◌≤◌, ◌<◌, ◌-◌, ℕ, List, ◌++◌, length, slice_index, Some, IsTrue, IfOk};
+ghost use Rattle.std.specs.Prelude.{◌≡◌, ◌↔◌, ◌≤◌, ◌<◌, ◌-◌, ℕ, List, ◌++◌, length, slice_index, Some, IsTrue, IfOk, IfSome, option_copied};
+ghost use Rattle.std.specs.Option.{option_map};
+ghost use Rattle.std.specs.Str.Parse.{digits_value};
 ghost use Rattle.memchr.specs.Find.{FindsNeedle};
 ghost use Rattle.sip_text.specs.Bytes.{crlf, carriage_return};
 ghost use Rattle.sip_text.specs.Text.{IsOnlyValue};
@@ -7,6 +9,7 @@ ghost use Rattle.sip_message.specs.Lines.{IsLines};
 ghost use Rattle.sip_message.specs.inner.Lines.{AreLines};
 ghost use Rattle.std.specs.List.{AllByRecursion};
 ghost use Rattle.sip_message.specs.Field.{Row};
+ghost use Rattle.sip_message.specs.Values.{Digits};
 ghost use Rattle.sip_message.specs.Message.{content_length, is_stream, MethodFits};
 ghost use Rattle.sip_message.specs.Faults.{IsCut, Present, NotTwice, Once, NamesOf, BodyOf};
 ghost use Rattle.sip_message.specs.inner.Finds.{IsFound, found_parts, nothing_parts};
@@ -150,7 +153,8 @@ fn find_once<'a>(fields: &[Field<'a>], name: Known) -> Result<(&'a [u8], usize),
     }
 }
 
-// The body.
+// The body. Inlined, since a Via of which a place is handed on twice is copied.
+#[inline(always)]
 pub(crate) fn read_body<'a>(
     start: StartLine<'a>,
     named: Named<'a>,
@@ -164,13 +168,33 @@ pub(crate) fn read_body<'a>(
     requires cseq { CSeqValue named.cseq.now (cseq_parts cseq) }
     ensures { BodyOf (start_parts start.entry) ((names_parts named.entry).1) ((names_parts named.entry).0.1) (content_length (slice_fields fields.entry)) rest.entry.now (outcome_of text_parts result) }
 {
+    match cut_value(fields, 0, Known::ContentLength) {
+        Some((digits, _)) => body_by_length(start, named, via, cseq, Some(digits), rest),
+        None => body_by_length(start, named, via, cseq, None, rest),
+    }
+}
+
+/// The same, where the value of Content-Length is at hand.
+pub(crate) fn body_by_length<'a>(
+    start: StartLine<'a>,
+    named: Named<'a>,
+    via: &Via<'a>,
+    cseq: CSeq<'a>,
+    length: Option<&'a [u8]>,
+    rest: &'a [u8],
+) -> Result<&'a [u8], Fault>
+    requires digits { IfSome (option_copied length) Digits }
+    requires via { FirstVia named.via.now (element via.now) }
+    requires cseq { CSeqValue named.cseq.now (cseq_parts cseq) }
+    ensures { BodyOf (start_parts start.entry) ((names_parts named.entry).1) ((names_parts named.entry).0.1) (option_map (digits_value 10) (option_copied length.entry)) rest.entry.now (outcome_of text_parts result) }
+{
     if !fits_method(start, cseq) {
         return Err(Fault {
             unit: Unit::Line(named.cseq_line),
             reason: Reason::MethodMismatch,
         });
     }
-    let Some((digits, _)) = cut_value(fields, 0, Known::ContentLength) else {
+    let Some(digits) = length else {
         if is_stream(via.transport) {
             return Err(Fault {
                 unit: Unit::Body,

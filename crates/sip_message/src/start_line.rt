@@ -74,8 +74,8 @@ fn read_status(line: &[u8]) -> Option<(u16, &[u8])>
     Some((code, reason))
 }
 
-// The Status-Code at the front, and what is behind its SP.
-fn cut_code(text: &[u8]) -> Option<(u16, &[u8])>
+/// The Status-Code at the front, and what is behind its SP.
+pub(crate) fn cut_code(text: &[u8]) -> Option<(u16, &[u8])>
     ensures { IsOnlyValue CodeFront status_parts text.now result }
 {
     if text.len() < 3 {

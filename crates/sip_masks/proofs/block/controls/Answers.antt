@@ -1,16 +1,17 @@
-use Rattle.std.proofs.Common.{refl, ℕ, eqb, not, cond}
-use Rattle.std.proofs.lemmas.Simd.{zip2_splat, zip2_of_maps}
-use lib.Bits.{bit_and}
+use Rattle.std.proofs.Common.{refl, arith}
 use Rattle.sip_masks.specs.Marks.{is_control}
-use Rattle.sip_masks.proofs.LaneLemmas.{hit, below, either, classified}
+use Rattle.sip_masks.proofs.LaneLemmas.{from_byte, classified}
+use Rattle.sip_masks.proofs.TableLemmas.{low_ok, high_ok}
+use Rattle.sip_masks.proofs.KindLemmas.{kind, kinds}
 use Rattle.sip_masks.proofs.block.controls.Goals as goal
 
-abbrev missed : ℕ → ℕ → ℕ
-missed a b = cond (not (eqb a b)) 255 0
+pub swizzle-low : goal.swizzle-low
+swizzle-low c = low_ok c.args.v c.fits-v
+
+pub swizzle-high : goal.swizzle-high
+swizzle-high c = high_ok c.args.v c.fits-v
 
 pub returns : goal.returns
 returns c =
     let v = c.args.v in
-    let long = c.fits-v.0 in
-    classified _ is_control v _ c.fits-v
-    (either _ _ v (zip2_of_maps bit_and (λ x. below x 32) (λ x. missed x 9) v (zip2_splat below v 64 32 long) (zip2_splat missed v 64 9 long)) (zip2_splat hit v 64 127 long)) refl
+    classified _ is_control 64 v _ c.fits-v (omega arith) (from_byte kind 64 32 v c.fits-v.0 (kinds v c.fits-v)) refl

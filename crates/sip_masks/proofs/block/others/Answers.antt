@@ -1,11 +1,11 @@
-use Rattle.std.proofs.Common.{refl, ◌/◌, get_or, arith}
-use Rattle.std.proofs.lemmas.Nat.{and_le_r}
-use Rattle.std.proofs.lemmas.Simd.{zip2_splat, zip2_of_maps}
-use lib.Bits.{bit_and}
-use Rattle.sip_masks.specs.Marks.{is_other}
-use Rattle.sip_masks.specs.declared.block.TheConstants.{LOW, HIGH}
-use Rattle.sip_masks.proofs.LaneLemmas.{equal, classified}
-use Rattle.sip_masks.proofs.TableLemmas.{down, low_ok, high_ok, looked_up}
+use Rattle.std.proofs.Common.{ℕ, Bool, not, ◌&&◌, ◌||◌, get_or, Fits, w8, refl, ap₂, ◌∙◌, arith}
+use Rattle.std.proofs.lemmas.Bool.{agree_below_at}
+use Rattle.std.proofs.lemmas.Simd.{Each1-get_or}
+use Rattle.sip_masks.specs.Marks.{is_control, is_other}
+use Rattle.sip_masks.proofs.BitLemmas.{test-or}
+use Rattle.sip_masks.proofs.LaneLemmas.{equal, from_byte, classified}
+use Rattle.sip_masks.proofs.TableLemmas.{low_ok, high_ok}
+use Rattle.sip_masks.proofs.KindLemmas.{kind, kinds}
 use Rattle.sip_masks.proofs.block.others.Goals as goal
 
 pub swizzle-low : goal.swizzle-low
@@ -14,11 +14,16 @@ swizzle-low c = low_ok c.args.v c.fits-v
 pub swizzle-high : goal.swizzle-high
 swizzle-high c = high_ok c.args.v c.fits-v
 
+-- neither plain nor a control
+abbrev is_neither : ℕ → Bool
+is_neither byte = is_other byte && not (is_control byte)
+
 pub returns : goal.returns
-returns c =
+returns c i h =
     let v = c.args.v in
     let long = c.fits-v.0 in
-    let low = looked_up LOW (λ x. bit_and x 15) v _ refl c.fits-v (zip2_splat bit_and v 64 15 long) (λ x h. omega (arith, and_le_r x 15)) in
-    let high = looked_up HIGH (λ x. x / 16) v _ refl c.fits-v (zip2_splat down v 64 4 long) (λ x h. omega arith) in
-    classified _ is_other v _ c.fits-v
-    (equal (λ x. bit_and (get_or LOW (bit_and x 15) 0) (get_or HIGH (x / 16) 0)) 0 v long (zip2_of_maps bit_and (λ x. get_or LOW (bit_and x 15) 0) (λ x. get_or HIGH (x / 16) 0) v low high)) refl
+    let all = kinds v c.fits-v in
+    let neither = classified _ is_neither 64 v _ c.fits-v (omega arith) (equal kind 64 0 v long all) refl i h in
+    let control = classified _ is_control 64 v _ c.fits-v (omega arith) (from_byte kind 64 32 v long all) refl i h in
+    test-or _ _ i ∙ ap₂ (λ a b. a || b) neither control
+    ∙ agree_below_at (λ x. is_neither x || is_control x) is_other 256 (get_or v i 0) refl (Each1-get_or (Fits w8) v i 0 (omega (arith, long, h)) c.fits-v.1).fits

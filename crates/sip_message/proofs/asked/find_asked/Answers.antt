@@ -4,7 +4,7 @@ use Rattle.sip_message.specs.Outcome.{passes}
 use Rattle.sip_message.specs.Views.{name_parts, slice_fields}
 use Rattle.sip_message.proofs.lemmas.asked.Parts.{first-value}
 use Rattle.sip_message.proofs.lemmas.field.Named.{once-first}
-use Rattle.sip_message.proofs.lemmas.asked.Asked.{asked-none, asked-known, asked-other, once-kept, not_twice-kept, first-kept}
+use Rattle.sip_message.proofs.lemmas.asked.Asked.{asked-none, asked-known, asked-other, once-whole, kept-length, once-kept, not_twice-kept, first-kept}
 use Rattle.sip_message.proofs.asked.find_asked.Goals as goal
 
 pub loop-at-init : goal.loop-at-init
@@ -45,3 +45,9 @@ returns-clause-stand c =
       call_id = first-value known_name.CallId fields _ (once-first known_name.CallId fields _ (once-kept known_name.CallId xs at c.loop-at.asked.call_id _ past c.in_ok-call_id.was so.call_id));
       cseq = first-value known_name.CSeq fields _ (once-first known_name.CSeq fields _ (once-kept known_name.CSeq xs at c.loop-at.asked.cseq _ past c.in_ok-cseq.was so.cseq));
     }
+
+pub returns-clause-length : goal.returns-clause-length
+returns-clause-length c =
+    let so = c.loop-at.invariant.content_length in
+    kept-length (slice_fields c.args.fields) c.loop-at.asked.content_length c.value_at.result c.value_at.ensures
+    (once-whole known_name.ContentLength c.args.fields.now c.loop-at.at c.loop-at.asked.content_length (omega (arith, c.loop-at-test.false)) so)

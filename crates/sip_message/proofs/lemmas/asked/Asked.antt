@@ -1,6 +1,7 @@
 -- The fields that the reader asks for, one field after another.
 use Rattle.std.proofs.Common.{◌≡◌, ℕ, ◌+◌, ◌<◌, ◌≤◌, Bool, true, false, List, [], ◌∷◌, ◌++◌, length, drop, map, slice_index_or, Option, None, Some, refl, sym, ap, ◌∙◌, subst, arith}
-use Rattle.std.specs.Option.{option_or}
+use Rattle.std.specs.Borrow.{Bor}
+use Rattle.std.specs.Option.{option_map, option_or}
 use Rattle.std.proofs.lemmas.List.{append-nil}
 use Rattle.sip_message.specs.declared.asked.Asked.{Asked}
 use Rattle.sip_message.specs.declared.field.Field.{Field as Code}
@@ -13,6 +14,7 @@ use Rattle.sip_message.specs.Outcome.{gives, passes}
 use Rattle.sip_message.specs.Faults.{Once}
 use Rattle.sip_message.specs.Views.{name_parts, field_parts}
 use Rattle.sip_message.specs.inner.Finds.{found_parts}
+use Rattle.sip_message.specs.inner.Stages.{IsLength}
 use Rattle.sip_message.specs.inner.Asked.{Place, kept_list, OnceSoFar, FirstSoFar, AskedSoFar, Chosen, KeepsOnce, KeepsFirst, KeepsPlace}
 use Rattle.sip_message.proofs.lemmas.field.Named.{found-here, found-passed, found-end}
 
@@ -99,3 +101,8 @@ not_twice-kept k xs at kept past so = few kept (once-whole k xs at kept past so)
 -- the place that was kept is that of the first
 pub first-kept : (k : Known) (fields : List Field) (at : ℕ) (kept : Option Place) (place : Place) → kept ≡ Some place → FirstSoFar k fields at kept → IsFirst k fields (found_parts place)
 first-kept k fields at kept place is so = subst (FirstSoFar k fields at) is so
+
+-- what is kept of Content-Length is its value
+pub kept-length : (fs : List Field) (kept : Option Place) (length : Option (Bor (List ℕ))) → length ≡ option_map (λ it. it.0) kept → found known_name.ContentLength fs ≡ kept_list kept → IsLength fs length
+kept-length fs None length is whole = subst (IsLength fs) (sym is) whole
+kept-length fs (Some (value, line)) length is whole = subst (IsLength fs) (sym is) (line, ([], whole))

@@ -8,12 +8,12 @@ params-init c = (c.requires.0, λ params. params)
 
 pub params-smaller : goal.params-smaller
 params-smaller c =
-    let longer = param-longer (c.in-Some.field-0-0.now, option_copied c.in-Some.field-0-1) c.args.masks.now c.params.from c.args.end c.in-Some.to c.in-Some.ensures in
-    omega (arith, longer, c.in-Some.ensures.1)
+    let longer = param-longer (c.in-Some.field-0-0.now, option_copied c.in-Some.field-0-1) c.args.masks.now c.params.from c.args.end c.in-Some.to c.in-Some.ensures.param in
+    omega (arith, longer, c.in-Some.ensures.param.1)
 
 pub params-preserved : goal.params-preserved
 params-preserved c =
-    (c.in-Some.ensures.1, λ later. c.params.invariant.1 (params-behind (c.in-Some.field-0-0.now, option_copied c.in-Some.field-0-1) c.args.masks.now c.params.from c.args.end c.in-Some.to c.in-Some.ensures later))
+    (c.in-Some.ensures.param.1, λ later. c.params.invariant.1 (params-behind (c.in-Some.field-0-0.now, option_copied c.in-Some.field-0-1) c.args.masks.now c.params.from c.args.end c.in-Some.to c.in-Some.ensures.param later))
 
 pub returns : goal.returns
 returns c = λ _.

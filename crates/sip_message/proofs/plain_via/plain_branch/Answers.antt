@@ -14,18 +14,18 @@ params-init c = (c.requires.0, λ later params. params)
 pub params-smaller : goal.params-smaller
 params-smaller c =
     let p : Param = (c.in-Some.name.now, option_copied c.in-Some.value) in
-    omega (arith, param-longer p c.args.masks.now c.params.from c.args.end c.in-Some.to c.in-Some.ensures, c.in-Some.ensures.1)
+    omega (arith, param-longer p c.args.masks.now c.params.from c.args.end c.in-Some.to c.in-Some.ensures.param, c.in-Some.ensures.param.1)
 
 pub params-preserved : goal.params-preserved
 params-preserved c =
     let m = c.args.masks.now in
     let p : Param = (c.in-Some.name.now, option_copied c.in-Some.value) in
     let old = option_copied c.params.branch in
-    let found = option_copied c.in_ok-branch_of.field-0 in
-    let new = ap option_copied c.or-branch.ensures ∙ copied-or c.params.branch c.in_ok-branch_of.field-0 in (
-      c.in-Some.ensures.1,
+    let found = option_copied c.in_ok-token_branch.field-0 in
+    let new = ap option_copied c.or-branch.ensures ∙ copied-or c.params.branch c.in_ok-token_branch.field-0 in (
+      c.in-Some.ensures.param.1,
       λ later params.
-          let all = c.params.invariant.1 (option_or found later) (branch-behind p found later m c.params.from c.args.end c.in-Some.to c.in-Some.ensures c.in_ok-branch_of.ensures params) in
+          let all = c.params.invariant.1 (option_or found later) (branch-behind p found later m c.params.from c.args.end c.in-Some.to c.in-Some.ensures.param c.in_ok-token_branch.ensures params) in
           subst (ViaParams (segment c.args.at c.args.end m)) (or-assoc old found later ∙ ap (λ b. option_or b later) (sym new)) all,
     )
 

@@ -1,6 +1,5 @@
-use Rattle.std.proofs.Common.{◌≡◌, ◌+◌, ◌-◌, ◌++◌, length, take, drop, ap, ◌∙◌, subst, arith}
+use Rattle.std.proofs.Common.{◌≡◌, ◌+◌, ◌++◌, length, drop, ap, ◌∙◌}
 use Rattle.std.proofs.lemmas.List.{take_rest, append_assoc, drop-append-le}
-use Rattle.sip_message.specs.StartLine.{StartText}
 use Rattle.sip_message.specs.Views.{fields_parts}
 use Rattle.sip_message.specs.ValueParts.{start_parts}
 use Rattle.sip_message.proofs.QuickLemmas.{ordinary-head, front-rest}
@@ -15,11 +14,8 @@ returns-clause-head c =
     let whole : bytes ≡ text ++ more =
     front-rest bytes front c.front.ensures.front ∙ ap (λ t. t ++ drop (length front) bytes) (front-rest front text c.of-masks.ensures) ∙ append_assoc text (drop (length text) front) (drop (length front) bytes) in
     let at = c.in-Some-2.at in
-    let start = start_parts c.in-Some-read_start.start in
+    let start = start_parts c.in-Some-start_up_to.start in
     let fields = fields_parts c.in-Some-2.fields in
-    let full : c.in-Some.end ≡ c.in-Some.end - 0 = omega arith in
-    let is_start : StartText (take (c.in-Some.end - 0) (drop 0 text)) start =
-    subst (λ k. StartText (take k text) start) full (subst (λ t. StartText (take c.in-Some.end t) start) c.text.ensures c.in-Some-read_start.ensures.0) in
     let are = rw c.in-Some-2.is at c.in_ok-fields.ensures.lines in
     let rest : drop (at + 2) bytes ≡ drop (at + 2) text ++ more = ap (drop (at + 2)) whole ∙ drop-append-le (at + 2) text more are.within in
-    ordinary-head bytes text more _ start fields c.in-Some.end at whole c.in-Some.ensures.line.2 c.in-Some.ensures.line.3 is_start are (take_rest bytes (at + 2) ∙ rest)
+    ordinary-head bytes text more _ start fields c.in-Some.end at whole c.in-Some.ensures.line.2 c.in-Some.ensures.line.3 c.in-Some-start_up_to.ensures are (take_rest bytes (at + 2) ∙ rest)

@@ -1,42 +1,26 @@
-use Rattle.std.proofs.Common.{Some, false, refl, sym, ap, ◌∙◌}
-use Rattle.std.specs.Str.Parse.{digits_value}
-use Rattle.std.proofs.lemmas.Bool.{both_ways}
+use Rattle.std.proofs.Common.{sym, subst}
 use Rattle.sip_message.specs.declared.name.Known.TheVariants as known_name
-use Rattle.sip_message.specs.Message.{content_length}
+use Rattle.sip_message.specs.Faults.{BodyOf}
 use Rattle.sip_message.specs.Views.{slice_fields}
 use Rattle.sip_message.specs.ValueParts.{start_parts}
-use Rattle.sip_message.specs.ViaParts.{element}
+use Rattle.sip_message.specs.inner.Fronts.{text_parts}
+use Rattle.sip_message.specs.inner.Settles.{outcome_of}
+use Rattle.sip_message.specs.inner.Stages.{names_parts}
 use Rattle.sip_message.proofs.lemmas.asked.Parts.{row-of, first-value}
-use Rattle.sip_message.proofs.lemmas.message.Body.{stream-first, length-none, length-some, body-method, body-no_length, body-all, body-short, body-long, body-cut, body-whole}
+use Rattle.sip_message.proofs.lemmas.message.Body.{length-none, length-some}
 use Rattle.sip_message.proofs.stages.read_body.Goals as goal
 
-pub returns-then-not-fits_method : goal.returns-then-not-fits_method
-returns-then-not-fits_method c = body-method (start_parts c.args.start) (c.args.named.cseq_line, c.args.named.cseq.now) c.args.named.via.now (content_length (slice_fields c.args.fields)) c.args.rest.now (λ fits. both_ways false refl ((c.if-not-fits_method.ensures c.args.named.cseq.now c.requires.cseq).1 fits))
-
-pub returns-then-is_stream : goal.returns-then-is_stream
-returns-then-is_stream c =
-    body-no_length (start_parts c.args.start) (c.args.named.cseq_line, c.args.named.cseq.now) c.args.named.via.now (content_length (slice_fields c.args.fields)) c.args.rest.now ((c.if-not-fits_method.ensures c.args.named.cseq.now c.requires.cseq).0 refl) (length-none (slice_fields c.args.fields) c.in_default.ensures.found) ((stream-first c.args.named.via.now (element c.args.via.now) _ c.requires.via c.if-is_stream.ensures).0 refl)
-
-pub returns-in_default : goal.returns-in_default
-returns-in_default c =
-    body-all (start_parts c.args.start) (c.args.named.cseq_line, c.args.named.cseq.now) c.args.named.via.now (content_length (slice_fields c.args.fields)) c.args.rest.now ((c.if-not-fits_method.ensures c.args.named.cseq.now c.requires.cseq).0 refl) (length-none (slice_fields c.args.fields) c.in_default.ensures.found) (λ stream. both_ways false refl ((stream-first c.args.named.via.now (element c.args.via.now) _ c.requires.via c.if-is_stream.ensures).1 stream))
-
-pub returns-in_default-number_at_most : goal.returns-in_default-number_at_most
-returns-in_default-number_at_most c =
+pub body_by_length-requires-clause-digits : goal.body_by_length-requires-clause-digits
+body_by_length-requires-clause-digits c =
     let fields = slice_fields c.args.fields in
-    let digits = row-of known_name.ContentLength fields c.in-Some.digits.now c.requires.rows (first-value known_name.ContentLength fields (c.in-Some.field-0-1, c.in-Some.digits.now) (_, c.in-Some.ensures.found)) in
-    body-short (start_parts c.args.start) (c.args.named.cseq_line, c.args.named.cseq.now) c.args.named.via.now (content_length (slice_fields c.args.fields)) c.args.rest.now (digits_value 10 c.in-Some.digits.now) (length-some fields _ _ c.in-Some.ensures.found) ((c.if-not-fits_method.ensures c.args.named.cseq.now c.requires.cseq).0 refl) (c.in_default-number_at_most.ensures digits)
+    row-of known_name.ContentLength fields c.in-Some.digits.now c.requires.rows (first-value known_name.ContentLength fields (c.in-Some.field-0-1, c.in-Some.digits.now) (_, c.in-Some.ensures.found))
 
-pub returns-then-len-rest : goal.returns-then-len-rest
-returns-then-len-rest c =
-    body-whole (start_parts c.args.start) (c.args.named.cseq_line, c.args.named.cseq.now) c.args.named.via.now (content_length (slice_fields c.args.fields)) c.args.rest.now c.in-Some-number_at_most.len (length-some (slice_fields c.args.fields) _ _ c.in-Some.ensures.found ∙ ap (λ n. Some n) (sym c.in-Some-number_at_most.ensures.0)) ((c.if-not-fits_method.ensures c.args.named.cseq.now c.requires.cseq).0 refl) c.if-len-rest.true
+pub returns-in-Some : goal.returns-in-Some
+returns-in-Some c =
+    subst (λ len. BodyOf (start_parts c.args.start) ((names_parts c.args.named).1) ((names_parts c.args.named).0.1) len c.args.rest.now (outcome_of text_parts c.body_by_length.result))
+    (sym (length-some (slice_fields c.args.fields) _ _ c.in-Some.ensures.found)) c.body_by_length.ensures
 
-pub returns-then-is_stream-2 : goal.returns-then-is_stream-2
-returns-then-is_stream-2 c =
-    body-long (start_parts c.args.start) (c.args.named.cseq_line, c.args.named.cseq.now) c.args.named.via.now (content_length (slice_fields c.args.fields)) c.args.rest.now c.in-Some-number_at_most.len (length-some (slice_fields c.args.fields) _ _ c.in-Some.ensures.found ∙ ap (λ n. Some n) (sym c.in-Some-number_at_most.ensures.0)) ((c.if-not-fits_method.ensures c.args.named.cseq.now c.requires.cseq).0 refl)
-    c.in-Some-number_at_most.ensures.1 c.if-len-rest.false ((stream-first c.args.named.via.now (element c.args.via.now) _ c.requires.via c.if-is_stream-2.ensures).0 refl)
-
-pub returns : goal.returns
-returns c =
-    body-cut (start_parts c.args.start) (c.args.named.cseq_line, c.args.named.cseq.now) c.args.named.via.now (content_length (slice_fields c.args.fields)) c.args.rest.now c.in-Some-number_at_most.len (length-some (slice_fields c.args.fields) _ _ c.in-Some.ensures.found ∙ ap (λ n. Some n) (sym c.in-Some-number_at_most.ensures.0)) ((c.if-not-fits_method.ensures c.args.named.cseq.now c.requires.cseq).0 refl)
-    c.in-Some-number_at_most.ensures.1 (λ stream. both_ways false refl ((stream-first c.args.named.via.now (element c.args.via.now) _ c.requires.via c.if-is_stream-2.ensures).1 stream))
+pub returns-in-None : goal.returns-in-None
+returns-in-None c =
+    subst (λ len. BodyOf (start_parts c.args.start) ((names_parts c.args.named).1) ((names_parts c.args.named).0.1) len c.args.rest.now (outcome_of text_parts c.body_by_length-in-None.result))
+    (sym (length-none (slice_fields c.args.fields) c.in-None.ensures.found)) c.body_by_length-in-None.ensures

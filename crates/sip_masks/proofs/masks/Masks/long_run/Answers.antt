@@ -10,20 +10,20 @@ returns-then-word-ne0 c =
     let text = c.self.inside.text.now in
     let l = c.loop-self in
     let word = c.word_at-word.result in
-    let found = stops-at is_plain is_other (λ x. refl) refl text c.args.p l.q word (omega (arith, c.if-word-ne0.true)) c.word_at-word.type_inv
-    (λ j h. c.word_at-word.ensures j h ∙ c.self.invariant.others_mark (l.q + j) (omega (arith, h, l.invariant.1))) l.invariant.0 l.invariant.2 l.invariant.1 in
+    let found = stops-at is_plain is_other (λ x. refl) refl text 64 c.args.p l.q word (omega (arith, c.if-word-ne0.true)) c.word_at-word.type_inv
+    (λ j h. c.word_at-word.ensures j h ∙ c.self.invariant.others_mark (l.q + j) (omega (arith, h, l.invariant.1))) (λ j from below. absurd (omega (arith, from, below))) l.invariant.0 l.invariant.2 l.invariant.1 in
     subst (λ t. l.q - c.args.p + trailing_zeros w64 word ≡ prefix_len is_plain (drop c.args.p t)) c.self.view_is (omega (arith, found, l.invariant.0))
 
 pub loop-self-smaller : goal.loop-self-smaller
 loop-self-smaller c =
     let l = c.loop-self in
-    let more = goes-on is_plain is_other (λ x. refl) refl c.self.inside.text.now c.args.p l.q c.word_at-word.result (omega (arith, c.if-word-ne0.false))
+    let more = goes-on is_plain is_other (λ x. refl) refl c.self.inside.text.now 64 c.args.p l.q c.word_at-word.result (omega (arith, c.if-word-ne0.false))
     (λ j h. c.word_at-word.ensures j h ∙ c.self.invariant.others_mark (l.q + j) (omega (arith, h, l.invariant.1))) l.invariant.2 l.invariant.1 in
     omega (arith, more.1)
 
 pub loop-self-preserved : goal.loop-self-preserved
 loop-self-preserved c =
     let l = c.loop-self in
-    let more = goes-on is_plain is_other (λ x. refl) refl c.self.inside.text.now c.args.p l.q c.word_at-word.result (omega (arith, c.if-word-ne0.false))
+    let more = goes-on is_plain is_other (λ x. refl) refl c.self.inside.text.now 64 c.args.p l.q c.word_at-word.result (omega (arith, c.if-word-ne0.false))
     (λ j h. c.word_at-word.ensures j h ∙ c.self.invariant.others_mark (l.q + j) (omega (arith, h, l.invariant.1))) l.invariant.2 l.invariant.1 in
     (omega (arith, l.invariant.0), more.1, more.0)

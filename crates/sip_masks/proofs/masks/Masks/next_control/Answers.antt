@@ -1,4 +1,4 @@
-use Rattle.std.proofs.Common.{◌≡◌, ◌+◌, not, drop, w64, refl, ◌∙◌, subst, arith}
+use Rattle.std.proofs.Common.{◌≡◌, ◌+◌, ◌-◌, ◌%◌, not, drop, w64, refl, ◌∙◌, subst, arith}
 use Rattle.std.specs.Int.{trailing_zeros}
 use Rattle.std.specs.List.{prefix_len}
 use Rattle.sip_masks.specs.Marks.{is_control}
@@ -9,21 +9,21 @@ pub returns-then-word-ne0 : goal.returns-then-word-ne0
 returns-then-word-ne0 c =
     let text = c.self.inside.text.now in
     let l = c.loop-self in
-    let word = c.word_at-word.result in
-    let found = stops-at (λ b. not (is_control b)) is_control (λ x. twice (is_control x)) refl text c.args.p l.q word (omega (arith, c.if-word-ne0.true)) c.word_at-word.type_inv
-    (λ j h. c.word_at-word.ensures j h ∙ c.self.invariant.controls_mark (l.q + j) (omega (arith, h, l.invariant.1))) l.invariant.0 l.invariant.2 l.invariant.1 in
+    let word = c.rest_at-word.result in
+    let found = stops-at (λ b. not (is_control b)) is_control (λ x. twice (is_control x)) refl text (64 - l.q % 64) c.args.p l.q word (omega (arith, c.if-word-ne0.true)) c.rest_at-word.type_inv
+    (λ j h. c.rest_at-word.ensures.bits j h ∙ c.self.invariant.controls_mark (l.q + j) (omega (arith, h, l.invariant.1))) (λ j from below. c.rest_at-word.ensures.none j from) l.invariant.0 l.invariant.2 l.invariant.1 in
     subst (λ t. l.q + trailing_zeros w64 word ≡ c.args.p + prefix_len (λ b. not (is_control b)) (drop c.args.p t)) c.self.view_is (omega (arith, found, l.invariant.0))
 
 pub loop-self-smaller : goal.loop-self-smaller
 loop-self-smaller c =
     let l = c.loop-self in
-    let more = goes-on (λ b. not (is_control b)) is_control (λ x. twice (is_control x)) refl c.self.inside.text.now c.args.p l.q c.word_at-word.result (omega (arith, c.if-word-ne0.false))
-    (λ j h. c.word_at-word.ensures j h ∙ c.self.invariant.controls_mark (l.q + j) (omega (arith, h, l.invariant.1))) l.invariant.2 l.invariant.1 in
+    let more = goes-on (λ b. not (is_control b)) is_control (λ x. twice (is_control x)) refl c.self.inside.text.now (64 - l.q % 64) c.args.p l.q c.rest_at-word.result (omega (arith, c.if-word-ne0.false))
+    (λ j h. c.rest_at-word.ensures.bits j h ∙ c.self.invariant.controls_mark (l.q + j) (omega (arith, h, l.invariant.1))) l.invariant.2 l.invariant.1 in
     omega (arith, more.1)
 
 pub loop-self-preserved : goal.loop-self-preserved
 loop-self-preserved c =
     let l = c.loop-self in
-    let more = goes-on (λ b. not (is_control b)) is_control (λ x. twice (is_control x)) refl c.self.inside.text.now c.args.p l.q c.word_at-word.result (omega (arith, c.if-word-ne0.false))
-    (λ j h. c.word_at-word.ensures j h ∙ c.self.invariant.controls_mark (l.q + j) (omega (arith, h, l.invariant.1))) l.invariant.2 l.invariant.1 in
+    let more = goes-on (λ b. not (is_control b)) is_control (λ x. twice (is_control x)) refl c.self.inside.text.now (64 - l.q % 64) c.args.p l.q c.rest_at-word.result (omega (arith, c.if-word-ne0.false))
+    (λ j h. c.rest_at-word.ensures.bits j h ∙ c.self.invariant.controls_mark (l.q + j) (omega (arith, h, l.invariant.1))) l.invariant.2 l.invariant.1 in
     (omega (arith, l.invariant.0), more.1, more.0)

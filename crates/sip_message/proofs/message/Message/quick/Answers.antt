@@ -1,25 +1,24 @@
-use Rattle.std.proofs.Common.{map, subst, sym}
-use Rattle.std.specs.List.{AllByRecursion}
+use Rattle.std.proofs.Common.{map, subst}
 use Rattle.sip_message.specs.declared.name.Known.TheVariants as known_name
-use Rattle.sip_message.specs.Field.{Row}
 use Rattle.sip_message.specs.Reading.{IsValueOf}
 use Rattle.sip_message.proofs.lemmas.canon.Law.{fields-rows}
 use Rattle.sip_message.proofs.lemmas.message.Faults.{fields-read}
 use Rattle.sip_message.specs.Outcome.{gives}
 use Rattle.sip_message.specs.Faults.{NamesOf, BodyOf}
-use Rattle.sip_message.specs.Message.{content_length}
 use Rattle.sip_message.specs.Views.{field_parts, fields_parts}
 use Rattle.sip_message.specs.ValueParts.{start_parts, cseq_parts}
 use Rattle.sip_message.specs.ViaParts.{element}
-use Rattle.sip_message.specs.inner.Stages.{names_parts, Stand}
+use Rattle.sip_message.specs.inner.Stages.{names_parts, Stand, IsLength}
 use Rattle.sip_message.proofs.lemmas.asked.Kept.{via-some, via-is, cseq-some, cseq-is}
+use Rattle.sip_message.proofs.lemmas.asked.Parts.{length-digits, length-is}
 use Rattle.sip_message.proofs.lemmas.message.Stages.{Found, found-keeps, found-reads}
 use Rattle.sip_message.proofs.message.Message.quick.Goals as goal
 
-pub read_body-requires-clause-rows : goal.read_body-requires-clause-rows
-read_body-requires-clause-rows c =
+pub body_by_length-requires-clause-digits : goal.body_by_length-requires-clause-digits
+body_by_length-requires-clause-digits c =
     let h = rw c.in-Some.is at c.in_ok-start.ensures.head in
-    subst (λ xs. AllByRecursion (λ f. Row f.name f.value) (map field_parts xs)) (sym c.deref-2.ensures.value) (fields-rows h.others (fields_parts c.in-Some.fields) h.are_fields)
+    length-digits (fields_parts c.in-Some.fields) c.in-Some-find_asked.length (fields-rows h.others (fields_parts c.in-Some.fields) h.are_fields)
+    (subst (λ xs. IsLength (map field_parts xs) c.in-Some-find_asked.length) c.deref.ensures.value c.in-Some-find_asked.ensures.length)
 
 pub unwrap-via-requires : goal.unwrap-via-requires
 unwrap-via-requires c =
@@ -29,8 +28,8 @@ pub unwrap-cseq-requires : goal.unwrap-cseq-requires
 unwrap-cseq-requires c =
     cseq-some (fields_parts c.in-Some.fields) c.in-Some.kept c.in-Some-find_asked.named.cseq.now (rw c.in-Some.is at c.in_ok-start.ensures.kept) (subst (λ xs. IsValueOf known_name.CSeq (map field_parts xs) c.in-Some-find_asked.named.cseq.now) c.deref.ensures.value c.in-Some-find_asked.ensures.stand.cseq)
 
-pub read_body-requires-clause-via : goal.read_body-requires-clause-via
-read_body-requires-clause-via c =
+pub body_by_length-requires-clause-via : goal.body_by_length-requires-clause-via
+body_by_length-requires-clause-via c =
     via-is (fields_parts c.in-Some.fields) c.in-Some.kept c.in-Some-find_asked.named.via.now c.unwrap-via.result (rw c.in-Some.is at c.in_ok-start.ensures.kept) (subst (λ xs. IsValueOf known_name.Via (map field_parts xs) c.in-Some-find_asked.named.via.now) c.deref.ensures.value c.in-Some-find_asked.ensures.stand.via) c.unwrap-via.ensures
 
 pub new-requires : goal.new-requires
@@ -43,7 +42,7 @@ new-requires c =
       is_start = h.is_start;
       are_fields = fields-read 1 h.others (fields_parts c.in-Some.fields) h.are_fields;
       are_names = subst (λ xs. NamesOf (map field_parts xs) (gives (names_parts c.in-Some-find_asked.named))) c.deref.ensures.value c.in-Some-find_asked.ensures.names;
-      is_body = subst (λ xs. BodyOf (start_parts c.in-Some.start) ((names_parts c.in-Some-find_asked.named).1) ((names_parts c.in-Some-find_asked.named).0.1) (content_length (map field_parts xs)) c.in-Some.rest.now (gives c.in-Ok.body.now)) c.deref-2.ensures.value c.in-Ok.ensures;
+      is_body = subst (λ len. BodyOf (start_parts c.in-Some.start) ((names_parts c.in-Some-find_asked.named).1) ((names_parts c.in-Some-find_asked.named).0.1) len c.in-Some.rest.now (gives c.in-Ok.body.now)) (length-is (fields_parts c.in-Some.fields) c.in-Some-find_asked.length (subst (λ xs. IsLength (map field_parts xs) c.in-Some-find_asked.length) c.deref.ensures.value c.in-Some-find_asked.ensures.length)) c.in-Ok.ensures;
       stand = subst (λ xs. Stand (map field_parts xs) c.in-Some-find_asked.named) c.deref.ensures.value c.in-Some-find_asked.ensures.stand;
     } in
     found-keeps (element c.unwrap-via.result) (cseq_parts c.unwrap-cseq.result) found
@@ -60,7 +59,7 @@ returns c =
       is_start = h.is_start;
       are_fields = fields-read 1 h.others (fields_parts c.in-Some.fields) h.are_fields;
       are_names = subst (λ xs. NamesOf (map field_parts xs) (gives (names_parts c.in-Some-find_asked.named))) c.deref.ensures.value c.in-Some-find_asked.ensures.names;
-      is_body = subst (λ xs. BodyOf (start_parts c.in-Some.start) ((names_parts c.in-Some-find_asked.named).1) ((names_parts c.in-Some-find_asked.named).0.1) (content_length (map field_parts xs)) c.in-Some.rest.now (gives c.in-Ok.body.now)) c.deref-2.ensures.value c.in-Ok.ensures;
+      is_body = subst (λ len. BodyOf (start_parts c.in-Some.start) ((names_parts c.in-Some-find_asked.named).1) ((names_parts c.in-Some-find_asked.named).0.1) len c.in-Some.rest.now (gives c.in-Ok.body.now)) (length-is (fields_parts c.in-Some.fields) c.in-Some-find_asked.length (subst (λ xs. IsLength (map field_parts xs) c.in-Some-find_asked.length) c.deref.ensures.value c.in-Some-find_asked.ensures.length)) c.in-Ok.ensures;
       stand = subst (λ xs. Stand (map field_parts xs) c.in-Some-find_asked.named) c.deref.ensures.value c.in-Some-find_asked.ensures.stand;
     } in
     found-reads c.new.result found c.new.ensures.message c.new.ensures.parts

@@ -1,0 +1,40 @@
+use Rattle.std.proofs.Common.{Some, false, option_copied, refl, sym, ap, ◌∙◌, subst}
+use Rattle.std.specs.Prelude.{IfSome}
+use Rattle.std.specs.Option.{option_map}
+use Rattle.std.specs.Str.Parse.{digits_value}
+use Rattle.std.proofs.lemmas.Bool.{both_ways}
+use Rattle.sip_message.specs.Values.{Digits}
+use Rattle.sip_message.specs.ValueParts.{start_parts}
+use Rattle.sip_message.specs.ViaParts.{element}
+use Rattle.sip_message.proofs.lemmas.message.Body.{stream-first, body-method, body-no_length, body-all, body-short, body-long, body-cut, body-whole}
+use Rattle.sip_message.proofs.stages.body_by_length.Goals as goal
+
+pub returns-then-not-fits_method : goal.returns-then-not-fits_method
+returns-then-not-fits_method c = body-method (start_parts c.args.start) (c.args.named.cseq_line, c.args.named.cseq.now) c.args.named.via.now (option_map (digits_value 10) (option_copied c.args.length)) c.args.rest.now (λ fits. both_ways false refl ((c.if-not-fits_method.ensures c.args.named.cseq.now c.requires.cseq).1 fits))
+
+pub returns-then-is_stream : goal.returns-then-is_stream
+returns-then-is_stream c =
+    body-no_length (start_parts c.args.start) (c.args.named.cseq_line, c.args.named.cseq.now) c.args.named.via.now (option_map (digits_value 10) (option_copied c.args.length)) c.args.rest.now ((c.if-not-fits_method.ensures c.args.named.cseq.now c.requires.cseq).0 refl) (ap (λ o. option_map (digits_value 10) (option_copied o)) c.in_default.is) ((stream-first c.args.named.via.now (element c.args.via.now) _ c.requires.via c.if-is_stream.ensures).0 refl)
+
+pub returns-in_default : goal.returns-in_default
+returns-in_default c =
+    body-all (start_parts c.args.start) (c.args.named.cseq_line, c.args.named.cseq.now) c.args.named.via.now (option_map (digits_value 10) (option_copied c.args.length)) c.args.rest.now ((c.if-not-fits_method.ensures c.args.named.cseq.now c.requires.cseq).0 refl) (ap (λ o. option_map (digits_value 10) (option_copied o)) c.in_default.is) (λ stream. both_ways false refl ((stream-first c.args.named.via.now (element c.args.via.now) _ c.requires.via c.if-is_stream.ensures).1 stream))
+
+pub returns-in_default-number_at_most : goal.returns-in_default-number_at_most
+returns-in_default-number_at_most c =
+    let digits = subst (λ o. IfSome (option_copied o) Digits) c.in-Some.is c.requires.digits in
+    body-short (start_parts c.args.start) (c.args.named.cseq_line, c.args.named.cseq.now) c.args.named.via.now (option_map (digits_value 10) (option_copied c.args.length)) c.args.rest.now (digits_value 10 c.in-Some.digits.now) (ap (λ o. option_map (digits_value 10) (option_copied o)) c.in-Some.is) ((c.if-not-fits_method.ensures c.args.named.cseq.now c.requires.cseq).0 refl) (c.in_default-number_at_most.ensures digits)
+
+pub returns-then-len-rest : goal.returns-then-len-rest
+returns-then-len-rest c =
+    body-whole (start_parts c.args.start) (c.args.named.cseq_line, c.args.named.cseq.now) c.args.named.via.now (option_map (digits_value 10) (option_copied c.args.length)) c.args.rest.now c.in-Some-number_at_most.len (ap (λ o. option_map (digits_value 10) (option_copied o)) c.in-Some.is ∙ ap (λ n. Some n) (sym c.in-Some-number_at_most.ensures.0)) ((c.if-not-fits_method.ensures c.args.named.cseq.now c.requires.cseq).0 refl) c.if-len-rest.true
+
+pub returns-then-is_stream-2 : goal.returns-then-is_stream-2
+returns-then-is_stream-2 c =
+    body-long (start_parts c.args.start) (c.args.named.cseq_line, c.args.named.cseq.now) c.args.named.via.now (option_map (digits_value 10) (option_copied c.args.length)) c.args.rest.now c.in-Some-number_at_most.len (ap (λ o. option_map (digits_value 10) (option_copied o)) c.in-Some.is ∙ ap (λ n. Some n) (sym c.in-Some-number_at_most.ensures.0)) ((c.if-not-fits_method.ensures c.args.named.cseq.now c.requires.cseq).0 refl)
+    c.in-Some-number_at_most.ensures.1 c.if-len-rest.false ((stream-first c.args.named.via.now (element c.args.via.now) _ c.requires.via c.if-is_stream-2.ensures).0 refl)
+
+pub returns : goal.returns
+returns c =
+    body-cut (start_parts c.args.start) (c.args.named.cseq_line, c.args.named.cseq.now) c.args.named.via.now (option_map (digits_value 10) (option_copied c.args.length)) c.args.rest.now c.in-Some-number_at_most.len (ap (λ o. option_map (digits_value 10) (option_copied o)) c.in-Some.is ∙ ap (λ n. Some n) (sym c.in-Some-number_at_most.ensures.0)) ((c.if-not-fits_method.ensures c.args.named.cseq.now c.requires.cseq).0 refl)
+    c.in-Some-number_at_most.ensures.1 (λ stream. both_ways false refl ((stream-first c.args.named.via.now (element c.args.via.now) _ c.requires.via c.if-is_stream-2.ensures).1 stream))

@@ -71,6 +71,9 @@ struct Gap {
 /// A run with so many places is halved before it takes another one.
 const MOST: usize = 128;
 
+/// A hash looks at so many bytes: the start line and the top Via stand there, which tell ordinary messages apart.
+const MOST_HASHED: usize = 256;
+
 impl Model for Book {
     ghost use Rattle.sip_machine.specs.Texts.{Texts, IsBook};
     ghost use Rattle.sip_machine.specs.inner.Order.{texts_of, IsInRuns};
@@ -225,12 +228,13 @@ fn is_refusal(message: &Message<'_>) -> bool {
     }
 }
 
-/// A hash of these bytes, which says nothing of them but that equal bytes have equal hashes.
+/// A hash of the front of these bytes, which says nothing of them but that equal bytes have equal hashes.
+#[tactic(auto, using(std::proofs::lemmas::List::take_min))]
 fn hash(bytes: &[u8]) -> u64
     ensures { result ≡ hash_of bytes.now }
 {
     let mut hasher = FoldHasher::default();
-    hasher.write(bytes);
+    hasher.write(&bytes[..MOST_HASHED.min(bytes.len())]);
     hasher.finish()
 }
 

@@ -17,9 +17,9 @@ use Rattle.sip_machine.specs.declared.book.Gap.{Gap}
 abbrev pub texts_of : List Kept → Texts
 texts_of kept = map (λ k. (k.number, k.bytes.items)) kept
 
--- the hash of these bytes
+-- the hash of these bytes, by the first 256 of them
 abbrev pub hash_of : List ℕ → ℕ
-hash_of bytes = finish (write initial bytes)
+hash_of bytes = finish (write initial (take 256 bytes))
 
 -- the bytes at a position, none past the last message
 abbrev pub bytes_at : Texts → ℕ → List ℕ

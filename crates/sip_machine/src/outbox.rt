@@ -10,8 +10,10 @@ ghost use Rattle.sip_machine.specs.Debts.{IsWithoutFirst, earliest};
 ghost use Rattle.sip_machine.specs.inner.Outbox.{counts_at, softened_debt, is_payable, debt_deadlines};
 ghost use Rattle.sip_machine.specs.declared.outbox.Debt.{Debt};
 ghost use Rattle.sip_machine.specs.declared.outbox.Run.{Run};
+ghost use Rattle.sip_machine.specs.inner.Summaries.{Summarizes};
 ghost use Rattle.sip_machine.specs.inner.Runs.{debts_of, kinds, AreRuns, AreApartBut, EndsWith, run_deadlines};
 
+use crate::summary::Summary;
 use std::alloc::{AllocError, Global};
 use std::cmp::Ordering;
 use std::marker::Model;
@@ -41,19 +43,20 @@ pub struct Run {
 #[derive(Debug, Drop)]
 pub struct Outbox {
     runs: Vec<Run>,
-    count: usize,
+    summary: Summary,
 }
 
 impl Model for Outbox {
-    ghost use Rattle.std.specs.Prelude.{◌≡◌, List, length};
+    ghost use Rattle.std.specs.Prelude.{List};
     ghost use Rattle.sip_machine.specs.declared.outbox.Debt.{Debt};
     ghost use Rattle.sip_machine.specs.inner.Runs.{debts_of, AreRuns};
+    ghost use Rattle.sip_machine.specs.inner.Summaries.{Summarizes};
 
     ghost Value = { List Debt };
 
     ghost view = { λ o. debts_of o.runs.items };
 
-    ghost invariant = { λ o. AreRuns o.runs.items × (o.count ≡ length (debts_of o.runs.items)) };
+    ghost invariant = { λ o. AreRuns o.runs.items × Summarizes (debts_of o.runs.items) o.summary };
 }
 
 impl Outbox {
@@ -63,7 +66,7 @@ impl Outbox {
     {
         Outbox {
             runs: Vec::new(alloc),
-            count: 0,
+            summary: Summary::empty(),
         }
     }
 
@@ -72,7 +75,10 @@ impl Outbox {
         ensures { IfOk result (λ outbox. outbox ≡ []) }
     {
         let runs = Vec::with_capacity(alloc, runs)?;
-        Ok(Outbox { runs, count: 0 })
+        Ok(Outbox {
+            runs,
+            summary: Summary::empty(),
+        })
     }
 
     /// The debts, in runs: equal neighbours stand in one.
@@ -88,7 +94,7 @@ impl Outbox {
     pub(crate) fn is_empty(&self) -> bool
         ensures { IsTrue result ↔ (self.now ≡ []) }
     {
-        self.count == 0
+        self.summary.count == 0
     }
 
     /// Adds a debt behind the others. On an error they are as before.
@@ -105,9 +111,9 @@ impl Outbox {
         ensures ok { OnOk result (self.new ≡ self.old ++ replicate run.count run.debt) }
         ensures err { OnErr result (self.new ≡ self.old) }
     {
-        let count = self.count.checked_add(run.count).ok_or(AllocError)?;
+        let summary = self.summary.with(run).ok_or(AllocError)?;
         append(&mut self.runs, run)?;
-        self.count = count;
+        self.summary = summary;
         Ok(())
     }
 
@@ -118,7 +124,7 @@ impl Outbox {
         let runs = Vec::from_slice(*self.runs.allocator(), &self.runs)?;
         Ok(Outbox {
             runs,
-            count: self.count,
+            summary: self.summary,
         })
     }
 
@@ -126,6 +132,9 @@ impl Outbox {
     pub(crate) fn unexpired(&self, moment: u64) -> Result<Outbox, AllocError>
         ensures { IfOk result (λ copy. copy ≡ filter (counts_at moment) self.now) }
     {
+        if moment <= self.summary.fresh {
+            return self.try_clone();
+        }
         let mut counting = Outbox::with_room(*self.runs.allocator(), self.runs.len())?;
         for run in &self.runs {
             if !counts(run.debt, moment) {
@@ -154,8 +163,7 @@ impl Outbox {
     {
         match first_payable(&self.runs, message, moment) {
             Some(at) => {
-                take_one(&mut self.runs, at);
-                self.count -= 1;
+                take_out(&mut self.runs, &mut self.summary, at);
                 true
             }
             None => false,
@@ -166,19 +174,18 @@ impl Outbox {
     pub(crate) fn remove(&mut self, index: usize)
         ensures { self.new ≡ remove self.old index }
     {
-        if index >= self.count {
+        if index >= self.summary.count {
             return;
         }
         let at = run_at(&self.runs, index);
-        take_one(&mut self.runs, at);
-        self.count -= 1;
+        take_out(&mut self.runs, &mut self.summary, at);
     }
 
     /// The least deadline of what must be sent.
     pub(crate) fn earliest_must(&self) -> Option<u64>
         ensures { result ≡ earliest (debt_deadlines self.now) }
     {
-        earliest_must(&self.runs)
+        self.summary.due
     }
 }
 
@@ -304,6 +311,21 @@ fn ends_with(runs: &[Run], debt: Debt) -> bool
     runs[runs.len() - 1].debt == debt
 }
 
+/// Takes one debt out of the run at the index, and out of what is known of the debts.
+fn take_out(runs: &mut Vec<Run>, summary: &mut Summary, at: usize)
+    requires runs { AreRuns runs.old.items }
+    requires summary { Summarizes (debts_of runs.old.items) summary.old }
+    requires within { at < length runs.old.items }
+    requires fits { length (debts_of runs.old.items) < 2 ^ 64 }
+    ensures debts { debts_of runs.new.items ≡ remove (debts_of runs.old.items) (length (debts_of (take at runs.old.items))) }
+    ensures runs { AreRuns runs.new.items }
+    ensures summary { Summarizes (debts_of runs.new.items) summary.new }
+{
+    let debt = runs[at].debt;
+    take_one(runs, at);
+    *summary = summary.without(debt, runs);
+}
+
 /// Takes one debt out of the run at the index.
 fn take_one(runs: &mut Vec<Run>, at: usize)
     requires runs { AreRuns runs.old.items }
@@ -359,7 +381,7 @@ fn first_payable(runs: &[Run], message: u32, moment: u64) -> Option<usize>
 }
 
 /// The least deadline of a debt that has to be paid.
-fn earliest_must(runs: &[Run]) -> Option<u64>
+pub(crate) fn earliest_must(runs: &[Run]) -> Option<u64>
     ensures { result ≡ earliest (run_deadlines runs.now) }
 {
     runs.iter()

@@ -31,8 +31,3 @@ pub All-position_None : {X : Type 0} (p : X → Bool) (xs : List X) → position
 All-position_None p xs e k d low passes =
     let none : length xs ≤ position_or_len p xs = grind (arith, common_steps) in
     true≢false (sym passes ∙ fails_before_first p xs k d (omega arith))
-
--- debts compare as more than none
-pub some_is_greater : {X : Type 0} (cmp : X → X → Ordering) (xs : List X) → (xs ≡ [] → ⊥) → Greater ≡ slice_cmp cmp xs []
-some_is_greater cmp [] some = absurd (some refl)
-some_is_greater cmp (x ∷ xs) some = refl

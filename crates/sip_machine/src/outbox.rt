@@ -1,15 +1,16 @@
 //! What a machine owes, oldest cause first: a list of messages with their deadlines.
 ghost use Rattle.std.specs.Prelude.{◌≡◌, ◌≢◌, ◌↔◌, ◌++◌, ◌∷◌, [], ◌+◌, ◌<◌, ◌^◌, ℕ, List, IfOk, OnOk, OnErr, IsTrue, IfSome, All, length, position, remove, map, filter, take, drop, get_or, flat_map, replicate};
 ghost use Rattle.std.specs.Bool.{OnTrue, OnFalse};
-ghost use Rattle.std.specs.Cmp.Lexicographic.{pointwise, slice_cmp, slice_partial_cmp, lists_per, lists_equiv, lists_po, lists_total, lists_agrees, lists_ties};
+ghost use Rattle.std.specs.Ordering.{as_partial_cmp};
+ghost use Rattle.std.specs.Cmp.Lexicographic.{pointwise, slice_cmp, lists_per, lists_equiv};
 ghost use Rattle.sip_machine.specs.contracts.outbox.DebtPartialEq.TheImpl.Laws as partial_eq;
 ghost use Rattle.sip_machine.specs.contracts.outbox.DebtEq.TheImpl.Laws as eq;
-ghost use Rattle.sip_machine.specs.contracts.outbox.DebtPartialOrd.TheImpl.Laws as partial_ord;
-ghost use Rattle.sip_machine.specs.contracts.outbox.DebtOrd.TheImpl.Laws as ord;
 ghost use Rattle.sip_machine.specs.Debts.{IsWithoutFirst, earliest};
 ghost use Rattle.sip_machine.specs.inner.Outbox.{counts_at, softened_debt, is_payable, debt_deadlines};
 ghost use Rattle.sip_machine.specs.declared.outbox.Debt.{Debt};
 ghost use Rattle.sip_machine.specs.declared.outbox.Run.{Run};
+ghost use Rattle.sip_machine.specs.inner.Fingerprints.{debts_cmp};
+ghost use Rattle.sip_machine.specs.inner.FingerprintLaws.{debts_total, debts_ties, debts_po};
 ghost use Rattle.sip_machine.specs.inner.Summaries.{Summarizes};
 ghost use Rattle.sip_machine.specs.inner.Runs.{debts_of, kinds, AreRuns, AreApartBut, EndsWith, run_deadlines};
 
@@ -195,6 +196,9 @@ impl PartialEq for Outbox {
     ghost laws = { lists_per partial_eq.laws-law };
 
     fn eq(&self, other: &Outbox) -> bool {
+        if self.summary.fingerprint != other.summary.fingerprint {
+            return false;
+        }
         self.runs == other.runs
     }
 }
@@ -204,27 +208,33 @@ impl Eq for Outbox {
 }
 
 impl PartialOrd for Outbox {
-    ghost partial_cmp = { slice_partial_cmp ⟦<Debt as PartialOrd>⟧.partial_cmp };
+    ghost partial_cmp = { as_partial_cmp debts_cmp };
 
-    ghost laws = { lists_po partial_ord.laws-law };
+    ghost laws = { debts_po };
 
     fn partial_cmp(&self, other: &Outbox) -> Option<Ordering> {
         Some(self.cmp(other))
     }
 }
 
-/// As lists of debts.
+/// By their fingerprints, and as lists of debts where these are equal.
 impl Ord for Outbox {
-    ghost cmp = { slice_cmp ⟦<Debt as Ord>⟧.cmp };
+    ghost use Rattle.std.specs.Prelude.{refl};
 
-    ghost total = { lists_total ord.total-law };
+    ghost cmp = { debts_cmp };
 
-    ghost matches_partial_cmp = { lists_agrees ord.matches_partial_cmp-law };
+    ghost total = { debts_total };
 
-    ghost matches_eq = { lists_ties ⟦<Debt as Ord>⟧.cmp ord.matches_eq-law };
+    ghost matches_partial_cmp = { λ x y. refl };
+
+    ghost matches_eq = { debts_ties };
 
     fn cmp(&self, other: &Outbox) -> Ordering {
-        compare(&self.runs, &other.runs)
+        let fingerprint = self.summary.fingerprint;
+        match fingerprint.cmp(&other.summary.fingerprint) {
+            Ordering::Equal => compare(&self.runs, &other.runs),
+            unequal => unequal,
+        }
     }
 }
 

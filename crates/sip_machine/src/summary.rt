@@ -2,6 +2,7 @@
 ghost use Rattle.std.specs.Prelude.{◌≡◌, ◌+◌, ◌<◌, ◌++◌, ◌∷◌, [], List, IfSome, replicate};
 ghost use Rattle.sip_machine.specs.declared.outbox.Debt.{Debt};
 ghost use Rattle.sip_machine.specs.inner.Runs.{debts_of, AreRuns};
+ghost use Rattle.sip_machine.specs.inner.Fingerprints.{print_of};
 ghost use Rattle.sip_machine.specs.inner.Summaries.{Summarizes};
 
 use crate::limit::earlier;
@@ -15,7 +16,14 @@ pub(crate) struct Summary {
     pub(crate) due: Option<u64>,
     /// Nothing expires up to this moment.
     pub(crate) fresh: u64,
+    /// The sum of the debts' prints, of 64 bits. Equal debts have equal ones.
+    pub(crate) fingerprint: u64,
 }
+
+/// Odd numbers of 64 bits, by which the prints of debts differ that have little between them.
+const SPREAD: u64 = 0x9E37_79B9_7F4A_7C15;
+
+const APART: u64 = 0xC2B2_AE3D_27D4_EB4F;
 
 impl Summary {
     /// Of no debts.
@@ -26,6 +34,7 @@ impl Summary {
             count: 0,
             due: None,
             fresh: u64::MAX,
+            fingerprint: 0,
         }
     }
 
@@ -36,20 +45,23 @@ impl Summary {
         ensures debts { IfSome result (λ more. (debts : List Debt) → Summarizes debts self.now → Summarizes (debts ++ replicate run.count run.debt) more) }
     {
         let count = self.count.checked_add(run.count)?;
-        let Debt { deadline, must, .. } = run.debt;
-        if must {
-            Some(Summary {
+        let prints = (run.count as u64).wrapping_mul(print_of(run.debt));
+        let fingerprint = self.fingerprint.wrapping_add(prints);
+        let deadline = run.debt.deadline;
+        if run.debt.must {
+            return Some(Summary {
                 count,
                 due: Some(earlier(deadline, self.due)),
+                fingerprint,
                 ..*self
-            })
-        } else {
-            Some(Summary {
-                count,
-                fresh: self.fresh.min(deadline),
-                ..*self
-            })
+            });
         }
+        Some(Summary {
+            count,
+            fresh: self.fresh.min(deadline),
+            fingerprint,
+            ..*self
+        })
     }
 
     /// Without a debt, where those that are left stand in these runs.
@@ -60,13 +72,32 @@ impl Summary {
             Summarizes (debts_of left.now) result }
     {
         let count = self.count - 1;
+        let fingerprint = self.fingerprint.wrapping_sub(print_of(debt));
         if !debt.must {
-            return Summary { count, ..*self };
+            return Summary {
+                count,
+                fingerprint,
+                ..*self
+            };
         }
         Summary {
             count,
             due: earliest_must(left),
+            fingerprint,
             ..*self
         }
     }
+}
+
+/// What a debt gives to a fingerprint.
+fn print_of(debt: Debt) -> u64
+    ensures { result ≡ print_of debt }
+{
+    let must = if debt.must { 1 } else { 0 };
+    let name = 2 * u64::from(debt.message) + must;
+    let mixed = debt
+        .deadline
+        .wrapping_mul(SPREAD)
+        .wrapping_add(name.wrapping_mul(APART));
+    mixed.wrapping_mul(mixed >> 32)
 }

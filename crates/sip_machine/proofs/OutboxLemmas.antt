@@ -1,8 +1,5 @@
 use Prim.Native.Nat.{suc}
-use Rattle.std.specs.Cmp.Lexicographic.{slice_cmp}
-use Rattle.std.specs.declared.cmp.Ordering.{Ordering}
-use Rattle.std.specs.declared.cmp.Ordering.TheVariants.{Greater}
-use Rattle.std.specs.Prelude.{◌≡◌, ◌<◌, ◌≤◌, ℕ, Bool, IsTrue, None, List, [], ◌∷◌, ◌++◌, All, length, take, drop, position, remove}
+use Rattle.std.specs.Prelude.{◌≡◌, ◌<◌, ◌≤◌, ℕ, Bool, IsTrue, None, List, ◌++◌, All, length, take, drop, position, remove}
 use Rattle.std.specs.List.{position_or_len}
 use Rattle.std.proofs.Common.{refl, sym, ◌∙◌, ap, arith, get_or, true≢false, drop-cons}
 use Rattle.std.proofs.lemmas.List.{take-append-drop}

@@ -8,6 +8,8 @@ mod OrderLaws
 mod RunLaws
 pub mod OutboxLemmas
 pub mod RunsLemmas
+pub mod FingerprintLemmas
+pub mod SummaryLemmas
 pub mod RunOrderLemmas
 pub mod ProvisionalLemmas
 pub mod AckLemmas

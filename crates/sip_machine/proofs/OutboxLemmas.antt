@@ -1,8 +1,5 @@
 use Prim.Native.Nat.{suc}
-use Rattle.std.specs.Cmp.Lexicographic.{slice_cmp}
-use Rattle.std.specs.declared.cmp.Ordering.{Ordering}
-use Rattle.std.specs.declared.cmp.Ordering.TheVariants.{Greater}
-use Rattle.std.specs.Prelude.{◌≡◌, ◌<◌, ◌≤◌, ℕ, Bool, IsTrue, None, List, [], ◌∷◌, ◌++◌, All, length, take, drop, position, remove}
+use Rattle.std.specs.Prelude.{◌≡◌, ◌<◌, ◌≤◌, ℕ, Bool, IsTrue, None, List, ◌++◌, All, length, take, drop, position, remove}
 use Rattle.std.specs.List.{position_or_len}
 use Rattle.std.proofs.Common.{refl, sym, ◌∙◌, ap, arith, get_or, true≢false, drop-cons}
 use Rattle.std.proofs.lemmas.List.{take-append-drop}
@@ -31,8 +28,3 @@ pub All-position_None : {X : Type 0} (p : X → Bool) (xs : List X) → position
 All-position_None p xs e k d low passes =
     let none : length xs ≤ position_or_len p xs = grind (arith, common_steps) in
     true≢false (sym passes ∙ fails_before_first p xs k d (omega arith))
-
--- debts compare as more than none
-pub some_is_greater : {X : Type 0} (cmp : X → X → Ordering) (xs : List X) → (xs ≡ [] → ⊥) → Greater ≡ slice_cmp cmp xs []
-some_is_greater cmp [] some = absurd (some refl)
-some_is_greater cmp (x ∷ xs) some = refl

@@ -93,7 +93,7 @@ without-any runs at j d low within =
     without runs at j d low within ∙ sym (without runs at 0 d low (omega (arith, within))) ∙ ap (λ i. remove (debts_of runs) i) zero
 
 -- the first one of a run, in place of it
-without-first : (runs : List Run) (at : ℕ) (d : Run) → at < length runs → 0 < (get_or runs at d).count →
+pub without-first : (runs : List Run) (at : ℕ) (d : Run) → at < length runs → 0 < (get_or runs at d).count →
     remove (debts_of runs) (start_of runs at)
     ≡ debts_of (take at runs) ++ (replicate ((get_or runs at d).count - 1) (get_or runs at d).debt ++ debts_of (drop (at + 1) runs))
 without-first runs at d low some =
@@ -246,11 +246,11 @@ apart-more ds x apart last k d within other =
 pub All-remove : {X : Type 0} (P : X → Type 0) (xs : List X) (i : ℕ) → All P xs → All P (remove xs i)
 All-remove P xs i all = All-append P (take i xs) (drop (suc i) xs) (All-take P i xs all) (All-drop P (suc i) xs all)
 
-not_false : (b : Bool) → not b ≡ false → b ≡ true
+pub not_false : (b : Bool) → not b ≡ false → b ≡ true
 not_false true e = refl
 not_false false e = absurd (true≢false e)
 
-not_true : (b : Bool) → not b ≡ true → b ≡ false
+pub not_true : (b : Bool) → not b ≡ true → b ≡ false
 not_true true e = absurd (true≢false (sym e))
 not_true false e = refl
 
@@ -490,24 +490,24 @@ map-more f runs at d low =
     ap (map f) (start-next runs at d low) ∙ map-append f (debts_of (take at runs)) (each run)
     ∙ ap (λ rest. map f (debts_of (take at runs)) ++ rest) (map-each f run.count run.debt)
 
-must-cases : (b : Bool) → (b ≡ true) ⊎ (b ≡ false)
+pub must-cases : (b : Bool) → (b ≡ true) ⊎ (b ≡ false)
 must-cases true = inl refl
 must-cases false = inr refl
 
 -- the least deadline of debts is that of their kinds
-deadlines-each : (n : ℕ) (d : Debt) (ds : List Debt) → d.must ≡ true → debt_deadlines (replicate n d ++ ds) ≡ replicate n d.deadline ++ debt_deadlines ds
+pub deadlines-each : (n : ℕ) (d : Debt) (ds : List Debt) → d.must ≡ true → debt_deadlines (replicate n d ++ ds) ≡ replicate n d.deadline ++ debt_deadlines ds
 deadlines-each zero d ds must = refl
 deadlines-each (suc n) d ds must =
     let rest = filter (λ d. d.must) (replicate n d ++ ds) in
     ap (λ b. map (λ d. d.deadline) (cond b (d ∷ rest) rest)) must ∙ ap (λ ms. d.deadline ∷ ms) (deadlines-each n d ds must)
 
-deadlines-none : (n : ℕ) (d : Debt) (ds : List Debt) → d.must ≡ false → debt_deadlines (replicate n d ++ ds) ≡ debt_deadlines ds
+pub deadlines-none : (n : ℕ) (d : Debt) (ds : List Debt) → d.must ≡ false → debt_deadlines (replicate n d ++ ds) ≡ debt_deadlines ds
 deadlines-none zero d ds may = refl
 deadlines-none (suc n) d ds may =
     let rest = filter (λ d. d.must) (replicate n d ++ ds) in
     ap (λ b. map (λ d. d.deadline) (cond b (d ∷ rest) rest)) may ∙ deadlines-none n d ds may
 
-fold-each : (n a m : ℕ) (ms : List ℕ) → a ≤ m → fold min a (replicate n m ++ ms) ≡ fold min a ms
+pub fold-each : (n a m : ℕ) (ms : List ℕ) → a ≤ m → fold min a (replicate n m ++ ms) ≡ fold min a ms
 fold-each zero a m ms le = refl
 fold-each (suc n) a m ms le =
     let least : min a m ≡ a = omega (arith, le) in

@@ -1,8 +1,9 @@
 //! How debts lie beside a phase: in a box where some are owed, and not at all where a transaction owes nothing.
 ghost use Rattle.std.specs.Prelude.{◌≡◌, ◌<◌, ◌++◌, ◌∷◌, [], List, IfOk, OnOk, OnErr, IsTrue, All, filter, length, map, flat_map, remove, replicate};
 ghost use Rattle.std.specs.Bool.{OnTrue, OnFalse};
-ghost use Rattle.std.specs.Cmp.Lexicographic.{pointwise, slice_cmp};
+ghost use Rattle.std.specs.Cmp.Lexicographic.{pointwise};
 ghost use Rattle.sip_machine.specs.Debts.{IsWithoutFirst, earliest};
+ghost use Rattle.sip_machine.specs.inner.Fingerprints.{debts_cmp};
 ghost use Rattle.sip_machine.specs.inner.Outbox.{counts_at, softened_debt, is_payable, debt_deadlines};
 ghost use Rattle.sip_machine.specs.declared.outbox.Debt.{Debt};
 
@@ -61,9 +62,9 @@ pub trait Debts: Debug + Drop {
     fn equals(&self, other: &Self) -> bool
         ensures { result ≡ pointwise ⟦<Debt as PartialEq>⟧.eq (listed self.now) (listed other.now) };
 
-    /// Compares them as lists of debts.
+    /// Compares them, by their fingerprints first.
     fn compare(&self, other: &Self) -> Ordering
-        ensures { result ≡ slice_cmp ⟦<Debt as Ord>⟧.cmp (listed self.now) (listed other.now) };
+        ensures { result ≡ debts_cmp (listed self.now) (listed other.now) };
 }
 
 /// Debts of a transaction that owes messages. Where nothing is owed, nothing is allocated. Contracts see the list.

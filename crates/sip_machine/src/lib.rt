@@ -20,6 +20,7 @@ mod plain_server;
 mod provisional;
 mod push;
 mod retransmits;
+mod summary;
 mod timers;
 mod told;
 mod waiting;

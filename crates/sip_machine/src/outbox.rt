@@ -1,17 +1,20 @@
 //! What a machine owes, oldest cause first: a list of messages with their deadlines.
 ghost use Rattle.std.specs.Prelude.{◌≡◌, ◌≢◌, ◌↔◌, ◌++◌, ◌∷◌, [], ◌+◌, ◌<◌, ◌^◌, ℕ, List, IfOk, OnOk, OnErr, IsTrue, IfSome, All, length, position, remove, map, filter, take, drop, get_or, flat_map, replicate};
 ghost use Rattle.std.specs.Bool.{OnTrue, OnFalse};
-ghost use Rattle.std.specs.Cmp.Lexicographic.{pointwise, slice_cmp, slice_partial_cmp, lists_per, lists_equiv, lists_po, lists_total, lists_agrees, lists_ties};
+ghost use Rattle.std.specs.Ordering.{as_partial_cmp};
+ghost use Rattle.std.specs.Cmp.Lexicographic.{pointwise, slice_cmp, lists_per, lists_equiv};
 ghost use Rattle.sip_machine.specs.contracts.outbox.DebtPartialEq.TheImpl.Laws as partial_eq;
 ghost use Rattle.sip_machine.specs.contracts.outbox.DebtEq.TheImpl.Laws as eq;
-ghost use Rattle.sip_machine.specs.contracts.outbox.DebtPartialOrd.TheImpl.Laws as partial_ord;
-ghost use Rattle.sip_machine.specs.contracts.outbox.DebtOrd.TheImpl.Laws as ord;
 ghost use Rattle.sip_machine.specs.Debts.{IsWithoutFirst, earliest};
 ghost use Rattle.sip_machine.specs.inner.Outbox.{counts_at, softened_debt, is_payable, debt_deadlines};
 ghost use Rattle.sip_machine.specs.declared.outbox.Debt.{Debt};
 ghost use Rattle.sip_machine.specs.declared.outbox.Run.{Run};
+ghost use Rattle.sip_machine.specs.inner.Fingerprints.{debts_cmp};
+ghost use Rattle.sip_machine.specs.inner.FingerprintLaws.{debts_total, debts_ties, debts_po};
+ghost use Rattle.sip_machine.specs.inner.Summaries.{Summarizes};
 ghost use Rattle.sip_machine.specs.inner.Runs.{debts_of, kinds, AreRuns, AreApartBut, EndsWith, run_deadlines};
 
+use crate::summary::Summary;
 use std::alloc::{AllocError, Global};
 use std::cmp::Ordering;
 use std::marker::Model;
@@ -41,19 +44,20 @@ pub struct Run {
 #[derive(Debug, Drop)]
 pub struct Outbox {
     runs: Vec<Run>,
-    count: usize,
+    summary: Summary,
 }
 
 impl Model for Outbox {
-    ghost use Rattle.std.specs.Prelude.{◌≡◌, List, length};
+    ghost use Rattle.std.specs.Prelude.{List};
     ghost use Rattle.sip_machine.specs.declared.outbox.Debt.{Debt};
     ghost use Rattle.sip_machine.specs.inner.Runs.{debts_of, AreRuns};
+    ghost use Rattle.sip_machine.specs.inner.Summaries.{Summarizes};
 
     ghost Value = { List Debt };
 
     ghost view = { λ o. debts_of o.runs.items };
 
-    ghost invariant = { λ o. AreRuns o.runs.items × (o.count ≡ length (debts_of o.runs.items)) };
+    ghost invariant = { λ o. AreRuns o.runs.items × Summarizes (debts_of o.runs.items) o.summary };
 }
 
 impl Outbox {
@@ -63,7 +67,7 @@ impl Outbox {
     {
         Outbox {
             runs: Vec::new(alloc),
-            count: 0,
+            summary: Summary::empty(),
         }
     }
 
@@ -72,7 +76,10 @@ impl Outbox {
         ensures { IfOk result (λ outbox. outbox ≡ []) }
     {
         let runs = Vec::with_capacity(alloc, runs)?;
-        Ok(Outbox { runs, count: 0 })
+        Ok(Outbox {
+            runs,
+            summary: Summary::empty(),
+        })
     }
 
     /// The debts, in runs: equal neighbours stand in one.
@@ -88,7 +95,7 @@ impl Outbox {
     pub(crate) fn is_empty(&self) -> bool
         ensures { IsTrue result ↔ (self.now ≡ []) }
     {
-        self.count == 0
+        self.summary.count == 0
     }
 
     /// Adds a debt behind the others. On an error they are as before.
@@ -105,9 +112,9 @@ impl Outbox {
         ensures ok { OnOk result (self.new ≡ self.old ++ replicate run.count run.debt) }
         ensures err { OnErr result (self.new ≡ self.old) }
     {
-        let count = self.count.checked_add(run.count).ok_or(AllocError)?;
+        let summary = self.summary.with(run).ok_or(AllocError)?;
         append(&mut self.runs, run)?;
-        self.count = count;
+        self.summary = summary;
         Ok(())
     }
 
@@ -118,7 +125,7 @@ impl Outbox {
         let runs = Vec::from_slice(*self.runs.allocator(), &self.runs)?;
         Ok(Outbox {
             runs,
-            count: self.count,
+            summary: self.summary,
         })
     }
 
@@ -126,6 +133,9 @@ impl Outbox {
     pub(crate) fn unexpired(&self, moment: u64) -> Result<Outbox, AllocError>
         ensures { IfOk result (λ copy. copy ≡ filter (counts_at moment) self.now) }
     {
+        if moment <= self.summary.fresh {
+            return self.try_clone();
+        }
         let mut counting = Outbox::with_room(*self.runs.allocator(), self.runs.len())?;
         for run in &self.runs {
             if !counts(run.debt, moment) {
@@ -154,8 +164,7 @@ impl Outbox {
     {
         match first_payable(&self.runs, message, moment) {
             Some(at) => {
-                take_one(&mut self.runs, at);
-                self.count -= 1;
+                take_out(&mut self.runs, &mut self.summary, at);
                 true
             }
             None => false,
@@ -166,19 +175,18 @@ impl Outbox {
     pub(crate) fn remove(&mut self, index: usize)
         ensures { self.new ≡ remove self.old index }
     {
-        if index >= self.count {
+        if index >= self.summary.count {
             return;
         }
         let at = run_at(&self.runs, index);
-        take_one(&mut self.runs, at);
-        self.count -= 1;
+        take_out(&mut self.runs, &mut self.summary, at);
     }
 
     /// The least deadline of what must be sent.
     pub(crate) fn earliest_must(&self) -> Option<u64>
         ensures { result ≡ earliest (debt_deadlines self.now) }
     {
-        earliest_must(&self.runs)
+        self.summary.due
     }
 }
 
@@ -188,6 +196,9 @@ impl PartialEq for Outbox {
     ghost laws = { lists_per partial_eq.laws-law };
 
     fn eq(&self, other: &Outbox) -> bool {
+        if self.summary.fingerprint != other.summary.fingerprint {
+            return false;
+        }
         self.runs == other.runs
     }
 }
@@ -197,27 +208,33 @@ impl Eq for Outbox {
 }
 
 impl PartialOrd for Outbox {
-    ghost partial_cmp = { slice_partial_cmp ⟦<Debt as PartialOrd>⟧.partial_cmp };
+    ghost partial_cmp = { as_partial_cmp debts_cmp };
 
-    ghost laws = { lists_po partial_ord.laws-law };
+    ghost laws = { debts_po };
 
     fn partial_cmp(&self, other: &Outbox) -> Option<Ordering> {
         Some(self.cmp(other))
     }
 }
 
-/// As lists of debts.
+/// By their fingerprints, and as lists of debts where these are equal.
 impl Ord for Outbox {
-    ghost cmp = { slice_cmp ⟦<Debt as Ord>⟧.cmp };
+    ghost use Rattle.std.specs.Prelude.{refl};
 
-    ghost total = { lists_total ord.total-law };
+    ghost cmp = { debts_cmp };
 
-    ghost matches_partial_cmp = { lists_agrees ord.matches_partial_cmp-law };
+    ghost total = { debts_total };
 
-    ghost matches_eq = { lists_ties ⟦<Debt as Ord>⟧.cmp ord.matches_eq-law };
+    ghost matches_partial_cmp = { λ x y. refl };
+
+    ghost matches_eq = { debts_ties };
 
     fn cmp(&self, other: &Outbox) -> Ordering {
-        compare(&self.runs, &other.runs)
+        let fingerprint = self.summary.fingerprint;
+        match fingerprint.cmp(&other.summary.fingerprint) {
+            Ordering::Equal => compare(&self.runs, &other.runs),
+            unequal => unequal,
+        }
     }
 }
 
@@ -304,6 +321,21 @@ fn ends_with(runs: &[Run], debt: Debt) -> bool
     runs[runs.len() - 1].debt == debt
 }
 
+/// Takes one debt out of the run at the index, and out of what is known of the debts.
+fn take_out(runs: &mut Vec<Run>, summary: &mut Summary, at: usize)
+    requires runs { AreRuns runs.old.items }
+    requires summary { Summarizes (debts_of runs.old.items) summary.old }
+    requires within { at < length runs.old.items }
+    requires fits { length (debts_of runs.old.items) < 2 ^ 64 }
+    ensures debts { debts_of runs.new.items ≡ remove (debts_of runs.old.items) (length (debts_of (take at runs.old.items))) }
+    ensures runs { AreRuns runs.new.items }
+    ensures summary { Summarizes (debts_of runs.new.items) summary.new }
+{
+    let debt = runs[at].debt;
+    take_one(runs, at);
+    *summary = summary.without(debt, runs);
+}
+
 /// Takes one debt out of the run at the index.
 fn take_one(runs: &mut Vec<Run>, at: usize)
     requires runs { AreRuns runs.old.items }
@@ -359,7 +391,7 @@ fn first_payable(runs: &[Run], message: u32, moment: u64) -> Option<usize>
 }
 
 /// The least deadline of a debt that has to be paid.
-fn earliest_must(runs: &[Run]) -> Option<u64>
+pub(crate) fn earliest_must(runs: &[Run]) -> Option<u64>
     ensures { result ≡ earliest (run_deadlines runs.now) }
 {
     runs.iter()

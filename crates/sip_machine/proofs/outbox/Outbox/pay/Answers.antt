@@ -1,31 +1,17 @@
-use Rattle.std.proofs.Common.{◌≡◌, ◌<◌, true, Some, None, All, length, position, remove, refl, sym, subst, arith}
+use Rattle.std.proofs.Common.{◌≡◌, true, Some, None, All, position, remove, refl, sym, subst}
 use Rattle.sip_machine.specs.inner.Outbox.{is_payable}
 use Rattle.sip_machine.specs.inner.Runs.{debts_of}
 use Rattle.sip_machine.specs.Debts.{IsWithoutFirst}
 use Rattle.sip_machine.proofs.OutboxLemmas.{All-position_None}
-use Rattle.sip_machine.proofs.RunsLemmas.{start_of, All-each, one_less, first_passing}
+use Rattle.sip_machine.proofs.RunsLemmas.{start_of, All-each, first_passing}
 use Rattle.sip_machine.proofs.outbox.Outbox.pay.Goals as goal
-
-pub overflow_sub-self : goal.overflow_sub-self
-overflow_sub-self c =
-    let runs = c.self.inside.runs.items in
-    let low : c.in-Some.at < length runs = rw c.deref.ensures.value at c.in-Some.ensures.within in
-    let less = one_less runs c.in-Some.at low c.self.invariant.0.filled in
-    omega (arith, less.0, c.self.invariant.1)
-
-pub invariant_of-self : goal.invariant_of-self
-invariant_of-self c =
-    let runs = c.self.inside.runs.items in
-    let low : c.in-Some.at < length runs = rw c.deref.ensures.value at c.in-Some.ensures.within in
-    let less = one_less runs c.in-Some.at low c.self.invariant.0.filled in
-    (c.take_one.ensures.runs, rw c.take_one.ensures.debts (omega (arith, less.1, c.self.invariant.1)))
 
 pub returns-in-Some-clause-paid : goal.returns-in-Some-clause-paid
 returns-in-Some-clause-paid c =
     let test = is_payable c.args.message c.args.moment in
     let runs = c.self.inside.runs.items in
     let at : position (λ run. test run.debt) runs ≡ Some c.in-Some.at = sym (rw c.deref.ensures.value at c.in-Some.ensures.value) in
-    rw c.take_one.ensures.debts
+    rw c.take_out.ensures.debts
     (subst (λ debts. IsWithoutFirst (λ debt. test debt ≡ true) debts (remove (debts_of runs) (start_of runs c.in-Some.at))) c.self.view_is (first_passing test runs c.in-Some.at c.self.invariant.0.filled at))
 
 pub returns-in-None-clause-unpaid : goal.returns-in-None-clause-unpaid

@@ -1,9 +1,18 @@
-use Rattle.std.proofs.Common.{◌++◌, filter, replicate, get_or, sym, ap, ◌∙◌}
+use Rattle.std.proofs.Common.{◌≡◌, ◌++◌, filter, replicate, get_or, sym, subst, ap, ◌∙◌, IfOk}
 use Rattle.std.proofs.lemmas.List.{take_all}
 use Rattle.sip_machine.specs.inner.Outbox.{counts_at}
 use Rattle.sip_machine.specs.inner.Runs.{debts_of}
 use Rattle.sip_machine.proofs.RunsLemmas.{none, filter-less, filter-more}
+use Rattle.sip_machine.proofs.SummaryLemmas.{none_expires, all-before}
 use Rattle.sip_machine.proofs.outbox.Outbox.unexpired.Goals as goal
+
+pub returns-then-moment-self : goal.returns-then-moment-self
+returns-then-moment-self c =
+    let test = counts_at c.args.moment in
+    let debts = debts_of c.self.inside.runs.items in
+    let all = none_expires test debts (all-before c.args.moment c.self.inside.summary.fresh debts c.if-moment-self.true c.self.invariant.1.fresh) in
+    let none_is : filter test c.args.self.now ≡ c.args.self.now = subst (λ debts. filter test debts ≡ debts) c.self.view_is all in
+    subst (λ debts. IfOk c.try_clone.result (λ copy. copy ≡ debts)) (sym none_is) c.try_clone.ensures
 
 pub returns : goal.returns
 returns c =

@@ -1,7 +1,7 @@
 //! The words of which the text of a state is made.
 ghost use Rattle.std.specs.Prelude.{◌≡◌, ◌++◌, OnOk, flat_map, replicate, string_bytes};
 ghost use Rattle.sip_listing.specs.Fields.{field, field_text, number_field, optional_field, flag_field, owed_field};
-ghost use Rattle.sip_machine.specs.Told.{told_field};
+ghost use Rattle.sip_machine.specs.Told.{field_of_code};
 ghost use Rattle.sip_listing.specs.inner.FieldLaws.{debts_fields};
 
 use itoa::Buffer;
@@ -44,7 +44,7 @@ fn push_flag(line: &mut String, name: &str, value: bool) -> Result<(), AllocErro
 
 /// Appends a field of a phase.
 pub(crate) fn push_field(line: &mut String, told: Field) -> Result<(), AllocError>
-    ensures { OnOk result (string_bytes line.new ≡ string_bytes line.old ++ field_text (told_field told)) }
+    ensures { OnOk result (string_bytes line.new ≡ string_bytes line.old ++ field_text (field_of_code told)) }
 {
     match told {
         Field::Flag(name, is) => push_flag(line, name, is),

@@ -36,10 +36,10 @@ abbrev pub told_by : {M N : Type 0} → (M → N) → Told M → Told N
 told_by f told = record { name = told.name; fields = map (field_by f) told.fields }
 
 -- the words of the code
-abbrev pub told_field : CodeField → ToldField ℕ
-told_field (code.Flag name is) = Flag name.now is
-told_field (code.Number name value) = Number name.now value
-told_field (code.Message name message) = Message name.now message
+abbrev pub field_of_code : CodeField → ToldField ℕ
+field_of_code (code.Flag name is) = Flag name.now is
+field_of_code (code.Number name value) = Number name.now value
+field_of_code (code.Message name message) = Message name.now message
 
 abbrev pub told_of : CodeTold → Told ℕ
-told_of told = record { name = told.name.now; fields = map told_field told.fields.items }
+told_of told = record { name = told.name.now; fields = map field_of_code told.fields.items }

@@ -5,7 +5,7 @@ ghost use Rattle.sip_machine.specs.MachineEvent.{FitsBook, event_in};
 ghost use Rattle.sip_machine.specs.Retransmits.{Retransmits};
 ghost use Rattle.sip_machine.specs.Debts.{earliest};
 ghost use Rattle.sip_machine.specs.Waiting.{waiting_closes, waiting_fields, waiting_seen, WaitingInRange};
-ghost use Rattle.sip_machine.specs.Told.{told_field};
+ghost use Rattle.sip_machine.specs.Told.{field_of_code};
 
 use crate::book::Book;
 use crate::event::Event;
@@ -66,7 +66,7 @@ impl Waiting {
 
     /// What its phase tells of it.
     pub(crate) fn fields(&self) -> [Field; 5]
-        ensures { map told_field result ≡ waiting_fields self.now.reliable self.now.request self.now.start self.now.set self.now.interval }
+        ensures { map field_of_code result ≡ waiting_fields self.now.reliable self.now.request self.now.start self.now.set self.now.interval }
     {
         [
             Field::Flag("reliable", self.reliable),

@@ -6,7 +6,7 @@ use Rattle.std.proofs.lemmas.List.{get_or-take, length-take-le}
 use Rattle.sip_text.specs.Bytes.{dot, hyphen}
 use Rattle.sip_text.specs.Cut.{parts, up_to}
 use Rattle.sip_text.specs.Host.{Hostname}
-use Rattle.sip_text.specs.HostTests.{are_labels}
+use Rattle.sip_text.specs.inner.HostTests.{are_labels}
 use Rattle.sip_text.proofs.HostnameLemmas.{hostname-yes}
 use Rattle.sip_masks.specs.Bits.{test}
 use Rattle.sip_masks.specs.inner.Strange.{is_strange}

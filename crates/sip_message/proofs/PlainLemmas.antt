@@ -18,7 +18,7 @@ use Rattle.sip_message.specs.Unfold.{OpensSolid}
 use Rattle.sip_message.specs.Params.{left_angle, right_angle, Mark, ParamsText, ParamsPart, BehindBlanks}
 use Rattle.sip_message.specs.Address.{AddressParts, AddressFits, DisplayName, name_addr}
 use Rattle.sip_message.specs.inner.AddressFronts.{Words}
-use Rattle.sip_message.specs.inner.Plain.{segment, Stands, PlainRun, HostPort, SomeUri, Opening, PlainParam, SomeParams, SomeAddress}
+use Rattle.sip_message.specs.inner.Plain.{segment, LiesWithin, PlainRun, HostPort, SomeUri, Opening, PlainParam, SomeParams, SomeAddress}
 use Rattle.sip_message.proofs.QuickLemmas.{low-one, plain-token}
 use Rattle.sip_message.proofs.lemmas.front.Prefix.{prefix-at, all-some}
 use Rattle.sip_message.proofs.lemmas.text.Cuts.{same_by_front}
@@ -39,16 +39,16 @@ segment-none text at =
     ap (λ n. take n (drop at text)) none
 
 -- one part, and another behind it
-pub then-stands : (P Q : List ℕ → Type 0) (text : List ℕ) (at end mid to : ℕ) → Stands P text at end mid → Stands Q text mid end to → Stands (P then Q) text at end to
+pub then-stands : (P Q : List ℕ → Type 0) (text : List ℕ) (at end mid to : ℕ) → LiesWithin P text at end mid → LiesWithin Q text mid end to → LiesWithin (P then Q) text at end to
 then-stands P Q text at end mid to p q =
     (omega (arith, p.0, q.0), q.1, (segment at mid text, segment mid to text, p.2, q.2, segment-cut text at mid to p.0 q.0))
 
 -- a part is one of another set
-pub stands-as : (P Q : List ℕ → Type 0) (text : List ℕ) (at end to : ℕ) → ((u : List ℕ) → P u → Q u) → Stands P text at end to → Stands Q text at end to
+pub stands-as : (P Q : List ℕ → Type 0) (text : List ℕ) (at end to : ℕ) → ((u : List ℕ) → P u → Q u) → LiesWithin P text at end to → LiesWithin Q text at end to
 stands-as P Q text at end to turn p = (p.0, p.1, turn (segment at to text) p.2)
 
 -- up to the end
-pub whole-stands : (P : List ℕ → Type 0) (text : List ℕ) (at end : ℕ) → at ≤ end → P (segment at end text) → Stands P text at end end
+pub whole-stands : (P : List ℕ → Type 0) (text : List ℕ) (at end : ℕ) → at ≤ end → P (segment at end text) → LiesWithin P text at end end
 whole-stands P text at end within p = (within, omega arith, p)
 
 -- what holds a byte takes room
@@ -61,13 +61,13 @@ part-longer text rest at to b is = elim (cases_lt at to) [
 ]
 
 -- a parameter takes room
-pub param-longer : (p : List ℕ × Option (List ℕ)) (text : List ℕ) (at end to : ℕ) → Stands (PlainParam p) text at end to → at < to
+pub param-longer : (p : List ℕ × Option (List ℕ)) (text : List ℕ) (at end to : ℕ) → LiesWithin (PlainParam p) text at end to → at < to
 param-longer p text at end to param =
     let w = param.2 in
     part-longer text w.1 at to semicolon (w.4 ∙ ap (λ t. t ++ w.1) w.2)
 
 -- a run
-pub run-stands : (text : List ℕ) (at end n : ℕ) → at < end → end ≤ length text → n ≡ prefix_len is_plain (drop at text) → 0 < n → n ≤ end - at → Stands PlainRun text at end (at + n)
+pub run-stands : (text : List ℕ) (at end n : ℕ) → at < end → end ≤ length text → n ≡ prefix_len is_plain (drop at text) → 0 < n → n ≤ end - at → LiesWithin PlainRun text at end (at + n)
 run-stands text at end n before within is some most =
     let count : at + n - at ≡ n = omega arith in
     let front = take n (drop at text) in
@@ -166,7 +166,7 @@ front-cut text u rest at end before within is =
     (most, same.0, same.1)
 
 -- what stands at the front is a part
-pub front-stands : (P : List ℕ → Type 0) (text u rest : List ℕ) (at end : ℕ) → at ≤ end → end ≤ length text → P u → segment at end text ≡ u ++ rest → Stands P text at end (at + length u)
+pub front-stands : (P : List ℕ → Type 0) (text u rest : List ℕ) (at end : ℕ) → at ≤ end → end ≤ length text → P u → segment at end text ≡ u ++ rest → LiesWithin P text at end (at + length u)
 front-stands P text u rest at end before within p is =
     let cut = front-cut text u rest at end before within is in
     (omega arith, cut.0, subst P (sym cut.1) p)
@@ -183,12 +183,12 @@ pub mark-alone : (b : ℕ) → Mark b (b ∷ [])
 mark-alone b = ([], b ∷ [], inl refl, (b ∷ [], [], refl, inl refl, refl), refl)
 
 -- a parameter without a value, and with one
-pub param-none : (text : List ℕ) (at end start behind : ℕ) → Stands (Byte semicolon) text at end start → Stands PlainRun text start end behind → Stands (PlainParam (segment start behind text, None)) text at end behind
+pub param-none : (text : List ℕ) (at end start behind : ℕ) → LiesWithin (Byte semicolon) text at end start → LiesWithin PlainRun text start end behind → LiesWithin (PlainParam (segment start behind text, None)) text at end behind
 param-none text at end start behind mark run =
     (omega (arith, mark.0, run.0), run.1, (segment at start text, segment start behind text, mark.2, (run-token (segment start behind text) run.2, refl), segment-cut text at start behind mark.0 run.0))
 
-pub param-some : (text : List ℕ) (at end start behind first to : ℕ) → Stands (Byte semicolon) text at end start → Stands PlainRun text start end behind → Stands (Byte equals) text behind end first → Stands PlainRun text first end to
-    → Stands (PlainParam (segment start behind text, Some (segment first to text))) text at end to
+pub param-some : (text : List ℕ) (at end start behind first to : ℕ) → LiesWithin (Byte semicolon) text at end start → LiesWithin PlainRun text start end behind → LiesWithin (Byte equals) text behind end first → LiesWithin PlainRun text first end to
+    → LiesWithin (PlainParam (segment start behind text, Some (segment first to text))) text at end to
 param-some text at end start behind first to mark run equal value =
     let name = segment start behind text in
     let v = segment first to text in
@@ -200,7 +200,7 @@ param-some text at end start behind first to mark run equal value =
     (omega (arith, mark.0, run.0, later), value.1, (segment at start text, segment start to text, mark.2, (run-token name run.2, inl (run-token v value.2), whole), segment-cut text at start to mark.0 (omega (arith, run.0, later))))
 
 -- a parameter before others
-pub params-part : (p : List ℕ × Option (List ℕ)) (ps : List (List ℕ × Option (List ℕ))) (text : List ℕ) (at end to : ℕ) → Stands (PlainParam p) text at end to → ParamsPart (segment to end text) ps → ParamsPart (segment at end text) (p ∷ ps)
+pub params-part : (p : List ℕ × Option (List ℕ)) (ps : List (List ℕ × Option (List ℕ))) (text : List ℕ) (at end to : ℕ) → LiesWithin (PlainParam p) text at end to → ParamsPart (segment to end text) ps → ParamsPart (segment at end text) (p ∷ ps)
 params-part p ps text at end to param later =
     let rest = segment to end text in
     let w = param.2 in
@@ -209,7 +209,7 @@ params-part p ps text at end to param later =
     let params : ParamsText (segment at end text) (p ∷ ps) = (semicolon ∷ [], w.1 ++ rest, mark-alone semicolon, (w.1, rest, w.3, later.1, refl), whole) in
     (subst OpensSolid (sym whole) refl, params)
 
-pub params-behind : (p : List ℕ × Option (List ℕ)) (text : List ℕ) (at end to : ℕ) → Stands (PlainParam p) text at end to → SomeParams (segment to end text) → SomeParams (segment at end text)
+pub params-behind : (p : List ℕ × Option (List ℕ)) (text : List ℕ) (at end to : ℕ) → LiesWithin (PlainParam p) text at end to → SomeParams (segment to end text) → SomeParams (segment at end text)
 params-behind p text at end to param later = (p ∷ later.0, params-part p later.0 text at end to param later.1)
 
 -- none

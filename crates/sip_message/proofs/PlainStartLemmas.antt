@@ -8,7 +8,7 @@ use Rattle.std.proofs.lemmas.List.{take-append-drop}
 use Rattle.sip_text.specs.Bytes.{space, tab}
 use Rattle.sip_text.specs.Text.{Byte, Exactly, ◌then◌}
 use Rattle.sip_message.specs.StartLine.{request, Version, is_reason_byte, StartText}
-use Rattle.sip_message.specs.inner.Plain.{segment, Stands, PlainRun, SomeUri}
+use Rattle.sip_message.specs.inner.Plain.{segment, LiesWithin, PlainRun, SomeUri}
 use Rattle.sip_message.specs.inner.Quick.{is_open, IsOpen}
 use Rattle.sip_message.specs.inner.StartFronts.{CodeFront}
 use Rattle.sip_message.proofs.PlainLemmas.{then-stands, whole-stands, run-token}
@@ -44,7 +44,7 @@ reason-open line reason code clear front =
     reason-bytes reason (subst (All is_open) front.3.3 last)
 
 -- a request line
-pub request-plain : (text : List ℕ) (end method uri to : ℕ) → Stands PlainRun text 0 end method → Stands (Byte space) text method end uri → Stands SomeUri text uri end to
+pub request-plain : (text : List ℕ) (end method uri to : ℕ) → LiesWithin PlainRun text 0 end method → LiesWithin (Byte space) text method end uri → LiesWithin SomeUri text uri end to
     → segment to end text ≡ codes " SIP/2.0" → StartText (segment 0 end text) (request (segment 0 method text) (segment uri to text))
 request-plain text end method uri to run mark is version =
     let m = segment 0 method text in

@@ -20,7 +20,7 @@ use Rattle.sip_masks.specs.Marks.{is_plain}
 use Rattle.sip_message.specs.Values.{is_word_byte, CallIdText, Digits, Word, CSeqText}
 use Rattle.sip_message.specs.Params.{Quoted}
 use Rattle.sip_message.specs.inner.AddressFronts.{Words}
-use Rattle.sip_message.specs.inner.Plain.{segment, Stands, PlainRun}
+use Rattle.sip_message.specs.inner.Plain.{segment, LiesWithin, PlainRun}
 use Rattle.sip_message.proofs.QuickLemmas.{low-one}
 use Rattle.sip_message.proofs.PlainLemmas.{then-stands, run-token}
 use Rattle.sip_message.proofs.lemmas.text.Each.{each-one, each-many}
@@ -105,12 +105,12 @@ short-end text at number some end reads =
     (all-some is_ascii_digit text each (λ none. omega (arith, some, ap length none)), reads.value ∙ ap (digits_value 10) whole, reads.small)
 
 -- a CSeq
-pub cseq-plain : (text : List ℕ) (at end digits method number : ℕ) → Stands PlainRun text at end digits → Stands (Byte space) text digits end method → Stands PlainRun text method end end
+pub cseq-plain : (text : List ℕ) (at end digits method number : ℕ) → LiesWithin PlainRun text at end digits → LiesWithin (Byte space) text digits end method → LiesWithin PlainRun text method end end
     → Digits (segment at digits text) → number ≡ digits_value 10 (segment at digits text) → number < 2 ^ 31 → CSeqText (segment at end text) number (segment method end text)
 cseq-plain text at end digits method number run mark is are value low =
     let d = segment at digits text in
     let m = segment method end text in
-    let behind : Stands (Blanks then Exactly m) text digits end end = then-stands Blanks (Exactly m) text digits end method end (mark.0, mark.1, subst Blanks (sym mark.2) blanks-space) (is.0, is.1, refl) in
+    let behind : LiesWithin (Blanks then Exactly m) text digits end end = then-stands Blanks (Exactly m) text digits end method end (mark.0, mark.1, subst Blanks (sym mark.2) blanks-space) (is.0, is.1, refl) in
     record {
       digits = d;
       are_digits = are;

@@ -14,14 +14,14 @@ use Rattle.sip_message.specs.Elements.{Element}
 use Rattle.sip_message.specs.inner.ElementFronts.{FirstVia}
 use Rattle.sip_message.specs.inner.ParamFronts.{Param}
 use Rattle.sip_message.specs.inner.ViaFronts.{BranchOf}
-use Rattle.sip_message.specs.inner.Plain.{segment, Stands, PlainRun, PlainParam}
+use Rattle.sip_message.specs.inner.Plain.{segment, LiesWithin, PlainRun, PlainParam}
 use Rattle.sip_message.proofs.PlainLemmas.{segment-none, then-stands, stands-as, whole-stands, run-token, host-own, mark-alone, behind-self, params-part}
 use Rattle.sip_message.proofs.lemmas.params.Branch.{cons-branch}
 use Rattle.sip_message.proofs.lemmas.params.Closed.{blanks-space}
 use Rattle.sip_message.proofs.lemmas.via.Steps.{one-via}
 
 -- a parameter before those of a Via
-pub branch-behind : (p : Param) (found later : Option (List ℕ)) (text : List ℕ) (at end to : ℕ) → Stands (PlainParam p) text at end to → BranchOf p found
+pub branch-behind : (p : Param) (found later : Option (List ℕ)) (text : List ℕ) (at end to : ℕ) → LiesWithin (PlainParam p) text at end to → BranchOf p found
     → ViaParams (segment to end text) later → ViaParams (segment at end text) (option_or found later)
 branch-behind p found later text at end to param is (ps, part, branch) = (p ∷ ps, params-part p ps text at end to param part, cons-branch p ps found later is branch)
 
@@ -34,30 +34,30 @@ or-none None = refl
 or-none (Some v) = refl
 
 -- a port behind its colon
-pub port-led : (text : List ℕ) (at end port to : ℕ) → Stands (Byte colon) text at end port → Stands Port text port end to
-    → Stands (λ u. ColonPort (Some (segment port to text)) u × IfSome (Some (segment port to text)) Port) text at end to
+pub port-led : (text : List ℕ) (at end port to : ℕ) → LiesWithin (Byte colon) text at end port → LiesWithin Port text port end to
+    → LiesWithin (λ u. ColonPort (Some (segment port to text)) u × IfSome (Some (segment port to text)) Port) text at end to
 port-led text at end port to mark is =
     let p = segment port to text in
-    let led : Stands (Mark colon then Exactly p) text at end to =
+    let led : LiesWithin (Mark colon then Exactly p) text at end to =
     then-stands (Mark colon) (Exactly p) text at end port to (stands-as (Byte colon) (Mark colon) text at end port (λ u byte. subst (Mark colon) (sym byte) (mark-alone colon)) mark) (is.0, is.1, refl) in
     (led.0, led.1, (led.2, is.2))
 
 -- no port
-pub port-none : (text : List ℕ) (at end : ℕ) → at ≤ end → Stands (λ u. ColonPort None u × IfSome None Port) text at end at
+pub port-none : (text : List ℕ) (at end : ℕ) → at ≤ end → LiesWithin (λ u. ColonPort None u × IfSome None Port) text at end at
 port-none text at end within = (omega arith, within, (segment-none text at, tt))
 
 -- a run is spelled as it stands
-spelled : (text : List ℕ) (at end to : ℕ) → Stands PlainRun text at end to → Stands (Exactly (segment at to text)) text at end to
+spelled : (text : List ℕ) (at end to : ℕ) → LiesWithin PlainRun text at end to → LiesWithin (Exactly (segment at to text)) text at end to
 spelled text at end to run = (run.0, run.1, refl)
 
-marked : (text : List ℕ) (at end to : ℕ) → Stands (Byte slash) text at end to → Stands (Mark slash) text at end to
+marked : (text : List ℕ) (at end to : ℕ) → LiesWithin (Byte slash) text at end to → LiesWithin (Mark slash) text at end to
 marked text at end to mark = stands-as (Byte slash) (Mark slash) text at end to (λ u is. subst (Mark slash) (sym is) (mark-alone slash)) mark
 
 -- an element
 pub via-plain : (text : List ℕ) (at end name first version second transport sent_by behind params : ℕ) (host : HostParts) (port branch : Option (List ℕ))
-    → Stands PlainRun text at end name → Stands (Byte slash) text name end first → Stands PlainRun text first end version → Stands (Byte slash) text version end second
-    → Stands PlainRun text second end transport → Stands (Byte space) text transport end sent_by → Stands (λ u. HostText u host) text sent_by end behind
-    → Stands (λ u. ColonPort port u × IfSome port Port) text behind end params → ViaParams (segment params end text) branch
+    → LiesWithin PlainRun text at end name → LiesWithin (Byte slash) text name end first → LiesWithin PlainRun text first end version → LiesWithin (Byte slash) text version end second
+    → LiesWithin PlainRun text second end transport → LiesWithin (Byte space) text transport end sent_by → LiesWithin (λ u. HostText u host) text sent_by end behind
+    → LiesWithin (λ u. ColonPort port u × IfSome port Port) text behind end params → ViaParams (segment params end text) branch
     → ViaText (segment at end text) (record { protocol = segment at name text; version = segment first version text; transport = segment second transport text; host = host; port = port; params = segment params end text; branch = branch })
 via-plain text at end name first version second transport sent_by behind params host port branch protocol_is mark_is version_is mark_too transport_is space_is host_is port_is params_is =
     let p = segment at name text in
@@ -75,14 +75,14 @@ via-plain text at end name first version second transport sent_by behind params 
     let T6 = Mark slash then T5 in
     let T7 = Exactly v then T6 in
     let T8 = Mark slash then T7 in
-    let s1 : Stands T1 text params end end = whole-stands T1 text params end port_is.1 (behind-self tail) in
-    let s2 : Stands T2 text behind end end = then-stands (ColonPort port) T1 text behind end params end (port_is.0, port_is.1, port_is.2.0) s1 in
-    let s3 : Stands T3 text sent_by end end = then-stands (Exactly (host_text host)) T2 text sent_by end behind end (host_is.0, host_is.1, own.1) s2 in
-    let s4 : Stands T4 text transport end end = then-stands Blanks T3 text transport end sent_by end (space_is.0, space_is.1, subst Blanks (sym space_is.2) blanks-space) s3 in
-    let s5 : Stands T5 text second end end = then-stands (Exactly t) T4 text second end transport end (spelled text second end transport transport_is) s4 in
-    let s6 : Stands T6 text version end end = then-stands (Mark slash) T5 text version end second end (marked text version end second mark_too) s5 in
-    let s7 : Stands T7 text first end end = then-stands (Exactly v) T6 text first end version end (spelled text first end version version_is) s6 in
-    let s8 : Stands T8 text name end end = then-stands (Mark slash) T7 text name end first end (marked text name end first mark_is) s7 in
+    let s1 : LiesWithin T1 text params end end = whole-stands T1 text params end port_is.1 (behind-self tail) in
+    let s2 : LiesWithin T2 text behind end end = then-stands (ColonPort port) T1 text behind end params end (port_is.0, port_is.1, port_is.2.0) s1 in
+    let s3 : LiesWithin T3 text sent_by end end = then-stands (Exactly (host_text host)) T2 text sent_by end behind end (host_is.0, host_is.1, own.1) s2 in
+    let s4 : LiesWithin T4 text transport end end = then-stands Blanks T3 text transport end sent_by end (space_is.0, space_is.1, subst Blanks (sym space_is.2) blanks-space) s3 in
+    let s5 : LiesWithin T5 text second end end = then-stands (Exactly t) T4 text second end transport end (spelled text second end transport transport_is) s4 in
+    let s6 : LiesWithin T6 text version end end = then-stands (Mark slash) T5 text version end second end (marked text version end second mark_too) s5 in
+    let s7 : LiesWithin T7 text first end end = then-stands (Exactly v) T6 text first end version end (spelled text first end version version_is) s6 in
+    let s8 : LiesWithin T8 text name end end = then-stands (Mark slash) T7 text name end first end (marked text name end first mark_is) s7 in
     let s9 = then-stands (Exactly p) T8 text at end name end (spelled text at end name protocol_is) s8 in
     (fits, s9.2)
 

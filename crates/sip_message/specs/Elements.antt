@@ -4,7 +4,7 @@ use Rattle.sip_text.specs.Text.{Exactly, ◌then◌}
 use Rattle.sip_message.specs.declared.name.Known.{Known}
 use Rattle.sip_message.specs.Params.{comma, Mark}
 use Rattle.sip_message.specs.Via.{ViaParts, ViaText}
-use Rattle.sip_message.specs.Name.{is_named}
+use Rattle.sip_message.specs.Name.{is_name_of}
 use Rattle.sip_message.specs.Field.{Field}
 
 -- an element of Via: its text and its parts
@@ -30,4 +30,4 @@ AreElements (value ∷ values) es =
 -- the values of the fields of a name, in order
 abbrev pub values : Known → List Field → List (List ℕ)
 values known [] = []
-values known (f ∷ fs) = if is_named known f.name then f.value ∷ values known fs else values known fs
+values known (f ∷ fs) = if is_name_of known f.name then f.value ∷ values known fs else values known fs

@@ -14,7 +14,7 @@ use Rattle.sip_message.specs.declared.fault.Reason.TheVariants as reason
 use Rattle.sip_message.specs.StartLine.{StartLine, request, status}
 use Rattle.sip_message.specs.Message.{length_in}
 use Rattle.sip_message.specs.Outcome.{Outcome, gives, Gives, Demand, Holds, Then}
-use Rattle.sip_message.specs.Faults.{at_head, at_line, at_body, second_line}
+use Rattle.sip_message.specs.Faults.{fault_in_head, fault_in_line, fault_in_body, second_line}
 
 -- Request-Line = Method SP Request-URI SP SIP-Version
 -- Status-Line = SIP-Version SP Status-Code SP Reason-Phrase, SIP-Version = "SIP/2.0", without case
@@ -135,8 +135,8 @@ IsTrimmed text =
 -- 4 and 5: a line is a field: a token, any SP and HTAB, a colon, and a value of the name without the blanks at its ends (section 7.3)
 abbrev pub FieldSays : ℕ → List ℕ → Outcome SaidField → Type 0
 FieldSays n line =
-    Then (Demand (λ (named : List ℕ × List ℕ). ((Token is named.0) then Many Wsp then Lit ":" then Exactly named.1) line) (at_line n reason.FieldLine)) (λ named.
-    Then (Demand (λ value. (IsTrimmed value × (Sws then Exactly value then Sws) named.1) × RowSays (full_name (folded named.0)) value) (at_line n reason.Value)) (λ value.
+    Then (Demand (λ (named : List ℕ × List ℕ). ((Token is named.0) then Many Wsp then Lit ":" then Exactly named.1) line) (fault_in_line n reason.FieldLine)) (λ named.
+    Then (Demand (λ value. (IsTrimmed value × (Sws then Exactly value then Sws) named.1) × RowSays (full_name (folded named.0)) value) (fault_in_line n reason.Value)) (λ value.
     Gives (record { line = n; name = full_name (folded named.0); value = value })))
 
 -- the lines are fields, the lines being numbered from n
@@ -146,11 +146,11 @@ FieldsSay n (line ∷ lines) = Then (FieldSays n line) (λ f. Then (FieldsSay (n
 
 -- 7: of these fields there is a first
 abbrev pub FirstOf : List (ℕ × List ℕ) → Outcome (ℕ × List ℕ) → Type 0
-FirstOf found = Demand (λ first. (more : List (ℕ × List ℕ)) × (found ≡ first ∷ more)) (at_head reason.Missing)
+FirstOf found = Demand (λ first. (more : List (ℕ × List ℕ)) × (found ≡ first ∷ more)) (fault_in_head reason.Missing)
 
 -- 6: and no second
 abbrev pub NoSecond : List (ℕ × List ℕ) → Outcome (Unit {0}) → Type 0
-NoSecond found = Holds (length found ≤ 1) (at_line (second_line found) reason.Repeated)
+NoSecond found = Holds (length found ≤ 1) (fault_in_line (second_line found) reason.Repeated)
 
 -- both
 abbrev pub OneOf : List (ℕ × List ℕ) → Outcome (ℕ × List ℕ) → Type 0
@@ -175,10 +175,10 @@ StreamSays via = (v : SaidVia) × (more : List SaidVia) × ViasSay (v ∷ more) 
 -- 8 to 11: the method, and as many bytes behind the head as Content-Length says, which a stream has, and no more (section 18.3)
 abbrev pub BodySays : StartLine → ℕ × List ℕ → List ℕ → Option ℕ → List ℕ → Outcome (Unit {0}) → Type 0
 BodySays start cseq via len rest =
-    Then (Holds (MethodSays start (cseq.1)) (at_line (cseq.0) reason.MethodMismatch)) (λ _.
-    Then (Holds (StreamSays via → is_some len ≡ true) (at_body reason.NoLength)) (λ _.
-    Then (Holds (IfSome len (λ n. n ≤ length rest)) (at_body reason.ShortBody)) (λ _.
-    Then (Holds (StreamSays via → IfSome len (λ n. length rest ≤ n)) (at_body reason.LongBody)) (λ _. Gives tt))))
+    Then (Holds (MethodSays start (cseq.1)) (fault_in_line (cseq.0) reason.MethodMismatch)) (λ _.
+    Then (Holds (StreamSays via → is_some len ≡ true) (fault_in_body reason.NoLength)) (λ _.
+    Then (Holds (IfSome len (λ n. n ≤ length rest)) (fault_in_body reason.ShortBody)) (λ _.
+    Then (Holds (StreamSays via → IfSome len (λ n. length rest ≤ n)) (fault_in_body reason.LongBody)) (λ _. Gives tt))))
 
 -- the head, which is what stands before the first empty line, and the rest, which stands behind it (section 7)
 abbrev pub CutSays : List ℕ → List ℕ × List ℕ → Type 0
@@ -200,14 +200,14 @@ LinesSay head first others =
 -- 3 to 11: the start line and the fields of these lines, with this behind the head
 abbrev pub LinesTell : List ℕ → List ℕ → List (List ℕ) → Outcome (StartLine × List SaidField) → Type 0
 LinesTell rest first others =
-    Then (Demand (StartSays first) (at_line 0 reason.StartLine)) (λ start. Then (FieldsSay 1 others) (λ fields. Then (NamesSay fields) (λ names.
+    Then (Demand (StartSays first) (fault_in_line 0 reason.StartLine)) (λ start. Then (FieldsSay 1 others) (λ fields. Then (NamesSay fields) (λ names.
     Then (BodySays start (names.1) (names.0.1) (length_in (all "content-length" fields)) rest) (λ _. Gives (start, fields)))))
 
 -- 1 to 11: those of the bytes, in whose head no CR stands without LF, and no LF without CR
 abbrev pub BytesTell : List ℕ → Outcome (StartLine × List SaidField) → Type 0
 BytesTell bytes =
-    Then (Demand (CutSays bytes) (at_head reason.NoHeadEnd)) (λ cut.
-    Then (Holds (Many (Lit "\r\n" or One (λ byte. not (byte == 0x0D) && not (byte == 0x0A))) (cut.0)) (at_head reason.BareLineEnd)) (λ _ out.
+    Then (Demand (CutSays bytes) (fault_in_head reason.NoHeadEnd)) (λ cut.
+    Then (Holds (Many (Lit "\r\n" or One (λ byte. not (byte == 0x0D) && not (byte == 0x0A))) (cut.0)) (fault_in_head reason.BareLineEnd)) (λ _ out.
     (first : List ℕ) × (others : List (List ℕ)) × LinesSay (cut.0) first others × LinesTell (cut.1) first others out))
 
 -- what a message says, its Route fields joined by commas

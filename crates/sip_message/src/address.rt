@@ -5,7 +5,7 @@ ghost use Rattle.sip_text.specs.Text.{IsOnlyValue};
 ghost use Rattle.sip_message.specs.Reading.{AddressValue};
 ghost use Rattle.sip_message.specs.ValueParts.{address_parts};
 ghost use Rattle.sip_message.specs.inner.Fronts.{pair_parts, text_parts};
-ghost use Rattle.sip_message.specs.inner.AddressFronts.{WordsFront, NameFront, DisplayFront, HasScheme, is_plain_byte, AddressCut, TailText, display_parts, cut_parts};
+ghost use Rattle.sip_message.specs.inner.AddressFronts.{WordsFront, NameFront, DisplayFront, HasScheme, is_unmarked_byte, AddressCut, TailText, display_parts, cut_parts};
 
 use crate::cursor::{cut, past, skip_blanks};
 use crate::params::{are_params, cut_quoted};
@@ -79,7 +79,7 @@ fn has_scheme(text: &[u8]) -> bool
 
 // The length of the front that a URI without `<` may hold.
 fn plain_len(text: &[u8]) -> usize
-    ensures run { result ≡ prefix_len is_plain_byte text.now }
+    ensures run { result ≡ prefix_len is_unmarked_byte text.now }
     ensures within { result ≤ length text.now }
 {
     for (at, byte) in text.iter().enumerate() {
@@ -93,7 +93,7 @@ fn plain_len(text: &[u8]) -> usize
 // A byte of a URI that stands without `<`.
 #[inline]
 fn is_plain(byte: u8) -> bool
-    ensures { result ≡ is_plain_byte byte }
+    ensures { result ≡ is_unmarked_byte byte }
 {
     !matches!(byte, b' ' | b'\t' | b'\r' | b'\n' | b',' | b'?' | b';')
 }

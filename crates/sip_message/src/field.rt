@@ -5,7 +5,7 @@ ghost use Rattle.std.specs.Option.{option_map};
 ghost use Rattle.sip_message.specs.Elements.{values};
 ghost use Rattle.sip_message.specs.inner.Finds.{IsFound, found_parts};
 ghost use Rattle.sip_message.specs.inner.Lines.{AreLines};
-ghost use Rattle.sip_message.specs.Faults.{IsNamed, IsValue, FieldOf, FieldsOf};
+ghost use Rattle.sip_message.specs.Faults.{HasName, IsValue, FieldOf, FieldsOf};
 ghost use Rattle.sip_message.specs.Views.{name_parts, field_parts, fields_parts, slice_fields};
 ghost use Rattle.sip_message.specs.inner.Settles.{outcome_of, Settles};
 ghost use Rattle.sip_message.specs.inner.Kept.{KeptOf, KeepsMore};
@@ -30,7 +30,7 @@ pub struct Field<'a> {
 
 // The name of the line's field, and what follows its colon.
 fn cut_name(line: &[u8]) -> Option<(Name<'_>, &[u8])>
-    ensures { IsOnlyValue IsNamed named_parts line.now result }
+    ensures { IsOnlyValue HasName named_parts line.now result }
 {
     let (name, rest) = cut_token(line)?;
     let rest = past(past_wsp(rest), b':')?;

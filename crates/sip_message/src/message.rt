@@ -1,6 +1,6 @@
 //! Messages.
 ghost use Rattle.std.specs.Prelude.{◌≡◌, ◌∷◌, ℕ, List, IsTrue};
-ghost use Rattle.sip_message.specs.Only.{IsOnly, One, the, One-prop};
+ghost use Rattle.sip_message.specs.Only.{IsOnly, ExactlyOne, the, One-prop};
 ghost use Rattle.sip_message.specs.Reading.{Reading, Parts, HasParts};
 ghost use Rattle.sip_message.specs.inner.Codes.{parts_code};
 ghost use Rattle.sip_message.specs.inner.Kept.{KeepsRead};
@@ -34,7 +34,7 @@ pub struct Message<'a> {
     to: &'a [u8],
     call_id: &'a [u8],
     cseq: CSeq<'a>,
-    ghost parts: { One (HasParts (fields_parts fields)) } by { One-prop parts_code (HasParts (fields_parts fields)) },
+    ghost parts: { ExactlyOne (HasParts (fields_parts fields)) } by { One-prop parts_code (HasParts (fields_parts fields)) },
 }
 
 impl<'a> Model for Message<'a> {

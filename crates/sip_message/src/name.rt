@@ -48,12 +48,12 @@ pub enum Name<'a> {
 }
 
 impl Name<'_> {
-    ghost use Rattle.sip_message.specs.Name.{is_named};
+    ghost use Rattle.sip_message.specs.Name.{is_name_of};
 
     /// Whether it is this known name.
     #[inline]
     pub(crate) fn is(self, known: Known) -> bool
-        ensures { result ≡ is_named known (name_parts self.entry) }
+        ensures { result ≡ is_name_of known (name_parts self.entry) }
     {
         match self {
             Name::Known(name) => name == known,

@@ -8,7 +8,7 @@ ghost use Rattle.sip_text.specs.Uri.{Port};
 ghost use Rattle.sip_message.specs.Address.{DisplayName};
 ghost use Rattle.sip_message.specs.Params.{Quoted};
 ghost use Rattle.sip_message.specs.inner.AddressFronts.{Words};
-ghost use Rattle.sip_message.specs.inner.Plain.{segment, Stands, PlainRun, PlainParam, HostPort, SomeUri, Opening, SomeParams, SomeAddress};
+ghost use Rattle.sip_message.specs.inner.Plain.{segment, LiesWithin, PlainRun, PlainParam, HostPort, SomeUri, Opening, SomeParams, SomeAddress};
 
 use crate::params::cut_quoted;
 use sip_masks::{Masks, is_ordinary_name};
@@ -34,7 +34,7 @@ pub(crate) fn is_plain_address(masks: &Masks<'_, '_>, at: usize, end: usize) -> 
 // The place behind the display name, if there is one, and the `<`.
 fn past_opening(masks: &Masks<'_, '_>, at: usize, end: usize) -> Option<usize>
     requires { (at ≤ end) × (end ≤ length masks.now) }
-    ensures { IfSome result (Stands Opening masks.now at end) }
+    ensures { IfSome result (LiesWithin Opening masks.now at end) }
 {
     if let Some(inner) = past_byte(masks, at, end, b'<') {
         return Some(inner);
@@ -46,7 +46,7 @@ fn past_opening(masks: &Masks<'_, '_>, at: usize, end: usize) -> Option<usize>
 // The place behind the SP, if there is one.
 fn past_space(masks: &Masks<'_, '_>, at: usize, end: usize) -> usize
     requires { (at ≤ end) × (end ≤ length masks.now) }
-    ensures { Stands Sws masks.now at end result }
+    ensures { LiesWithin Sws masks.now at end result }
 {
     match past_byte(masks, at, end, b' ') {
         Some(behind) => behind,
@@ -57,7 +57,7 @@ fn past_space(masks: &Masks<'_, '_>, at: usize, end: usize) -> usize
 // The place behind the display name.
 fn past_name(masks: &Masks<'_, '_>, at: usize, end: usize) -> Option<usize>
     requires { (at ≤ end) × (end ≤ length masks.now) }
-    ensures { IfSome result (Stands DisplayName masks.now at end) }
+    ensures { IfSome result (LiesWithin DisplayName masks.now at end) }
 {
     if let Some(name) = past_plain_quoted(masks, at, end) {
         return Some(name);
@@ -71,7 +71,7 @@ fn past_name(masks: &Masks<'_, '_>, at: usize, end: usize) -> Option<usize>
 // The place behind a quoted string of plain words.
 fn past_plain_quoted(masks: &Masks<'_, '_>, at: usize, end: usize) -> Option<usize>
     requires { end ≤ length masks.now }
-    ensures { IfSome result (Stands Quoted masks.now at end) }
+    ensures { IfSome result (LiesWithin Quoted masks.now at end) }
 {
     let first = past_byte(masks, at, end, b'"')?;
     let close = past_words(masks, first, end)?;
@@ -81,7 +81,7 @@ fn past_plain_quoted(masks: &Masks<'_, '_>, at: usize, end: usize) -> Option<usi
 // The place behind plain runs with a SP between any two.
 fn past_words(masks: &Masks<'_, '_>, at: usize, end: usize) -> Option<usize>
     requires { end ≤ length masks.now }
-    ensures { IfSome result (Stands Words masks.now at end) }
+    ensures { IfSome result (LiesWithin Words masks.now at end) }
 {
     let mut to = past_run(masks, at, end)?;
     'words: loop {
@@ -98,7 +98,7 @@ fn past_words(masks: &Masks<'_, '_>, at: usize, end: usize) -> Option<usize>
 /// The place behind a SIP URI that has no parameters and no headers.
 pub(crate) fn past_uri(masks: &Masks<'_, '_>, at: usize, end: usize) -> Option<usize>
     requires { (at ≤ end) × (end ≤ length masks.now) }
-    ensures { IfSome result (Stands SomeUri masks.now at end) }
+    ensures { IfSome result (LiesWithin SomeUri masks.now at end) }
 {
     let start = past_sip(masks, at, end)?;
     let user = past_run(masks, start, end)?;
@@ -111,7 +111,7 @@ pub(crate) fn past_uri(masks: &Masks<'_, '_>, at: usize, end: usize) -> Option<u
 // The place behind `sip:`.
 fn past_sip(masks: &Masks<'_, '_>, at: usize, end: usize) -> Option<usize>
     requires { (at ≤ end) × (end ≤ length masks.now) }
-    ensures { IfSome result (Stands (Exactly (codes "sip:")) masks.now at end) }
+    ensures { IfSome result (LiesWithin (Exactly (codes "sip:")) masks.now at end) }
 {
     match &masks.text()[at..end] {
         [b's', b'i', b'p', b':', ..] => Some(at + 4),
@@ -122,7 +122,7 @@ fn past_sip(masks: &Masks<'_, '_>, at: usize, end: usize) -> Option<usize>
 // The place behind the host, and the port if there is one.
 fn past_hostport(masks: &Masks<'_, '_>, at: usize, end: usize) -> Option<usize>
     requires { end ≤ length masks.now }
-    ensures { IfSome result (Stands HostPort masks.now at end) }
+    ensures { IfSome result (LiesWithin HostPort masks.now at end) }
 {
     let (_, host) = past_host(masks, at, end)?;
     match past_byte(masks, host, end, b':') {
@@ -138,7 +138,7 @@ pub(crate) fn past_host<'a>(
     end: usize,
 ) -> Option<(Host<'a>, usize)>
     requires { end ≤ length masks.now }
-    ensures { IfSome result (λ found. Stands (λ u. HostText u (host_parts found.0)) masks.now at end found.1) }
+    ensures { IfSome result (λ found. LiesWithin (λ u. HostText u (host_parts found.0)) masks.now at end found.1) }
 {
     let to = past_run(masks, at, end)?;
     let host = host_at(masks.text(), at, to)?;
@@ -159,7 +159,7 @@ fn host_at(text: &[u8], at: usize, to: usize) -> Option<Host<'_>>
 /// The place behind the port.
 pub(crate) fn past_port(masks: &Masks<'_, '_>, at: usize, end: usize) -> Option<usize>
     requires { end ≤ length masks.now }
-    ensures { IfSome result (Stands Port masks.now at end) }
+    ensures { IfSome result (LiesWithin Port masks.now at end) }
 {
     let to = past_run(masks, at, end)?;
     if is_port(&masks.text()[at..to]) {
@@ -192,7 +192,7 @@ pub(crate) fn past_param<'a>(
     end: usize,
 ) -> Option<(&'a [u8], Option<&'a [u8]>, usize)>
     requires { end ≤ length masks.now }
-    ensures param { IfSome result (λ p. Stands (PlainParam (p.0.now, option_copied p.1)) masks.now at end p.2) }
+    ensures param { IfSome result (λ p. LiesWithin (PlainParam (p.0.now, option_copied p.1)) masks.now at end p.2) }
     ensures value { IfSome result (λ p. IfSome (option_copied p.1) Token) }
 {
     let start = past_byte(masks, at, end, b';')?;
@@ -209,7 +209,7 @@ pub(crate) fn past_param<'a>(
 #[inline]
 pub(crate) fn past_run(masks: &Masks<'_, '_>, at: usize, end: usize) -> Option<usize>
     requires { end ≤ length masks.now }
-    ensures { IfSome result (Stands PlainRun masks.now at end) }
+    ensures { IfSome result (LiesWithin PlainRun masks.now at end) }
 {
     if at >= end {
         return None;
@@ -225,7 +225,7 @@ pub(crate) fn past_run(masks: &Masks<'_, '_>, at: usize, end: usize) -> Option<u
 #[inline]
 pub(crate) fn past_byte(masks: &Masks<'_, '_>, at: usize, end: usize, byte: u8) -> Option<usize>
     requires { end ≤ length masks.now }
-    ensures { IfSome result (Stands (Byte byte) masks.now at end) }
+    ensures { IfSome result (LiesWithin (Byte byte) masks.now at end) }
 {
     if at < end && masks.text()[at] == byte {
         Some(at + 1)

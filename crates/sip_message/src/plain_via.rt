@@ -6,7 +6,7 @@ ghost use Rattle.sip_message.specs.Via.{ColonPort, ViaParams};
 ghost use Rattle.sip_message.specs.ViaParts.{element};
 ghost use Rattle.sip_message.specs.inner.ElementFronts.{FirstVia};
 ghost use Rattle.sip_message.specs.inner.ViaFronts.{BranchOf};
-ghost use Rattle.sip_message.specs.inner.Plain.{segment, Stands};
+ghost use Rattle.sip_message.specs.inner.Plain.{segment, LiesWithin};
 
 use crate::plain::{past_byte, past_host, past_param, past_port, past_run};
 use crate::via::Via;
@@ -47,7 +47,7 @@ fn past_led_port<'a>(
     end: usize,
 ) -> Option<(Option<&'a [u8]>, usize)>
     requires { (at ≤ end) × (end ≤ length masks.now) }
-    ensures { IfSome result (λ found. Stands (λ u. ColonPort (option_copied found.0) u × IfSome (option_copied found.0) Port) masks.now at end found.1) }
+    ensures { IfSome result (λ found. LiesWithin (λ u. ColonPort (option_copied found.0) u × IfSome (option_copied found.0) Port) masks.now at end found.1) }
 {
     let Some(port) = past_byte(masks, at, end, b':') else {
         return Some((None, at));

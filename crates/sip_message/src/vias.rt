@@ -1,7 +1,7 @@
 //! The elements of all Via fields, and the values of Route fields, one after another.
 ghost use Rattle.std.specs.Prelude.{◌≡◌, ℕ, List, [], drop, MatchOption};
 ghost use Rattle.sip_message.specs.declared.name.Known.TheVariants as known_name;
-ghost use Rattle.sip_message.specs.Only.{IsOnly, One, the, One-prop};
+ghost use Rattle.sip_message.specs.Only.{IsOnly, ExactlyOne, the, One-prop};
 ghost use Rattle.sip_message.specs.Elements.{Element, AreElements, values};
 ghost use Rattle.sip_message.specs.inner.ElementFronts.{AreLeft, NextText};
 ghost use Rattle.sip_message.specs.inner.Codes.{elements_code};
@@ -20,7 +20,7 @@ pub struct Vias<'s, 'a> {
     fields: &'s [Field<'a>],
     at: usize,
     rest: &'a [u8],
-    ghost left: { One (AreLeft rest.now (values known_name.Via (drop at (slice_fields fields)))) } by { One-prop elements_code (AreLeft rest.now (values known_name.Via (drop at (slice_fields fields)))) },
+    ghost left: { ExactlyOne (AreLeft rest.now (values known_name.Via (drop at (slice_fields fields)))) } by { One-prop elements_code (AreLeft rest.now (values known_name.Via (drop at (slice_fields fields)))) },
 }
 
 impl<'s, 'a> Model for Vias<'s, 'a> {

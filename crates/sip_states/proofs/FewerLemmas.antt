@@ -4,7 +4,7 @@ use Rattle.std.proofs.Math.Decide.{dec_le}
 use Rattle.std.proofs.lemmas.List.Elements.{All-nil, All-cons, All-head, All-tail, All-weaker}
 use Rattle.sip_machine.specs.MachineEvent.{MachineEvent}
 use Rattle.sip_machine.specs.Rules.{Rules, Waits, Hide}
-use Rattle.sip_states.specs.Runs.{Step, Hides, Takes, moment_of_step, Does, Goes, Reaches, taken, Run}
+use Rattle.sip_states.specs.Runs.{Step, Hides, Takes, moment_of_step, Does, Goes, Reaches, taken, RuledRun}
 use Rattle.sip_states.proofs.Waiting.{IsWithin-earlier}
 
 -- an event is not before the moment
@@ -83,7 +83,7 @@ module _ {X : Type 0} (r : Rules X) where
       (takes x h f z events m after does (Goes-fewer z f.moment steps y last events more m n goes waits (cc) (All-tail (NotBehind m) e events low) high early to))
 
   -- a run over events and more holds one over the events, which stands at any moment between them
-  pub Run-fewer : (events more : List MachineEvent) (m n : ℕ) (y : X) → All (λ e. e.moment ≤ m) events → All (λ e. m ≤ e.moment) more → m ≤ n → Run r (events ++ more) n y → (x : X) × Run r events m x
+  pub Run-fewer : (events more : List MachineEvent) (m n : ℕ) (y : X) → All (λ e. e.moment ≤ m) events → All (λ e. m ≤ e.moment) more → m ≤ n → RuledRun r (events ++ more) n y → (x : X) × RuledRun r events m x
   Run-fewer events more m n y low high to run =
       let stands = run.stands in
       let s = Goes-fewer r.first 0 run.steps y stands.last events more m n stands.goes stands.waits run.takes low high (omega arith) to in

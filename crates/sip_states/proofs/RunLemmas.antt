@@ -1,7 +1,7 @@
 use Rattle.std.proofs.Common.{◌≡◌, ◌≤◌, ◌↔◌, ℕ, List, [], ◌∷◌, ◌++◌, map, refl, ap, subst, ◌∙◌}
 use Rattle.sip_machine.specs.MachineEvent.{MachineEvent}
 use Rattle.sip_machine.specs.Rules.{Rules}
-use Rattle.sip_states.specs.Runs.{Step, Hides, Takes, moment_of_step, Does, Goes, Reaches, taken, Wait, RunGives, Run, AfterRun}
+use Rattle.sip_states.specs.Runs.{Step, Hides, Takes, moment_of_step, Does, Goes, Reaches, taken, Wait, RunGives, RuledRun, AfterRun}
 
 -- Runs one step at a time: a run is a run to its last event and a wait from there.
 
@@ -90,7 +90,7 @@ module _ {X : Type 0} (r : Rules X) where
       (z, low, does, Goes-push z (moment_of_step s) front step y (record { before = l.before; at = l.at; goes = goes; low = l.low; does = l.does }))
 
   -- a run to the last event, and the wait after it
-  wait_of_run : (fs : List MachineEvent) (f : MachineEvent) (m : ℕ) (y : X) (run : Run r (fs ++ f ∷ []) m y) → SplitAt run.steps fs f → Wait r (AfterRun r fs f) f.moment m y
+  wait_of_run : (fs : List MachineEvent) (f : MachineEvent) (m : ℕ) (y : X) (run : RuledRun r (fs ++ f ∷ []) m y) → SplitAt run.steps fs f → Wait r (AfterRun r fs f) f.moment m y
   wait_of_run fs f m y run s =
       let p = Goes-split r.first 0 s.front (Takes f) (map Hides s.ends) y run.stands.last (subst (λ steps. Goes r r.first 0 steps y run.stands.last) s.is run.stands.goes) in
       record {
@@ -101,7 +101,7 @@ module _ {X : Type 0} (r : Rules X) where
       }
 
   -- a wait after the last event of a run is a run
-  run_of_wait : (fs : List MachineEvent) (f : MachineEvent) (m : ℕ) (y : X) → Wait r (AfterRun r fs f) f.moment m y → Run r (fs ++ f ∷ []) m y
+  run_of_wait : (fs : List MachineEvent) (f : MachineEvent) (m : ℕ) (y : X) → Wait r (AfterRun r fs f) f.moment m y → RuledRun r (fs ++ f ∷ []) m y
   run_of_wait fs f m y w =
       record {
         steps = w.begins.steps ++ Takes f ∷ map Hides w.ends;
@@ -115,11 +115,11 @@ module _ {X : Type 0} (r : Rules X) where
       }
 
   -- a run over events and one more is a wait from a last state of that one
-  pub Run-wait : (fs : List MachineEvent) (f : MachineEvent) (m : ℕ) (y : X) → Run r (fs ++ f ∷ []) m y ↔ Wait r (AfterRun r fs f) f.moment m y
+  pub Run-wait : (fs : List MachineEvent) (f : MachineEvent) (m : ℕ) (y : X) → RuledRun r (fs ++ f ∷ []) m y ↔ Wait r (AfterRun r fs f) f.moment m y
   Run-wait fs f m y = (λ run. wait_of_run fs f m y run (split_last run.steps fs f run.takes), run_of_wait fs f m y)
 
   -- a run over no event is a wait from the first state
-  pub Run-wait_first : (m : ℕ) (y : X) → Run r [] m y ↔ Wait r (λ x. x ≡ r.first) 0 m y
+  pub Run-wait_first : (m : ℕ) (y : X) → RuledRun r [] m y ↔ Wait r (λ x. x ≡ r.first) 0 m y
   Run-wait_first m y = (
     λ run. let none = none_taken run.steps run.takes in
         record { start = r.first; begins = refl; ends = none.0; stands = subst (λ steps. Reaches r r.first 0 steps y m) none.1 run.stands },
@@ -127,7 +127,7 @@ module _ {X : Type 0} (r : Rules X) where
   )
 
   -- the last states after one more event are what it gives from where the runs stand at its moment
-  pub After-run : (events : List MachineEvent) (e : MachineEvent) (y : X) → AfterRun r events e y ↔ RunGives r (Run r events e.moment) e y
+  pub After-run : (events : List MachineEvent) (e : MachineEvent) (y : X) → AfterRun r events e y ↔ RunGives r (RuledRun r events e.moment) e y
   After-run events e y = (
     λ after. let l = Goes-last r.first 0 after.steps (Takes e) y after.goes in
         record {

@@ -12,7 +12,7 @@ use Rattle.sip_machine.specs.inner.DebtLaws.{All-front, All-back}
 use Rattle.sip_machine.specs.inner.OwesLaws.{IsWithin-owed}
 use Rattle.sip_machine.specs.inner.FigureLaws.{rules_lawful}
 use Rattle.sip_states.specs.Stands.{Stands, begins, waits, ends, takes, StandsBehind}
-use Rattle.sip_states.specs.Runs.{Step, Hides, Takes, Goes, taken, Run, AfterRun}
+use Rattle.sip_states.specs.Runs.{Step, Hides, Takes, Goes, taken, RuledRun, AfterRun}
 use Rattle.sip_states.proofs.Waiting.{IsWithin-none, Wait-stay}
 use Rattle.sip_states.proofs.RunLemmas.{taken-append, Goes-push, Run-wait, After-run}
 
@@ -76,14 +76,14 @@ module _ {X : Type 0} (f : Figure X) (is : IsFigure f) (p : Times) where
       let led = takes events e x z (waits events h e.moment x stands low ((lasts-waits x e.moment).1 does.0)) (does.1).1 in
       subst (λ es. Stands f p es m y) (append_assoc events (e ∷ []) (taken steps)) (goes-stand (events ++ e ∷ []) e.moment z led steps y m goes)
 
-  run-stands : (events : List MachineEvent) (m : ℕ) (y : Owing X) → Run (rules_of f p) events m y → Stands f p events m y
+  run-stands : (events : List MachineEvent) (m : ℕ) (y : Owing X) → RuledRun (rules_of f p) events m y → Stands f p events m y
   run-stands events m y run =
       let stands = run.stands in
       let there = goes-stand [] 0 (quiet f.idle) begins run.steps y stands.last stands.goes in
       waits events stands.last m y (subst (λ es. Stands f p es stands.last y) run.takes there) stands.reached ((lasts-waits y m).1 stands.waits)
 
   -- where a run stands, one by the rules does
-  stands-run : (events : List MachineEvent) (m : ℕ) (y : Owing X) → Stands f p events m y → Run (rules_of f p) events m y
+  stands-run : (events : List MachineEvent) (m : ℕ) (y : Owing X) → Stands f p events m y → RuledRun (rules_of f p) events m y
   stands-run _ _ _ begins =
       record {
         steps = [];
@@ -119,7 +119,7 @@ module _ {X : Type 0} (f : Figure X) (is : IsFigure f) (p : Times) where
       (Wait-stay r (AfterRun r events e) e.moment e.moment y
       (record { among = (After-run r events e y).1 (record { before = x; among = run; takes = taking }); reached = omega arith; waits = (rules_lawful f is p).fresh x e y taking }))
 
-  pub stands-runs : (events : List MachineEvent) (m : ℕ) (y : Owing X) → Stands f p events m y ↔ Run (rules_of f p) events m y
+  pub stands-runs : (events : List MachineEvent) (m : ℕ) (y : Owing X) → Stands f p events m y ↔ RuledRun (rules_of f p) events m y
   stands-runs events m y = (stands-run events m y, run-stands events m y)
 
   -- where an event leads from there, it does by the rules

@@ -49,7 +49,7 @@ pub record RunGives {X : Type 0} (r : Rules X) (S : X → Type 0) (e : MachineEv
   pub takes : r.Take before e y
 
 -- a run takes just these events, in order, from the first state at moment 0, and stands in y at m
-pub record Run {X : Type 0} (r : Rules X) (events : List MachineEvent) (m : ℕ) (y : X) : Type 0 where
+pub record RuledRun {X : Type 0} (r : Rules X) (events : List MachineEvent) (m : ℕ) (y : X) : Type 0 where
   pub steps : List Step
   pub stands : Reaches r r.first 0 steps y m
   pub takes : taken steps ≡ events

@@ -14,7 +14,7 @@ ghost use Rattle.sip_machine.specs.PlainClient.{PlainClientPhase, plain_client};
 ghost use Rattle.sip_machine.specs.PlainServer.{PlainServerPhase, plain_server};
 ghost use Rattle.sip_machine.specs.Times.{Times};
 ghost use Rattle.sip_states.specs.KeyMachine.{MachineKind, PhaseOf, transaction_of, key_rules};
-ghost use Rattle.sip_states.specs.Runs.{Wait, RunGives, Run, AfterRun};
+ghost use Rattle.sip_states.specs.Runs.{Wait, RunGives, RuledRun, AfterRun};
 ghost use Rattle.sip_states.specs.Stands.{Stands, StandsBehind};
 ghost use Rattle.sip_times.specs.declared.action.Action.TheVariants.{Sent, Received};
 
@@ -23,7 +23,7 @@ use sip_machine::Machine;
 /// A run by the rules of a machine is one in the words of the standard, and an event leads from it to the same states.
 pub fn a_run_by_rules_stands()
     ensures stands { (p : Times) (machine : MachineKind) (events : List MachineEvent) (m : ℕ) (y : PhaseOf machine) →
-        Run (key_rules p machine) events m y ↔ Stands (transaction_of machine).figure p events m y }
+        RuledRun (key_rules p machine) events m y ↔ Stands (transaction_of machine).figure p events m y }
     ensures behind { (p : Times) (machine : MachineKind) (events : List MachineEvent) (e : MachineEvent) (y : PhaseOf machine) →
         AfterRun (key_rules p machine) events e y ↔ StandsBehind (transaction_of machine).figure p events e y }
 {}
@@ -47,7 +47,7 @@ pub fn by_waiting_and_stepping<M: Machine>(_machine: &M)
 /// A run over some events holds one over the first of them, which stands at any moment from those to the others.
 pub fn a_run_holds_one_over_fewer_events<M: Machine>(_machine: &M)
     ensures { (events more : List MachineEvent) (m n : ℕ) (y : M.Seen) → All (λ e. e.moment ≤ m) events → All (λ e. m ≤ e.moment) more → m ≤ n →
-        Run (M.rules _machine.now) (events ++ more) n y → (x : M.Seen) × Run (M.rules _machine.now) events m x }
+        RuledRun (M.rules _machine.now) (events ++ more) n y → (x : M.Seen) × RuledRun (M.rules _machine.now) events m x }
 {}
 
 /// Behind the final response to its INVITE a client sends nothing but ACK and CANCEL (RFC 3261 sections 17.1.1.2, 17.1.1.3 and 9.1),

@@ -6,7 +6,7 @@ use Rattle.std.proofs.lemmas.List.{length-append}
 use Rattle.sip_text.specs.declared.class.Class.{Class}
 use Rattle.sip_text.specs.Class.{is_in}
 use Rattle.sip_text.specs.Text.{One, Between}
-use Rattle.sip_text.specs.HostTests.{is_group}
+use Rattle.sip_text.specs.inner.HostTests.{is_group}
 use Rattle.sip_text.proofs.RunLemmas.{run-list_all, list_all-run}
 
 -- as many bytes as pieces of one byte

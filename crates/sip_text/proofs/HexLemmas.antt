@@ -10,7 +10,7 @@ use Rattle.sip_text.specs.Bytes.{colon, double_colon}
 use Rattle.sip_text.specs.Text.{One, Byte, ◌then◌, Optional}
 use Rattle.sip_text.specs.Cut.{up_to}
 use Rattle.sip_text.specs.Host.{Hex4, Hexseq, Hexpart, OpenHexpart}
-use Rattle.sip_text.specs.HostTests.{is_hex4, is_hexseq, is_optional_hexseq, is_double_at, before_double, behind_double, is_hexpart, is_open}
+use Rattle.sip_text.specs.inner.HostTests.{is_hex4, is_hexseq, is_optional_hexseq, is_double_at, before_double, behind_double, is_hexpart, is_open}
 use Rattle.sip_text.proofs.LacksLemmas.{Lacks, AllLack, lack-one, lack-between}
 use Rattle.sip_text.proofs.GroupLemmas.{length-ones, group-between, between-group}
 use Rattle.sip_text.proofs.JoinedLemmas.{joined-yes, joined-is}

@@ -6,7 +6,7 @@ use Rattle.std.proofs.lemmas.Bool.{and_parts, and_right, or_cases, both_ways, eq
 use Rattle.sip_text.specs.Bytes.{dot, left_bracket}
 use Rattle.sip_text.specs.Host.{Hostname, Ipv4Address, Ipv6Reference, HostParts, HostText}
 use Rattle.sip_text.specs.Host.HostParts.{name, v4, v6}
-use Rattle.sip_text.specs.HostTests.{is_v4, is_v6_reference, is_hostname}
+use Rattle.sip_text.specs.inner.HostTests.{is_v4, is_v6_reference, is_hostname}
 use Rattle.sip_text.proofs.LacksLemmas.{Lacks}
 use Rattle.sip_text.proofs.LabelLemmas.{Label}
 use Rattle.sip_text.proofs.HostnameLemmas.{lack-hostname, hostname-yes, hostname-is}

@@ -9,7 +9,7 @@ use Rattle.sip_text.specs.Bytes.{dot, is_label_byte}
 use Rattle.sip_text.specs.Text.{One, Byte, Many, ◌then◌, Optional}
 use Rattle.sip_text.specs.Cut.{before, behind, parts, up_to}
 use Rattle.sip_text.specs.Host.{DomainLabel, TopLabel, Hostname}
-use Rattle.sip_text.specs.HostTests.{has_label_ends, has_top_ends, is_label, is_top_label, are_labels, is_hostname}
+use Rattle.sip_text.specs.inner.HostTests.{has_label_ends, has_top_ends, is_label, is_top_label, are_labels, is_hostname}
 use Rattle.sip_text.proofs.ManyLemmas.{many-nil, many-cons}
 use Rattle.sip_text.proofs.LacksLemmas.{AllLack, lack-one, lack-byte, lack-then, lack-or, lack-many, lack-optional}
 use Rattle.sip_text.proofs.CutLemmas.{later_parts, parts-cut, parts-one, parts-mark}

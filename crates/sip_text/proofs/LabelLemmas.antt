@@ -7,7 +7,7 @@ use Rattle.std.proofs.lemmas.Bool.{and_from, and_parts, and_right, or_cases, or_
 use Rattle.sip_text.specs.Bytes.{dot, hyphen, is_label_byte}
 use Rattle.sip_text.specs.Text.{One, Many, ◌then◌, ◌or◌}
 use Rattle.sip_text.specs.Cut.{before, behind, parts}
-use Rattle.sip_text.specs.HostTests.{has_label_ends, has_top_ends, is_label, is_top_label, are_labels}
+use Rattle.sip_text.specs.inner.HostTests.{has_label_ends, has_top_ends, is_label, is_top_label, are_labels}
 use Rattle.sip_text.proofs.ManyLemmas.{many-push}
 use Rattle.sip_text.proofs.RunLemmas.{run-list_all, list_all-run}
 use Rattle.sip_text.proofs.EndLemmas.{last_byte, length-end, slice_index-end}

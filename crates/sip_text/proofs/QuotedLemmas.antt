@@ -7,7 +7,7 @@ use Rattle.sip_text.specs.Text.{◌or◌, Many, HasFront, IsOnlyFront}
 use Rattle.sip_text.specs.Grammar.{Sws, Qdtext, QuotedPair, QuotedString}
 use Rattle.sip_text.specs.Blanks.{Blank, blank_len}
 use Rattle.sip_text.specs.Cut.{past}
-use Rattle.sip_text.specs.Quoted.{QuotedItem, begins_with_pair, item_len}
+use Rattle.sip_text.specs.inner.Quoted.{QuotedItem, begins_with_pair, item_len}
 use Rattle.sip_text.proofs.ManyLemmas.{many-nil, many-one, many-map, many-flat, IsStep, same_many, front-rest}
 use Rattle.sip_text.proofs.CutLemmas.{past-some}
 use Rattle.sip_text.proofs.BlanksLemmas.{units-blanks, blanks-units, blanks-lws, lws-blank, blank-step}

@@ -12,7 +12,7 @@ use Rattle.sip_text.specs.Bytes.{percent, is_unreserved, is_user_unreserved, is_
 use Rattle.sip_text.specs.Class.{is_in}
 use Rattle.sip_text.specs.Text.{One, ◌or◌, Many, OneOrMore}
 use Rattle.sip_text.specs.Uri.{Escaped, User, Password, ParamWord, HeaderChar, Uric}
-use Rattle.sip_text.specs.UriCut.{Char, behind_escape}
+use Rattle.sip_text.specs.inner.UriCut.{Char, behind_escape}
 use Rattle.sip_text.proofs.LacksLemmas.{AllLack, lack-one, lack-byte, lack-then, lack-or}
 use Rattle.sip_text.proofs.ManyLemmas.{many-nil, many-cons, many-append, many-map, many-some, some-many}
 use Rattle.sip_text.proofs.RunLemmas.{list_all-run}

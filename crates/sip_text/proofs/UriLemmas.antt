@@ -7,7 +7,7 @@ use Rattle.sip_text.specs.Text.{OneOrMore, led, IsOnlyValue}
 use Rattle.sip_text.specs.Case.{folded, SameText}
 use Rattle.sip_text.specs.Cut.{before, behind}
 use Rattle.sip_text.specs.Uri.{Scheme, Uric, sip_text, scheme_name, UriParts, sip, other, UriText, uri_parts}
-use Rattle.sip_text.specs.UriCut.{SipText}
+use Rattle.sip_text.specs.inner.UriCut.{SipText}
 use Rattle.sip_text.specs.declared.uri.Uri.{Uri}
 use Rattle.sip_text.proofs.LacksLemmas.{Lacks, AllLack, lack-one, lack-then, lack-many}
 use Rattle.sip_text.proofs.CutLemmas.{cut-whole, before-led, behind-led}

@@ -13,7 +13,7 @@ use Rattle.sip_text.specs.Bytes.{colon}
 use Rattle.sip_text.specs.Text.{One, Between}
 use Rattle.sip_text.specs.Cut.{before_last, behind_last}
 use Rattle.sip_text.specs.Uri.{Port}
-use Rattle.sip_text.specs.UriCut.{IsPortCut}
+use Rattle.sip_text.specs.inner.UriCut.{IsPortCut}
 use Rattle.sip_text.proofs.LacksLemmas.{AllLack, lack-one, lack-between}
 use Rattle.sip_text.proofs.RunLemmas.{run-list_all, list_all-run}
 use Rattle.sip_text.proofs.GroupLemmas.{length-ones}

@@ -9,7 +9,7 @@ use Rattle.sip_text.specs.Text.{One, led}
 use Rattle.sip_text.specs.Cut.{before, behind, before_last, behind_last}
 use Rattle.sip_text.specs.Host.{HostParts, HostText, host_text}
 use Rattle.sip_text.specs.Uri.{sip, other, User, Password, Port, UriParameters, Header, Headers, SipParts, SipFits, userinfo_text, hostport_text, sip_text, UriParts}
-use Rattle.sip_text.specs.UriCut.{IsInfoCut, IsPortCut, CutParts, IsSipCut, InfoFits, TailFits, SipText}
+use Rattle.sip_text.specs.inner.UriCut.{IsInfoCut, IsPortCut, CutParts, IsSipCut, InfoFits, TailFits, SipText}
 use Rattle.sip_text.proofs.LacksLemmas.{Lacks, AllLack, lacks-append, lack-one, lack-byte, lack-then, lack-many, lack-some, lack-between, lack-joined}
 use Rattle.sip_text.proofs.ManyLemmas.{drop-front}
 use Rattle.sip_text.proofs.CutLemmas.{cut-whole, before-led, behind-led}

@@ -7,7 +7,7 @@ use Rattle.sip_text.specs.Bytes.{dot}
 use Rattle.sip_text.specs.Text.{One, Byte, ◌then◌, led}
 use Rattle.sip_text.specs.Cut.{before, behind}
 use Rattle.sip_text.specs.Host.{DecimalGroup, Ipv4Address}
-use Rattle.sip_text.specs.HostTests.{is_decimal, is_decimal_dot, is_v4}
+use Rattle.sip_text.specs.inner.HostTests.{is_decimal, is_decimal_dot, is_v4}
 use Rattle.sip_text.proofs.LacksLemmas.{AllLack, lack-one, lack-byte, lack-then, lack-between}
 use Rattle.sip_text.proofs.CutLemmas.{cut-whole, before-led, behind-led}
 use Rattle.sip_text.proofs.GroupLemmas.{group-between, between-group}

@@ -6,7 +6,7 @@ use Rattle.std.proofs.lemmas.List.{append-nil, append_assoc}
 use Rattle.sip_text.specs.Bytes.{colon, left_bracket, right_bracket}
 use Rattle.sip_text.specs.Cut.{before_last, behind_last, past, up_to}
 use Rattle.sip_text.specs.Host.{Ipv4Address, Ipv6Address, Ipv6Reference}
-use Rattle.sip_text.specs.HostTests.{is_v4, is_hexpart, is_open, is_before_v4, has_v4_tail, is_v6, is_v6_reference}
+use Rattle.sip_text.specs.inner.HostTests.{is_v4, is_hexpart, is_open, is_before_v4, has_v4_tail, is_v6, is_v6_reference}
 use Rattle.sip_text.proofs.CutLemmas.{past-some}
 use Rattle.sip_text.proofs.LastLemmas.{before_last-mark, behind_last-mark, last-whole}
 use Rattle.sip_text.proofs.EndLemmas.{up_to-mark, up_to-some}

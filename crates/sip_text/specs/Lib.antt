@@ -7,8 +7,6 @@ pub mod Chars
 pub mod Class
 pub mod Cut
 pub mod Host
-pub mod HostTests
-pub mod Quoted
 pub mod Uri
 pub mod Profile
-pub mod UriCut
+pub mod inner

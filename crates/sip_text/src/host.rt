@@ -4,7 +4,7 @@ ghost use Rattle.sip_text.specs.Text.{IsOnlyValue};
 ghost use Rattle.sip_text.specs.Bytes.{dot};
 ghost use Rattle.sip_text.specs.Cut.{parts};
 ghost use Rattle.sip_text.specs.Host.{Ipv6Address, HostText, host_parts};
-ghost use Rattle.sip_text.specs.HostTests.{are_labels, before_double, behind_double, has_label_ends, has_len, has_top_ends, has_v4_tail, is_before_v4, is_group, is_hexpart, is_hexseq, is_hostname, is_open, is_optional_hexseq, is_v4, is_v6, is_v6_reference, past_decimal};
+ghost use Rattle.sip_text.specs.inner.HostTests.{are_labels, before_double, behind_double, has_label_ends, has_len, has_top_ends, has_v4_tail, is_before_v4, is_group, is_hexpart, is_hexseq, is_hostname, is_open, is_optional_hexseq, is_v4, is_v6, is_v6_reference, past_decimal};
 
 use crate::class::{Class, all_in, has};
 use crate::cut::{cut_last, cut_run, past, up_to};

@@ -2,7 +2,7 @@
 ghost use Rattle.std.specs.Prelude.{◌≡◌, ◌≤◌, length, drop, IfSome};
 ghost use Rattle.sip_text.specs.Text.{HasFront, IsOnlyFront, Many};
 ghost use Rattle.sip_text.specs.Grammar.{QuotedString};
-ghost use Rattle.sip_text.specs.Quoted.{QuotedItem, item_len};
+ghost use Rattle.sip_text.specs.inner.Quoted.{QuotedItem, item_len};
 
 use crate::blanks::{blank_len, skip_lws};
 use crate::class::{Class, has};

@@ -5,7 +5,7 @@ ghost use Rattle.sip_text.specs.Text.{Many, OneOrMore, Joined, IsOnlyValue};
 ghost use Rattle.sip_text.specs.Class.{is_in};
 ghost use Rattle.sip_text.specs.Cut.{before, behind};
 ghost use Rattle.sip_text.specs.Uri.{Port, UriParameter, UriParameters, Header, Headers, Scheme, UriText, uri_parts};
-ghost use Rattle.sip_text.specs.UriCut.{Char, behind_escape, IsInfoCut, IsPortCut, cut_parts, IsSipCut, InfoFits, TailFits, SipText};
+ghost use Rattle.sip_text.specs.inner.UriCut.{Char, behind_escape, IsInfoCut, IsPortCut, cut_parts, IsSipCut, InfoFits, TailFits, SipText};
 
 use crate::case::same_text;
 use crate::class::{Class, all_in, has, run_len};

@@ -4,7 +4,7 @@ use Rattle.std.specs.Prelude.{filter, fold, AllPairs}
 use Rattle.std.proofs.lemmas.List.{map-append}
 use Rattle.std.proofs.lemmas.List.Elements.{All-nil, All-cons, All-head, All-map, All-filter, filter-append}
 use Rattle.sip_machine.specs.MachineEvent.{MachineEvent}
-use Rattle.sip_states.specs.Runs.{Run}
+use Rattle.sip_states.specs.Runs.{RuledRun}
 use Rattle.sip_states.proofs.Few.{AllPairs-head, AllPairs-tail}
 use Rattle.sip_states.proofs.FewerLemmas.{Run-fewer}
 use Rattle.sip_verdict.specs.Keyed.{Observation, Machines, concerns, events_of, newest_moment, HasRun}
@@ -70,4 +70,4 @@ module _ {K : Type 0} (m : Machines K) (key : K) where
       (events-all (λ f. f.moment ≤ newest_moment front) front (newest-to 0 front more order))
       (events-all (λ f. newest_moment front ≤ f.moment) more (newest-before 0 front more from order))
       (newest-more 0 front more from order)
-      (subst (λ events. Run (m.rules key) events (newest_moment (front ++ more)) y) (events-append front more) run)
+      (subst (λ events. RuledRun (m.rules key) events (newest_moment (front ++ more)) y) (events-append front more) run)

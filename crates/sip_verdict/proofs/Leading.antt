@@ -3,7 +3,7 @@ use Rattle.std.proofs.lemmas.List.Elements.{All-cons, All-nil, All-weaker, Conta
 use Rattle.sip_machine.specs.Texts.{Texts, text_of}
 use Rattle.sip_machine.specs.MachineEvent.{MachineEvent}
 use Rattle.sip_machine.specs.Rules.{Rules, Waits, Knows, StandFor}
-use Rattle.sip_states.specs.Runs.{Wait, RunGives, Run, AfterRun}
+use Rattle.sip_states.specs.Runs.{Wait, RunGives, RuledRun, AfterRun}
 use Rattle.sip_machine.proofs.RuleLaws.{AgreeOn, AgreeOn-grow, map-seen}
 use Rattle.sip_verdict.specs.inner.Leads.{Leads}
 use Rattle.sip_states.proofs.Listed.{Contains-single, Contains-none, Contains-map}
@@ -37,19 +37,19 @@ module _ {X S : Type 0} (names : S → List ℕ) (seen : Texts → S → X) wher
       (e : MachineEvent) → moment ≤ e.moment → (x : X) → RunGives r (Wait r (Contains (map (seen texts) states)) moment e.moment) e x ↔ AfterRun r events e x
   gives_after texts r events moment states leads e low x =
       iff_trans
-      (Gives-iff r (Wait r (Contains (map (seen texts) states)) moment e.moment) (Run r events e.moment) (λ y. leads.runs e.moment y low) e x)
+      (Gives-iff r (Wait r (Contains (map (seen texts) states)) moment e.moment) (RuledRun r events e.moment) (λ y. leads.runs e.moment y low) e x)
       (iff_sym (After-run r events e x))
 
   -- an empty set leads to no run
   pub Leads-none : (texts : Texts) (r : Rules X) (events : List MachineEvent) (moment : ℕ) (states : List S) → Leads names seen texts r events moment states →
-      states ≡ [] → (n : ℕ) → moment ≤ n → (x : X) → Run r events n x → ⊥
+      states ≡ [] → (n : ℕ) → moment ≤ n → (x : X) → RuledRun r events n x → ⊥
   Leads-none texts r events moment states leads none n low x run =
       let wait = (leads.runs n x low).1 run in
       Contains-none wait.start (subst (λ xs. Contains (map (seen texts) xs) wait.start) none wait.begins)
 
   -- a state of the set that can wait at its moment is where a run stands
   pub Leads-some : (texts : Texts) (r : Rules X) (events : List MachineEvent) (moment : ℕ) (states : List S) → Leads names seen texts r events moment states →
-      (s : S) → Contains states s → Waits r (seen texts s) moment → Run r events moment (seen texts s)
+      (s : S) → Contains states s → Waits r (seen texts s) moment → RuledRun r events moment (seen texts s)
   Leads-some texts r events moment states leads s member waits =
       let reached : moment ≤ moment = omega arith in
       (leads.runs moment (seen texts s) reached).0
@@ -63,7 +63,7 @@ module _ {X S : Type 0} (names : S → List ℕ) (seen : Texts → S → X) wher
   Leads-book by_names a b r events moment states agree leads =
       record {
         known = All-weaker (AgreeOn names a b) (Knows names b) (λ x agrees k d low. (agrees (get_or (names x) k d) (Contains-get_or (names x) k d low)).0) states agree;
-        runs = λ n x low. subst (λ xs. Wait r (Contains xs) moment n x ↔ Run r events n x) (map-seen names seen by_names a b states agree) (leads.runs n x low);
+        runs = λ n x low. subst (λ xs. Wait r (Contains xs) moment n x ↔ RuledRun r events n x) (map-seen names seen by_names a b states agree) (leads.runs n x low);
       }
 
   -- and so when the book grows

@@ -10,7 +10,7 @@ use Rattle.sip_machine.specs.Owes.{owes_seen, owes_names}
 use Rattle.sip_machine.specs.MachineEvent.{MachineEvent}
 use Rattle.sip_machine.specs.Rules.{Rules, IsLawful, StandFor}
 use Rattle.sip_machine.proofs.TextLaws.{Contains-nil, Contains-cons_cases}
-use Rattle.sip_states.specs.Runs.{Wait, Run}
+use Rattle.sip_states.specs.Runs.{Wait, RuledRun}
 use Rattle.sip_states.specs.KeyMachine.{MachineKind, coded_of, coded_holds, StateOf}
 use Rattle.sip_states.specs.AnySet.{meaning_of}
 use Rattle.sip_states.proofs.Listed.{Contains-map, Contains-from_map, Contains-here, Contains-there, Contains-none}
@@ -41,7 +41,7 @@ IsNumberOf texts numbers text = (n : ℕ) × Contains numbers n × (text_of text
 
 -- a state of a run names the text
 abbrev pub RunNames : {X : Type 0} → Rules X → (X → List (List ℕ)) → List MachineEvent → ℕ → List ℕ → Type 0
-RunNames {X} r messages events moment text = (y : X) × Run r events moment y × Contains (messages y) text
+RunNames {X} r messages events moment text = (y : X) × RuledRun r events moment y × Contains (messages y) text
 
 module _ {X S : Type 0} (names : S → List ℕ) (InRange : S → Type 0) (seen : Texts → S → X) (messages : X → List (List ℕ))
     (named : (texts : Texts) (x : S) → messages (seen texts x) ≡ map (text_of texts) (names x)) (texts : Texts) (r : Rules X) (events : List MachineEvent) where

@@ -11,7 +11,7 @@ use Rattle.sip_machine.specs.Retained.{only}
 use Rattle.sip_machine.specs.MachineEvent.{MachineEvent}
 use Rattle.sip_machine.specs.Rules.{Rules, IsLawful, StandFor}
 use Rattle.sip_machine.proofs.RetainLemmas.{length-only}
-use Rattle.sip_states.specs.Runs.{Wait, Run}
+use Rattle.sip_states.specs.Runs.{Wait, RuledRun}
 use Rattle.sip_states.specs.Held.{Held}
 use Rattle.sip_states.specs.KeyMachine.{MachineKind, PhaseOf, StateOf, key_rules, machine_of_key}
 use Rattle.sip_states.specs.Meaning.{HasWaited}
@@ -33,7 +33,7 @@ use Rattle.sip_verdict.proofs.TablesPassing.{at_place, All-place, zip-place, key
 use Rattle.sip_verdict.proofs.NamedLemmas.{RunNames, IsNumberOf, waited_names, silent_names, named_of, first_silent, ended_silent, Contains-flat_map, Contains-from_flat_map}
 
 -- a run over no event stands in the first state
-stays_first : {X : Type 0} (r : Rules X) → IsLawful r → (m : ℕ) (y : X) → Run r [] m y → y ≡ r.first
+stays_first : {X : Type 0} (r : Rules X) → IsLawful r → (m : ℕ) (y : X) → RuledRun r [] m y → y ≡ r.first
 stays_first {X} r lawful m y run = go ((Wait-cases r lawful (λ x. x ≡ r.first) 0 m y).0 ((Run-wait_first r m y).0 run))
   where
     go : StaysFrom r (λ x. x ≡ r.first) 0 m y ⊎ EndsFrom r (λ x. x ≡ r.first) 0 m y → y ≡ r.first
@@ -111,7 +111,7 @@ module _ (texts : Texts) (book : IsBook texts) (p : Times) (moment : ℕ) where
 
     pub tables_named : (text : List ℕ) → IsNamed (key_machines p) key_messages es text ↔ IsNumberOf texts (flat_map numbers_of u.sets) text
     tables_named text = (
-      λ h. from_key h.key text (h.state, subst (λ n. Run (key_rules p (machine_of_key h.key)) (events_of (key_machines p) h.key es) n h.state) newest h.stands, h.names)
+      λ h. from_key h.key text (h.state, subst (λ n. RuledRun (key_rules p (machine_of_key h.key)) (events_of (key_machines p) h.key es) n h.state) newest h.stands, h.names)
           (list_any (same_key h.key) (keys_of (key_machines p) es)) refl,
       λ h. let (number, has, text_is) = h in
           let (new, (n, low, is), in_set) = Contains-from_flat_map numbers_of u.sets number has in
@@ -119,7 +119,7 @@ module _ (texts : Texts) (book : IsBook texts) (p : Times) (moment : ℕ) where
           let (old, here) = at_place t.sets n (omega (arith, low, as_long)) in
           let (key, at) = at_place t.keys n (omega (arith, low, as_long, long)) in
           let (y, run, names) = (at_key n key old new at here there text).1 (number, in_set, text_is) in
-          record { key = key; state = y; stands = subst (λ n. Run (key_rules p (machine_of_key key)) (events_of (key_machines p) key es) n y) (sym newest) run; names = names },
+          record { key = key; state = y; stands = subst (λ n. RuledRun (key_rules p (machine_of_key key)) (events_of (key_machines p) key es) n y) (sym newest) run; names = names },
     )
 
     -- so there are just as many as messages that are kept

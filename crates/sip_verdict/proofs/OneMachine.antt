@@ -3,7 +3,7 @@ use Rattle.std.proofs.lemmas.List.Elements.{All-contains}
 use Rattle.sip_machine.specs.Texts.{Texts}
 use Rattle.sip_machine.specs.MachineEvent.{MachineEvent}
 use Rattle.sip_machine.specs.Rules.{Rules, IsLawful, Waits, StandFor}
-use Rattle.sip_states.specs.Runs.{Wait, RunGives, Run, AfterRun, IsWide, widest}
+use Rattle.sip_states.specs.Runs.{Wait, RunGives, RuledRun, AfterRun, IsWide, widest}
 use Rattle.sip_verdict.specs.inner.Leads.{Leads}
 use Rattle.sip_states.proofs.Listed.{Contains-here}
 use Rattle.sip_states.proofs.Taking.{wide_among, wide_some, few_narrow}
@@ -16,11 +16,11 @@ use Rattle.sip_verdict.proofs.Leading.{iff_trans, gives_after, Leads-none, Leads
 module _ {X S : Type 0} (names : S → List ℕ) (seen : Texts → S → X) (texts : Texts) (r : Rules X) (events : List MachineEvent) (moment : ℕ) (states : List S)
     (leads : Leads names seen texts r events moment states) where
   -- an empty set means that there is no run at its moment
-  pub none_runs : states ≡ [] → ¬ ((x : X) × Run r events moment x)
+  pub none_runs : states ≡ [] → ¬ ((x : X) × RuledRun r events moment x)
   none_runs none (x, run) = Leads-none names seen texts r events moment states leads none moment (omega arith) x run
 
   -- a set with a state that can wait means that there is one
-  pub some_runs : All (λ s. Waits r (seen texts s) moment) states → states ≢ [] → (x : X) × Run r events moment x
+  pub some_runs : All (λ s. Waits r (seen texts s) moment) states → states ≢ [] → (x : X) × RuledRun r events moment x
   some_runs waits some =
       let (s, member) = first_of_some states some in
       (seen texts s, Leads-some names seen texts r events moment states leads s member (All-contains (λ t. Waits r (seen texts t) moment) states s waits member))
@@ -47,7 +47,7 @@ module _ {X S : Type 0} (names : S → List ℕ) (InRange : S → Type 0) (seen 
 module _ {X S : Type 0} (names : S → List ℕ) (seen : Texts → S → X) (texts : Texts) (r : Rules X) (lawful : IsLawful r)
     (events : List MachineEvent) (moment : ℕ) (states : List S) (leads : Leads names seen texts r events moment states) (e : MachineEvent) (low : moment ≤ e.moment) where
   -- a state that the event gives is where a run stands at its moment
-  pub given_runs : (x : X) → RunGives r (Wait r (Contains (map (seen texts) states)) moment e.moment) e x → Run r (events ++ e ∷ []) e.moment x
+  pub given_runs : (x : X) → RunGives r (Wait r (Contains (map (seen texts) states)) moment e.moment) e x → RuledRun r (events ++ e ∷ []) e.moment x
   given_runs x given =
       (Run-wait r events e e.moment x).1
       (Wait-stay r (AfterRun r events e) e.moment e.moment x
@@ -55,7 +55,7 @@ module _ {X S : Type 0} (names : S → List ℕ) (seen : Texts → S → X) (tex
 
   -- too many states mean that there is a run, and that the last states are too many
   pub wide_runs : IsWide (RunGives r (Wait r (Contains (map (seen texts) states)) moment e.moment) e) →
-      ((x : X) × Run r (events ++ e ∷ []) e.moment x) × IsWide (AfterRun r events e)
+      ((x : X) × RuledRun r (events ++ e ∷ []) e.moment x) × IsWide (AfterRun r events e)
   wide_runs wide =
       let given = wide_some (RunGives r (Wait r (Contains (map (seen texts) states)) moment e.moment) e) wide in (
         (given.0, given_runs given.0 given.1),

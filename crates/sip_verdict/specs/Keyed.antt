@@ -3,7 +3,7 @@ use Rattle.std.specs.List.{list_any}
 use Rattle.sip_machine.specs.MachineEvent.{MachineEvent}
 use Rattle.sip_machine.specs.Rules.{Rules}
 use Rattle.sip_message.specs.declared.fault.Fault.{Fault}
-use Rattle.sip_states.specs.Runs.{Run}
+use Rattle.sip_states.specs.Runs.{RuledRun}
 
 -- what the verdict sees of an entry: the fault of its message, if it has one, its event, and the keys of the transactions that it concerns
 pub record Observation (K : Type 0) : Type 0 where
@@ -39,4 +39,4 @@ newest_moment es = fold (λ moment e. e.event.moment) 0 es
 
 -- the key has a run over the entries, which waits until the newest
 abbrev pub HasRun : {K : Type 0} → Machines K → K → List (Observation K) → Type 0
-HasRun m key es = (y : m.State key) × Run (m.rules key) (events_of m key es) (newest_moment es) y
+HasRun m key es = (y : m.State key) × RuledRun (m.rules key) (events_of m key es) (newest_moment es) y

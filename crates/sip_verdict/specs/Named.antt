@@ -2,7 +2,7 @@
 use Rattle.std.specs.Prelude.{◌≡◌, ◌≢◌, ◌≤◌, ◌↔◌, ◌+◌, ℕ, List, ◌++◌, AllPairs, Contains, length, map}
 use Rattle.sip_key.specs.Key.{KeyParts}
 use Rattle.sip_machine.specs.Told.{messages_told}
-use Rattle.sip_states.specs.Runs.{Run}
+use Rattle.sip_states.specs.Runs.{RuledRun}
 use Rattle.sip_states.specs.KeyMachine.{MachineKind, PhaseOf, machine_of_key, coded_of}
 use Rattle.sip_verdict.specs.Keyed.{Observation, Machines, events_of, newest_moment}
 
@@ -18,7 +18,7 @@ key_messages key x = messages_of (machine_of_key key) x
 pub record IsNamed {K : Type 0} (m : Machines K) (messages : (key : K) → m.State key → List (List ℕ)) (es : List (Observation K)) (text : List ℕ) : Type 0 where
   pub key : K
   pub state : m.State key
-  pub stands : Run (m.rules key) (events_of m key es) (newest_moment es) state
+  pub stands : RuledRun (m.rules key) (events_of m key es) (newest_moment es) state
   pub names : Contains (messages key state) text
 
 -- there are just so many texts of which P holds

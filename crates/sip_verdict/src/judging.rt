@@ -4,8 +4,8 @@ ghost use Rattle.sip_log.specs.Reading.{beside_source};
 ghost use Rattle.sip_verdict.specs.VerdictOf.{IsVerdictOf};
 ghost use Rattle.sip_verdict.specs.inner.Sweeping.{IsAt, StandsForRead};
 
-use crate::reading::{Next, read_header, read_next};
 use crate::judge_error::JudgeError;
+use crate::reading::{Next, read_header, read_next};
 use crate::stream::Judge;
 use crate::verdict::Verdict;
 use sip_log::{Progress, Source};

@@ -8,10 +8,10 @@ ghost use Rattle.sip_verdict.specs.Listing.{trouble_of};
 ghost use Rattle.sip_verdict.specs.ListingOf.{IsListingOf};
 ghost use Rattle.sip_verdict.specs.inner.Walking.{Walks, WalksOn, MayStep};
 
-use crate::reading::{Next, read_header, read_next};
 use crate::judge_error::JudgeError;
 use crate::listing::Listing;
 use crate::log_reason::LogReason;
+use crate::reading::{Next, read_header, read_next};
 use crate::standing::Standing;
 use crate::verdict::Verdict;
 use sip_log::{Progress, Source};

@@ -40,8 +40,8 @@ HasScheme text =
     × (text ≡ scheme ++ colon ∷ rest)
 
 -- a byte of a URI that stands without "<"
-abbrev pub is_plain_byte : ℕ → Bool
-is_plain_byte byte = not (is_blank byte) && not (is_one_of (codes ",?;") byte)
+abbrev pub is_unmarked_byte : ℕ → Bool
+is_unmarked_byte byte = not (is_blank byte) && not (is_one_of (codes ",?;") byte)
 
 -- the display name, the text of the URI, and what follows them
 pub record CutParts : Type 0 where
@@ -54,7 +54,7 @@ pub data AddressCut (text : List ℕ) (c : CutParts) : Type 0 where
   named : (inner : List ℕ) → DisplayFront text (c.display, inner)
       → c.uri ≡ before right_angle inner → behind right_angle inner ≡ Some c.rest → AddressCut text c
   plain : HasScheme text → c.display ≡ None
-      → AllByRecursion (λ byte. is_plain_byte byte ≡ true) c.uri → Stops is_plain_byte c.rest
+      → AllByRecursion (λ byte. is_unmarked_byte byte ≡ true) c.uri → Stops is_unmarked_byte c.rest
       → text ≡ c.uri ++ c.rest → AddressCut text c
 
 -- the whole text is parameters, behind their blanks

@@ -5,9 +5,9 @@ use Rattle.std.specs.Option.{option_or}
 use Rattle.sip_message.specs.declared.asked.Asked.{Asked}
 use Rattle.sip_message.specs.declared.name.Known.{Known}
 use Rattle.sip_message.specs.declared.name.Known.TheVariants as known_name
-use Rattle.sip_message.specs.Name.{known, is_named}
+use Rattle.sip_message.specs.Name.{known, is_name_of}
 use Rattle.sip_message.specs.Field.{Field}
-use Rattle.sip_message.specs.Message.{found, found_from, IsFirst}
+use Rattle.sip_message.specs.Message.{found, found_from, IsFirstFound}
 use Rattle.sip_message.specs.inner.Finds.{found_parts}
 
 -- a value, and the number of its line
@@ -25,7 +25,7 @@ OnceSoFar k fields at kept = found k fields ≡ kept_list kept ++ found_from (at
 -- the first field of the name is the one that is kept, or it stands behind
 abbrev pub FirstSoFar : Known → List Field → ℕ → Option Place → Type 0
 FirstSoFar k fields at None = found k fields ≡ found_from (at + 1) k (drop at fields)
-FirstSoFar k fields at (Some place) = IsFirst k fields (found_parts place)
+FirstSoFar k fields at (Some place) = IsFirstFound k fields (found_parts place)
 
 pub record AskedSoFar (fields : List Field) (at : ℕ) (a : Asked) : Type 0 where
   pub via : FirstSoFar known_name.Via fields at a.via
@@ -42,10 +42,10 @@ Chosen false A B = B
 
 -- a field of the name is kept, and none was before; a field of another name leaves what is kept
 abbrev pub KeepsOnce : Known → Known → Place → Option Place → Option Place → Type 0
-KeepsOnce k name place old new = Chosen (is_named k (known name)) ((old ≡ None) × (new ≡ Some place)) (new ≡ old)
+KeepsOnce k name place old new = Chosen (is_name_of k (known name)) ((old ≡ None) × (new ≡ Some place)) (new ≡ old)
 
 abbrev pub KeepsFirst : Known → Known → Place → Option Place → Option Place → Type 0
-KeepsFirst k name place old new = Chosen (is_named k (known name)) (new ≡ option_or old (Some place)) (new ≡ old)
+KeepsFirst k name place old new = Chosen (is_name_of k (known name)) (new ≡ option_or old (Some place)) (new ≡ old)
 
 pub record KeepsPlace (name : Known) (place : Place) (a b : Asked) : Type 0 where
   pub via : KeepsFirst known_name.Via name place a.via b.via

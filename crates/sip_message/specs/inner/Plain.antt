@@ -13,8 +13,8 @@ abbrev pub segment : ℕ → ℕ → List ℕ → List ℕ
 segment at to text = take (to - at) (drop at text)
 
 -- up to a place that is no later than the end stands a text of P
-abbrev pub Stands : (List ℕ → Type 0) → List ℕ → ℕ → ℕ → ℕ → Type 0
-Stands P text at end to = (at ≤ to) × (to ≤ end) × P (segment at to text)
+abbrev pub LiesWithin : (List ℕ → Type 0) → List ℕ → ℕ → ℕ → ℕ → Type 0
+LiesWithin P text at end to = (at ≤ to) × (to ≤ end) × P (segment at to text)
 
 -- plain bytes
 abbrev pub PlainRun : List ℕ → Type 0

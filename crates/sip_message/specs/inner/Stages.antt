@@ -4,7 +4,7 @@ use Rattle.std.specs.Borrow.{Bor}
 use Rattle.sip_message.specs.declared.name.Known.TheVariants as known_name
 use Rattle.sip_message.specs.declared.stages.Named.{Named}
 use Rattle.sip_message.specs.Field.{Field}
-use Rattle.sip_message.specs.Message.{found, IsFirst}
+use Rattle.sip_message.specs.Message.{found, IsFirstFound}
 use Rattle.sip_message.specs.Reading.{IsValueOf}
 
 -- the first Via and the CSeq, with their lines
@@ -22,4 +22,4 @@ pub record Stand (fields : List Field) (n : Named) : Type 0 where
 -- the value of the first Content-Length, or nothing where there is none
 abbrev pub IsLength : List Field → Option (Bor (List ℕ)) → Type 0
 IsLength fields None = found known_name.ContentLength fields ≡ []
-IsLength fields (Some digits) = (line : ℕ) × IsFirst known_name.ContentLength fields (line, digits.now)
+IsLength fields (Some digits) = (line : ℕ) × IsFirstFound known_name.ContentLength fields (line, digits.now)

@@ -4,7 +4,7 @@ use Rattle.sip_machine.specs.MachineEvent.{MachineEvent}
 use Rattle.sip_machine.specs.Rules.{Rules}
 use Rattle.sip_verdict.specs.declared.passing.Fate.{Fate}
 use Rattle.sip_verdict.specs.declared.passing.Fate.TheVariants.{Runs, NoRun, TooWide}
-use Rattle.sip_states.specs.Runs.{Run, AfterRun, IsWide}
+use Rattle.sip_states.specs.Runs.{RuledRun, AfterRun, IsWide}
 use Rattle.sip_states.specs.Held.{Held}
 use Rattle.sip_verdict.specs.inner.Leads.{Leads}
 
@@ -17,7 +17,7 @@ pub record LeadsTo {M X S : Type 0} (names : S → List ℕ) (seen : Texts → S
 
 -- there is a run over the events that stands at the moment
 abbrev pub RunsUntil : {X : Type 0} → Rules X → List MachineEvent → ℕ → Type 0
-RunsUntil {X} r events moment = (y : X) × Run r events moment y
+RunsUntil {X} r events moment = (y : X) × RuledRun r events moment y
 
 -- what the events and one more leave of the runs at its moment, to which events the set leads then, and that it is just the last states of the runs
 -- that end with the one more

@@ -19,7 +19,7 @@ use Rattle.sip_message.specs.Params.{left_angle, right_angle, Mark, ParamsPart, 
 use Rattle.sip_message.specs.Address.{AddressParts, AddressText, name_addr, addr_spec, BeforeUri, DisplayName}
 use Rattle.sip_message.specs.inner.Fronts.{Stops, Behind, IsOnlyBehind, both}
 use Rattle.sip_message.specs.Reading.{AddressValue}
-use Rattle.sip_message.specs.inner.AddressFronts.{Words, WordsFront, NameFront, DisplayFront, HasScheme, is_plain_byte, CutParts, AddressCut, named, plain, TailText, AddressSteps}
+use Rattle.sip_message.specs.inner.AddressFronts.{Words, WordsFront, NameFront, DisplayFront, HasScheme, is_unmarked_byte, CutParts, AddressCut, named, plain, TailText, AddressSteps}
 use Rattle.sip_message.proofs.lemmas.text.Cuts.{All, same_front}
 use Rattle.sip_message.proofs.lemmas.text.Each.{each-one, each-many, blank_is}
 use Rattle.sip_message.proofs.lemmas.field.OneWay.{each-token}
@@ -184,15 +184,15 @@ one-cut text c d (named i display uri rest) (named j display_too uri_too rest_to
 one-cut text c d (named i display uri rest) (plain has none all stops whole) = absurd (no-display text has (c.display, i) display)
 one-cut text c d (plain has none all stops whole) (named j display uri rest) = absurd (no-display text has (d.display, j) display)
 one-cut text c d (plain has none all stops whole) (plain has_too none_too all_too stops_too whole_too) =
-    let same = same_front is_plain_byte c.uri c.rest d.uri d.rest all all_too stops stops_too (sym whole ∙ whole_too) in
+    let same = same_front is_unmarked_byte c.uri c.rest d.uri d.rest all all_too stops stops_too (sym whole ∙ whole_too) in
     cut_same c d (none ∙ sym none_too) same.0 same.1
 
 -- a URI without "<"
-pub cut-plain : (text rest : List ℕ) (n : ℕ) → HasScheme text → n ≡ prefix_len is_plain_byte text → rest ≡ drop n text → ReadAs (AddressCut text) (make None (take n text) rest)
+pub cut-plain : (text rest : List ℕ) (n : ℕ) → HasScheme text → n ≡ prefix_len is_unmarked_byte text → rest ≡ drop n text → ReadAs (AddressCut text) (make None (take n text) rest)
 cut-plain text rest n has n_is rest_is =
-    let cut = prefix-at is_plain_byte text n n_is in
+    let cut = prefix-at is_unmarked_byte text n n_is in
     read-one (AddressCut text) (make None (take n text) rest) (one-cut text)
-    (plain has refl cut.0 (subst (Stops is_plain_byte) (sym rest_is) cut.1) (sym (take-append-drop n text) ∙ ap (λ t. take n text ++ t) (sym rest_is)))
+    (plain has refl cut.0 (subst (Stops is_unmarked_byte) (sym rest_is) cut.1) (sym (take-append-drop n text) ∙ ap (λ t. take n text ++ t) (sym rest_is)))
 
 -- a URI in "<" and ">"
 pub cut-named : (text inner uri rest : List ℕ) (d : Option (List ℕ)) → ReadAs (DisplayFront text) (d, inner) → uri ≡ before right_angle inner → Some rest ≡ behind right_angle inner → ReadAs (AddressCut text) (make d uri rest)
@@ -285,34 +285,34 @@ display-fits (Some name) text inner (rest, inl quoted, behind) = inl quoted.0
 display-fits (Some name) text inner (rest, inr words, behind) = inr words.0
 
 -- a byte of a URI without "<"
-not-plain : (b : ℕ) → is_blank b ≡ true → is_plain_byte b ≡ false
-not-plain = blank_is (λ b. is_plain_byte b ≡ false) refl refl refl refl
+not-plain : (b : ℕ) → is_blank b ≡ true → is_unmarked_byte b ≡ false
+not-plain = blank_is (λ b. is_unmarked_byte b ≡ false) refl refl refl refl
 
-plain-all : (u : List ℕ) → All (λ b. not (is_blank b)) u → All (λ b. not (is_one_of (codes ",?;") b)) u → All is_plain_byte u
+plain-all : (u : List ℕ) → All (λ b. not (is_blank b)) u → All (λ b. not (is_one_of (codes ",?;") b)) u → All is_unmarked_byte u
 plain-all [] solid other = tt
 plain-all (b ∷ u) solid other = (and_from (not (is_blank b)) (not (is_one_of (codes ",?;") b)) solid.0 other.0, plain-all u solid.1 other.1)
 
-all-other : (u : List ℕ) → All is_plain_byte u → All (λ b. not (is_one_of (codes ",?;") b)) u
+all-other : (u : List ℕ) → All is_unmarked_byte u → All (λ b. not (is_one_of (codes ",?;") b)) u
 all-other [] all = tt
 all-other (b ∷ u) all = ((and_parts (not (is_blank b)) (not (is_one_of (codes ",?;") b)) all.0).1, all-other u all.1)
 
-fails-plain : (u : List ℕ) → Fails is_plain_byte u → Stops is_plain_byte u
+fails-plain : (u : List ℕ) → Fails is_unmarked_byte u → Stops is_unmarked_byte u
 fails-plain [] fails = absurd fails
 fails-plain (b ∷ u) fails = fails
 
 -- such a URI ends where the parameters begin, or their blanks
-tail-stops : (text params : List ℕ) → TailText text params → Stops is_plain_byte text
-tail-stops text [] (is, part) = subst (Stops is_plain_byte) (sym is) tt
+tail-stops : (text params : List ℕ) → TailText text params → Stops is_unmarked_byte text
+tail-stops text [] (is, part) = subst (Stops is_unmarked_byte) (sym is) tt
 tail-stops text (b ∷ params) ((k, y, sws, y_is, whole), ([], (opens, part))) = absurd (omega (arith, ap length part))
 tail-stops text (b ∷ params) ((k, y, sws, y_is, whole), (p ∷ ps, (opens, part))) =
-    fails-plain text (subst (Fails is_plain_byte) (sym (whole ∙ ap (λ t. k ++ t) y_is)) (at sws))
+    fails-plain text (subst (Fails is_unmarked_byte) (sym (whole ∙ ap (λ t. k ++ t) y_is)) (at sws))
   where
-    begins : Fails is_plain_byte (b ∷ params)
-    begins = fail-then is_plain_byte (Mark semicolon) _ (fail-mark is_plain_byte semicolon not-plain refl) (b ∷ params) part
+    begins : Fails is_unmarked_byte (b ∷ params)
+    begins = fail-then is_unmarked_byte (Mark semicolon) _ (fail-mark is_unmarked_byte semicolon not-plain refl) (b ∷ params) part
 
-    at : Sws k → Fails is_plain_byte (k ++ (b ∷ params))
-    at (inl none) = subst (λ t. Fails is_plain_byte (t ++ (b ∷ params))) (sym none) begins
-    at (inr blanks) = fails-more is_plain_byte k (b ∷ params) (fail-blanks is_plain_byte not-plain k blanks)
+    at : Sws k → Fails is_unmarked_byte (k ++ (b ∷ params))
+    at (inl none) = subst (λ t. Fails is_unmarked_byte (t ++ (b ∷ params))) (sym none) begins
+    at (inr blanks) = fails-more is_unmarked_byte k (b ∷ params) (fail-blanks is_unmarked_byte not-plain k blanks)
 
 -- the grammar's text is read by the steps
 pub address-steps : (text : List ℕ) (a : AddressParts) → AddressText text a → AddressSteps text (text, a)

@@ -13,7 +13,7 @@ use Rattle.sip_text.specs.Case.{folded, SameText}
 use Rattle.sip_text.specs.Cut.{before, behind, before_last, behind_last}
 use Rattle.sip_text.specs.Host.{HostParts, HostText, host_text}
 use Rattle.sip_text.specs.Uri.{Scheme, User, Password, Port, UriParameters, Header, Headers, SipParts, SipFits, userinfo_text, hostport_text, sip_text, scheme_name, UriParts, sip, other, UriText}
-use Rattle.sip_text.specs.UriCut.{IsInfoCut, IsPortCut, CutParts, IsSipCut}
+use Rattle.sip_text.specs.inner.UriCut.{IsInfoCut, IsPortCut, CutParts, IsSipCut}
 use Rattle.sip_text.proofs.LabelLemmas.{alphanumeric-alphabetic}
 use Rattle.sip_text.proofs.LacksLemmas.{Lacks, AllLack, lacks-append, lack-one, lack-byte, lack-then, lack-many, lack-some, lack-between, lack-joined}
 use Rattle.sip_text.proofs.RunLemmas.{run-list_all}

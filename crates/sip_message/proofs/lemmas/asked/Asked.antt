@@ -7,9 +7,9 @@ use Rattle.sip_message.specs.declared.asked.Asked.{Asked}
 use Rattle.sip_message.specs.declared.field.Field.{Field as Code}
 use Rattle.sip_message.specs.declared.name.Known.{Known}
 use Rattle.sip_message.specs.declared.name.Known.TheVariants as known_name
-use Rattle.sip_message.specs.Name.{known, other, is_named}
+use Rattle.sip_message.specs.Name.{known, other, is_name_of}
 use Rattle.sip_message.specs.Field.{Field}
-use Rattle.sip_message.specs.Message.{found, found_from, IsFirst, IsNotTwice}
+use Rattle.sip_message.specs.Message.{found, found_from, IsFirstFound, IsNotTwice}
 use Rattle.sip_message.specs.Outcome.{gives, passes}
 use Rattle.sip_message.specs.Faults.{Once}
 use Rattle.sip_message.specs.Views.{name_parts, field_parts}
@@ -23,34 +23,34 @@ module _ (xs : List Code) (at : ℕ) (d : Code) (below : at < length xs) where
   here = slice_index_or xs at d
 
   -- a field of another name
-  once-passed : (k : Known) (kept : Option Place) → is_named k (name_parts here.name) ≡ false → OnceSoFar k (map field_parts xs) at kept → OnceSoFar k (map field_parts xs) (at + 1) kept
+  once-passed : (k : Known) (kept : Option Place) → is_name_of k (name_parts here.name) ≡ false → OnceSoFar k (map field_parts xs) at kept → OnceSoFar k (map field_parts xs) (at + 1) kept
   once-passed k kept is so = so ∙ ap (λ t. kept_list kept ++ t) (found-passed k xs at d below is)
 
-  first-passed : (k : Known) (kept : Option Place) → is_named k (name_parts here.name) ≡ false → FirstSoFar k (map field_parts xs) at kept → FirstSoFar k (map field_parts xs) (at + 1) kept
+  first-passed : (k : Known) (kept : Option Place) → is_name_of k (name_parts here.name) ≡ false → FirstSoFar k (map field_parts xs) at kept → FirstSoFar k (map field_parts xs) (at + 1) kept
   first-passed k None is so = so ∙ found-passed k xs at d below is
   first-passed k (Some place) is so = so
 
   module _ (name : Known) (named : name_parts here.name ≡ known name) where
     -- one field more
     once-more : (k : Known) (old new : Option Place) → KeepsOnce k name (here.value, at + 1) old new → OnceSoFar k (map field_parts xs) at old → OnceSoFar k (map field_parts xs) (at + 1) new
-    once-more k old new keeps so = go (is_named k (known name)) refl keeps
+    once-more k old new keeps so = go (is_name_of k (known name)) refl keeps
       where
-        go : (b : Bool) → is_named k (known name) ≡ b → Chosen b ((old ≡ None) × (new ≡ Some (here.value, at + 1))) (new ≡ old) → OnceSoFar k (map field_parts xs) (at + 1) new
+        go : (b : Bool) → is_name_of k (known name) ≡ b → Chosen b ((old ≡ None) × (new ≡ Some (here.value, at + 1))) (new ≡ old) → OnceSoFar k (map field_parts xs) (at + 1) new
         go true is (none, one) =
-            so ∙ ap (λ o. kept_list o ++ found_from (at + 1) k (drop at (map field_parts xs))) none ∙ found-here k xs at d below (ap (is_named k) named ∙ is)
+            so ∙ ap (λ o. kept_list o ++ found_from (at + 1) k (drop at (map field_parts xs))) none ∙ found-here k xs at d below (ap (is_name_of k) named ∙ is)
             ∙ ap (λ o. kept_list o ++ found_from (at + 1 + 1) k (drop (at + 1) (map field_parts xs))) (sym one)
-        go false is same = subst (OnceSoFar k (map field_parts xs) (at + 1)) (sym same) (once-passed k old (ap (is_named k) named ∙ is) so)
+        go false is same = subst (OnceSoFar k (map field_parts xs) (at + 1)) (sym same) (once-passed k old (ap (is_name_of k) named ∙ is) so)
 
     first-more : (k : Known) (old new : Option Place) → KeepsFirst k name (here.value, at + 1) old new → FirstSoFar k (map field_parts xs) at old → FirstSoFar k (map field_parts xs) (at + 1) new
-    first-more k old new keeps so = go (is_named k (known name)) refl keeps
+    first-more k old new keeps so = go (is_name_of k (known name)) refl keeps
       where
-        found-one : (o : Option Place) → is_named k (known name) ≡ true → FirstSoFar k (map field_parts xs) at o → FirstSoFar k (map field_parts xs) (at + 1) (option_or o (Some (here.value, at + 1)))
-        found-one None is first = (found_from (at + 1 + 1) k (drop (at + 1) (map field_parts xs)), first ∙ found-here k xs at d below (ap (is_named k) named ∙ is))
+        found-one : (o : Option Place) → is_name_of k (known name) ≡ true → FirstSoFar k (map field_parts xs) at o → FirstSoFar k (map field_parts xs) (at + 1) (option_or o (Some (here.value, at + 1)))
+        found-one None is first = (found_from (at + 1 + 1) k (drop (at + 1) (map field_parts xs)), first ∙ found-here k xs at d below (ap (is_name_of k) named ∙ is))
         found-one (Some place) is first = first
 
-        go : (b : Bool) → is_named k (known name) ≡ b → Chosen b (new ≡ option_or old (Some (here.value, at + 1))) (new ≡ old) → FirstSoFar k (map field_parts xs) (at + 1) new
+        go : (b : Bool) → is_name_of k (known name) ≡ b → Chosen b (new ≡ option_or old (Some (here.value, at + 1))) (new ≡ old) → FirstSoFar k (map field_parts xs) (at + 1) new
         go true is one = subst (FirstSoFar k (map field_parts xs) (at + 1)) (sym one) (found-one old is so)
-        go false is same = subst (FirstSoFar k (map field_parts xs) (at + 1)) (sym same) (first-passed k old (ap (is_named k) named ∙ is) so)
+        go false is same = subst (FirstSoFar k (map field_parts xs) (at + 1)) (sym same) (first-passed k old (ap (is_name_of k) named ∙ is) so)
 
     -- the step at a field that is asked for
     pub asked-known : (a b : Asked) → KeepsPlace name (here.value, at + 1) a b → AskedSoFar (map field_parts xs) at a → AskedSoFar (map field_parts xs) (at + 1) b
@@ -66,7 +66,7 @@ module _ (xs : List Code) (at : ℕ) (d : Code) (below : at < length xs) where
   -- the step at any other field
   pub asked-other : (text : List ℕ) (a : Asked) → name_parts here.name ≡ other text → AskedSoFar (map field_parts xs) at a → AskedSoFar (map field_parts xs) (at + 1) a
   asked-other text a named so =
-      let is = λ (k : Known). ap (is_named k) named in
+      let is = λ (k : Known). ap (is_name_of k) named in
       record {
         via = first-passed known_name.Via a.via (is known_name.Via) so.via;
         from = once-passed known_name.From a.from (is known_name.From) so.from;
@@ -99,7 +99,7 @@ not_twice-kept k xs at kept past so = few kept (once-whole k xs at kept past so)
     few (Some place) is = omega (arith, ap length is)
 
 -- the place that was kept is that of the first
-pub first-kept : (k : Known) (fields : List Field) (at : ℕ) (kept : Option Place) (place : Place) → kept ≡ Some place → FirstSoFar k fields at kept → IsFirst k fields (found_parts place)
+pub first-kept : (k : Known) (fields : List Field) (at : ℕ) (kept : Option Place) (place : Place) → kept ≡ Some place → FirstSoFar k fields at kept → IsFirstFound k fields (found_parts place)
 first-kept k fields at kept place is so = subst (FirstSoFar k fields at) is so
 
 -- what is kept of Content-Length is its value

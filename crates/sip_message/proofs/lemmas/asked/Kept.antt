@@ -10,7 +10,7 @@ use Rattle.sip_message.specs.declared.via.Via.{Via}
 use Rattle.sip_message.specs.declared.values.CSeq.{CSeq}
 use Rattle.sip_message.specs.declared.name.Known.{Known}
 use Rattle.sip_message.specs.declared.name.Known.TheVariants as known_name
-use Rattle.sip_message.specs.Name.{known, is_named}
+use Rattle.sip_message.specs.Name.{known, is_name_of}
 use Rattle.sip_message.specs.Field.{Field, Row}
 use Rattle.sip_message.specs.Elements.{values}
 use Rattle.sip_message.specs.Reading.{IsValueOf, CSeqValue}
@@ -23,20 +23,20 @@ use Rattle.sip_message.proofs.lemmas.via.Value.{first-none}
 -- the values with a further field
 values-more : (k : Known) (fields : List Field) (f : Field) → values k (fields ++ f ∷ []) ≡ values k fields ++ values k (f ∷ [])
 values-more k [] f = refl
-values-more k (g ∷ fields) f = at (is_named k g.name) (values-more k fields f)
+values-more k (g ∷ fields) f = at (is_name_of k g.name) (values-more k fields f)
   where
     at : (b : Bool) → values k (fields ++ f ∷ []) ≡ values k fields ++ values k (f ∷ []) → cond b (g.value ∷ values k (fields ++ f ∷ [])) (values k (fields ++ f ∷ [])) ≡ cond b (g.value ∷ values k fields) (values k fields) ++ values k (f ∷ [])
     at true later = ap (λ t. g.value ∷ t) later
     at false later = later
 
 -- a field of another name says nothing
-says-passed : {X : Type 0} (R : List ℕ → X → Type 0) (k : Known) (fields : List Field) (f : Field) (old new : Option X) → is_named k f.name ≡ false → new ≡ old → SaysFirst R (values k fields) old → SaysFirst R (values k (fields ++ f ∷ [])) new
+says-passed : {X : Type 0} (R : List ℕ → X → Type 0) (k : Known) (fields : List Field) (f : Field) (old new : Option X) → is_name_of k f.name ≡ false → new ≡ old → SaysFirst R (values k fields) old → SaysFirst R (values k (fields ++ f ∷ [])) new
 says-passed R k fields f old new other same says =
     subst (λ o. SaysFirst R (values k (fields ++ f ∷ [])) o) (sym same)
     (subst (λ vs. SaysFirst R vs old) (sym (values-more k fields f ∙ ap (λ b. values k fields ++ cond b (f.value ∷ []) []) other ∙ append-nil (values k fields))) says)
 
 -- a field of the name says something, and is the first that does or is not
-says-found : {X : Type 0} (R : List ℕ → X → Type 0) (k : Known) (fields : List Field) (f : Field) (old new : Option X) (x : X) → is_named k f.name ≡ true → R f.value x → new ≡ option_or old (Some x) → SaysFirst R (values k fields) old → SaysFirst R (values k (fields ++ f ∷ [])) new
+says-found : {X : Type 0} (R : List ℕ → X → Type 0) (k : Known) (fields : List Field) (f : Field) (old new : Option X) (x : X) → is_name_of k f.name ≡ true → R f.value x → new ≡ option_or old (Some x) → SaysFirst R (values k fields) old → SaysFirst R (values k (fields ++ f ∷ [])) new
 says-found {X = X} R k fields f old new x named said is says =
     subst (λ vs. SaysFirst R vs new) (sym (values-more k fields f ∙ ap (λ b. values k fields ++ cond b (f.value ∷ []) []) named)) (at (values k fields) old says is)
   where
@@ -57,8 +57,8 @@ via-row text (Some v) b is read = (λ _. read.0.0, λ _. is)
 pub via-keeps : (f : Field) (r : Option Via) (b : Bool) (old new : Kept) → f.name ≡ known known_name.Via → b ≡ is_some r → IsOnlyValue FirstVia element f.value r → new.via ≡ option_or old.via r → new.cseq ≡ old.cseq → IsTrue b → KeepsMore f old new
 via-keeps f None b old new named is none via cseq so fields kept = absurd (false≢true (sym is ∙ so))
 via-keeps f (Some v) b old new named is read via cseq so fields kept = record {
-  via = says-found FirstVia known_name.Via fields f (option_map element old.via) (option_map element new.via) (element v) (ap (is_named known_name.Via) named) read.0 (ap (option_map element) via ∙ map-or element old.via (Some v)) kept.via;
-  cseq = says-passed CSeqValue known_name.CSeq fields f (option_map cseq_parts old.cseq) (option_map cseq_parts new.cseq) (ap (is_named known_name.CSeq) named) (ap (option_map cseq_parts) cseq) kept.cseq;
+  via = says-found FirstVia known_name.Via fields f (option_map element old.via) (option_map element new.via) (element v) (ap (is_name_of known_name.Via) named) read.0 (ap (option_map element) via ∙ map-or element old.via (Some v)) kept.via;
+  cseq = says-passed CSeqValue known_name.CSeq fields f (option_map cseq_parts old.cseq) (option_map cseq_parts new.cseq) (ap (is_name_of known_name.CSeq) named) (ap (option_map cseq_parts) cseq) kept.cseq;
 }
 
 -- a CSeq
@@ -70,20 +70,20 @@ cseq-row text (Some c) b is read = (λ _. (c.number, c.method.now, read.0), λ _
 pub cseq-keeps : (f : Field) (r : Option CSeq) (b : Bool) (old new : Kept) → f.name ≡ known known_name.CSeq → b ≡ is_some r → IsOnlyValue CSeqValue cseq_parts f.value r → new.cseq ≡ option_or old.cseq r → new.via ≡ old.via → IsTrue b → KeepsMore f old new
 cseq-keeps f None b old new named is none cseq via so fields kept = absurd (false≢true (sym is ∙ so))
 cseq-keeps f (Some c) b old new named is read cseq via so fields kept = record {
-  via = says-passed FirstVia known_name.Via fields f (option_map element old.via) (option_map element new.via) (ap (is_named known_name.Via) named) (ap (option_map element) via) kept.via;
-  cseq = says-found CSeqValue known_name.CSeq fields f (option_map cseq_parts old.cseq) (option_map cseq_parts new.cseq) (cseq_parts c) (ap (is_named known_name.CSeq) named) read.0 (ap (option_map cseq_parts) cseq ∙ map-or cseq_parts old.cseq (Some c)) kept.cseq;
+  via = says-passed FirstVia known_name.Via fields f (option_map element old.via) (option_map element new.via) (ap (is_name_of known_name.Via) named) (ap (option_map element) via) kept.via;
+  cseq = says-found CSeqValue known_name.CSeq fields f (option_map cseq_parts old.cseq) (option_map cseq_parts new.cseq) (cseq_parts c) (ap (is_name_of known_name.CSeq) named) read.0 (ap (option_map cseq_parts) cseq ∙ map-or cseq_parts old.cseq (Some c)) kept.cseq;
 }
 
 -- any other field
-pub other-keeps : (f : Field) (kept : Kept) → (is_named known_name.Via f.name ≡ false) × (is_named known_name.CSeq f.name ≡ false) → KeepsMore f kept kept
+pub other-keeps : (f : Field) (kept : Kept) → (is_name_of known_name.Via f.name ≡ false) × (is_name_of known_name.CSeq f.name ≡ false) → KeepsMore f kept kept
 other-keeps f kept other fields of = record {
   via = says-passed FirstVia known_name.Via fields f (option_map element kept.via) (option_map element kept.via) other.0 refl of.via;
   cseq = says-passed CSeqValue known_name.CSeq fields f (option_map cseq_parts kept.cseq) (option_map cseq_parts kept.cseq) other.1 refl of.cseq;
 }
 
 -- a field of another known name
-pub named-keeps : (k : Known) (f : Field) (kept : Kept) → f.name ≡ known k → (is_named known_name.Via (known k) ≡ false) × (is_named known_name.CSeq (known k) ≡ false) → KeepsMore f kept kept
-named-keeps k f kept named other = other-keeps f kept (ap (is_named known_name.Via) named ∙ other.0, ap (is_named known_name.CSeq) named ∙ other.1)
+pub named-keeps : (k : Known) (f : Field) (kept : Kept) → f.name ≡ known k → (is_name_of known_name.Via (known k) ≡ false) × (is_name_of known_name.CSeq (known k) ≡ false) → KeepsMore f kept kept
+named-keeps k f kept named other = other-keeps f kept (ap (is_name_of known_name.Via) named ∙ other.0, ap (is_name_of known_name.CSeq) named ∙ other.1)
 
 -- what the first value of a name says
 says-some : {A X : Type 0} (R : List ℕ → X → Type 0) (parts : A → X) (vs more : List (List ℕ)) (text : List ℕ) (o : Option A) → SaysFirst R vs (option_map parts o) → vs ≡ text ∷ more → (x : X) × R text x × (option_map parts o ≡ Some x)

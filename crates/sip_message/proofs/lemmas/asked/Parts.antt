@@ -10,9 +10,9 @@ use Rattle.std.proofs.lemmas.Bool.{both_ways}
 use Rattle.sip_message.specs.declared.name.Known.{Known}
 use Rattle.sip_message.specs.declared.name.Known.TheVariants as known_name
 use Rattle.sip_message.specs.Via.{ViaParts, MoreVias}
-use Rattle.sip_message.specs.Name.{FieldName, known, other, name_of, long_name, is_named}
+use Rattle.sip_message.specs.Name.{FieldName, known, other, name_of, long_name, is_name_of}
 use Rattle.sip_message.specs.Field.{Field, Row}
-use Rattle.sip_message.specs.Message.{Message, found_from, length_in, content_length, IsFirst, MessageText}
+use Rattle.sip_message.specs.Message.{Message, found_from, length_in, content_length, IsFirstFound, MessageText}
 use Rattle.sip_message.specs.Values.{Digits}
 use Rattle.sip_message.specs.inner.Stages.{IsLength}
 use Rattle.sip_message.specs.Elements.{Element, MoreElements, ElementsText, AreElements, values}
@@ -35,30 +35,30 @@ spelled-known known_name.Supported = refl
 spelled-known known_name.Route = refl
 
 -- a field of the name has the name
-pub named-known : (k : Known) (n : FieldName) → is_named k n ≡ true → n ≡ known k
+pub named-known : (k : Known) (n : FieldName) → is_name_of k n ≡ true → n ≡ known k
 named-known k (known j) is = sym (spelled-known j) ∙ ap name_of (sym ((bytes_eq-Decides (long_name k) (long_name j)).0 is)) ∙ spelled-known k
 named-known k (other text) is = absurd (both_ways false refl is)
 
 -- the values of a name are of its row
 pub row-values : (k : Known) (fs : List Field) → AllByRecursion (λ f. Row f.name f.value) fs → AllByRecursion (Row (known k)) (values k fs)
 row-values k [] rows = tt
-row-values k (f ∷ fs) rows = at (is_named k f.name) refl (row-values k fs rows.1)
+row-values k (f ∷ fs) rows = at (is_name_of k f.name) refl (row-values k fs rows.1)
   where
-    at : (b : Bool) → is_named k f.name ≡ b → AllByRecursion (Row (known k)) (values k fs) → AllByRecursion (Row (known k)) (cond b (f.value ∷ values k fs) (values k fs))
+    at : (b : Bool) → is_name_of k f.name ≡ b → AllByRecursion (Row (known k)) (values k fs) → AllByRecursion (Row (known k)) (cond b (f.value ∷ values k fs) (values k fs))
     at true is later = (subst (λ n. Row n f.value) (named-known k f.name is) rows.0, later)
     at false is later = later
 
 -- the values of a name are those that were found
 pub found-values : (n : ℕ) (k : Known) (fs : List Field) → values k fs ≡ map (λ x. x.1) (found_from n k fs)
 found-values n k [] = refl
-found-values n k (f ∷ fs) = at (is_named k f.name) (found-values (n + 1) k fs)
+found-values n k (f ∷ fs) = at (is_name_of k f.name) (found-values (n + 1) k fs)
   where
     at : (b : Bool) → values k fs ≡ map (λ x. x.1) (found_from (n + 1) k fs) → cond b (f.value ∷ values k fs) (values k fs) ≡ map (λ x. x.1) (cond b ((n, f.value) ∷ found_from (n + 1) k fs) (found_from (n + 1) k fs))
     at true later = ap (λ t. f.value ∷ t) later
     at false later = later
 
 -- the first field of a name has its first value
-pub first-value : (k : Known) (fs : List Field) (one : ℕ × List ℕ) → IsFirst k fs one → IsValueOf k fs (one.1)
+pub first-value : (k : Known) (fs : List Field) (one : ℕ × List ℕ) → IsFirstFound k fs one → IsValueOf k fs (one.1)
 first-value k fs one first = (map (λ x. x.1) first.0, found-values 1 k fs ∙ ap (map (λ x. x.1)) first.1)
 
 -- further elements of the grammar

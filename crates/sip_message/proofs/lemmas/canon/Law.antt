@@ -23,11 +23,11 @@ use Rattle.sip_message.specs.declared.name.Known.{Known}
 use Rattle.sip_message.specs.declared.name.Known.TheVariants as known_name
 use Rattle.sip_message.specs.Lines.{is_inner_byte, BeginsBlank, with_end}
 use Rattle.sip_message.specs.Unfold.{is_blank, OpensSolid, EndsSolid, unfolded}
-use Rattle.sip_message.specs.Name.{FieldName, known, other, spellings, name_by, name_of, long_name, name_text, is_named}
+use Rattle.sip_message.specs.Name.{FieldName, known, other, spellings, name_by, name_of, long_name, name_text, is_name_of}
 use Rattle.sip_message.specs.StartLine.{StartLine, request, status, StartText, CodeText, is_reason_byte}
 use Rattle.sip_message.specs.Values.{Digits}
 use Rattle.sip_message.specs.Field.{Field, Row, FieldText, FieldsText}
-use Rattle.sip_message.specs.Message.{Message, found_from, found, Stands, IsNotTwice, IsStream, MethodFits, is_stream, length_in, content_length, IsEnough, IsNoMore, body_of, MessageFits, MessageText, unfolded_field, message_of, Spells}
+use Rattle.sip_message.specs.Message.{Message, found_from, found, HasField, IsNotTwice, IsStream, MethodFits, is_stream, length_in, content_length, IsEnough, IsNoMore, cut_body, MessageFits, MessageText, unfolded_field, message_of, Spells}
 use Rattle.sip_message.specs.Canon.{start_text, field_text, canon}
 use Rattle.sip_message.proofs.lemmas.text.Cuts.{All, all_both}
 use Rattle.sip_message.proofs.lemmas.text.Each.{each-many, each-one, each-between, is_solid, solid_class, wsp-blank}
@@ -279,13 +279,13 @@ unfolded_found x = (x.0, unfolded x.1)
 
 found-unfolded : (n : ℕ) (name : Known) (fs : List Field) → found_from n name (map unfolded_field fs) ≡ map unfolded_found (found_from n name fs)
 found-unfolded n name [] = refl
-found-unfolded n name (f ∷ fs) = at (is_named name f.name) (found-unfolded (n + 1) name fs)
+found-unfolded n name (f ∷ fs) = at (is_name_of name f.name) (found-unfolded (n + 1) name fs)
   where
     at : (b : Bool) → found_from (n + 1) name (map unfolded_field fs) ≡ map unfolded_found (found_from (n + 1) name fs) → cond b ((n, unfolded f.value) ∷ found_from (n + 1) name (map unfolded_field fs)) (found_from (n + 1) name (map unfolded_field fs)) ≡ map unfolded_found (cond b ((n, f.value) ∷ found_from (n + 1) name fs) (found_from (n + 1) name fs))
     at true later = ap (λ t. (n, unfolded f.value) ∷ t) later
     at false later = later
 
-abbrev stands-unfolded : (name : Known) (fs : List Field) → Stands name fs → Stands name (map unfolded_field fs)
+abbrev stands-unfolded : (name : Known) (fs : List Field) → HasField name fs → HasField name (map unfolded_field fs)
 stands-unfolded name fs s = (unfolded_found s.0, (map unfolded_found s.1.0, found-unfolded 1 name fs ∙ ap (map unfolded_found) s.1.1))
 
 once-unfolded : (name : Known) (fs : List Field) → IsNotTwice name fs → IsNotTwice name (map unfolded_field fs)
@@ -293,7 +293,7 @@ once-unfolded name fs few =
     omega (arith, few, ap length (found-unfolded 1 name fs), length-map (found_from 1 name fs) unfolded_found)
 
 -- the number of Content-Length stays
-named-length : (n : FieldName) → is_named known_name.ContentLength n ≡ true → n ≡ known known_name.ContentLength
+named-length : (n : FieldName) → is_name_of known_name.ContentLength n ≡ true → n ≡ known known_name.ContentLength
 named-length (known known_name.Via) is = absurd (both_ways false refl is)
 named-length (known known_name.From) is = absurd (both_ways false refl is)
 named-length (known known_name.To) is = absurd (both_ways false refl is)
@@ -310,9 +310,9 @@ named-length (other t) is = absurd (both_ways false refl is)
 
 found-digits : (n : ℕ) (fs : List Field) → AllByRecursion (λ f. Row f.name f.value) fs → AllByRecursion (λ x. Digits (x.1)) (found_from n known_name.ContentLength fs)
 found-digits n [] rows = tt
-found-digits n (f ∷ fs) rows = at (is_named known_name.ContentLength f.name) refl (found-digits (n + 1) fs rows.1)
+found-digits n (f ∷ fs) rows = at (is_name_of known_name.ContentLength f.name) refl (found-digits (n + 1) fs rows.1)
   where
-    at : (b : Bool) → is_named known_name.ContentLength f.name ≡ b → AllByRecursion (λ x. Digits (x.1)) (found_from (n + 1) known_name.ContentLength fs) → AllByRecursion (λ x. Digits (x.1)) (cond b ((n, f.value) ∷ found_from (n + 1) known_name.ContentLength fs) (found_from (n + 1) known_name.ContentLength fs))
+    at : (b : Bool) → is_name_of known_name.ContentLength f.name ≡ b → AllByRecursion (λ x. Digits (x.1)) (found_from (n + 1) known_name.ContentLength fs) → AllByRecursion (λ x. Digits (x.1)) (cond b ((n, f.value) ∷ found_from (n + 1) known_name.ContentLength fs) (found_from (n + 1) known_name.ContentLength fs))
     at true is later = (subst (λ m. Row m f.value) (named-length f.name is) rows.0, later)
     at false is later = later
 
@@ -324,7 +324,7 @@ length-unfolded fs rows =
     at [] all = refl
     at (x ∷ xs) all = ap (λ t. Some (digits_value 10 t)) (unfolded-solid x.1 (solid-digits x.1 all.0))
 
-named-via : (n : FieldName) → is_named known_name.Via n ≡ true → n ≡ known known_name.Via
+named-via : (n : FieldName) → is_name_of known_name.Via n ≡ true → n ≡ known known_name.Via
 named-via (known known_name.Via) is = refl
 named-via (known known_name.From) is = absurd (both_ways false refl is)
 named-via (known known_name.To) is = absurd (both_ways false refl is)
@@ -342,9 +342,9 @@ named-via (other t) is = absurd (both_ways false refl is)
 -- the first Via is of its row
 found-vias : (n : ℕ) (fs : List Field) → AllByRecursion (λ f. Row f.name f.value) fs → AllByRecursion (λ x. Row (known known_name.Via) (x.1)) (found_from n known_name.Via fs)
 found-vias n [] rows = tt
-found-vias n (f ∷ fs) rows = at (is_named known_name.Via f.name) refl (found-vias (n + 1) fs rows.1)
+found-vias n (f ∷ fs) rows = at (is_name_of known_name.Via f.name) refl (found-vias (n + 1) fs rows.1)
   where
-    at : (b : Bool) → is_named known_name.Via f.name ≡ b → AllByRecursion (λ x. Row (known known_name.Via) (x.1)) (found_from (n + 1) known_name.Via fs) → AllByRecursion (λ x. Row (known known_name.Via) (x.1)) (cond b ((n, f.value) ∷ found_from (n + 1) known_name.Via fs) (found_from (n + 1) known_name.Via fs))
+    at : (b : Bool) → is_name_of known_name.Via f.name ≡ b → AllByRecursion (λ x. Row (known known_name.Via) (x.1)) (found_from (n + 1) known_name.Via fs) → AllByRecursion (λ x. Row (known known_name.Via) (x.1)) (cond b ((n, f.value) ∷ found_from (n + 1) known_name.Via fs) (found_from (n + 1) known_name.Via fs))
     at true is later = (subst (λ m. Row m f.value) (named-via f.name is) rows.0, later)
     at false is later = later
 
@@ -353,21 +353,21 @@ first-via n fs rows one more is =
     (subst (AllByRecursion (λ x. Row (known known_name.Via) (x.1))) is (found-vias n fs rows)).0
 
 -- the body, cut once, is cut no more
-body-enough : (len : Option ℕ) (rest : List ℕ) → IsEnough len rest → IsEnough len (body_of len rest)
+body-enough : (len : Option ℕ) (rest : List ℕ) → IsEnough len rest → IsEnough len (cut_body len rest)
 body-enough None rest enough = tt
 body-enough (Some n) rest enough = omega (arith, length-take-le n rest enough)
 
-body-no_more : (stream : List ℕ) (len : Option ℕ) (rest : List ℕ) → IsEnough len rest → IsNoMore stream len (body_of len rest)
+body-no_more : (stream : List ℕ) (len : Option ℕ) (rest : List ℕ) → IsEnough len rest → IsNoMore stream len (cut_body len rest)
 body-no_more stream None rest enough is = tt
 body-no_more stream (Some n) rest enough is = omega (arith, length-take-le n rest enough)
 
-body-twice : (len : Option ℕ) (rest : List ℕ) → IsEnough len rest → body_of len rest ≡ body_of len (body_of len rest)
+body-twice : (len : Option ℕ) (rest : List ℕ) → IsEnough len rest → cut_body len rest ≡ cut_body len (cut_body len rest)
 body-twice None rest enough = refl
 body-twice (Some n) rest enough =
     sym (ap (λ m. take m (take n rest)) (sym (length-take-le n rest enough)) ∙ take-length (take n rest))
 
 -- what fits, fits unfolded
-fits-unfolded : (start : StartLine) (fs : List Field) (rest : List ℕ) → AllByRecursion (λ f. Row f.name f.value) fs → MessageFits start fs rest → MessageFits start (map unfolded_field fs) (body_of (content_length fs) rest)
+fits-unfolded : (start : StartLine) (fs : List Field) (rest : List ℕ) → AllByRecursion (λ f. Row f.name f.value) fs → MessageFits start fs rest → MessageFits start (map unfolded_field fs) (cut_body (content_length fs) rest)
 fits-unfolded start fs rest rows fits = record {
   via = stands-unfolded known_name.Via fs fits.via;
   from_once = once-unfolded known_name.From fs fits.from_once;
@@ -381,8 +381,8 @@ fits-unfolded start fs rest rows fits = record {
   length_once = once-unfolded known_name.ContentLength fs fits.length_once;
   method = method start fits.method;
   has_length = λ streams. subst (λ l. is_some l ≡ true) len (fits.has_length (stream streams));
-  enough = subst (λ l. IsEnough l (body_of (content_length fs) rest)) len (body-enough (content_length fs) rest fits.enough);
-  no_more = subst (λ l. IsNoMore (unfolded fits.via.0.1) l (body_of (content_length fs) rest)) len (body-no_more (unfolded fits.via.0.1) (content_length fs) rest fits.enough);
+  enough = subst (λ l. IsEnough l (cut_body (content_length fs) rest)) len (body-enough (content_length fs) rest fits.enough);
+  no_more = subst (λ l. IsNoMore (unfolded fits.via.0.1) l (cut_body (content_length fs) rest)) len (body-no_more (unfolded fits.via.0.1) (content_length fs) rest fits.enough);
 }
   where
     len : content_length fs ≡ content_length (map unfolded_field fs)
@@ -417,8 +417,8 @@ canon-text bytes s text =
       is_start = start-canon text.first s.start text.is_start;
       are_fields = fields-canon text.others s.fields text.are_fields;
       fits = subst (MessageFits s.start (map unfolded_field s.fields)) (sym text.body_is) (fits-unfolded s.start s.fields text.rest rows text.fits);
-      body_is = text.body_is ∙ body-twice (content_length s.fields) text.rest text.fits.enough ∙ ap (λ l. body_of l (body_of (content_length s.fields) text.rest)) (sym (length-unfolded s.fields rows))
-          ∙ ap (body_of (content_length (map unfolded_field s.fields))) (sym text.body_is);
+      body_is = text.body_is ∙ body-twice (content_length s.fields) text.rest text.fits.enough ∙ ap (λ l. cut_body l (cut_body (content_length s.fields) text.rest)) (sym (length-unfolded s.fields rows))
+          ∙ ap (cut_body (content_length (map unfolded_field s.fields))) (sym text.body_is);
     }
 
 -- a message is unfolded

@@ -8,7 +8,7 @@ use Rattle.sip_text.proofs.ManyLemmas.{many-nil, many-cons}
 use Rattle.sip_text.proofs.CutLemmas.{past-some}
 use Rattle.sip_message.specs.Name.{FieldName, name_of}
 use Rattle.sip_message.specs.Field.{NameText}
-use Rattle.sip_message.specs.Faults.{IsNamed}
+use Rattle.sip_message.specs.Faults.{HasName}
 use Rattle.sip_message.specs.inner.Fronts.{TokenFront, past_wsp}
 use Rattle.sip_message.proofs.lemmas.text.Cuts.{All}
 use Rattle.sip_message.proofs.lemmas.front.Cuts.{ReadAs, NotRead}
@@ -34,17 +34,17 @@ name-token line rest name n =
     (n.is_token, name_stops n.whole.3.0 rest (each-wsp n.whole.3.0 n.whole.3.2), (n.spelled, n.whole.3.0 ++ colon ∷ rest, refl, refl, name_whole line rest name n))
 
 -- without a token there is no name
-pub named-no_token : (line : List ℕ) → NotRead (TokenFront line) → NotRead (IsNamed line)
+pub named-no_token : (line : List ℕ) → NotRead (TokenFront line) → NotRead (HasName line)
 named-no_token line none (name, rest) n = none (n.spelled, n.whole.3.0 ++ colon ∷ rest) (name-token line rest name n)
 
 -- nor without the colon
-pub named-no_colon : (line token rest : List ℕ) → ReadAs (TokenFront line) (token, rest) → past colon (past_wsp rest) ≡ None → NotRead (IsNamed line)
+pub named-no_colon : (line token rest : List ℕ) → ReadAs (TokenFront line) (token, rest) → past colon (past_wsp rest) ≡ None → NotRead (HasName line)
 named-no_colon line token rest read none (name, more) n =
     let same : n.whole.3.0 ++ colon ∷ more ≡ rest = ap (λ x. x.1) (read.1 (n.spelled, n.whole.3.0 ++ colon ∷ more) (name-token line more name n)) in
     none-some more (sym none ∙ ap (λ t. past colon (past_wsp t)) (sym same) ∙ ap (past colon) (past-colon n.whole.3.0 more (each-wsp n.whole.3.0 n.whole.3.2)))
 
 -- with both there is one
-pub named-read : (line token rest more : List ℕ) → ReadAs (TokenFront line) (token, rest) → past colon (past_wsp rest) ≡ Some more → ReadAs (IsNamed line) (name_of token, more)
+pub named-read : (line token rest more : List ℕ) → ReadAs (TokenFront line) (token, rest) → past colon (past_wsp rest) ≡ Some more → ReadAs (HasName line) (name_of token, more)
 named-read line token rest more read found = (is, (λ x other. let same = same_name line x.1 more x.0 (name_of token) other is in ap (λ n. (n, x.1)) same.0 ∙ ap (λ r. (name_of token, r)) same.1))
   where
     front : (u : List ℕ) × Many (One is_wsp) u × (rest ≡ u ++ past_wsp rest)

@@ -5,34 +5,34 @@ use Rattle.std.proofs.lemmas.Bool.{both_ways}
 use Rattle.sip_message.specs.declared.name.Known.{Known}
 use Rattle.sip_message.specs.declared.field.Field.{Field as Code}
 use Rattle.sip_message.specs.declared.fault.Fault.{Fault}
-use Rattle.sip_message.specs.Name.{is_named}
+use Rattle.sip_message.specs.Name.{is_name_of}
 use Rattle.sip_message.specs.Field.{Field}
-use Rattle.sip_message.specs.Message.{found, found_from, IsFirst}
+use Rattle.sip_message.specs.Message.{found, found_from, IsFirstFound}
 use Rattle.sip_message.specs.declared.fault.Reason.TheVariants as reason
 use Rattle.sip_message.specs.Outcome.{Outcome, gives, stops, passes, stopped}
-use Rattle.sip_message.specs.Faults.{Present, Once, at_line, second_line}
+use Rattle.sip_message.specs.Faults.{Present, Once, fault_in_line, second_line}
 use Rattle.sip_message.specs.inner.Finds.{IsFound}
 use Rattle.sip_message.specs.Views.{name_parts, field_parts}
 use Rattle.sip_message.specs.inner.Settles.{outcome_of}
 use Rattle.sip_message.proofs.lemmas.message.Outcome.{given-then}
 
 -- the fields from a place on, by the field that stands there
-found-suc : (known : Known) (xs : List Code) (n i : ℕ) (d : Code) → i < length xs → found_from n known (drop i (map field_parts xs)) ≡ cond (is_named known (name_parts (slice_index_or xs i d).name)) ((n, (slice_index_or xs i d).value.now) ∷ found_from (n + 1) known (drop (suc i) (map field_parts xs))) (found_from (n + 1) known (drop (suc i) (map field_parts xs)))
+found-suc : (known : Known) (xs : List Code) (n i : ℕ) (d : Code) → i < length xs → found_from n known (drop i (map field_parts xs)) ≡ cond (is_name_of known (name_parts (slice_index_or xs i d).name)) ((n, (slice_index_or xs i d).value.now) ∷ found_from (n + 1) known (drop (suc i) (map field_parts xs))) (found_from (n + 1) known (drop (suc i) (map field_parts xs)))
 found-suc known [] n i d below = absurd (omega (arith, below))
 found-suc known (x ∷ xs) n zero d below = refl
 found-suc known (x ∷ xs) n (suc i) d below = found-suc known xs n i d (omega (arith, below))
 
-found-at : (known : Known) (xs : List Code) (i : ℕ) (d : Code) → i < length xs → found_from (i + 1) known (drop i (map field_parts xs)) ≡ cond (is_named known (name_parts (slice_index_or xs i d).name)) ((i + 1, (slice_index_or xs i d).value.now) ∷ found_from (i + 1 + 1) known (drop (i + 1) (map field_parts xs))) (found_from (i + 1 + 1) known (drop (i + 1) (map field_parts xs)))
+found-at : (known : Known) (xs : List Code) (i : ℕ) (d : Code) → i < length xs → found_from (i + 1) known (drop i (map field_parts xs)) ≡ cond (is_name_of known (name_parts (slice_index_or xs i d).name)) ((i + 1, (slice_index_or xs i d).value.now) ∷ found_from (i + 1 + 1) known (drop (i + 1) (map field_parts xs))) (found_from (i + 1 + 1) known (drop (i + 1) (map field_parts xs)))
 found-at known xs i d below =
-    subst (λ k. found_from (i + 1) known (drop i (map field_parts xs)) ≡ cond (is_named known (name_parts (slice_index_or xs i d).name)) ((i + 1, (slice_index_or xs i d).value.now) ∷ found_from (i + 1 + 1) known (drop k (map field_parts xs))) (found_from (i + 1 + 1) known (drop k (map field_parts xs)))) (sym (add-one i)) (found-suc known xs (i + 1) i d below)
+    subst (λ k. found_from (i + 1) known (drop i (map field_parts xs)) ≡ cond (is_name_of known (name_parts (slice_index_or xs i d).name)) ((i + 1, (slice_index_or xs i d).value.now) ∷ found_from (i + 1 + 1) known (drop k (map field_parts xs))) (found_from (i + 1 + 1) known (drop k (map field_parts xs)))) (sym (add-one i)) (found-suc known xs (i + 1) i d below)
 
 -- a field of the name
-pub found-here : (known : Known) (xs : List Code) (i : ℕ) (d : Code) → i < length xs → is_named known (name_parts (slice_index_or xs i d).name) ≡ true → found_from (i + 1) known (drop i (map field_parts xs)) ≡ (i + 1, (slice_index_or xs i d).value.now) ∷ found_from (i + 1 + 1) known (drop (i + 1) (map field_parts xs))
+pub found-here : (known : Known) (xs : List Code) (i : ℕ) (d : Code) → i < length xs → is_name_of known (name_parts (slice_index_or xs i d).name) ≡ true → found_from (i + 1) known (drop i (map field_parts xs)) ≡ (i + 1, (slice_index_or xs i d).value.now) ∷ found_from (i + 1 + 1) known (drop (i + 1) (map field_parts xs))
 found-here known xs i d below is =
     found-at known xs i d below ∙ ap (λ z. cond z ((i + 1, (slice_index_or xs i d).value.now) ∷ found_from (i + 1 + 1) known (drop (i + 1) (map field_parts xs))) (found_from (i + 1 + 1) known (drop (i + 1) (map field_parts xs)))) is
 
 -- a field of another name
-pub found-passed : (known : Known) (xs : List Code) (i : ℕ) (d : Code) → i < length xs → is_named known (name_parts (slice_index_or xs i d).name) ≡ false → found_from (i + 1) known (drop i (map field_parts xs)) ≡ found_from (i + 1 + 1) known (drop (i + 1) (map field_parts xs))
+pub found-passed : (known : Known) (xs : List Code) (i : ℕ) (d : Code) → i < length xs → is_name_of known (name_parts (slice_index_or xs i d).name) ≡ false → found_from (i + 1) known (drop i (map field_parts xs)) ≡ found_from (i + 1 + 1) known (drop (i + 1) (map field_parts xs))
 found-passed known xs i d below is =
     found-at known xs i d below ∙ ap (λ z. cond z ((i + 1, (slice_index_or xs i d).value.now) ∷ found_from (i + 1 + 1) known (drop (i + 1) (map field_parts xs))) (found_from (i + 1 + 1) known (drop (i + 1) (map field_parts xs)))) is
 
@@ -48,7 +48,7 @@ pub found-end : (known : Known) (xs : List Code) (i : ℕ) → (i < length xs �
 found-end known xs i past = found-past known xs (i + 1) i past
 
 -- the one field of a name is its first
-pub once-first : (name : Known) (fields : List Field) (one : ℕ × List ℕ) → Once name fields (gives one) → IsFirst name fields one
+pub once-first : (name : Known) (fields : List Field) (one : ℕ × List ℕ) → Once name fields (gives one) → IsFirstFound name fields one
 once-first name fields one is = (given-then is).2
 
 -- a fault of a step
@@ -65,10 +65,10 @@ once-absent name fields fault none = passes tt (few (found name fields) none.0) 
     few (f ∷ fs) none_is = absurd (none_is f (fs, refl))
 
 -- a field that is found twice is one too many
-pub once-twice : (name : Known) (fields : List Field) (one two : ℕ × List ℕ) → IsFound name 0 fields (Some one) → IsFound name (one.0) fields (Some two) → Once name fields (stops (at_line (two.0) reason.Repeated))
+pub once-twice : (name : Known) (fields : List Field) (one two : ℕ × List ℕ) → IsFound name 0 fields (Some one) → IsFound name (one.0) fields (Some two) → Once name fields (stops (fault_in_line (two.0) reason.Repeated))
 once-twice name fields one two first second =
     let both = first ∙ ap (λ fs. one ∷ fs) second in
-    stopped (at_line (two.0) reason.Repeated) ((λ _ few. absurd (omega (arith, ap length both, few))), ap (λ fs. at_line (second_line fs) reason.Repeated) (sym both)) refl
+    stopped (fault_in_line (two.0) reason.Repeated) ((λ _ few. absurd (omega (arith, ap length both, few))), ap (λ fs. fault_in_line (second_line fs) reason.Repeated) (sym both)) refl
 
 -- one that is found and no further is there once
 pub once-one : (name : Known) (fields : List Field) (one : ℕ × List ℕ) → IsFound name 0 fields (Some one) → IsFound name (one.0) fields None → Once name fields (gives one)

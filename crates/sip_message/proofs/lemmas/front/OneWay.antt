@@ -10,9 +10,9 @@ use Rattle.sip_text.specs.Text.{One, Byte, Exactly, ◌or◌, Many}
 use Rattle.sip_text.specs.Cut.{behind}
 use Rattle.sip_text.specs.Grammar.{Token, Qdtext, QuotedPair}
 use Rattle.sip_text.specs.Blanks.{Blank}
-use Rattle.sip_text.specs.Quoted.{QuotedItem, item_len}
+use Rattle.sip_text.specs.inner.Quoted.{QuotedItem, item_len}
 use Rattle.sip_text.specs.Host.{Hostname, DecimalGroup, Ipv4Address, Hex4, Hexseq, Hexpart, Ipv6Address, HostText}
-use Rattle.sip_text.specs.HostTests.{is_v4, is_v6, is_v6_reference, is_hostname}
+use Rattle.sip_text.specs.inner.HostTests.{is_v4, is_v6, is_v6_reference, is_hostname}
 use Rattle.sip_text.proofs.LacksLemmas.{Lacks}
 use Rattle.sip_text.proofs.LabelLemmas.{other_byte, alphanumeric-alphabetic}
 use Rattle.sip_text.proofs.CutLemmas.{behind-led}

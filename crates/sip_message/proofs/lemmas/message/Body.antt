@@ -14,9 +14,9 @@ use Rattle.sip_message.specs.StartLine.{StartLine, request}
 use Rattle.sip_message.specs.Via.{ViaParts, ViasText}
 use Rattle.sip_message.specs.Values.{CSeqText}
 use Rattle.sip_message.specs.Field.{Field}
-use Rattle.sip_message.specs.Message.{found, length_in, content_length, is_stream, IsStream, MethodFits, HasLength, IsEnough, body_of}
+use Rattle.sip_message.specs.Message.{found, length_in, content_length, is_stream, IsStream, MethodFits, HasLength, IsEnough, cut_body}
 use Rattle.sip_message.specs.Outcome.{gives, stops, passes, stopped}
-use Rattle.sip_message.specs.Faults.{at_line, at_body, BodyOf}
+use Rattle.sip_message.specs.Faults.{fault_in_line, fault_in_body, BodyOf}
 use Rattle.sip_message.specs.Elements.{Element}
 use Rattle.sip_message.specs.inner.ElementFronts.{ViaFront, FirstVia}
 use Rattle.sip_message.specs.Reading.{CSeqValue}
@@ -63,28 +63,28 @@ length-some fields one more is = ap length_in is
 
 module _ (start : StartLine) (cseq : ℕ × List ℕ) (via : List ℕ) (len : Option ℕ) (rest : List ℕ) where
   -- another method
-  pub body-method : (MethodFits start (cseq.1) → ⊥) → BodyOf start cseq via len rest (stops (at_line (cseq.0) reason.MethodMismatch))
+  pub body-method : (MethodFits start (cseq.1) → ⊥) → BodyOf start cseq via len rest (stops (fault_in_line (cseq.0) reason.MethodMismatch))
   body-method none = stopped _ ((λ _ fits. none fits), refl) refl
 
   -- a stream without Content-Length
-  pub body-no_length : MethodFits start (cseq.1) → len ≡ None → IsStream via → BodyOf start cseq via len rest (stops (at_body reason.NoLength))
+  pub body-no_length : MethodFits start (cseq.1) → len ≡ None → IsStream via → BodyOf start cseq via len rest (stops (fault_in_body reason.NoLength))
   body-no_length fits none stream = passes tt fits (stopped _ ((λ _ has. both_ways false refl (sym (ap is_some none) ∙ has stream)), refl) refl)
 
   -- a datagram without it
   pub body-all : MethodFits start (cseq.1) → len ≡ None → (IsStream via → ⊥) → BodyOf start cseq via len rest (gives rest)
   body-all fits none datagram =
-      passes tt fits (passes tt (λ stream. absurd (datagram stream)) (passes tt (subst (λ l. IsEnough l rest) (sym none) tt) (passes tt (λ stream. absurd (datagram stream)) (ap (λ l. gives (body_of l rest)) (sym none)))))
+      passes tt fits (passes tt (λ stream. absurd (datagram stream)) (passes tt (subst (λ l. IsEnough l rest) (sym none) tt) (passes tt (λ stream. absurd (datagram stream)) (ap (λ l. gives (cut_body l rest)) (sym none)))))
 
   module _ (n : ℕ) (some : len ≡ Some n) where
     has : HasLength via len
     has stream = ap is_some some
 
     -- fewer bytes
-    pub body-short : MethodFits start (cseq.1) → length rest < n → BodyOf start cseq via len rest (stops (at_body reason.ShortBody))
+    pub body-short : MethodFits start (cseq.1) → length rest < n → BodyOf start cseq via len rest (stops (fault_in_body reason.ShortBody))
     body-short fits short = passes tt fits (passes tt has (stopped _ ((λ _ enough. let e : n ≤ length rest = subst (λ l. IsEnough l rest) some enough in absurd (omega (arith, e, short))), refl) refl))
 
     -- more bytes in a stream
-    pub body-long : MethodFits start (cseq.1) → n ≤ length rest → (n ≡ length rest → ⊥) → IsStream via → BodyOf start cseq via len rest (stops (at_body reason.LongBody))
+    pub body-long : MethodFits start (cseq.1) → n ≤ length rest → (n ≡ length rest → ⊥) → IsStream via → BodyOf start cseq via len rest (stops (fault_in_body reason.LongBody))
     body-long fits enough other stream =
         passes tt fits (passes tt has (passes tt (subst (λ l. IsEnough l rest) (sym some) enough)
         (stopped _ ((λ _ no_more. let e : length rest ≤ n = subst (λ l. IfSome l (λ k. length rest ≤ k)) some (no_more stream) in other (omega (arith, e, enough))), refl) refl)))
@@ -92,10 +92,10 @@ module _ (start : StartLine) (cseq : ℕ × List ℕ) (via : List ℕ) (len : Op
     -- more bytes in a datagram
     pub body-cut : MethodFits start (cseq.1) → n ≤ length rest → (IsStream via → ⊥) → BodyOf start cseq via len rest (gives (take n rest))
     body-cut fits enough datagram =
-        passes tt fits (passes tt has (passes tt (subst (λ l. IsEnough l rest) (sym some) enough) (passes tt (λ stream. absurd (datagram stream)) (ap (λ l. gives (body_of l rest)) (sym some)))))
+        passes tt fits (passes tt has (passes tt (subst (λ l. IsEnough l rest) (sym some) enough) (passes tt (λ stream. absurd (datagram stream)) (ap (λ l. gives (cut_body l rest)) (sym some)))))
 
     -- as many
     pub body-whole : MethodFits start (cseq.1) → n ≡ length rest → BodyOf start cseq via len rest (gives rest)
     body-whole fits same =
         passes tt fits (passes tt has (passes tt (subst (λ l. IsEnough l rest) (sym some) (omega (arith, same)))
-        (passes tt (λ stream. subst (λ l. IfSome l (λ k. length rest ≤ k)) (sym some) (omega (arith, same))) (ap (λ b. gives b) (sym (ap (λ l. body_of l rest) some ∙ ap (λ k. take k rest) same ∙ take-length rest))))))
+        (passes tt (λ stream. subst (λ l. IfSome l (λ k. length rest ≤ k)) (sym some) (omega (arith, same))) (ap (λ b. gives b) (sym (ap (λ l. cut_body l rest) some ∙ ap (λ k. take k rest) same ∙ take-length rest))))))

@@ -6,8 +6,8 @@ use Rattle.sip_message.specs.declared.name.Known.TheVariants as known_name
 use Rattle.sip_message.specs.Outcome.{gives, stops, passes}
 use Rattle.sip_message.specs.StartLine.{StartLine, StartText}
 use Rattle.sip_message.specs.Field.{Field, Row, NameText, ValueText, FieldsText}
-use Rattle.sip_message.specs.Message.{Message, IsFirst, MethodFits, HasLength, IsNoMore, MessageFits, MessageText, message_of, Spells, content_length, body_of}
-use Rattle.sip_message.specs.Faults.{IsNamed, IsValue, FieldOf, FieldsOf, Present, Once, NamesOf, BodyOf, LinesOf, HeadOf, IsCut, ReadOf, FaultOf}
+use Rattle.sip_message.specs.Message.{Message, IsFirstFound, MethodFits, HasLength, IsNoMore, MessageFits, MessageText, message_of, Spells, content_length, cut_body}
+use Rattle.sip_message.specs.Faults.{HasName, IsValue, FieldOf, FieldsOf, Present, Once, NamesOf, BodyOf, LinesOf, HeadOf, IsCut, ReadOf, FaultOf}
 use Rattle.sip_message.proofs.lemmas.lines.OneWay.{same_head, same_lines}
 use Rattle.sip_message.proofs.lemmas.start_line.OneWay.{same_start}
 use Rattle.sip_message.proofs.lemmas.field.OneWay.{same_name, same_value}
@@ -16,7 +16,7 @@ use Rattle.sip_message.proofs.lemmas.message.Outcome.{IsOne, given, no_value, fa
 -- each step has one outcome
 one-field : (n : ℕ) (line : List ℕ) → IsOne (FieldOf n line)
 one-field n line =
-    one-then (one-demand (IsNamed line) _ (λ x y one other. let same = same_name line x.1 y.1 x.0 y.0 one other in ap (λ m. (m, x.1)) same.0 ∙ ap (λ r. (y.0, r)) same.1)) (λ named.
+    one-then (one-demand (HasName line) _ (λ x y one other. let same = same_name line x.1 y.1 x.0 y.0 one other in ap (λ m. (m, x.1)) same.0 ∙ ap (λ r. (y.0, r)) same.1)) (λ named.
     one-then (one-demand (IsValue named) _ (λ x y one other. same_value named.1 x y one.0 other.0)) (λ value. one-gives _))
 
 one-fields : (n : ℕ) (lines : List (List ℕ)) → IsOne (FieldsOf n lines)
@@ -33,7 +33,7 @@ same_cons x y xs ys is = ap head is
 
 one-present : (name : Known) (fields : List Field) → IsOne (Present name fields)
 one-present name fields =
-    one-demand (IsFirst name fields) _ (λ x y one other. same_cons x y one.0 other.0 (sym one.1 ∙ other.1))
+    one-demand (IsFirstFound name fields) _ (λ x y one other. same_cons x y one.0 other.0 (sym one.1 ∙ other.1))
 
 one-once : (name : Known) (fields : List Field) → IsOne (Once name fields)
 one-once name fields = one-then (one-holds _ _) (λ _. one-present name fields)
@@ -45,7 +45,7 @@ one-names fields =
 
 one-body : (start : StartLine) (cseq : ℕ × List ℕ) (via : List ℕ) (len : Option ℕ) (rest : List ℕ) → IsOne (BodyOf start cseq via len rest)
 one-body start cseq via len rest =
-    one-then (one-holds _ _) (λ _. one-then (one-holds _ _) (λ _. one-then (one-holds _ _) (λ _. one-then (one-holds _ _) (λ _. one-gives (body_of len rest)))))
+    one-then (one-holds _ _) (λ _. one-then (one-holds _ _) (λ _. one-then (one-holds _ _) (λ _. one-then (one-holds _ _) (λ _. one-gives (cut_body len rest)))))
 
 one-lines : (rest first : List ℕ) (others : List (List ℕ)) → IsOne (LinesOf rest first others)
 one-lines rest first others =
@@ -86,7 +86,7 @@ fields-read n (line ∷ lines) fields (f, fs, is, are, whole) =
     passes f (passes (f.name, is.rest) is.named (passes f.value (is.valued, is.row) refl)) (passes fs (fields-read (n + 1) lines fs are) (ap (λ gs. gives gs) whole))
 
 -- names that are read fit, with a method and a body that are read
-read-fits : (start : StartLine) (fields : List Field) (rest body : List ℕ) (names : (ℕ × List ℕ) × (ℕ × List ℕ)) → NamesOf fields (gives names) → BodyOf start (names.1) (names.0.1) (content_length fields) rest (gives body) → MessageFits start fields rest × (body ≡ body_of (content_length fields) rest)
+read-fits : (start : StartLine) (fields : List Field) (rest body : List ℕ) (names : (ℕ × List ℕ) × (ℕ × List ℕ)) → NamesOf fields (gives names) → BodyOf start (names.1) (names.0.1) (content_length fields) rest (gives body) → MessageFits start fields rest × (body ≡ cut_body (content_length fields) rest)
 read-fits start fields rest body names is read =
     let via = given-then is in
     let from = given-then via.2 in

@@ -7,7 +7,7 @@ use Rattle.sip_message.specs.declared.name.Known.TheVariants as known_name
 use Rattle.sip_message.specs.Field.{Field}
 use Rattle.sip_message.specs.Outcome.{Outcome, gives}
 use Rattle.sip_message.specs.Message.{Message, MessageText}
-use Rattle.sip_message.specs.Only.{IsOnly, One, the}
+use Rattle.sip_message.specs.Only.{IsOnly, ExactlyOne, the}
 use Rattle.sip_message.specs.Elements.{Element, values, AreElements}
 use Rattle.sip_message.specs.inner.ElementFronts.{ViaFront}
 use Rattle.sip_message.specs.Reading.{IsValueOf, AddressValue, CSeqValue, Reading, Parts, HasParts, Keeps}
@@ -90,6 +90,6 @@ same_reading bytes r s one other =
     ap (λ m. record { message = m; parts = r.parts }) message ∙ ap (λ p. record { message = s.message; parts = p }) (sym parts)
 
 -- the parts are the only ones, by whatever name
-pub kept-one : {m : Message} {p : Parts} {e : Element} {f t i : List ℕ} {s : ℕ × List ℕ} → KeepsRead m p e f t i s → (one : One (HasParts m.fields)) → KeepsRead m (the one) e f t i s
+pub kept-one : {m : Message} {p : Parts} {e : Element} {f t i : List ℕ} {s : ℕ × List ℕ} → KeepsRead m p e f t i s → (one : ExactlyOne (HasParts m.fields)) → KeepsRead m (the one) e f t i s
 kept-one {m = m} {p = p} {e = e} {f = f} {t = t} {i = i} {s = s} k one =
     subst (λ q. KeepsRead m q e f t i s) (sym (One-is parts_code (HasParts m.fields) one p k.keeps.parts.is)) k

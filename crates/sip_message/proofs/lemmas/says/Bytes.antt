@@ -16,12 +16,12 @@ use Rattle.sip_message.specs.declared.fault.Reason.TheVariants as reason
 use Rattle.sip_message.specs.Unfold.{is_blank, OpensSolid, EndsSolid}
 use Rattle.sip_message.specs.Lines.{HasNoBareEnd, BeginsBlank, IsFolded, IsLines}
 use Rattle.sip_message.specs.StartLine.{StartLine, request, status, StartText}
-use Rattle.sip_message.specs.Name.{FieldName, name_of, is_named}
+use Rattle.sip_message.specs.Name.{FieldName, name_of, is_name_of}
 use Rattle.sip_message.specs.Field.{Field, Row}
 use Rattle.sip_message.specs.Elements.{Element, ElementsText}
 use Rattle.sip_message.specs.Message.{Message, found, found_from, is_stream, IsStream, MethodFits, HasLength, IsEnough, IsNoMore, length_in, content_length}
 use Rattle.sip_message.specs.Outcome.{Outcome, Gives, Demand, Holds, Then}
-use Rattle.sip_message.specs.Faults.{at_head, at_line, at_body, IsNamed, IsValue, FieldOf, FieldsOf, NamesOf, BodyOf, LinesOf, IsCut, ReadOf}
+use Rattle.sip_message.specs.Faults.{fault_in_head, fault_in_line, fault_in_body, HasName, IsValue, FieldOf, FieldsOf, NamesOf, BodyOf, LinesOf, IsCut, ReadOf}
 use Rattle.sip_message.specs.Says.{StartSays, full_name, RowSays, SaidField, all, is_lws_byte, IsTrimmed, FieldSays, FieldsSay, FirstOf, NoSecond, OneOf, NamesSay, MethodSays, StreamSays, BodySays, CutSays, OpensBlank, LinesSay, LinesTell, BytesTell}
 use Rattle.sip_message.specs.SaidOf.{said_via}
 use Rattle.sip_message.proofs.lemmas.says.Alike.{Same, Equal, same-demand, same-holds, same-gives, same-self, same-then, same-next}
@@ -82,15 +82,15 @@ SaidName line y = ((λ t. Token t × (y.0 ≡ t)) then (Many (One (λ byte. byte
 abbrev IsSame : FieldName × List ℕ → List ℕ × List ℕ → Type 0
 IsSame x y = (x.0 ≡ name_of y.0) × (x.1 ≡ y.1)
 
-same-named : (n : ℕ) (line : List ℕ) → Same IsSame (Demand (IsNamed line) (at_line n reason.FieldLine)) (Demand (SaidName line) (at_line n reason.FieldLine))
-same-named n line = same-demand IsSame (IsNamed line) (SaidName line) (at_line n reason.FieldLine) to back
+same-named : (n : ℕ) (line : List ℕ) → Same IsSame (Demand (HasName line) (fault_in_line n reason.FieldLine)) (Demand (SaidName line) (fault_in_line n reason.FieldLine))
+same-named n line = same-demand IsSame (HasName line) (SaidName line) (fault_in_line n reason.FieldLine) to back
   where
-    to : (x : FieldName × List ℕ) → IsNamed line x → (y : List ℕ × List ℕ) × SaidName line y × IsSame x y
+    to : (x : FieldName × List ℕ) → HasName line x → (y : List ℕ × List ℕ) × SaidName line y × IsSame x y
     to x s =
         let w = s.whole in
         ((s.spelled, x.1), (w.0, w.1, (subst Token (sym w.2) s.is_token, sym w.2), w.3, w.4), (s.name_is, refl))
 
-    back : (y : List ℕ × List ℕ) → SaidName line y → (x : FieldName × List ℕ) × IsNamed line x × IsSame x y
+    back : (y : List ℕ × List ℕ) → SaidName line y → (x : FieldName × List ℕ) × HasName line x × IsSame x y
     back y (u, v, (token, same), rest, whole) =
         ((name_of y.0, y.1), record { spelled = y.0; is_token = subst Token (sym same) token; name_is = refl; whole = (u, v, sym same, rest, whole) }, (refl, refl))
 
@@ -98,8 +98,8 @@ same-named n line = same-demand IsSame (IsNamed line) (SaidName line) (at_line n
 abbrev SaidValue : List ℕ × List ℕ → List ℕ → Type 0
 SaidValue y value = (IsTrimmed value × (Sws then Exactly value then Sws) y.1) × RowSays (full_name (folded y.0)) value
 
-same-value : (n : ℕ) (x : FieldName × List ℕ) (y : List ℕ × List ℕ) → IsSame x y → Same Equal (Demand (IsValue x) (at_line n reason.Value)) (Demand (SaidValue y) (at_line n reason.Value))
-same-value n x y same = same-demand Equal (IsValue x) (SaidValue y) (at_line n reason.Value) to back
+same-value : (n : ℕ) (x : FieldName × List ℕ) (y : List ℕ × List ℕ) → IsSame x y → Same Equal (Demand (IsValue x) (fault_in_line n reason.Value)) (Demand (SaidValue y) (fault_in_line n reason.Value))
+same-value n x y same = same-demand Equal (IsValue x) (SaidValue y) (fault_in_line n reason.Value) to back
   where
     to : (v : List ℕ) → IsValue x v → (w : List ℕ) × SaidValue y w × (v ≡ w)
     to v (text, row) =
@@ -123,12 +123,12 @@ same-fields n (line ∷ lines) =
     same-gives (AreFields n) _ _ (one, more)))
 
 -- the fields of a name
-pub all-found : (k : Known) (key : String) → ((token : List ℕ) → is_named k (name_of token) ≡ bytes_eq (full_name (folded token)) (codes key)) → (n : ℕ) (fs : List Field) (gs : List SaidField) → AreFields n fs gs → found_from n k fs ≡ all key gs
+pub all-found : (k : Known) (key : String) → ((token : List ℕ) → is_name_of k (name_of token) ≡ bytes_eq (full_name (folded token)) (codes key)) → (n : ℕ) (fs : List Field) (gs : List SaidField) → AreFields n fs gs → found_from n k fs ≡ all key gs
 all-found k key same n [] [] are = refl
 all-found k key same n [] (g ∷ gs) are = absurd are
 all-found k key same n (f ∷ fs) [] are = absurd are
 all-found k key same n (f ∷ fs) (g ∷ gs) ((token, f_is, g_is, line_is, value_is), are) =
-    at (is_named k f.name) (bytes_eq g.name (codes key)) (ap (is_named k) f_is ∙ same token ∙ sym (ap (λ x. bytes_eq x (codes key)) g_is)) (all-found k key same (n + 1) fs gs are)
+    at (is_name_of k f.name) (bytes_eq g.name (codes key)) (ap (is_name_of k) f_is ∙ same token ∙ sym (ap (λ x. bytes_eq x (codes key)) g_is)) (all-found k key same (n + 1) fs gs are)
   where
     pair : ◌≡◌ {A = ℕ × List ℕ} (n, f.value) (g.line, g.value)
     pair = λ i. (sym line_is i, sym value_is i)
@@ -204,7 +204,7 @@ same-body : (start : StartLine) (cseq : ℕ × List ℕ) (via : List ℕ) (len :
 same-body start cseq via len rest =
     same-next Beside _ _ (same-holds (MethodFits start cseq.1) (MethodSays start cseq.1) _ (method-said start cseq.1) (said-method start cseq.1)) (λ _.
     same-next Beside _ _ (same-holds (HasLength via len) (StreamSays via → is_some len ≡ true) _ (λ has stream. has (said-stream via stream)) (λ has stream. has (stream-said via stream))) (λ _.
-    same-next Beside _ _ (same-self (Holds (IsEnough len rest) (at_body reason.ShortBody))) (λ _.
+    same-next Beside _ _ (same-self (Holds (IsEnough len rest) (fault_in_body reason.ShortBody))) (λ _.
     same-next Beside _ _ (same-holds (IsNoMore via len rest) (StreamSays via → IfSome len (λ n. length rest ≤ n)) _ (λ few stream. few (said-stream via stream)) (λ few stream. few (stream-said via stream))) (λ _.
     same-gives Beside _ _ tt))))
 
@@ -214,7 +214,7 @@ IsTold m told = (m.start ≡ told.0) × AreFields 1 m.fields told.1
 
 same-told : (rest first : List ℕ) (others : List (List ℕ)) → Same IsTold (LinesOf rest first others) (LinesTell rest first others)
 same-told rest first others =
-    same-next IsTold _ _ (same-demand Equal (StartText first) (StartSays first) (at_line 0 reason.StartLine) (λ s text. (s, start-said first s text, refl)) (λ s says. (s, said-start first s says, refl))) (λ start.
+    same-next IsTold _ _ (same-demand Equal (StartText first) (StartSays first) (fault_in_line 0 reason.StartLine) (λ s text. (s, start-said first s text, refl)) (λ s says. (s, said-start first s says, refl))) (λ start.
     same-then (AreFields 1) IsTold _ _ (same-fields 1 others) (λ fs gs are.
     same-next IsTold _ _ (same-names fs gs are) (λ names.
     same-then Beside IsTold _ _ (subst (λ x. Same Beside (BodyOf start names.1 names.0.1 (content_length fs) rest) (BodySays start names.1 names.0.1 (length_in x) rest)) (all-found known_name.ContentLength "content-length" named-content-length 1 fs gs are) (same-body start names.1 names.0.1 (content_length fs) rest)) (λ body y any.
@@ -251,9 +251,9 @@ said-lines head first others (whole, folds, cut) = record {
 }
 
 -- the head and what follows it
-same-cut : (bytes : List ℕ) → Same Equal (Demand (IsCut bytes) (at_head reason.NoHeadEnd)) (Demand (CutSays bytes) (at_head reason.NoHeadEnd))
+same-cut : (bytes : List ℕ) → Same Equal (Demand (IsCut bytes) (fault_in_head reason.NoHeadEnd)) (Demand (CutSays bytes) (fault_in_head reason.NoHeadEnd))
 same-cut bytes =
-    same-demand Equal (IsCut bytes) (CutSays bytes) (at_head reason.NoHeadEnd)
+    same-demand Equal (IsCut bytes) (CutSays bytes) (fault_in_head reason.NoHeadEnd)
     (λ cut head. (cut, (head.front, head.head_is, head.whole, head.first), refl))
     (λ cut says. (cut, record { front = says.0; head_is = says.1; whole = says.2; first = says.3 }, refl))
 
@@ -261,7 +261,7 @@ same-cut bytes =
 pub same-read : (bytes : List ℕ) → Same IsTold (ReadOf bytes) (BytesTell bytes)
 same-read bytes =
     same-next IsTold _ _ (same-cut bytes) (λ cut.
-    same-next IsTold _ _ (same-self (Holds (HasNoBareEnd cut.0) (at_head reason.BareLineEnd))) (λ _. record {
+    same-next IsTold _ _ (same-self (Holds (HasNoBareEnd cut.0) (fault_in_head reason.BareLineEnd))) (λ _. record {
       to = λ out head. let told = (same-told cut.1 head.0 head.1).to out head.3 in (told.0, (head.0, head.1, lines-said cut.0 head.0 head.1 head.2, told.1), told.2);
       back = λ out head. let read = (same-told cut.1 head.0 head.1).back out head.3 in (read.0, (head.0, head.1, said-lines cut.0 head.0 head.1 head.2, read.1), read.2);
     }))

@@ -8,7 +8,7 @@ use Rattle.std.proofs.lemmas.Slice.Eq.{bytes_eq-Decides}
 use Rattle.sip_text.specs.Case.{folded}
 use Rattle.sip_message.specs.declared.name.Known.{Known}
 use Rattle.sip_message.specs.declared.name.Known.TheVariants as known_name
-use Rattle.sip_message.specs.Name.{FieldName, known, other, spellings, name_by, name_of, is_named}
+use Rattle.sip_message.specs.Name.{FieldName, known, other, spellings, name_by, name_of, is_name_of}
 use Rattle.sip_message.specs.Field.{Row}
 use Rattle.sip_message.specs.Says.{full_name, RowSays, SaidVia, ViasSay, Address, CSeqSays}
 use Rattle.sip_message.specs.SaidOf.{said_via}
@@ -94,29 +94,29 @@ row-said token v =
     (λ foreign. let row = foreign-row (folded token) v foreign in subst (λ f. Ways (Row (other token) v) (RowSays f v)) (sym (foreign-name (folded token) foreign)) row)
 
 -- and so are the names that are asked for
-named : (k : Known) (key : List ℕ) → AllByRecursion (λ s. is_named k (known (s.1)) ≡ bytes_eq (full_name (s.0)) key) spellings → ((f : List ℕ) → IsForeign f → f ≡ key → ⊥)
-    → (token : List ℕ) → is_named k (name_of token) ≡ bytes_eq (full_name (folded token)) key
+named : (k : Known) (key : List ℕ) → AllByRecursion (λ s. is_name_of k (known (s.1)) ≡ bytes_eq (full_name (s.0)) key) spellings → ((f : List ℕ) → IsForeign f → f ≡ key → ⊥)
+    → (token : List ℕ) → is_name_of k (name_of token) ≡ bytes_eq (full_name (folded token)) key
 named k key each differs token =
-    by-name (λ f name. is_named k name ≡ bytes_eq (full_name f) key) spellings token each
+    by-name (λ f name. is_name_of k name ≡ bytes_eq (full_name f) key) spellings token each
     (λ foreign. sym (ap (λ f. bytes_eq f key) (foreign-name (folded token) foreign) ∙ miss (folded token) key (differs (folded token) foreign)))
 
-pub named-via : (token : List ℕ) → is_named known_name.Via (name_of token) ≡ bytes_eq (full_name (folded token)) (codes "via")
+pub named-via : (token : List ℕ) → is_name_of known_name.Via (name_of token) ≡ bytes_eq (full_name (folded token)) (codes "via")
 named-via = named known_name.Via (codes "via") (refl, (refl, (refl, (refl, (refl, (refl, (refl, (refl, (refl, (refl, (refl, (refl, (refl, (refl, (refl, (refl, (refl, (refl, (refl, (refl, (refl, (refl, tt)))))))))))))))))))))) (λ f foreign. foreign.0)
 
-pub named-from : (token : List ℕ) → is_named known_name.From (name_of token) ≡ bytes_eq (full_name (folded token)) (codes "from")
+pub named-from : (token : List ℕ) → is_name_of known_name.From (name_of token) ≡ bytes_eq (full_name (folded token)) (codes "from")
 named-from = named known_name.From (codes "from") (refl, (refl, (refl, (refl, (refl, (refl, (refl, (refl, (refl, (refl, (refl, (refl, (refl, (refl, (refl, (refl, (refl, (refl, (refl, (refl, (refl, (refl, tt)))))))))))))))))))))) (λ f foreign. foreign.1.1.0)
 
-pub named-to : (token : List ℕ) → is_named known_name.To (name_of token) ≡ bytes_eq (full_name (folded token)) (codes "to")
+pub named-to : (token : List ℕ) → is_name_of known_name.To (name_of token) ≡ bytes_eq (full_name (folded token)) (codes "to")
 named-to = named known_name.To (codes "to") (refl, (refl, (refl, (refl, (refl, (refl, (refl, (refl, (refl, (refl, (refl, (refl, (refl, (refl, (refl, (refl, (refl, (refl, (refl, (refl, (refl, (refl, tt)))))))))))))))))))))) (λ f foreign. foreign.1.1.1.1.0)
 
-pub named-call-id : (token : List ℕ) → is_named known_name.CallId (name_of token) ≡ bytes_eq (full_name (folded token)) (codes "call-id")
+pub named-call-id : (token : List ℕ) → is_name_of known_name.CallId (name_of token) ≡ bytes_eq (full_name (folded token)) (codes "call-id")
 named-call-id = named known_name.CallId (codes "call-id") (refl, (refl, (refl, (refl, (refl, (refl, (refl, (refl, (refl, (refl, (refl, (refl, (refl, (refl, (refl, (refl, (refl, (refl, (refl, (refl, (refl, (refl, tt)))))))))))))))))))))) (λ f foreign. foreign.1.1.1.1.1.1.0)
 
-pub named-cseq : (token : List ℕ) → is_named known_name.CSeq (name_of token) ≡ bytes_eq (full_name (folded token)) (codes "cseq")
+pub named-cseq : (token : List ℕ) → is_name_of known_name.CSeq (name_of token) ≡ bytes_eq (full_name (folded token)) (codes "cseq")
 named-cseq = named known_name.CSeq (codes "cseq") (refl, (refl, (refl, (refl, (refl, (refl, (refl, (refl, (refl, (refl, (refl, (refl, (refl, (refl, (refl, (refl, (refl, (refl, (refl, (refl, (refl, (refl, tt)))))))))))))))))))))) (λ f foreign. foreign.1.1.1.1.1.1.1.1.0)
 
-pub named-content-length : (token : List ℕ) → is_named known_name.ContentLength (name_of token) ≡ bytes_eq (full_name (folded token)) (codes "content-length")
+pub named-content-length : (token : List ℕ) → is_name_of known_name.ContentLength (name_of token) ≡ bytes_eq (full_name (folded token)) (codes "content-length")
 named-content-length = named known_name.ContentLength (codes "content-length") (refl, (refl, (refl, (refl, (refl, (refl, (refl, (refl, (refl, (refl, (refl, (refl, (refl, (refl, (refl, (refl, (refl, (refl, (refl, (refl, (refl, (refl, tt)))))))))))))))))))))) (λ f foreign. foreign.1.1.1.1.1.1.1.1.1.0)
 
-pub named-route : (token : List ℕ) → is_named known_name.Route (name_of token) ≡ bytes_eq (full_name (folded token)) (codes "route")
+pub named-route : (token : List ℕ) → is_name_of known_name.Route (name_of token) ≡ bytes_eq (full_name (folded token)) (codes "route")
 named-route = named known_name.Route (codes "route") (refl, (refl, (refl, (refl, (refl, (refl, (refl, (refl, (refl, (refl, (refl, (refl, (refl, (refl, (refl, (refl, (refl, (refl, (refl, (refl, (refl, (refl, tt)))))))))))))))))))))) (λ f foreign. foreign.1.1.1.1.1.1.1.1.1.1.1.1.1.1.1.1.1.1.1.1.1.0)

@@ -6,7 +6,7 @@ use Prim.Native.String.{String}
 use Rattle.sip_message.specs.declared.fault.Fault.{Fault}
 use Rattle.sip_message.specs.declared.name.Known.{Known}
 use Rattle.sip_message.specs.declared.name.Known.TheVariants as known_name
-use Rattle.sip_message.specs.Name.{name_of, is_named}
+use Rattle.sip_message.specs.Name.{name_of, is_name_of}
 use Rattle.sip_message.specs.Params.{comma}
 use Rattle.sip_message.specs.StartLine.{StartLine}
 use Rattle.sip_message.specs.Address.{AddressParts}
@@ -32,7 +32,7 @@ use Rattle.sip_message.proofs.lemmas.says.Names.{named-via, named-from, named-to
 use Rattle.sip_message.proofs.lemmas.says.Bytes.{AreFields, IsTold, all-found, same-read}
 
 -- the values of a name are those that are said
-values-said : (k : Known) (key : String) → ((token : List ℕ) → is_named k (name_of token) ≡ bytes_eq (full_name (folded token)) (codes key)) → (fs : List Field) (gs : List SaidField) → AreFields 1 fs gs → values k fs ≡ said_values key gs
+values-said : (k : Known) (key : String) → ((token : List ℕ) → is_name_of k (name_of token) ≡ bytes_eq (full_name (folded token)) (codes key)) → (fs : List Field) (gs : List SaidField) → AreFields 1 fs gs → values k fs ≡ said_values key gs
 values-said k key same fs gs are = found-values 1 k fs ∙ ap (map (λ found. found.1)) (all-found k key same 1 fs gs are)
 
 first-of : (k : Known) (key : String) (fs : List Field) (gs : List SaidField) (text : List ℕ) → values k fs ≡ said_values key gs → IsValueOf k fs text → IsFirstOf (said_values key gs) text

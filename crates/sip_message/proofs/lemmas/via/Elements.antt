@@ -10,8 +10,8 @@ use Rattle.sip_message.proofs.lemmas.via.Protocol.{token-stops}
 use Rattle.sip_message.proofs.lemmas.front.Cuts.{ReadAs, NotRead}
 use Rattle.sip_message.specs.declared.name.Known.{Known}
 use Rattle.sip_message.specs.declared.field.Field.{Field as Code}
-use Rattle.sip_message.specs.Name.{is_named}
-use Rattle.sip_message.specs.Only.{IsOnly, One, the, One-prop}
+use Rattle.sip_message.specs.Name.{is_name_of}
+use Rattle.sip_message.specs.Only.{IsOnly, ExactlyOne, the, One-prop}
 use Rattle.std.specs.Prelude.{MatchOption}
 use Rattle.std.specs.Borrow.{Bor}
 use Rattle.std.specs.Iterator.{YieldsFirstBy, MakesProgress, item_count}
@@ -21,12 +21,12 @@ use Rattle.sip_message.specs.inner.Codes.{elements_code}
 use Rattle.sip_message.specs.Views.{name_parts, field_parts}
 
 -- the values from a place on, by the field that stands there
-values-suc : (known : Known) (xs : List Code) (i : ℕ) (d : Code) → i < length xs → values known (drop i (map field_parts xs)) ≡ cond (is_named known (name_parts (slice_index_or xs i d).name)) ((slice_index_or xs i d).value.now ∷ values known (drop (suc i) (map field_parts xs))) (values known (drop (suc i) (map field_parts xs)))
+values-suc : (known : Known) (xs : List Code) (i : ℕ) (d : Code) → i < length xs → values known (drop i (map field_parts xs)) ≡ cond (is_name_of known (name_parts (slice_index_or xs i d).name)) ((slice_index_or xs i d).value.now ∷ values known (drop (suc i) (map field_parts xs))) (values known (drop (suc i) (map field_parts xs)))
 values-suc known [] i d below = absurd (omega (arith, below))
 values-suc known (x ∷ xs) zero d below = refl
 values-suc known (x ∷ xs) (suc i) d below = values-suc known xs i d (omega (arith, below))
 
-values-at : (known : Known) (xs : List Code) (i : ℕ) (d : Code) → i < length xs → values known (drop i (map field_parts xs)) ≡ cond (is_named known (name_parts (slice_index_or xs i d).name)) ((slice_index_or xs i d).value.now ∷ values known (drop (i + 1) (map field_parts xs))) (values known (drop (i + 1) (map field_parts xs)))
+values-at : (known : Known) (xs : List Code) (i : ℕ) (d : Code) → i < length xs → values known (drop i (map field_parts xs)) ≡ cond (is_name_of known (name_parts (slice_index_or xs i d).name)) ((slice_index_or xs i d).value.now ∷ values known (drop (i + 1) (map field_parts xs))) (values known (drop (i + 1) (map field_parts xs)))
 values-at known xs i d below = rw add-one (values-suc known xs i d below)
 
 cond-true : {X : Type 0} (b : Bool) (x y : X) → b ≡ true → cond b x y ≡ x
@@ -36,11 +36,11 @@ cond-false : {X : Type 0} (b : Bool) (x y : X) → b ≡ false → cond b x y �
 cond-false b x y is = ap (λ z. cond z x y) is
 
 -- a field of the name
-pub values-found : (known : Known) (xs : List Code) (i : ℕ) (d : Code) → i < length xs → is_named known (name_parts (slice_index_or xs i d).name) ≡ true → values known (drop i (map field_parts xs)) ≡ (slice_index_or xs i d).value.now ∷ values known (drop (i + 1) (map field_parts xs))
+pub values-found : (known : Known) (xs : List Code) (i : ℕ) (d : Code) → i < length xs → is_name_of known (name_parts (slice_index_or xs i d).name) ≡ true → values known (drop i (map field_parts xs)) ≡ (slice_index_or xs i d).value.now ∷ values known (drop (i + 1) (map field_parts xs))
 values-found known xs i d below is = values-at known xs i d below ∙ cond-true _ _ _ is
 
 -- a field of another name
-pub values-passed : (known : Known) (xs : List Code) (i : ℕ) (d : Code) → i < length xs → is_named known (name_parts (slice_index_or xs i d).name) ≡ false → values known (drop i (map field_parts xs)) ≡ values known (drop (i + 1) (map field_parts xs))
+pub values-passed : (known : Known) (xs : List Code) (i : ℕ) (d : Code) → i < length xs → is_name_of known (name_parts (slice_index_or xs i d).name) ≡ false → values known (drop i (map field_parts xs)) ≡ values known (drop (i + 1) (map field_parts xs))
 values-passed known xs i d below is = values-at known xs i d below ∙ cond-false _ _ _ is
 
 -- past the last field there is none
@@ -51,7 +51,7 @@ values-end known (x ∷ xs) zero past = absurd (past (omega arith))
 values-end known (x ∷ xs) (suc i) past = values-end known xs i (λ below. past (omega (arith, below)))
 
 -- the one value is this one
-pub One-is : {X : Type 0} → Coded X → (R : X → Type 0) (o : One R) (x : X) → R x → the o ≡ x
+pub One-is : {X : Type 0} → Coded X → (R : X → Type 0) (o : ExactlyOne R) (x : X) → R x → the o ≡ x
 unfolding the
 One-is c R o x is = ∥∥₁_elim o.1 (Coded-set c o.0 x) (λ p. sym (p.only x is))
 
@@ -160,24 +160,24 @@ read-only rest text vals more e behind es next read only = (first.others, first.
         cc
 
 -- those that are left then
-pub One-next : (rest text : List ℕ) (vals more : List (List ℕ)) (e : Element) (behind : List ℕ) → ((es : List Element) → AreLeft rest vals es → NextText rest vals text more) → ReadAs (ViaFront text) (e, behind) → One (AreLeft rest vals) → One (AreLeft behind more)
+pub One-next : (rest text : List ℕ) (vals more : List (List ℕ)) (e : Element) (behind : List ℕ) → ((es : List Element) → AreLeft rest vals es → NextText rest vals text more) → ReadAs (ViaFront text) (e, behind) → ExactlyOne (AreLeft rest vals) → ExactlyOne (AreLeft behind more)
 One-next rest text vals more e behind next read one =
     ∥∥₁_elim one.1 (One-prop elements_code (AreLeft behind more)) (λ p. let read_it = read-only rest text vals more e behind one.0 (next one.0 p.is) read p in (read_it.0, ∣ read_it.2 ∣₁))
 
 -- and the first is the one that was read
-pub One-first : (rest text : List ℕ) (vals more : List (List ℕ)) (e : Element) (behind : List ℕ) → ((es : List Element) → AreLeft rest vals es → NextText rest vals text more) → ReadAs (ViaFront text) (e, behind) → (one : One (AreLeft rest vals)) (then : One (AreLeft behind more)) → the one ≡ e ∷ the then
+pub One-first : (rest text : List ℕ) (vals more : List (List ℕ)) (e : Element) (behind : List ℕ) → ((es : List Element) → AreLeft rest vals es → NextText rest vals text more) → ReadAs (ViaFront text) (e, behind) → (one : ExactlyOne (AreLeft rest vals)) (then : ExactlyOne (AreLeft behind more)) → the one ≡ e ∷ the then
 unfolding the
 One-first rest text vals more e behind next read one then =
     ∥∥₁_elim one.1 (Coded-set elements_code one.0 (e ∷ then.0))
     (λ p. let read_it = read-only rest text vals more e behind one.0 (next one.0 p.is) read p in read_it.1 ∙ ap (λ t. e ∷ t) (sym (One-is elements_code (AreLeft behind more) then read_it.0 read_it.2.is)))
 
 -- nothing is left
-pub One-none : (rest : List ℕ) (vals : List (List ℕ)) (one : One (AreLeft rest vals)) → ((es : List Element) → AreLeft rest vals es → es ≡ []) → the one ≡ []
+pub One-none : (rest : List ℕ) (vals : List (List ℕ)) (one : ExactlyOne (AreLeft rest vals)) → ((es : List Element) → AreLeft rest vals es → es ≡ []) → the one ≡ []
 unfolding the
 One-none rest vals one none = ∥∥₁_elim one.1 (Coded-set elements_code one.0 []) (λ p. none one.0 p.is)
 
 -- what must be read is read
-pub One-read : (rest text : List ℕ) (vals more : List (List ℕ)) → ((es : List Element) → AreLeft rest vals es → NextText rest vals text more) → NotRead (ViaFront text) → One (AreLeft rest vals) → ⊥
+pub One-read : (rest text : List ℕ) (vals more : List (List ℕ)) → ((es : List Element) → AreLeft rest vals es → NextText rest vals text more) → NotRead (ViaFront text) → ExactlyOne (AreLeft rest vals) → ⊥
 One-read rest text vals more next none one = ∥∥₁_elim one.1 (λ a b. absurd a) (λ p. no-first text more one.0 none ((next one.0 p.is).to one.0 p.is))
 
 -- at the end of an iterator nothing is left, and then too
@@ -185,7 +185,7 @@ pub yields-none : {A B : Type 0} (view : A → B) (r : Option A) (s : List B) �
 yields-none view r s none nil = subst (λ o. YieldsFirstBy view (λ it. it) s o s) (sym none) (nil, nil)
 
 -- a thing that all others are is the one
-pub One-of : {X : Type 0} (R : X → Type 0) (x : X) → R x → ((y : X) → R y → y ≡ x) → One R
+pub One-of : {X : Type 0} (R : X → Type 0) (x : X) → R x → ((y : X) → R y → y ≡ x) → ExactlyOne R
 One-of R x is only = (x, ∣ record { is = is; only = only } ∣₁)
 
 -- an iterator that gave the first of its list is nearer its end

@@ -8,7 +8,7 @@ use Rattle.sip_text.specs.Bytes.{colon, left_bracket, right_bracket, is_token_by
 use Rattle.sip_text.specs.Text.{One, Many, IsOnlyValue}
 use Rattle.sip_text.specs.Grammar.{Token}
 use Rattle.sip_text.specs.Host.{Hostname, Ipv4Address, HostParts, HostText, host_text, name, v4, v6}
-use Rattle.sip_text.specs.HostTests.{is_v4, is_hostname}
+use Rattle.sip_text.specs.inner.HostTests.{is_v4, is_hostname}
 use Rattle.sip_text.specs.Uri.{Port}
 use Rattle.sip_text.proofs.HostnameLemmas.{hostname-is}
 use Rattle.sip_text.proofs.V4Lemmas.{v4-is}

@@ -1,6 +1,6 @@
 use Rattle.std.proofs.Common.{None, Some, sym, subst}
 use Rattle.sip_text.specs.Grammar.{Token}
-use Rattle.sip_message.specs.inner.Plain.{segment, Stands, PlainParam}
+use Rattle.sip_message.specs.inner.Plain.{segment, LiesWithin, PlainParam}
 use Rattle.sip_message.proofs.PlainLemmas.{param-none, param-some, run-token}
 use Rattle.sip_message.proofs.plain.past_param.Goals as goal
 
@@ -9,7 +9,7 @@ returns-in_default-clause-param c =
     let m = c.args.masks.now in
     let start = c.in_ok-start.start in
     let behind = c.in_ok-behind.behind in
-    subst (λ t. Stands (PlainParam (segment start behind t, None)) m c.args.at c.args.end behind) (sym c.text.ensures)
+    subst (λ t. LiesWithin (PlainParam (segment start behind t, None)) m c.args.at c.args.end behind) (sym c.text.ensures)
     (param-none m c.args.at c.args.end start behind c.in_ok-start.ensures c.in_ok-behind.ensures)
 
 pub returns-clause-param : goal.returns-clause-param
@@ -20,8 +20,8 @@ returns-clause-param c =
     let first = c.in-Some.first in
     let to = c.in_ok-to.to in
     let param = param-some m c.args.at c.args.end start behind first to c.in_ok-start.ensures c.in_ok-behind.ensures c.in-Some.ensures c.in_ok-to.ensures in
-    subst (λ t. Stands (PlainParam (segment start behind c.text.result.now, Some (segment first to t))) m c.args.at c.args.end to) (sym c.text-2.ensures)
-    (subst (λ t. Stands (PlainParam (segment start behind t, Some (segment first to m))) m c.args.at c.args.end to) (sym c.text.ensures) param)
+    subst (λ t. LiesWithin (PlainParam (segment start behind c.text.result.now, Some (segment first to t))) m c.args.at c.args.end to) (sym c.text-2.ensures)
+    (subst (λ t. LiesWithin (PlainParam (segment start behind t, Some (segment first to m))) m c.args.at c.args.end to) (sym c.text.ensures) param)
 
 pub returns-clause-value : goal.returns-clause-value
 returns-clause-value c =

@@ -1,10 +1,10 @@
 use Rattle.std.proofs.Common.{◌-◌}
 use Rattle.sip_message.specs.inner.AddressFronts.{Words}
-use Rattle.sip_message.specs.inner.Plain.{Stands}
+use Rattle.sip_message.specs.inner.Plain.{LiesWithin}
 use Rattle.sip_message.proofs.plain.past_words.Given as goal
 
 abbrev pub invariant-words : goal.invariant-words
-invariant-words l = Stands Words l.masks l.at l.end l.to
+invariant-words l = LiesWithin Words l.masks l.at l.end l.to
 
 abbrev pub decreases-words : goal.decreases-words
 decreases-words l = l.end - l.to

@@ -2,7 +2,7 @@ use Rattle.std.proofs.Common.{subst}
 use Rattle.std.proofs.lemmas.Bool.{eqb-true}
 use Rattle.sip_text.specs.Bytes.{at_sign}
 use Rattle.sip_text.specs.Text.{Byte, ◌then◌}
-use Rattle.sip_message.specs.inner.Plain.{segment, Stands, PlainRun}
+use Rattle.sip_message.specs.inner.Plain.{segment, LiesWithin, PlainRun}
 use Rattle.sip_message.proofs.PlainLemmas.{then-stands}
 use Rattle.sip_message.proofs.PlainValueLemmas.{call_id-one, call_id-two}
 use Rattle.sip_message.proofs.plain_values.is_plain_call_id.Goals as goal
@@ -10,7 +10,7 @@ use Rattle.sip_message.proofs.plain_values.is_plain_call_id.Goals as goal
 pub returns-then-word-end : goal.returns-then-word-end
 returns-then-word-end c = λ _.
     let m = c.args.masks.now in
-    let run = subst (Stands PlainRun m c.args.at c.args.end) c.if-word-end.true c.in-Some.ensures in
+    let run = subst (LiesWithin PlainRun m c.args.at c.args.end) c.if-word-end.true c.in-Some.ensures in
     call_id-one (segment c.args.at c.args.end m) run.2
 
 pub returns-in-Some-past_run : goal.returns-in-Some-past_run
@@ -19,7 +19,7 @@ returns-in-Some-past_run c = λ so.
     let end = c.args.end in
     let word = c.in-Some.word in
     let other = c.in-Some-past_byte.other in
-    let run = subst (Stands PlainRun m other end) (eqb-true _ _ so) c.in-Some-past_run.ensures in
+    let run = subst (LiesWithin PlainRun m other end) (eqb-true _ _ so) c.in-Some-past_run.ensures in
     call_id-two (segment c.args.at end m)
     (then-stands PlainRun (Byte at_sign then PlainRun) m c.args.at end word end c.in-Some.ensures
     (then-stands (Byte at_sign) PlainRun m word end other end c.in-Some-past_byte.ensures run)).2

@@ -2,7 +2,7 @@ use Rattle.std.proofs.Common.{Some, sym, subst}
 use Rattle.std.specs.Prelude.{IfSome}
 use Rattle.sip_text.specs.Uri.{Port}
 use Rattle.sip_message.specs.Via.{ColonPort}
-use Rattle.sip_message.specs.inner.Plain.{segment, Stands}
+use Rattle.sip_message.specs.inner.Plain.{segment, LiesWithin}
 use Rattle.sip_message.proofs.PlainViaLemmas.{port-led, port-none}
 use Rattle.sip_message.proofs.plain_via.past_led_port.Goals as goal
 
@@ -14,5 +14,5 @@ returns c =
     let m = c.args.masks.now in
     let port = c.in-Some.port in
     let to = c.in_ok-to.to in
-    subst (λ t. Stands (λ u. ColonPort (Some (segment port to t)) u × IfSome (Some (segment port to t)) Port) m c.args.at c.args.end to) (sym c.text.ensures)
+    subst (λ t. LiesWithin (λ u. ColonPort (Some (segment port to t)) u × IfSome (Some (segment port to t)) Port) m c.args.at c.args.end to) (sym c.text.ensures)
     (port-led m c.args.at c.args.end port to c.in-Some.ensures c.in_ok-to.ensures)

@@ -1,7 +1,7 @@
 use Rattle.std.proofs.Common.{rules, ◌≡◌, ◌↔◌, false, refl, sym, ap, ◌∙◌, subst}
 use Rattle.std.specs.Prelude.{IsTrue}
 use Rattle.sip_message.specs.declared.name.Known.TheVariants as known_name
-use Rattle.sip_message.specs.Name.{known, is_named}
+use Rattle.sip_message.specs.Name.{known, is_name_of}
 use Rattle.sip_message.specs.Field.{Row}
 use Rattle.sip_message.specs.Views.{name_parts}
 use Rattle.sip_message.proofs.lemmas.asked.Kept.{via-row, via-keeps, cseq-row, cseq-keeps, named-keeps, other-keeps}
@@ -47,5 +47,5 @@ returns-in-Known-ContentLength-clause-kept c = λ _.
 
 pub returns-in_default-clause-kept : goal.returns-in_default-clause-kept
 returns-in_default-clause-kept c = λ _.
-    let other : (is_named known_name.Via (name_parts c.args.name) ≡ false) × (is_named known_name.CSeq (name_parts c.args.name) ≡ false) = search rules in
+    let other : (is_name_of known_name.Via (name_parts c.args.name) ≡ false) × (is_name_of known_name.CSeq (name_parts c.args.name) ≡ false) = search rules in
     other-keeps _ _ other

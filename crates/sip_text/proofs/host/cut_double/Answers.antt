@@ -1,7 +1,7 @@
 use Rattle.std.proofs.Common.{◌≡◌, ◌+◌, ◌-◌, true, get_or, Some, drop, sym, ap, ◌∙◌, arith}
 use Rattle.std.proofs.lemmas.Bool.{and_from, eq-eqb}
 use Rattle.std.proofs.lemmas.List.{take_rest}
-use Rattle.sip_text.specs.HostTests.{is_double_at}
+use Rattle.sip_text.specs.inner.HostTests.{is_double_at}
 use Rattle.sip_text.proofs.DoubleLemmas.{double-first, double-nowhere}
 use Rattle.sip_text.proofs.host.cut_double.Goals as goal
 

@@ -1,5 +1,5 @@
 use Rattle.std.proofs.Common.{◌≡◌, ℕ, ◌+◌, ◌<◌, false}
-use Rattle.sip_text.specs.HostTests.{is_double_at}
+use Rattle.sip_text.specs.inner.HostTests.{is_double_at}
 use Rattle.sip_text.proofs.host.cut_double.Given as goal
 
 -- no "::" begins before the byte behind

@@ -1,5 +1,5 @@
 use Rattle.std.proofs.Common.{◌≡◌, length}
-use Rattle.sip_text.specs.HostTests.{is_hexseq}
+use Rattle.sip_text.specs.inner.HostTests.{is_hexseq}
 use Rattle.sip_text.proofs.host.is_hexseq.Given as goal
 
 -- the groups so far pass, so that the rest decides

@@ -1,6 +1,6 @@
 use Rattle.std.proofs.Common.{◌≤◌, ◌-◌, length}
 use Rattle.sip_text.specs.Text.{Many, HasFront}
-use Rattle.sip_text.specs.Quoted.{QuotedItem}
+use Rattle.sip_text.specs.inner.Quoted.{QuotedItem}
 use Rattle.sip_text.proofs.quoted.contents_len.Given as goal
 
 -- the front so far is pieces

@@ -1,6 +1,6 @@
 use Rattle.std.proofs.Common.{◌↔◌, length}
 use Rattle.sip_text.specs.Text.{Many}
-use Rattle.sip_text.specs.UriCut.{Char}
+use Rattle.sip_text.specs.inner.UriCut.{Char}
 use Rattle.sip_text.proofs.uri.is_chars.Given as goal
 
 -- the rest is characters exactly if the whole text is

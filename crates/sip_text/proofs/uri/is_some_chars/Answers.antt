@@ -1,5 +1,5 @@
 use Rattle.std.proofs.Common.{sym, ◌∙◌}
-use Rattle.sip_text.specs.UriCut.{Char}
+use Rattle.sip_text.specs.inner.UriCut.{Char}
 use Rattle.sip_text.proofs.UriCharLemmas.{some-decides}
 use Rattle.sip_text.proofs.uri.is_some_chars.Goals as goal
 

@@ -2,7 +2,7 @@ use Rattle.std.proofs.Common.{IfSome, option_copied, rules}
 use Rattle.std.specs.Bool.{Decides}
 use Rattle.sip_text.specs.declared.class.Class.TheVariants as class
 use Rattle.sip_text.specs.Text.{Many, OneOrMore}
-use Rattle.sip_text.specs.UriCut.{Char}
+use Rattle.sip_text.specs.inner.UriCut.{Char}
 use Rattle.sip_text.proofs.UriCharLemmas.{if-some, decides-user, decides-password}
 use Rattle.sip_text.proofs.UriPartLemmas.{both-when, both-unless}
 use Rattle.sip_text.proofs.uri.userinfo_fits.Goals as goal

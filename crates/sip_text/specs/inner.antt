@@ -1,0 +1,3 @@
+pub mod HostTests
+pub mod Quoted
+pub mod UriCut

@@ -53,7 +53,10 @@ fn outboxes_have_an_order(rt: HostRuntime) -> Result<(), Fail> {
             let owed = outbox(rt.alloc(), these)?;
             let owes = outbox(rt.alloc(), others)?;
             let order = owed.cmp(&owes);
-            assert!(rt; (order == Ordering::Equal) == (place == other), "{place} {other}");
+            assert!(rt;
+                (order == Ordering::Equal) == (place == other),
+                "{place} {other}"
+            );
             assert!(rt; order.reverse() == owes.cmp(&owed), "{place} {other}");
             assert!(rt; (owed == owes) == (place == other), "{place} {other}");
         }

@@ -44,6 +44,10 @@ touches_elim Q more (k ∷ ks) (n ∷ ns) old new holds (between, one, rest) = t
 pub touches_times : (ks : List KeyParts) (ns : List ℕ) (old new : Tabled) → TouchesEach ks ns old new → new.times ≡ old.times
 touches_times ks ns old new h = touches_elim (λ t. t.times ≡ old.times) (λ t key same. same) ks ns old new refl h
 
+-- each key has a set
+long_more : (t : Tabled) (key : KeyParts) → length t.sets ≡ length t.keys → length (t.sets ++ start_of t.times key ∷ []) ≡ length (t.keys ++ key ∷ [])
+long_more t key long = length-append t.sets (start_of t.times key ∷ []) ∙ ap (λ n. n + 1) long ∙ sym (length-append t.keys (key ∷ []))
+
 -- there is at most one key more for each
 pub touches_few : (ks : List KeyParts) (ns : List ℕ) (old new : Tabled) → TouchesEach ks ns old new → length new.keys ≤ length old.keys + length ks
 touches_few [] [] old new same = let long = ap (λ t. length t.keys) same in omega arith

@@ -1,7 +1,10 @@
 use Rattle.std.proofs.Common.{remove, sym, ap, ◌∙◌}
 use Rattle.sip_machine.specs.inner.Runs.{debts_of}
-use Rattle.sip_machine.proofs.RunsLemmas.{none, without-any}
+use Rattle.sip_machine.proofs.RunsLemmas.{none, start-own, without-any}
 use Rattle.sip_machine.proofs.outbox.run_at.Goals as goal
+
+pub returns-then-count-len-clause-debt : goal.returns-then-count-len-clause-debt
+returns-then-count-len-clause-debt c = ?
 
 pub returns-clause-debt : goal.returns-clause-debt
 returns-clause-debt c =

@@ -47,7 +47,7 @@ impl Hashed {
         if self.hash != other.hash {
             return false;
         }
-        self.text == other.text
+        self.text.as_slice() == other.text.as_slice()
     }
 }
 

@@ -39,7 +39,8 @@ pub(crate) fn first_acked(
     if !is_ack_for(&ack, &invite) {
         return Ok(None);
     }
-    let to = Hashed::of(solid_of(alloc, ack.to().whole)?);
+    let to = solid_of(alloc, ack.to().whole)?;
+    let to = Hashed::of(to);
     let mut near = 0;
     let mut index = 0usize;
     for run in runs {

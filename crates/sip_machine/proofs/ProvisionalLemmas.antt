@@ -2,7 +2,6 @@ use Rattle.std.specs.Prelude.{◌≡◌, ◌↔◌, ◌==◌, ◌+◌, IsTrue, �
 use Rattle.std.proofs.Common.{sym, ap, ◌∙◌, append_assoc, arith, eq-eqb, subst}
 use Rattle.std.proofs.Math.Seq.{drop-append-add}
 use Rattle.std.proofs.lemmas.Bool.Decides.{nat_tests}
-use Rattle.sip_text.specs.Bytes.{space, crlf}
 use Rattle.sip_message.specs.StartLine.{StartLine, status, StartText, CodeText}
 use Rattle.sip_message.specs.Lines.{with_end}
 use Rattle.sip_message.specs.Message.{Message, MessageText}
@@ -43,6 +42,7 @@ digits-100 text is = sym (code-decimal text 100 is)
 code-100 : (bytes : List ℕ) (m : Message) (reason : List ℕ) → MessageText bytes m → m.start ≡ status 100 reason → take 3 (drop 8 bytes) ≡ codes "100"
 code-100 bytes m reason text start =
     let first = text.first in
+    let crlf = codes "\r\n" in
     let parts = status_parts first 100 reason (subst (StartText first) start text.is_start) in
     let more = crlf ++ (flat_map with_end text.others ++ (crlf ++ text.rest)) in
     let behind_first : bytes ≡ first ++ more =
@@ -51,14 +51,14 @@ code-100 bytes m reason text start =
     ∙ ap (λ h. h ++ (crlf ++ text.rest)) (sym text.is_head.head_is ∙ text.are_lines.whole)
     ∙ append_assoc (first ++ crlf) (flat_map with_end text.others) (crlf ++ text.rest)
     ∙ append_assoc first crlf (flat_map with_end text.others ++ (crlf ++ text.rest)) in
-    let code = parts.digits ++ space ∷ reason in
-    let behind_version : bytes ≡ parts.version ++ (space ∷ (code ++ more)) =
-    behind_first ∙ ap (λ line. line ++ more) parts.whole ∙ append_assoc parts.version (space ∷ code) more in
+    let code = parts.digits ++ 0x20 ∷ reason in
+    let behind_version : bytes ≡ parts.version ++ (0x20 ∷ (code ++ more)) =
+    behind_first ∙ ap (λ line. line ++ more) parts.whole ∙ append_assoc parts.version (0x20 ∷ code) more in
     let eight : 8 ≡ length parts.version + 1 = omega (arith, length-version parts.version parts.is_version) in
     let dropped : drop 8 bytes ≡ code ++ more =
-    ap (drop 8) behind_version ∙ ap (λ n. drop n (parts.version ++ (space ∷ (code ++ more)))) eight
-    ∙ drop-append-add parts.version (space ∷ (code ++ more)) 1 in
-    ap (take 3) dropped ∙ ap (λ digits. take 3 ((digits ++ space ∷ reason) ++ more)) (digits-100 parts.digits parts.is_code)
+    ap (drop 8) behind_version ∙ ap (λ n. drop n (parts.version ++ (0x20 ∷ (code ++ more)))) eight
+    ∙ drop-append-add parts.version (0x20 ∷ (code ++ more)) 1 in
+    ap (take 3) dropped ∙ ap (λ digits. take 3 ((digits ++ 0x20 ∷ reason) ++ more)) (digits-100 parts.digits parts.is_code)
 
 -- so have bytes that spell one
 pub Is100-code : (bytes : List ℕ) → Is100 bytes → take 3 (drop 8 bytes) ≡ codes "100"

@@ -71,7 +71,7 @@ pub trait Debts: Debug + Drop {
 /// beside the box, so that most are told apart without a look into it. Contracts see the list.
 #[derive(Debug, Drop)]
 pub struct BoxedDebts {
-    fingerprint: u64,
+    print: u64,
     outbox: Option<Box<Outbox>>,
 }
 
@@ -85,7 +85,7 @@ impl Model for BoxedDebts {
 
     ghost view = { λ o. unwrap_or (option_map (λ boxed. boxed.value) o.outbox) [] };
 
-    ghost invariant = { λ o. o.fingerprint ≡ fingerprint (unwrap_or (option_map (λ boxed. boxed.value) o.outbox) []) };
+    ghost invariant = { λ o. o.print ≡ fingerprint (unwrap_or (option_map (λ boxed. boxed.value) o.outbox) []) };
 }
 
 impl BoxedDebts {
@@ -97,7 +97,7 @@ impl BoxedDebts {
             return Ok(BoxedDebts::none());
         }
         Ok(BoxedDebts {
-            fingerprint: outbox.fingerprint(),
+            print: outbox.fingerprint(),
             outbox: Some(Box::new(alloc, outbox)?),
         })
     }
@@ -108,7 +108,7 @@ impl Debts for BoxedDebts {
 
     fn none() -> BoxedDebts {
         BoxedDebts {
-            fingerprint: 0,
+            print: 0,
             outbox: None,
         }
     }
@@ -145,7 +145,7 @@ impl Debts for BoxedDebts {
         match &mut self.outbox {
             Some(outbox) => {
                 outbox.push(debt)?;
-                self.fingerprint = outbox.fingerprint();
+                self.print = outbox.fingerprint();
                 Ok(())
             }
             None => {
@@ -161,7 +161,7 @@ impl Debts for BoxedDebts {
         match &mut self.outbox {
             Some(outbox) => {
                 let paid = outbox.pay(message, moment);
-                self.fingerprint = outbox.fingerprint();
+                self.print = outbox.fingerprint();
                 paid
             }
             None => false,
@@ -171,7 +171,7 @@ impl Debts for BoxedDebts {
     fn remove(&mut self, index: usize) {
         if let Some(outbox) = &mut self.outbox {
             outbox.remove(index);
-            self.fingerprint = outbox.fingerprint();
+            self.print = outbox.fingerprint();
         }
     }
 
@@ -183,7 +183,7 @@ impl Debts for BoxedDebts {
     }
 
     fn equals(&self, other: &BoxedDebts) -> bool {
-        if self.fingerprint != other.fingerprint {
+        if self.print != other.print {
             return false;
         }
         match (&self.outbox, &other.outbox) {
@@ -194,8 +194,8 @@ impl Debts for BoxedDebts {
     }
 
     fn compare(&self, other: &BoxedDebts) -> Ordering {
-        if self.fingerprint != other.fingerprint {
-            return self.fingerprint.cmp(&other.fingerprint);
+        if self.print != other.print {
+            return self.print.cmp(&other.print);
         }
         match (&self.outbox, &other.outbox) {
             (Some(one), Some(another)) => Outbox::cmp(one, another),

@@ -110,9 +110,8 @@ fn risen(latest: Option<u64>, deadline: u64) -> Option<u64>
 
 /// The least deadline of what must be sent. Where deadlines rise it is that of the first debt that must be sent.
 fn due_in(left: &[Run], rises: bool) -> Option<u64>
-    requires filled { All (λ run. 0 < run.count) left.now }
-    requires rises { IsTrue rises → Rises (debts_of left.now) }
-    ensures { result ≡ earliest (run_deadlines left.now) }
+    requires { All (λ run. 0 < run.count) left.now }
+    ensures { (IsTrue rises → Rises (debts_of left.now)) → result ≡ earliest (run_deadlines left.now) }
 {
     if rises {
         first_must(left)

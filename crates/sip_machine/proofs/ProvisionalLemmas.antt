@@ -1,5 +1,6 @@
 use Rattle.std.specs.Prelude.{◌≡◌, ◌↔◌, ◌==◌, ◌+◌, IsTrue, ℕ, List, ◌∷◌, ◌++◌, Some, codes, drop, flat_map, length, take}
 use Rattle.std.proofs.Common.{sym, ap, ◌∙◌, append_assoc, arith, eq-eqb, subst}
+use Rattle.std.specs.Fmt.{digits}
 use Rattle.std.proofs.Math.Seq.{drop-append-add}
 use Rattle.std.proofs.lemmas.Bool.Decides.{nat_tests}
 use Rattle.sip_message.specs.StartLine.{StartLine, status, StartText, CodeText}
@@ -36,6 +37,7 @@ Is100-read bytes r reads = (
 
 -- three digits that write 100
 digits-100 : (text : List ℕ) → CodeText text 100 → text ≡ codes "100"
+unfolding digits
 digits-100 text is = sym (code-decimal text 100 is)
 
 -- a message that is a 100 has its digits behind the version and a blank

@@ -1,10 +1,10 @@
 use Prim.Native.Nat.{zero, suc}
-use Rattle.std.specs.Prelude.{◌≡◌, ◌≤◌, ◌<◌, ◌-◌, ℕ, Bool, true, false, IsTrue, Option, None, Some, is_some, List, [], ◌∷◌, ◌++◌, All, filter, map, min, nat_le, replicate, if◌then◌else◌}
+use Rattle.std.specs.Prelude.{◌≡◌, ◌≤◌, ◌<◌, ◌-◌, ℕ, Bool, true, false, Option, None, Some, is_some, List, [], ◌∷◌, ◌++◌, All, filter, min, nat_le, replicate, if◌then◌else◌}
 use Rattle.std.specs.List.{find, fold}
 use Rattle.std.specs.Option.{option_map}
 use Rattle.std.proofs.Common.{inl, inr, refl, sym, ◌∙◌, ap, subst, arith, cond, true≢false}
 use Rattle.std.proofs.lemmas.Bool.Decides.{nat_tests}
-use Rattle.std.proofs.lemmas.List.Elements.{All-append, All-filter, All-head, All-map, All-nil, All-replicate, All-tail, All-weaker}
+use Rattle.std.proofs.lemmas.List.Elements.{All-append, All-filter, All-head, All-map, All-replicate, All-tail, All-weaker}
 use Rattle.sip_machine.specs.declared.outbox.Debt.{Debt}
 use Rattle.sip_machine.specs.declared.outbox.Run.{Run}
 use Rattle.sip_machine.specs.Debts.{earliest}

@@ -89,6 +89,9 @@ impl<'a> Message<'a> {
             return Message::whole(alloc, bytes);
         }
         let via = asked.via.unwrap();
+        let from = asked.from.unwrap();
+        let to = asked.to.unwrap();
+        let call_id = asked.call_id.unwrap();
         let cseq = asked.cseq.unwrap();
         let Some(len) = body_len(&start, &via, &cseq, asked.content_length, rest) else {
             return Message::whole(alloc, bytes);
@@ -98,9 +101,9 @@ impl<'a> Message<'a> {
             fields,
             &rest[..len],
             via,
-            asked.from.unwrap(),
-            asked.to.unwrap(),
-            asked.call_id.unwrap(),
+            from,
+            to,
+            call_id,
             cseq,
         ))
     }

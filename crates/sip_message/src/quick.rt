@@ -2,21 +2,17 @@
 //! It finds the ends of lines and of names in masks of the text. What is not ordinary it leaves to the
 //! reader of all heads.
 ghost use Rattle.std.specs.Prelude.{◌≡◌, ◌+◌, ◌-◌, ◌^◌, ◌≤◌, ◌<◌, ◌++◌, [], IsTrue, IfOk, IfSome, length, take, drop};
-ghost use Rattle.sip_text.specs.Text.{IsOnlyValue};
 ghost use Rattle.sip_message.specs.Lines.{with_end};
 ghost use Rattle.sip_message.specs.Field.{Row, ValueText, FieldText};
 ghost use Rattle.sip_message.specs.Views.{name_parts, field_parts, fields_parts};
 ghost use Rattle.sip_message.specs.ValueParts.{start_parts};
-ghost use Rattle.sip_message.specs.ViaParts.{element};
-ghost use Rattle.sip_message.specs.inner.ElementFronts.{FirstVia};
-ghost use Rattle.sip_message.specs.inner.Asked.{AskedOf, AsksMore};
+ghost use Rattle.sip_message.specs.inner.Asked.{AskedOf, AsksMore, KeepsVia};
 ghost use Rattle.sip_message.specs.inner.Plain.{segment, SomeAddress};
 ghost use Rattle.sip_message.specs.inner.Quick.{IsOpen, AreOrdinary, IsOrdinary, PushesField};
 
 use crate::asked::{Asked, keep_once, keep_one};
 use crate::cursor::past;
 use crate::field::Field;
-use crate::kept::keep;
 use crate::name::{Known, Name, quick_name};
 use crate::plain::is_plain_address;
 use crate::plain_start::start_up_to;
@@ -186,7 +182,7 @@ fn is_value_at<'a>(
 {
     let value = &masks.text()[at..end];
     match name {
-        Name::Known(Known::Via) => keep(via_at(masks, at, end), &mut asked.via),
+        Name::Known(Known::Via) => keep_via(masks, at, end, &mut asked.via),
         Name::Known(Known::From) => {
             keep_once(is_address_at(masks, at, end), value, &mut asked.from)
         }
@@ -202,15 +198,26 @@ fn is_value_at<'a>(
     }
 }
 
-// The first element of Via between two places, if elements stand there.
-fn via_at<'a>(masks: &Masks<'a, '_>, at: usize, end: usize) -> Option<Via<'a>>
+// Keeps the first element of Via between two places, if elements stand there and none is kept yet.
+// Whether they stand there.
+fn keep_via<'a>(
+    masks: &Masks<'a, '_>,
+    at: usize,
+    end: usize,
+    kept: &mut Option<Via<'a>>,
+) -> bool
     requires { (at ≤ end) × (end ≤ length masks.now) }
-    ensures { IsOnlyValue FirstVia element (segment at end masks.now) result }
+    ensures { KeepsVia (segment at end masks.now) result kept.old kept.new }
 {
-    match plain_via(masks, at, end) {
-        Some(via) => Some(via),
-        None => first_via(&masks.text()[at..end]),
+    if kept.is_some() {
+        return first_via(&masks.text()[at..end]).is_some();
     }
+    if let Some(via) = plain_via(masks, at, end) {
+        *kept = Some(via);
+        return true;
+    }
+    *kept = first_via(&masks.text()[at..end]);
+    kept.is_some()
 }
 
 // Whether an address stands between two places.

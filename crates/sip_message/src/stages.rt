@@ -244,10 +244,14 @@ pub(crate) fn body_len(
         };
     };
     let len = number_at_most(digits, rest.len())?;
-    if len != rest.len() && is_stream(via.transport) {
-        return None;
+    if len == rest.len() {
+        return Some(len);
     }
-    Some(len)
+    if is_stream(via.transport) {
+        None
+    } else {
+        Some(len)
+    }
 }
 
 // Whether the method of CSeq is that of the request.

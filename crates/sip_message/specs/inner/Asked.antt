@@ -1,9 +1,11 @@
 -- What the quick reader keeps of the fields that are asked for, as they come.
-use Rattle.std.specs.Prelude.{◌≡◌, ℕ, List, [], ◌∷◌, ◌++◌, Option, None, Some, option_copied}
-use Rattle.std.specs.Option.{option_map}
+use Rattle.std.specs.Prelude.{◌≡◌, ℕ, Bool, List, [], ◌∷◌, ◌++◌, Option, None, Some, is_some, option_copied}
+use Rattle.std.specs.Option.{option_map, option_or}
+use Rattle.sip_text.specs.Text.{IsOnlyValue}
 use Rattle.sip_message.specs.declared.asked.Asked.{Asked}
 use Rattle.sip_message.specs.declared.name.Known.{Known}
 use Rattle.sip_message.specs.declared.name.Known.TheVariants as known_name
+use Rattle.sip_message.specs.declared.via.Via.{Via}
 use Rattle.sip_message.specs.Field.{Field}
 use Rattle.sip_message.specs.Message.{found, IsFirstFound}
 use Rattle.sip_message.specs.Reading.{CSeqValue}
@@ -36,3 +38,8 @@ pub record AskedOf (fields : List Field) (a : Asked) : Type 0 where
 -- what is kept of fields, and then what is kept of them and a further one
 abbrev pub AsksMore : Field → Asked → Asked → Type 0
 AsksMore f old new = (fields : List Field) → AskedOf fields old → AskedOf (fields ++ f ∷ []) new
+
+-- whether the text says an element of Via, which is kept if none is kept yet
+abbrev pub KeepsVia : List ℕ → Bool → Option Via → Option Via → Type 0
+KeepsVia text is old new =
+    (said : Option Via) × IsOnlyValue FirstVia element text said × (is ≡ is_some said) × (new ≡ option_or old said)

@@ -81,6 +81,15 @@ map-or : {A X : Type 0} (parts : A → X) (o p : Option A) → option_map parts 
 map-or parts None p = refl
 map-or parts (Some a) p = refl
 
+-- what is kept already stays, and else what is said is kept
+pub or-kept : {X : Type 0} (o p : Option X) → is_some o ≡ true → o ≡ option_or o p
+or-kept None p some = absurd (false≢true some)
+or-kept (Some x) p some = refl
+
+pub or-none : {X : Type 0} (o p : Option X) → is_some o ≡ false → p ≡ option_or o p
+or-none None p none = refl
+or-none (Some x) p none = absurd (false≢true (sym none))
+
 -- a Via
 pub asks-via : (f : Field) (a : Asked) (r via : Option Via) (b : Bool) → f.name ≡ known known_name.Via → b ≡ is_some r → IsOnlyValue FirstVia element f.value r → via ≡ option_or a.via r → IsTrue b
     → AsksMore f a (record { via = via; from = a.from; to = a.to; call_id = a.call_id; cseq = a.cseq; content_length = a.content_length })

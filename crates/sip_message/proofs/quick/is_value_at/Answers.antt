@@ -14,12 +14,13 @@ pub returns-in-Known-Via-clause-row : goal.returns-in-Known-Via-clause-row
 returns-in-Known-Via-clause-row c = λ so.
     let value = segment c.args.at c.args.end c.args.masks.now in
     let named : name_parts c.args.name ≡ known known_name.Via = ap name_parts c.in-Known-Via.is ∙ ap known (rw c.in-Known-Via.is at c.in-Known-Via.field-0-is) in
-    subst (λ n. Row n value) (sym named) ((via-row value c.via_at.result c.keep.result c.keep.ensures.says c.via_at.ensures).0 so)
+    subst (λ n. Row n value) (sym named) (let kept = c.keep_via.ensures in (via-row value kept.0 c.keep_via.result kept.2.0 kept.1).0 so)
 
 pub returns-in-Known-Via-clause-asked : goal.returns-in-Known-Via-clause-asked
 returns-in-Known-Via-clause-asked c =
     let named : name_parts c.args.name ≡ known known_name.Via = ap name_parts c.in-Known-Via.is ∙ ap known (rw c.in-Known-Via.is at c.in-Known-Via.field-0-is) in
-    asks-via _ _ c.via_at.result _ c.keep.result named c.keep.ensures.says c.via_at.ensures c.keep.ensures.kept
+    let kept = c.keep_via.ensures in
+    asks-via _ _ kept.0 _ c.keep_via.result named kept.2.0 kept.1 kept.2.1
 
 pub returns-in-Known-From-clause-row : goal.returns-in-Known-From-clause-row
 returns-in-Known-From-clause-row c = λ so.

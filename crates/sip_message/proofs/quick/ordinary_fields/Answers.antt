@@ -27,7 +27,7 @@ lines-smaller c = omega (arith, c.in-Some.ensures.line.0, c.in-Some.ensures.line
 pub lines-preserved : goal.lines-preserved
 lines-preserved c =
     let before = fields_parts c.lines.fields in
-    let more = c.in_ok-push_ordinary.ensures c.if-not-push_ordinary.false in (
+    let more = c.in_ok-push_ordinary.ensures c.if-not-branch.false in (
       subst (LinesSoFar c.args.masks.now c.args.from (c.in-Some.end + 2)) (sym more.pushed)
           (so_far-more c.args.masks.now c.args.from c.lines.at c.in-Some.end before more.field c.lines.invariant.0 c.in-Some.ensures.line.1 c.in-Some.ensures.line.2 c.in-Some.ensures.line.3 more.is),
       subst (λ fs. AskedOf fs c.push_ordinary.new.asked) (sym more.pushed) (more.asks before c.lines.invariant.1),

@@ -1,4 +1,4 @@
-use Rattle.std.proofs.Common.{◌≡◌, ◌+◌, ◌-◌, ◌<◌, ◌∷◌, ◌++◌, [], map, take, drop, get_or, sym, ap, ◌∙◌, subst, arith}
+use Rattle.std.proofs.Common.{◌≡◌, ℕ, ◌+◌, ◌-◌, ◌<◌, List, [], ◌∷◌, ◌++◌, map, take, drop, get_or, sym, ap, ◌∙◌, subst, arith}
 use Rattle.std.proofs.lemmas.List.{take_rest, map-append}
 use Rattle.sip_text.specs.Bytes.{colon}
 use Rattle.sip_text.specs.Grammar.{Token}
@@ -39,16 +39,15 @@ returns c = λ _.
     let spelled : name_parts c.quick_name-name.result ≡ name_of (take n (drop c.args.at c.text-text.result.now)) =
     c.quick_name-name.ensures ∙ ap (λ t. name_of (take n t)) (take_rest c.text-text.result.now c.args.at) in
     let name_is : name_parts c.quick_name-name.result ≡ name_of (take n (drop c.args.at m)) = spelled ∙ ap (λ t. name_of (take n (drop c.args.at t))) same in
-    let field : Field = record { name = name_parts c.quick_name-name.result; value = segment from end m } in
-    let field_is = ap (λ t. fields_parts c.args.fields.now ++ (record { name = name_parts c.quick_name-name.result; value = segment from end t }) ∷ []) same in
+    let made : List ℕ → Field = λ value. record { name = name_parts c.quick_name-name.result; value = value } in
     record {
-      field = field;
+      field = made (segment from end m);
       is = record {
         rest = segment (c.args.at + n + 1) end m;
         named = subst (λ name. NameText (segment c.args.at end m) name (segment (c.args.at + n + 1) end m)) (sym name_is) named;
         valued = subst (λ t. ValueText (segment (c.args.at + n + 1) end t) (segment from end t)) same c.in-Some.ensures.value;
-        row = c.is_value_at.ensures.row refl;
+        row = c.is_value_at.ensures.row c.if-not-is_value_at.false;
       };
-      pushed = ap (map field_parts) c.in_default-push.ensures.items ∙ map-append field_parts c.args.fields.now.items _ ∙ field_is;
-      asks = c.is_value_at.ensures.asked refl;
+      pushed = ap (map field_parts) c.in_default-push.ensures.items ∙ map-append field_parts c.args.fields.now.items _ ∙ ap (λ t. fields_parts c.args.fields.now ++ made (segment from end t) ∷ []) same;
+      asks = c.is_value_at.ensures.asked c.if-not-is_value_at.false;
     }

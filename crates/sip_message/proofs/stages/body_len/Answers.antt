@@ -12,8 +12,8 @@ use Rattle.sip_message.specs.ViaParts.{element}
 use Rattle.sip_message.proofs.lemmas.message.Body.{stream-first, body-all, body-cut, body-whole}
 use Rattle.sip_message.proofs.stages.body_len.Goals as goal
 
-pub returns-in_default-else-is_stream : goal.returns-in_default-else-is_stream
-returns-in_default-else-is_stream c = (omega arith, λ v cseq first said.
+pub returns-else-is_stream : goal.returns-else-is_stream
+returns-else-is_stream c = (omega arith, λ v cseq first said.
     let len = option_map (digits_value 10) (option_copied c.args.content_length) in
     let all = body-all (start_parts c.args.start.now) cseq (v.1) len c.args.rest.now ((c.if-not-fits_method.ensures (cseq.1) said).0 refl) (ap (λ o. option_map (digits_value 10) (option_copied o)) c.in_default.is)
         (λ stream. both_ways false refl ((stream-first (v.1) (element c.args.via.now) _ first c.if-is_stream.ensures).1 stream)) in
@@ -25,8 +25,8 @@ returns-then-len-rest c = (omega (arith, c.if-len-rest.true), λ v cseq first sa
     let all = body-whole (start_parts c.args.start.now) cseq (v.1) len c.args.rest.now c.in_ok-len.len (ap (λ o. option_map (digits_value 10) (option_copied o)) c.in-Some.is ∙ ap (λ n. Some n) (sym c.in_ok-len.ensures.0)) ((c.if-not-fits_method.ensures (cseq.1) said).0 refl) c.if-len-rest.true in
     subst (λ b. BodyOf (start_parts c.args.start.now) cseq (v.1) len c.args.rest.now (gives b)) (sym (ap (λ n. take n c.args.rest.now) c.if-len-rest.true ∙ take-length c.args.rest.now)) all)
 
-pub returns-else-is_stream : goal.returns-else-is_stream
-returns-else-is_stream c = (c.in_ok-len.ensures.1, λ v cseq first said.
+pub returns-else-is_stream-2 : goal.returns-else-is_stream-2
+returns-else-is_stream-2 c = (c.in_ok-len.ensures.1, λ v cseq first said.
     let len = option_map (digits_value 10) (option_copied c.args.content_length) in
     body-cut (start_parts c.args.start.now) cseq (v.1) len c.args.rest.now c.in_ok-len.len (ap (λ o. option_map (digits_value 10) (option_copied o)) c.in-Some.is ∙ ap (λ n. Some n) (sym c.in_ok-len.ensures.0)) ((c.if-not-fits_method.ensures (cseq.1) said).0 refl)
     c.in_ok-len.ensures.1 (λ stream. both_ways false refl ((stream-first (v.1) (element c.args.via.now) _ first c.if-is_stream-2.ensures).1 stream)))

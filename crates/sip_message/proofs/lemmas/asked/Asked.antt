@@ -1,5 +1,5 @@
 -- What is kept of the fields that are asked for, one field after another.
-use Rattle.std.proofs.Common.{◌≡◌, ℕ, ◌+◌, Bool, true, false, List, [], ◌∷◌, ◌++◌, cond, length, Option, None, Some, option_copied, ◌⊎◌, inl, inr, refl, sym, ap, ◌∙◌, subst}
+use Rattle.std.proofs.Common.{◌≡◌, ℕ, ◌+◌, Bool, true, false, List, [], ◌∷◌, ◌++◌, cond, length, Option, None, Some, option_copied, refl, sym, ap, ◌∙◌, subst}
 use Rattle.std.specs.Prelude.{IsTrue, IsSome, IfSome, is_some}
 use Rattle.std.specs.Borrow.{Bor}
 use Rattle.std.specs.List.{AllByRecursion}
@@ -27,11 +27,11 @@ use Rattle.sip_message.proofs.lemmas.asked.Parts.{row-of, first-value}
 -- what is found with a further field
 found-more : (n : ℕ) (k : Known) (fields : List Field) (f : Field) → (line : ℕ) × (found_from n k (fields ++ f ∷ []) ≡ found_from n k fields ++ found_from line k (f ∷ []))
 found-more n k [] f = (n, refl)
-found-more n k (g ∷ fields) f = let later = found-more (n + 1) k fields f in (later.0, at (is_name_of k g.name) later.1)
+found-more n k (g ∷ fields) f = let later = found-more (n + 1) k fields f in (later.0, at (is_name_of k g.name) _ _ _ later.1)
   where
-    at : (b : Bool) {xs ys zs : List (ℕ × List ℕ)} → xs ≡ ys ++ zs → cond b ((n, g.value) ∷ xs) xs ≡ cond b ((n, g.value) ∷ ys) ys ++ zs
-    at true is = ap (λ t. (n, g.value) ∷ t) is
-    at false is = is
+    at : (b : Bool) (xs ys zs : List (ℕ × List ℕ)) → xs ≡ ys ++ zs → cond b ((n, g.value) ∷ xs) xs ≡ cond b ((n, g.value) ∷ ys) ys ++ zs
+    at true xs ys zs is = ap (λ t. (n, g.value) ∷ t) is
+    at false xs ys zs is = is
 
 module _ {X : Type 0} (R : List ℕ → X → Type 0) (k : Known) (fields : List Field) (f : Field) where
   -- a field of another name
@@ -173,11 +173,6 @@ copied-one k fields o text is so = subst (λ p. OnceSays Itself k fields (option
 pub first-one : {A X : Type 0} (R : List ℕ → X → Type 0) (k : Known) (fields : List Field) (parts : A → X) (o : Option A) (a : A) → o ≡ Some a → FirstSays R k fields (option_map parts o)
     → (one : ℕ × List ℕ) × IsFirstFound k fields one × R (one.1) (parts a)
 first-one R k fields parts o a is so = subst (λ p. FirstSays R k fields (option_map parts p)) is so
-
--- a name that stands at most once
-pub few-said : (k : Known) (fields : List Field) (o : Option (List ℕ)) → OnceSays Itself k fields o → (found k fields ≡ []) ⊎ ((one : ℕ × List ℕ) × (found k fields ≡ one ∷ []))
-few-said k fields None none = inl none
-few-said k fields (Some x) (one, is, says) = inr (one, is)
 
 -- the value of Content-Length is digits, and the length is what they write
 pub said-digits : (fields : List Field) (o : Option (List ℕ)) → AllByRecursion (λ f. Row f.name f.value) fields → OnceSays Itself known_name.ContentLength fields o → IfSome o Digits

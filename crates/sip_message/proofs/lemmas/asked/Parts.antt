@@ -14,7 +14,6 @@ use Rattle.sip_message.specs.Name.{FieldName, known, other, name_of, long_name, 
 use Rattle.sip_message.specs.Field.{Field, Row}
 use Rattle.sip_message.specs.Message.{Message, found_from, length_in, content_length, IsFirstFound, MessageText}
 use Rattle.sip_message.specs.Values.{Digits}
-use Rattle.sip_message.specs.inner.Stages.{IsLength}
 use Rattle.sip_message.specs.Elements.{Element, MoreElements, ElementsText, AreElements, values}
 use Rattle.sip_message.specs.Reading.{IsValueOf, Parts, HasParts}
 use Rattle.sip_message.proofs.lemmas.canon.Law.{fields-rows}
@@ -114,12 +113,3 @@ has-parts bytes m text =
         cseq = (text.fits.cseq.0.1, cseq, cseq_row.2);
       },
     )
-
--- the value of Content-Length is digits, and the length is what they write
-pub length-digits : (fs : List Field) (length : Option (Bor (List ℕ))) → AllByRecursion (λ f. Row f.name f.value) fs → IsLength fs length → IfSome (option_copied length) Digits
-length-digits fs None rows is = tt
-length-digits fs (Some digits) rows is = row-of known_name.ContentLength fs digits.now rows (first-value known_name.ContentLength fs (is.0, digits.now) is.1)
-
-pub length-is : (fs : List Field) (length : Option (Bor (List ℕ))) → IsLength fs length → option_map (digits_value 10) (option_copied length) ≡ content_length fs
-length-is fs None is = ap length_in (sym is)
-length-is fs (Some digits) is = ap length_in (sym is.1.1)

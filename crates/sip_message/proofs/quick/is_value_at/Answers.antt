@@ -14,13 +14,13 @@ pub returns-in-Known-Via-clause-row : goal.returns-in-Known-Via-clause-row
 returns-in-Known-Via-clause-row c = λ so.
     let value = segment c.args.at c.args.end c.args.masks.now in
     let named : name_parts c.args.name ≡ known known_name.Via = ap name_parts c.in-Known-Via.is ∙ ap known (rw c.in-Known-Via.is at c.in-Known-Via.field-0-is) in
-    subst (λ n. Row n value) (sym named) (let kept = c.keep_via.ensures in (via-row value kept.0 c.keep_via.result kept.2.0 kept.1).0 so)
+    subst (λ n. Row n value) (sym named) (let kept = c.keep_via.ensures in (via-row value kept.0 c.keep_via.result kept.2 kept.1).0 so)
 
 pub returns-in-Known-Via-clause-asked : goal.returns-in-Known-Via-clause-asked
 returns-in-Known-Via-clause-asked c =
     let named : name_parts c.args.name ≡ known known_name.Via = ap name_parts c.in-Known-Via.is ∙ ap known (rw c.in-Known-Via.is at c.in-Known-Via.field-0-is) in
     let kept = c.keep_via.ensures in
-    asks-via _ _ kept.0 _ c.keep_via.result named kept.2.0 kept.1 kept.2.1
+    asks-via _ _ kept.0 _ c.keep_via.result named kept.2 kept.1 kept.3
 
 pub returns-in-Known-From-clause-row : goal.returns-in-Known-From-clause-row
 returns-in-Known-From-clause-row c = λ so.
@@ -92,7 +92,7 @@ returns-in_default-clause-asked c = λ _.
     let call_id : is_name_of known_name.CallId name ≡ false = search rules in
     let cseq : is_name_of known_name.CSeq name ≡ false = search rules in
     let content_length : is_name_of known_name.ContentLength name ≡ false = search rules in
-    asks-other _ _ (via, (from, (to, (call_id, (cseq, content_length)))))
+    asks-other _ _ (via, from, to, call_id, cseq, content_length)
 
 pub returns-in_default-2-clause-row : goal.returns-in_default-2-clause-row
 returns-in_default-2-clause-row c = λ _.
@@ -108,4 +108,4 @@ returns-in_default-2-clause-asked c = λ _.
     let call_id : is_name_of known_name.CallId name ≡ false = search rules in
     let cseq : is_name_of known_name.CSeq name ≡ false = search rules in
     let content_length : is_name_of known_name.ContentLength name ≡ false = search rules in
-    asks-other _ _ (via, (from, (to, (call_id, (cseq, content_length)))))
+    asks-other _ _ (via, from, to, call_id, cseq, content_length)

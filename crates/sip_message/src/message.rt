@@ -96,16 +96,7 @@ impl<'a> Message<'a> {
         let Some(len) = body_len(&start, &via, &cseq, asked.content_length, rest) else {
             return Message::whole(alloc, bytes);
         };
-        Ok(Message::new(
-            start,
-            fields,
-            &rest[..len],
-            via,
-            from,
-            to,
-            call_id,
-            cseq,
-        ))
+        Ok(Message::new(start, fields, &rest[..len], via, from, to, call_id, cseq))
     }
 
     // The same for any message.

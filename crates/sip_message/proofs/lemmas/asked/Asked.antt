@@ -1,5 +1,5 @@
 -- What is kept of the fields that are asked for, one field after another.
-use Rattle.std.proofs.Common.{◌≡◌, ℕ, ◌+◌, Bool, true, false, List, [], ◌∷◌, ◌++◌, cond, length, Option, None, Some, option_copied, refl, sym, ap, ◌∙◌, subst}
+use Rattle.std.proofs.Common.{◌≡◌, ℕ, ◌+◌, Bool, true, false, List, [], ◌∷◌, ◌++◌, cond, Option, None, Some, option_copied, refl, sym, ap, ◌∙◌, subst}
 use Rattle.std.specs.Prelude.{IsTrue, IsSome, IfSome, is_some}
 use Rattle.std.specs.Borrow.{Bor}
 use Rattle.std.specs.List.{AllByRecursion}
@@ -21,7 +21,7 @@ use Rattle.sip_message.specs.Values.{Digits}
 use Rattle.sip_message.specs.ViaParts.{element}
 use Rattle.sip_message.specs.ValueParts.{cseq_parts}
 use Rattle.sip_message.specs.inner.ElementFronts.{FirstVia}
-use Rattle.sip_message.specs.inner.Asked.{OnceSays, FirstSays, Itself, AskedOf, AsksMore}
+use Rattle.sip_message.specs.inner.Asked.{OnceSays, FirstSays, Itself, AsksMore}
 use Rattle.sip_message.proofs.lemmas.asked.Parts.{row-of, first-value}
 
 -- what is found with a further field

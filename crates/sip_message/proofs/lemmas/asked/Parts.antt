@@ -1,10 +1,6 @@
 -- A message has parts: its fields are of their rows.
-use Rattle.std.proofs.Common.{◌≡◌, ℕ, ◌+◌, Bool, true, false, List, [], ◌∷◌, ◌++◌, Option, None, Some, option_copied, map, cond, refl, sym, ap, ◌∙◌, subst}
-use Rattle.std.specs.Prelude.{IfSome}
-use Rattle.std.specs.Borrow.{Bor}
+use Rattle.std.proofs.Common.{◌≡◌, ℕ, ◌+◌, Bool, true, false, List, [], ◌∷◌, ◌++◌, map, cond, refl, sym, ap, ◌∙◌, subst}
 use Rattle.std.specs.List.{AllByRecursion}
-use Rattle.std.specs.Option.{option_map}
-use Rattle.std.specs.Str.Parse.{digits_value}
 use Rattle.std.proofs.lemmas.Slice.Eq.{bytes_eq-Decides}
 use Rattle.std.proofs.lemmas.Bool.{both_ways}
 use Rattle.sip_message.specs.declared.name.Known.{Known}
@@ -12,8 +8,7 @@ use Rattle.sip_message.specs.declared.name.Known.TheVariants as known_name
 use Rattle.sip_message.specs.Via.{ViaParts, MoreVias}
 use Rattle.sip_message.specs.Name.{FieldName, known, other, name_of, long_name, is_name_of}
 use Rattle.sip_message.specs.Field.{Field, Row}
-use Rattle.sip_message.specs.Message.{Message, found_from, length_in, content_length, IsFirstFound, MessageText}
-use Rattle.sip_message.specs.Values.{Digits}
+use Rattle.sip_message.specs.Message.{Message, found_from, IsFirstFound, MessageText}
 use Rattle.sip_message.specs.Elements.{Element, MoreElements, ElementsText, AreElements, values}
 use Rattle.sip_message.specs.Reading.{IsValueOf, Parts, HasParts}
 use Rattle.sip_message.proofs.lemmas.canon.Law.{fields-rows}

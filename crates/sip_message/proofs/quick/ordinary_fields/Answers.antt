@@ -1,4 +1,4 @@
-use Rattle.std.proofs.Common.{◌≡◌, ◌+◌, ◌++◌, ◌∷◌, [], map, sym, ap, subst, arith}
+use Rattle.std.proofs.Common.{◌+◌, map, sym, ap, subst, arith}
 use Rattle.sip_message.specs.Views.{field_parts, fields_parts}
 use Rattle.sip_message.specs.inner.Asked.{AskedOf}
 use Rattle.sip_message.proofs.QuickLemmas.{LinesSoFar, so_far-none, so_far-more, so_far-all}

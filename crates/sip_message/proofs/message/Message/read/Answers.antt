@@ -1,4 +1,4 @@
-use Rattle.std.proofs.Common.{take, option_copied, refl}
+use Rattle.std.proofs.Common.{option_copied}
 use Rattle.sip_message.specs.Views.{fields_parts}
 use Rattle.sip_message.specs.ValueParts.{cseq_parts}
 use Rattle.sip_message.specs.ViaParts.{element}
@@ -20,7 +20,7 @@ new-requires c =
     let h = rw c.in-Some.is at c.in_ok-start.ensures.head in
     let of = rw c.in-Some.is at c.in_ok-start.ensures.asked in
     let whole = ordinary-whole c.in-Some.start c.read_ordinary.new.asked c.unwrap-via.result c.unwrap-from.result c.unwrap-to.result c.unwrap-call_id.result c.unwrap-cseq.result h of
-        c.unwrap-via.ensures c.unwrap-from.ensures c.unwrap-to.ensures c.unwrap-call_id.ensures c.unwrap-cseq.ensures c.in-Some-body_len.ensures.1 in
+    c.unwrap-via.ensures c.unwrap-from.ensures c.unwrap-to.ensures c.unwrap-call_id.ensures c.unwrap-cseq.ensures c.in-Some-body_len.ensures.1 in
     found-keeps (element c.unwrap-via.result) (cseq_parts c.unwrap-cseq.result) whole.found whole.says_via whole.says_cseq
 
 pub returns : goal.returns
@@ -28,5 +28,5 @@ returns c =
     let h = rw c.in-Some.is at c.in_ok-start.ensures.head in
     let of = rw c.in-Some.is at c.in_ok-start.ensures.asked in
     let whole = ordinary-whole c.in-Some.start c.read_ordinary.new.asked c.unwrap-via.result c.unwrap-from.result c.unwrap-to.result c.unwrap-call_id.result c.unwrap-cseq.result h of
-        c.unwrap-via.ensures c.unwrap-from.ensures c.unwrap-to.ensures c.unwrap-call_id.ensures c.unwrap-cseq.ensures c.in-Some-body_len.ensures.1 in
+    c.unwrap-via.ensures c.unwrap-from.ensures c.unwrap-to.ensures c.unwrap-call_id.ensures c.unwrap-cseq.ensures c.in-Some-body_len.ensures.1 in
     found-reads c.new.result whole.found c.new.ensures.message c.new.ensures.parts

@@ -79,4 +79,4 @@ IsAgendaOf limit set = OfSet (λ X M S m s. HasAgenda m limit s) set
 
 -- the set that a key starts with
 abbrev pub start_of : Times → KeyParts → AnySet
-start_of p key = start_of_machine p (machine_of_key key)
+start_of p key = start_of_machine p (machine_of_key p.rules key)

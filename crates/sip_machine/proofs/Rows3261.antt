@@ -14,7 +14,7 @@ use Rattle.sip_machine.specs.Times.{Times}
 use Rattle.sip_machine.specs.Texts.{Texts}
 use Rattle.sip_machine.specs.MachineEvent.{MachineEvent}
 use Rattle.sip_machine.specs.Message.{IsSuccess}
-use Rattle.sip_machine.specs.Told.{field_message, told_field}
+use Rattle.sip_machine.specs.Told.{field_message, field_of_code}
 use Rattle.sip_machine.specs.Figure.{After, drops}
 use Rattle.sip_machine.specs.InviteClient as client
 use Rattle.sip_machine.specs.InviteClient.{InviteClientPhase, Ended, Calling, Proceeding}
@@ -104,10 +104,10 @@ sent-within p texts x again code k e answer is other one =
     (option_map (turn_within again) answer) (within-one texts Row again answer here))
 
 -- a field that names no message, behind others
-pub messages-behind : (fields : List CodeField) (field : CodeField) → field_message (told_field field) ≡ None →
-    filter_map field_message (map told_field (fields ++ field ∷ [])) ≡ filter_map field_message (map told_field fields)
+pub messages-behind : (fields : List CodeField) (field : CodeField) → field_message (field_of_code field) ≡ None →
+    filter_map field_message (map field_of_code (fields ++ field ∷ [])) ≡ filter_map field_message (map field_of_code fields)
 messages-behind fields field silent =
-    ap (filter_map field_message) (map-append told_field fields (field ∷ []))
-    ∙ filter_map-append field_message (map told_field fields) (told_field field ∷ [])
-    ∙ ap (λ o. filter_map field_message (map told_field fields) ++ cons_option o []) silent
-    ∙ append-nil (filter_map field_message (map told_field fields))
+    ap (filter_map field_message) (map-append field_of_code fields (field ∷ []))
+    ∙ filter_map-append field_message (map field_of_code fields) (field_of_code field ∷ [])
+    ∙ ap (λ o. filter_map field_message (map field_of_code fields) ++ cons_option o []) silent
+    ∙ append-nil (filter_map field_message (map field_of_code fields))

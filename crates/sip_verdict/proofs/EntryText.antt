@@ -87,7 +87,7 @@ module _ (number : List ℕ → ℕ) (texts : Texts) (tells : TellsBook number t
           placed = subst (λ ks. IsFirst (λ k. same_key key k ≡ true) ks n) (sym (keys_are t long) ∙ judged.0.keys)
               (subst (IsFirst (λ k. same_key key k ≡ true) t.keys) count (first_place t.keys apart (n - 1) key at));
           lines = lines;
-          states = standing_lines number texts p (machine_of_key key) (events_of (key_machines p) key es) e.event set lines (stands concerned)
+          states = standing_lines number texts p (machine_of_key p.rules key) (events_of (key_machines p) key es) e.event set lines (stands concerned)
               (told_set number texts tells set (All-place (IsKnownSet texts) t.sets (n - 1) set set_at known)) lists;
           whole = refl;
         },

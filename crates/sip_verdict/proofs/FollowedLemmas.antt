@@ -58,11 +58,11 @@ more_named : {K : Type 0} (m : Machines K) (messages : (key : K) → m.State key
 more_named m messages es e count w = record { front = w.front; rest = w.rest ++ e ∷ []; whole = ap (λ xs. xs ++ e ∷ []) w.whole ∙ append_assoc w.front w.rest (e ∷ []); many = w.many }
 
 -- no message is named before the first entry
-none_named : (p : Times) → AreMany (IsNamed (key_machines p) key_messages []) 0
+none_named : (p : Times) → AreMany (IsNamed (key_machines p) (key_messages p) []) 0
 none_named p = record {
   texts = [];
   distinct = λ i j d lt low. absurd (omega (arith, low));
-  just = λ text. (λ h. absurd (Contains-none text h), λ h. absurd (no_events_silent p 0 (machine_of_key h.key) [] text refl (h.state, h.stands, h.names)));
+  just = λ text. (λ h. absurd (Contains-none text h), λ h. absurd (no_events_silent p 0 (machine_of_key p.rules h.key) [] text refl (h.state, h.stands, h.names)));
   counts = refl;
 }
 
@@ -87,7 +87,7 @@ pub followed_none : (p : Times) (texts : Texts) (t : Tabled) → texts ≡ [] �
 followed_none p texts t none empty =
     subst (λ b. AreFollowed b t 0 []) (sym none) (subst (λ u. AreFollowed [] u 0 []) (sym empty) (record {
       tracks = tracks_none (key_machines p) (key_keeping [] p);
-      named = now_named (key_machines p) key_messages [] 0 (none_named p);
+      named = now_named (key_machines p) (key_messages p) [] 0 (none_named p);
       few = omega arith;
     }))
 
@@ -113,14 +113,14 @@ module _ (old mid : Texts) (t u : Tabled) (times : u.times ≡ t.times) (number 
         h.1,
         record {
           tracks = tracks_on es h.0 h.2;
-          named = subst (λ p. WereNamed (key_machines p) key_messages (es ++ h.0 ∷ []) left) (sym times) (more_named (key_machines t.times) key_messages es h.0 left follows.named);
+          named = subst (λ p. WereNamed (key_machines p) (key_messages p) (es ++ h.0 ∷ []) left) (sym times) (more_named (key_machines t.times) (key_messages t.times) es h.0 left follows.named);
           few = few;
         },
       )
 
   -- it is not, and messages were forgotten
   pub followed_swept : Says None → (texts : Texts) (v : Tabled) → v.times ≡ u.times → ((es : List (Observation KeyParts)) → TablesTrack mid es u → TablesTrack texts es v)
-      → ((es : List (Observation KeyParts)) → TablesTrack mid es u → newest_moment es ≡ i.moment → AreMany (IsNamed (key_machines u.times) key_messages es) (length texts))
+      → ((es : List (Observation KeyParts)) → TablesTrack mid es u → newest_moment es ≡ i.moment → AreMany (IsNamed (key_machines u.times) (key_messages u.times) es) (length texts))
       → (now : ℕ) → now ≡ length texts → (left : ℕ) (es : List (Observation KeyParts)) → AreFollowed old t left es → number ≡ length es + 1
       → (e : Observation KeyParts) × message_reading.Observes es i e × AreFollowedOn texts v now es e None
   followed_swept says texts v same tracks named now is left es follows counts =
@@ -131,8 +131,8 @@ module _ (old mid : Texts) (t u : Tabled) (times : u.times ≡ t.times) (number 
         h.1,
         record {
           tracks = tracks (es ++ h.0 ∷ []) on;
-          named = subst (λ n. WereNamed (key_machines v.times) key_messages (es ++ h.0 ∷ []) n) (sym is)
-              (subst (λ p. WereNamed (key_machines p) key_messages (es ++ h.0 ∷ []) (length texts)) (sym same) (now_named (key_machines u.times) key_messages (es ++ h.0 ∷ []) (length texts) many));
+          named = subst (λ n. WereNamed (key_machines v.times) (key_messages v.times) (es ++ h.0 ∷ []) n) (sym is)
+              (subst (λ p. WereNamed (key_machines p) (key_messages p) (es ++ h.0 ∷ []) (length texts)) (sym same) (now_named (key_machines u.times) (key_messages u.times) (es ++ h.0 ∷ []) (length texts) many));
           few = omega (arith, is);
         },
       )

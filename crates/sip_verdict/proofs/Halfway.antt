@@ -105,9 +105,9 @@ module _ (texts : Texts) (p : Times) (es : List (Observation KeyParts)) (e : Obs
     left : IsPassed m k es e (mine.0, own.after) fate
     left =
         own_passed m k es e (mine.0, own.after) before.0 fate
-        (subst (λ f. IsStepped (key_rules p (machine_of_key mine.0)) (events_of m mine.0 es) f (λ fs. LeadsOf texts p (machine_of_key mine.0) fs own.after)
-        (λ f. StandsOf texts p (machine_of_key mine.0) (events_of m mine.0 es) f own.after) fate) (sym (is_event place mine.0 mine.1))
-        (own.stepped p (machine_of_key mine.0) (events_of m mine.0 es) before.1))
+        (subst (λ f. IsStepped (key_rules p (machine_of_key p.rules mine.0)) (events_of m mine.0 es) f (λ fs. LeadsOf texts p (machine_of_key p.rules mine.0) fs own.after)
+        (λ f. StandsOf texts p (machine_of_key p.rules mine.0) (events_of m mine.0 es) f own.after) fate) (sym (is_event place mine.0 mine.1))
+        (own.stepped p (machine_of_key p.rules mine.0) (events_of m mine.0 es) before.1))
 
     mine_is : (n : ℕ) (key : KeyParts) → slice_get keys n ≡ Some key → n ≡ place → mine.0 ≡ key
     mine_is n key at same = let both : Some mine.0 ≡ Some key = sym mine.1 ∙ ap (slice_get keys) (sym same) ∙ at in cc
@@ -172,7 +172,7 @@ module _ (texts : Texts) (p : Times) (es : List (Observation KeyParts)) (e : Obs
     (recorded : AreOnRecord (hearers hearing) t) (told : AreTold texts t.keys moment hearing e) (ready : All (IsReady (key_machines p) (key_keeping texts p) es) (transactions_of t)) where
   -- a key, its set and its last moment on record
   module _ (n : ℕ) (key : KeyParts) (s : AnySet) (at : slice_get t.keys n ≡ Some key) (here : slice_get t.sets n ≡ Some s) where
-    leads : LeadsOf texts p (machine_of_key key) (events_of (key_machines p) key es) s
+    leads : LeadsOf texts p (machine_of_key p.rules key) (events_of (key_machines p) key es) s
     leads = All-place (IsReady (key_machines p) (key_keeping texts p) es) (transactions_of t) n (key, s) (zip-place t.keys t.sets n key s at here) ready
 
     low : moment_of s ≤ moment
@@ -186,16 +186,16 @@ module _ (texts : Texts) (p : Times) (es : List (Observation KeyParts)) (e : Obs
     late : (r : Option (Option ℕ)) → slice_get t.records n ≡ Some r → is_overdue moment r ≡ true → ¬ HasRun (key_machines p) key (es ++ e ∷ [])
     late None on is = absurd (false≢true is)
     late (Some limit) on is = λ run.
-        overdue_none texts p (machine_of_key key) (events_of (key_machines p) key es) s leads limit (recorded.each n s (Some limit) here on) moment low is
-        (subst (RunsUntil (key_rules p (machine_of_key key)) (events_of (key_machines p) key es)) at_moment (run_still (key_machines p) (key_keeping texts p) es e (key, s) run))
+        overdue_none texts p (machine_of_key p.rules key) (events_of (key_machines p) key es) s leads limit (recorded.each n s (Some limit) here on) moment low is
+        (subst (RunsUntil (key_rules p (machine_of_key p.rules key)) (events_of (key_machines p) key es)) at_moment (run_still (key_machines p) (key_keeping texts p) es e (key, s) run))
 
     -- and up to it, it goes on
     in_time : (r : Option (Option ℕ)) → slice_get t.records n ≡ Some r → is_overdue moment r ≡ false → is_among (hearers hearing) (n + 1) ≡ false → GoesOn (key_machines p) (key_keeping texts p) es e (key, s)
     in_time None on is other = absurd (false≢true (sym other ∙ recorded.each n s None here on))
     in_time (Some limit) on is other =
         other_passed (key_machines p) (key_keeping texts p) es e (key, s) ((told n key at).concerned p ∙ other)
-        (subst (RunsUntil (key_rules p (machine_of_key key)) (events_of (key_machines p) key es)) (sym at_moment)
-        (in_time_some texts p (machine_of_key key) (events_of (key_machines p) key es) s leads limit (recorded.each n s (Some limit) here on) moment low is)) leads
+        (subst (RunsUntil (key_rules p (machine_of_key p.rules key)) (events_of (key_machines p) key es)) (sym at_moment)
+        (in_time_some texts p (machine_of_key p.rules key) (events_of (key_machines p) key es) s leads limit (recorded.each n s (Some limit) here on) moment low is)) leads
 
   -- each key has a set and a place for its last moment
   set_of_key : (n : ℕ) (key : KeyParts) → slice_get t.keys n ≡ Some key → (s : AnySet) × (slice_get t.sets n ≡ Some s)

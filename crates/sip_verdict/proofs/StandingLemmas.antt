@@ -72,7 +72,7 @@ module _ (old new : Texts) (number : ℕ) (bytes : List ℕ) where
     -- a transaction leads to the same
     ready_more : (t : KeyParts × AnySet) → IsReady (key_machines p) (key_keeping old p) es t → IsReady (key_machines p) (key_keeping (old ++ (number, bytes) ∷ []) p) es t
     ready_more t (s, is, leads) =
-        let machine = machine_of_key t.0 in
+        let machine = machine_of_key p.rules t.0 in
         let m = meaning_of machine in (
           s,
           is,

@@ -60,12 +60,12 @@ touches_few (k ∷ ks) (n ∷ ns) old new (between, one, rest) =
 -- a set starts at moment 0, and names no message
 start_at : (p : Times) (key : KeyParts) → moment_of (start_of p key) ≡ 0
 start_at p key =
-    let machine = machine_of_key key in
+    let machine = machine_of_key p.rules key in
     ap moment_of (start_is p machine) ∙ moment_is machine (record { machine = p; moment = 0; states = first_of machine ∷ [] })
 
 start_known : (texts : Texts) (p : Times) (key : KeyParts) → IsKnownSet texts (start_of p key)
 start_known texts p key =
-    let machine = machine_of_key key in
+    let machine = machine_of_key p.rules key in
     subst (IsKnownSet texts) (sym (start_is p machine))
     (to_set (λ X M S m s. IsKnown m texts s) machine (record { machine = p; moment = 0; states = first_of machine ∷ [] })
     (known_one machine))
@@ -131,9 +131,9 @@ keys_exact p a b = same_key-decides a b
 
 module _ (texts : Texts) (p : Times) where
   -- a new key's set leads to the runs over no event
-  starts : (key : KeyParts) → LeadsOf texts p (machine_of_key key) [] (start_of p key)
+  starts : (key : KeyParts) → LeadsOf texts p (machine_of_key p.rules key) [] (start_of p key)
   starts key =
-      let machine = machine_of_key key in
+      let machine = machine_of_key p.rules key in
       let m = meaning_of machine in (
         record { machine = p; moment = 0; states = first_of machine ∷ [] },
         start_is p machine,

@@ -24,7 +24,7 @@ use Rattle.sip_verdict.specs.Reading.{EntryReading}
 
 -- keys are equal by their parts, and each has the machine of its role and method, RFC 3261 section 17
 abbrev pub key_machines : Times → Machines KeyParts
-key_machines p = record { same = same_key; State = λ key. PhaseOf (machine_of_key key); rules = λ key. key_rules p (machine_of_key key) }
+key_machines p = record { same = same_key; State = λ key. PhaseOf (machine_of_key p.rules key); rules = λ key. key_rules p (machine_of_key p.rules key) }
 
 -- which way the message of an entry went: one whose send was refused was on its way out, and a mark has none
 abbrev pub direction_of : Action → Option Direction

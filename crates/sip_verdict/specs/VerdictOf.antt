@@ -32,13 +32,13 @@ events_for key es = map (λ e. e.event) (filter (λ e. list_any (same_key key) e
 -- the key has a run over the entries, by the machine of its role and method (RFC 3261 section 17), which waits until the newest
 abbrev pub RunsOver : Times → List (Observation KeyParts) → KeyParts → Type 0
 RunsOver p es key =
-    let key_machine = transaction_of (machine_of_key key) in
+    let key_machine = transaction_of (machine_of_key p.rules key) in
     (y : Owing key_machine.Phase) × Stands key_machine.figure p (events_for key es) (fold (λ moment e. e.event.moment) 0 es) y
 
 -- the entry behind these concerns the key, and its runs that end with the entry's step can stand in more than 1,024 states
 abbrev pub IsWideAt : Times → List (Observation KeyParts) → Observation KeyParts → KeyParts → Type 0
 IsWideAt p front e key =
-    let key_machine = transaction_of (machine_of_key key) in
+    let key_machine = transaction_of (machine_of_key p.rules key) in
     (list_any (same_key key) e.keys ≡ true)
     × ((many : List (Owing key_machine.Phase)) × AllPairs (λ x y. x ≢ y) many × (1024 < length many)
     × All (StandsBehind key_machine.figure p (events_for key front) e.event) many)

@@ -103,7 +103,7 @@ impl<H: BuildHasher> Standing<H> {
         ensures fewer { OnOk result (All (Contains self.old.book) self.new.book) }
         ensures tracks { OnOk result ((es : List (Observation KeyParts)) → TablesTrack self.old.book es self.old.tables → TablesTrack self.new.book es self.new.tables) }
         ensures named { OnOk result ((es : List (Observation KeyParts)) → TablesTrack self.old.book es self.old.tables → newest_moment es ≡ moment
-            → AreMany (IsNamed (key_machines self.old.tables.times) key_messages es) (length self.new.book)) }
+            → AreMany (IsNamed (key_machines self.old.tables.times) (key_messages self.old.tables.times) es) (length self.new.book)) }
     {
         self.book.known();
         self.tables.advance_all(moment)?;

@@ -41,7 +41,7 @@ StandsOf texts p machine events e set = (s : Held Times (StateOf machine)) × (s
 
 -- each key has a set of its machine
 abbrev pub key_keeping : Texts → Times → Keeping KeyParts (KeyParts × AnySet)
-key_keeping texts p = record { key = λ t. t.0; Leads = λ t events. LeadsOf texts p (machine_of_key t.0) events t.1; Stands = λ t events e. StandsOf texts p (machine_of_key t.0) events e t.1 }
+key_keeping texts p = record { key = λ t. t.0; Leads = λ t events. LeadsOf texts p (machine_of_key p.rules t.0) events t.1; Stands = λ t events e. StandsOf texts p (machine_of_key p.rules t.0) events e t.1 }
 
 -- the keys of tables, each with its set
 abbrev pub transactions_of : Tabled → List (KeyParts × AnySet)

@@ -22,6 +22,7 @@ pub mod OneMachine
 pub mod OneVerdict
 pub mod Outcomes
 pub mod Overdue
+pub mod QuietSets
 pub mod ShowingLemmas
 pub mod Splitting
 pub mod StandingLemmas

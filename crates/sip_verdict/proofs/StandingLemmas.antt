@@ -22,7 +22,7 @@ use Rattle.sip_verdict.specs.declared.concerned.Concerned.TheVariants as concern
 use Rattle.sip_verdict.specs.declared.observing.Told.{Told}
 use Rattle.sip_verdict.specs.declared.observing.Told.TheVariants.{Unheard, Heard}
 use Rattle.sip_verdict.specs.declared.verdict.Verdict.{Verdict}
-use Rattle.sip_verdict.specs.Keyed.{Observation, events_of, keys_of}
+use Rattle.sip_verdict.specs.Keyed.{Observation, events_of, keys_of, newest_moment}
 use Rattle.sip_verdict.specs.Keyed as keyed
 use Rattle.sip_verdict.specs.MessageReading.{key_machines, message_reading}
 use Rattle.sip_verdict.specs.inner.Concerned.{each}
@@ -78,7 +78,7 @@ module _ (old new : Texts) (number : ℕ) (bytes : List ℕ) where
           is,
           record {
             machine_is = leads.machine_is;
-            leads = Leads-grow m.names m.seen (seen_by_names_of machine) old number bytes (m.rules p) (events_of (key_machines p) t.0 es) s.moment s.states leads.leads;
+            leads = Leads-grow m.names m.seen (seen_by_names_of machine) old number bytes (m.rules p) (events_of (key_machines p) t.0 es) (newest_moment es) s.moment s.states leads.leads;
           },
         )
 

@@ -1,5 +1,5 @@
 -- What is known of the transactions when an entry came, and some sets are still to hear its event.
-use Rattle.std.proofs.Common.{◌≡◌, ◌≢◌, ◌≤◌, ◌<◌, ◌+◌, ◌-◌, ◌⊎◌, inl, inr, ℕ, suc, Bool, true, false, Option, Some, None, List, [], ◌∷◌, ◌++◌, All, AllPairs, IsTrue, map, length, position, get_or, slice_get, refl, sym, ap, ◌∙◌, subst, arith}
+use Rattle.std.proofs.Common.{◌≡◌, ◌≢◌, ◌≤◌, ◌<◌, ◌+◌, ◌-◌, ◌⊎◌, ◌||◌, inl, inr, ℕ, suc, Bool, true, false, Option, Some, None, List, [], ◌∷◌, ◌++◌, All, AllPairs, IsTrue, map, length, position, get_or, slice_get, refl, sym, ap, ◌∙◌, subst, arith}
 use Rattle.std.specs.Option.{option_map}
 use Rattle.std.proofs.lemmas.Bool.{false≢true}
 use Rattle.std.proofs.lemmas.List.Elements.{All-head, All-tail}
@@ -26,10 +26,11 @@ use Rattle.sip_verdict.specs.Verdicts.{IsFirst, IsTooWide}
 use Rattle.sip_verdict.specs.MessageReading.{key_machines}
 use Rattle.sip_verdict.specs.inner.Stepping.{RunsUntil, IsStepped}
 use Rattle.sip_verdict.specs.inner.Tracking.{Keeping, IsReady, IsStanding, GoesOn, IsPassed, IsOutcome, outcome_of, overdue_outcome, first_of}
-use Rattle.sip_verdict.specs.inner.TablesTracking.{LeadsOf, StandsOf, key_keeping, transactions_of, is_among, concerns_number, AreTold, MayPass, AreOnRecord, Hears, HearsEach}
+use Rattle.sip_verdict.specs.inner.TablesTracking.{LeadsOf, StandsOf, key_keeping, transactions_of, is_among, concerns_number, AreTold, MayPass, MayHear, AreHearers, AreOnRecord, Hears, HearsEach}
+use Rattle.sip_verdict.specs.inner.Concerned.{each, is_all}
 use Rattle.sip_verdict.proofs.Outcomes.{IsFirstAmong, Says, says_fewer, says_both, both_fine, first_at}
 use Rattle.sip_verdict.proofs.Overdue.{overdue_none, in_time_some}
-use Rattle.sip_verdict.proofs.QuietSets.{leads_later}
+use Rattle.sip_verdict.proofs.QuietSets.{leads_later, quiet_stepped}
 use Rattle.sip_verdict.proofs.Stepped.{own_passed, other_passed, run_still}
 use Rattle.sip_verdict.proofs.TablesPassing.{at_place, All-place, All-places, zip-place, place-zip, set-place, keys_are, among_not, among_first, among_rest, first_apart, leaves_keys, leaves_sets, heard_given}
 
@@ -274,3 +275,33 @@ module _ (texts : Texts) (p : Times) (es : List (Observation KeyParts)) (e : Obs
   heard_outcome event is_event late given apart u long outcome heard_each =
       halfway_all texts p es e t.keys u long outcome
       (halfway_each texts p es e t.keys event is_event late numbers t u (overdue_outcome (due_of t moment)) outcome halfway_start given apart heard_each)
+
+-- a key whose set does not hear the event is not concerned, or its set is quiet and passes the restart as it is
+pub quiet_others : (texts : Texts) (p : Times) (es : List (Observation KeyParts)) (e : Observation KeyParts) (moment : ℕ) (h : Hearing) (t : Tabled) → MayPass texts t moment → AreTold texts t.keys moment (Some h) e
+    → All (IsReady (key_machines p) (key_keeping texts p) es) (transactions_of t) → newest_moment es ≤ moment → MayHear texts t moment h → (numbers : List ℕ) → AreHearers t h.concerned numbers
+    → (n : ℕ) (key : KeyParts) (s : AnySet) → slice_get t.keys n ≡ Some key → slice_get t.sets n ≡ Some s → is_among numbers (n + 1) ≡ false
+    → (concerns_number (Some h) (n + 1) ≡ false) ⊎ GoesOn (key_machines p) (key_keeping texts p) es e (key, s)
+quiet_others texts p es e moment h t may told ready newest hear numbers hearers n key s at here none = by_all (is_all h.concerned) refl
+  where
+    abbrev m : Machines KeyParts
+    m = key_machines p
+
+    abbrev k : Keeping KeyParts (KeyParts × AnySet)
+    k = key_keeping texts p
+
+    not_named : is_among (each h.concerned) (n + 1) ≡ false
+    not_named = not_passing (is_among (each h.concerned) (n + 1)) (λ among. false≢true (sym none ∙ hearers.named (n + 1) among))
+
+    goes : is_all h.concerned ≡ true → GoesOn m k es e (key, s)
+    goes all =
+        let leads = All-place (IsReady m k es) (transactions_of t) n (key, s) (zip-place t.keys t.sets n key s at here) ready in
+        let low = All-place (λ x. moment_of x ≤ moment) t.sets n s here may.order in
+        let machine = machine_of_key p.rules key in
+        let events = events_of m key es in
+        let stepped = quiet_stepped texts p machine events (newest_moment es) s leads (hearers.others all n s here none) h.event (hear.restart all) (omega (arith, newest, hear.at)) (omega (arith, low, hear.at)) in
+        own_passed m k es e (key, s) ((told n key at).concerned p ∙ ap (λ b. b || is_among (each h.concerned) (n + 1)) all) Runs
+        (subst (λ f. IsStepped (key_rules p machine) events f (λ fs. LeadsOf texts p machine fs f.moment s) (λ g. StandsOf texts p machine events g s) Runs) (sym (told n key at).event) stepped)
+
+    by_all : (b : Bool) → is_all h.concerned ≡ b → (concerns_number (Some h) (n + 1) ≡ false) ⊎ GoesOn m k es e (key, s)
+    by_all true all = inr (goes all)
+    by_all false some = inl (ap (λ b. b || is_among (each h.concerned) (n + 1)) some ∙ not_named)

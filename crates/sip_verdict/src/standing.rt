@@ -14,7 +14,7 @@ ghost use Rattle.sip_verdict.specs.MessageReading.{key_machines, message_reading
 ghost use Rattle.sip_verdict.specs.Listing.{first_entry};
 ghost use Rattle.sip_verdict.specs.Reading.{AreObserved};
 ghost use Rattle.sip_verdict.specs.ListingOf.{key_words};
-ghost use Rattle.sip_verdict.specs.inner.Concerned.{each, listed, up_to};
+ghost use Rattle.sip_verdict.specs.inner.Concerned.{each, is_all, listed, up_to};
 ghost use Rattle.sip_verdict.specs.inner.Numbering.{AreNumbered, StaysNumbered, IsListedEntry, Appends, IsTextOf};
 ghost use Rattle.sip_verdict.specs.inner.Tracking.{IsJudged};
 ghost use Rattle.sip_verdict.specs.inner.TablesTracking.{key_keeping, transactions_of, TablesTrack, TablesTrackBefore, AreTold, TouchesEach, HaveNumbers, hearers, MayPass, MayHear, AreOnRecord, AllAreOnRecord, MayTake};
@@ -53,7 +53,8 @@ fn touch_each<H: BuildHasher>(
     keys: Concerned<Key>,
 ) -> Result<Concerned<u32>, AllocError>
     requires { length tables.old.keys + 2 ≤ most_keys }
-    ensures { IfOk result (λ numbers. TouchesEach (each keys) (each numbers) tables.old tables.new) }
+    ensures touched { IfOk result (λ numbers. TouchesEach (each keys) (each numbers) tables.old tables.new) }
+    ensures same { IfOk result (λ numbers. is_all numbers ≡ is_all keys) }
 {
     Ok(match keys {
         Concerned::None => Concerned::None,
@@ -222,15 +223,12 @@ impl<H: BuildHasher> Standing<H> {
                 concerned: Concerned::None,
             }),
             Told::Restart => {
-                let hearing = Hearing {
-                    event: Event::restart(entry.moment),
-                    concerned: Concerned::All,
-                };
+                self.tables.known();
+                let event = Event::restart(entry.moment);
+                let concerned = Concerned::All;
+                let hearing = Hearing { event, concerned };
                 let verdict = self.pass(entry.number, entry.moment, Some(&hearing))?;
-                Ok(Taken {
-                    verdict,
-                    concerned: Concerned::All,
-                })
+                Ok(Taken { verdict, concerned })
             }
             Told::Heard { event, concerned } => {
                 let concerned = touch_each(&mut self.tables, concerned)?;
@@ -270,6 +268,7 @@ impl<H: BuildHasher> Standing<H> {
         let count = self.tables.len();
         if count == 0 {
             text.push_str("no transaction\n")?;
+            return Ok(text);
         }
         for number in 1..=count {
             self.push_one(alloc, &mut text, number)?;

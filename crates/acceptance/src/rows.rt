@@ -3,7 +3,8 @@ use crate::verdicts::{judge_rows, judges};
 use std::test::Fail;
 use worked_logs::{
     CANCELS, CLIENTS, FOLDED, INVITE_SERVERS, INVITES_THAT_ARE_ANSWERED, INVITES_THAT_WAIT,
-    MANY_STATES, MESSAGES, SERVERS, STORED, TRANSACTIONS_APART, log_of, log_with,
+    MANY_STATES, MESSAGES, NO_ENTRIES, RESTARTS, RULES, SERVERS, STORED, TOLERANCES, TRANSACTIONS_APART,
+    log_of, log_with,
 };
 
 #[test]
@@ -56,6 +57,26 @@ fn judges_messages(rt: HostRuntime) -> Result<(), Fail> {
 #[test]
 fn judges_many_states(rt: HostRuntime) -> Result<(), Fail> {
     judge_rows(&rt, MANY_STATES)
+}
+
+#[test]
+fn judges_by_the_rules_of_the_log(rt: HostRuntime) -> Result<(), Fail> {
+    judge_rows(&rt, RULES)
+}
+
+#[test]
+fn judges_restarts(rt: HostRuntime) -> Result<(), Fail> {
+    judge_rows(&rt, RESTARTS)
+}
+
+#[test]
+fn judges_lines_that_are_no_entries(rt: HostRuntime) -> Result<(), Fail> {
+    judge_rows(&rt, NO_ENTRIES)
+}
+
+#[test]
+fn judges_by_two_tolerances(rt: HostRuntime) -> Result<(), Fail> {
+    judge_rows(&rt, TOLERANCES)
 }
 
 /// A message with compact names and a folded line is judged as it is spelled.

@@ -59,6 +59,10 @@ const HEADERS: &[&str] = &[
     "sip-trace 1\nt1  500 t2 4000 t4 5000 tolerance 50\n",
     "sip-trace 1\nt1 0500 t2 4000 t4 5000 tolerance 50\n",
     "sip-trace 1\nt1 500 t2 4000 t4 5000 tolerance 50",
+    "sip-trace 1\nt1 500 t2 4000 t4 5000 early 50 late 50\n",
+    "sip-trace 2\nt1 500 t2 4000 t4 5000 tolerance 50\n",
+    "sip-trace 2\nt1 500 t2 4000 t4 5000 early 50 late 10001\n",
+    "sip-trace 3\nt1 500 t2 4000 t4 5000 early 50 late 50\n",
 ];
 
 #[test]

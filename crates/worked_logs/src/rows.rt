@@ -448,3 +448,281 @@ pub const MANY_DEBTS: &[Row] = &[
         "breach 602 transaction 1",
     ),
 ];
+
+/// Elements that were built by RFC 3261 without its correction, and the same logs by RFC 6026.
+pub const RULES: &[Row] = &[
+    // An INVITE that comes again behind a 2xx starts the transaction anew.
+    (
+        "rules 3261: R 0 INVITE; S 0 200; R 500 INVITE; S 510 180",
+        "legal entries 4 transactions 1",
+    ),
+    (
+        "rules 6026: R 0 INVITE; S 0 200; R 500 INVITE; S 510 180",
+        "breach 4 transaction 1",
+    ),
+    (
+        "R 0 INVITE; S 0 200; R 500 INVITE; S 510 180",
+        "breach 4 transaction 1",
+    ),
+    // And is to be answered within 200 ms.
+    (
+        "rules 3261: R 0 INVITE; S 0 200; R 500 INVITE; M 751",
+        "breach 4 transaction 1",
+    ),
+    (
+        "rules 3261: R 0 INVITE; S 0 200; R 500 INVITE; M 750",
+        "legal entries 4 transactions 1",
+    ),
+    (
+        "rules 6026: R 0 INVITE; S 0 200; R 500 INVITE; M 751",
+        "legal entries 4 transactions 1",
+    ),
+    (
+        "rules 6026: R 0 INVITE; S 0 200; R 500 INVITE; M 750",
+        "legal entries 4 transactions 1",
+    ),
+    // The user repeats its 2xx also behind the final response to the INVITE that came again.
+    (
+        "rules 3261: R 0 INVITE; S 0 200; R 500 INVITE; S 510 486; S 1000 200",
+        "legal entries 5 transactions 1",
+    ),
+    (
+        "rules 6026: R 0 INVITE; S 0 200; R 500 INVITE; S 510 486; S 1000 200",
+        "breach 4 transaction 1",
+    ),
+    // But not before one went out.
+    (
+        "rules 3261: R 0 INVITE; S 10 486; S 20 200",
+        "breach 3 transaction 1",
+    ),
+    // The transaction is passed for ever.
+    (
+        "rules 3261: R 0 INVITE; S 0 200; S 900000 200",
+        "legal entries 3 transactions 1",
+    ),
+    (
+        "R 0 INVITE; S 0 200; S 900000 200",
+        "breach 3 transaction 1",
+    ),
+];
+
+/// Restarts of the element.
+pub const RESTARTS: &[Row] = &[
+    (
+        "early 50 late 50: S 0 INVITE; Z 100; M 5000",
+        "legal entries 3 transactions 1",
+    ),
+    // The restart comes when the INVITE should have been sent again.
+    (
+        "early 50 late 50: S 0 INVITE; Z 551",
+        "breach 2 transaction 1",
+    ),
+    (
+        "early 50 late 50: S 0 INVITE; Z 550; M 9999",
+        "legal entries 3 transactions 1",
+    ),
+    // The server does not know the INVITE any more, until it comes again.
+    (
+        "early 50 late 50: R 0 INVITE; S 10 180; Z 100; S 150 200",
+        "breach 4 transaction 1",
+    ),
+    (
+        "early 50 late 50: R 0 INVITE; S 10 180; Z 100; R 500 INVITE; S 510 180",
+        "legal entries 5 transactions 1",
+    ),
+    // A restart concerns no transaction that comes behind it.
+    ("early 50 late 50: Z 100", "legal entries 1 transactions 0"),
+    (
+        "early 50 late 50: Z 100; S 100 INVITE; M 651",
+        "breach 3 transaction 1",
+    ),
+    // It concerns all.
+    (
+        "early 50 late 50: S 0 INVITE; S 0 OPTIONS #2; Z 550; M 9999",
+        "legal entries 4 transactions 2",
+    ),
+    (
+        "early 50 late 50: S 0 INVITE; S 1 OPTIONS #2; Z 551",
+        "breach 3 transaction 1",
+    ),
+    // What must be sent is gone with it.
+    (
+        "early 50 late 50: R 0 INVITE; S 10 180; R 20 INVITE; M 71",
+        "breach 4 transaction 1",
+    ),
+    (
+        "early 50 late 50: R 0 INVITE; S 10 180; R 20 INVITE; Z 70; M 71",
+        "legal entries 5 transactions 1",
+    ),
+    // A client that was ended sends nothing more; one that never sent its request does.
+    (
+        "early 50 late 50: S 0 INVITE; Z 100; S 500 INVITE",
+        "breach 3 transaction 1",
+    ),
+    (
+        "early 50 late 50: R 0 180; Z 100; S 500 INVITE; R 510 200",
+        "legal entries 4 transactions 1",
+    ),
+    // A second restart changes nothing, however many transactions there are.
+    (
+        "early 50 late 50: S 0 INVITE; Z 100; Z 200; M 5000",
+        "legal entries 4 transactions 1",
+    ),
+    (
+        "early 50 late 50: R 0 INVITE; S 10 486; Z 100; Z 200; R 300 INVITE; S 310 180; Z 400; S 410 180",
+        "breach 8 transaction 1",
+    ),
+    // The server that passed a 2xx on is idle behind it.
+    (
+        "early 50 late 50 rules 3261: R 0 INVITE; S 0 200; Z 100; S 150 200",
+        "breach 4 transaction 1",
+    ),
+    (
+        "early 50 late 50 rules 3261: R 0 INVITE; S 0 200; Z 100; R 500 INVITE; S 510 486; S 1000 200",
+        "breach 6 transaction 1",
+    ),
+];
+
+/// Lines that are no entry of the log.
+pub const NO_ENTRIES: &[Row] = &[
+    // No other rules are known, and there is one line of them.
+    ("rules 9999: M 0", "log fault 1 21 EntryLine"),
+    ("rules 3261\nrules 3261: M 0", "log fault 1 21 EntryLine"),
+    // Format 1 has no restarts. They come in order, and within the limits.
+    ("Z 100", "log fault 1 21 EntryLine"),
+    ("early 50 late 50: M 5; Z 4", "log fault 2 23 Order"),
+    ("early 50 late 50: Z 10000000000000", "log fault 1 24 Limit"),
+];
+
+/// An element may be early by one tolerance, and late by another.
+pub const TOLERANCES: &[Row] = &[
+    // Timer A.
+    ("early 0 late 100: S 0,499 INVITE", "breach 2 transaction 1"),
+    (
+        "early 0 late 100: S 0,500 INVITE",
+        "legal entries 2 transactions 1",
+    ),
+    (
+        "early 0 late 100: S 0,501 INVITE",
+        "legal entries 2 transactions 1",
+    ),
+    (
+        "early 0 late 100: S 0,600 INVITE",
+        "legal entries 2 transactions 1",
+    ),
+    ("early 0 late 100: S 0,601 INVITE", "breach 2 transaction 1"),
+    (
+        "early 0 late 100: S 0 INVITE; M 601",
+        "breach 2 transaction 1",
+    ),
+    ("early 100 late 0: S 0,399 INVITE", "breach 2 transaction 1"),
+    (
+        "early 100 late 0: S 0,400 INVITE",
+        "legal entries 2 transactions 1",
+    ),
+    (
+        "early 100 late 0: S 0,500 INVITE",
+        "legal entries 2 transactions 1",
+    ),
+    ("early 100 late 0: S 0,501 INVITE", "breach 2 transaction 1"),
+    // Timer E.
+    (
+        "early 0 late 100: S 0,499 OPTIONS",
+        "breach 2 transaction 1",
+    ),
+    (
+        "early 0 late 100: S 0,500 OPTIONS",
+        "legal entries 2 transactions 1",
+    ),
+    (
+        "early 0 late 100: S 0,600 OPTIONS",
+        "legal entries 2 transactions 1",
+    ),
+    (
+        "early 0 late 100: S 0,601 OPTIONS",
+        "breach 2 transaction 1",
+    ),
+    (
+        "early 100 late 0: S 0,399 OPTIONS",
+        "breach 2 transaction 1",
+    ),
+    (
+        "early 100 late 0: S 0,400 OPTIONS",
+        "legal entries 2 transactions 1",
+    ),
+    (
+        "early 100 late 0: S 0,500 OPTIONS",
+        "legal entries 2 transactions 1",
+    ),
+    (
+        "early 100 late 0: S 0,501 OPTIONS",
+        "breach 2 transaction 1",
+    ),
+    // Timer G.
+    (
+        "early 0 late 100: R 0 INVITE; S 0,499 486",
+        "breach 3 transaction 1",
+    ),
+    (
+        "early 0 late 100: R 0 INVITE; S 0,500 486",
+        "legal entries 3 transactions 1",
+    ),
+    (
+        "early 0 late 100: R 0 INVITE; S 0,600 486",
+        "legal entries 3 transactions 1",
+    ),
+    (
+        "early 0 late 100: R 0 INVITE; S 0,601 486",
+        "breach 3 transaction 1",
+    ),
+    (
+        "early 100 late 0: R 0 INVITE; S 0,399 486",
+        "breach 3 transaction 1",
+    ),
+    (
+        "early 100 late 0: R 0 INVITE; S 0,400 486",
+        "legal entries 3 transactions 1",
+    ),
+    (
+        "early 100 late 0: R 0 INVITE; S 0,500 486",
+        "legal entries 3 transactions 1",
+    ),
+    (
+        "early 100 late 0: R 0 INVITE; S 0,501 486",
+        "breach 3 transaction 1",
+    ),
+    // A 100 within 200 ms.
+    (
+        "early 0 late 100: R 0 INVITE; M 300",
+        "legal entries 2 transactions 1",
+    ),
+    (
+        "early 0 late 100: R 0 INVITE; M 301",
+        "breach 2 transaction 1",
+    ),
+    (
+        "early 100 late 0: R 0 INVITE; M 200",
+        "legal entries 2 transactions 1",
+    ),
+    (
+        "early 100 late 0: R 0 INVITE; M 201",
+        "breach 2 transaction 1",
+    ),
+    // What must be sent at once.
+    (
+        "early 0 late 100: S 0 INVITE; R 100 486; S 200 ACK",
+        "legal entries 3 transactions 1",
+    ),
+    (
+        "early 0 late 100: S 0 INVITE; R 100 486; S 201 ACK",
+        "breach 3 transaction 1",
+    ),
+    (
+        "early 100 late 0: S 0 INVITE; R 100 486; S 100 ACK",
+        "legal entries 3 transactions 1",
+    ),
+    (
+        "early 100 late 0: S 0 INVITE; R 100 486; S 101 ACK",
+        "breach 3 transaction 1",
+    ),
+];

@@ -26,7 +26,8 @@ use Rattle.sip_verdict.specs.Keyed.{Observation, Machines, keys_of, HasRun}
 use Rattle.sip_verdict.specs.Verdicts.{IsFirst, IsTooWide, AllRun, IsFine, IsTrouble}
 use Rattle.sip_verdict.specs.Reading.{EntryReading, Judges, IsVerdictBy}
 use Rattle.sip_verdict.specs.VerdictOf.{keys_in}
-use Rattle.sip_verdict.specs.MessageReading.{message_reading, direction_of, mark_observation, restart_observation, silent_observation, ObservesMessage, has_fault, has_no_cookie, is_heard}
+use Rattle.sip_verdict.specs.MessageReading.{message_reading, direction_of, silent_observation, ObservesMessage, has_fault, has_no_cookie, is_heard}
+use Rattle.sip_verdict.specs.inner.Observing.{mark_observation, restart_observation}
 
 -- it is not false
 abbrev Weakly : Type 0 → Type 0

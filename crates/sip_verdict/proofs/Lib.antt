@@ -2,6 +2,7 @@ pub mod AnyHearing
 pub mod EntryText
 pub mod FewerEntries
 pub mod FollowedLemmas
+pub mod FormatLaws
 pub mod Halfway
 pub mod HasVerdict
 pub mod Hearing

@@ -31,9 +31,9 @@ use Rattle.sip_verdict.specs.declared.observing.Told.TheVariants as told
 use Rattle.sip_verdict.specs.declared.verdict.Verdict.{Verdict}
 use Rattle.sip_verdict.specs.Keyed.{Observation, events_of, keys_of, newest_moment}
 use Rattle.sip_verdict.specs.Keyed as keyed
-use Rattle.sip_verdict.specs.MessageReading.{key_machines, restart_observation, message_reading}
+use Rattle.sip_verdict.specs.MessageReading.{key_machines, message_reading}
 use Rattle.sip_verdict.specs.inner.Concerned.{each, is_all, up_to}
-use Rattle.sip_verdict.specs.inner.Observing.{IsObserved}
+use Rattle.sip_verdict.specs.inner.Observing.{IsObserved, restart_observation}
 use Rattle.sip_verdict.specs.inner.Tracking.{IsReady, TracksBefore, IsJudged}
 use Rattle.sip_states.specs.AnySet.{meaning_of}
 use Rattle.sip_verdict.specs.inner.TablesTracking.{key_keeping, transactions_of, TablesTrack, TablesTrackBefore, AreTold, TouchesEach, HaveNumbers, MayPass, MayHear, IsOnRecord, AreOnRecord, AllAreOnRecord, MayTake}

@@ -34,19 +34,10 @@ direction_of Failed = Some way.Sent
 direction_of Mark = None
 direction_of Restart = None
 
--- a mark tells its moment and concerns no key
-abbrev pub mark_observation : ℕ → Observation KeyParts
-mark_observation moment = record { fault = None; event = record { moment = moment; action = Mark; text = []; kind = Request Other; reliable = false }; keys = [] }
-
--- a restart of the element concerns each of these keys
-abbrev pub restart_observation : ℕ → List KeyParts → Observation KeyParts
-restart_observation moment keys =
-    record { fault = None; event = record { moment = moment; action = Restart; text = []; kind = Request Other; reliable = false }; keys = keys }
-
--- what is observed of an entry without a message: a restart concerns the keys of the entries before it
+-- what is observed of an entry without a message: a mark concerns no key, and a restart of the element each of those before it
 abbrev pub silent_observation : Action → ℕ → List KeyParts → Observation KeyParts
-silent_observation Restart moment keys = restart_observation moment keys
-silent_observation action moment keys = mark_observation moment
+silent_observation Restart moment keys = record { fault = None; event = record { moment = moment; action = Restart; text = []; kind = Request Other; reliable = false }; keys = keys }
+silent_observation action moment keys = record { fault = None; event = record { moment = moment; action = Mark; text = []; kind = Request Other; reliable = false }; keys = [] }
 
 -- nothing but its moment is seen of an entry whose message has a fault
 abbrev pub fault_observation : Item → Fault → Observation KeyParts

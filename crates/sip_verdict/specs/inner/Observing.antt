@@ -18,7 +18,7 @@ use Rattle.sip_verdict.specs.declared.observing.Told.TheVariants.{Unheard, Fault
 use Rattle.sip_verdict.specs.Keyed.{Observation}
 use Rattle.sip_verdict.specs.VerdictOf.{keys_in}
 use Rattle.sip_verdict.specs.Listing.{has_message}
-use Rattle.sip_verdict.specs.MessageReading.{fault_observation, restart_observation, ConcernsNone}
+use Rattle.sip_verdict.specs.MessageReading.{fault_observation, silent_observation, ConcernsNone}
 use Rattle.sip_verdict.specs.inner.Concerned.{each, is_all}
 
 -- What the judge is told of an entry.
@@ -28,6 +28,14 @@ abbrev pub AreKeysOf : Said → Direction → Result (Concerned KeyParts) KeyErr
 AreKeysOf s direction (Ok concerned) = (lacks_cookie s direction ≡ false) × Concerns s direction (each concerned) × AllPairs (λ a b. a ≢ b) (each concerned) × (is_all concerned ≡ false)
 AreKeysOf s direction (Err error.NoCookie) = lacks_cookie s direction ≡ true
 AreKeysOf s direction (Err error.Memory) = Unit {0}
+
+-- a mark tells its moment and concerns no key
+abbrev pub mark_observation : ℕ → Observation KeyParts
+mark_observation moment = silent_observation action.Mark moment []
+
+-- a restart concerns each of these keys
+abbrev pub restart_observation : ℕ → List KeyParts → Observation KeyParts
+restart_observation moment keys = silent_observation action.Restart moment keys
 
 -- what is told of an entry without a message
 abbrev pub silent_told : Action → Told

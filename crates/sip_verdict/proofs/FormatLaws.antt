@@ -8,7 +8,7 @@ use Rattle.sip_log.specs.declared.format.Format.TheVariants.{One, Two}
 use Rattle.sip_log.specs.Spelling.{Item, Header, entry_text}
 use Rattle.sip_log.specs.Log.{LogEnd, Clean, Readable, InOrder, IsLog, IsLogOf}
 use Rattle.sip_log.proofs.Logs.{log-of-two, clean-log}
-use Rattle.sip_log.proofs.SpellingLemmas.{Header-one}
+use Rattle.sip_log.proofs.LogLaws.{Header-one}
 use Rattle.sip_verdict.specs.declared.verdict.Verdict.{Verdict}
 use Rattle.sip_verdict.specs.Reading.{Judges, IsVerdictBy}
 use Rattle.sip_verdict.specs.MessageReading.{message_reading}

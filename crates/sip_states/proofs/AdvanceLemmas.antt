@@ -187,11 +187,11 @@ not_unmarked marks index n mark = elim (set_place marks index n false true mark)
 
 -- Marks of two kinds: what is marked by the first is marked by the second.
 
-abbrev pub IsWithin : List Bool → List Bool → Type 0
-IsWithin marks moved = (index : ℕ) → IsMarked marks index → IsMarked moved index
+abbrev pub AreAmong : List Bool → List Bool → Type 0
+AreAmong marks moved = (index : ℕ) → IsMarked marks index → IsMarked moved index
 
 -- so it is with one more index that neither marks
-pub within_push : (marks moved : List Bool) → length marks ≡ length moved → IsWithin marks moved → IsWithin (marks ++ false ∷ []) (moved ++ false ∷ [])
+pub within_push : (marks moved : List Bool) → length marks ≡ length moved → AreAmong marks moved → AreAmong (marks ++ false ∷ []) (moved ++ false ∷ [])
 within_push marks moved long within index mark =
     elim (push_place marks index false true mark) [
       | inl old ↦ slice_get-push moved false index true (within index old)
@@ -204,7 +204,7 @@ within_push marks moved long within index mark =
     slice_get-push (u ∷ xs) a (suc n) x at = slice_get-push xs a n x at
 
 -- with one that both mark
-pub within_set : (marks moved : List Bool) (at : ℕ) (b : Bool) → length marks ≡ length moved → IsWithin marks moved → IsWithin (slice_set marks at b) (slice_set moved at b)
+pub within_set : (marks moved : List Bool) (at : ℕ) (b : Bool) → length marks ≡ length moved → AreAmong marks moved → AreAmong (slice_set marks at b) (slice_set moved at b)
 within_set marks moved at b long within index mark =
     elim (set_place marks at index b true mark) [
       | inl here ↦ subst (λ n. slice_get (slice_set moved at b) n ≡ Some true) (sym here.0) (set_at moved at b true here.1 (let low = slice_get_within (slice_set marks at b) index true mark in let size = length-set marks at b in omega (arith, here.0, low, size, long)))

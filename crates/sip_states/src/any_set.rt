@@ -9,8 +9,8 @@ use crate::state_set::{StateSet, TakeError};
 use crate::told::{ToldState, told_states};
 use sip_key::{Key, Role};
 use sip_machine::{
-    Book, Event, InviteClient, InviteClient3261, InviteServer, InviteServer3261, Params, PlainClient,
-    PlainServer, Rules,
+    Book, Event, InviteClient, InviteClient3261, InviteServer, InviteServer3261, Params,
+    PlainClient, PlainServer, Rules,
 };
 use std::alloc::{AllocError, Global};
 

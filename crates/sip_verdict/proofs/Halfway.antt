@@ -283,10 +283,10 @@ pub quiet_others : (texts : Texts) (p : Times) (es : List (Observation KeyParts)
     → (concerns_number (Some h) (n + 1) ≡ false) ⊎ GoesOn (key_machines p) (key_keeping texts p) es e (key, s)
 quiet_others texts p es e moment h t may told ready newest hear numbers hearers n key s at here none = by_all (is_all h.concerned) refl
   where
-    abbrev m : Machines KeyParts
+    m : Machines KeyParts
     m = key_machines p
 
-    abbrev k : Keeping KeyParts (KeyParts × AnySet)
+    k : Keeping KeyParts (KeyParts × AnySet)
     k = key_keeping texts p
 
     not_named : is_among (each h.concerned) (n + 1) ≡ false

@@ -121,11 +121,11 @@ observes_message direction item never = reading-or-fault item.text no_reading no
 sees_entry : Sees message_reading
 sees_entry before item = by_action item.action refl
   where
-    abbrev keys : List KeyParts
+    keys : List KeyParts
     keys = keys_in before
 
     -- this is observed of an entry with which this was done
-    abbrev Seen : Observation KeyParts → Action → Type 0
+    Seen : Observation KeyParts → Action → Type 0
     Seen e a = MatchOption (direction_of a) (e ≡ silent_observation a item.moment keys) (λ d. ObservesMessage d item e)
 
     by_action : (a : Action) → item.action ≡ a → Weakly ((e : Observation KeyParts) × message_reading.Observes before item e)

@@ -228,10 +228,7 @@ pub fn header(alloc: Global, tolerance: &str) -> Result<String, AllocError> {
 /// The first two lines of a log of format 2, with the words of both tolerances.
 fn header_2(alloc: Global, tolerances: &str) -> Result<String, AllocError> {
     let mut log = String::with_capacity(alloc, 16_384)?;
-    write!(
-        log,
-        "sip-trace 2\nt1 500 t2 4000 t4 5000 {tolerances}\n"
-    )?;
+    write!(log, "sip-trace 2\nt1 500 t2 4000 t4 5000 {tolerances}\n")?;
     Ok(log)
 }
 

@@ -1,19 +1,21 @@
 -- Sets that wait, one after another, and what the marked ones name.
-use Rattle.std.proofs.Common.{cond, zero, suc, Bool, true, false, true≢false, Result, Ok, Err, OnOk, OnErr, AllPairs, Contains, ◌↔◌, ◌++◌, [], ◌∷◌, ◌≡◌, ◌≢◌, ◌≤◌, ◌<◌, ◌⊎◌, inl, inr, ℕ, Option, Some, None, List, take, option_copied, All, length, get_or, slice_get, slice_set, refl, sym, ap, ◌∙◌, subst, arith}
+use Rattle.std.proofs.Common.{cond, zero, suc, Bool, true, false, true≢false, Result, Ok, Err, OnOk, OnErr, AllPairs, Contains, ◌↔◌, ◌++◌, [], ◌∷◌, ◌≡◌, ◌≢◌, ◌≤◌, ◌<◌, ◌⊎◌, inl, inr, ℕ, Option, Some, None, List, ◌+◌, map, take, option_copied, All, length, get_or, slice_get, slice_set, refl, sym, ap, ◌∙◌, subst, arith}
 use Rattle.std.specs.List.{flat_map}
 use Rattle.std.specs.Result.{is_ok}
 use Rattle.std.specs.Slice.{IsItemAt}
 use Rattle.std.specs.Borrow.{Bor}
 use Rattle.std.proofs.lemmas.Bool.{ltb-true}
 use Rattle.std.proofs.lemmas.Option.{slice_get_within, slice_get-get_or}
-use Rattle.std.proofs.lemmas.List.{length-set, length-take-le, get_or-take, get_or_default}
+use Rattle.std.proofs.lemmas.List.{length-set, length-map, get_or-map, length-take-le, get_or-take, get_or_default}
 use Rattle.std.proofs.lemmas.List.Elements.{Contains-push, Contains-push_cases, Contains-append_left, Contains-append_right, Contains-get_or}
 use Rattle.sip_key.specs.Key.{KeyParts}
 use Rattle.sip_machine.specs.Times.{Times}
 use Rattle.sip_machine.proofs.TextLaws.{Contains-nil, Contains-cons_cases}
 use Rattle.sip_states.specs.KeyMachine.{machine_of_key}
 use Rattle.sip_states.specs.AnySet.{SetWaits, moment_of, start_of, IsQuietSet}
-use Rattle.sip_states.specs.Tables.{Tabled}
+use Rattle.sip_states.specs.Tables.{Tabled, IsGiven}
+use Rattle.sip_states.specs.Restarting.{AreToRestart}
+use Rattle.sip_states.proofs.Listed.{Contains-map}
 use Rattle.sip_states.specs.Sweep.{numbers_of, IsAdvanced, AppendsNamed}
 use Rattle.sip_states.specs.inner.Marks.{IsMarked, ElseHolds, AreMarked}
 use Rattle.sip_states.specs.inner.Advance.{AdvancesAt}
@@ -230,6 +232,28 @@ start_names p key = start_silent p (machine_of_key p.rules key)
 -- and is quiet
 pub start_quiet : (p : Times) (key : KeyParts) → IsQuietSet (start_of p key)
 start_quiet p key = start_is_quiet p (machine_of_key p.rules key)
+
+-- What a restart may change.
+
+-- the numbers of marked sets are those
+pub restart_numbers : (t : Tabled) (moved : List Bool) (marked numbers : List ℕ) → numbers ≡ map (λ i. i + 1) marked → length moved ≡ length t.keys → length t.sets ≡ length t.keys → ElseHolds IsQuietSet moved t.sets
+    → ((n : ℕ) → Contains marked n ↔ IsMarked moved n) → AllPairs (λ a b. a ≢ b) marked → AreToRestart t numbers
+restart_numbers t moved marked numbers is long as_long quiet members once = subst (AreToRestart t) (sym is) (record {
+  given = λ k d low.
+      (let size = length-map marked (λ i. i + 1) in
+      let within : k < length marked = omega (arith, low, size) in
+      let mark = (members (get_or marked k 0)).0 (place_among marked k 0 within) in
+      let high = slice_get_within moved (get_or marked k 0) true mark in
+      subst (IsGiven t) (sym (get_or-map (λ i. i + 1) marked k 0 d within)) (record { low = omega arith; high = omega (arith, high, long) }));
+  apart = λ i j d less low same.
+      (let size = length-map marked (λ n. n + 1) in
+      let last : j < length marked = omega (arith, low, size) in
+      let first : i < length marked = omega (arith, less, last) in
+      once i j 0 less last (omega (arith, sym (get_or-map (λ n. n + 1) marked i 0 d first) ∙ same ∙ get_or-map (λ n. n + 1) marked j 0 d last)));
+  others = λ place set at none.
+      let low = slice_get_within t.sets place set at in
+      quiet place set at (not_marked moved place (omega (arith, low, as_long, long)) (λ mark. none (Contains-map (λ i. i + 1) marked place ((members place).1 mark))));
+})
 
 -- What marked sets name.
 

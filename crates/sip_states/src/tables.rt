@@ -1,5 +1,5 @@
 //! The states of every transaction, by key.
-ghost use Rattle.std.specs.Prelude.{◌≡◌, ◌≢◌, ◌<◌, ◌≤◌, ◌+◌, ◌++◌, ◌-◌, ◌∷◌, [], All, AllPairs, length, slice_get, IfOk, OnErr, OnOk, Some};
+ghost use Rattle.std.specs.Prelude.{◌≡◌, ◌≢◌, ◌<◌, ◌≤◌, ◌+◌, ◌++◌, ◌-◌, ◌∷◌, [], All, AllPairs, length, slice_get, ℕ, IfOk, OnErr, OnOk, Some};
 ghost use Rattle.std.specs.Borrow.{sem};
 ghost use Rattle.indexmap.specs.IndexMap.{keys, values, index_map_len};
 ghost use Rattle.sip_states.specs.AnySet.{moment_of};

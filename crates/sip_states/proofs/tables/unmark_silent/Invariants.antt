@@ -1,4 +1,4 @@
-use Rattle.std.proofs.Common.{◌≡◌, length}
+use Rattle.std.proofs.Common.{◌≡◌, ℕ, length}
 use Rattle.indexmap.specs.IndexMap.{values}
 use Rattle.sip_states.specs.inner.Marks.{AreMarked, IsMarked}
 use Rattle.sip_states.proofs.tables.unmark_silent.Given as goal

@@ -28,9 +28,9 @@ invariant_of-self-2 g c =
     let silent : numbers_of set ≡ [] = subst (λ s. numbers_of s ≡ []) (sym c.in_ok-set.ensures) (start_names c.self.inside.params c.args.key) in
     let marked : AreMarked c.push-2.new.self (values c.append.new.sets)
     = rw (c.in_default.ensures.ok, behind) (marked_push (λ s. numbers_of s ≡ []) c.self.inside.marks (values sets) set (inv.2 ∙ sym (length-values_of sets.entries)) inv.3 silent) in
-    let moved : length c.push-3.new.self ≡ length c.self.inside.moved + 1 = ap length c.in_default-moved.ensures.ok ∙ length-append c.self.inside.moved (false ∷ []) in
+    let moved : length c.push-3.new.self ≡ length c.self.inside.moved + 1 = ap length c.in_default-push.ensures.ok ∙ length-append c.self.inside.moved (false ∷ []) in
     let still : IsQuietSet set = subst IsQuietSet (sym c.in_ok-set.ensures) (start_quiet c.self.inside.params c.args.key) in
-    let moves : AreMoved c.push-3.new.self c.push-2.new.self (values c.append.new.sets) = rw (c.in_default.ensures.ok, c.in_default-moved.ensures.ok, behind) (record {
+    let moves : AreMoved c.push-3.new.self c.push-2.new.self (values c.append.new.sets) = rw (c.in_default.ensures.ok, c.in_default-push.ensures.ok, behind) (record {
       quiet = marked_push IsQuietSet c.self.inside.moved (values sets) set (inv.4 ∙ sym (length-values_of sets.entries)) inv.5.quiet still;
       within = within_push c.self.inside.marks c.self.inside.moved (inv.2 ∙ sym inv.4) inv.5.within;
     }) in

@@ -24,8 +24,8 @@ unmark-requires g c =
     let mark : IsMarked moved index = (c.marked.ensures.members index).0 (item_among _ _ _ _ _ c.get.ensures.lookup c.copied.ensures c.in-Some.is) in
     slice_get_within moved index true mark
 
-pub unmark-then-is_quiet-requires : goal.unmark-then-is_quiet-requires
-unmark-then-is_quiet-requires g c =
+pub unmark-requires-then-is_quiet : goal.unmark-requires-then-is_quiet
+unmark-requires-then-is_quiet g c =
     let moved = c.loop-place.moved in
     let index = c.in-Some.index in
     let mark : IsMarked moved index = (c.marked.ensures.members index).0 (item_among _ _ _ _ _ c.get.ensures.lookup c.copied.ensures c.in-Some.is) in

@@ -409,7 +409,7 @@ fn stops_at_trouble(rt: HostRuntime) -> Result<(), Fail> {
         ],
     )?;
     // A header that cannot be read is before any entry.
-    let faulty = header(rt.alloc(), "10001")?;
+    let faulty = header(rt.alloc(), "tolerance 10001")?;
     for entry in 0..3 {
         lists(&rt, faulty.as_str(), entry, "stopped log fault 0 20 Header")?;
     }

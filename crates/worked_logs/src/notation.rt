@@ -2,10 +2,12 @@
 //!
 //! Entries stand behind one another with a semicolon between. `S 0,500 OPTIONS` is the request OPTIONS, sent at 0 and again at 500;
 //! with `R` it was received, and with `F` its send was refused. `R 700 200 OPTIONS` is the response 200 to it, and `R 700 200` the one to
-//! an INVITE. `R 2..41 INVITE` stands at each moment from 2 to 41, and `R 10*31 INVITE` 31 times at 10. `M 6000` is a mark. Further words
-//! change the message: `#2` is the end of its branch, `branch=abc` the whole branch, `/TCP` the transport, `@b.example.com` the sent-by, `-CSeq` leaves that line out,
-//! `length=5` is its Content-Length and `SIP/1.0` its version. A word of the table of messages is that message, in which a word `a=>b`
-//! puts b in the place of the first a. In front of all there may be the tolerance, as `tolerance 10000:`.
+//! an INVITE. `R 2..41 INVITE` stands at each moment from 2 to 41, and `R 10*31 INVITE` 31 times at 10. `M 6000` is a mark, and `Z 6000` a
+//! restart of the element. Further words change the message: `#2` is the end of its branch, `branch=abc` the whole branch, `/TCP` the
+//! transport, `@b.example.com` the sent-by, `-CSeq` leaves that line out, `length=5` is its Content-Length and `SIP/1.0` its version. A
+//! word of the table of messages is that message, in which a word `a=>b` puts b in the place of the first a. In front of all there may be
+//! the tolerance, as `tolerance 10000:`, or how early and how late, as `early 0 late 100:`, and then the log is of format 2. The line
+//! `rules 3261` stands there as an entry does.
 use std::alloc::{AllocError, Global};
 use std::fmt::Write;
 use std::test::Fail;
@@ -158,7 +160,7 @@ fn message_of<'a, 'b>(
     Ok(text)
 }
 
-/// Appends an entry. A mark has no message.
+/// Appends an entry, or the line of rules. A mark and a restart have no message.
 fn push_entry(
     log: &mut String,
     letter: &str,
@@ -204,7 +206,7 @@ pub fn push(
         let (Some(letter), Some(moments)) = (words.next(), words.next()) else {
             continue;
         };
-        if letter == "M" {
+        if letter == "M" || letter == "Z" || letter == "rules" {
             push_entries(log, letter, moments, "")?;
         } else {
             let message = message_of(alloc, entry, messages)?;
@@ -214,23 +216,33 @@ pub fn push(
     Ok(())
 }
 
-/// The first two lines of a log: the times that RFC 3261 table 4 gives, and a tolerance in milliseconds.
-pub fn header(alloc: Global, tolerance: &str) -> Result<String, AllocError> {
+/// The first two lines of a log: the times that RFC 3261 table 4 gives, and the tolerances in milliseconds, `tolerance 50` in format 1 and
+/// `early 0 late 100` in format 2.
+pub fn header(alloc: Global, tolerances: &str) -> Result<String, AllocError> {
     let mut log = String::with_capacity(alloc, 16_384)?;
+    let format = if tolerances.starts_with("early") {
+        2
+    } else {
+        1
+    };
     write!(
         log,
-        "sip-trace 1\nt1 500 t2 4000 t4 5000 tolerance {tolerance}\n"
+        "sip-trace {format}\nt1 500 t2 4000 t4 5000 {tolerances}\n"
     )?;
     Ok(log)
 }
 
+/// What stands in front of a notation, the tolerances, and its entries.
+pub fn split(notation: &str) -> (&str, &str) {
+    notation
+        .split_once(": ")
+        .unwrap_or(("tolerance 50", notation))
+}
+
 /// The log of a notation with messages by name.
 pub fn log_with(alloc: Global, notation: &str, messages: Messages<'_>) -> Result<String, Fail> {
-    let (tolerance, entries) = match notation.split_once(": ") {
-        Some((front, entries)) => (front.trim_start_matches("tolerance "), entries),
-        None => ("50", notation),
-    };
-    let mut log = header(alloc, tolerance)?;
+    let (tolerances, entries) = split(notation);
+    let mut log = header(alloc, tolerances)?;
     push(alloc, &mut log, entries, messages)?;
     Ok(log)
 }

@@ -219,6 +219,8 @@ class Log:
         self.file = opened(name)
         self.header = self.file.readline() + self.file.readline()
         words = self.header.split()
+        if words[:2] == [b"sip-trace", b"2"]:
+            die("the recipes read logs of format 1, without restarts and with one tolerance", 2)
         if words[:2] != [b"sip-trace", b"1"] or len(words) != 10:
             die("this is no log: see recipes/why-no-log", 2)
         self.times = {words[n].decode(): int(words[n + 1]) for n in range(2, 10, 2)}
@@ -228,6 +230,8 @@ class Log:
         """Number, letter, moment and bytes of each entry; a mark has none. Sets `last` to the last moment."""
         for number, line in enumerate(iter(self.file.readline, b""), 1):
             words = line.split()
+            if number == 1 and words[:1] == [b"rules"]:
+                die("the recipes read logs without a line of rules", 2)
             if len(words) != (2 if words[:1] == [b"M"] else 3) or words[0] not in (b"S", b"R", b"F", b"M"):
                 die("entry %d cannot be read: see `siptrace check`" % number, 2)
             data = b""

@@ -8,7 +8,7 @@ use worked_logs::{
     CLIENTS_BY_RFC_3261, CLIENTS_EARLY_0_LATE_100, CLIENTS_EARLY_100_LATE_0, INVITE_SERVERS,
     INVITES_THAT_ARE_ANSWERED, INVITES_THAT_WAIT, MANY_DEBTS, MANY_STATES, MESSAGES, ON_ONE_SIDE,
     OVERDUE, RESTARTED_BY_RFC_3261, RESTARTED_CLIENTS, RESTARTED_SERVERS, RESTARTS, Row, SERVERS,
-    SERVERS_EARLY_0_LATE_100, SERVERS_EARLY_100_LATE_0, TRANSACTIONS_APART, log_of, split,
+    SERVERS_EARLY_0_LATE_100, SERVERS_EARLY_100_LATE_0, TRANSACTIONS_APART, log_of,
 };
 
 #[test]
@@ -112,23 +112,25 @@ const OF_BOTH_RULES: &[&[Row]] = &[
     MANY_DEBTS,
 ];
 
-/// The entries of a notation of format 1 in format 2, where an element may be as early and as late as it may be there, behind a line of rules.
+/// The log of a notation of format 1 in format 2, early and late as its tolerance, by these rules.
 fn in_format_2(alloc: Global, rules: &str, notation: &str) -> Result<String, Fail> {
-    let (front, entries) = split(notation);
-    let tolerance = front.trim_start_matches("tolerance ");
-    Ok(format!(in alloc; "early {tolerance} late {tolerance}: {rules}; {entries}")?)
+    let (front, entries) = notation.split_once(": ").unwrap_or(("", notation));
+    let tolerance = front.strip_prefix("tolerance ").unwrap_or("50");
+    let front = format!(in alloc; "early {tolerance} late {tolerance} {rules}")?;
+    let front = front.as_str().trim_end();
+    let notation = format!(in alloc; "{front}: {entries}")?;
+    log_of(alloc, notation.as_str())
 }
 
-/// Judges logs in format 2, with a line of rules.
+/// Judges logs in format 2, by these rules.
 fn judges_in_format_2(
     rt: &(impl Abort + AllocGlobal),
     rules: &str,
     rows: &[Row],
 ) -> Result<(), Fail> {
     for &(notation, want) in rows {
-        let notation = in_format_2(rt.alloc(), rules, notation)?;
-        let log = log_of(rt.alloc(), notation.as_str())?;
-        judges(rt, log.as_str(), want, notation.as_str())?;
+        let log = in_format_2(rt.alloc(), rules, notation)?;
+        judges(rt, log.as_str(), want, notation)?;
     }
     Ok(())
 }
@@ -140,11 +142,12 @@ fn judges_format_1_as_format_2(rt: HostRuntime) -> Result<(), Fail> {
         judges_in_format_2(&rt, "", rows)?;
     }
     judges_in_format_2(&rt, "", INVITE_SERVERS)?;
-    judges_in_format_2(&rt, "", BY_RFC_3261)?;
-    judges_in_format_2(&rt, "", BY_RFC_6026)
+    judges_in_format_2(&rt, "", BY_RFC_6026)?;
+    judges_in_format_2(&rt, "rules 3261", BY_RFC_3261)?;
+    judges_in_format_2(&rt, "rules 3261", CLIENTS_BY_RFC_3261)
 }
 
-/// The rules of RFC 6026 are those of a log that names none, and only a 2xx to an INVITE tells those of RFC 3261.
+/// The rules of RFC 6026 are those of a log that names none, and those of RFC 3261 differ in a 2xx to an INVITE alone.
 #[test]
 fn judges_by_both_rules(rt: HostRuntime) -> Result<(), Fail> {
     for rows in OF_BOTH_RULES {

@@ -25,7 +25,7 @@ fn judges_a_long_message(rt: HostRuntime) -> Result<(), Fail> {
 
 #[test]
 fn judges_the_longest_message(rt: HostRuntime) -> Result<(), Fail> {
-    let mut log = header(rt.alloc(), "tolerance 50")?;
+    let mut log = header(rt.alloc(), "50")?;
     log.push_str("S 0 65535\n")?;
     for _ in 0..65_535 {
         log.push('x')?;
@@ -41,7 +41,7 @@ fn judges_the_longest_message(rt: HostRuntime) -> Result<(), Fail> {
 
 /// The log of so many OPTIONS, each with a branch of its own: one each millisecond, or all at 0.
 fn requests(alloc: Global, count: u64, are_apart: bool) -> Result<String, Fail> {
-    let mut log = header(alloc, "tolerance 50")?;
+    let mut log = header(alloc, "50")?;
     for before in 0..count {
         let moment = if are_apart { before } else { 0 };
         let branch = before + 1;
@@ -101,7 +101,7 @@ fn judges_many_transactions_by_any_hash(rt: HostRuntime) -> Result<(), Fail> {
 
 /// The log of so many registrations, one each millisecond, each with a branch of its own and answered 20 ms later.
 fn registrations(alloc: Global, count: u32) -> Result<String, Fail> {
-    let mut log = header(alloc, "tolerance 50")?;
+    let mut log = header(alloc, "50")?;
     let count = u64::from(count);
     for moment in 0..count + 20 {
         if moment < count {
@@ -135,7 +135,7 @@ fn judges_many_entries(rt: HostRuntime) -> Result<(), Fail> {
 
 #[test]
 fn counts_a_million_entries(rt: HostRuntime) -> Result<(), Fail> {
-    let mut log = header(rt.alloc(), "tolerance 50")?;
+    let mut log = header(rt.alloc(), "50")?;
     for _ in 0..1_000_000 {
         log.push_str("M 0\n")?;
     }

@@ -57,8 +57,8 @@ const LINES: &[Behind] = &[
     ("", "rules 3261", "log fault 1 22 Truncated"),
     ("", "rules 3261 \n", "log fault 1 21 EntryLine"),
     ("", "rules  3261\n", "log fault 1 21 EntryLine"),
-    ("rules 3261", "rules 3261\n", "log fault 1 21 EntryLine"),
-    ("rules 3261", "M 10\n", "legal entries 1 transactions 0"),
+    ("rules 3261: ", "rules 3261\n", "log fault 1 21 EntryLine"),
+    ("rules 3261: ", "M 10\n", "legal entries 1 transactions 0"),
     ("M 10", "rules 3261\n", "log fault 2 21 EntryLine"),
     // The breach is before the entry that cannot be read.
     (
@@ -107,7 +107,7 @@ fn judges_headers(rt: HostRuntime) -> Result<(), Fail> {
 }
 
 /// A log of format 2 with a line of rules and a restart.
-const RESTARTED: &str = "early 50 late 50: rules 3261; R 0 INVITE; Z 100";
+const RESTARTED: &str = "early 50 late 50 rules 3261: R 0 INVITE; Z 100";
 
 /// Judges the bytes one by one, and in two pieces, wherever they are cut.
 fn judges_pieces(rt: &(impl Abort + AllocGlobal), notation: &str, want: &str) -> Result<(), Fail> {
@@ -228,7 +228,7 @@ fn reads_nothing_behind_a_breach(rt: HostRuntime) -> Result<(), Fail> {
     let bytes = log.as_str().as_bytes();
     let text = verdict_failing(rt.alloc(), bytes, 1, bytes.len())?;
     assert_eq!(rt; text.as_str(), "breach 2 transaction 1");
-    let faulty = header(rt.alloc(), "tolerance 10001")?;
+    let faulty = header(rt.alloc(), "10001")?;
     let text = verdict_of_single_bytes(rt.alloc(), faulty.as_str().as_bytes())?;
     assert_eq!(rt; text.as_str(), "log fault 0 20 Header");
     Ok(())

@@ -140,7 +140,7 @@ header-written format p items times one = record {
   rules = rules-written p.rules items;
 }
 
-clean-log : (format : Format) (input : List ℕ) (p : Times) (items : List Item) → Header format p input (flat_map entry_text items) → length items ≤ most_entries → InOrder format 0 items
+pub clean-log : (format : Format) (input : List ℕ) (p : Times) (items : List Item) → Header format p input (flat_map entry_text items) → length items ≤ most_entries → InOrder format 0 items
     → IsLogOf input (Readable p items Clean)
 clean-log format input p items header few order = record {
   format = format;

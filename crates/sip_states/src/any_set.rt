@@ -1,7 +1,7 @@
 //! The states of one transaction, whichever machine it has.
 ghost use Rattle.std.specs.Prelude.{◌≡◌, ◌↔◌, ◌≤◌, IfOk, IsErrOf, IsTrue, OnErr, OnOk};
 ghost use Rattle.sip_machine.specs.MachineEvent.{FitsBook};
-ghost use Rattle.sip_states.specs.AnySet.{moment_of, start_of, IsEmpty, IsKeptSet, IsKnownSet, SetWaits, SetTakes, IsSetTooWide, IsAgendaOf};
+ghost use Rattle.sip_states.specs.AnySet.{moment_of, start_of, IsEmpty, IsKeptSet, IsQuietSet, IsKnownSet, SetWaits, SetTakes, IsSetTooWide, IsAgendaOf};
 ghost use Rattle.sip_states.specs.Sweep.{AppendsNumbers};
 ghost use Rattle.sip_states.specs.Told.{AreTold};
 
@@ -9,8 +9,8 @@ use crate::state_set::{StateSet, TakeError};
 use crate::told::{ToldState, told_states};
 use sip_key::{Key, Role};
 use sip_machine::{
-    Book, Event, InviteClient, InviteClient3261, InviteServer, InviteServer3261, Params, PlainClient,
-    PlainServer, Rules,
+    Book, Event, InviteClient, InviteClient3261, InviteServer, InviteServer3261, Params,
+    PlainClient, PlainServer, Rules,
 };
 use std::alloc::{AllocError, Global};
 
@@ -152,6 +152,20 @@ impl AnySet {
             AnySet::PlainServer(set) => set.names(out),
             AnySet::InviteClient3261(set) => set.names(out),
             AnySet::InviteServer3261(set) => set.names(out),
+        }
+    }
+
+    /// Whether its one state is the one before anything was sent or received, or the one after an end. Where it is not told so, nothing is said.
+    pub(crate) fn is_quiet(&self) -> bool
+        ensures { IsTrue result → IsQuietSet self.now }
+    {
+        match self {
+            AnySet::InviteClient(set) => set.is_quiet(),
+            AnySet::PlainClient(set) => set.is_quiet(),
+            AnySet::InviteServer(set) => set.is_quiet(),
+            AnySet::PlainServer(set) => set.is_quiet(),
+            AnySet::InviteClient3261(set) => set.is_quiet(),
+            AnySet::InviteServer3261(set) => set.is_quiet(),
         }
     }
 

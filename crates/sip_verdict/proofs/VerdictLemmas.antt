@@ -61,7 +61,7 @@ module _ (p : Times) (front : List (Observation KeyParts)) (e : Observation KeyP
   at-wide : (key : KeyParts) → IsWideAt p front e key → IsTooWide (key_machines p) front e key
   at-wide key (concerned, (many, distinct, wide, each)) =
       let after = All-weaker (StandsBehind (transaction_of (machine_of_key p.rules key)).figure p (events_for key front) e.event) (AfterRun (key_rules p (machine_of_key p.rules key)) (events_for key front) e.event)
-          (λ y stands. (behind key y).0 stands) many each in
+      (λ y stands. (behind key y).0 stands) many each in
       record { concerned = concerned; wide = record { many = many; distinct = distinct; wide = wide; each = after } }
 
   -- an entry in trouble

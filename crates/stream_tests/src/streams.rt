@@ -80,7 +80,7 @@ pub(crate) fn verdict_by_entries(
 fn answered(alloc: Global, count: u64) -> Result<String, Fail>
     requires { count ≤ 1000 }
 {
-    let mut log = header(alloc, "tolerance 50")?;
+    let mut log = header(alloc, "50")?;
     for before in 0..count {
         let branch = before + 1;
         let sent = before * 10_000;
@@ -115,7 +115,7 @@ fn keeps_few_messages_of_many(rt: HostRuntime) -> Result<(), Fail> {
 /// Each request at moment 0 waits for its response, so that no sweep forgets one.
 #[test]
 fn keeps_what_is_needed(rt: HostRuntime) -> Result<(), Fail> {
-    let mut log = header(rt.alloc(), "tolerance 50")?;
+    let mut log = header(rt.alloc(), "50")?;
     for branch in 0..200 {
         let entry = format!(in rt.alloc(); "S 0 INVITE #{branch}")?;
         push(rt.alloc(), &mut log, entry.as_str(), &[])?;

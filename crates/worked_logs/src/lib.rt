@@ -16,7 +16,7 @@ pub use changes::{
     Change, OF_A_CALL, OF_A_CANCELLED_CALL, OF_THE_END_OF_A_CALL, OF_THE_END_OF_A_CANCELLED_CALL,
 };
 pub use logs::{CANCELLED_LOG, FOLDED, FULL, SESSION_LOG, STORED, WIDE, long_log, long_message};
-pub use notation::{Messages, header, log_of, log_with, push, split};
+pub use notation::{Messages, header, log_of, log_with, push};
 pub use pieces::Pieces;
 pub use proxy_messages::{cancelled, session};
 pub use restarts::{RESTARTED_BY_RFC_3261, RESTARTED_CLIENTS, RESTARTED_SERVERS, RESTARTS};

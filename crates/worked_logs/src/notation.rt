@@ -2,12 +2,11 @@
 //!
 //! Entries stand behind one another with a semicolon between. `S 0,500 OPTIONS` is the request OPTIONS, sent at 0 and again at 500;
 //! with `R` it was received, and with `F` its send was refused. `R 700 200 OPTIONS` is the response 200 to it, and `R 700 200` the one to
-//! an INVITE. `R 2..41 INVITE` stands at each moment from 2 to 41, and `R 10*31 INVITE` 31 times at 10. `M 6000` is a mark, and `Z 6000` a
-//! restart of the element. Further words change the message: `#2` is the end of its branch, `branch=abc` the whole branch, `/TCP` the
-//! transport, `@b.example.com` the sent-by, `-CSeq` leaves that line out, `length=5` is its Content-Length and `SIP/1.0` its version. A
-//! word of the table of messages is that message, in which a word `a=>b` puts b in the place of the first a. In front of all there may be
-//! the tolerance, as `tolerance 10000:`, or how early and how late, as `early 0 late 100:`, and then the log is of format 2. The line
-//! `rules 3261` stands there as an entry does.
+//! an INVITE. `R 2..41 INVITE` stands at each moment from 2 to 41, and `R 10*31 INVITE` 31 times at 10. `M 6000` is a mark. Further words
+//! change the message: `#2` is the end of its branch, `branch=abc` the whole branch, `/TCP` the transport, `@b.example.com` the sent-by, `-CSeq` leaves that line out,
+//! `length=5` is its Content-Length and `SIP/1.0` its version. A word of the table of messages is that message, in which a word `a=>b`
+//! puts b in the place of the first a. `Z 100` is a restart. In front of all there may be the tolerance, as `tolerance 10000:`, or for a log of
+//! format 2 both, as `early 0 late 100:`; and behind them the rules, as `rules 3261:`.
 use std::alloc::{AllocError, Global};
 use std::fmt::Write;
 use std::test::Fail;
@@ -160,7 +159,7 @@ fn message_of<'a, 'b>(
     Ok(text)
 }
 
-/// Appends an entry, or the line of rules. A mark and a restart have no message.
+/// Appends an entry. A mark and a restart have no message.
 fn push_entry(
     log: &mut String,
     letter: &str,
@@ -206,7 +205,7 @@ pub fn push(
         let (Some(letter), Some(moments)) = (words.next(), words.next()) else {
             continue;
         };
-        if letter == "M" || letter == "Z" || letter == "rules" {
+        if letter == "M" || letter == "Z" {
             push_entries(log, letter, moments, "")?;
         } else {
             let message = message_of(alloc, entry, messages)?;
@@ -216,33 +215,46 @@ pub fn push(
     Ok(())
 }
 
-/// The first two lines of a log: the times that RFC 3261 table 4 gives, and the tolerances in milliseconds, `tolerance 50` in format 1 and
-/// `early 0 late 100` in format 2.
-pub fn header(alloc: Global, tolerances: &str) -> Result<String, AllocError> {
+/// The first two lines of a log of format 1: the times that RFC 3261 table 4 gives, and a tolerance in milliseconds.
+pub fn header(alloc: Global, tolerance: &str) -> Result<String, AllocError> {
     let mut log = String::with_capacity(alloc, 16_384)?;
-    let format = if tolerances.starts_with("early") {
-        2
-    } else {
-        1
-    };
     write!(
         log,
-        "sip-trace {format}\nt1 500 t2 4000 t4 5000 {tolerances}\n"
+        "sip-trace 1\nt1 500 t2 4000 t4 5000 tolerance {tolerance}\n"
     )?;
     Ok(log)
 }
 
-/// What stands in front of a notation, the tolerances, and its entries.
-pub fn split(notation: &str) -> (&str, &str) {
-    notation
-        .split_once(": ")
-        .unwrap_or(("tolerance 50", notation))
+/// The first two lines of a log of format 2, with the words of both tolerances.
+fn header_2(alloc: Global, tolerances: &str) -> Result<String, AllocError> {
+    let mut log = String::with_capacity(alloc, 16_384)?;
+    write!(log, "sip-trace 2\nt1 500 t2 4000 t4 5000 {tolerances}\n")?;
+    Ok(log)
+}
+
+/// The header that the words in front of a notation say.
+fn header_of(alloc: Global, front: &str) -> Result<String, AllocError> {
+    let (tolerances, rules) = match front.split_once("rules ") {
+        Some((tolerances, rules)) => (tolerances.trim_end(), Some(rules)),
+        None => (front, None),
+    };
+    let mut log = if tolerances.starts_with("early ") {
+        header_2(alloc, tolerances)?
+    } else if let Some(tolerance) = tolerances.strip_prefix("tolerance ") {
+        header(alloc, tolerance)?
+    } else {
+        header(alloc, "50")?
+    };
+    if let Some(rules) = rules {
+        write!(log, "rules {rules}\n")?;
+    }
+    Ok(log)
 }
 
 /// The log of a notation with messages by name.
 pub fn log_with(alloc: Global, notation: &str, messages: Messages<'_>) -> Result<String, Fail> {
-    let (tolerances, entries) = split(notation);
-    let mut log = header(alloc, tolerances)?;
+    let (front, entries) = notation.split_once(": ").unwrap_or(("", notation));
+    let mut log = header_of(alloc, front)?;
     push(alloc, &mut log, entries, messages)?;
     Ok(log)
 }

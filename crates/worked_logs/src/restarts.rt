@@ -86,6 +86,10 @@ pub const RESTARTED_SERVERS: &[Row] = &[
         "early 50 late 50: R 0 OPTIONS; S 10 200 OPTIONS; R 500 OPTIONS; Z 510; S 520 200 OPTIONS",
         "breach 5 transaction 1",
     ),
+    (
+        "early 50 late 50: R 0 INVITE; S 10 180; R 20 INVITE; Z 70; M 71",
+        "legal entries 5 transactions 1",
+    ),
     // The first response is due by 250.
     (
         "early 50 late 50: R 0 INVITE; Z 250; M 9000",
@@ -112,28 +116,28 @@ pub const RESTARTED_SERVERS: &[Row] = &[
 pub const RESTARTED_BY_RFC_3261: &[Row] = &[
     // No timer ends the phase behind a 2xx, and a restart does.
     (
-        "early 50 late 50: rules 3261; R 0 INVITE; S 0 200; M 100; S 150 200",
+        "early 50 late 50 rules 3261: R 0 INVITE; S 0 200; M 100; S 150 200",
         "legal entries 4 transactions 1",
     ),
     (
-        "early 50 late 50: rules 3261; R 0 INVITE; S 0 200; Z 100; S 150 200",
+        "early 50 late 50 rules 3261: R 0 INVITE; S 0 200; Z 100; S 150 200",
         "breach 4 transaction 1",
     ),
     // The INVITE that comes behind it did not come again.
     (
-        "early 50 late 50: rules 3261; R 0 INVITE; S 0 200; M 100; R 500 INVITE; S 510 486; S 1000 200",
+        "early 50 late 50 rules 3261: R 0 INVITE; S 0 200; M 100; R 500 INVITE; S 510 486; S 1000 200",
         "legal entries 6 transactions 1",
     ),
     (
-        "early 50 late 50: rules 3261; R 0 INVITE; S 0 200; Z 100; R 500 INVITE; S 510 486; S 1000 200",
+        "early 50 late 50 rules 3261: R 0 INVITE; S 0 200; Z 100; R 500 INVITE; S 510 486; S 1000 200",
         "breach 6 transaction 1",
     ),
     (
-        "early 50 late 50: rules 3261; R 0 INVITE; S 0 200; R 10 INVITE; Z 100; R 500 INVITE; S 510 486; S 1000 200",
+        "early 50 late 50 rules 3261: R 0 INVITE; S 0 200; R 10 INVITE; Z 100; R 500 INVITE; S 510 486; S 1000 200",
         "breach 7 transaction 1",
     ),
     (
-        "early 50 late 50: rules 3261; S 0 INVITE; R 100 200; Z 200; S 210 ACK #2",
+        "early 50 late 50 rules 3261: S 0 INVITE; R 100 200; Z 200; S 210 ACK #2",
         "legal entries 4 transactions 2",
     ),
 ];

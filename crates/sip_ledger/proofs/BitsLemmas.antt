@@ -1,7 +1,9 @@
 -- One bit of many words.
 use Rattle.std.proofs.Common.{◌≡◌, ◌≢◌, ℕ, ◌+◌, ◌-◌, ◌*◌, ◌/◌, ◌%◌, ◌^◌, ◌<◌, ◌≤◌, Bool, true, false, ◌&&◌, ◌||◌, ◌==◌, List, length, get_or, set, bit_or, w64, refl, sym, ap, ap₂, ◌∙◌, subst, inl, inr, arith}
 use Rattle.std.specs.Int.{bit_at, bit_not, trailing_zeros}
-use Rattle.std.proofs.lemmas.Bool.{cases_lt, cases_eq}
+use Rattle.std.proofs.lemmas.Bool.{cases_lt, cases_eq, true≢false}
+use Rattle.std.proofs.lemmas.Bool.Decides.{nat_tests}
+use Rattle.std.proofs.lemmas.Nat.{shr_and_one, pow_pos, div_below, le-div}
 use Rattle.std.proofs.lemmas.List.{get_or-set_same, get_or-set_other, get_or_past, ext_get_or}
 use Rattle.std.proofs.lemmas.Nat.Bits.{bit_at-lt, bit_at-zero, bit_at_above, bit_at_set_same, bit_at_set_other, bit_at_clear_same, bit_at_clear_other, bit_at-trailing_zeros, same_from_bits_below}
 use lib.Bits.{bit_and}
@@ -26,7 +28,7 @@ has-past words k past = has-is words k ∙ ap (λ w. test w (k % 64)) (get_or_pa
 -- the code's test of a bit
 pub test-code : (w i : ℕ) → (bit_and (w / 2 ^ i) 1 == 1) ≡ test w i
 unfolding test
-test-code w i = ?
+test-code w i = ap (λ n. n == 1) (shr_and_one w i)
 
 -- another word at the bit's place
 pub has-set_here : (words : List ℕ) (bit k w : ℕ) → bit / 64 < length words → k / 64 ≡ bit / 64 → has (set words (bit / 64) w) k ≡ test w (k % 64)
@@ -127,12 +129,12 @@ rest-fits w r j small is =
 
 -- the lowest bit that is left is the next one
 pub next-here : (words : List ℕ) (at : ℕ) → get_or words (at / 64) 0 < 2 ^ 64 → 0 < get_or words (at / 64) 0 / 2 ^ (at % 64) →
-    IsNext words at (at + trailing_zeros w64 (get_or words (at / 64) 0 / 2 ^ (at % 64)))
-next-here words at small some =
+    get_or words (at / 64) 0 / 2 ^ (at % 64) < 2 ^ 64 → IsNext words at (at + trailing_zeros w64 (get_or words (at / 64) 0 / 2 ^ (at % 64)))
+next-here words at small some rest_small =
     let w = get_or words (at / 64) 0 in
     let r = at % 64 in
     let rest = w / 2 ^ r in
-    let found = lowest-set rest some (shr-small w r small) in
+    let found = lowest-set rest some rest_small in
     let low = rest-fits w r (trailing_zeros w64 rest) small found.1 in
     record {
       after = omega arith;
@@ -141,23 +143,40 @@ next-here words at small some =
           let is : at + (k - at) ≡ k = omega (arith, from) in
           ap (has words) (sym is) ∙ has-rest words at (k - at) (omega (arith, is, below, low)) ∙ found.2 (k - at) (omega (arith, is, below));
     }
-  where
-    shr-small : (w r : ℕ) → w < 2 ^ 64 → w / 2 ^ r < 2 ^ 64
-    shr-small w r small = ?
+
+-- the highest bit of a word
+pub top-set : (w r : ℕ) → 2 ^ r ≤ w → w < 2 * 2 ^ r → test w r ≡ true
+unfolding test
+top-set w r low high =
+    let some : 0 < 2 ^ r = pow_pos r in
+    let above : w / 2 ^ r < 2 = div_below w (2 ^ r) 2 some high in
+    let below : 1 ≤ w / 2 ^ r = le-div 1 w (2 ^ r) some (omega (arith, low)) in
+    let one : w / 2 ^ r ≡ 1 = omega (arith, above, below) in
+    ap (λ n. n % 2 == 1) one
+
+pub top-above : (w r i : ℕ) → w < 2 * 2 ^ r → r < i → test w i ≡ false
+unfolding test
+top-above w r i high above =
+    let more : 2 * 2 ^ r ≡ 2 ^ (r + 1) = ? in
+    ap (λ n. n == 1) (bit_at_above w (r + 1) i (omega (arith, high, more)) (omega (arith, above)))
 
 -- words with the same bits are the same
+from_test : (a b : ℕ) → a < 2 → b < 2 → (a == 1) ≡ (b == 1) → a ≡ b
+from_test a b a_small b_small e = grind (arith, nat_tests)
+
+same_word : (a b : ℕ) → a < 2 ^ 64 → b < 2 ^ 64 → ((i : ℕ) → i < 64 → test a i ≡ test b i) → a ≡ b
+unfolding test
+same_word a b a_small b_small agree =
+    same_from_bits_below 64 a b a_small b_small (λ i low. from_test (bit_at a i) (bit_at b i) (bit_at-lt a i) (bit_at-lt b i) (agree i low))
+
+test-of : (words : List ℕ) (n i : ℕ) → i < 64 → has words (64 * n + i) ≡ test (get_or words n 0) i
+test-of words n i low =
+    let word : (64 * n + i) / 64 ≡ n = omega (arith, low) in
+    let bit : (64 * n + i) % 64 ≡ i = omega (arith, low) in
+    has-is words (64 * n + i) ∙ ap₂ (λ m j. test (get_or words m 0) j) word bit
+
 pub same-from_bits : (xs ys : List ℕ) → length xs ≡ length ys → ((k : ℕ) → get_or xs k 0 < 2 ^ 64) → ((k : ℕ) → get_or ys k 0 < 2 ^ 64) →
     ((k : ℕ) → has xs k ≡ has ys k) → xs ≡ ys
 same-from_bits xs ys long x_small y_small agree =
-    ext_get_or 0 xs ys long (λ n below. same_from_bits_below 64 (get_or xs n 0) (get_or ys n 0) (x_small n) (y_small n) (λ i low. same_bit n i low))
-  where
-    from_test : (a b : ℕ) → a < 2 → b < 2 → (a == 1) ≡ (b == 1) → a ≡ b
-    from_test a b a_small b_small e = ?
-    same_bit : (n i : ℕ) → i < 64 → bit_at (get_or xs n 0) i ≡ bit_at (get_or ys n 0) i
-    unfolding test
-    same_bit n i low =
-        let word : (64 * n + i) / 64 ≡ n = omega (arith, low) in
-        let bit : (64 * n + i) % 64 ≡ i = omega (arith, low) in
-        let at = λ (ws : List ℕ). has-is ws (64 * n + i) ∙ ap₂ (λ m j. test (get_or ws m 0) j) word bit in
-        from_test (bit_at (get_or xs n 0) i) (bit_at (get_or ys n 0) i) (bit_at-lt (get_or xs n 0) i) (bit_at-lt (get_or ys n 0) i)
-        (sym (at xs) ∙ agree (64 * n + i) ∙ at ys)
+    ext_get_or 0 xs ys long (λ n below. same_word (get_or xs n 0) (get_or ys n 0) (x_small n) (y_small n)
+    (λ i low. sym (test-of xs n i low) ∙ agree (64 * n + i) ∙ test-of ys n i low))

@@ -9,6 +9,9 @@ use Rattle.sip_ledger.specs.declared.debt.Entry.{Entry}
 use Rattle.sip_ledger.specs.Debts.{IsWithoutFirst, counts_at, softened_debt}
 use Rattle.sip_ledger.specs.Rows.{debt_of, debts_from, IsGap}
 
+abbrev pub no_entry : Entry
+no_entry = record { message = 0; deadline = 0 }
+
 -- a debt more or none, before other debts
 cond-append : (b : Bool) (d : Debt) (all xs ys : List Debt) → all ≡ xs ++ ys → cond b (d ∷ all) all ≡ cond b (d ∷ xs) xs ++ ys
 cond-append true d all xs ys e = ap (λ l. d ∷ l) e
@@ -91,10 +94,8 @@ back-set o m entries k e within is =
 
 pub back-unset : (o m : ℕ → Bool) (entries : List Entry) (k : ℕ) → k < length entries → o k ≡ false → back o m entries k ≡ back o m entries (k + 1)
 back-unset o m entries k within is =
-    at-list (drop k entries) (drop (k + 1) entries) refl
-  where
-    at-list : (xs ys : List Entry) → drop k entries ≡ xs → debts_from o m k (drop k entries) ≡ debts_from o m (k + 1) (drop (k + 1) entries)
-    at-list xs ys e = ?
+    back-at o m entries k no_entry within
+    ∙ ap (λ b. cond b (debt_of (get_or entries k no_entry) (m k) ∷ back o m entries (k + 1)) (back o m entries (k + 1))) is
 
 -- past the last bit there are none
 pub back-none : (o m : ℕ → Bool) (entries : List Entry) (k : ℕ) → ((j : ℕ) → k ≤ j → o j ≡ false) → back o m entries k ≡ []

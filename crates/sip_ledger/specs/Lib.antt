@@ -1,3 +1,4 @@
 pub mod Bits
 pub mod Debts
 pub mod Rows
+pub mod inner

@@ -1,11 +1,11 @@
 -- One bit of many words.
-use Rattle.std.proofs.Common.{◌≡◌, ◌≢◌, ℕ, ◌+◌, ◌-◌, ◌*◌, ◌/◌, ◌%◌, ◌^◌, ◌<◌, ◌≤◌, Bool, true, false, ◌&&◌, ◌||◌, ◌==◌, List, length, get_or, set, bit_or, w64, refl, sym, ap, ap₂, ◌∙◌, subst, inl, inr, arith}
+use Rattle.std.proofs.Common.{◌≡◌, ◌≢◌, ℕ, suc, ◌+◌, ◌-◌, ◌*◌, ◌/◌, ◌%◌, ◌^◌, ◌<◌, ◌≤◌, Bool, true, false, ◌&&◌, ◌||◌, ◌==◌, List, length, get_or, set, bit_or, w64, refl, sym, ap, ap₂, ◌∙◌, subst, inl, inr, arith, pow-suc, add-one}
 use Rattle.std.specs.Int.{bit_at, bit_not, trailing_zeros}
 use Rattle.std.proofs.lemmas.Bool.{cases_lt, cases_eq, true≢false}
 use Rattle.std.proofs.lemmas.Bool.Decides.{nat_tests}
-use Rattle.std.proofs.lemmas.Nat.{shr_and_one, pow_pos, div_below, le-div}
+use Rattle.std.proofs.lemmas.Nat.{pow_pos, div_below, le-div}
 use Rattle.std.proofs.lemmas.List.{get_or-set_same, get_or-set_other, get_or_past, ext_get_or}
-use Rattle.std.proofs.lemmas.Nat.Bits.{bit_at-lt, bit_at-zero, bit_at_above, bit_at_set_same, bit_at_set_other, bit_at_clear_same, bit_at_clear_other, bit_at-trailing_zeros, same_from_bits_below}
+use Rattle.std.proofs.lemmas.Nat.Bits.{shr_and_one, bit_at-lt, bit_at-zero, bit_at_above, bit_at_set_same, bit_at_set_other, bit_at_clear_same, bit_at_clear_other, bit_at-trailing_zeros, same_from_bits_below}
 use lib.Bits.{bit_and}
 use Rattle.sip_masks.specs.Bits.{test}
 use Rattle.sip_masks.proofs.BitLemmas.{test-and, test-or}
@@ -157,7 +157,8 @@ top-set w r low high =
 pub top-above : (w r i : ℕ) → w < 2 * 2 ^ r → r < i → test w i ≡ false
 unfolding test
 top-above w r i high above =
-    let more : 2 * 2 ^ r ≡ 2 ^ (r + 1) = ? in
+    let next : 2 ^ (r + 1) ≡ 2 ^ suc r = ap (λ n. 2 ^ n) (add-one r) in
+    let more : 2 * 2 ^ r ≡ 2 ^ (r + 1) = omega (arith, pow-suc 2 r, next) in
     ap (λ n. n == 1) (bit_at_above w (r + 1) i (omega (arith, high, more)) (omega (arith, above)))
 
 -- words with the same bits are the same
@@ -169,7 +170,7 @@ unfolding test
 same_word a b a_small b_small agree =
     same_from_bits_below 64 a b a_small b_small (λ i low. from_test (bit_at a i) (bit_at b i) (bit_at-lt a i) (bit_at-lt b i) (agree i low))
 
-test-of : (words : List ℕ) (n i : ℕ) → i < 64 → has words (64 * n + i) ≡ test (get_or words n 0) i
+pub test-of : (words : List ℕ) (n i : ℕ) → i < 64 → has words (64 * n + i) ≡ test (get_or words n 0) i
 test-of words n i low =
     let word : (64 * n + i) / 64 ≡ n = omega (arith, low) in
     let bit : (64 * n + i) % 64 ≡ i = omega (arith, low) in
@@ -180,3 +181,9 @@ pub same-from_bits : (xs ys : List ℕ) → length xs ≡ length ys → ((k : �
 same-from_bits xs ys long x_small y_small agree =
     ext_get_or 0 xs ys long (λ n below. same_word (get_or xs n 0) (get_or ys n 0) (x_small n) (y_small n)
     (λ i low. sym (test-of xs n i low) ∙ agree (64 * n + i) ∙ test-of ys n i low))
+
+-- a word of 0 has no bit
+pub has-zero_word : (words : List ℕ) (n k : ℕ) → get_or words n 0 ≡ 0 → 64 * n ≤ k → k < 64 * n + 64 → has words k ≡ false
+has-zero_word words n k none from below =
+    let is : 64 * n + (k - 64 * n) ≡ k = omega (arith, from) in
+    ap (has words) (sym is) ∙ test-of words n (k - 64 * n) (omega (arith, below, is)) ∙ ap (λ w. test w (k - 64 * n)) none ∙ test-zero (k - 64 * n)

@@ -119,3 +119,33 @@ back-gap o m entries i (suc n) within gap =
     back-unset o m entries i (omega (arith, within)) (gap i (omega arith) (omega arith))
     ∙ back-gap o m entries (i + 1) n (omega (arith, within)) (λ j from below. gap j (omega (arith, from)) (omega (arith, below)))
     ∙ ap (back o m entries) next
+
+pub back-over : (o m : ℕ → Bool) (entries : List Entry) (i k : ℕ) → i ≤ k → k ≤ length entries → IsGap o i k → back o m entries i ≡ back o m entries k
+back-over o m entries i k order within gap =
+    let is : i + (k - i) ≡ k = omega (arith, order) in
+    back-gap o m entries i (k - i) (omega (arith, within, is)) (λ j from below. gap j from (omega (arith, below, is))) ∙ ap (back o m entries) is
+
+-- what counts still at t
+pub listed-counting : (t : ℕ) (o m o' : ℕ → Bool) (i : ℕ) (xs : List Entry) →
+    ((j : ℕ) (e : Entry) → j < length xs → o' (i + j) ≡ (o (i + j) && (m (i + j) || nat_le t (get_or xs j e).deadline))) →
+    debts_from o' m i xs ≡ filter (counts_at t) (debts_from o m i xs)
+listed-counting t o m o' i [] each = refl
+listed-counting t o m o' i (x ∷ xs) each =
+    let none : i ≡ i + 0 = omega arith in
+    let here : o' i ≡ (o i && (m i || nat_le t x.deadline)) =
+        subst (λ n. o' n ≡ (o n && (m n || nat_le t x.deadline))) (sym none) (each 0 x (omega arith)) in
+    let rest = listed-counting t o m o' (i + 1) xs (λ j e below.
+        let next : i + 1 + j ≡ i + suc j = omega arith in
+        subst (λ n. o' n ≡ (o n && (m n || nat_le t (get_or xs j e).deadline))) (sym next) (each (suc j) e (omega (arith, below)))) in
+    cond-same (o' i) (o i && (m i || nat_le t x.deadline)) (debt_of x (m i)) (debt_of x (m i)) (debts_from o' m (i + 1) xs)
+    (filter (counts_at t) (debts_from o m (i + 1) xs)) here refl rest
+    ∙ sym (cond-filter (counts_at t) (o i) (debt_of x (m i)) (debts_from o m (i + 1) xs))
+
+-- debts that have not to be paid any more
+pub listed-softened : (o m m' : ℕ → Bool) (i : ℕ) (xs : List Entry) → ((k : ℕ) → m' k ≡ false) →
+    debts_from o m' i xs ≡ map softened_debt (debts_from o m i xs)
+listed-softened o m m' i [] none = refl
+listed-softened o m m' i (x ∷ xs) none =
+    cond-same (o i) (o i) (debt_of x (m' i)) (softened_debt (debt_of x (m i))) (debts_from o m' (i + 1) xs)
+    (map softened_debt (debts_from o m (i + 1) xs)) refl (ap (debt_of x) (none i)) (listed-softened o m m' (i + 1) xs none)
+    ∙ sym (cond-map softened_debt (o i) (debt_of x (m i)) (debts_from o m (i + 1) xs))

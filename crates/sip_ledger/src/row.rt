@@ -1,10 +1,10 @@
 //! A row of bits over a list of entries: what one state owes, and what of it must be sent.
-ghost use Rattle.std.specs.Prelude.{◌≡◌, ◌≢◌, ◌↔◌, ℕ, ◌+◌, ◌-◌, ◌*◌, ◌/◌, ◌^◌, ◌<◌, ◌≤◌, ◌++◌, ◌∷◌, [], ◌&&◌, ◌||◌, true, false, length, get_or, filter, map, All, IsTrue, IfSome, IfNone};
+ghost use Rattle.std.specs.Prelude.{◌≡◌, ◌≢◌, ◌↔◌, ℕ, ◌+◌, ◌-◌, ◌*◌, ◌/◌, ◌^◌, ◌<◌, ◌≤◌, ◌++◌, ◌∷◌, [], ◌&&◌, ◌||◌, true, false, List, Some, option_to_list, length, get_or, filter, map, All, IsTrue, IfSome, IfNone};
 ghost use Rattle.std.specs.Bool.{OnTrue, OnFalse};
 ghost use Rattle.sip_ledger.specs.Bits.{has};
 ghost use Rattle.sip_ledger.specs.Debts.{IsWithoutFirst, counts_at, softened_debt, is_payable, debt_deadlines, earliest};
 ghost use Rattle.sip_ledger.specs.Rows.{debt_of, row_debts, IsRow, IsGap};
-ghost use Rattle.sip_ledger.specs.inner.Places.{IsFirstPayable, NonePayable, IsOpenRow, IsMoved, IsGainedAt, Counts, AreRising};
+ghost use Rattle.sip_ledger.specs.inner.Places.{IsFirstPayable, NonePayable, IsOpenRow, IsMoved, IsGainedAt, IsExpired};
 
 use crate::bits::{clear, end, has, next, set};
 use crate::debt::Entry;
@@ -61,7 +61,7 @@ fn first_payable(entries: &[Entry], owed: &[u64], message: u32, moment: u64) -> 
 
 /// Moves bits that have room before them to where they can stand earliest, until one stands that has no hole before it.
 fn settle(entries: &[Entry], owed: &mut [u64], must: &mut [u64], place: Place)
-    requires open { IsOpenRow entries.now (has owed.old) (has must.old) place.low place.at }
+    requires given { IsOpenRow entries.now (has owed.old) (has must.old) place.low place.at }
     requires owed { length entries.now ≤ 64 * length owed.old }
     requires must { length entries.now ≤ 64 * length must.old }
     requires fits { 64 * length owed.old < 2 ^ 64 }
@@ -143,5 +143,72 @@ pub(crate) fn owe(owed: &mut [u64], must: &mut [u64], at: usize, due: bool)
     set(owed, at);
     if due {
         set(must, at);
+    }
+}
+
+/// Of what is owed, nothing has to be sent any more.
+pub(crate) fn soften(must: &mut [u64])
+    ensures { (k : ℕ) → has must.new k ≡ false }
+{
+    for word in must.iter_mut() {
+        *word = 0;
+    }
+}
+
+/// The least deadline of what must be sent.
+pub(crate) fn earliest_must(entries: &[Entry], must: &[u64]) -> Option<u64>
+    requires within { (k : ℕ) → has must.now k ≡ true → k < length entries.now }
+    requires fits { 64 * length must.now < 2 ^ 64 }
+    ensures { (owed : List ℕ) → IsRow entries.now (has owed) (has must.now) →
+        result ≡ earliest (debt_deadlines (row_debts entries.now owed must.now)) }
+{
+    let mut least = None;
+    let mut from = 0;
+    while let Some(at) = next(must, from) {
+        least = Some(earlier(entries[at].deadline, least));
+        from = at + 1;
+    }
+    least
+}
+
+/// The earlier of a moment and another one, if there is one.
+fn earlier(moment: u64, other: Option<u64>) -> u64
+    ensures { Some result ≡ earliest (moment ∷ option_to_list other) }
+{
+    match other {
+        Some(other) => moment.min(other),
+        None => moment,
+    }
+}
+
+/// Drops what may be sent and whose deadline is below the moment.
+pub(crate) fn expire(entries: &[Entry], owed: &mut [u64], must: &mut [u64], moment: u64)
+    requires row { IsRow entries.now (has owed.old) (has must.old) }
+    requires owed { length entries.now ≤ 64 * length owed.old }
+    requires must { length entries.now ≤ 64 * length must.old }
+    requires fits { 64 * length owed.old < 2 ^ 64 }
+    ensures row { IsRow entries.now (has owed.new) (has must.new) }
+    ensures debts { row_debts entries.now owed.new must.new ≡ filter (counts_at moment) (row_debts entries.now owed.old must.old) }
+{
+    drop_past(entries, owed, must, moment);
+    let all = Place {
+        low: 0,
+        at: entries.len(),
+    };
+    settle(entries, owed, must, all);
+}
+
+/// Clears the bits of what may be sent and whose deadline is below the moment.
+fn drop_past(entries: &[Entry], owed: &mut [u64], must: &[u64], moment: u64)
+    requires within { (k : ℕ) → has owed.old k ≡ true → k < length entries.now }
+    requires fits { 64 * length owed.old < 2 ^ 64 }
+    ensures { IsExpired moment entries.now (has must.now) (has owed.old) (has owed.new) }
+{
+    let mut from = 0;
+    while let Some(at) = next(owed, from) {
+        if entries[at].deadline < moment && !has(must, at) {
+            clear(owed, at);
+        }
+        from = at + 1;
     }
 }

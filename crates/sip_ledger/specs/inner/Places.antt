@@ -1,4 +1,4 @@
-use Rattle.std.specs.Prelude.{◌≡◌, ◌≢◌, ◌<◌, ◌≤◌, ◌-◌, ℕ, Bool, true, false, List, IsTrue, get_or, length, nat_le}
+use Rattle.std.specs.Prelude.{◌≡◌, ◌≢◌, ◌&&◌, ◌||◌, ◌<◌, ◌≤◌, ◌-◌, ℕ, Bool, true, false, List, IsTrue, get_or, length, nat_le}
 use Rattle.sip_ledger.specs.declared.debt.Entry.{Entry}
 use Rattle.sip_ledger.specs.declared.row.Place.{Place}
 use Rattle.sip_ledger.specs.Debts.{is_payable}
@@ -43,9 +43,9 @@ pub record IsGainedAt (entries : List Entry) (owed : ℕ → Bool) (entry : Entr
   pub last : (k : ℕ) → at ≤ k → owed k ≡ false
   pub apart : (i : ℕ) (e : Entry) → i < at → IsGap owed i at → get_or entries i e ≢ entry
 
--- these bits tell which entries count still at t
-abbrev pub Counts : List Entry → (ℕ → Bool) → ℕ → Type 0
-Counts entries counting t = (k : ℕ) (e : Entry) → k < length entries → counting k ≡ nat_le t (get_or entries k e).deadline
+-- of what was owed, what counts still at t
+abbrev pub IsExpired : ℕ → List Entry → (ℕ → Bool) → (ℕ → Bool) → (ℕ → Bool) → Type 0
+IsExpired t entries must owed owed' = (k : ℕ) (e : Entry) → k < length entries → owed' k ≡ (owed k && (must k || nat_le t (get_or entries k e).deadline))
 
 -- deadlines never fall
 abbrev pub AreRising : List Entry → Type 0

@@ -1,12 +1,13 @@
 -- The debts at bits of a list of entries.
 use Rattle.std.proofs.Common.{◌≡◌, ◌≢◌, ℕ, zero, suc, ◌+◌, ◌-◌, ◌<◌, ◌≤◌, Bool, true, false, ◌&&◌, ◌||◌, cond, List, [], ◌∷◌, ◌++◌, length, take, drop, get_or, map, filter, refl, sym, ap, ap₂, ◌∙◌, subst, inl, inr, arith, append-nil}
-use Rattle.std.specs.Prelude.{All, nat_le}
+use Rattle.std.specs.Prelude.{All, nat_le, Some, option_to_list, min}
+use Rattle.std.specs.List.{fold}
 use Rattle.std.proofs.lemmas.Bool.{cases_lt, cases_eq}
-use Rattle.std.proofs.lemmas.List.{append_cancel_right, drop_more, drop_all, length-drop, length-take-le, get_or-take, get_or-drop, take-append-drop}
+use Rattle.std.proofs.lemmas.List.{append_cancel_right, drop_more, drop_all, length-drop, length-take-le, get_or-take, get_or-drop, take-append-drop, take_more}
 use Rattle.std.proofs.lemmas.List.Elements.{All-nil, All-cons}
 use Rattle.sip_ledger.specs.declared.debt.Debt.{Debt}
 use Rattle.sip_ledger.specs.declared.debt.Entry.{Entry}
-use Rattle.sip_ledger.specs.Debts.{IsWithoutFirst, counts_at, softened_debt}
+use Rattle.sip_ledger.specs.Debts.{counts_at, softened_debt, debt_deadlines, earliest}
 use Rattle.sip_ledger.specs.Rows.{debt_of, debts_from, IsGap}
 
 abbrev pub no_entry : Entry
@@ -149,3 +150,51 @@ listed-softened o m m' i (x ∷ xs) none =
     cond-same (o i) (o i) (debt_of x (m' i)) (softened_debt (debt_of x (m i))) (debts_from o m' (i + 1) xs)
     (map softened_debt (debts_from o m (i + 1) xs)) refl (ap (debt_of x) (none i)) (listed-softened o m m' (i + 1) xs none)
     ∙ sym (cond-map softened_debt (o i) (debt_of x (m i)) (debts_from o m (i + 1) xs))
+
+-- the bits before k with the next one behind them
+pub front-gap : (o m : ℕ → Bool) (entries : List Entry) (from at : ℕ) → from ≤ at → at ≤ length entries → IsGap o from at →
+    front o m entries at ≡ front o m entries from
+front-gap o m entries from at order within gap =
+    append_cancel_right (front o m entries at) (front o m entries from) (back o m entries at)
+    (sym (parts o m entries at within) ∙ parts o m entries from (omega (arith, order, within))
+    ∙ ap (λ l. front o m entries from ++ l) (back-over o m entries from at order within gap))
+
+pub front-next : (o m : ℕ → Bool) (entries : List Entry) (from at : ℕ) (e : Entry) → from ≤ at → at < length entries → IsGap o from at → o at ≡ true →
+    front o m entries (at + 1) ≡ front o m entries from ++ debt_of (get_or entries at e) (m at) ∷ []
+front-next o m entries from at e order within gap set =
+    let entry = get_or entries at e in
+    let debt = debt_of entry (m at) in
+    let less : at ≤ length entries = omega (arith, within) in
+    let long : 0 + length (take at entries) ≡ at = omega (arith, length-take-le at entries less) in
+    ap (debts_from o m 0) (take_more entries at e within)
+    ∙ listed-append o m 0 (take at entries) (entry ∷ [])
+    ∙ ap (λ n. front o m entries at ++ debts_from o m n (entry ∷ [])) long
+    ∙ ap (λ b. front o m entries at ++ cond b (debt ∷ []) []) set
+    ∙ ap (λ l. l ++ debt ∷ []) (front-gap o m entries from at order less gap)
+
+-- what must be sent is what is at the bits of must
+must-of : (b c : Bool) → (c ≡ true → b ≡ true) → (b && c) ≡ c
+must-of true c among = refl
+must-of false true among = among refl
+must-of false false among = refl
+
+pub listed-must : (o m : ℕ → Bool) (i : ℕ) (xs : List Entry) → ((k : ℕ) → m k ≡ true → o k ≡ true) →
+    debt_deadlines (debts_from o m i xs) ≡ map (λ d. d.deadline) (debts_from m m i xs)
+listed-must o m i [] among = refl
+listed-must o m i (x ∷ xs) among =
+    let debt = debt_of x (m i) in
+    let rest = debts_from o m (i + 1) xs in
+    ap (map (λ (d : Debt). d.deadline)) (cond-filter (λ d. d.must) (o i) debt rest)
+    ∙ cond-map (λ d. d.deadline) (o i && m i) debt (filter (λ d. d.must) rest)
+    ∙ ap (λ b. cond b (x.deadline ∷ debt_deadlines rest) (debt_deadlines rest)) (must-of (o i) (m i) (among i))
+    ∙ ap (λ l. cond (m i) (x.deadline ∷ l) l) (listed-must o m (i + 1) xs among)
+    ∙ sym (cond-map (λ d. d.deadline) (m i) debt (debts_from m m (i + 1) xs))
+
+-- the least of moments and one more
+fold-push : (a m : ℕ) (ms : List ℕ) → fold min a (ms ++ m ∷ []) ≡ min (fold min a ms) m
+fold-push a m [] = refl
+fold-push a m (x ∷ xs) = fold-push (min a x) m xs
+
+pub earliest-push : (ms : List ℕ) (m : ℕ) → earliest (ms ++ m ∷ []) ≡ earliest (m ∷ option_to_list (earliest ms))
+earliest-push [] m = refl
+earliest-push (x ∷ xs) m = let turned : min (fold min x xs) m ≡ min m (fold min x xs) = omega arith in ap Some (fold-push x m xs ∙ turned)

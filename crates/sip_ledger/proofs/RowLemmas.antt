@@ -1,14 +1,14 @@
 -- Rows whose bits change.
 use Rattle.std.proofs.Common.{◌≡◌, ◌≢◌, ℕ, ◌+◌, ◌-◌, ◌<◌, ◌≤◌, max, Bool, true, false, cond, List, [], ◌∷◌, ◌++◌, length, take, get_or, append-nil, suc, refl, sym, ap, ap₂, ◌∙◌, subst, inl, inr, arith}
-use Rattle.std.specs.Prelude.{All, IsTrue}
-use Rattle.std.proofs.lemmas.Bool.{cases_lt, cases_eq, true≢false, false_from_ne_true}
+use Rattle.std.specs.Prelude.{All, IsTrue, ◌&&◌, ◌||◌, nat_le, filter}
+use Rattle.std.proofs.lemmas.Bool.{cases_lt, cases_eq, true≢false, false_from_ne_true, and_from, or_left}
 use Rattle.std.proofs.lemmas.List.{get_or-take, get_or_default, get_or_append_left, length-append, length-take-le}
 use Rattle.sip_ledger.specs.declared.debt.Debt.{Debt}
 use Rattle.sip_ledger.specs.declared.debt.Entry.{Entry}
-use Rattle.sip_ledger.specs.Debts.{IsWithoutFirst}
+use Rattle.sip_ledger.specs.Debts.{IsWithoutFirst, counts_at}
 use Rattle.sip_ledger.specs.Rows.{debt_of, debts_from, IsGap, IsRow}
-use Rattle.sip_ledger.specs.inner.Places.{IsOpenRow, IsMoved}
-use Rattle.sip_ledger.proofs.ListedLemmas.{no_entry, front, back, parts, back-set, back-unset, back-over, back-same, back-none, front-same, listed-All, listed-append, listed-none}
+use Rattle.sip_ledger.specs.inner.Places.{IsOpenRow, IsMoved, IsExpired}
+use Rattle.sip_ledger.proofs.ListedLemmas.{no_entry, front, back, parts, back-set, back-unset, back-over, back-same, back-none, front-same, listed-All, listed-append, listed-none, listed-counting}
 
 -- a bit that is moved to an equal entry in the gap before it leaves the debts as they are
 pub moved-debts : (entries : List Entry) (o m o' m' : ℕ → Bool) (from to : ℕ) → to < from → from < length entries → o from ≡ true → IsGap o to from →
@@ -217,33 +217,163 @@ entry-same : (a b : Entry) → a.message ≡ b.message → a.deadline ≡ b.dead
 entry-same a b same_message same_deadline =
     ap₂ (λ (m d : ℕ). let e : Entry = record { message = m; deadline = d } in e) same_message same_deadline
 
--- the first of some debts stands at the first bit that is set
-first-bit : (o m : ℕ → Bool) (i : ℕ) (xs : List Entry) (d : Debt) (ds : List Debt) → debts_from o m i xs ≡ d ∷ ds →
-    (j : ℕ) × (j < length xs) × (o (i + j) ≡ true) × IsGap o i (i + j) × ((e : Entry) → debt_of (get_or xs j e) (m (i + j)) ≡ d)
+-- the first bit that is set has this debt
+pub record FirstBit (o m : ℕ → Bool) (i : ℕ) (xs : List Entry) (d : Debt) : Type 0 where
+  pub j : ℕ
+  pub inside : j < length xs
+  pub set : o (i + j) ≡ true
+  pub gap : IsGap o i (i + j)
+  pub is : (e : Entry) → debt_of (get_or xs j e) (m (i + j)) ≡ d
+
+first-cases : (o m : ℕ → Bool) (i : ℕ) (x : Entry) (xs : List Entry) (d : Debt) (ds : List Debt) (b : Bool) → o i ≡ b →
+    cond b (debt_of x (m i) ∷ debts_from o m (i + 1) xs) (debts_from o m (i + 1) xs) ≡ d ∷ ds →
+    (debts_from o m (i + 1) xs ≡ d ∷ ds → FirstBit o m (i + 1) xs d) → FirstBit o m i (x ∷ xs) d
+first-cases o m i x xs d ds true set same later =
+    let none : i + 0 ≡ i = omega arith in
+    let is : debt_of x (m i) ≡ d = cc in
+    record {
+      j = 0;
+      inside = omega arith;
+      set = ap o none ∙ set;
+      gap = λ j above below. absurd (omega (arith, above, below));
+      is = λ e. ap (λ n. debt_of x (m n)) none ∙ is;
+    }
+first-cases o m i x xs d ds false unset same later =
+    let found = later same in
+    let next : i + 1 + found.j ≡ i + suc found.j = omega arith in
+    record {
+      j = suc found.j;
+      inside = omega (arith, found.inside);
+      set = ap o (sym next) ∙ found.set;
+      gap = λ j above below. elim (cases_eq j i) [
+        | inl here ↦ ap o here ∙ unset
+        | inr there ↦ found.gap j (omega (arith, above, there)) (omega (arith, below, next))
+      ];
+      is = λ e. ap (λ n. debt_of (get_or xs found.j e) (m n)) (sym next) ∙ found.is e;
+    }
+
+first-bit : (o m : ℕ → Bool) (i : ℕ) (xs : List Entry) (d : Debt) (ds : List Debt) → debts_from o m i xs ≡ d ∷ ds → FirstBit o m i xs d
 first-bit o m i [] d ds same = cc
-first-bit o m i (x ∷ xs) d ds same = by (o i) refl
+first-bit o m i (x ∷ xs) d ds same = first-cases o m i x xs d ds (o i) refl same (first-bit o m (i + 1) xs d ds)
+
+-- these are the entries from i on
+pub record IsRest (entries : List Entry) (i : ℕ) (xs : List Entry) : Type 0 where
+  pub long : i + length xs ≡ length entries
+  pub each : (j : ℕ) (e : Entry) → get_or xs j e ≡ get_or entries (i + j) e
+
+rest-tail : (entries : List Entry) (i : ℕ) (x : Entry) (xs : List Entry) → IsRest entries i (x ∷ xs) → IsRest entries (i + 1) xs
+rest-tail entries i x xs rest = record {
+  long = let long = rest.long in omega (arith, long);
+  each = λ j e. let next : i + suc j ≡ i + 1 + j = omega arith in rest.each (suc j) e ∙ ap (λ n. get_or entries n e) next;
+}
+
+-- where one row has a bit that the other lacks, their debts differ
+clash : (entries : List Entry) (o m o' m' : ℕ → Bool) (i : ℕ) (x : Entry) (xs : List Entry) → IsRow entries o' m' → IsRest entries i (x ∷ xs) →
+    o i ≡ true → o' i ≡ false → debts_from o m i (x ∷ xs) ≡ debts_from o' m' i (x ∷ xs) → ⊥
+clash entries o m o' m' i x xs row rest set unset same =
+    let tail = rest-tail entries i x xs rest in
+    let left : debts_from o m i (x ∷ xs) ≡ debt_of x (m i) ∷ debts_from o m (i + 1) xs =
+        ap (λ b. cond b (debt_of x (m i) ∷ debts_from o m (i + 1) xs) (debts_from o m (i + 1) xs)) set in
+    let right : debts_from o' m' i (x ∷ xs) ≡ debts_from o' m' (i + 1) xs =
+        ap (λ b. cond b (debt_of x (m' i) ∷ debts_from o' m' (i + 1) xs) (debts_from o' m' (i + 1) xs)) unset in
+    let found = first-bit o' m' (i + 1) xs (debt_of x (m i)) (debts_from o m (i + 1) xs) (sym right ∙ sym same ∙ left) in
+    let k = i + 1 + found.j in
+    let is = found.is no_entry in
+    let there : get_or xs found.j no_entry ≡ x = entry-same (get_or xs found.j no_entry) x (ap (λ d. d.message) is) (ap (λ d. d.deadline) is) in
+    let none : i + 0 ≡ i = omega arith in
+    row.leftmost i k no_entry (omega arith) found.set
+    (λ j above below. elim (cases_eq j i) [
+      | inl here ↦ ap o' here ∙ unset
+      | inr after ↦ found.gap j (omega (arith, above, after)) below
+    ])
+    (sym (ap (λ n. get_or entries n no_entry) none) ∙ sym (rest.each 0 no_entry) ∙ sym there ∙ tail.each found.j no_entry)
+
+-- two tests of one answer
+alike : (P : Type 0) (b b' : Bool) → (b ≡ true → b' ≡ false → P) → (b ≡ false → b' ≡ true → P) → (b ≡ true → b' ≡ true → P) → (b ≡ false → b' ≡ false → P) → P
+alike P true true f g h k = h refl refl
+alike P true false f g h k = f refl refl
+alike P false true f g h k = g refl refl
+alike P false false f g h k = k refl refl
+
+agree : (entries : List Entry) (o m o' m' : ℕ → Bool) (i : ℕ) (xs : List Entry) → IsRow entries o m → IsRow entries o' m' → IsRest entries i xs →
+    debts_from o m i xs ≡ debts_from o' m' i xs → (k : ℕ) → i ≤ k → k < i + length xs → (o k ≡ o' k) × (o k ≡ true → m k ≡ m' k)
+agree entries o m o' m' i [] row row' rest same k above below = absurd (omega (arith, above, below))
+agree entries o m o' m' i (x ∷ xs) row row' rest same k above below =
+    let tail = rest-tail entries i x xs rest in
+    let more = agree entries o m o' m' (i + 1) xs row row' tail in
+    let at = λ (b : Bool) (p : ℕ → Bool) (q : ℕ → Bool) (is : p i ≡ b).
+        ap (λ b. cond b (debt_of x (q i) ∷ debts_from p q (i + 1) xs) (debts_from p q (i + 1) xs)) is in
+    let later = λ (tails : debts_from o m (i + 1) xs ≡ debts_from o' m' (i + 1) xs) (not : k ≢ i).
+        more tails k (omega (arith, above, not)) (omega (arith, below)) in
+    alike ((o k ≡ o' k) × (o k ≡ true → m k ≡ m' k)) (o i) (o' i)
+    (λ set unset. absurd (clash entries o m o' m' i x xs row' rest set unset same))
+    (λ unset set. absurd (clash entries o' m' o m i x xs row rest set unset (sym same)))
+    (λ set set'.
+        let heads : debt_of x (m i) ∷ debts_from o m (i + 1) xs ≡ debt_of x (m' i) ∷ debts_from o' m' (i + 1) xs = sym (at true o m set) ∙ same ∙ at true o' m' set' in
+        let head : debt_of x (m i) ≡ debt_of x (m' i) = cc in
+        let tails : debts_from o m (i + 1) xs ≡ debts_from o' m' (i + 1) xs = cc in
+        elim (cases_eq k i) [
+          | inl here ↦ (ap o here ∙ set ∙ sym (ap o' here ∙ set'), λ _. ap m here ∙ ap (λ d. d.must) head ∙ sym (ap m' here))
+          | inr not ↦ later tails not
+        ])
+    (λ unset unset'.
+        let tails : debts_from o m (i + 1) xs ≡ debts_from o' m' (i + 1) xs = sym (at false o m unset) ∙ same ∙ at false o' m' unset' in
+        elim (cases_eq k i) [
+          | inl here ↦ (ap o here ∙ unset ∙ sym (ap o' here ∙ unset'), λ set. absurd (true≢false (sym set ∙ ap o here ∙ unset)))
+          | inr not ↦ later tails not
+        ])
+
+unset-must : (entries : List Entry) (o m : ℕ → Bool) (k : ℕ) → IsRow entries o m → o k ≡ false → m k ≡ false
+unset-must entries o m k row unset = false_from_ne_true (m k) (λ set. true≢false (sym (row.among k set) ∙ unset))
+
+unset-past : (entries : List Entry) (o m : ℕ → Bool) (k : ℕ) → IsRow entries o m → length entries ≤ k → o k ≡ false
+unset-past entries o m k row past = false_from_ne_true (o k) (λ set. absurd (omega (arith, row.within k set, past)))
+
+-- rows of one spelling: where they owe the same they have the same bits
+pub one-spelling : (entries : List Entry) (o m o' m' : ℕ → Bool) → IsRow entries o m → IsRow entries o' m' →
+    debts_from o m 0 entries ≡ debts_from o' m' 0 entries → (k : ℕ) → (o k ≡ o' k) × (m k ≡ m' k)
+one-spelling entries o m o' m' row row' same k =
+    let zero_on = λ (j : ℕ). let none : 0 + j ≡ j = omega arith in none in
+    let whole : IsRest entries 0 entries = record {
+      long = omega arith;
+      each = λ j e. ap (λ n. get_or entries n e) (sym (zero_on j));
+    } in
+    elim (cases_lt k (length entries)) [
+      | inl inside ↦
+          let here = agree entries o m o' m' 0 entries row row' whole same k (omega arith) (omega (arith, inside)) in
+          (here.0, alike (m k ≡ m' k) (o k) (o' k)
+            (λ set unset. absurd (true≢false (sym set ∙ here.0 ∙ unset)))
+            (λ unset set. absurd (true≢false (sym set ∙ sym here.0 ∙ unset)))
+            (λ set _. here.1 set)
+            (λ unset unset'. unset-must entries o m k row unset ∙ sym (unset-must entries o' m' k row' unset')))
+      | inr past ↦
+          let unset = unset-past entries o m k row past in
+          let unset' = unset-past entries o' m' k row' past in
+          (unset ∙ sym unset', unset-must entries o m k row unset ∙ sym (unset-must entries o' m' k row' unset'))
+    ]
+
+-- a row without what has expired
+pub expired-open : (entries : List Entry) (o m o' : ℕ → Bool) (t : ℕ) → IsRow entries o m → IsExpired t entries m o o' → IsOpenRow entries o' m 0 (length entries)
+expired-open entries o m o' t row expired = record {
+  within = inside;
+  among = λ k set.
+      let was = row.among k set in
+      let here = row.within k was in
+      expired.kept k no_entry here ∙ and_from (o k) (m k || nat_le t (get_or entries k no_entry).deadline) was (or_left (m k) (nat_le t (get_or entries k no_entry).deadline) set);
+  begins = λ some. absurd (omega (arith, some));
+  below = λ i k e before set gap none same. absurd (omega (arith, none));
+  behind = λ i k e before set gap past same. absurd (omega (arith, past, before, inside k set));
+}
   where
-    none : i + 0 ≡ i
-    none = omega arith
-    by : (b : Bool) → o i ≡ b →
-        (j : ℕ) × (j < length (x ∷ xs)) × (o (i + j) ≡ true) × IsGap o i (i + j) × ((e : Entry) → debt_of (get_or (x ∷ xs) j e) (m (i + j)) ≡ d)
-    by true set =
-        let head : debt_of x (m i) ∷ debts_from o m (i + 1) xs ≡ d ∷ ds =
-            ap (λ b. cond b (debt_of x (m i) ∷ debts_from o m (i + 1) xs) (debts_from o m (i + 1) xs)) (sym set) ∙ same in
-        let is : debt_of x (m i) ≡ d = cc in
-        (0, omega arith, ap o none ∙ set, λ j above below. absurd (omega (arith, above, below)), λ e. ap (λ n. debt_of x (m n)) none ∙ is)
-    by false unset =
-        let tail : debts_from o m (i + 1) xs ≡ d ∷ ds =
-            ap (λ b. cond b (debt_of x (m i) ∷ debts_from o m (i + 1) xs) (debts_from o m (i + 1) xs)) (sym unset) ∙ same in
-        let found = first-bit o m (i + 1) xs d ds tail in
-        let next : i + 1 + found.0 ≡ i + suc found.0 = omega arith in
-        (
-          suc found.0,
-          omega (arith, found.1),
-          ap o (sym next) ∙ found.2,
-          λ j above below. elim (cases_eq j i) [
-            | inl here ↦ ap o here ∙ unset
-            | inr there ↦ found.3 j (omega (arith, above, there)) (omega (arith, below, next))
-          ],
-          λ e. ap (λ n. debt_of (get_or xs found.0 e) (m n)) (sym next) ∙ found.4 e,
-        )
+    inside : (k : ℕ) → o' k ≡ true → k < length entries
+    inside k set = elim (cases_lt k (length entries)) [
+      | inl here ↦ here
+      | inr there ↦ row.within k (sym (expired.past k there) ∙ set)
+    ]
+
+pub expired-debts : (entries : List Entry) (o m o' : ℕ → Bool) (t : ℕ) → IsExpired t entries m o o' →
+    debts_from o' m 0 entries ≡ filter (counts_at t) (debts_from o m 0 entries)
+expired-debts entries o m o' t expired =
+    listed-counting t o m o' 0 entries (λ j e below.
+    let here : j ≡ 0 + j = omega arith in
+    subst (λ n. o' n ≡ (o n && (m n || nat_le t (get_or entries j e).deadline))) here (expired.kept j e below))

@@ -3,6 +3,8 @@
 
 mod bits;
 mod debt;
+mod ledger;
 mod row;
 
 pub use crate::debt::{Debt, Entry};
+pub use crate::ledger::Ledger;

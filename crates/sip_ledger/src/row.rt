@@ -201,6 +201,7 @@ pub(crate) fn expire(entries: &[Entry], owed: &mut [u64], must: &mut [u64], mome
 /// Clears the bits of what may be sent and whose deadline is below the moment.
 fn drop_past(entries: &[Entry], owed: &mut [u64], must: &[u64], moment: u64)
     requires within { (k : ℕ) → has owed.old k ≡ true → k < length entries.now }
+    requires owed { length entries.now ≤ 64 * length owed.old }
     requires fits { 64 * length owed.old < 2 ^ 64 }
     ensures { IsExpired moment entries.now (has must.now) (has owed.old) (has owed.new) }
 {

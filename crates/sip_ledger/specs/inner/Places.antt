@@ -44,8 +44,9 @@ pub record IsGainedAt (entries : List Entry) (owed : ℕ → Bool) (entry : Entr
   pub apart : (i : ℕ) (e : Entry) → i < at → IsGap owed i at → get_or entries i e ≢ entry
 
 -- of what was owed, what counts still at t
-abbrev pub IsExpired : ℕ → List Entry → (ℕ → Bool) → (ℕ → Bool) → (ℕ → Bool) → Type 0
-IsExpired t entries must owed owed' = (k : ℕ) (e : Entry) → k < length entries → owed' k ≡ (owed k && (must k || nat_le t (get_or entries k e).deadline))
+pub record IsExpired (t : ℕ) (entries : List Entry) (must owed owed' : ℕ → Bool) : Type 0 where
+  pub kept : (k : ℕ) (e : Entry) → k < length entries → owed' k ≡ (owed k && (must k || nat_le t (get_or entries k e).deadline))
+  pub past : (k : ℕ) → length entries ≤ k → owed' k ≡ owed k
 
 -- deadlines never fall
 abbrev pub AreRising : List Entry → Type 0

@@ -1,3 +1,4 @@
 pub mod BitsLemmas
 pub mod ListedLemmas
 pub mod RowLemmas
+pub mod TableLemmas

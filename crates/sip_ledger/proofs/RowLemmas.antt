@@ -1,13 +1,15 @@
 -- Rows whose bits change.
-use Rattle.std.proofs.Common.{◌≡◌, ◌≢◌, ℕ, ◌+◌, ◌-◌, ◌<◌, ◌≤◌, max, Bool, true, false, cond, List, [], ◌∷◌, ◌++◌, length, take, get_or, append-nil, suc, refl, sym, ap, ap₂, ◌∙◌, subst, inl, inr, arith}
+use Rattle.std.proofs.Common.{◌≡◌, ◌≢◌, ℕ, ◌+◌, ◌-◌, ◌^◌, ◌<◌, ◌≤◌, max, Bool, true, false, cond, List, [], ◌∷◌, ◌++◌, length, take, get_or, append-nil, suc, refl, sym, ap, ap₂, ◌∙◌, subst, inl, inr, arith}
 use Rattle.std.specs.Prelude.{All, IsTrue, ◌&&◌, ◌||◌, nat_le, filter}
 use Rattle.std.proofs.lemmas.Bool.{cases_lt, cases_eq, true≢false, false_from_ne_true, and_from, or_left}
-use Rattle.std.proofs.lemmas.List.{get_or-take, get_or_default, get_or_append_left, length-append, length-take-le}
+use Rattle.std.proofs.lemmas.List.{get_or-take, get_or_default, get_or_append_left, get_or_at, length-append, length-take-le}
 use Rattle.sip_ledger.specs.declared.debt.Debt.{Debt}
 use Rattle.sip_ledger.specs.declared.debt.Entry.{Entry}
 use Rattle.sip_ledger.specs.Debts.{IsWithoutFirst, counts_at}
-use Rattle.sip_ledger.specs.Rows.{debt_of, debts_from, IsGap, IsRow}
-use Rattle.sip_ledger.specs.inner.Places.{IsOpenRow, IsMoved, IsExpired}
+use Rattle.sip_ledger.specs.Rows.{debt_of, debts_from, row_debts, IsGap, IsRow}
+use Rattle.sip_ledger.specs.inner.Places.{IsOpenRow, IsMoved, IsExpired, IsGainedAt}
+use Rattle.sip_ledger.specs.Bits.{has}
+use Rattle.sip_ledger.proofs.BitsLemmas.{same-from_bits}
 use Rattle.sip_ledger.proofs.ListedLemmas.{no_entry, front, back, parts, back-set, back-unset, back-over, back-same, back-none, front-same, listed-All, listed-append, listed-none, listed-counting}
 
 -- a bit that is moved to an equal entry in the gap before it leaves the debts as they are
@@ -377,3 +379,33 @@ expired-debts entries o m o' t expired =
     listed-counting t o m o' 0 entries (λ j e below.
     let here : j ≡ 0 + j = omega arith in
     subst (λ n. o' n ≡ (o n && (m n || nat_le t (get_or entries j e).deadline))) here (expired.kept j e below))
+
+-- where an entry is put behind the others, a debt of it is gained there
+pub grown-gained : (entries : List Entry) (entry : Entry) (o : ℕ → Bool) (at : ℕ) → IsGainedAt entries o entry at → at ≡ length entries →
+    IsGainedAt (entries ++ entry ∷ []) o entry at
+grown-gained entries entry o at gained here = record {
+  within = omega (arith, here, length-append entries (entry ∷ []));
+  is = λ e inside. ap (λ n. get_or (entries ++ entry ∷ []) n e) here ∙ get_or_at entries entry [] e (length entries) refl;
+  last = gained.last;
+  apart = λ i e before gap same.
+      gained.apart i e before gap (sym (get_or_append_left entries (entry ∷ []) e i (omega (arith, before, here))) ∙ same);
+}
+
+-- what a row owes with a debt more
+pub gains : (entries : List Entry) (entry : Entry) (o m o' m' : ℕ → Bool) (at : ℕ) (due : Bool) → IsRow entries o m → IsGainedAt entries o entry at →
+    at < length entries → o' at ≡ true → ((k : ℕ) → k ≢ at → o' k ≡ o k) → m' at ≡ due → ((k : ℕ) → k ≢ at → m' k ≡ m k) →
+    IsRow entries o' m' × (debts_from o' m' 0 entries ≡ debts_from o m 0 entries ++ debt_of entry due ∷ [])
+gains entries entry o m o' m' at due row gained inside here others must_here must_others = (
+  gained-row entries o m o' m' at row inside (λ j above below. gained.last j above)
+    (λ i e before gap same. gained.apart i e before gap (same ∙ gained.is e inside)) here others must_others,
+  gained-debts entries o m o' m' at inside gained.last here others must_others
+    ∙ ap₂ (λ e d. debts_from o m 0 entries ++ debt_of e d ∷ []) (gained.is no_entry inside) must_here,
+)
+
+-- rows of words that owe the same have the same words
+pub same-words : (entries : List Entry) (xs ms ys ns : List ℕ) → length xs ≡ length ys → length ms ≡ length ns →
+    ((k : ℕ) → get_or xs k 0 < 2 ^ 64) → ((k : ℕ) → get_or ms k 0 < 2 ^ 64) → ((k : ℕ) → get_or ys k 0 < 2 ^ 64) → ((k : ℕ) → get_or ns k 0 < 2 ^ 64) →
+    IsRow entries (has xs) (has ms) → IsRow entries (has ys) (has ns) → row_debts entries xs ms ≡ row_debts entries ys ns → (xs ≡ ys) × (ms ≡ ns)
+same-words entries xs ms ys ns x_long m_long x_small m_small y_small n_small row row' same =
+    let bits = one-spelling entries (has xs) (has ms) (has ys) (has ns) row row' same in
+    (same-from_bits xs ys x_long x_small y_small (λ k. (bits k).0), same-from_bits ms ns m_long m_small n_small (λ k. (bits k).1))

@@ -18,7 +18,7 @@ use Rattle.sip_ledger.specs.inner.Tables.{IsInside, IsTableRow, ChangesRow, Chan
 pub row-before : (k row width : ℕ) → k < row → k * width + width ≤ row * width
 row-before k row width before =
     let more : k + 1 ≤ row = omega (arith, before) in
-    let product = mul-le-mul_left {b = k + 1} {c = row} width more in
+    let product = mul-le-mul_left width more in
     omega (arith, product)
 
 pub row-inside : (rows width row : ℕ) (words : List ℕ) → length words ≡ rows * width → row < rows → IsInside width row words

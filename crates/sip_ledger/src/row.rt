@@ -6,6 +6,8 @@ ghost use Rattle.sip_ledger.specs.Debts.{IsWithoutFirst, counts_at, softened_deb
 ghost use Rattle.sip_ledger.specs.Rows.{debt_of, row_debts, IsRow, IsGap};
 ghost use Rattle.sip_ledger.specs.inner.Places.{IsFirstPayable, NonePayable, IsOpenRow, IsMoved, IsGainedAt, IsExpired};
 
+ghost use Rattle.sip_ledger.specs.declared.debt.Entry.{Entry};
+
 use crate::bits::{clear, end, has, next, set};
 use crate::debt::Entry;
 
@@ -212,4 +214,19 @@ fn drop_past(entries: &[Entry], owed: &mut [u64], must: &[u64], moment: u64)
         }
         from = at + 1;
     }
+}
+
+/// Whether two rows over one list of entries owe the same: equal debts have one spelling.
+pub(crate) fn is_same(
+    owed: &[u64],
+    must: &[u64],
+    other_owed: &[u64],
+    other_must: &[u64],
+) -> bool
+    requires owed { length owed.now ≡ length other_owed.now }
+    requires must { length must.now ≡ length other_must.now }
+    ensures { (entries : List Entry) → IsRow entries (has owed.now) (has must.now) → IsRow entries (has other_owed.now) (has other_must.now) →
+        (IsTrue result ↔ (row_debts entries owed.now must.now ≡ row_debts entries other_owed.now other_must.now)) }
+{
+    owed == other_owed && must == other_must
 }

@@ -1,14 +1,17 @@
 //! Rows of words, one behind another.
-ghost use Rattle.std.specs.Prelude.{◌≡◌, ◌≢◌, ◌<◌, ◌≤◌, ◌+◌, ◌*◌, ◌^◌, ℕ, List, IsTrue, All, true, false, length, map, filter};
+ghost use Rattle.std.specs.Prelude.{◌≡◌, ◌≢◌, ◌<◌, ◌≤◌, ◌+◌, ◌*◌, ◌^◌, ◌++◌, ◌∷◌, [], ℕ, IfOk, List, IsTrue, All, true, false, length, map, filter};
 ghost use Rattle.std.specs.Bool.{OnTrue, OnFalse};
 ghost use Rattle.sip_ledger.specs.Bits.{has};
 ghost use Rattle.sip_ledger.specs.Debts.{IsWithoutFirst, counts_at, softened_debt, is_payable, debt_deadlines, earliest};
+ghost use Rattle.sip_ledger.specs.declared.debt.Entry.{Entry};
+ghost use Rattle.sip_ledger.specs.Rows.{debt_of};
 ghost use Rattle.sip_ledger.specs.Ledgers.{part, row_at};
 ghost use Rattle.sip_ledger.specs.inner.Places.{IsGainedAt};
-ghost use Rattle.sip_ledger.specs.inner.Tables.{IsInside, IsTableRow, ChangesRow, ChangesTable};
+ghost use Rattle.sip_ledger.specs.inner.Tables.{IsInside, IsTableRow, ChangesRow, ChangesTable, IsWidened};
 
 use crate::debt::Entry;
 use crate::row;
+use std::alloc::{AllocError, Global};
 
 /// Takes out of the row the first debt that a send of the message at the moment pays, and tells whether there was one.
 pub(crate) fn pay(
@@ -88,4 +91,65 @@ pub(crate) fn earliest_must(
     let start = row * width;
     let end = start + width;
     row::earliest_must(entries, &must[start..end])
+}
+
+/// Where the row gains a debt of this entry: the index of an entry that is there, or the number of all.
+pub(crate) fn gained_at(
+    entries: &[Entry],
+    owed: &[u64],
+    width: usize,
+    row: usize,
+    entry: Entry,
+) -> usize
+    requires inside { IsInside width row owed.now }
+    requires within { (k : ℕ) → has (part width row owed.now) k ≡ true → k < length entries.now }
+    requires fits { 64 * width < 2 ^ 64 }
+    ensures { IsGainedAt entries.now (has (part width row owed.now)) entry result }
+{
+    let start = row * width;
+    let end = start + width;
+    row::gained_at(entries, &owed[start..end], entry)
+}
+
+/// Lets the row gain a debt, at the index of its entry behind the others.
+pub(crate) fn gain(
+    owed: &mut [u64],
+    must: &mut [u64],
+    width: usize,
+    row: usize,
+    at: usize,
+    due: bool,
+)
+    requires owed { IsInside width row owed.old }
+    requires must { IsInside width row must.old }
+    requires within { at < 64 * width }
+    requires free { has (part width row must.old) at ≡ false }
+    ensures { (entries : List Entry) (entry : Entry) → IsTableRow entries width row owed.old must.old →
+        IsGainedAt entries (has (part width row owed.old)) entry at → at < length entries →
+        ChangesTable entries width row owed.old must.old owed.new must.new
+        × (row_at entries width owed.new must.new row ≡ row_at entries width owed.old must.old row ++ debt_of entry due ∷ []) }
+{
+    let start = row * width;
+    let end = start + width;
+    row::owe(&mut owed[start..end], &mut must[start..end], at, due);
+}
+
+/// The words with one more for each row, behind its others.
+pub(crate) fn widened(
+    alloc: Global,
+    words: &[u64],
+    width: usize,
+    rows: usize,
+) -> Result<Vec<u64>, AllocError>
+    requires { length words.now ≡ rows * width }
+    ensures { IfOk result (λ wide. IsWidened width rows words.now wide.items) }
+{
+    let mut wide = Vec::new(alloc);
+    for row in 0..rows {
+        let start = row * width;
+        let end = start + width;
+        wide.extend_from_slice(&words[start..end])?;
+        wide.push(0)?;
+    }
+    Ok(wide)
 }

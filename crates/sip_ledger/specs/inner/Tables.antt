@@ -1,4 +1,4 @@
-use Rattle.std.specs.Prelude.{◌≡◌, ◌≢◌, ◌<◌, ◌≤◌, ◌+◌, ◌*◌, ◌^◌, ℕ, List, length}
+use Rattle.std.specs.Prelude.{◌≡◌, ◌≢◌, ◌<◌, ◌≤◌, ◌+◌, ◌*◌, ◌^◌, ℕ, List, [], ◌∷◌, ◌++◌, length}
 use Rattle.sip_ledger.specs.declared.debt.Entry.{Entry}
 use Rattle.sip_ledger.specs.Bits.{has}
 use Rattle.sip_ledger.specs.Rows.{IsRow}
@@ -28,3 +28,8 @@ pub record ChangesTable (entries : List Entry) (width row : ℕ) (owed must owed
   pub owed_changes : ChangesRow width row owed owed'
   pub must_changes : ChangesRow width row must must'
   pub is : IsRow entries (has (part width row owed')) (has (part width row must'))
+
+-- each row has a word more, behind its others
+pub record IsWidened (width rows : ℕ) (old new : List ℕ) : Type 0 where
+  pub long : length new ≡ rows * (width + 1)
+  pub each : (k : ℕ) → k < rows → part (width + 1) k new ≡ part width k old ++ 0 ∷ []

@@ -3,9 +3,7 @@
 
 mod bits;
 mod debt;
-mod ledger;
 mod row;
 mod table;
 
 pub use crate::debt::{Debt, Entry};
-pub use crate::ledger::Ledger;

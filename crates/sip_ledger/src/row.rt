@@ -215,18 +215,3 @@ fn drop_past(entries: &[Entry], owed: &mut [u64], must: &[u64], moment: u64)
         from = at + 1;
     }
 }
-
-/// Whether two rows over one list of entries owe the same: equal debts have one spelling.
-pub(crate) fn is_same(
-    owed: &[u64],
-    must: &[u64],
-    other_owed: &[u64],
-    other_must: &[u64],
-) -> bool
-    requires owed { length owed.now ≡ length other_owed.now }
-    requires must { length must.now ≡ length other_must.now }
-    ensures { (entries : List Entry) → IsRow entries (has owed.now) (has must.now) → IsRow entries (has other_owed.now) (has other_must.now) →
-        (IsTrue result ↔ (row_debts entries owed.now must.now ≡ row_debts entries other_owed.now other_must.now)) }
-{
-    owed == other_owed && must == other_must
-}

@@ -11,7 +11,6 @@ ghost use Rattle.sip_ledger.specs.inner.Tables.{IsInside, IsTableRow, ChangesRow
 
 use crate::debt::Entry;
 use crate::row;
-use std::alloc::{AllocError, Global};
 
 /// Takes out of the row the first debt that a send of the message at the moment pays, and tells whether there was one.
 pub(crate) fn pay(
@@ -132,24 +131,4 @@ pub(crate) fn gain(
     let start = row * width;
     let end = start + width;
     row::owe(&mut owed[start..end], &mut must[start..end], at, due);
-}
-
-/// The words with one more for each row, behind its others.
-pub(crate) fn widened(
-    alloc: Global,
-    words: &[u64],
-    width: usize,
-    rows: usize,
-) -> Result<Vec<u64>, AllocError>
-    requires { length words.now ≡ rows * width }
-    ensures { IfOk result (λ wide. IsWidened width rows words.now wide.items) }
-{
-    let mut wide = Vec::new(alloc);
-    for row in 0..rows {
-        let start = row * width;
-        let end = start + width;
-        wide.extend_from_slice(&words[start..end])?;
-        wide.push(0)?;
-    }
-    Ok(wide)
 }

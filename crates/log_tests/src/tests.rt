@@ -1,7 +1,7 @@
 //! Rows of the format, read in pieces of any size and written again.
 use crate::devices::{Pieces, Room};
 use sip_log::{
-    Broken, FromRead, LogError, LogReader, Sink, Source, ToWrite, WriteError, read_entries,
+    Broken, FromRead, LogError, LogReader, Progress, Sink, Source, ToWrite, WriteError, read_entries,
     write_entry, write_header,
 };
 use sip_times::{Action, Params};
@@ -286,6 +286,23 @@ fn what_an_entry_tells(rt: HostRuntime) -> Result<(), Fail> {
     Ok(())
 }
 
+/// A buffer that is handed back takes the next entry: what stood in it is gone, and its room stays.
+#[test]
+fn a_buffer_is_used_again(rt: HostRuntime) -> Result<(), Fail> {
+    let mut left: &[u8] = WRITTEN;
+    let mut progress = Progress::new(rt.alloc());
+    let mut buffer = Vec::from_slice(rt.alloc(), b"longer than each of the messages")?;
+    let room = buffer.capacity();
+    for message in MESSAGES {
+        let entry = progress.next_into(buffer, &mut left).ok().flatten().ok_or("no entry")?;
+        assert!(rt; entry.bytes.as_slice() == *message);
+        buffer = entry.bytes;
+    }
+    assert_eq!(rt; buffer.capacity(), room);
+    assert!(rt; matches!(progress.next_into(buffer, &mut left), Ok(None)));
+    Ok(())
+}
+
 /// Writes a header and three entries.
 fn write<W: Sink>(writer: &mut W, params: &Params) -> Result<(), WriteError> {
     write_header(writer, params)?;
@@ -294,6 +311,8 @@ fn write<W: Sink>(writer: &mut W, params: &Params) -> Result<(), WriteError> {
     write_entry(writer, Action::Received, 9_999_999_999_999, b"hi")?;
     write_entry(writer, Action::Mark, 9_999_999_999_999, b"plays no part")
 }
+
+const MESSAGES: &[&[u8]] = &[b"hello", b"\n", b"hi", b""];
 
 const WRITTEN: &[u8] =
     b"sip-trace 1\nt1 500 t2 4000 t4 5000 tolerance 50\nS 0 5\nhello\nF 7 1\n\n\nR 9999999999999 2\nhi\nM 9999999999999\n";

@@ -1,5 +1,5 @@
 -- What is answered of a key.
-use Rattle.std.specs.Prelude.{◌≡◌, true, false, Option, Result, Ok, Err}
+use Rattle.std.specs.Prelude.{◌≡◌, true, false, Option, Result, Ok, Err, ⊤}
 use Rattle.sip_message.specs.Says.{Said}
 use Rattle.sip_key.specs.declared.role.Direction.{Direction}
 use Rattle.sip_key.specs.Key.{KeyParts}
@@ -11,4 +11,4 @@ use Rattle.sip_key.specs.Concerns.{own_key, lacks_cookie}
 abbrev pub IsOwnKey : Said → Direction → Result (Option KeyParts) KeyError → Type 0
 IsOwnKey s direction (Ok key) = (key ≡ own_key s direction) × (lacks_cookie s direction ≡ false)
 IsOwnKey s direction (Err error.NoCookie) = lacks_cookie s direction ≡ true
-IsOwnKey s direction (Err error.Memory) = Unit {0}
+IsOwnKey s direction (Err error.Memory) = ⊤

@@ -1,6 +1,6 @@
 -- What a caller of `next` knows of the whole input, call after call.
 use Rattle.std.proofs.Common.{◌≡◌, ◌⊎◌, inl, inr, ◌<◌, ◌≤◌, ◌+◌, ℕ, Bool, List, [], ◌∷◌, ◌++◌, length, Option, Some, None, IfSome, IsSome, Result, Ok, Err, refl, subst, sym, ap, ◌∙◌, arith, append_assoc}
-use Rattle.std.specs.Prelude.{flat_map}
+use Rattle.std.specs.Prelude.{flat_map, ⊤}
 use Rattle.std.specs.Io.KnownBytes.{prepend_known}
 use Rattle.std.proofs.lemmas.List.{append-nil, length_push, length-append}
 use Rattle.sip_times.specs.Times.{Times, AreTimes}
@@ -33,8 +33,8 @@ HasRead start (Some p) items left = IfSome start (λ input. (rest : List ℕ) ×
 abbrev pub StandsAt : Stage → Option (List ℕ) → List Item → ReaderState → Type 0
 StandsAt fresh start items now = (items ≡ []) × (now.left ≡ start) × (now.times ≡ None) × (now.count ≡ 0) × (now.last ≡ 0)
 StandsAt entries start items now = HasRead start now.times items now.left × (now.count ≡ length items) × (now.last ≡ last_of 0 items)
-StandsAt ended start items now = Unit {0}
-StandsAt failed start items now = Unit {0}
+StandsAt ended start items now = ⊤
+StandsAt failed start items now = ⊤
 
 abbrev pub Stands : Option (List ℕ) → List Item → ReaderState → Type 0
 Stands start items now = StandsAt now.stage start items now

@@ -1,4 +1,4 @@
-use Rattle.std.specs.Prelude.{◌≡◌, ◌≢◌, ◌⊎◌, ◌<◌, ◌≤◌, ◌++◌, ℕ, List, [], ◌∷◌, length, slice_index, flat_map}
+use Rattle.std.specs.Prelude.{◌≡◌, ◌≢◌, ◌⊎◌, ◌<◌, ◌≤◌, ◌++◌, ℕ, List, [], ◌∷◌, length, slice_index, flat_map, ⊤}
 use Rattle.sip_times.specs.Times.{Times, AreTimes, last_moment}
 use Rattle.sip_times.specs.declared.action.Action.{Action}
 use Rattle.sip_times.specs.declared.action.Action.TheVariants.{Mark}
@@ -66,7 +66,7 @@ ComesNext count last rest (stops fault) = Cannot count last rest fault
 
 -- each of the entries keeps the limits, and none is before this moment or the entry before it
 abbrev pub InOrder : ℕ → List Item → Type 0
-InOrder last [] = Unit {0}
+InOrder last [] = ⊤
 InOrder last (e ∷ es) = (last ≤ e.moment) × IsEntry e × InOrder e.moment es
 
 -- the moment of the last entry

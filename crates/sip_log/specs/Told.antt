@@ -1,4 +1,4 @@
-use Rattle.std.specs.Prelude.{◌≡◌, ℕ, Bool, true, List, Option, Some, None, Result, Ok, Err, IfSome}
+use Rattle.std.specs.Prelude.{◌≡◌, ℕ, Bool, true, List, Option, Some, None, Result, Ok, Err, IfSome, ⊤}
 use Rattle.sip_log.specs.declared.entry.Entry.{Entry}
 use Rattle.sip_log.specs.declared.log_error.LogError.{LogError}
 use Rattle.sip_log.specs.declared.log_error.LogError.TheVariants as errors
@@ -17,7 +17,7 @@ FailsAs before after P errors.Truncated = (after ≡ before) × P faults.Truncat
 FailsAs before after P errors.Order = (after ≡ before) × P faults.Order
 FailsAs before after P errors.Limit = (after ≡ before) × P faults.Limit
 FailsAs before after P errors.Io = after ≡ true
-FailsAs before after P errors.Memory = Unit {0}
+FailsAs before after P errors.Memory = ⊤
 FailsAs before after P errors.Failed = ⊥
 
 -- a value with what is left tells what comes in the input by P, and an error the fault; nothing where the bytes are not known

@@ -1,5 +1,5 @@
 //! The entries of a log, one after another.
-ghost use Rattle.std.specs.Prelude.{◌≡◌, ◌+◌, ◌<◌, ◌≤◌, IfOk, IfSome, OnSome};
+ghost use Rattle.std.specs.Prelude.{◌≡◌, ◌+◌, ◌<◌, ◌≤◌, [], IfOk, IfSome, OnSome};
 ghost use Rattle.sip_times.specs.Times.{last_moment};
 ghost use Rattle.sip_log.specs.inner.Line.{KeepsLimits, cut_head, head_of, moment_of};
 ghost use Rattle.sip_log.specs.inner.Window.{unread};
@@ -14,7 +14,6 @@ use crate::log_error::LogError;
 use crate::source::Source;
 use crate::window::Window;
 use sip_times::Action;
-use std::alloc::Global;
 
 /// The most bytes of an entry's line with its line feed.
 const LONGEST_LINE: usize = 32;
@@ -31,9 +30,9 @@ pub struct Entry {
     pub bytes: Vec<u8>,
 }
 
-/// Reads the entry behind `count` others, the last of which is at the moment `last`. None at the end of the log.
+/// Reads the entry behind `count` others, the last of which is at the moment `last`, into the buffer. None at the end of the log.
 pub(crate) fn next_entry<R: Source>(
-    alloc: Global,
+    buffer: Vec<u8>,
     window: &mut Window,
     source: &mut R,
     count: u32,
@@ -51,7 +50,7 @@ pub(crate) fn next_entry<R: Source>(
     if count >= MOST_ENTRIES {
         return Err(LogError::Limit);
     }
-    match read_entry(alloc, window, source, count + 1, last) {
+    match read_entry(buffer, window, source, count + 1, last) {
         Ok(entry) => Ok(Some(entry)),
         Err(error) => Err(error),
     }
@@ -59,7 +58,7 @@ pub(crate) fn next_entry<R: Source>(
 
 /// Reads an entry by its line.
 fn read_entry<R: Source>(
-    alloc: Global,
+    buffer: Vec<u8>,
     window: &mut Window,
     source: &mut R,
     number: u32,
@@ -79,12 +78,12 @@ fn read_entry<R: Source>(
         return Err(LogError::EntryLine);
     };
     window.consume(len + 1);
-    after_line(alloc, window, source, number, last, head)
+    after_line(buffer, window, source, number, last, head)
 }
 
 /// Reads what is behind an entry's line, if the line keeps the limits and the order.
 fn after_line<R: Source>(
-    alloc: Global,
+    buffer: Vec<u8>,
     window: &mut Window,
     source: &mut R,
     number: u32,
@@ -101,12 +100,12 @@ fn after_line<R: Source>(
     if head.moment() < last {
         return Err(LogError::Order);
     }
-    read_body(alloc, window, source, number, head)
+    read_body(buffer, window, source, number, head)
 }
 
 /// Reads what an entry has behind its line: a message, or nothing.
 fn read_body<R: Source>(
-    alloc: Global,
+    mut buffer: Vec<u8>,
     window: &mut Window,
     source: &mut R,
     number: u32,
@@ -117,22 +116,23 @@ fn read_body<R: Source>(
     ensures says { TellsWhatComes (unread window.old (R.left source.old)) (unread window.new (R.left source.new))
         (R.has_failed source.old) (R.has_failed source.new) (BodyComes (head_of head)) entry_next result }
 {
+    buffer.clear();
     match head {
         Head::Message(action, moment, len) => {
-            read_message(alloc, window, source, number, action, moment, len)
+            read_message(buffer, window, source, number, action, moment, len)
         }
         Head::Mark(moment) => Ok(Entry {
             number,
             moment,
             action: Action::Mark,
-            bytes: Vec::new(alloc),
+            bytes: buffer,
         }),
     }
 }
 
-/// Reads a message of `len` bytes and the line feed behind it. Its bytes are copied once, out of the window.
+/// Reads a message of `len` bytes and the line feed behind it. Its bytes are copied once, out of the window into the empty buffer.
 fn read_message<R: Source>(
-    alloc: Global,
+    mut buffer: Vec<u8>,
     window: &mut Window,
     source: &mut R,
     number: u32,
@@ -142,6 +142,7 @@ fn read_message<R: Source>(
 ) -> Result<Entry, LogError>
     requires moment { moment ≤ last_moment }
     requires len { len ≤ 65535 }
+    requires empty { buffer.items ≡ [] }
     ensures entry { IfOk result (Continues number moment) }
     ensures says { TellsWhatComes (unread window.old (R.left source.old)) (unread window.new (R.left source.new))
         (R.has_failed source.old) (R.has_failed source.new) (MessageComes action moment len) entry_next result }
@@ -154,12 +155,12 @@ fn read_message<R: Source>(
     if held[len] != b'\n' {
         return Err(LogError::EntryLine);
     }
-    let bytes = held[..len].to_vec(alloc)?;
+    buffer.extend_from_slice(&held[..len])?;
     window.consume(len + 1);
     Ok(Entry {
         number,
         moment,
         action,
-        bytes,
+        bytes: buffer,
     })
 }

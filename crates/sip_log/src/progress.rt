@@ -100,18 +100,31 @@ impl Progress {
         ensures { Nexts (beside_source self.old (R.left source.old) (R.has_failed source.old))
             (beside_source self.new (R.left source.new) (R.has_failed source.new)) result }
     {
+        self.next_into(Vec::new(self.alloc), source)
+    }
+
+    /// As `next`, with the entry's bytes in this buffer in place of a new one. What the buffer held is dropped, and
+    /// also the buffer itself where the answer is no entry.
+    pub fn next_into<R: Source>(
+        &mut self,
+        buffer: Vec<u8>,
+        source: &mut R,
+    ) -> Result<Option<Entry>, LogError>
+        ensures { Nexts (beside_source self.old (R.left source.old) (R.has_failed source.old))
+            (beside_source self.new (R.left source.new) (R.has_failed source.new)) result }
+    {
         match mem::replace(&mut self.stage, Stage::Failed) {
             Stage::Fresh => {
                 let mut window = Window::new(self.alloc)?;
                 match read_header(&mut window, source) {
                     Ok(params) => {
                         self.params = Some(params);
-                        self.entry(window, source)
+                        self.entry(window, buffer, source)
                     }
                     Err(error) => Err(error),
                 }
             }
-            Stage::Entries(window) => self.entry(window, source),
+            Stage::Entries(window) => self.entry(window, buffer, source),
             Stage::Ended => {
                 self.stage = Stage::Ended;
                 Ok(None)
@@ -124,6 +137,7 @@ impl Progress {
     fn entry<R: Source>(
         &mut self,
         mut window: Window,
+        buffer: Vec<u8>,
         source: &mut R,
     ) -> Result<Option<Entry>, LogError>
         requires stage { self.old.stage ≡ failed }
@@ -133,7 +147,7 @@ impl Progress {
         ensures says { TellsWhatComes (unread window (R.left source.old)) (beside_source self.new (R.left source.new) (R.has_failed source.new)).left
             (R.has_failed source.old) (R.has_failed source.new) (EntryComes self.old.count self.old.last) next_of result }
     {
-        match next_entry(self.alloc, &mut window, source, self.count, self.last) {
+        match next_entry(buffer, &mut window, source, self.count, self.last) {
             Ok(Some(entry)) => {
                 self.count = entry.number;
                 self.last = entry.moment;

@@ -1,4 +1,4 @@
-use Rattle.std.specs.Prelude.{◌≡◌, ◌≤◌, ◌*◌, ◌⊎◌, ℕ, Bool, true, false, Option, Some, None, List, [], ◌∷◌, ◌++◌, if◌then◌else◌, codes}
+use Rattle.std.specs.Prelude.{◌≡◌, ◌≤◌, ◌*◌, ◌⊎◌, ℕ, Bool, true, false, Option, Some, None, List, [], ◌∷◌, ◌++◌, if◌then◌else◌, codes, ⊤}
 use Rattle.sip_key.specs.AckOf.{AckOf}
 use Rattle.sip_machine.specs.declared.event.Method.TheVariants.{Invite, Ack, Cancel}
 use Rattle.sip_machine.specs.declared.event.Kind.{Kind}
@@ -122,7 +122,7 @@ InviteClientInRange (code.Calling w) = WaitingInRange w
 InviteClientInRange (code.Proceeding reliable request (Some first)) = first ≤ last_moment
 InviteClientInRange (code.Accepted set) = set ≤ last_moment
 InviteClientInRange (code.Completed reliable request set) = set ≤ last_moment
-InviteClientInRange x = Unit {0}
+InviteClientInRange x = ⊤
 
 -- a phase in words, as a listing tells it
 abbrev pub invite_client_told : InviteClientPhase → Told (List ℕ)

@@ -1,4 +1,4 @@
-use Rattle.std.specs.Prelude.{◌≡◌, ◌≤◌, ◌*◌, ◌⊎◌, ℕ, Bool, true, Option, None, List, [], ◌∷◌, ◌++◌, if◌then◌else◌, min, Some, codes}
+use Rattle.std.specs.Prelude.{◌≡◌, ◌≤◌, ◌*◌, ◌⊎◌, ℕ, Bool, true, Option, None, List, [], ◌∷◌, ◌++◌, if◌then◌else◌, min, Some, codes, ⊤}
 use Rattle.sip_machine.specs.declared.event.Kind.{Kind}
 use Rattle.sip_machine.specs.declared.event.Kind.TheVariants.{Request, Response}
 use Rattle.sip_machine.specs.declared.plain_client.PlainClientPhase.{PlainClientPhase as CodePhase}
@@ -84,7 +84,7 @@ abbrev pub PlainClientInRange : CodePhase → Type 0
 PlainClientInRange (code.Trying w) = WaitingInRange w
 PlainClientInRange (code.Proceeding w) = WaitingInRange w
 PlainClientInRange (code.Completed reliable set) = set ≤ last_moment
-PlainClientInRange x = Unit {0}
+PlainClientInRange x = ⊤
 
 -- a phase in words, as a listing tells it
 abbrev pub plain_client_told : PlainClientPhase → Told (List ℕ)

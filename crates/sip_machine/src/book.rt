@@ -30,6 +30,8 @@ pub struct Book {
     order: Vec<Run>,
     /// The To of some of the messages, that of a lower number first.
     tos: Vec<To>,
+    /// Buffers of messages that were forgotten, for those that come.
+    spare: Vec<Vec<u8>>,
 }
 
 /// A message with the number of its first entry.
@@ -95,6 +97,7 @@ impl Book {
             kept: Vec::new(alloc),
             order: Vec::new(alloc),
             tos: Vec::new(alloc),
+            spare: Vec::new(alloc),
         }
     }
 
@@ -193,6 +196,7 @@ impl Book {
         match find(&self.kept, &self.order, hash, bytes) {
             Ok(position) => Ok(self.kept[position].number),
             Err(gap) => {
+                let bytes = copy(&mut self.spare, self.kept.len(), bytes)?;
                 put(&mut self.kept, &mut self.order, gap, entry, hash, bytes)?;
                 Ok(entry)
             }
@@ -213,7 +217,7 @@ impl Book {
         ensures { self.new ≡ only numbers.now self.old }
     {
         move_all(&mut self.order, &self.kept, numbers);
-        keep_only(&mut self.kept, numbers);
+        keep_only(&mut self.kept, &mut self.spare, numbers);
         self.tos.retain(|to| is_among(numbers, to.number));
     }
 }
@@ -264,6 +268,20 @@ fn begins_by(kept: &[Kept], run: &Run, hash: u64, bytes: &[u8]) -> bool
     standing(kept, run.first, hash, bytes).is_le()
 }
 
+/// A copy of these bytes, in a spare buffer if there is one. Where there is none, it asks for room to set aside the buffers of
+/// as many messages as are kept, and does without it where there is no memory.
+fn copy(spare: &mut Vec<Vec<u8>>, kept: usize, bytes: &[u8]) -> Result<Vec<u8>, AllocError>
+    ensures { IfOk result (λ copy. copy.items ≡ bytes.now) }
+{
+    let Some(mut copy) = spare.pop() else {
+        let _ = spare.reserve(kept);
+        return Vec::from_slice(*spare.allocator(), bytes);
+    };
+    copy.clear();
+    copy.extend_from_slice(bytes)?;
+    Ok(copy)
+}
+
 /// Keeps a message under the number of its entry, with its place in the gap; on an error all is as before.
 fn put(
     kept: &mut Vec<Kept>,
@@ -271,19 +289,18 @@ fn put(
     gap: Gap,
     entry: u32,
     hash: u64,
-    bytes: &[u8],
+    bytes: Vec<u8>,
 ) -> Result<(), AllocError>
     requires led { All IsLed runs.old.items }
     requires short { All (λ run. length run.places.items ≤ most_places) runs.old.items }
     requires inside { 0 < length runs.old.items → IsInside runs.old.items gap }
-    ensures ok { OnOk result ((texts_of kept.new.items ≡ texts_of kept.old.items ++ (entry, bytes.now) ∷ [])
+    ensures ok { OnOk result ((texts_of kept.new.items ≡ texts_of kept.old.items ++ (entry, bytes.items) ∷ [])
         × (places_of runs.new.items ≡ insert (places_of runs.old.items) (index_of runs.old.items gap)
         (record { hash = hash; position = length kept.old.items }))) }
     ensures err { OnErr result ((kept.new.items ≡ kept.old.items) × (places_of runs.new.items ≡ places_of runs.old.items)) }
     ensures led { All IsLed runs.new.items }
     ensures short { All (λ run. length run.places.items ≤ most_places) runs.new.items }
 {
-    let bytes = bytes.to_vec(*kept.allocator())?;
     kept.reserve(1)?;
     let position = kept.len();
     insert(runs, gap, Place { hash, position })?;

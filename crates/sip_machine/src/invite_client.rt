@@ -284,13 +284,10 @@ impl Phases for InviteClient {
             // timer M
             InviteClientPhase::Accepted { set } => Some(params.window(set, timeout(params))),
             // timer D
-            InviteClientPhase::Completed { reliable, set, .. } => {
-                if reliable {
-                    Some(params.window(set, 0))
-                } else {
-                    Some((params.opens(set, TIMER_D), None))
-                }
+            InviteClientPhase::Completed { reliable, set, .. } if reliable => {
+                Some(params.window(set, 0))
             }
+            InviteClientPhase::Completed { set, .. } => Some((params.opens(set, TIMER_D), None)),
             InviteClientPhase::Idle | InviteClientPhase::Ended => None,
         }
     }
@@ -300,12 +297,8 @@ impl Phases for InviteClient {
         match *phase {
             InviteClientPhase::Calling(waiting) => Some(waiting.closes(params, timeout(params))),
             InviteClientPhase::Accepted { set } => Some(params.closes(set, timeout(params))),
-            InviteClientPhase::Completed { reliable, set, .. } => {
-                if reliable {
-                    Some(params.closes(set, 0))
-                } else {
-                    None
-                }
+            InviteClientPhase::Completed { reliable, set, .. } if reliable => {
+                Some(params.closes(set, 0))
             }
             _ => None,
         }

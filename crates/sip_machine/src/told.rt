@@ -17,7 +17,9 @@ pub enum Field {
 /// The name of a phase, and its fields in their order.
 #[derive(Debug, Drop)]
 pub struct Told {
+    /// The phase's name, as a listing writes it.
     pub name: &'static str,
+    /// What the phase keeps besides what is owed, in the order of a listing.
     pub fields: Vec<Field>,
 }
 

@@ -3,7 +3,6 @@ use Rattle.std.proofs.Common.{◌≡◌, ℕ, ◌%◌, ◌^◌, ◌<◌, ◌≤�
 use Rattle.std.proofs.lemmas.Bool.{agree_below, agree_below_at}
 use Rattle.std.proofs.lemmas.List.{get_or-map, length-map}
 use Rattle.std.proofs.lemmas.Simd.{zip2_splat, zip2_of_maps, map-map, Each1-get_or}
-use lib.Bits.{bit_or}
 use lib.Lanes.{zip2, mask_l, top, Each1}
 use Rattle.sip_masks.specs.Bits.{test}
 use Rattle.sip_masks.proofs.BitLemmas.{test-low, test-mask}
@@ -25,10 +24,6 @@ below a b = cond (ltb a b) 255 0
 
 abbrev pub at_most : ℕ → ℕ → ℕ
 at_most a b = cond (leb a b) 255 0
-
--- one of two classes
-pub either : (f g : ℕ → ℕ) (v : List ℕ) {a b : List ℕ} → a ≡ map f v → b ≡ map g v → zip2 bit_or a b ≡ map (λ x. bit_or (f x) (g x)) v
-either f g v p q = zip2_of_maps bit_or f g v p q
 
 -- an operation with one byte in each lane
 pub splatted : (h : ℕ → ℕ → ℕ) (f : ℕ → ℕ) (n y : ℕ) (v : List ℕ) {a : List ℕ} → length v ≡ n → a ≡ map f v → zip2 h a (replicate n y) ≡ map (λ x. h (f x) y) v

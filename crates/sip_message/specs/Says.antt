@@ -149,7 +149,7 @@ abbrev pub FirstOf : List (ℕ × List ℕ) → Outcome (ℕ × List ℕ) → Ty
 FirstOf found = Demand (λ first. (more : List (ℕ × List ℕ)) × (found ≡ first ∷ more)) (fault_in_head reason.Missing)
 
 -- 6: and no second
-abbrev pub NoSecond : List (ℕ × List ℕ) → Outcome (Unit {0}) → Type 0
+abbrev pub NoSecond : List (ℕ × List ℕ) → Outcome ⊤ → Type 0
 NoSecond found = Holds (length found ≤ 1) (fault_in_line (second_line found) reason.Repeated)
 
 -- both
@@ -166,14 +166,14 @@ NamesSay fields =
 -- the method of a CSeq is that of the request (section 8.1.1.5)
 abbrev pub MethodSays : StartLine → List ℕ → Type 0
 MethodSays (request method uri) cseq = (number : ℕ) × CSeqSays (number, method) cseq
-MethodSays (status code why) cseq = Unit {0}
+MethodSays (status code why) cseq = ⊤
 
 -- the transport of the first element is a stream, TCP or TLS
 abbrev pub StreamSays : List ℕ → Type 0
 StreamSays via = (v : SaidVia) × (more : List SaidVia) × ViasSay (v ∷ more) via × (AnyCase "tcp" or AnyCase "tls") v.transport
 
 -- 8 to 11: the method, and as many bytes behind the head as Content-Length says, which a stream has, and no more (section 18.3)
-abbrev pub BodySays : StartLine → ℕ × List ℕ → List ℕ → Option ℕ → List ℕ → Outcome (Unit {0}) → Type 0
+abbrev pub BodySays : StartLine → ℕ × List ℕ → List ℕ → Option ℕ → List ℕ → Outcome ⊤ → Type 0
 BodySays start cseq via len rest =
     Then (Holds (MethodSays start (cseq.1)) (fault_in_line (cseq.0) reason.MethodMismatch)) (λ _.
     Then (Holds (StreamSays via → is_some len ≡ true) (fault_in_body reason.NoLength)) (λ _.

@@ -1,4 +1,4 @@
-use Rattle.std.specs.Prelude.{◌≡◌, ◌≢◌, ◌≤◌, ℕ, List, [], ◌∷◌, Option, None, Some, codes, decimal}
+use Rattle.std.specs.Prelude.{◌≡◌, ◌≢◌, ◌≤◌, ℕ, List, [], ◌∷◌, Option, None, Some, codes, decimal, ⊤}
 use Rattle.sip_program.specs.declared.asked.Asked.{Asked}
 use Rattle.sip_program.specs.declared.asked.Asked.TheVariants.{Input, Check, Show, States}
 
@@ -20,9 +20,9 @@ words_for (States file entry) = codes "states" ∷ file.now ∷ decimal entry �
 
 -- it can be asked for
 abbrev pub IsMeant : Asked → Type 0
-IsMeant Input = Unit {0}
-IsMeant (Check file) = Unit {0}
-IsMeant (Show file) = Unit {0}
+IsMeant Input = ⊤
+IsMeant (Check file) = ⊤
+IsMeant (Show file) = ⊤
 IsMeant (States file entry) = IsEntryNumber entry
 
 -- what words ask for, and None where there is nothing that they ask for

@@ -1,5 +1,6 @@
 -- What runs of clients send.
 use Rattle.std.proofs.Common.{◌≡◌, ◌≤◌, ◌⊎◌, inl, inr, ℕ, Bool, true, false, Some, None, List, [], ◌∷◌, ◌++◌, ◌∙◌, refl, sym, subst, arith}
+use Rattle.std.specs.Prelude.{⊤}
 use Rattle.std.proofs.Math.Decide.{dec_le}
 use Rattle.sip_times.specs.declared.action.Action.{Action}
 use Rattle.sip_times.specs.declared.action.Action.TheVariants.{Sent, Received, Failed, Mark}
@@ -207,10 +208,10 @@ module _ (p : Times) (one : MachineEvent) where
   abbrev Awaits : invite.InviteClientPhase → Type 0
   Awaits invite.Idle = ⊥
   Awaits (invite.Calling w) = (w.request ≡ one.text) × (w.reliable ≡ one.reliable) × (one.moment ≤ w.set) × (p.t1 ≤ w.interval)
-  Awaits (invite.Proceeding reliable request cancel) = Unit {0}
-  Awaits (invite.Accepted set) = Unit {0}
-  Awaits (invite.Completed reliable request set) = Unit {0}
-  Awaits invite.Ended = Unit {0}
+  Awaits (invite.Proceeding reliable request cancel) = ⊤
+  Awaits (invite.Accepted set) = ⊤
+  Awaits (invite.Completed reliable request set) = ⊤
+  Awaits invite.Ended = ⊤
 
   awaits_received : (x : invite.InviteClientPhase) (k : Kind) (e : MachineEvent) (y : Row invite.InviteClientPhase) → invite.Receives p x k e y → Awaits x → Awaits y.0
   awaits_received (invite.Calling w) (Response code) e y (inl h) holds = rw h.1 tt

@@ -1,5 +1,6 @@
 -- Hexseqs and hexparts, and their tests.
 use Rattle.std.proofs.Common.{◌≡◌, ℕ, true, false, ◌&&◌, nat_eq, List, [], ◌∷◌, ◌++◌, Option, None, Some, length, slice_index, refl, sym, ap, ◌∙◌, subst, inl, inr, arith}
+use Rattle.std.specs.Prelude.{⊤}
 use Rattle.std.specs.List.{AllByRecursion, concat, slice_index_or}
 use Rattle.std.specs.Option.{option_map_or}
 use Rattle.std.specs.Char.{is_ascii_hexdigit}
@@ -44,7 +45,7 @@ optional-is text (inr seq) = or_right (nat_eq (length text) 0) (is_hexseq text) 
 
 -- each colon of the text stands before a byte that is none, so that "::" begins nowhere in it
 abbrev Single : List ℕ → Type 0
-Single [] = Unit {0}
+Single [] = ⊤
 Single (b ∷ text) = ((nat_eq b colon && nat_eq (slice_index_or text 0 colon) colon) ≡ false) × Single text
 
 -- the text begins with a byte that is no colon

@@ -1,5 +1,6 @@
 -- A part of a URI is cut at its mark: parameters and headers.
 use Rattle.std.proofs.Common.{◌≡◌, ℕ, ◌<◌, ◌↔◌, ◌==◌, nat_eq, Bool, true, false, List, [], ◌∷◌, ◌++◌, Option, None, Some, IfSome, IsSomeAnd, if◌then◌else◌, length, refl, sym, ap, ◌∙◌, subst, inl, inr, arith}
+use Rattle.std.specs.Prelude.{⊤}
 use Rattle.std.specs.Bool.{Decides}
 use Rattle.std.specs.List.{AllByRecursion}
 use Rattle.std.proofs.lemmas.Bool.{both_ways, false≢true, eqb-true}
@@ -99,7 +100,7 @@ pub decides-not : {P : Type 0} → (P → ⊥) → Decides false P
 decides-not none = (λ is. absurd (false≢true is), λ one. absurd (none one))
 
 -- where there is no second, the first decides
-pub first-alone : {P : Type 0} (x : Bool) → Decides x P → Decides x (P × Unit {0})
+pub first-alone : {P : Type 0} (x : Bool) → Decides x P → Decides x (P × ⊤)
 first-alone x first = (λ is. (first.0 is, tt), λ both. first.1 both.0)
 
 -- P of each part of the text between its marks

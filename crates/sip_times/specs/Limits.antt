@@ -1,4 +1,4 @@
-use Rattle.std.specs.Prelude.{◌+◌, ◌-◌, ◌≤◌, ℕ, Option, Some, None}
+use Rattle.std.specs.Prelude.{◌+◌, ◌-◌, ◌≤◌, ℕ, Option, Some, None, ⊤}
 use Rattle.sip_times.specs.Times.{Times}
 
 -- the first moment at which a timer that was set at s for d may fire
@@ -15,7 +15,7 @@ window_at p s d = Some (open_at p s d, Some (close_at p s d))
 
 -- m is not past the limit, if there is one
 abbrev pub IsWithin : ℕ → Option ℕ → Type 0
-IsWithin m None = Unit {0}
+IsWithin m None = ⊤
 IsWithin m (Some last) = m ≤ last
 
 -- h is in the window, if there is one: from its opening to its close

@@ -1,4 +1,4 @@
-use Rattle.std.specs.Prelude.{◌≡◌, ◌+◌, ◌⊎◌, [], ◌∷◌, ◌++◌, ℕ, None, List, length, All}
+use Rattle.std.specs.Prelude.{◌≡◌, ◌+◌, ◌⊎◌, [], ◌∷◌, ◌++◌, ℕ, None, List, length, All, ⊤}
 use Rattle.sip_machine.specs.Times.{Times}
 use Rattle.sip_log.specs.Spelling.{Item}
 use Rattle.sip_log.specs.Log.{LogEnd, Clean, Stops, IsLog, NoHeader}
@@ -35,7 +35,7 @@ IsVerdictBy r input v =
 
 -- what is observed of the entries, one behind another, behind these
 abbrev pub AreObserved : {K : Type 0} → EntryReading K → List (Observation K) → List Item → List (Observation K) → Type 0
-AreObserved r before [] [] = Unit {0}
+AreObserved r before [] [] = ⊤
 AreObserved r before [] (e ∷ es) = ⊥
 AreObserved r before (item ∷ items) [] = ⊥
 AreObserved r before (item ∷ items) (e ∷ es) = r.Observes before item e × AreObserved r (before ++ e ∷ []) items es

@@ -30,6 +30,7 @@ pub fn judge<R: Source, H: BuildHasher + Drop>(
 {
     match read_header(alloc, reader)? {
         Ok((params, mut progress)) => judge_entries(
+            alloc,
             Judge::new(alloc, params, hasher),
             &mut progress,
             reader,
@@ -38,8 +39,10 @@ pub fn judge<R: Source, H: BuildHasher + Drop>(
     }
 }
 
-/// Reads on behind the header, to the end of the log or the first entry in trouble: the verdict.
+/// Reads on behind the header, to the end of the log or the first entry in trouble: the verdict. Every entry is read into
+/// the same buffer.
 fn judge_entries<R: Source, H: BuildHasher + Drop>(
+    alloc: Global,
     mut judge: Judge<H>,
     progress: &mut Progress,
     reader: &mut R,
@@ -52,14 +55,16 @@ fn judge_entries<R: Source, H: BuildHasher + Drop>(
     ensures ok { OnOk result (R.has_failed reader.new ≡ R.has_failed reader.old) }
     ensures io { IsErrOf result JudgeError.Io → R.has_failed reader.new ≡ true }
 {
+    let mut buffer = Vec::new(alloc);
     let mut count = 0;
     loop {
-        match read_next(progress, reader)? {
+        match read_next(progress, buffer, reader)? {
             Next::Entry(entry) => {
                 count = entry.number;
                 if let Some(verdict) = judge.entry(&entry)? {
                     return Ok(verdict);
                 }
+                buffer = entry.bytes;
             }
             Next::End => return Ok(judge.end().unwrap()),
             Next::Fault(reason) => {

@@ -47,9 +47,10 @@ pub(crate) fn read_header<R: Source>(
     }
 }
 
-/// Reads on behind the header or an entry.
+/// Reads on behind the header or an entry, into the buffer.
 pub(crate) fn read_next<R: Source>(
     progress: &mut Progress,
+    buffer: Vec<u8>,
     reader: &mut R,
 ) -> Result<Next, JudgeError>
     requires { progress.old.stage ≡ entries }
@@ -60,7 +61,7 @@ pub(crate) fn read_next<R: Source>(
     ensures ok { OnOk result (R.has_failed reader.new ≡ R.has_failed reader.old) }
     ensures io { IsErrOf result JudgeError.Io → R.has_failed reader.new ≡ true }
 {
-    match progress.next(reader) {
+    match progress.next_into(buffer, reader) {
         Ok(Some(entry)) => Ok(Next::Entry(entry)),
         Ok(None) => Ok(Next::End),
         Err(error) => Ok(Next::Fault(reason_of(error)?)),

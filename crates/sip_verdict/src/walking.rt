@@ -92,7 +92,7 @@ impl<H: BuildHasher + Drop> Walk<H> {
         ensures ok { OnOk result (R.has_failed reader.new ≡ R.has_failed reader.old) }
         ensures io { IsErrOf result JudgeError.Io → R.has_failed reader.new ≡ true }
     {
-        match read_next(&mut self.progress, reader)? {
+        match read_next(&mut self.progress, Vec::new(self.alloc), reader)? {
             Next::Entry(entry) => {
                 self.count = entry.number;
                 Ok(self.standing.entry(self.alloc, &entry)?)
@@ -114,7 +114,7 @@ impl<H: BuildHasher + Drop> Walk<H> {
         ensures ok { OnOk result (R.has_failed reader.new ≡ R.has_failed reader.old) }
         ensures io { IsErrOf result JudgeError.Io → R.has_failed reader.new ≡ true }
     {
-        match read_next(&mut self.progress, reader)? {
+        match read_next(&mut self.progress, Vec::new(self.alloc), reader)? {
             Next::Entry(entry) => Ok(self.standing.list(self.alloc, &entry)?),
             Next::End => Ok(Listing::NoEntry),
             Next::Fault(reason) => Ok(Listing::Stopped(self.fault(reason))),

@@ -1,4 +1,4 @@
-use Rattle.std.specs.Prelude.{◌≡◌, ℕ, List, [], Option, None, IsSome}
+use Rattle.std.specs.Prelude.{◌≡◌, ℕ, List, [], Option, None, IsSome, ⊤}
 use Rattle.sip_times.specs.Times.{Times}
 use Rattle.sip_log.specs.declared.progress.Stage.{Stage as CodeStage}
 use Rattle.sip_log.specs.declared.progress.Stage.TheVariants as code
@@ -23,5 +23,5 @@ held_at code.Failed = []
 abbrev pub FitsStage : CodeStage → Option Times → ℕ → ℕ → Type 0
 FitsStage code.Fresh times count last = (times ≡ None) × (count ≡ 0) × (last ≡ 0)
 FitsStage (code.Entries window) times count last = IsSome times
-FitsStage code.Ended times count last = Unit {0}
-FitsStage code.Failed times count last = Unit {0}
+FitsStage code.Ended times count last = ⊤
+FitsStage code.Failed times count last = ⊤

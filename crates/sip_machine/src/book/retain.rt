@@ -1,5 +1,5 @@
 //! What forgets messages: places move, and messages go.
-ghost use Rattle.std.specs.Prelude.{◌≡◌, ◌<◌, ◌≤◌, length, IsTrue, All, AllPairs, Contains};
+ghost use Rattle.std.specs.Prelude.{◌≡◌, ◌<◌, ◌≤◌, length, take, IsTrue, All, AllPairs, Contains};
 ghost use Rattle.std.specs.List.{filter_map};
 ghost use Rattle.sip_machine.specs.inner.Retain.{number_at, moved, merged};
 ghost use Rattle.sip_machine.specs.inner.Order.{texts_of, places_of, most_places, IsLed};
@@ -78,8 +78,8 @@ pub(super) fn move_all(runs: &mut Vec<Run>, kept: &[Kept], numbers: &[u32])
     runs.retain(|run| !run.places.is_empty());
 }
 
-/// Forgets the messages but those with these numbers.
-pub(super) fn keep_only(kept: &mut Vec<Kept>, numbers: &[u32])
+/// Forgets the messages but those with these numbers, and sets buffers of the others aside.
+pub(super) fn keep_only(kept: &mut Vec<Kept>, spare: &mut Vec<Vec<u8>>, numbers: &[u32])
     ensures { texts_of kept.new.items ≡ merged numbers.now (texts_of kept.old.items) }
 {
     let mut left = 0;
@@ -89,5 +89,27 @@ pub(super) fn keep_only(kept: &mut Vec<Kept>, numbers: &[u32])
             left += 1;
         }
     }
+    set_aside(kept, spare, left);
     kept.truncate(left);
+}
+
+/// How many more buffers are set aside than messages stay.
+const MORE: usize = 64;
+
+/// Sets buffers of the last messages aside until so many messages are left, and no more of them than there are to be and than
+/// there is room for.
+fn set_aside(kept: &mut Vec<Kept>, spare: &mut Vec<Vec<u8>>, left: usize)
+    requires { left ≤ length kept.old.items }
+    ensures { take left kept.new.items ≡ take left kept.old.items }
+{
+    let most = left.saturating_add(MORE);
+    spare.truncate(most);
+    for _ in spare.len()..most.min(spare.capacity()) {
+        if kept.len() <= left {
+            return;
+        }
+        if let Some(last) = kept.pop() {
+            let _ = spare.push(last.bytes);
+        }
+    }
 }

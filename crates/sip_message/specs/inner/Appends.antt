@@ -1,5 +1,5 @@
 -- What is appended to bytes.
-use Rattle.std.specs.Prelude.{◌≡◌, ◌≤◌, ◌<◌, ℕ, List, ◌++◌, map, Result, Ok, Err}
+use Rattle.std.specs.Prelude.{◌≡◌, ◌≤◌, ◌<◌, ℕ, List, ◌++◌, map, Result, Ok, Err, ⊤}
 use Rattle.std.specs.List.{flat_map}
 use Rattle.sip_message.specs.Lines.{with_end}
 use Rattle.sip_message.specs.StartLine.{StartLine, request, status}
@@ -14,7 +14,7 @@ Appends old new text (Err _) = (part : List ℕ) × (new ≡ old ++ part)
 
 -- a status line's code has three digits
 abbrev pub HasCode : StartLine → Type 0
-HasCode (request method uri) = Unit {0}
+HasCode (request method uri) = ⊤
 HasCode (status code reason) = (100 ≤ code) × (code < 700)
 
 -- the fields of the canonical form, each with its line's end

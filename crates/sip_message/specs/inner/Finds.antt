@@ -1,5 +1,5 @@
 -- A field of a name that is found from a place on.
-use Rattle.std.specs.Prelude.{◌≡◌, ℕ, ◌+◌, List, [], ◌∷◌, drop, Option, None, Some}
+use Rattle.std.specs.Prelude.{◌≡◌, ℕ, ◌+◌, List, [], ◌∷◌, drop, Option, None, Some, ⊤}
 use Rattle.std.specs.Borrow.{Bor}
 use Rattle.sip_message.specs.declared.name.Known.{Known}
 use Rattle.sip_message.specs.Field.{Field}
@@ -15,5 +15,5 @@ IsFound name n fields None = found_from (n + 1) name (drop n fields) ≡ []
 IsFound name n fields (Some one) =
     found_from (n + 1) name (drop n fields) ≡ one ∷ found_from (one.0 + 1) name (drop (one.0) fields)
 
-abbrev pub nothing_parts : Unit {0} → Unit {0}
+abbrev pub nothing_parts : ⊤ → ⊤
 nothing_parts nothing = nothing

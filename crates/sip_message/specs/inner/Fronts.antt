@@ -1,5 +1,5 @@
 -- What stands at the front of a text, with what is left behind it.
-use Rattle.std.specs.Prelude.{◌≡◌, ℕ, ◌-◌, ◌&&◌, ◌==◌, not, nat_lt, slice_index, length, Bool, List, [], ◌∷◌, ◌++◌, false, if◌then◌else◌}
+use Rattle.std.specs.Prelude.{◌≡◌, ℕ, ◌-◌, ◌&&◌, ◌==◌, not, nat_lt, slice_index, length, Bool, List, [], ◌∷◌, ◌++◌, false, if◌then◌else◌, ⊤}
 use Rattle.std.specs.Borrow.{Bor}
 use Rattle.sip_text.specs.Bytes.{carriage_return, is_wsp, is_token_byte}
 use Rattle.sip_text.specs.Text.{Exactly, ◌then◌}
@@ -10,7 +10,7 @@ use Rattle.sip_message.specs.Params.{slash, Mark}
 
 -- the text begins with no byte that passes
 abbrev pub Stops : (ℕ → Bool) → List ℕ → Type 0
-Stops test [] = Unit {0}
+Stops test [] = ⊤
 Stops test (b ∷ text) = test b ≡ false
 
 -- the text begins with no blank run

@@ -1,5 +1,5 @@
 -- What a stage's result comes to.
-use Rattle.std.specs.Prelude.{Result, Ok, Err}
+use Rattle.std.specs.Prelude.{Result, Ok, Err, ⊤}
 use Rattle.sip_message.specs.declared.fault.Fault.{Fault}
 use Rattle.sip_message.specs.declared.fault.ReadError.{ReadError}
 use Rattle.sip_message.specs.declared.fault.ReadError.TheVariants as error
@@ -13,5 +13,5 @@ outcome_of parts (Err fault) = stops fault
 -- the result is what the step comes to; of memory nothing is said
 abbrev pub Settles : {A X : Type 0} → (Outcome X → Type 0) → (A → X) → Result A ReadError → Type 0
 Settles S parts (Ok a) = S (gives (parts a))
-Settles S parts (Err error.Memory) = Unit {0}
+Settles S parts (Err error.Memory) = ⊤
 Settles S parts (Err (error.Fault fault)) = S (stops fault)

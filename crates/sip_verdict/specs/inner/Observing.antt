@@ -1,4 +1,4 @@
-use Rattle.std.specs.Prelude.{◌≡◌, ◌≢◌, ◌⊎◌, ◌++◌, ◌∷◌, [], ℕ, true, false, None, AllPairs, Result, Ok, Err}
+use Rattle.std.specs.Prelude.{◌≡◌, ◌≢◌, ◌⊎◌, ◌++◌, ◌∷◌, [], ℕ, true, false, None, AllPairs, Result, Ok, Err, ⊤}
 use Rattle.sip_machine.specs.Texts.{Texts, Keeps, text_of}
 use Rattle.sip_machine.specs.MachineEvent.{event_in, FitsBook}
 use Rattle.sip_message.specs.Says.{Said}
@@ -24,7 +24,7 @@ use Rattle.sip_verdict.specs.inner.Concerned.{each}
 abbrev pub AreKeysOf : Said → Direction → Result (Concerned KeyParts) KeyError → Type 0
 AreKeysOf s direction (Ok concerned) = (lacks_cookie s direction ≡ false) × Concerns s direction (each concerned) × AllPairs (λ a b. a ≢ b) (each concerned)
 AreKeysOf s direction (Err error.NoCookie) = lacks_cookie s direction ≡ true
-AreKeysOf s direction (Err error.Memory) = Unit {0}
+AreKeysOf s direction (Err error.Memory) = ⊤
 
 -- what is observed of an entry of which this is told, beside the texts of a book: of one that is not heard, its moment
 abbrev pub IsObserved : Texts → Item → Told → Observation KeyParts → Type 0
@@ -34,8 +34,8 @@ IsObserved texts i (Heard event concerned) e = e ≡ record { fault = None; even
 
 -- an event that is told is of this moment, the book keeps its message, and its keys differ
 abbrev pub IsHeard : Texts → ℕ → Told → Type 0
-IsHeard texts moment Unheard = Unit {0}
-IsHeard texts moment (Fault fault) = Unit {0}
+IsHeard texts moment Unheard = ⊤
+IsHeard texts moment (Fault fault) = ⊤
 IsHeard texts moment (Heard event concerned) = FitsBook texts event × (event.moment ≡ moment) × AllPairs (λ a b. a ≢ b) (each concerned)
 
 -- the book keeps the entry's message if it is heard, which concerns some key, under the event's number, and nothing else is kept or lost

@@ -1,4 +1,4 @@
-use Rattle.std.specs.Prelude.{◌≡◌, ◌≢◌, ℕ, Bool, true, List, Option, Some, None, Result, Ok, Err}
+use Rattle.std.specs.Prelude.{◌≡◌, ◌≢◌, ℕ, Bool, true, List, Option, Some, None, Result, Ok, Err, ⊤}
 use Rattle.std.specs.Io.KnownBytes.{Appends}
 use Rattle.sip_times.specs.declared.action.Action.{Action}
 use Rattle.sip_times.specs.declared.action.Action.TheVariants.{Mark}
@@ -23,7 +23,7 @@ unshown judging.Memory = Memory
 -- why a message has no canonical form: its fault; of memory nothing is said
 abbrev pub IsFaulty : List ℕ → ReadError → Type 0
 IsFaulty bytes (message.Fault fault) = FaultOf bytes (Some fault)
-IsFaulty bytes message.Memory = Unit {0}
+IsFaulty bytes message.Memory = ⊤
 
 -- and why an entry has none: a mark always has one
 abbrev pub HasNoForm : Action → List ℕ → ReadError → Type 0
@@ -35,4 +35,4 @@ ShowsEntry number e old new before after (Ok None) = (form : List ℕ) × IsCano
 ShowsEntry number e old new before after (Ok (Some fault)) = (e.action ≢ Mark) × FaultOf e.text (Some fault) × (new ≡ old) × (after ≡ before)
 ShowsEntry number e old new before after (Err Read) = ⊥
 ShowsEntry number e old new before after (Err Write) = after ≡ true
-ShowsEntry number e old new before after (Err Memory) = Unit {0}
+ShowsEntry number e old new before after (Err Memory) = ⊤

@@ -1,4 +1,4 @@
-use Rattle.std.specs.Prelude.{◌≡◌, ◌≢◌, ◌≤◌, ◌<◌, ◌+◌, ◌-◌, [], ◌∷◌, ℕ, nat_eq, Bool, true, Option, Some, None, List, All, AllPairs, IfSome, length, slice_get}
+use Rattle.std.specs.Prelude.{◌≡◌, ◌≢◌, ◌≤◌, ◌<◌, ◌+◌, ◌-◌, [], ◌∷◌, ℕ, nat_eq, Bool, true, Option, Some, None, List, All, AllPairs, IfSome, length, slice_get, ⊤}
 use Rattle.std.specs.List.{zip, list_any}
 use Rattle.sip_key.specs.Key.{KeyParts}
 use Rattle.sip_machine.specs.Times.{Times}
@@ -83,7 +83,7 @@ TouchesEach (k ∷ ks) (n ∷ ns) old new = (between : Tabled) × Touches k n ol
 
 -- these keys have these numbers among all
 abbrev pub HaveNumbers : List KeyParts → List ℕ → List KeyParts → Type 0
-HaveNumbers all [] [] = Unit {0}
+HaveNumbers all [] [] = ⊤
 HaveNumbers all [] (k ∷ ks) = ⊥
 HaveNumbers all (n ∷ ns) [] = ⊥
 HaveNumbers all (n ∷ ns) (k ∷ ks) = (0 < n) × (slice_get all (n - 1) ≡ Some k) × HaveNumbers all ns ks
@@ -118,8 +118,8 @@ AllAreOnRecord t = AreOnRecord [] t
 -- the same after an entry, unless it is in trouble
 abbrev pub AreOnRecordIf : Outcome → Tabled → Type 0
 AreOnRecordIf all.Fine t = AllAreOnRecord t
-AreOnRecordIf (all.NoRun number) t = Unit {0}
-AreOnRecordIf (all.TooWide number) t = Unit {0}
+AreOnRecordIf (all.NoRun number) t = ⊤
+AreOnRecordIf (all.TooWide number) t = ⊤
 
 -- another set has taken the place of the one with this number; until when a wait in it can last is on record if it has a state
 abbrev pub Leaves : ℕ → AnySet → Fate → Tabled → Tabled → Type 0

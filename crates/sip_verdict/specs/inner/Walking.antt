@@ -1,5 +1,5 @@
 -- How a log is read and judged, entry by entry.
-use Rattle.std.specs.Prelude.{◌≡◌, ◌<◌, ◌≤◌, ◌+◌, ◌++◌, ◌∷◌, [], ℕ, Option, Some, None, IfSome, List, length}
+use Rattle.std.specs.Prelude.{◌≡◌, ◌<◌, ◌≤◌, ◌+◌, ◌++◌, ◌∷◌, [], ℕ, Option, Some, None, IfSome, List, length, ⊤}
 use Rattle.sip_key.specs.Key.{KeyParts}
 use Rattle.sip_machine.specs.Times.{Times}
 use Rattle.sip_machine.specs.Texts.{Texts}
@@ -42,8 +42,8 @@ WalkGives start times items new (Fault reason) = (fault : LogFault) × (reason �
 -- one more has the next number and keeps order and limits
 abbrev pub MovesOn : Place → Place → Next → Type 0
 MovesOn old new (Entry e) = (new.stage ≡ entries) × Continues (old.count + 1) old.last e × (new.count ≡ e.number) × (new.last ≡ e.moment) × (old.count < most_entries)
-MovesOn old new End = Unit {0}
-MovesOn old new (Fault reason) = Unit {0}
+MovesOn old new End = ⊤
+MovesOn old new (Fault reason) = ⊤
 
 -- What was judged of it.
 

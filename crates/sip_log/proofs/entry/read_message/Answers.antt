@@ -24,8 +24,8 @@ returns-clause-says g c =
     let held = items c.hold.new.self in
     let inside : len < length held = omega (arith, hold.some) in
     let byte = ap (λ (t : List ℕ). get_or t len 0) c.as_slice-held.ensures.value in
-    let text = c.in_ok-bytes.ensures.items_if_clones_equal (λ x y same. same) ∙ ap (take len) c.as_slice-held.ensures.value in
+    let text = (rw c.requires.empty at c.in_ok-extend_from_slice.ensures.items) ∙ ap (take len) c.as_slice-held.ensures.value in
     rw c.consume.ensures
     (Says-value hold.reads (MessageComes c.args.action c.args.moment len) (drop (len + 1) held)
-    (λ behind. gives (record { action = c.args.action; moment = c.args.moment; text = c.in_ok-bytes.bytes.items }) behind)
+    (λ behind. gives (record { action = c.args.action; moment = c.args.moment; text = c.extend_from_slice.new.self.items }) behind)
     (λ ys left. AtMessage-gives c.args.action c.args.moment len held ys _ inside (sym byte ∙ c.if-held-len-ne10.false) text))

@@ -1,5 +1,6 @@
 -- A reading comes to one outcome.
 use Rattle.std.proofs.Common.{◌≡◌, refl, sym, ap, ◌∙◌, subst}
+use Rattle.std.specs.Prelude.{⊤}
 use Rattle.sip_message.specs.declared.fault.Fault.{Fault}
 use Rattle.sip_message.specs.Outcome.{Outcome, gives, stops, Gives, Demand, Holds, Then, passes, stopped}
 
@@ -20,7 +21,7 @@ pub no_value : {X : Type 0} {x : X} {f : Fault} → gives x ≡ stops f → ⊥
 no_value {X = X} {x = x} {f = f} is = subst tells is tt
   where
     tells : Outcome X → Type 0
-    tells (gives z) = Unit {0}
+    tells (gives z) = ⊤
     tells (stops g) = ⊥
 
 -- two faults that stop a reading at once are one

@@ -1,5 +1,6 @@
 -- Two readings that come to the same.
 use Rattle.std.proofs.Common.{◌≡◌, refl, sym, subst}
+use Rattle.std.specs.Prelude.{⊤}
 use Rattle.sip_message.specs.declared.fault.Fault.{Fault}
 use Rattle.sip_message.specs.Outcome.{Outcome, gives, stops, Gives, Demand, Holds, Then, passes, stopped}
 
@@ -30,7 +31,7 @@ same-demand {X = X} {Y = Y} Q R P fault go come = record { to = to; back = back 
     back (gives y) t = let x = come y t in (gives x.0, x.1, x.2)
     back (stops g) t = (stops g, ((λ x r. let y = go x r in t.0 y.0 y.1), t.1), refl)
 
-pub same-holds : (A B : Type 0) (fault : Fault) → (A → B) → (B → A) → Same {X = Unit {0}} {Y = Unit {0}} Equal (Holds A fault) (Holds B fault)
+pub same-holds : (A B : Type 0) (fault : Fault) → (A → B) → (B → A) → Same {X = ⊤} {Y = ⊤} Equal (Holds A fault) (Holds B fault)
 same-holds A B fault go come = same-demand Equal (λ _. A) (λ _. B) fault (λ x a. (x, go a, refl)) (λ y b. (y, come b, refl))
 
 pub same-gives : {X Y : Type 0} (Q : X → Y → Type 0) (x : X) (y : Y) → Q x y → Same Q (Gives x) (Gives y)

@@ -197,7 +197,7 @@ said-method (request m u) cseq (n, says) = (n, said-cseq cseq n m says)
 said-method (status code why) cseq any = tt
 
 -- the method and the body
-abbrev Beside : List ℕ → Unit {0} → Type 0
+abbrev Beside : List ℕ → ⊤ → Type 0
 Beside x y = ⊤
 
 same-body : (start : StartLine) (cseq : ℕ × List ℕ) (via : List ℕ) (len : Option ℕ) (rest : List ℕ) → Same Beside (BodyOf start cseq via len rest) (BodySays start cseq via len rest)

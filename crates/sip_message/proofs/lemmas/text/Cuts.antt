@@ -1,5 +1,6 @@
 -- A text cut in two, in two ways.
 use Rattle.std.proofs.Common.{◌≡◌, ℕ, Bool, true, false, List, [], ◌∷◌, ◌++◌, length, refl, sym, ap, ◌∙◌, subst, arith}
+use Rattle.std.specs.Prelude.{⊤}
 use Rattle.std.specs.List.{AllByRecursion}
 use Rattle.std.proofs.lemmas.List.{length-append}
 use Rattle.std.proofs.lemmas.Bool.{both_ways}
@@ -30,7 +31,7 @@ two_cuts (a ∷ u) v (b ∷ x) y same = more (two_cuts u v x y tails)
 
 -- no byte of the text passes the test at its front
 abbrev pub Stops : (ℕ → Bool) → List ℕ → Type 0
-Stops test [] = Unit {0}
+Stops test [] = ⊤
 Stops test (b ∷ text) = test b ≡ false
 
 -- each byte passes the test

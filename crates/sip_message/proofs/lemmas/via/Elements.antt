@@ -12,7 +12,7 @@ use Rattle.sip_message.specs.declared.name.Known.{Known}
 use Rattle.sip_message.specs.declared.field.Field.{Field as Code}
 use Rattle.sip_message.specs.Name.{is_name_of}
 use Rattle.sip_message.specs.Only.{IsOnly, ExactlyOne, the, One-prop}
-use Rattle.std.specs.Prelude.{MatchOption}
+use Rattle.std.specs.Prelude.{MatchOption, ⊤}
 use Rattle.std.specs.Borrow.{Bor}
 use Rattle.std.specs.Iterator.{YieldsFirstBy, MakesProgress, item_count}
 use Rattle.sip_message.specs.Elements.{Element, values, MoreElements, ElementsText, AreElements}
@@ -189,7 +189,7 @@ pub One-of : {X : Type 0} (R : X → Type 0) (x : X) → R x → ((y : X) → R 
 One-of R x is only = (x, ∣ record { is = is; only = only } ∣₁)
 
 -- an iterator that gave the first of its list is nearer its end
-pub yields-nearer : {A B : Type 0} (a : A) (s t : List B) (b : B) → s ≡ b ∷ t → MakesProgress (λ _. Unit {0}) (item_count (λ it. it)) s (Some a) t
+pub yields-nearer : {A B : Type 0} (a : A) (s t : List B) (b : B) → s ≡ b ∷ t → MakesProgress (λ _. ⊤) (item_count (λ it. it)) s (Some a) t
 yields-nearer a s t b is = record { on = (λ fin. (tt, fin, omega (arith, ap length is))); keeps = tt; rests = (λ fin. tt) }
 
 -- the first of the elements of a value stands at its front

@@ -12,7 +12,8 @@ invariant_of-self-in-Err c =
     let runs = c.self.inside.order.items in
     let gap = rw (c.deref.ensures.value, c.deref-2.ensures.value) at c.in-Err.ensures.gap in
     by_result c.put.result c.put.ensures.ok c.put.ensures.err
-    (λ grows.
+    (λ put.
+    let grows = rw c.in_ok-bytes-in-Err.ensures at put in
     let grown = IsKept-grow kept c.put.new.kept.items (places_of runs) (places_of c.put.new.runs.items) c.args.entry c.hash-hash.result c.args.bytes.now
     (index_of runs c.in-Err.gap) c.hash-hash.ensures (c.self.invariant.0, c.self.invariant.1.order) (rw c.self.view_is c.requires) gap grows in (
       grown.0,
@@ -31,4 +32,4 @@ returns-in-Ok-clause-ok c =
 
 pub returns-in_ok-put-in-Err-clause-ok : goal.returns-in_ok-put-in-Err-clause-ok
 returns-in_ok-put-in-Err-clause-ok c =
-    rw (c.in_ok-put-in-Err.ensures.ok.0, c.self.view_is) (Keeps-added c.args.self.now c.args.entry c.args.bytes.now, text_of-added c.args.self.now c.args.entry c.args.bytes.now c.requires)
+    rw (c.in_ok-put-in-Err.ensures.ok.0, c.in_ok-bytes-in-Err.ensures, c.self.view_is) (Keeps-added c.args.self.now c.args.entry c.args.bytes.now, text_of-added c.args.self.now c.args.entry c.args.bytes.now c.requires)

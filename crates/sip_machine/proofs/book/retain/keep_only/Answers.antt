@@ -30,5 +30,5 @@ loop-i-preserved c =
 
 pub returns : goal.returns
 returns c =
-    ap (λ ks. texts_of ks) c.truncate.ensures.items
+    ap (λ ks. texts_of ks) (c.truncate.ensures.items ∙ c.set_aside.ensures)
     ∙ keeps_all text c.args.numbers.now c.args.kept.now.items c.loop-i.kept.items c.loop-i.left c.loop-i.i c.loop-i.invariant (omega arith)

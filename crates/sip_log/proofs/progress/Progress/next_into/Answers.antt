@@ -3,7 +3,7 @@ use Rattle.sip_log.specs.declared.progress.Stage.TheVariants as code
 use Rattle.sip_log.specs.Reading.{Place, beside_source, Nexts}
 use Rattle.sip_log.specs.inner.Place.{stage_of, held_at, FitsStage}
 use Rattle.sip_log.proofs.ReadingLemmas.{entries-step, fresh-step, fault-step}
-use Rattle.sip_log.proofs.progress.Progress.next.Goals as goal
+use Rattle.sip_log.proofs.progress.Progress.next_into.Goals as goal
 
 pub returns-in-Ok : goal.returns-in-Ok
 returns-in-Ok g c =

@@ -1,0 +1,5 @@
+use Rattle.std.proofs.Common.{◌≡◌, take}
+use Rattle.sip_machine.proofs.book.retain.set_aside.Given as goal
+
+abbrev pub invariant-loop : goal.invariant-loop
+invariant-loop l = take l.left l.kept.items ≡ take l.left l.initial.kept.items

@@ -4,6 +4,7 @@ pub mod LaneLemmas
 pub mod WordLemmas
 pub mod QuickLemmas
 pub mod PlainLemmas
+pub mod PlainUriLemmas
 pub mod PlainValueLemmas
 pub mod PlainStartLemmas
 pub mod PlainViaLemmas

@@ -1,123 +1,72 @@
-//! The fields that the reader asks for by their names, as they come.
-ghost use Rattle.std.specs.Prelude.{◌≡◌, None, Some, IsTrue, IfSome};
-ghost use Rattle.std.specs.Option.{option_map, option_or};
-ghost use Rattle.sip_message.specs.Faults.{NamesOf};
-ghost use Rattle.sip_message.specs.Outcome.{gives};
-ghost use Rattle.sip_message.specs.Views.{slice_fields};
-ghost use Rattle.sip_message.specs.inner.Asked.{KeepsPlace};
-ghost use Rattle.sip_message.specs.inner.Stages.{names_parts, Stand, IsLength};
+//! What the quick reader keeps of the fields that are asked for by their names, as they come.
+ghost use Rattle.std.specs.Prelude.{◌≡◌, [], None, Some, IsTrue, IsSome};
+ghost use Rattle.sip_message.specs.inner.Asked.{AskedOf};
 
-use crate::field::Field;
-use crate::name::{Known, Name};
-use crate::stages::Named;
+use crate::values::CSeq;
+use crate::via::Via;
 
-// The value of a field, and the number of its line.
-type Place<'a> = (&'a [u8], usize);
-
-// Where the fields that are asked for stand: of Via the first, and of each other name the one.
+/// What the first Via says, and of each other name the one field.
 #[derive(Clone, Copy, Drop)]
-struct Asked<'a> {
-    via: Option<Place<'a>>,
-    from: Option<Place<'a>>,
-    to: Option<Place<'a>>,
-    call_id: Option<Place<'a>>,
-    cseq: Option<Place<'a>>,
-    content_length: Option<Place<'a>>,
+pub(crate) struct Asked<'a> {
+    pub(crate) via: Option<Via<'a>>,
+    pub(crate) from: Option<&'a [u8]>,
+    pub(crate) to: Option<&'a [u8]>,
+    pub(crate) call_id: Option<&'a [u8]>,
+    pub(crate) cseq: Option<CSeq<'a>>,
+    pub(crate) content_length: Option<&'a [u8]>,
 }
 
-/// The named fields and the value of Content-Length, where none of them is missing and none stands twice.
-pub(crate) fn find_asked<'a>(fields: &[Field<'a>]) -> Option<(Named<'a>, Option<&'a [u8]>)>
-    ensures names { IfSome result (λ found. NamesOf (slice_fields fields.entry) (gives (names_parts found.0))) }
-    ensures stand { IfSome result (λ found. Stand (slice_fields fields.entry) found.0) }
-    ensures length { IfSome result (λ found. IsLength (slice_fields fields.entry) found.1) }
-{
-    let mut asked = Asked {
-        via: None,
-        from: None,
-        to: None,
-        call_id: None,
-        cseq: None,
-        content_length: None,
-    };
-    let mut at = 0;
-    while at < fields.len() {
-        let field = fields[at];
-        at += 1;
-        match field.name {
-            Name::Known(name) => {
-                if !keep_place(&mut asked, name, (field.value, at)) {
-                    return None;
-                }
-            }
-            Name::Other(_) => {}
+impl Asked<'_> {
+    /// What is kept of no fields.
+    pub(crate) fn new() -> Self
+        ensures { AskedOf [] result }
+    {
+        Asked {
+            via: None,
+            from: None,
+            to: None,
+            call_id: None,
+            cseq: None,
+            content_length: None,
         }
     }
-    let (via, via_line) = asked.via?;
-    let (from, _) = asked.from?;
-    let (to, _) = asked.to?;
-    let (call_id, _) = asked.call_id?;
-    let (cseq, cseq_line) = asked.cseq?;
-    Some((
-        Named {
-            via_line,
-            via,
-            from,
-            to,
-            call_id,
-            cseq_line,
-            cseq,
-        },
-        value_at(asked.content_length),
-    ))
-}
 
-// The value of the field at the place, if there is one.
-#[inline]
-fn value_at(place: Option<Place<'_>>) -> Option<&[u8]>
-    ensures { result ≡ option_map (λ it. it.0) place.entry }
-{
-    match place {
-        Some((value, _)) => Some(value),
-        None => None,
+    /// Whether no field is missing that a message has.
+    #[inline]
+    pub(crate) fn is_complete(&self) -> bool
+        ensures { IsTrue result → IsSome self.now.via × IsSome self.now.from × IsSome self.now.to × IsSome self.now.call_id × IsSome self.now.cseq }
+    {
+        self.via.is_some()
+            && self.from.is_some()
+            && self.to.is_some()
+            && self.call_id.is_some()
+            && self.cseq.is_some()
     }
 }
 
-// Keeps the place of a field of this name, if it is asked for. A second one of a name that stands at
-// most once is refused.
+/// Keeps the value of a field that stands at most once, if it is one and none is kept yet. Whether it
+/// was kept.
 #[inline]
-fn keep_place<'a>(asked: &mut Asked<'a>, name: Known, place: Place<'a>) -> bool
-    ensures { IsTrue result → KeepsPlace name place.entry asked.old asked.new }
+pub(crate) fn keep_once<'a>(is: bool, value: &'a [u8], kept: &mut Option<&'a [u8]>) -> bool
+    ensures is { IsTrue result → IsTrue is }
+    ensures kept { IsTrue result → (kept.old ≡ None) × (kept.new ≡ Some value.entry) }
 {
-    match name {
-        Known::Via => keep_first(place, &mut asked.via),
-        Known::From => keep_once(place, &mut asked.from),
-        Known::To => keep_once(place, &mut asked.to),
-        Known::CallId => keep_once(place, &mut asked.call_id),
-        Known::CSeq => keep_once(place, &mut asked.cseq),
-        Known::ContentLength => keep_once(place, &mut asked.content_length),
-        _ => true,
+    if !is || kept.is_some() {
+        return false;
     }
-}
-
-// Keeps a place if none is kept yet.
-#[inline]
-fn keep_first<'a>(place: Place<'a>, kept: &mut Option<Place<'a>>) -> bool
-    ensures { kept.new ≡ option_or kept.old (Some place.entry) }
-{
-    if kept.is_none() {
-        *kept = Some(place);
-    }
+    *kept = Some(value);
     true
 }
 
-// The same, and whether none was kept.
+/// Keeps what such a field says, if it says something and nothing is kept yet. Whether it was kept.
 #[inline]
-fn keep_once<'a>(place: Place<'a>, kept: &mut Option<Place<'a>>) -> bool
-    ensures { IsTrue result → (kept.old ≡ None) × (kept.new ≡ Some place.entry) }
+pub(crate) fn keep_one<T: Copy>(said: Option<T>, kept: &mut Option<T>) -> bool
+    ensures says { IsTrue result → IsSome said }
+    ensures kept { IsTrue result → (kept.old ≡ None) × (kept.new ≡ said) }
 {
     if kept.is_some() {
         return false;
     }
-    *kept = Some(place);
-    true
+    *kept = said;
+    said.is_some()
 }

@@ -81,8 +81,8 @@ fn read_field<'a>(n: usize, line: &'a [u8], kept: &mut Kept<'a>) -> Result<Field
     Ok(Field { name, value })
 }
 
-// For how many fields there is room at first. Most messages have no more.
-const ROOM: usize = 16;
+/// For how many fields there is room at first. Most messages have no more.
+pub(crate) const ROOM: usize = 16;
 
 /// The fields that the lines are, with what is kept of them, or the first fault of the lines.
 pub(crate) fn read_fields(

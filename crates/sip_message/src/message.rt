@@ -9,18 +9,18 @@ ghost use Rattle.sip_message.specs.ValueParts.{start_parts, address_parts, cseq_
 ghost use Rattle.sip_message.specs.ViaParts.{element};
 
 use crate::address::{Address, read_address};
-use crate::asked::find_asked;
+use crate::asked::Asked;
 use crate::ends::is_clean;
 use crate::fault::{Fault, ReadError, Reason, Unit};
-use crate::field::{Field, read_fields};
+use crate::field::{Field, ROOM, read_fields};
 use crate::quick::read_ordinary;
-use crate::stages::{body_by_length, cut_first, cut_head, find_named, read_body};
+use crate::stages::{body_len, cut_first, cut_head, find_named, read_body};
 use crate::start_line::{StartLine, read_start};
 use crate::values::CSeq;
 use crate::via::Via;
 use crate::vias::{Routes, Vias};
 use sip_text::same_text;
-use std::alloc::{AllocError, Global};
+use std::alloc::Global;
 use std::marker::Model;
 
 /// A message (RFC 3261, section 7), in slices of its bytes.
@@ -46,8 +46,7 @@ impl<'a> Model for Message<'a> {
 }
 
 impl<'a> Message<'a> {
-    ghost use Rattle.std.specs.Prelude.{IfOk, IfSome};
-    ghost use Rattle.sip_message.specs.Reads.{Reads, ReadsTo};
+    ghost use Rattle.sip_message.specs.Reads.{ReadsTo};
     ghost use Rattle.sip_message.specs.Message.{Message as Text};
 
     // The message of these parts.
@@ -81,37 +80,23 @@ impl<'a> Message<'a> {
     pub fn read(alloc: Global, bytes: &'a [u8]) -> Result<Self, ReadError>
         ensures { ReadsTo bytes.entry.now result }
     {
-        match Message::quick(alloc, bytes)? {
-            Some(message) => Ok(message),
-            None => Message::whole(alloc, bytes),
+        let mut fields = Vec::with_capacity(alloc, ROOM)?;
+        let mut asked = Asked::new();
+        let Some((start, rest)) = read_ordinary(bytes, &mut fields, &mut asked)? else {
+            return Message::whole(alloc, bytes);
+        };
+        if !asked.is_complete() {
+            return Message::whole(alloc, bytes);
         }
-    }
-
-    // The message that the bytes spell, where its head is an ordinary one.
-    fn quick(alloc: Global, bytes: &'a [u8]) -> Result<Option<Self>, AllocError>
-        ensures { IfOk result (λ found. IfSome found (λ m. Reads bytes.entry.now m)) }
-    {
-        let Some((start, fields, kept, rest)) = read_ordinary(alloc, bytes)? else {
-            return Ok(None);
+        let via = asked.via.unwrap();
+        let from = asked.from.unwrap();
+        let to = asked.to.unwrap();
+        let call_id = asked.call_id.unwrap();
+        let cseq = asked.cseq.unwrap();
+        let Some(len) = body_len(&start, &via, &cseq, asked.content_length, rest) else {
+            return Message::whole(alloc, bytes);
         };
-        let Some((named, length)) = find_asked(&fields) else {
-            return Ok(None);
-        };
-        let via = kept.via.unwrap();
-        let cseq = kept.cseq.unwrap();
-        let Ok(body) = body_by_length(start, named, &via, cseq, length, rest) else {
-            return Ok(None);
-        };
-        Ok(Some(Message::new(
-            start,
-            fields,
-            body,
-            via,
-            named.from,
-            named.to,
-            named.call_id,
-            cseq,
-        )))
+        Ok(Message::new(start, fields, &rest[..len], via, from, to, call_id, cseq))
     }
 
     // The same for any message.

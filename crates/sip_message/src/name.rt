@@ -63,16 +63,24 @@ impl Name<'_> {
 }
 
 /// The name that the text spells.
+#[inline(always)]
 pub(crate) fn read_name(text: &[u8]) -> Name<'_>
     ensures { name_parts result ≡ name_of text.now }
 {
-    let name = match text {
-        [letter] => compact_name(*letter),
-        _ => full_name(text),
-    };
-    match name {
+    match known_name(text) {
         Some(name) => Name::Known(name),
         None => Name::Other(text),
+    }
+}
+
+// The known name that the text spells.
+#[inline(never)]
+fn known_name(text: &[u8]) -> Option<Known>
+    ensures { name_or result text.now ≡ name_of text.now }
+{
+    match text {
+        [letter] => compact_name(*letter),
+        _ => full_name(text),
     }
 }
 

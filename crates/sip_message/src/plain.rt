@@ -1,9 +1,10 @@
 //! Plain parts of values, found by the masks of their text: each is told by the place behind it. What is not plain may
 //! still be well spelled, and is left to the readers of all values.
-ghost use Rattle.std.specs.Prelude.{◌≤◌, IfSome, IsTrue, codes, length, option_copied};
+ghost use Rattle.std.specs.Prelude.{◌≡◌, ◌⊎◌, ◌≤◌, [], IfSome, IsTrue, codes, length, option_copied};
 ghost use Rattle.sip_text.specs.Grammar.{Sws, Token};
-ghost use Rattle.sip_text.specs.Host.{HostText, host_parts};
-ghost use Rattle.sip_text.specs.Text.{Byte, Exactly};
+ghost use Rattle.sip_text.specs.Bytes.{at_sign};
+ghost use Rattle.sip_text.specs.Host.{Hostname, HostParts, HostText, host_parts};
+ghost use Rattle.sip_text.specs.Text.{Byte, Exactly, ◌then◌};
 ghost use Rattle.sip_text.specs.Uri.{Port};
 ghost use Rattle.sip_message.specs.Address.{DisplayName};
 ghost use Rattle.sip_message.specs.Params.{Quoted};
@@ -101,10 +102,20 @@ pub(crate) fn past_uri(masks: &Masks<'_, '_>, at: usize, end: usize) -> Option<u
     ensures { IfSome result (LiesWithin SomeUri masks.now at end) }
 {
     let start = past_sip(masks, at, end)?;
-    let user = past_run(masks, start, end)?;
+    let host = past_user(masks, start, end)?;
+    past_hostport(masks, host, end)
+}
+
+// The place behind the user and its `@`, if there is one.
+#[inline]
+fn past_user(masks: &Masks<'_, '_>, at: usize, end: usize) -> Option<usize>
+    requires { end ≤ length masks.now }
+    ensures { IfSome result (LiesWithin (λ u. (u ≡ []) ⊎ (PlainRun then Byte at_sign) u) masks.now at end) }
+{
+    let user = past_run(masks, at, end)?;
     match past_byte(masks, user, end, b'@') {
-        Some(host) => past_hostport(masks, host, end),
-        None => past_hostport(masks, start, end),
+        Some(host) => Some(host),
+        None => Some(at),
     }
 }
 
@@ -120,18 +131,49 @@ fn past_sip(masks: &Masks<'_, '_>, at: usize, end: usize) -> Option<usize>
 }
 
 // The place behind the host, and the port if there is one.
+#[inline]
 fn past_hostport(masks: &Masks<'_, '_>, at: usize, end: usize) -> Option<usize>
     requires { end ≤ length masks.now }
     ensures { IfSome result (LiesWithin HostPort masks.now at end) }
 {
-    let (_, host) = past_host(masks, at, end)?;
+    let host = past_run(masks, at, end)?;
+    if !is_host_at(masks.text(), at, host) {
+        return None;
+    }
     match past_byte(masks, host, end, b':') {
         Some(port) => past_port(masks, port, end),
         None => Some(host),
     }
 }
 
+// Whether a host stands between two places.
+#[inline]
+fn is_host_at(text: &[u8], at: usize, to: usize) -> bool
+    requires { (at ≤ to) × (to ≤ length text.now) }
+    ensures { IsTrue result → (host : HostParts) × HostText (segment at to text.now) host }
+{
+    is_name_at(text, at, to) || is_host(&text[at..to])
+}
+
+// Whether the text is a host.
+#[inline(never)]
+fn is_host(text: &[u8]) -> bool
+    ensures { IsTrue result → (host : HostParts) × HostText text.now host }
+{
+    read_host(text).is_some()
+}
+
+// Whether a name of an ordinary kind stands between two places. Most hosts are such names.
+#[inline(never)]
+fn is_name_at(text: &[u8], at: usize, to: usize) -> bool
+    requires { (at ≤ to) × (to ≤ length text.now) }
+    ensures { IsTrue result → Hostname (segment at to text.now) }
+{
+    is_ordinary_name(&text[at..], to - at)
+}
+
 /// The host, and the place behind it.
+#[inline(always)]
 pub(crate) fn past_host<'a>(
     masks: &Masks<'a, '_>,
     at: usize,
@@ -145,12 +187,13 @@ pub(crate) fn past_host<'a>(
     Some((host, to))
 }
 
-// The host that stands between two places. Most are names of an ordinary kind.
+// The host that stands between two places.
+#[inline(always)]
 fn host_at(text: &[u8], at: usize, to: usize) -> Option<Host<'_>>
     requires { (at ≤ to) × (to ≤ length text.now) }
     ensures { IfSome result (λ host. HostText (segment at to text.now) (host_parts host)) }
 {
-    if is_ordinary_name(&text[at..], to - at) {
+    if is_name_at(text, at, to) {
         return Some(Host::Name(&text[at..to]));
     }
     read_host(&text[at..to])

@@ -1,49 +1,46 @@
 //! The quick reader of ordinary heads: no line of theirs is folded, and no blank stands before a colon.
 //! It finds the ends of lines and of names in masks of the text. What is not ordinary it leaves to the
 //! reader of all heads.
-ghost use Rattle.std.specs.Prelude.{◌≡◌, ◌+◌, ◌-◌, ◌^◌, ◌≤◌, ◌<◌, ◌++◌, IsTrue, IfOk, IfSome, length, take, drop};
-ghost use Rattle.sip_text.specs.Text.{IsOnlyValue};
+ghost use Rattle.std.specs.Prelude.{◌≡◌, ◌+◌, ◌-◌, ◌^◌, ◌≤◌, ◌<◌, ◌++◌, [], IsTrue, IfOk, IfSome, length, take, drop};
 ghost use Rattle.sip_message.specs.Lines.{with_end};
 ghost use Rattle.sip_message.specs.Field.{Row, ValueText, FieldText};
 ghost use Rattle.sip_message.specs.Views.{name_parts, field_parts, fields_parts};
 ghost use Rattle.sip_message.specs.ValueParts.{start_parts};
-ghost use Rattle.sip_message.specs.ViaParts.{element};
-ghost use Rattle.sip_message.specs.inner.ElementFronts.{FirstVia};
-ghost use Rattle.sip_message.specs.inner.Kept.{KeptOf, KeepsMore};
+ghost use Rattle.sip_message.specs.inner.Asked.{AskedOf, AsksMore, KeepsVia};
 ghost use Rattle.sip_message.specs.inner.Plain.{segment, SomeAddress};
-ghost use Rattle.sip_message.specs.inner.Quick.{IsOpen, AreOrdinary, IsOrdinary};
+ghost use Rattle.sip_message.specs.inner.Quick.{IsOpen, AreOrdinary, IsOrdinary, PushesField};
 
+use crate::asked::{Asked, keep_once, keep_one};
 use crate::cursor::past;
 use crate::field::Field;
-use crate::kept::{Kept, keep};
 use crate::name::{Known, Name, quick_name};
 use crate::plain::is_plain_address;
 use crate::plain_start::start_up_to;
 use crate::plain_values::{cseq_at, is_call_id_at};
 use crate::plain_via::plain_via;
-use crate::row::{is_address, is_of_row, is_solid, trim};
+use crate::row::{is_address, is_solid};
 use crate::start_line::StartLine;
 use crate::values::is_length;
 use crate::via::{Via, first_via};
 use sip_masks::Masks;
-use std::alloc::{AllocError, Global};
+use std::alloc::AllocError;
 
 // How many bytes of a message are looked at, and how many words their masks take.
 const LONGEST: usize = 2047;
 
 const WORDS: usize = 33;
 
-// For how many fields there is room at first. Most messages have no more.
-const ROOM: usize = 16;
-
-/// The start line, the fields with what is kept of them, and what follows the head, where the head is
-/// an ordinary one.
-pub(crate) fn read_ordinary(
-    alloc: Global,
-    bytes: &[u8],
-) -> Result<Option<(StartLine<'_>, Vec<Field<'_>>, Kept<'_>, &[u8])>, AllocError>
-    ensures head { IfOk result (λ found. IfSome found (λ read. IsOrdinary bytes.now (start_parts read.0) (fields_parts read.1) read.3.now)) }
-    ensures kept { IfOk result (λ found. IfSome found (λ read. KeptOf (fields_parts read.1) read.2)) }
+/// The start line and what follows the head, where the head is an ordinary one. Its fields are put into
+/// the vector, and what is asked for is kept.
+pub(crate) fn read_ordinary<'a>(
+    bytes: &'a [u8],
+    fields: &mut Vec<Field<'a>>,
+    asked: &mut Asked<'a>,
+) -> Result<Option<(StartLine<'a>, &'a [u8])>, AllocError>
+    requires none { fields.old.items ≡ [] }
+    requires asked { AskedOf [] asked.old }
+    ensures head { IfOk result (λ found. IfSome found (λ read. IsOrdinary bytes.now (start_parts read.0) (fields_parts fields.new) read.1.now)) }
+    ensures asked { IfOk result (λ found. IfSome found (λ _. AskedOf (fields_parts fields.new) asked.new)) }
 {
     let mut others = [0; WORDS];
     let mut controls = [0; WORDS];
@@ -54,10 +51,10 @@ pub(crate) fn read_ordinary(
     let Some(start) = start_up_to(&masks, end) else {
         return Ok(None);
     };
-    let Some((fields, kept, at)) = ordinary_fields(alloc, &masks, end + 2)? else {
+    let Some(at) = ordinary_fields(&masks, end + 2, fields, asked)? else {
         return Ok(None);
     };
-    Ok(Some((start, fields, kept, &bytes[at + 2..])))
+    Ok(Some((start, &bytes[at + 2..])))
 }
 
 // The front of the bytes that is looked at.
@@ -73,32 +70,30 @@ fn front(bytes: &[u8]) -> &[u8]
     }
 }
 
-// The fields of the lines from here on, with what is kept of them, and the place of the empty line
-// behind them, where the lines are ordinary ones.
+// The place of the empty line behind the lines from here on, where they are ordinary ones. Their
+// fields are put into the vector, and what is asked for is kept.
 fn ordinary_fields<'a>(
-    alloc: Global,
     masks: &Masks<'a, '_>,
     from: usize,
-) -> Result<Option<(Vec<Field<'a>>, Kept<'a>, usize)>, AllocError>
-    requires { from ≤ length masks.now }
-    ensures lines { IfOk result (λ found. IfSome found (λ read. AreOrdinary masks.now from read.2 (fields_parts read.0))) }
-    ensures kept { IfOk result (λ found. IfSome found (λ read. KeptOf (fields_parts read.0) read.1)) }
+    fields: &mut Vec<Field<'a>>,
+    asked: &mut Asked<'a>,
+) -> Result<Option<usize>, AllocError>
+    requires place { from ≤ length masks.now }
+    requires none { fields.old.items ≡ [] }
+    requires asked { AskedOf [] asked.old }
+    ensures lines { IfOk result (λ found. IfSome found (λ at. AreOrdinary masks.now from at (fields_parts fields.new))) }
+    ensures asked { IfOk result (λ found. IfSome found (λ _. AskedOf (fields_parts fields.new) asked.new)) }
 {
-    let mut kept = Kept::new();
-    let mut fields = Vec::with_capacity(alloc, ROOM)?;
     let mut at = from;
     'lines: loop {
         let Some(end) = line_end(masks, at) else {
             return Ok(None);
         };
         if end == at {
-            return Ok(Some((fields, kept, at)));
+            return Ok(Some(at));
         }
-        let Some(field) = ordinary_field(masks, at, end, &mut kept) else {
+        if !push_ordinary(masks, at, end, fields, asked)? {
             return Ok(None);
-        };
-        if let Err(e) = fields.push(field) {
-            return Err(AllocError::from(e));
         }
         at = end + 2;
     }
@@ -122,110 +117,102 @@ fn line_end(masks: &Masks<'_, '_>, at: usize) -> Option<usize>
     Some(end)
 }
 
-// The field that the line from one place up to another is, if its name is plain and its colon stands
-// right behind that. What a first Via and a first CSeq say is kept.
+// Puts the field that the line from one place up to another is behind the others, if its name is plain
+// and its colon stands right behind that. What it says is kept if it is asked for.
 #[inline]
-fn ordinary_field<'a>(
+fn push_ordinary<'a>(
     masks: &Masks<'a, '_>,
     at: usize,
     end: usize,
-    kept: &mut Kept<'a>,
-) -> Option<Field<'a>>
+    fields: &mut Vec<Field<'a>>,
+    asked: &mut Asked<'a>,
+) -> Result<bool, AllocError>
     requires within { (at ≤ end) × (end ≤ length masks.now) }
     requires clear { IsOpen (take (end - at) (drop at masks.now)) }
-    ensures field { IfSome result (λ f. FieldText (take (end - at) (drop at masks.now)) (field_parts f)) }
-    ensures kept { IfSome result (λ f. KeepsMore (field_parts f) kept.old kept.new) }
+    ensures { IfOk result (λ is. IsTrue is → PushesField (take (end - at) (drop at masks.now)) (fields_parts fields.old) (fields_parts fields.new) asked.old asked.new) }
 {
     let text = masks.text();
     let len = masks.run_at(at);
     if len == 0 || len >= end - at || text[at + len] != b':' {
-        return None;
+        return Ok(false);
     }
     let name = quick_name(&text[at..], len);
-    let value = ordinary_value(masks, at + len + 1, end, name, kept)?;
-    Some(Field { name, value })
-}
-
-// The value behind a colon, if a field of this name may have it. What a first Via and a first CSeq
-// say is kept.
-#[inline]
-fn ordinary_value<'a>(
-    masks: &Masks<'a, '_>,
-    at: usize,
-    end: usize,
-    name: Name<'a>,
-    kept: &mut Kept<'a>,
-) -> Option<&'a [u8]>
-    requires within { (at ≤ end) × (end ≤ length masks.now) }
-    requires clear { IsOpen (segment at end masks.now) }
-    ensures value { IfSome result (λ v. ValueText (segment at end masks.now) v.now) }
-    ensures row { IfSome result (λ v. Row (name_parts name.entry) v.now) }
-    ensures kept { IfSome result (λ v. KeepsMore (record { name = name_parts name.entry; value = v.now }) kept.old kept.new) }
-{
-    let text = masks.text();
-    let Some(from) = solid_place(text, at, end) else {
-        let value = trim(&text[at..end])?;
-        return if is_ordinary_value(name, value, kept) {
-            Some(value)
-        } else {
-            None
-        };
+    let Some(from) = value_place(text, at + len + 1, end) else {
+        return Ok(false);
     };
-    if is_value_at(masks, from, end, name, kept) {
-        Some(&text[from..end])
-    } else {
-        None
+    if !is_value_at(masks, from, end, name, asked) {
+        return Ok(false);
     }
+    let value = &text[from..end];
+    if let Err(e) = fields.push(Field { name, value }) {
+        return Err(AllocError::from(e));
+    }
+    Ok(true)
 }
 
-// The place of the value between two places, if a SP stands before it, and it neither begins nor ends
-// with a blank.
+// The place of the value between two places, if at most a SP stands before it, and it neither begins nor
+// ends with a blank.
 #[inline]
-fn solid_place(text: &[u8], at: usize, end: usize) -> Option<usize>
+fn value_place(text: &[u8], at: usize, end: usize) -> Option<usize>
     requires { (at ≤ end) × (end ≤ length text.now) }
     ensures within { IfSome result (λ from. (at ≤ from) × (from ≤ end)) }
     ensures value { IfSome result (λ from. ValueText (segment at end text.now) (segment from end text.now)) }
 {
-    let Some(value) = past(&text[at..end], b' ') else {
-        return None;
+    let rest = &text[at..end];
+    let Some(value) = past(rest, b' ') else {
+        return if is_solid(rest) { Some(at) } else { None };
     };
     if is_solid(value) { Some(at + 1) } else { None }
 }
 
-// Whether a field of this name may have the value between two places, in which no control stands.
+// Whether a field of this name may have the value between two places, in which no control stands. What
+// it says is kept if it is asked for, and a second field of a name that stands at most once is refused.
 #[inline]
 fn is_value_at<'a>(
     masks: &Masks<'a, '_>,
     at: usize,
     end: usize,
     name: Name<'a>,
-    kept: &mut Kept<'a>,
+    asked: &mut Asked<'a>,
 ) -> bool
     requires within { (at ≤ end) × (end ≤ length masks.now) }
     requires clear { IsOpen (segment at end masks.now) }
     ensures row { IsTrue result → Row (name_parts name.entry) (segment at end masks.now) }
-    ensures kept { IsTrue result → KeepsMore (record { name = name_parts name.entry; value = segment at end masks.now }) kept.old kept.new }
+    ensures asked { IsTrue result → AsksMore (record { name = name_parts name.entry; value = segment at end masks.now }) asked.old asked.new }
 {
+    let value = &masks.text()[at..end];
     match name {
-        Name::Known(Known::Via) => keep(via_at(masks, at, end), &mut kept.via),
-        Name::Known(Known::From) => is_address_at(masks, at, end),
-        Name::Known(Known::To) => is_address_at(masks, at, end),
-        Name::Known(Known::CallId) => is_call_id_at(masks, at, end),
-        Name::Known(Known::CSeq) => keep(cseq_at(masks, at, end), &mut kept.cseq),
-        Name::Known(Known::ContentLength) => is_length(&masks.text()[at..end]),
-        _ => is_ordinary_value(name, &masks.text()[at..end], kept),
+        Name::Known(Known::Via) => keep_via(masks, at, end, &mut asked.via),
+        Name::Known(Known::From) => {
+            keep_once(is_address_at(masks, at, end), value, &mut asked.from)
+        }
+        Name::Known(Known::To) => keep_once(is_address_at(masks, at, end), value, &mut asked.to),
+        Name::Known(Known::CallId) => {
+            keep_once(is_call_id_at(masks, at, end), value, &mut asked.call_id)
+        }
+        Name::Known(Known::CSeq) => keep_one(cseq_at(masks, at, end), &mut asked.cseq),
+        Name::Known(Known::ContentLength) => {
+            keep_once(is_length(value), value, &mut asked.content_length)
+        }
+        _ => true,
     }
 }
 
-// The first element of Via between two places, if elements stand there.
-fn via_at<'a>(masks: &Masks<'a, '_>, at: usize, end: usize) -> Option<Via<'a>>
+// Keeps the first element of Via between two places, if elements stand there and none is kept yet.
+// Whether they stand there.
+fn keep_via<'a>(masks: &Masks<'a, '_>, at: usize, end: usize, kept: &mut Option<Via<'a>>) -> bool
     requires { (at ≤ end) × (end ≤ length masks.now) }
-    ensures { IsOnlyValue FirstVia element (segment at end masks.now) result }
+    ensures { KeepsVia (segment at end masks.now) result kept.old kept.new }
 {
-    match plain_via(masks, at, end) {
-        Some(via) => Some(via),
-        None => first_via(&masks.text()[at..end]),
+    if kept.is_some() {
+        return first_via(&masks.text()[at..end]).is_some();
     }
+    if let Some(via) = plain_via(masks, at, end) {
+        *kept = Some(via);
+        return true;
+    }
+    *kept = first_via(&masks.text()[at..end]);
+    kept.is_some()
 }
 
 // Whether an address stands between two places.
@@ -234,24 +221,4 @@ fn is_address_at(masks: &Masks<'_, '_>, at: usize, end: usize) -> bool
     ensures { IsTrue result → SomeAddress (segment at end masks.now) }
 {
     is_plain_address(masks, at, end) || is_address(&masks.text()[at..end])
-}
-
-// Whether a field of this name may have the value, in which no control stands.
-#[inline]
-fn is_ordinary_value<'a>(name: Name<'a>, value: &'a [u8], kept: &mut Kept<'a>) -> bool
-    requires { IsOpen value.now }
-    ensures row { IsTrue result → Row (name_parts name.entry) value.entry.now }
-    ensures kept { IsTrue result → KeepsMore (record { name = name_parts name.entry; value = value.entry.now }) kept.old kept.new }
-{
-    match name {
-        Name::Known(
-            Known::Via
-            | Known::From
-            | Known::To
-            | Known::CallId
-            | Known::CSeq
-            | Known::ContentLength,
-        ) => is_of_row(name, value, kept),
-        _ => true,
-    }
 }

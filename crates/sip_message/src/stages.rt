@@ -1,5 +1,5 @@
 //! The stages of reading.
-ghost use Rattle.std.specs.Prelude.{◌≡◌, ◌↔◌, ◌≤◌, ◌<◌, ◌-◌, ℕ, List, ◌++◌, length, slice_index, Some, IsTrue, IfOk, IfSome, option_copied};
+ghost use Rattle.std.specs.Prelude.{◌≡◌, ◌↔◌, ◌≤◌, ◌<◌, ◌-◌, ℕ, List, ◌++◌, length, take, slice_index, Some, IsTrue, IfOk, IfSome, option_copied};
 ghost use Rattle.std.specs.Option.{option_map};
 ghost use Rattle.std.specs.Str.Parse.{digits_value};
 ghost use Rattle.memchr.specs.Find.{FindsNeedle};
@@ -20,7 +20,7 @@ ghost use Rattle.sip_message.specs.inner.Settles.{outcome_of};
 ghost use Rattle.sip_message.specs.ValueParts.{start_parts, cseq_parts};
 ghost use Rattle.sip_message.specs.ViaParts.{element};
 ghost use Rattle.sip_message.specs.inner.ElementFronts.{FirstVia};
-ghost use Rattle.sip_message.specs.inner.Stages.{names_parts, Stand};
+ghost use Rattle.sip_message.specs.inner.Stages.{names_parts, names_of, Stand, HasBody};
 
 use crate::cursor::cut_line;
 use crate::fault::{Fault, Reason, Unit};
@@ -90,7 +90,7 @@ pub(crate) fn cut_first(head: &[u8]) -> (&[u8], &[u8])
 // The named fields, or the first of them that is missing or stands twice.
 pub(crate) fn find_named<'a>(fields: &[Field<'a>]) -> Result<Named<'a>, Fault>
     ensures names { NamesOf (slice_fields fields.entry) (outcome_of names_parts result) }
-    ensures stand { IfOk result (Stand (slice_fields fields.entry)) }
+    ensures stand { IfOk result (λ named. Stand (slice_fields fields.entry) (names_of named)) }
 {
     let (via, via_line) = find_first(fields, Known::Via)?;
     let (from, _) = find_once(fields, Known::From)?;
@@ -219,6 +219,39 @@ pub(crate) fn body_by_length<'a>(
         });
     }
     Ok(&rest[..len])
+}
+
+/// How many bytes the body of a message from an ordinary head has, if nothing is wrong with it.
+#[inline]
+pub(crate) fn body_len(
+    start: &StartLine<'_>,
+    via: &Via<'_>,
+    cseq: &CSeq<'_>,
+    content_length: Option<&[u8]>,
+    rest: &[u8],
+) -> Option<usize>
+    requires { IfSome (option_copied content_length) Digits }
+    ensures { IfSome result (λ len. (len ≤ length rest.now) × HasBody start.now via.now cseq.now (option_copied content_length.entry) rest.now (take len rest.now)) }
+{
+    if !fits_method(*start, *cseq) {
+        return None;
+    }
+    let Some(digits) = content_length else {
+        return if is_stream(via.transport) {
+            None
+        } else {
+            Some(rest.len())
+        };
+    };
+    let len = number_at_most(digits, rest.len())?;
+    if len == rest.len() {
+        return Some(len);
+    }
+    if is_stream(via.transport) {
+        None
+    } else {
+        Some(len)
+    }
 }
 
 // Whether the method of CSeq is that of the request.

@@ -1,4 +1,5 @@
 pub mod Stages
+pub mod Ordinary
 pub mod Body
 pub mod Outcome
 pub mod Faults

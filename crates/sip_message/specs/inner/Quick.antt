@@ -1,10 +1,12 @@
 -- What the quick reader finds.
-use Rattle.std.specs.Prelude.{◌≡◌, ℕ, ◌+◌, ◌≤◌, not, Bool, true, List, [], ◌++◌, length, drop}
+use Rattle.std.specs.Prelude.{◌≡◌, ℕ, ◌+◌, ◌≤◌, not, Bool, true, List, [], ◌∷◌, ◌++◌, length, drop}
 use Rattle.std.specs.List.{AllByRecursion, flat_map}
 use Rattle.sip_masks.specs.Marks.{is_control}
 use Rattle.sip_message.specs.Lines.{IsHead, HasNoBareEnd, IsLines, with_end}
 use Rattle.sip_message.specs.StartLine.{StartLine, StartText}
-use Rattle.sip_message.specs.Field.{Field, FieldsText}
+use Rattle.sip_message.specs.Field.{Field, FieldText, FieldsText}
+use Rattle.sip_message.specs.declared.asked.Asked.{Asked}
+use Rattle.sip_message.specs.inner.Asked.{AsksMore}
 
 abbrev pub is_open : ℕ → Bool
 is_open byte = not (is_control byte)
@@ -32,3 +34,10 @@ pub record IsOrdinary (bytes : List ℕ) (start : StartLine) (fields : List Fiel
   pub are_lines : IsLines head first others
   pub is_start : StartText first start
   pub are_fields : FieldsText others fields
+
+-- the line is a field, which is put behind the others, and what it says is kept
+pub record PushesField (line : List ℕ) (old new : List Field) (before after : Asked) : Type 0 where
+  pub field : Field
+  pub is : FieldText line field
+  pub pushed : new ≡ old ++ field ∷ []
+  pub asks : AsksMore field before after

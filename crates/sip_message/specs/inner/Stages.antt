@@ -1,25 +1,51 @@
 -- What the stages of reading find.
-use Rattle.std.specs.Prelude.{◌≡◌, ℕ, List, [], Option, None, Some}
-use Rattle.std.specs.Borrow.{Bor}
+use Rattle.std.specs.Prelude.{ℕ, List, Option}
+use Rattle.std.specs.Option.{option_map}
+use Rattle.std.specs.Str.Parse.{digits_value}
 use Rattle.sip_message.specs.declared.name.Known.TheVariants as known_name
+use Rattle.sip_message.specs.declared.start_line.StartLine.{StartLine}
 use Rattle.sip_message.specs.declared.stages.Named.{Named}
+use Rattle.sip_message.specs.declared.values.CSeq.{CSeq}
+use Rattle.sip_message.specs.declared.via.Via.{Via}
 use Rattle.sip_message.specs.Field.{Field}
-use Rattle.sip_message.specs.Message.{found, IsFirstFound}
-use Rattle.sip_message.specs.Reading.{IsValueOf}
+use Rattle.sip_message.specs.Faults.{BodyOf}
+use Rattle.sip_message.specs.Outcome.{gives}
+use Rattle.sip_message.specs.Reading.{IsValueOf, CSeqValue}
+use Rattle.sip_message.specs.ValueParts.{start_parts, cseq_parts}
+use Rattle.sip_message.specs.ViaParts.{element}
+use Rattle.sip_message.specs.inner.ElementFronts.{FirstVia}
 
 -- the first Via and the CSeq, with their lines
 abbrev pub names_parts : Named → (ℕ × List ℕ) × (ℕ × List ℕ)
 names_parts n = ((n.via_line, n.via.now), (n.cseq_line, n.cseq.now))
 
--- where the named fields stand
-pub record Stand (fields : List Field) (n : Named) : Type 0 where
-  pub via : IsValueOf known_name.Via fields n.via.now
-  pub from : IsValueOf known_name.From fields n.from.now
-  pub to : IsValueOf known_name.To fields n.to.now
-  pub call_id : IsValueOf known_name.CallId fields n.call_id.now
-  pub cseq : IsValueOf known_name.CSeq fields n.cseq.now
+-- the first Via and the CSeq, with their lines, and the other named values
+pub record Names : Type 0 where
+  pub via : ℕ × List ℕ
+  pub from : List ℕ
+  pub to : List ℕ
+  pub call_id : List ℕ
+  pub cseq : ℕ × List ℕ
 
--- the value of the first Content-Length, or nothing where there is none
-abbrev pub IsLength : List Field → Option (Bor (List ℕ)) → Type 0
-IsLength fields None = found known_name.ContentLength fields ≡ []
-IsLength fields (Some digits) = (line : ℕ) × IsFirstFound known_name.ContentLength fields (line, digits.now)
+abbrev pub names_of : Named → Names
+names_of n = record {
+  via = (n.via_line, n.via.now);
+  from = n.from.now;
+  to = n.to.now;
+  call_id = n.call_id.now;
+  cseq = (n.cseq_line, n.cseq.now);
+}
+
+-- where the named fields stand
+pub record Stand (fields : List Field) (n : Names) : Type 0 where
+  pub via : IsValueOf known_name.Via fields (n.via.1)
+  pub from : IsValueOf known_name.From fields n.from
+  pub to : IsValueOf known_name.To fields n.to
+  pub call_id : IsValueOf known_name.CallId fields n.call_id
+  pub cseq : IsValueOf known_name.CSeq fields (n.cseq.1)
+
+-- the body, wherever the first Via and the CSeq stand
+abbrev pub HasBody : StartLine → Via → CSeq → Option (List ℕ) → List ℕ → List ℕ → Type 0
+HasBody start via cseq len rest body =
+    (v c : ℕ × List ℕ) → FirstVia (v.1) (element via) → CSeqValue (c.1) (cseq_parts cseq)
+    → BodyOf (start_parts start) c (v.1) (option_map (digits_value 10) len) rest (gives body)

@@ -1,108 +1,184 @@
--- The fields that the reader asks for, one field after another.
-use Rattle.std.proofs.Common.{◌≡◌, ℕ, ◌+◌, ◌<◌, ◌≤◌, Bool, true, false, List, [], ◌∷◌, ◌++◌, length, drop, map, slice_index_or, Option, None, Some, refl, sym, ap, ◌∙◌, subst, arith}
+-- What is kept of the fields that are asked for, one field after another.
+use Rattle.std.proofs.Common.{◌≡◌, ℕ, ◌+◌, Bool, true, false, List, [], ◌∷◌, ◌++◌, cond, Option, None, Some, option_copied, refl, sym, ap, ◌∙◌, subst}
+use Rattle.std.specs.Prelude.{IsTrue, IsSome, IfSome, is_some}
 use Rattle.std.specs.Borrow.{Bor}
+use Rattle.std.specs.List.{AllByRecursion}
 use Rattle.std.specs.Option.{option_map, option_or}
+use Rattle.std.specs.Str.Parse.{digits_value}
+use Rattle.std.proofs.lemmas.Bool.{false≢true}
 use Rattle.std.proofs.lemmas.List.{append-nil}
+use Rattle.sip_text.specs.Text.{IsOnlyValue}
 use Rattle.sip_message.specs.declared.asked.Asked.{Asked}
-use Rattle.sip_message.specs.declared.field.Field.{Field as Code}
 use Rattle.sip_message.specs.declared.name.Known.{Known}
 use Rattle.sip_message.specs.declared.name.Known.TheVariants as known_name
-use Rattle.sip_message.specs.Name.{known, other, is_name_of}
-use Rattle.sip_message.specs.Field.{Field}
-use Rattle.sip_message.specs.Message.{found, found_from, IsFirstFound, IsNotTwice}
-use Rattle.sip_message.specs.Outcome.{gives, passes}
-use Rattle.sip_message.specs.Faults.{Once}
-use Rattle.sip_message.specs.Views.{name_parts, field_parts}
-use Rattle.sip_message.specs.inner.Finds.{found_parts}
-use Rattle.sip_message.specs.inner.Stages.{IsLength}
-use Rattle.sip_message.specs.inner.Asked.{Place, kept_list, OnceSoFar, FirstSoFar, AskedSoFar, Chosen, KeepsOnce, KeepsFirst, KeepsPlace}
-use Rattle.sip_message.proofs.lemmas.field.Named.{found-here, found-passed, found-end}
+use Rattle.sip_message.specs.declared.values.CSeq.{CSeq}
+use Rattle.sip_message.specs.declared.via.Via.{Via}
+use Rattle.sip_message.specs.Name.{known, is_name_of}
+use Rattle.sip_message.specs.Field.{Field, Row}
+use Rattle.sip_message.specs.Message.{found, found_from, IsFirstFound, content_length, length_in}
+use Rattle.sip_message.specs.Reading.{CSeqValue}
+use Rattle.sip_message.specs.Values.{Digits}
+use Rattle.sip_message.specs.ViaParts.{element}
+use Rattle.sip_message.specs.ValueParts.{cseq_parts}
+use Rattle.sip_message.specs.inner.ElementFronts.{FirstVia}
+use Rattle.sip_message.specs.inner.Asked.{OnceSays, FirstSays, Itself, AsksMore}
+use Rattle.sip_message.proofs.lemmas.asked.Parts.{row-of, first-value}
 
-module _ (xs : List Code) (at : ℕ) (d : Code) (below : at < length xs) where
-  abbrev here : Code
-  here = slice_index_or xs at d
-
-  -- a field of another name
-  once-passed : (k : Known) (kept : Option Place) → is_name_of k (name_parts here.name) ≡ false → OnceSoFar k (map field_parts xs) at kept → OnceSoFar k (map field_parts xs) (at + 1) kept
-  once-passed k kept is so = so ∙ ap (λ t. kept_list kept ++ t) (found-passed k xs at d below is)
-
-  first-passed : (k : Known) (kept : Option Place) → is_name_of k (name_parts here.name) ≡ false → FirstSoFar k (map field_parts xs) at kept → FirstSoFar k (map field_parts xs) (at + 1) kept
-  first-passed k None is so = so ∙ found-passed k xs at d below is
-  first-passed k (Some place) is so = so
-
-  module _ (name : Known) (named : name_parts here.name ≡ known name) where
-    -- one field more
-    once-more : (k : Known) (old new : Option Place) → KeepsOnce k name (here.value, at + 1) old new → OnceSoFar k (map field_parts xs) at old → OnceSoFar k (map field_parts xs) (at + 1) new
-    once-more k old new keeps so = go (is_name_of k (known name)) refl keeps
-      where
-        go : (b : Bool) → is_name_of k (known name) ≡ b → Chosen b ((old ≡ None) × (new ≡ Some (here.value, at + 1))) (new ≡ old) → OnceSoFar k (map field_parts xs) (at + 1) new
-        go true is (none, one) =
-            so ∙ ap (λ o. kept_list o ++ found_from (at + 1) k (drop at (map field_parts xs))) none ∙ found-here k xs at d below (ap (is_name_of k) named ∙ is)
-            ∙ ap (λ o. kept_list o ++ found_from (at + 1 + 1) k (drop (at + 1) (map field_parts xs))) (sym one)
-        go false is same = subst (OnceSoFar k (map field_parts xs) (at + 1)) (sym same) (once-passed k old (ap (is_name_of k) named ∙ is) so)
-
-    first-more : (k : Known) (old new : Option Place) → KeepsFirst k name (here.value, at + 1) old new → FirstSoFar k (map field_parts xs) at old → FirstSoFar k (map field_parts xs) (at + 1) new
-    first-more k old new keeps so = go (is_name_of k (known name)) refl keeps
-      where
-        found-one : (o : Option Place) → is_name_of k (known name) ≡ true → FirstSoFar k (map field_parts xs) at o → FirstSoFar k (map field_parts xs) (at + 1) (option_or o (Some (here.value, at + 1)))
-        found-one None is first = (found_from (at + 1 + 1) k (drop (at + 1) (map field_parts xs)), first ∙ found-here k xs at d below (ap (is_name_of k) named ∙ is))
-        found-one (Some place) is first = first
-
-        go : (b : Bool) → is_name_of k (known name) ≡ b → Chosen b (new ≡ option_or old (Some (here.value, at + 1))) (new ≡ old) → FirstSoFar k (map field_parts xs) (at + 1) new
-        go true is one = subst (FirstSoFar k (map field_parts xs) (at + 1)) (sym one) (found-one old is so)
-        go false is same = subst (FirstSoFar k (map field_parts xs) (at + 1)) (sym same) (first-passed k old (ap (is_name_of k) named ∙ is) so)
-
-    -- the step at a field that is asked for
-    pub asked-known : (a b : Asked) → KeepsPlace name (here.value, at + 1) a b → AskedSoFar (map field_parts xs) at a → AskedSoFar (map field_parts xs) (at + 1) b
-    asked-known a b keeps so = record {
-      via = first-more known_name.Via a.via b.via keeps.via so.via;
-      from = once-more known_name.From a.from b.from keeps.from so.from;
-      to = once-more known_name.To a.to b.to keeps.to so.to;
-      call_id = once-more known_name.CallId a.call_id b.call_id keeps.call_id so.call_id;
-      cseq = once-more known_name.CSeq a.cseq b.cseq keeps.cseq so.cseq;
-      content_length = once-more known_name.ContentLength a.content_length b.content_length keeps.content_length so.content_length;
-    }
-
-  -- the step at any other field
-  pub asked-other : (text : List ℕ) (a : Asked) → name_parts here.name ≡ other text → AskedSoFar (map field_parts xs) at a → AskedSoFar (map field_parts xs) (at + 1) a
-  asked-other text a named so =
-      let is = λ (k : Known). ap (is_name_of k) named in
-      record {
-        via = first-passed known_name.Via a.via (is known_name.Via) so.via;
-        from = once-passed known_name.From a.from (is known_name.From) so.from;
-        to = once-passed known_name.To a.to (is known_name.To) so.to;
-        call_id = once-passed known_name.CallId a.call_id (is known_name.CallId) so.call_id;
-        cseq = once-passed known_name.CSeq a.cseq (is known_name.CSeq) so.cseq;
-        content_length = once-passed known_name.ContentLength a.content_length (is known_name.ContentLength) so.content_length;
-      }
-
--- before the first field
-pub asked-none : (fields : List Field) → AskedSoFar fields 0 (record { via = None; from = None; to = None; call_id = None; cseq = None; content_length = None })
-asked-none fields = record { via = refl; from = refl; to = refl; call_id = refl; cseq = refl; content_length = refl }
-
--- behind the last
-pub once-whole : (k : Known) (xs : List Code) (at : ℕ) (kept : Option Place) → length xs ≤ at → OnceSoFar k (map field_parts xs) at kept → found k (map field_parts xs) ≡ kept_list kept
-once-whole k xs at kept past so = so ∙ ap (λ t. kept_list kept ++ t) (found-end k xs at (λ below. absurd (omega (arith, below, past)))) ∙ append-nil (kept_list kept)
-
--- a field that was found, and no second one, is there once
-pub once-kept : (k : Known) (xs : List Code) (at : ℕ) (kept : Option Place) (place : Place) → length xs ≤ at → kept ≡ Some place → OnceSoFar k (map field_parts xs) at kept → Once k (map field_parts xs) (gives (found_parts place))
-once-kept k xs at kept place past is so =
-    let whole : found k (map field_parts xs) ≡ found_parts place ∷ [] = once-whole k xs at kept past so ∙ ap kept_list is in
-    passes tt (omega (arith, ap length whole)) ([], whole)
-
--- one that was not found twice is not there twice
-pub not_twice-kept : (k : Known) (xs : List Code) (at : ℕ) (kept : Option Place) → length xs ≤ at → OnceSoFar k (map field_parts xs) at kept → IsNotTwice k (map field_parts xs)
-not_twice-kept k xs at kept past so = few kept (once-whole k xs at kept past so)
+-- what is found with a further field
+found-more : (n : ℕ) (k : Known) (fields : List Field) (f : Field) → (line : ℕ) × (found_from n k (fields ++ f ∷ []) ≡ found_from n k fields ++ found_from line k (f ∷ []))
+found-more n k [] f = (n, refl)
+found-more n k (g ∷ fields) f = let later = found-more (n + 1) k fields f in (later.0, at (is_name_of k g.name) _ _ _ later.1)
   where
-    few : (o : Option Place) → found k (map field_parts xs) ≡ kept_list o → IsNotTwice k (map field_parts xs)
-    few None is = omega (arith, ap length is)
-    few (Some place) is = omega (arith, ap length is)
+    at : (b : Bool) (xs ys zs : List (ℕ × List ℕ)) → xs ≡ ys ++ zs → cond b ((n, g.value) ∷ xs) xs ≡ cond b ((n, g.value) ∷ ys) ys ++ zs
+    at true xs ys zs is = ap (λ t. (n, g.value) ∷ t) is
+    at false xs ys zs is = is
 
--- the place that was kept is that of the first
-pub first-kept : (k : Known) (fields : List Field) (at : ℕ) (kept : Option Place) (place : Place) → kept ≡ Some place → FirstSoFar k fields at kept → IsFirstFound k fields (found_parts place)
-first-kept k fields at kept place is so = subst (FirstSoFar k fields at) is so
+module _ {X : Type 0} (R : List ℕ → X → Type 0) (k : Known) (fields : List Field) (f : Field) where
+  -- a field of another name
+  found-passed : is_name_of k f.name ≡ false → found k (fields ++ f ∷ []) ≡ found k fields
+  found-passed other =
+      let more = found-more 1 k fields f in
+      more.1 ∙ ap (λ b. found k fields ++ cond b ((more.0, f.value) ∷ []) []) other ∙ append-nil (found k fields)
 
--- what is kept of Content-Length is its value
-pub kept-length : (fs : List Field) (kept : Option Place) (length : Option (Bor (List ℕ))) → length ≡ option_map (λ it. it.0) kept → found known_name.ContentLength fs ≡ kept_list kept → IsLength fs length
-kept-length fs None length is whole = subst (IsLength fs) (sym is) whole
-kept-length fs (Some (value, line)) length is whole = subst (IsLength fs) (sym is) (line, ([], whole))
+  once-passed : (said : Option X) → is_name_of k f.name ≡ false → OnceSays R k fields said → OnceSays R k (fields ++ f ∷ []) said
+  once-passed None other none = found-passed other ∙ none
+  once-passed (Some x) other (one, is, says) = (one, found-passed other ∙ is, says)
+
+  first-passed : (said : Option X) → is_name_of k f.name ≡ false → FirstSays R k fields said → FirstSays R k (fields ++ f ∷ []) said
+  first-passed None other none = found-passed other ∙ none
+  first-passed (Some x) other (one, (more, is), says) = (one, (more, found-passed other ∙ is), says)
+
+  -- a field of the name
+  found-also : is_name_of k f.name ≡ true → (line : ℕ) × (found k (fields ++ f ∷ []) ≡ found k fields ++ (line, f.value) ∷ [])
+  found-also named = let more = found-more 1 k fields f in (more.0, more.1 ∙ ap (λ b. found k fields ++ cond b ((more.0, f.value) ∷ []) []) named)
+
+  once-also : (old new : Option X) (x : X) → is_name_of k f.name ≡ true → R f.value x → old ≡ None → new ≡ Some x → OnceSays R k fields old → OnceSays R k (fields ++ f ∷ []) new
+  once-also old new x named says none some so =
+      let also = found-also named in
+      let before : found k fields ≡ [] = subst (OnceSays R k fields) none so in
+      subst (OnceSays R k (fields ++ f ∷ [])) (sym some) ((also.0, f.value), also.1 ∙ ap (λ t. t ++ (also.0, f.value) ∷ []) before, says)
+
+  first-also : (old new : Option X) (x : X) → is_name_of k f.name ≡ true → R f.value x → new ≡ option_or old (Some x) → FirstSays R k fields old → FirstSays R k (fields ++ f ∷ []) new
+  first-also old new x named says is so = subst (FirstSays R k (fields ++ f ∷ [])) (sym is) (at old so)
+    where
+      at : (o : Option X) → FirstSays R k fields o → FirstSays R k (fields ++ f ∷ []) (option_or o (Some x))
+      at None none = let also = found-also named in ((also.0, f.value), ([], also.1 ∙ ap (λ t. t ++ (also.0, f.value) ∷ []) none), says)
+      at (Some y) (one, (more, found_is), says_y) = let also = found-also named in (one, (more ++ (also.0, f.value) ∷ [], also.1 ∙ ap (λ t. t ++ (also.0, f.value) ∷ []) found_is), says_y)
+
+-- a field that is not asked for
+pub asks-other : (f : Field) (a : Asked) → (is_name_of known_name.Via f.name ≡ false) × (is_name_of known_name.From f.name ≡ false) × (is_name_of known_name.To f.name ≡ false)
+    × (is_name_of known_name.CallId f.name ≡ false) × (is_name_of known_name.CSeq f.name ≡ false) × (is_name_of known_name.ContentLength f.name ≡ false) → AsksMore f a a
+asks-other f a (via, from, to, call_id, cseq, content_length) fields of = record {
+  via = first-passed FirstVia known_name.Via fields f (option_map element a.via) via of.via;
+  from = once-passed Itself known_name.From fields f (option_copied a.from) from of.from;
+  to = once-passed Itself known_name.To fields f (option_copied a.to) to of.to;
+  call_id = once-passed Itself known_name.CallId fields f (option_copied a.call_id) call_id of.call_id;
+  cseq = once-passed CSeqValue known_name.CSeq fields f (option_map cseq_parts a.cseq) cseq of.cseq;
+  content_length = once-passed Itself known_name.ContentLength fields f (option_copied a.content_length) content_length of.content_length;
+}
+
+map-or : {A X : Type 0} (parts : A → X) (o p : Option A) → option_map parts (option_or o p) ≡ option_or (option_map parts o) (option_map parts p)
+map-or parts None p = refl
+map-or parts (Some a) p = refl
+
+-- what is kept already stays, and else what is said is kept
+pub or-kept : {X : Type 0} (o p : Option X) → is_some o ≡ true → o ≡ option_or o p
+or-kept None p some = absurd (false≢true some)
+or-kept (Some x) p some = refl
+
+pub or-none : {X : Type 0} (o p : Option X) → is_some o ≡ false → p ≡ option_or o p
+or-none None p none = refl
+or-none (Some x) p none = absurd (false≢true (sym none))
+
+-- a Via
+pub asks-via : (f : Field) (a : Asked) (r via : Option Via) (b : Bool) → f.name ≡ known known_name.Via → b ≡ is_some r → IsOnlyValue FirstVia element f.value r → via ≡ option_or a.via r → IsTrue b
+    → AsksMore f a (record { via = via; from = a.from; to = a.to; call_id = a.call_id; cseq = a.cseq; content_length = a.content_length })
+asks-via f a None via b named is none via_is so fields of = absurd (false≢true (sym is ∙ so))
+asks-via f a (Some v) via b named is read via_is so fields of = record {
+  via = first-also FirstVia known_name.Via fields f (option_map element a.via) (option_map element via) (element v) (ap (is_name_of known_name.Via) named) read.0 (ap (option_map element) via_is ∙ map-or element a.via (Some v)) of.via;
+  from = once-passed Itself known_name.From fields f (option_copied a.from) (ap (is_name_of known_name.From) named) of.from;
+  to = once-passed Itself known_name.To fields f (option_copied a.to) (ap (is_name_of known_name.To) named) of.to;
+  call_id = once-passed Itself known_name.CallId fields f (option_copied a.call_id) (ap (is_name_of known_name.CallId) named) of.call_id;
+  cseq = once-passed CSeqValue known_name.CSeq fields f (option_map cseq_parts a.cseq) (ap (is_name_of known_name.CSeq) named) of.cseq;
+  content_length = once-passed Itself known_name.ContentLength fields f (option_copied a.content_length) (ap (is_name_of known_name.ContentLength) named) of.content_length;
+}
+
+-- a CSeq
+pub asks-cseq : (f : Field) (a : Asked) (r cseq : Option CSeq) → f.name ≡ known known_name.CSeq → IsSome r → IsOnlyValue CSeqValue cseq_parts f.value r → (a.cseq ≡ None) × (cseq ≡ r)
+    → AsksMore f a (record { via = a.via; from = a.from; to = a.to; call_id = a.call_id; cseq = cseq; content_length = a.content_length })
+asks-cseq f a None cseq named some none is fields of = absurd (false≢true some)
+asks-cseq f a (Some c) cseq named some read (none, is) fields of = record {
+  via = first-passed FirstVia known_name.Via fields f (option_map element a.via) (ap (is_name_of known_name.Via) named) of.via;
+  from = once-passed Itself known_name.From fields f (option_copied a.from) (ap (is_name_of known_name.From) named) of.from;
+  to = once-passed Itself known_name.To fields f (option_copied a.to) (ap (is_name_of known_name.To) named) of.to;
+  call_id = once-passed Itself known_name.CallId fields f (option_copied a.call_id) (ap (is_name_of known_name.CallId) named) of.call_id;
+  cseq = once-also CSeqValue known_name.CSeq fields f (option_map cseq_parts a.cseq) (option_map cseq_parts cseq) (cseq_parts c) (ap (is_name_of known_name.CSeq) named) read.0 (ap (option_map cseq_parts) none) (ap (option_map cseq_parts) is) of.cseq;
+  content_length = once-passed Itself known_name.ContentLength fields f (option_copied a.content_length) (ap (is_name_of known_name.ContentLength) named) of.content_length;
+}
+
+module _ (f : Field) (a : Asked) (value : Bor (List ℕ)) (kept : Option (Bor (List ℕ))) (value_is : value.now ≡ f.value) (is : kept ≡ Some value) where
+  -- a From
+  pub asks-from : f.name ≡ known known_name.From → a.from ≡ None → AsksMore f a (record { via = a.via; from = kept; to = a.to; call_id = a.call_id; cseq = a.cseq; content_length = a.content_length })
+  asks-from named none fields of = record {
+    via = first-passed FirstVia known_name.Via fields f (option_map element a.via) (ap (is_name_of known_name.Via) named) of.via;
+    from = once-also Itself known_name.From fields f (option_copied a.from) (option_copied kept) value.now (ap (is_name_of known_name.From) named) value_is (ap option_copied none) (ap option_copied is) of.from;
+    to = once-passed Itself known_name.To fields f (option_copied a.to) (ap (is_name_of known_name.To) named) of.to;
+    call_id = once-passed Itself known_name.CallId fields f (option_copied a.call_id) (ap (is_name_of known_name.CallId) named) of.call_id;
+    cseq = once-passed CSeqValue known_name.CSeq fields f (option_map cseq_parts a.cseq) (ap (is_name_of known_name.CSeq) named) of.cseq;
+    content_length = once-passed Itself known_name.ContentLength fields f (option_copied a.content_length) (ap (is_name_of known_name.ContentLength) named) of.content_length;
+  }
+
+  -- a To
+  pub asks-to : f.name ≡ known known_name.To → a.to ≡ None → AsksMore f a (record { via = a.via; from = a.from; to = kept; call_id = a.call_id; cseq = a.cseq; content_length = a.content_length })
+  asks-to named none fields of = record {
+    via = first-passed FirstVia known_name.Via fields f (option_map element a.via) (ap (is_name_of known_name.Via) named) of.via;
+    from = once-passed Itself known_name.From fields f (option_copied a.from) (ap (is_name_of known_name.From) named) of.from;
+    to = once-also Itself known_name.To fields f (option_copied a.to) (option_copied kept) value.now (ap (is_name_of known_name.To) named) value_is (ap option_copied none) (ap option_copied is) of.to;
+    call_id = once-passed Itself known_name.CallId fields f (option_copied a.call_id) (ap (is_name_of known_name.CallId) named) of.call_id;
+    cseq = once-passed CSeqValue known_name.CSeq fields f (option_map cseq_parts a.cseq) (ap (is_name_of known_name.CSeq) named) of.cseq;
+    content_length = once-passed Itself known_name.ContentLength fields f (option_copied a.content_length) (ap (is_name_of known_name.ContentLength) named) of.content_length;
+  }
+
+  -- a Call-ID
+  pub asks-call_id : f.name ≡ known known_name.CallId → a.call_id ≡ None → AsksMore f a (record { via = a.via; from = a.from; to = a.to; call_id = kept; cseq = a.cseq; content_length = a.content_length })
+  asks-call_id named none fields of = record {
+    via = first-passed FirstVia known_name.Via fields f (option_map element a.via) (ap (is_name_of known_name.Via) named) of.via;
+    from = once-passed Itself known_name.From fields f (option_copied a.from) (ap (is_name_of known_name.From) named) of.from;
+    to = once-passed Itself known_name.To fields f (option_copied a.to) (ap (is_name_of known_name.To) named) of.to;
+    call_id = once-also Itself known_name.CallId fields f (option_copied a.call_id) (option_copied kept) value.now (ap (is_name_of known_name.CallId) named) value_is (ap option_copied none) (ap option_copied is) of.call_id;
+    cseq = once-passed CSeqValue known_name.CSeq fields f (option_map cseq_parts a.cseq) (ap (is_name_of known_name.CSeq) named) of.cseq;
+    content_length = once-passed Itself known_name.ContentLength fields f (option_copied a.content_length) (ap (is_name_of known_name.ContentLength) named) of.content_length;
+  }
+
+  -- a Content-Length
+  pub asks-content_length : f.name ≡ known known_name.ContentLength → a.content_length ≡ None → AsksMore f a (record { via = a.via; from = a.from; to = a.to; call_id = a.call_id; cseq = a.cseq; content_length = kept })
+  asks-content_length named none fields of = record {
+    via = first-passed FirstVia known_name.Via fields f (option_map element a.via) (ap (is_name_of known_name.Via) named) of.via;
+    from = once-passed Itself known_name.From fields f (option_copied a.from) (ap (is_name_of known_name.From) named) of.from;
+    to = once-passed Itself known_name.To fields f (option_copied a.to) (ap (is_name_of known_name.To) named) of.to;
+    call_id = once-passed Itself known_name.CallId fields f (option_copied a.call_id) (ap (is_name_of known_name.CallId) named) of.call_id;
+    cseq = once-passed CSeqValue known_name.CSeq fields f (option_map cseq_parts a.cseq) (ap (is_name_of known_name.CSeq) named) of.cseq;
+    content_length = once-also Itself known_name.ContentLength fields f (option_copied a.content_length) (option_copied kept) value.now (ap (is_name_of known_name.ContentLength) named) value_is (ap option_copied none) (ap option_copied is) of.content_length;
+  }
+
+-- what is said of the one field of a name
+pub once-one : {A X : Type 0} (R : List ℕ → X → Type 0) (k : Known) (fields : List Field) (parts : A → X) (o : Option A) (a : A) → o ≡ Some a → OnceSays R k fields (option_map parts o)
+    → (one : ℕ × List ℕ) × (found k fields ≡ one ∷ []) × R (one.1) (parts a)
+once-one R k fields parts o a is so = subst (λ p. OnceSays R k fields (option_map parts p)) is so
+
+pub copied-one : (k : Known) (fields : List Field) (o : Option (Bor (List ℕ))) (text : Bor (List ℕ)) → o ≡ Some text → OnceSays Itself k fields (option_copied o)
+    → (one : ℕ × List ℕ) × (found k fields ≡ one ∷ []) × (text.now ≡ one.1)
+copied-one k fields o text is so = subst (λ p. OnceSays Itself k fields (option_copied p)) is so
+
+pub first-one : {A X : Type 0} (R : List ℕ → X → Type 0) (k : Known) (fields : List Field) (parts : A → X) (o : Option A) (a : A) → o ≡ Some a → FirstSays R k fields (option_map parts o)
+    → (one : ℕ × List ℕ) × IsFirstFound k fields one × R (one.1) (parts a)
+first-one R k fields parts o a is so = subst (λ p. FirstSays R k fields (option_map parts p)) is so
+
+-- the value of Content-Length is digits, and the length is what they write
+pub said-digits : (fields : List Field) (o : Option (List ℕ)) → AllByRecursion (λ f. Row f.name f.value) fields → OnceSays Itself known_name.ContentLength fields o → IfSome o Digits
+said-digits fields None rows none = tt
+said-digits fields (Some x) rows (one, is, says) = subst Digits (sym says) (row-of known_name.ContentLength fields (one.1) rows (first-value known_name.ContentLength fields one ([], is)))
+
+pub said-length : (fields : List Field) (o : Option (List ℕ)) → OnceSays Itself known_name.ContentLength fields o → option_map (digits_value 10) o ≡ content_length fields
+said-length fields None none = ap length_in (sym none)
+said-length fields (Some x) (one, is, says) = ap (λ t. Some (digits_value 10 t)) says ∙ ap length_in (sym is)

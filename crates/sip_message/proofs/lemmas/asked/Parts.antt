@@ -1,10 +1,6 @@
 -- A message has parts: its fields are of their rows.
-use Rattle.std.proofs.Common.{◌≡◌, ℕ, ◌+◌, Bool, true, false, List, [], ◌∷◌, ◌++◌, Option, None, Some, option_copied, map, cond, refl, sym, ap, ◌∙◌, subst}
-use Rattle.std.specs.Prelude.{IfSome}
-use Rattle.std.specs.Borrow.{Bor}
+use Rattle.std.proofs.Common.{◌≡◌, ℕ, ◌+◌, Bool, true, false, List, [], ◌∷◌, ◌++◌, map, cond, refl, sym, ap, ◌∙◌, subst}
 use Rattle.std.specs.List.{AllByRecursion}
-use Rattle.std.specs.Option.{option_map}
-use Rattle.std.specs.Str.Parse.{digits_value}
 use Rattle.std.proofs.lemmas.Slice.Eq.{bytes_eq-Decides}
 use Rattle.std.proofs.lemmas.Bool.{both_ways}
 use Rattle.sip_message.specs.declared.name.Known.{Known}
@@ -12,9 +8,7 @@ use Rattle.sip_message.specs.declared.name.Known.TheVariants as known_name
 use Rattle.sip_message.specs.Via.{ViaParts, MoreVias}
 use Rattle.sip_message.specs.Name.{FieldName, known, other, name_of, long_name, is_name_of}
 use Rattle.sip_message.specs.Field.{Field, Row}
-use Rattle.sip_message.specs.Message.{Message, found_from, length_in, content_length, IsFirstFound, MessageText}
-use Rattle.sip_message.specs.Values.{Digits}
-use Rattle.sip_message.specs.inner.Stages.{IsLength}
+use Rattle.sip_message.specs.Message.{Message, found_from, IsFirstFound, MessageText}
 use Rattle.sip_message.specs.Elements.{Element, MoreElements, ElementsText, AreElements, values}
 use Rattle.sip_message.specs.Reading.{IsValueOf, Parts, HasParts}
 use Rattle.sip_message.proofs.lemmas.canon.Law.{fields-rows}
@@ -114,12 +108,3 @@ has-parts bytes m text =
         cseq = (text.fits.cseq.0.1, cseq, cseq_row.2);
       },
     )
-
--- the value of Content-Length is digits, and the length is what they write
-pub length-digits : (fs : List Field) (length : Option (Bor (List ℕ))) → AllByRecursion (λ f. Row f.name f.value) fs → IsLength fs length → IfSome (option_copied length) Digits
-length-digits fs None rows is = tt
-length-digits fs (Some digits) rows is = row-of known_name.ContentLength fs digits.now rows (first-value known_name.ContentLength fs (is.0, digits.now) is.1)
-
-pub length-is : (fs : List Field) (length : Option (Bor (List ℕ))) → IsLength fs length → option_map (digits_value 10) (option_copied length) ≡ content_length fs
-length-is fs None is = ap length_in (sym is)
-length-is fs (Some digits) is = ap length_in (sym is.1.1)

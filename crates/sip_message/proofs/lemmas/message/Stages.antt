@@ -5,7 +5,6 @@ use Rattle.std.proofs.lemmas.Bool.{both_ways}
 use Rattle.sip_message.specs.declared.fault.Fault.{Fault}
 use Rattle.sip_message.specs.declared.fault.ReadError.{ReadError}
 use Rattle.sip_message.specs.declared.fault.ReadError.TheVariants as error
-use Rattle.sip_message.specs.declared.stages.Named.{Named}
 use Rattle.sip_message.specs.Lines.{IsHead, HasNoBareEnd, IsLines}
 use Rattle.sip_message.specs.inner.Lines.{AreLines}
 use Rattle.sip_message.specs.StartLine.{StartLine, StartText}
@@ -20,7 +19,7 @@ use Rattle.sip_message.specs.Elements.{Element}
 use Rattle.sip_message.specs.inner.ElementFronts.{FirstVia}
 use Rattle.sip_message.specs.inner.Kept.{KeepsRead}
 use Rattle.sip_message.specs.Reads.{Reads, ReadsTo}
-use Rattle.sip_message.specs.inner.Stages.{names_parts, Stand}
+use Rattle.sip_message.specs.inner.Stages.{Names, Stand}
 use Rattle.sip_message.proofs.lemmas.lines.OneWay.{head-lines}
 use Rattle.sip_message.proofs.lemmas.message.Faults.{read-text}
 use Rattle.sip_message.proofs.lemmas.asked.Parts.{has-parts}
@@ -62,28 +61,28 @@ faulted bytes fault (Ok m) err same is = absurd (both_ways false refl err)
 faulted bytes fault (Err x) err same is = subst (λ y. ReadsTo bytes (Err y)) (sym same) is
 
 -- all stages give what they find
-pub record Found (bytes rest first : List ℕ) (start : StartLine) (fields : List Field) (n : Named) (body : List ℕ) : Type 0 where
+pub record Found (bytes rest first : List ℕ) (start : StartLine) (fields : List Field) (n : Names) (body : List ℕ) : Type 0 where
   pub head : List ℕ
   pub others : List (List ℕ)
   pub is_begun : IsBegun bytes head rest first others
   pub is_start : StartText first start
   pub are_fields : FieldsOf 1 others (gives fields)
-  pub are_names : NamesOf fields (gives (names_parts n))
-  pub is_body : BodyOf start ((names_parts n).1) ((names_parts n).0.1) (content_length fields) rest (gives body)
+  pub are_names : NamesOf fields (gives (n.via, n.cseq))
+  pub is_body : BodyOf start n.cseq (n.via.1) (content_length fields) rest (gives body)
   pub stand : Stand fields n
 
 -- the bytes are the message
-pub found-text : {bytes rest first body : List ℕ} {start : StartLine} {fields : List Field} {n : Named} → Found bytes rest first start fields n body → MessageText bytes (record { start = start; fields = fields; body = body })
+pub found-text : {bytes rest first body : List ℕ} {start : StartLine} {fields : List Field} {n : Names} → Found bytes rest first start fields n body → MessageText bytes (record { start = start; fields = fields; body = body })
 found-text {bytes = bytes} {body = body} {start = start} {fields = fields} {n = n} f =
-    read-text bytes _ (begun f.is_begun (passes start f.is_start (passes fields f.are_fields (passes (names_parts n) f.are_names (passes body f.is_body refl)))))
+    read-text bytes _ (begun f.is_begun (passes start f.is_start (passes fields f.are_fields (passes (n.via, n.cseq) f.are_names (passes body f.is_body refl)))))
 
 -- and what it keeps is so
-pub found-keeps : {bytes rest first body : List ℕ} {start : StartLine} {fields : List Field} {n : Named} (e : Element) (s : ℕ × List ℕ) → Found bytes rest first start fields n body → FirstVia n.via.now e → CSeqValue n.cseq.now s
-    → (p : Parts) × KeepsRead (record { start = start; fields = fields; body = body }) p e n.from.now n.to.now n.call_id.now s
+pub found-keeps : {bytes rest first body : List ℕ} {start : StartLine} {fields : List Field} {n : Names} (e : Element) (s : ℕ × List ℕ) → Found bytes rest first start fields n body → FirstVia (n.via.1) e → CSeqValue (n.cseq.1) s
+    → (p : Parts) × KeepsRead (record { start = start; fields = fields; body = body }) p e n.from n.to n.call_id s
 found-keeps {bytes = bytes} {n = n} e s f first said =
     let text = found-text f in
     let parts = has-parts bytes _ text in
-    let keeps : Keeps _ parts.0 n.via.now n.from.now n.to.now n.call_id.now n.cseq.now = record {
+    let keeps : Keeps _ parts.0 (n.via.1) n.from n.to n.call_id (n.cseq.1) = record {
       parts = record { is = parts.1; only = (λ q is. parts-one _ q parts.0 is parts.1) };
       spelled = (bytes, text);
       via = f.stand.via;
@@ -95,15 +94,15 @@ found-keeps {bytes = bytes} {n = n} e s f first said =
     let top = keeps-via keeps in (
       parts.0,
       record {
-        via_text = n.via.now;
-        cseq_text = n.cseq.now;
+        via_text = n.via.1;
+        cseq_text = n.cseq.1;
         keeps = keeps;
-        via = ap (λ x. x.0) (one-via n.via.now (e, first.1.0) (parts.0.via, top.0) first.1.1 top.1);
-        cseq = same-cseq n.cseq.now s parts.0.cseq said (keeps-cseq keeps);
+        via = ap (λ x. x.0) (one-via (n.via.1) (e, first.1.0) (parts.0.via, top.0) first.1.1 top.1);
+        cseq = same-cseq (n.cseq.1) s parts.0.cseq said (keeps-cseq keeps);
       },
     )
 
 -- and the bytes are read
-pub found-reads : {bytes rest first body : List ℕ} {start : StartLine} {fields : List Field} {n : Named} (r : Reading) → Found bytes rest first start fields n body
+pub found-reads : {bytes rest first body : List ℕ} {start : StartLine} {fields : List Field} {n : Names} (r : Reading) → Found bytes rest first start fields n body
     → ◌≡◌ {A = Message} r.message (record { start = start; fields = fields; body = body }) → IsOnly (HasParts r.message.fields) r.parts → Reads bytes r
 found-reads {bytes = bytes} r f is parts = record { text = subst (MessageText bytes) (sym is) (found-text f); parts = parts }

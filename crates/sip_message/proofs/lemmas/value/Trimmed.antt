@@ -160,3 +160,9 @@ one-space (b ∷ value) solid =
         refl,
       );
     }
+
+-- a value behind nothing
+pub no-space : (value : List ℕ) → is_solid value ≡ true → ValueText value value
+no-space value solid =
+    let behind = one-space value solid in
+    record { opens = behind.opens; ends = behind.ends; whole = ([], value, inl refl, (value, [], refl, inl refl, sym (append-nil value)), refl) }

@@ -1,11 +1,11 @@
 use Rattle.std.proofs.Common.{◌-◌, length}
 use Rattle.sip_message.specs.Views.{fields_parts}
-use Rattle.sip_message.specs.inner.Kept.{KeptOf}
+use Rattle.sip_message.specs.inner.Asked.{AskedOf}
 use Rattle.sip_message.proofs.QuickLemmas.{LinesSoFar}
 use Rattle.sip_message.proofs.quick.ordinary_fields.Given as goal
 
 abbrev pub invariant-lines : goal.invariant-lines
-invariant-lines l = LinesSoFar l.masks l.from l.at (fields_parts l.fields) × KeptOf (fields_parts l.fields) l.kept
+invariant-lines l = LinesSoFar l.masks l.from l.at (fields_parts l.fields) × AskedOf (fields_parts l.fields) l.asked
 
 abbrev pub decreases-lines : goal.decreases-lines
 decreases-lines l = length l.masks - l.at

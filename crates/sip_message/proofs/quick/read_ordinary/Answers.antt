@@ -15,7 +15,7 @@ returns-clause-head c =
     front-rest bytes front c.front.ensures.front ∙ ap (λ t. t ++ drop (length front) bytes) (front-rest front text c.of-masks.ensures) ∙ append_assoc text (drop (length text) front) (drop (length front) bytes) in
     let at = c.in-Some-2.at in
     let start = start_parts c.in-Some-start_up_to.start in
-    let fields = fields_parts c.in-Some-2.fields in
-    let are = rw c.in-Some-2.is at c.in_ok-fields.ensures.lines in
+    let fields = fields_parts c.ordinary_fields.new.fields in
+    let are = rw c.in-Some-2.is at c.in_ok-at.ensures.lines in
     let rest : drop (at + 2) bytes ≡ drop (at + 2) text ++ more = ap (drop (at + 2)) whole ∙ drop-append-le (at + 2) text more are.within in
     ordinary-head bytes text more _ start fields c.in-Some.end at whole c.in-Some.ensures.line.2 c.in-Some.ensures.line.3 c.in-Some-start_up_to.ensures are (take_rest bytes (at + 2) ∙ rest)

@@ -14,7 +14,7 @@ use Rattle.sip_message.specs.ViaParts.{element}
 use Rattle.std.specs.Global.{Vec}
 use Rattle.sip_message.specs.declared.field.Field.{Field as Code}
 use Rattle.sip_message.specs.declared.kept.Kept.{Kept}
-use Rattle.sip_message.specs.inner.Stages.{names_parts, Stand}
+use Rattle.sip_message.specs.inner.Stages.{names_parts, names_of, Stand}
 use Rattle.sip_message.proofs.lemmas.asked.Kept.{via-some, via-is, cseq-some, cseq-is}
 use Rattle.sip_message.proofs.lemmas.message.Stages.{begun, begins, settled, faulted, Found, found-keeps, found-reads}
 use Rattle.sip_message.proofs.message.Message.whole.Goals as goal
@@ -77,7 +77,7 @@ read_body-requires-clause-cseq c =
 pub new-requires : goal.new-requires
 new-requires c =
     let b = begins c.in-Some.ensures.0 (c.is_clean.ensures.0 c.if-not-is_clean.false) c.cut_first.ensures in
-    let found : Found c.args.bytes.now c.in-Some.rest.now c.cut_first.result.0.now (start_parts c.in-Some-read_start.start) (fields_parts c.in_ok-fields.fields) c.in_ok-named.named c.in_ok-body.body.now = record {
+    let found : Found c.args.bytes.now c.in-Some.rest.now c.cut_first.result.0.now (start_parts c.in-Some-read_start.start) (fields_parts c.in_ok-fields.fields) (names_of c.in_ok-named.named) c.in_ok-body.body.now = record {
       head = c.in-Some.head.now;
       others = b.0;
       is_begun = b.1;
@@ -85,7 +85,7 @@ new-requires c =
       are_fields = c.in_ok-fields.ensures.fields b.0 b.2;
       are_names = subst (λ xs. NamesOf (map field_parts xs) (gives (names_parts c.in_ok-named.named))) c.deref.ensures.value c.in_ok-named.ensures.names;
       is_body = subst (λ xs. BodyOf (start_parts c.in-Some-read_start.start) ((names_parts c.in_ok-named.named).1) ((names_parts c.in_ok-named.named).0.1) (content_length (map field_parts xs)) c.in-Some.rest.now (gives c.in_ok-body.body.now)) c.deref-2.ensures.value c.in_ok-body.ensures;
-      stand = subst (λ xs. Stand (map field_parts xs) c.in_ok-named.named) c.deref.ensures.value c.in_ok-named.ensures.stand;
+      stand = subst (λ xs. Stand (map field_parts xs) (names_of c.in_ok-named.named)) c.deref.ensures.value c.in_ok-named.ensures.stand;
     } in
     found-keeps (element c.unwrap-via.result) (cseq_parts c.unwrap-cseq.result) found
     (via-is (fields_parts c.in_ok-fields.fields) c.in_ok-fields.kept c.in_ok-named.named.via.now c.unwrap-via.result c.in_ok-fields.ensures.kept (subst (λ xs. IsValueOf known_name.Via (map field_parts xs) c.in_ok-named.named.via.now) c.deref.ensures.value c.in_ok-named.ensures.stand.via) c.unwrap-via.ensures)
@@ -94,7 +94,7 @@ new-requires c =
 pub returns : goal.returns
 returns c =
     let b = begins c.in-Some.ensures.0 (c.is_clean.ensures.0 c.if-not-is_clean.false) c.cut_first.ensures in
-    let found : Found c.args.bytes.now c.in-Some.rest.now c.cut_first.result.0.now (start_parts c.in-Some-read_start.start) (fields_parts c.in_ok-fields.fields) c.in_ok-named.named c.in_ok-body.body.now = record {
+    let found : Found c.args.bytes.now c.in-Some.rest.now c.cut_first.result.0.now (start_parts c.in-Some-read_start.start) (fields_parts c.in_ok-fields.fields) (names_of c.in_ok-named.named) c.in_ok-body.body.now = record {
       head = c.in-Some.head.now;
       others = b.0;
       is_begun = b.1;
@@ -102,6 +102,6 @@ returns c =
       are_fields = c.in_ok-fields.ensures.fields b.0 b.2;
       are_names = subst (λ xs. NamesOf (map field_parts xs) (gives (names_parts c.in_ok-named.named))) c.deref.ensures.value c.in_ok-named.ensures.names;
       is_body = subst (λ xs. BodyOf (start_parts c.in-Some-read_start.start) ((names_parts c.in_ok-named.named).1) ((names_parts c.in_ok-named.named).0.1) (content_length (map field_parts xs)) c.in-Some.rest.now (gives c.in_ok-body.body.now)) c.deref-2.ensures.value c.in_ok-body.ensures;
-      stand = subst (λ xs. Stand (map field_parts xs) c.in_ok-named.named) c.deref.ensures.value c.in_ok-named.ensures.stand;
+      stand = subst (λ xs. Stand (map field_parts xs) (names_of c.in_ok-named.named)) c.deref.ensures.value c.in_ok-named.ensures.stand;
     } in
     found-reads c.new.result found c.new.ensures.message c.new.ensures.parts

@@ -1,0 +1,18 @@
+-- URIs whose user, if there is one, is plain.
+use Rattle.std.proofs.Common.{◌≡◌, ◌⊎◌, ℕ, ◌++◌, List, [], refl, ap, ◌∙◌, inl, inr}
+use Rattle.std.specs.Prelude.{codes}
+use Rattle.std.proofs.lemmas.List.{append_assoc}
+use Rattle.sip_text.specs.Bytes.{at_sign}
+use Rattle.sip_text.specs.Text.{Byte, Exactly, ◌then◌}
+use Rattle.sip_message.specs.inner.Plain.{PlainRun, HostPort, SomeUri}
+use Rattle.sip_message.proofs.PlainLemmas.{uri-bare, uri-owned}
+
+-- nothing, or a user with its `@`
+abbrev pub PlainUser : List ℕ → Type 0
+PlainUser u = (u ≡ []) ⊎ (PlainRun then Byte at_sign) u
+
+pub uri-plain : (u : List ℕ) → (Exactly (codes "sip:") then PlainUser then HostPort) u → SomeUri u
+uri-plain u (s, r, scheme, (x, y, inl none, host, r_is), is) =
+    uri-bare u (s, y, scheme, host, is ∙ ap (λ t. s ++ t) (r_is ∙ ap (λ t. t ++ y) none))
+uri-plain u (s, r, scheme, (x, y, inr (p, b, run, mark, x_is), host, r_is), is) =
+    uri-owned u (s, r, scheme, (p, b ++ y, run, (b, y, mark, host, refl), r_is ∙ ap (λ t. t ++ y) x_is ∙ append_assoc p b y), is)

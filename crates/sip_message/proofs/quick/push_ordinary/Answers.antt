@@ -1,0 +1,52 @@
+use Rattle.std.proofs.Common.{◌≡◌, ℕ, ◌+◌, ◌<◌, List, [], ◌∷◌, ◌++◌, map, take, drop, get_or, sym, ap, ◌∙◌, subst, arith}
+use Rattle.std.proofs.lemmas.List.{take_rest, map-append}
+use Rattle.sip_text.specs.Bytes.{colon}
+use Rattle.sip_text.specs.Grammar.{Token}
+use Rattle.sip_message.specs.Views.{name_parts, field_parts, fields_parts}
+use Rattle.sip_message.specs.Name.{name_of}
+use Rattle.sip_message.specs.Field.{Field, NameText, ValueText}
+use Rattle.sip_message.specs.inner.Plain.{segment}
+use Rattle.sip_message.proofs.QuickLemmas.{plain-run, plain-named, behind-open, value-open}
+use Rattle.sip_message.proofs.quick.push_ordinary.Goals as goal
+
+pub quick_name-name-requires-clause-token : goal.quick_name-name-requires-clause-token
+quick_name-name-requires-clause-token c =
+    let n = c.run_at-len.result in
+    let behind = take_rest c.text-text.result.now c.args.at ∙ ap (drop c.args.at) c.text-text.ensures in
+    subst (λ t. Token (take n t)) (sym behind) (plain-run (drop c.args.at c.args.masks.now) n c.run_at-len.ensures (omega (arith, c.if-len-eq0.false)))
+
+pub is_value_at-requires-clause-clear : goal.is_value_at-requires-clause-clear
+is_value_at-requires-clause-clear c =
+    let m = c.args.masks.now in
+    let n = c.run_at-len.result in
+    let end = c.args.end in
+    let less : c.args.at + n < end = omega (arith, c.if-len-end.false) in
+    let mark : get_or m (c.args.at + n) 0 ≡ colon = subst (λ t. get_or t (c.args.at + n) 0 ≡ colon) c.text-text.ensures (omega (arith, c.if-text-at-ne58.false)) in
+    value-open (segment (c.args.at + n + 1) end m) (segment c.in-Some.from end m) (behind-open m c.args.at n end less c.requires.within.1 mark c.requires.clear)
+    (subst (λ t. ValueText (segment (c.args.at + n + 1) end t) (segment c.in-Some.from end t)) c.text-text.ensures c.in-Some.ensures.value)
+
+pub returns : goal.returns
+returns c = λ _.
+    let m = c.args.masks.now in
+    let n = c.run_at-len.result in
+    let end = c.args.end in
+    let from = c.in-Some.from in
+    let same = c.text-text.ensures in
+    let less : c.args.at + n < end = omega (arith, c.if-len-end.false) in
+    let mark : get_or m (c.args.at + n) 0 ≡ colon = subst (λ t. get_or t (c.args.at + n) 0 ≡ colon) same (omega (arith, c.if-text-at-ne58.false)) in
+    let named = plain-named m c.args.at n end c.run_at-len.ensures (omega (arith, c.if-len-eq0.false)) less c.requires.within.1 mark in
+    let spelled : name_parts c.quick_name-name.result ≡ name_of (take n (drop c.args.at c.text-text.result.now)) =
+    c.quick_name-name.ensures ∙ ap (λ t. name_of (take n t)) (take_rest c.text-text.result.now c.args.at) in
+    let name_is : name_parts c.quick_name-name.result ≡ name_of (take n (drop c.args.at m)) = spelled ∙ ap (λ t. name_of (take n (drop c.args.at t))) same in
+    let made : List ℕ → Field = λ value. record { name = name_parts c.quick_name-name.result; value = value } in
+    record {
+      field = made (segment from end m);
+      is = record {
+        rest = segment (c.args.at + n + 1) end m;
+        named = subst (λ name. NameText (segment c.args.at end m) name (segment (c.args.at + n + 1) end m)) (sym name_is) named;
+        valued = subst (λ t. ValueText (segment (c.args.at + n + 1) end t) (segment from end t)) same c.in-Some.ensures.value;
+        row = c.is_value_at.ensures.row c.if-not-is_value_at.false;
+      };
+      pushed = ap (map field_parts) c.in_default-push.ensures.items ∙ map-append field_parts c.args.fields.now.items _ ∙ ap (λ t. fields_parts c.args.fields.now ++ made (segment from end t) ∷ []) same;
+      asks = c.is_value_at.ensures.asked c.if-not-is_value_at.false;
+    }

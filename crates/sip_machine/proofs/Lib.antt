@@ -10,6 +10,7 @@ pub mod OutboxLemmas
 pub mod RunsLemmas
 pub mod FingerprintLemmas
 pub mod SummaryLemmas
+pub mod RisesLemmas
 pub mod RunOrderLemmas
 pub mod ProvisionalLemmas
 pub mod AckLemmas

@@ -7,7 +7,7 @@ use Rattle.std.proofs.lemmas.Bool.{cases_lt}
 use Rattle.std.proofs.lemmas.Bool.Decides.{eqb_tells, nat_tests}
 use Rattle.std.proofs.lemmas.Grind.{flat_map-append}
 use Rattle.std.specs.List.{take-map, drop-map}
-use Rattle.std.proofs.lemmas.List.{get_or_default, get_or-take, length-take, take-append-drop, drop_all, take-append-le, take-replicate, drop-replicate, replicate-append-replicate, length-replicate, length-append, length-map, length-take-le, map-append, drop_more, take_more, take-take, set_split, append-nil, append_assoc, get_or_append_left, get_or-append-add, get_or-replicate, get_or-map}
+use Rattle.std.proofs.lemmas.List.{get_or_default, get_or-take, length-take, take-append-drop, drop_all, take-append-le, take-replicate, drop-replicate, replicate-append-replicate, length-replicate, length-append, length-map, length-take-le, length-drop, map-append, drop_more, take_more, take-take, set_split, append-nil, append_assoc, get_or_append_left, get_or-append-add, get_or-replicate, get_or-map}
 use Rattle.std.proofs.lemmas.List.Edits.{remove-append_left, remove-append_right, get_or-remove_below, get_or-remove_above, length-remove}
 use Rattle.std.proofs.lemmas.List.Elements.{All-get_or, All-append, All-take, All-drop, All-cons, All-nil, All-set, All-head, All-tail, All-replicate, filter-append}
 use Rattle.std.proofs.lemmas.List.Concat.{get_or-flat_map}
@@ -513,11 +513,11 @@ fold-each (suc n) a m ms le =
     let least : min a m ≡ a = omega (arith, le) in
     ap (λ b. fold min b (replicate n m ++ ms)) least ∙ fold-each n a m ms le
 
-deadlines-must : (run : Run) (runs : List Run) → run.debt.must ≡ true → run_deadlines (run ∷ runs) ≡ run.debt.deadline ∷ run_deadlines runs
+pub deadlines-must : (run : Run) (runs : List Run) → run.debt.must ≡ true → run_deadlines (run ∷ runs) ≡ run.debt.deadline ∷ run_deadlines runs
 deadlines-must run runs must =
     let rest = filter (λ run. run.debt.must) runs in ap (λ b. map (λ run. run.debt.deadline) (cond b (run ∷ rest) rest)) must
 
-deadlines-may : (run : Run) (runs : List Run) → run.debt.must ≡ false → run_deadlines (run ∷ runs) ≡ run_deadlines runs
+pub deadlines-may : (run : Run) (runs : List Run) → run.debt.must ≡ false → run_deadlines (run ∷ runs) ≡ run_deadlines runs
 deadlines-may run runs may =
     let rest = filter (λ run. run.debt.must) runs in ap (λ b. map (λ run. run.debt.deadline) (cond b (run ∷ rest) rest)) may
 
@@ -647,6 +647,27 @@ each-All P (run ∷ runs) filled all =
     let whole : All P (run.debt ∷ (replicate (run.count - 1) run.debt ++ debts_of runs)) = subst (λ n. All P (replicate n run.debt ++ debts_of runs)) size all in
     All-cons (λ run. P run.debt) run runs (All-head P run.debt (replicate (run.count - 1) run.debt ++ debts_of runs) whole)
     (each-All P runs (All-tail (λ run. 0 < run.count) run runs filled) (All-back P (each run) (debts_of runs) all))
+
+-- there are no fewer debts than runs
+runs-fit : (runs : List Run) → All (λ run. 0 < run.count) runs → length runs ≤ length (debts_of runs)
+runs-fit [] filled = omega arith
+runs-fit (run ∷ runs) filled =
+    let size = length-append (each run) (debts_of runs) in
+    let here = length-replicate run.count run.debt in
+    let some = All-head (λ run. 0 < run.count) run runs filled in
+    let more = runs-fit runs (All-tail (λ run. 0 < run.count) run runs filled) in
+    omega (arith, size, here, some, more)
+
+-- where there are as many, each debt stands in a run of its own
+pub start-own : (runs : List Run) (at : ℕ) → All (λ run. 0 < run.count) runs → length (debts_of runs) ≡ length runs → at ≤ length runs → start_of runs at ≡ at
+start-own runs at filled same low =
+    let parts = ap length (ap debts_of (sym (take-append-drop at runs)) ∙ flat_map-append each (take at runs) (drop at runs)) in
+    let sizes = length-append (debts_of (take at runs)) (debts_of (drop at runs)) in
+    let front = runs-fit (take at runs) (All-take (λ run. 0 < run.count) at runs filled) in
+    let back = runs-fit (drop at runs) (All-drop (λ run. 0 < run.count) at runs filled) in
+    let in_front = length-take-le at runs low in
+    let behind = length-drop at runs in
+    omega (arith, parts, sizes, front, back, in_front, behind, same, low)
 
 -- where the next run begins, by the count of this one
 pub start_after : (runs : List Run) (at : ℕ) (d : Run) → at < length runs → start_of runs (at + 1) ≡ start_of runs at + (get_or runs at d).count

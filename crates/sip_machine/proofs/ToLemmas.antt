@@ -29,7 +29,7 @@ AreTos-push texts tos new to false is all e = record { each = rw e all.each }
 
 -- the same bytes under the same number
 moved_to : (texts more : Texts) (to : To) → Keeps more to.number → text_of more to.number ≡ text_of texts to.number → IsTo texts to → IsTo more to
-moved_to texts more to kept same is = record { kept = kept; text = subst (λ bytes. IsToOf bytes to.text.items) (sym same) is.text }
+moved_to texts more to kept same is = record { kept = kept; text = subst (λ bytes. IsToOf bytes to.text) (sym same) is.text }
 
 -- the book has grown
 pub AreTos-grow : (texts : Texts) (entry : ℕ) (bytes : List ℕ) (tos : List To) → AreTos texts tos → AreTos (texts ++ (entry, bytes) ∷ []) tos
@@ -50,8 +50,8 @@ AreTos-only texts numbers book up kept tos new bs all picked among = record {
 }
 
 -- the one at a place, whose number is this one
-pub to_at : (texts : Texts) (tos : List To) (i : ℕ) (to : To) (number : ℕ) (text : List ℕ) → AreTos texts tos → i < length tos → to ≡ get_or tos i to → to.number ≡ number
-    → text ≡ to.text.items → IsToOf (text_of texts number) text
-to_at texts tos i to number text all low at same is =
+pub to_at : (texts : Texts) (tos : List To) (i : ℕ) (to : To) (number : ℕ) → AreTos texts tos → i < length tos → to ≡ get_or tos i to → to.number ≡ number
+    → IsToOf (text_of texts number) to.text
+to_at texts tos i to number all low at same =
     let its : IsTo texts to = subst (IsTo texts) (sym at) (all.each i to low) in
-    subst (λ n. IsToOf (text_of texts n) text) same (subst (IsToOf (text_of texts to.number)) (sym is) its.text)
+    subst (λ n. IsToOf (text_of texts n) to.text) same its.text

@@ -7,17 +7,17 @@ ghost use Rattle.sip_machine.specs.Retained.{only};
 ghost use Rattle.sip_message.specs.Reads.{Reads};
 ghost use Rattle.sip_machine.specs.inner.ReadAs.{IsReadAs};
 ghost use Rattle.sip_machine.specs.inner.Tos.{IsToOf};
-ghost use Rattle.sip_machine.specs.inner.Order.{texts_of, hash_of, bytes_at, key_of, compare, begins_by, places_of, index_of, most_places, IsLed, IsInRuns, IsInside, IsGap};
+ghost use Rattle.sip_machine.specs.inner.Order.{texts_of, bytes_at, key_of, compare, begins_by, places_of, index_of, most_places, IsLed, IsInRuns, IsInside, IsGap};
 
 mod retain;
 
 use crate::book::retain::{is_among, keep_only, move_all};
 use crate::event::is_unsuccessful;
+use crate::hashed::{Hashed, hash};
 use sip_key::solid_of;
 use sip_message::{Message, ReadError, StartLine};
 use std::alloc::{AllocError, Global};
 use std::cmp::Ordering;
-use std::hash::{FoldHasher, Hasher};
 use std::marker::Model;
 
 /// Messages by number: equal bytes have one number. They stand in the order of their numbers, and beside them
@@ -45,7 +45,7 @@ struct Kept {
 #[derive(Debug, Drop)]
 struct To {
     number: u32,
-    text: Vec<u8>,
+    text: Hashed,
 }
 
 /// Where a message stands among those that are kept, with the hash of its bytes.
@@ -72,9 +72,6 @@ struct Gap {
 
 /// A run with so many places is halved before it takes another one.
 const MOST: usize = 128;
-
-/// A hash looks at so many bytes: the start line and the top Via stand there, which tell ordinary messages apart.
-const MOST_HASHED: usize = 256;
 
 impl Model for Book {
     ghost use Rattle.sip_machine.specs.Texts.{Texts, IsBook};
@@ -144,28 +141,43 @@ impl Book {
     }
 
     /// Whether the message with this number has this To, from which the blanks were taken. It is read anew where
-    /// its To does not stand beside it.
-    pub(crate) fn has_to(&self, alloc: Global, number: u32, to: &[u8]) -> Result<bool, AllocError>
+    /// its To does not stand beside it. The To beside it is looked for at `near` first, which is left behind it: so
+    /// messages that are asked for in the order of their numbers cost a step each.
+    pub(crate) fn has_to(
+        &self,
+        alloc: Global,
+        number: u32,
+        to: &Hashed,
+        near: &mut usize,
+    ) -> Result<bool, AllocError>
         requires { Keeps self.now number }
         ensures { IfOk result (λ has. IsTrue has ↔ IsToOf (text_of self.now number) to.now) }
     {
-        if let Some(its) = self.to_of(number) {
-            return Ok(its == to);
+        match self.to_of(number, near) {
+            Some(its) => Ok(its.is(to)),
+            None => self.is_read_with(alloc, number, to),
         }
+    }
+
+    /// Whether the message with this number, read anew, has this To.
+    fn is_read_with(&self, alloc: Global, number: u32, to: &Hashed) -> Result<bool, AllocError>
+        requires { Keeps self.now number }
+        ensures { IfOk result (λ has. IsTrue has ↔ IsToOf (text_of self.now number) to.now) }
+    {
         match self.message(alloc, number)? {
-            Some(message) => Ok(solid_of(alloc, message.to().whole)?.as_slice() == to),
+            Some(message) => Ok(solid_of(alloc, message.to().whole)?.as_slice() == to.text()),
             None => Ok(false),
         }
     }
 
-    /// The To of the message with this number without its blanks, where it stands beside it.
-    fn to_of(&self, number: u32) -> Option<&[u8]>
+    /// The To of the message with this number without its blanks, where it stands beside it: at `near`, or wherever
+    /// a search finds it.
+    fn to_of(&self, number: u32, near: &mut usize) -> Option<&Hashed>
         ensures { IfSome result (λ to. IsToOf (text_of self.now number) to.now) }
     {
-        match self.tos.binary_search_by_key(&number, |to| to.number) {
-            Ok(at) => Some(self.tos[at].text.as_slice()),
-            Err(_) => None,
-        }
+        let at = place_of(&self.tos, number, *near)?;
+        *near = at + 1;
+        Some(&self.tos[at].text)
     }
 
     /// Puts the To of a message beside it where an ACK is owed for it, so that no ACK reads it anew. Where there is
@@ -179,6 +191,7 @@ impl Book {
             return;
         }
         if let Ok(text) = solid_of(*self.kept.allocator(), message.to().whole) {
+            let text = Hashed::of(text);
             let _ = self.tos.push(To { number, text });
         }
     }
@@ -232,14 +245,18 @@ fn is_refusal(message: &Message<'_>) -> bool {
     }
 }
 
-/// A hash of the front of these bytes, which says nothing of them but that equal bytes have equal hashes.
-#[tactic(auto, using(std::proofs::lemmas::List::take_min))]
-fn hash(bytes: &[u8]) -> u64
-    ensures { result ≡ hash_of bytes.now }
+/// Where the To of the message with this number stands: here, or where a search finds it.
+fn place_of(tos: &[To], number: u32, here: usize) -> Option<usize>
+    ensures within { IfSome result (λ at. at < length tos.now) }
+    ensures number { IfSome result (λ at. HoldsAt (λ to. to.number ≡ number) tos.now at) }
 {
-    let mut hasher = FoldHasher::default();
-    hasher.write(&bytes[..MOST_HASHED.min(bytes.len())]);
-    hasher.finish()
+    if here < tos.len() && tos[here].number == number {
+        return Some(here);
+    }
+    match tos.binary_search_by_key(&number, |to| to.number) {
+        Ok(at) => Some(at),
+        Err(_) => None,
+    }
 }
 
 /// The position of the message with these bytes; where there is none, its gap in the order.

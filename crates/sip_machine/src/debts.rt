@@ -3,7 +3,7 @@ ghost use Rattle.std.specs.Prelude.{◌≡◌, ◌<◌, ◌++◌, ◌∷◌, [],
 ghost use Rattle.std.specs.Bool.{OnTrue, OnFalse};
 ghost use Rattle.std.specs.Cmp.Lexicographic.{pointwise};
 ghost use Rattle.sip_machine.specs.Debts.{IsWithoutFirst, earliest};
-ghost use Rattle.sip_machine.specs.inner.Fingerprints.{debts_cmp};
+ghost use Rattle.sip_machine.specs.inner.Fingerprints.{debts_cmp, fingerprint};
 ghost use Rattle.sip_machine.specs.inner.Outbox.{counts_at, softened_debt, is_payable, debt_deadlines};
 ghost use Rattle.sip_machine.specs.declared.outbox.Debt.{Debt};
 
@@ -67,27 +67,50 @@ pub trait Debts: Debug + Drop {
         ensures { result ≡ debts_cmp (listed self.now) (listed other.now) };
 }
 
-/// Debts of a transaction that owes messages. Where nothing is owed, nothing is allocated. Contracts see the list.
+/// Debts of a transaction that owes messages. Where nothing is owed, nothing is allocated. Their fingerprint stands
+/// beside the box, so that most are told apart without a look into it. Contracts see the list.
 #[derive(Debug, Drop)]
 pub struct BoxedDebts {
+    print: u64,
     outbox: Option<Box<Outbox>>,
 }
 
 impl Model for BoxedDebts {
-    ghost use Rattle.std.specs.Prelude.{List, [], unwrap_or};
+    ghost use Rattle.std.specs.Prelude.{◌≡◌, List, [], unwrap_or};
     ghost use Rattle.std.specs.Option.{option_map};
     ghost use Rattle.sip_machine.specs.declared.outbox.Debt.{Debt};
+    ghost use Rattle.sip_machine.specs.inner.Fingerprints.{fingerprint};
 
     ghost Value = { List Debt };
 
     ghost view = { λ o. unwrap_or (option_map (λ boxed. boxed.value) o.outbox) [] };
+
+    ghost invariant = { λ o. o.print ≡ fingerprint (unwrap_or (option_map (λ boxed. boxed.value) o.outbox) []) };
+}
+
+impl BoxedDebts {
+    /// The debts of an outbox, in a box where there are any.
+    fn of(alloc: Global, outbox: Outbox) -> Result<BoxedDebts, AllocError>
+        ensures { IfOk result (λ debts. debts ≡ outbox) }
+    {
+        if outbox.is_empty() {
+            return Ok(BoxedDebts::none());
+        }
+        Ok(BoxedDebts {
+            print: outbox.fingerprint(),
+            outbox: Some(Box::new(alloc, outbox)?),
+        })
+    }
 }
 
 impl Debts for BoxedDebts {
     ghost listed = { λ debts. debts };
 
     fn none() -> BoxedDebts {
-        BoxedDebts { outbox: None }
+        BoxedDebts {
+            print: 0,
+            outbox: None,
+        }
     }
 
     fn runs(&self) -> &[Run] {
@@ -98,36 +121,37 @@ impl Debts for BoxedDebts {
     }
 
     fn try_clone(&self, alloc: Global) -> Result<BoxedDebts, AllocError> {
-        let outbox = match &self.outbox {
-            Some(outbox) => Some(Box::new(alloc, outbox.try_clone()?)?),
-            None => None,
-        };
-        Ok(BoxedDebts { outbox })
+        match &self.outbox {
+            Some(outbox) => BoxedDebts::of(alloc, outbox.try_clone()?),
+            None => Ok(BoxedDebts::none()),
+        }
     }
 
     fn unexpired(&self, alloc: Global, moment: u64) -> Result<BoxedDebts, AllocError> {
-        let outbox = match &self.outbox {
-            Some(outbox) => Some(Box::new(alloc, outbox.unexpired(moment)?)?),
-            None => None,
-        };
-        Ok(BoxedDebts { outbox })
+        match &self.outbox {
+            Some(outbox) => BoxedDebts::of(alloc, outbox.unexpired(moment)?),
+            None => Ok(BoxedDebts::none()),
+        }
     }
 
     fn softened(&self, alloc: Global) -> Result<BoxedDebts, AllocError> {
-        let outbox = match &self.outbox {
-            Some(outbox) => Some(Box::new(alloc, outbox.softened()?)?),
-            None => None,
-        };
-        Ok(BoxedDebts { outbox })
+        match &self.outbox {
+            Some(outbox) => BoxedDebts::of(alloc, outbox.softened()?),
+            None => Ok(BoxedDebts::none()),
+        }
     }
 
     fn push(&mut self, alloc: Global, debt: Debt) -> Result<(), AllocError> {
         match &mut self.outbox {
-            Some(outbox) => outbox.push(debt),
+            Some(outbox) => {
+                outbox.push(debt)?;
+                self.print = outbox.fingerprint();
+                Ok(())
+            }
             None => {
                 let mut outbox = Outbox::new(alloc);
                 outbox.push(debt)?;
-                self.outbox = Some(Box::new(alloc, outbox)?);
+                *self = BoxedDebts::of(alloc, outbox)?;
                 Ok(())
             }
         }
@@ -135,7 +159,11 @@ impl Debts for BoxedDebts {
 
     fn pay(&mut self, message: u32, moment: u64) -> bool {
         match &mut self.outbox {
-            Some(outbox) => outbox.pay(message, moment),
+            Some(outbox) => {
+                let paid = outbox.pay(message, moment);
+                self.print = outbox.fingerprint();
+                paid
+            }
             None => false,
         }
     }
@@ -143,6 +171,7 @@ impl Debts for BoxedDebts {
     fn remove(&mut self, index: usize) {
         if let Some(outbox) = &mut self.outbox {
             outbox.remove(index);
+            self.print = outbox.fingerprint();
         }
     }
 
@@ -154,6 +183,9 @@ impl Debts for BoxedDebts {
     }
 
     fn equals(&self, other: &BoxedDebts) -> bool {
+        if self.print != other.print {
+            return false;
+        }
         match (&self.outbox, &other.outbox) {
             (Some(one), Some(another)) => **one == **another,
             (Some(some), None) | (None, Some(some)) => some.is_empty(),
@@ -162,6 +194,9 @@ impl Debts for BoxedDebts {
     }
 
     fn compare(&self, other: &BoxedDebts) -> Ordering {
+        if self.print != other.print {
+            return self.print.cmp(&other.print);
+        }
         match (&self.outbox, &other.outbox) {
             (Some(one), Some(another)) => Outbox::cmp(one, another),
             (Some(some), None) => {

@@ -4,6 +4,7 @@
 mod book;
 mod debts;
 mod event;
+mod hashed;
 mod invite_client;
 mod invite_server;
 pub mod laws;

@@ -1,6 +1,8 @@
 //! What a machine owes, oldest cause first: a list of messages with their deadlines.
 ghost use Rattle.std.specs.Prelude.{◌≡◌, ◌≢◌, ◌↔◌, ◌++◌, ◌∷◌, [], ◌+◌, ◌<◌, ◌^◌, ℕ, List, IfOk, OnOk, OnErr, IsTrue, IfSome, All, length, position, remove, map, filter, take, drop, get_or, flat_map, replicate};
 ghost use Rattle.std.specs.Bool.{OnTrue, OnFalse};
+ghost use Rattle.std.specs.List.{find};
+ghost use Rattle.std.specs.Option.{option_map};
 ghost use Rattle.std.specs.Ordering.{as_partial_cmp};
 ghost use Rattle.std.specs.Cmp.Lexicographic.{pointwise, slice_cmp, lists_per, lists_equiv};
 ghost use Rattle.sip_machine.specs.contracts.outbox.DebtPartialEq.TheImpl.Laws as partial_eq;
@@ -9,7 +11,7 @@ ghost use Rattle.sip_machine.specs.Debts.{IsWithoutFirst, earliest};
 ghost use Rattle.sip_machine.specs.inner.Outbox.{counts_at, softened_debt, is_payable, debt_deadlines};
 ghost use Rattle.sip_machine.specs.declared.outbox.Debt.{Debt};
 ghost use Rattle.sip_machine.specs.declared.outbox.Run.{Run};
-ghost use Rattle.sip_machine.specs.inner.Fingerprints.{debts_cmp};
+ghost use Rattle.sip_machine.specs.inner.Fingerprints.{debts_cmp, fingerprint};
 ghost use Rattle.sip_machine.specs.inner.FingerprintLaws.{debts_total, debts_ties, debts_po};
 ghost use Rattle.sip_machine.specs.inner.Summaries.{Summarizes};
 ghost use Rattle.sip_machine.specs.inner.Runs.{debts_of, kinds, AreRuns, AreApartBut, EndsWith, run_deadlines};
@@ -91,6 +93,13 @@ impl Outbox {
         self.runs.as_slice()
     }
 
+    /// What tells the debts apart from others at once, if not surely.
+    pub(crate) fn fingerprint(&self) -> u64
+        ensures { result ≡ fingerprint self.now }
+    {
+        self.summary.fingerprint
+    }
+
     /// Whether nothing is owed.
     pub(crate) fn is_empty(&self) -> bool
         ensures { IsTrue result ↔ (self.now ≡ []) }
@@ -118,11 +127,16 @@ impl Outbox {
         Ok(())
     }
 
-    /// A copy.
+    /// A copy, with room for one more debt: a copy is mostly made for it.
     pub(crate) fn try_clone(&self) -> Result<Outbox, AllocError>
         ensures { IfOk result (λ copy. copy ≡ self.now) }
     {
-        let runs = Vec::from_slice(*self.runs.allocator(), &self.runs)?;
+        let alloc = *self.runs.allocator();
+        if self.is_empty() {
+            return Ok(Outbox::new(alloc));
+        }
+        let mut runs = Vec::with_capacity(alloc, self.runs.len() + 1)?;
+        runs.extend_from_slice(&self.runs)?;
         Ok(Outbox {
             runs,
             summary: self.summary,
@@ -178,7 +192,7 @@ impl Outbox {
         if index >= self.summary.count {
             return;
         }
-        let at = run_at(&self.runs, index);
+        let at = run_at(&self.runs, self.summary.count, index);
         take_out(&mut self.runs, &mut self.summary, at);
     }
 
@@ -367,12 +381,18 @@ fn join(runs: &mut Vec<Run>, at: usize)
     runs[at - 1].count += next.count;
 }
 
-/// The index of the run in which the debt at an index stands.
-fn run_at(runs: &[Run], index: usize) -> usize
-    requires { index < length (debts_of runs.now) }
+/// The index of the run in which the debt at an index stands, of so many debts. Where there are no more debts than
+/// runs, each stands in its own.
+fn run_at(runs: &[Run], count: usize, index: usize) -> usize
+    requires index { index < length (debts_of runs.now) }
+    requires count { count ≡ length (debts_of runs.now) }
+    requires filled { All (λ run. 0 < run.count) runs.now }
     ensures within { result < length runs.now }
     ensures debt { remove (debts_of runs.now) index ≡ remove (debts_of runs.now) (length (debts_of (take result runs.now))) }
 {
+    if count == runs.len() {
+        return index;
+    }
     let mut at = 0;
     let mut left = index;
     'passed: while runs[at].count <= left {
@@ -388,6 +408,15 @@ fn first_payable(runs: &[Run], message: u32, moment: u64) -> Option<usize>
     ensures within { IfSome result (λ i. i < length runs.now) }
 {
     runs.iter().position(|run| run.debt.message == message && moment <= run.debt.deadline)
+}
+
+/// The deadline of the first debt that has to be paid.
+pub(crate) fn first_must(runs: &[Run]) -> Option<u64>
+    ensures { result ≡ option_map (λ run. run.debt.deadline) (find (λ run. run.debt.must) runs.now) }
+{
+    runs.iter()
+        .find(|run| run.debt.must)
+        .map(|run| run.debt.deadline)
 }
 
 /// The least deadline of a debt that has to be paid.

@@ -1,5 +1,5 @@
 //! Provisional responses of the `Book`, read anew.
-ghost use Rattle.std.specs.Prelude.{◌↔◌, IfOk, IsTrue};
+ghost use Rattle.std.specs.Prelude.{◌≡◌, ◌↔◌, IfOk, IsTrue, codes, drop, take};
 ghost use Rattle.sip_machine.specs.Texts.{Keeps, text_of};
 ghost use Rattle.sip_machine.specs.Provisional.{Is100};
 ghost use Rattle.sip_machine.specs.inner.Start.{IsStatus100};
@@ -14,10 +14,23 @@ pub(crate) fn is_100(alloc: Global, book: &Book, number: u32) -> Result<bool, Al
     requires { Keeps book.now number }
     ensures { IfOk result (λ is. IsTrue is ↔ Is100 (text_of book.now number)) }
 {
+    if !has_code_100(book.bytes_of(number)) {
+        return Ok(false);
+    }
     match book.message(alloc, number)? {
         Some(message) => Ok(is_status_100(message.start())),
         None => Ok(false),
     }
+}
+
+/// Whether 100 stands where a response has its code. Most messages it tells at once to be no 100.
+fn has_code_100(bytes: &[u8]) -> bool
+    ensures { IsTrue result ↔ (take 3 (drop 8 bytes.now) ≡ codes "100") }
+{
+    if bytes.len() < 11 {
+        return false;
+    }
+    &bytes[8..11] == b"100".as_slice()
 }
 
 /// Whether the start line is that of a 100.

@@ -1,12 +1,13 @@
 //! What is known of debts without a look at each of them.
-ghost use Rattle.std.specs.Prelude.{◌≡◌, ◌+◌, ◌<◌, ◌++◌, ◌∷◌, [], List, IfSome, replicate};
+ghost use Rattle.std.specs.Prelude.{◌≡◌, ◌+◌, ◌<◌, ◌++◌, ◌∷◌, [], List, IfSome, All, IsTrue, replicate};
 ghost use Rattle.sip_machine.specs.declared.outbox.Debt.{Debt};
-ghost use Rattle.sip_machine.specs.inner.Runs.{debts_of, AreRuns};
+ghost use Rattle.sip_machine.specs.Debts.{earliest};
+ghost use Rattle.sip_machine.specs.inner.Runs.{debts_of, run_deadlines, AreRuns};
 ghost use Rattle.sip_machine.specs.inner.Fingerprints.{print_of};
-ghost use Rattle.sip_machine.specs.inner.Summaries.{Summarizes};
+ghost use Rattle.sip_machine.specs.inner.Summaries.{Summarizes, Rises, risen};
 
 use crate::limit::earlier;
-use crate::outbox::{Debt, Run, earliest_must};
+use crate::outbox::{Debt, Run, earliest_must, first_must};
 
 /// How many debts there are, and by when they are to be sent. Moments are in milliseconds.
 #[derive(Clone, Copy, Debug)]
@@ -16,6 +17,8 @@ pub(crate) struct Summary {
     pub(crate) due: Option<u64>,
     /// Nothing expires up to this moment.
     pub(crate) fresh: u64,
+    /// No deadline is past this moment, and none is below that of a debt before it; None once one was.
+    pub(crate) latest: Option<u64>,
     /// The sum of the debts' prints, of 64 bits. Equal debts have equal ones.
     pub(crate) fingerprint: u64,
 }
@@ -34,6 +37,7 @@ impl Summary {
             count: 0,
             due: None,
             fresh: u64::MAX,
+            latest: Some(0),
             fingerprint: 0,
         }
     }
@@ -48,10 +52,12 @@ impl Summary {
         let prints = (run.count as u64).wrapping_mul(print_of(run.debt));
         let fingerprint = self.fingerprint.wrapping_add(prints);
         let deadline = run.debt.deadline;
+        let latest = risen(self.latest, deadline);
         if run.debt.must {
             return Some(Summary {
                 count,
                 due: Some(earlier(deadline, self.due)),
+                latest,
                 fingerprint,
                 ..*self
             });
@@ -59,6 +65,7 @@ impl Summary {
         Some(Summary {
             count,
             fresh: self.fresh.min(deadline),
+            latest,
             fingerprint,
             ..*self
         })
@@ -82,10 +89,34 @@ impl Summary {
         }
         Summary {
             count,
-            due: earliest_must(left),
+            due: due_in(left, self.latest.is_some()),
             fingerprint,
             ..*self
         }
+    }
+}
+
+/// The latest deadline with one more behind the others, None if it is below another one.
+fn risen(latest: Option<u64>, deadline: u64) -> Option<u64>
+    ensures { result ≡ risen latest deadline }
+{
+    let before = latest?;
+    if before <= deadline {
+        Some(deadline)
+    } else {
+        None
+    }
+}
+
+/// The least deadline of what must be sent. Where deadlines rise it is that of the first debt that must be sent.
+fn due_in(left: &[Run], rises: bool) -> Option<u64>
+    requires { All (λ run. 0 < run.count) left.now }
+    ensures { (IsTrue rises → Rises (debts_of left.now)) → result ≡ earliest (run_deadlines left.now) }
+{
+    if rises {
+        first_must(left)
+    } else {
+        earliest_must(left)
     }
 }
 

@@ -16,7 +16,7 @@ pub record IsToOf (bytes text : List ℕ) : Type 0 where
 -- the same of a message that is kept
 pub record IsTo (texts : Texts) (to : To) : Type 0 where
   pub kept : Keeps texts to.number
-  pub text : IsToOf (text_of texts to.number) to.text.items
+  pub text : IsToOf (text_of texts to.number) to.text
 
 pub record AreTos (texts : Texts) (tos : List To) : Type 0 where
   pub each : All (IsTo texts) tos

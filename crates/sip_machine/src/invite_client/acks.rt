@@ -8,6 +8,7 @@ ghost use Rattle.sip_machine.specs.inner.Tos.{IsToOf};
 
 use crate::book::Book;
 use crate::event::Event;
+use crate::hashed::Hashed;
 use crate::outbox::{Debt, Run};
 use sip_key::{is_ack_for, solid_of};
 use std::alloc::{AllocError, Global};
@@ -39,9 +40,11 @@ pub(crate) fn first_acked(
         return Ok(None);
     }
     let to = solid_of(alloc, ack.to().whole)?;
+    let to = Hashed::of(to);
+    let mut near = 0;
     let mut index = 0usize;
     for run in runs {
-        if pays(alloc, book, &to, run.debt, event.moment())? {
+        if pays(alloc, book, &to, &mut near, run.debt, event.moment())? {
             return Ok(Some(index));
         }
         index = index.checked_add(run.count).ok_or(AllocError)?;
@@ -49,13 +52,21 @@ pub(crate) fn first_acked(
     Ok(None)
 }
 
-/// Whether the debt's message has this To, from which the blanks were taken, and its deadline has not passed.
-fn pays(alloc: Global, book: &Book, to: &[u8], debt: Debt, moment: u64) -> Result<bool, AllocError>
+/// Whether the debt's message has this To, from which the blanks were taken, and its deadline has not passed. The
+/// debts are asked in their order, in which their messages mostly came.
+fn pays(
+    alloc: Global,
+    book: &Book,
+    to: &Hashed,
+    near: &mut usize,
+    debt: Debt,
+    moment: u64,
+) -> Result<bool, AllocError>
     requires { Keeps book.now debt.message }
     ensures { IfOk result (λ is. IsTrue is ↔ (IsToOf (text_of book.now debt.message) to.now × (moment ≤ debt.deadline))) }
 {
     if debt.deadline < moment {
         return Ok(false);
     }
-    book.has_to(alloc, debt.message, to)
+    book.has_to(alloc, debt.message, to, near)
 }

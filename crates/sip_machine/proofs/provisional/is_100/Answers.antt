@@ -1,6 +1,16 @@
+use Rattle.std.specs.Prelude.{drop, take}
+use Rattle.std.proofs.Common.{true≢false, sym, ap, ◌∙◌}
 use Rattle.sip_machine.specs.Texts.{text_of}
-use Rattle.sip_machine.proofs.ProvisionalLemmas.{Is100-read, Is100-fault}
+use Rattle.sip_machine.proofs.ProvisionalLemmas.{Is100-read, Is100-fault, Is100-code}
 use Rattle.sip_machine.proofs.provisional.is_100.Goals as goal
+
+pub returns-then-not-has_code_100 : goal.returns-then-not-has_code_100
+returns-then-not-has_code_100 c = (
+  λ no. cc,
+  λ is.
+      let code = ap (λ bytes. take 3 (drop 8 bytes)) c.bytes_of.ensures ∙ Is100-code (text_of c.args.book.now c.args.number) is in
+      absurd (true≢false (sym (c.has_code_100.ensures.1 code) ∙ c.if-not-has_code_100.true)),
+)
 
 pub returns-in-Some : goal.returns-in-Some
 returns-in-Some c =

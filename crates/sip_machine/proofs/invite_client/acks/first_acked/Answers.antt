@@ -44,9 +44,9 @@ returns-then-branch c =
     let P = PaysDebt texts ack invite c.args.event.now.moment in
     let reads_ack : Reads ack c.in-Some.ack = rw (c.in-Some.is, c.number.ensures) at c.in_ok-ack.ensures in
     let reads_invite : Reads invite c.in-Some-2.invite = rw c.in-Some-2.is at c.in_ok-invite.ensures in
-    let to = c.deref.ensures.value ∙ c.in_ok-to.ensures ∙ ap (λ a. solid a.0) c.to.ensures in
+    let to = c.of-to.ensures ∙ c.in_ok-to.ensures ∙ ap (λ a. solid a.0) c.to.ensures in
     let by_to = AckOf-by_to ack invite (text_of texts (get_or runs at none).debt.message) c.in-Some.ack c.in-Some-2.invite c.is_ack_for.result
-    reads_ack reads_invite c.is_ack_for.ensures c.if-not-is_ack_for.false c.deref.result.now to in
+    reads_ack reads_invite c.is_ack_for.ensures c.if-not-is_ack_for.false c.of-to.result to in
     let pays = rw c.moment.ensures at c.in_ok-pays.ensures in
     let is = pays.0 c.if-branch.true in
     rw c.loop-run.invariant.0 (
@@ -64,9 +64,9 @@ loop-run-preserved c =
     let P = PaysDebt texts ack invite c.args.event.now.moment in
     let reads_ack : Reads ack c.in-Some.ack = rw (c.in-Some.is, c.number.ensures) at c.in_ok-ack.ensures in
     let reads_invite : Reads invite c.in-Some-2.invite = rw c.in-Some-2.is at c.in_ok-invite.ensures in
-    let to = c.deref.ensures.value ∙ c.in_ok-to.ensures ∙ ap (λ a. solid a.0) c.to.ensures in
+    let to = c.of-to.ensures ∙ c.in_ok-to.ensures ∙ ap (λ a. solid a.0) c.to.ensures in
     let by_to = AckOf-by_to ack invite (text_of texts (get_or runs at none).debt.message) c.in-Some.ack c.in-Some-2.invite c.is_ack_for.result
-    reads_ack reads_invite c.is_ack_for.ensures c.if-not-is_ack_for.false c.deref.result.now to in
+    reads_ack reads_invite c.is_ack_for.ensures c.if-not-is_ack_for.false c.of-to.result to in
     let pays = rw c.moment.ensures at c.in_ok-pays.ensures in (
       sum-told _ c.checked_add.result (c.loop-run.index + (get_or runs at none).count) c.in_ok-index.index c.checked_add.ensures c.in_ok-index.ensures.ok_part
           ∙ ap (λ n. n + (get_or runs at none).count) c.loop-run.invariant.0 ∙ sym (start_after runs at none c.loop-run-test.true),

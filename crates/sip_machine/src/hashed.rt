@@ -1,0 +1,62 @@
+//! Texts that their hashes tell apart.
+ghost use Rattle.std.specs.Prelude.{◌≡◌, bytes_eq};
+ghost use Rattle.sip_machine.specs.inner.Order.{hash_of};
+
+use std::hash::{FoldHasher, Hasher};
+use std::marker::Model;
+
+/// A hash looks at so many bytes: the start line and the top Via stand there, which tell ordinary messages apart.
+const MOST_HASHED: usize = 256;
+
+/// A text with its hash. Contracts see the text.
+#[derive(Debug, Drop)]
+pub(crate) struct Hashed {
+    text: Vec<u8>,
+    hash: u64,
+}
+
+impl Model for Hashed {
+    ghost use Rattle.std.specs.Prelude.{◌≡◌, ℕ, List};
+    ghost use Rattle.sip_machine.specs.inner.Order.{hash_of};
+
+    ghost Value = { List ℕ };
+
+    ghost view = { λ h. h.text.items };
+
+    ghost invariant = { λ h. h.hash ≡ hash_of h.text.items };
+}
+
+impl Hashed {
+    pub(crate) fn of(text: Vec<u8>) -> Hashed
+        ensures { result ≡ text.items }
+    {
+        let hash = hash(&text);
+        Hashed { text, hash }
+    }
+
+    pub(crate) fn text(&self) -> &[u8]
+        ensures { result.now ≡ self.now }
+    {
+        &self.text
+    }
+
+    /// Whether the texts are the same: other hashes tell at once that they are not.
+    pub(crate) fn is(&self, other: &Hashed) -> bool
+        ensures { result ≡ bytes_eq self.now other.now }
+    {
+        if self.hash != other.hash {
+            return false;
+        }
+        self.text.as_slice() == other.text.as_slice()
+    }
+}
+
+/// A hash of the front of these bytes, which says nothing of them but that equal bytes have equal hashes.
+#[tactic(auto, using(std::proofs::lemmas::List::take_min))]
+pub(crate) fn hash(bytes: &[u8]) -> u64
+    ensures { result ≡ hash_of bytes.now }
+{
+    let mut hasher = FoldHasher::default();
+    hasher.write(&bytes[..MOST_HASHED.min(bytes.len())]);
+    hasher.finish()
+}

@@ -2,6 +2,8 @@
 #![tactic(auto)]
 
 #[cfg(test)]
+mod formats;
+#[cfg(test)]
 mod growths;
 #[cfg(test)]
 mod hashers;

@@ -16,4 +16,6 @@ mod shows;
 #[cfg(test)]
 mod told;
 #[cfg(test)]
+mod tolerances;
+#[cfg(test)]
 mod widths;

@@ -70,6 +70,89 @@ fn lists_invite_clients(rt: HostRuntime) -> Result<(), Fail> {
 }
 
 #[test]
+fn lists_by_the_rules_of_the_log(rt: HostRuntime) -> Result<(), Fail> {
+    list_rows(
+        &rt,
+        &[
+            (
+                "rules 3261: S 0 INVITE; R 100 200",
+                2,
+                "transaction 1 client INVITE states 1\n  ended\n",
+            ),
+            (
+                "rules 6026: S 0 INVITE; R 100 200",
+                2,
+                "transaction 1 client INVITE states 1\n  accepted set=100\n",
+            ),
+            (
+                "rules 3261: R 0 INVITE; S 0 200",
+                2,
+                "transaction 1 server INVITE states 1\n  passed\n",
+            ),
+            (
+                "rules 3261: R 0 INVITE",
+                1,
+                "transaction 1 server INVITE states 1\n  proceeding reliable=no set=0 last=none again=no\n",
+            ),
+            // Whether the INVITE came again stands before what is owed.
+            (
+                "rules 3261: R 0 INVITE; S 0 200; R 500 INVITE; S 510 180; R 520 INVITE",
+                5,
+                "transaction 1 server INVITE states 1\n  \
+                proceeding reliable=no set=500 last=4 again=yes owes=4/570/must\n",
+            ),
+            // The 2xx leaves the state as it is, or passes the transaction on again.
+            (
+                "rules 3261: R 0 INVITE; S 0 200; R 500 INVITE; S 510 200",
+                4,
+                "transaction 1 server INVITE states 2\n  passed\n  \
+                proceeding reliable=no set=500 last=none again=yes\n",
+            ),
+        ],
+    )
+}
+
+#[test]
+fn lists_restarts(rt: HostRuntime) -> Result<(), Fail> {
+    list_rows(
+        &rt,
+        &[
+            ("early 50 late 50: Z 100", 1, "no transaction\n"),
+            // All transactions in the order of their numbers.
+            (
+                "early 50 late 50: R 0 OPTIONS #2; S 0 INVITE; R 0 180 #3; Z 100; R 200 100",
+                4,
+                "transaction 1 server OPTIONS states 1\n  idle\ntransaction 2 client INVITE states 1\n  ended\n\
+                transaction 3 client INVITE states 1\n  idle\n",
+            ),
+            // The second one lists them too.
+            (
+                "early 50 late 50: R 0 OPTIONS #2; S 0 INVITE; Z 100,200; R 200 100",
+                4,
+                "transaction 1 server OPTIONS states 1\n  idle\ntransaction 2 client INVITE states 1\n  ended\n",
+            ),
+            // A CANCEL and the INVITE that it cancels.
+            (
+                "early 50 late 50: S 0 INVITE; R 10 180; S 20 CANCEL; Z 30",
+                4,
+                "transaction 1 client INVITE states 1\n  ended\ntransaction 2 client CANCEL states 1\n  ended\n",
+            ),
+            // Behind it they are as the restart left them.
+            (
+                "early 50 late 50: R 0 INVITE; S 10 180; R 20 INVITE; Z 30; R 5000 ACK",
+                5,
+                "transaction 1 server INVITE states 1\n  idle\n",
+            ),
+            (
+                "early 50 late 50: S 0 INVITE; Z 551",
+                2,
+                "stopped breach 2 transaction 1",
+            ),
+        ],
+    )
+}
+
+#[test]
 fn lists_invite_servers(rt: HostRuntime) -> Result<(), Fail> {
     list_rows(
         &rt,

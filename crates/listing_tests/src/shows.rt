@@ -45,6 +45,18 @@ fn shows_the_canonical_form(rt: HostRuntime) -> Result<(), Fail> {
 }
 
 #[test]
+fn shows_restarts(rt: HostRuntime) -> Result<(), Fail> {
+    let log = log_of(rt.alloc(), "early 0 late 100 rules 3261: M 5; Z 7; Z 7")?;
+    let (text, answer) = shown(rt.alloc(), log.as_str().as_bytes())?;
+    assert!(rt; text.as_slice() == b"1 M 5\n2 Z 7\n3 Z 7\nend 3\n".as_slice());
+    assert_eq!(rt; answer, Shown::End { entries: 3 });
+    let log = log_of(rt.alloc(), "Z 7")?;
+    let (text, _) = shown(rt.alloc(), log.as_str().as_bytes())?;
+    assert!(rt; text.as_slice() == b"log fault 1 21 EntryLine\n".as_slice());
+    Ok(())
+}
+
+#[test]
 fn stops_at_a_fault(rt: HostRuntime) -> Result<(), Fail> {
     // An LF stands alone before the line of the branch.
     let bare = FOLDED.replacen(rt.alloc(), "\r\n\t", "\n\t", 1)?;

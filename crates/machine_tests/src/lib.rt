@@ -16,4 +16,6 @@ mod plain_client;
 #[cfg(test)]
 mod plain_server;
 #[cfg(test)]
+mod rules_3261;
+#[cfg(test)]
 mod tests;

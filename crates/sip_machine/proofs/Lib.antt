@@ -1,5 +1,6 @@
 pub mod OwingSteps
 pub mod RepliesLemmas
+pub mod Rows3261
 pub mod RuleLaws
 pub mod SingleLemmas
 pub mod BothLemmas

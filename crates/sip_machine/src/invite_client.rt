@@ -7,7 +7,7 @@ ghost use Rattle.sip_machine.specs.Texts.{Texts};
 ghost use Rattle.sip_machine.specs.Rules.{Knows};
 ghost use Rattle.sip_machine.specs.Owing.{turn_seen, turn_names, TurnInRange};
 ghost use Rattle.sip_machine.specs.inner.Single.{AnswersOne};
-ghost use Rattle.sip_machine.specs.MachineEvent.{FitsBook, event_in};
+ghost use Rattle.sip_machine.specs.MachineEvent.{KeepsMessage, event_in};
 ghost use Rattle.sip_machine.specs.InviteClient.{Sends, invite_client_seen, invite_client_names, InviteClientInRange};
 
 mod acks;
@@ -260,6 +260,10 @@ impl Phases for InviteClient {
             }
             None => Ok(false),
         }
+    }
+
+    fn stays(&self, _phase: &InviteClientPhase, _kind: Kind) -> bool {
+        false
     }
 
     fn ends_refused(&self, phase: &InviteClientPhase, kind: Kind) -> bool {

@@ -181,6 +181,10 @@ impl Phases for PlainClient {
         Ok(false)
     }
 
+    fn stays(&self, _phase: &PlainClientPhase, _kind: Kind) -> bool {
+        false
+    }
+
     fn ends_refused(&self, _phase: &PlainClientPhase, _kind: Kind) -> bool {
         true
     }

@@ -1,5 +1,5 @@
 //! The states in which the runs of a machine can stand at a moment.
-ghost use Rattle.std.specs.Prelude.{◌≡◌, ◌≢◌, ◌↔◌, ◌+◌, [], ◌∷◌, ◌≤◌, OnOk, OnErr, All, Contains, IfOk, IsErrOf, IsTrue, flat_map, length, map};
+ghost use Rattle.std.specs.Prelude.{◌≡◌, ◌≢◌, ◌↔◌, ◌+◌, ◌⊎◌, [], ◌∷◌, ◌≤◌, OnOk, OnErr, All, Contains, IfOk, IsErrOf, IsTrue, flat_map, length, map};
 ghost use Rattle.sip_machine.specs.Texts.{Texts, IsBook};
 ghost use Rattle.sip_machine.specs.MachineEvent.{FitsBook, event_in};
 ghost use Rattle.sip_machine.specs.Naming.{AppendsAll};
@@ -160,6 +160,16 @@ impl<M: Machine> StateSet<M> {
             self.machine.names(state, out)?;
         }
         Ok(())
+    }
+
+    /// Whether its one state is the first or the ended one.
+    pub(crate) fn is_quiet(&self) -> bool
+        ensures { IsTrue result → (self.now.states ≡ M.first self.now.machine ∷ []) ⊎ (self.now.states ≡ M.ended self.now.machine ∷ []) }
+    {
+        match self.states.as_slice() {
+            [state] => *state == self.machine.first() || *state == self.machine.ended(),
+            _ => false,
+        }
     }
 
     /// Whether no run is left.

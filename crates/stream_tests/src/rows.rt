@@ -3,10 +3,12 @@ use crate::streams::verdict_by_entries;
 use std::process::Abort;
 use std::test::Fail;
 use worked_logs::{
-    AS_MANY_STATES_AS_ARE_FOLLOWED, CANCELLED_LOG, CANCELS, CLIENTS, Change, INVITE_SERVERS,
-    INVITES_THAT_ARE_ANSWERED, INVITES_THAT_WAIT, MANY_DEBTS, MANY_ENTRIES, MANY_STATES, MESSAGES,
-    Messages, OF_A_CALL, OF_A_CANCELLED_CALL, OF_THE_END_OF_A_CALL, OF_THE_END_OF_A_CANCELLED_CALL,
-    OVERDUE, Row, SERVERS, SESSION_LOG, TRANSACTIONS_APART, cancelled, log_of, log_with, session,
+    AS_MANY_STATES_AS_ARE_FOLLOWED, BY_RFC_3261, BY_RFC_6026, CANCELLED_LOG, CANCELS, CLIENTS,
+    CLIENTS_BY_RFC_3261, Change, INVITE_SERVERS, INVITES_THAT_ARE_ANSWERED, INVITES_THAT_WAIT,
+    MANY_DEBTS, MANY_ENTRIES, MANY_STATES, MESSAGES, Messages, OF_A_CALL, OF_A_CANCELLED_CALL,
+    OF_THE_END_OF_A_CALL, OF_THE_END_OF_A_CANCELLED_CALL, ON_ONE_SIDE, OVERDUE,
+    RESTARTED_BY_RFC_3261, RESTARTED_CLIENTS, RESTARTED_SERVERS, RESTARTS, Row, SERVERS,
+    SESSION_LOG, TRANSACTIONS_APART, cancelled, log_of, log_with, session,
 };
 
 /// A judge takes the entries of a log. A row tells which log it is.
@@ -33,6 +35,26 @@ fn takes_invites_that_wait(rt: HostRuntime) -> Result<(), Fail> {
 #[test]
 fn takes_invites_that_are_answered(rt: HostRuntime) -> Result<(), Fail> {
     takes_rows(&rt, INVITES_THAT_ARE_ANSWERED)
+}
+
+#[test]
+fn takes_the_rules_of_the_log(rt: HostRuntime) -> Result<(), Fail> {
+    takes_rows(&rt, BY_RFC_3261)?;
+    takes_rows(&rt, CLIENTS_BY_RFC_3261)?;
+    takes_rows(&rt, BY_RFC_6026)
+}
+
+#[test]
+fn takes_restarts(rt: HostRuntime) -> Result<(), Fail> {
+    takes_rows(&rt, RESTARTED_CLIENTS)?;
+    takes_rows(&rt, RESTARTED_SERVERS)?;
+    takes_rows(&rt, RESTARTED_BY_RFC_3261)?;
+    takes_rows(&rt, RESTARTS)
+}
+
+#[test]
+fn takes_two_tolerances(rt: HostRuntime) -> Result<(), Fail> {
+    takes_rows(&rt, ON_ONE_SIDE)
 }
 
 #[test]

@@ -1,6 +1,6 @@
 -- What was written piece by piece.
 use Rattle.std.proofs.Common.{◌≡◌, ℕ, Bool, List, [], ◌∷◌, ◌++◌, Option, Result, Ok, Err, subst, ◌∙◌, append_assoc}
-use Rattle.std.specs.Prelude.{codes, decimal}
+use Rattle.std.specs.Prelude.{codes, decimal, ⊤}
 use Rattle.std.specs.Io.KnownBytes.{Appends}
 use Rattle.std.proofs.KnownBytes.{Appends-trans}
 use Rattle.sip_times.specs.Times.{Times}
@@ -17,7 +17,7 @@ then : (a b c : Option (List ℕ)) (f g h : Bool) (x y : List ℕ) → Put a b f
 then a b c f g h x y first second = (Appends-trans a b c x y first.0 second.0, second.1 ∙ first.1)
 
 -- and what was appended of the last one
-puts-then : {E : Type 0} (a b c : Option (List ℕ)) (f g h : Bool) (x y : List ℕ) (r : Result (Unit {0}) E) → Put a b f g x → Puts b c g h y r → Puts a c f h (x ++ y) r
+puts-then : {E : Type 0} (a b c : Option (List ℕ)) (f g h : Bool) (x y : List ℕ) (r : Result (⊤) E) → Put a b f g x → Puts b c g h y r → Puts a c f h (x ++ y) r
 puts-then a b c f g h x y (Ok done) first second = then a b c f g h x y first second
 puts-then a b c f g h x y (Err e) first second = second
 
@@ -25,7 +25,7 @@ regroup : (n1 d1 n2 d2 n3 d3 : List ℕ) → ((n1 ++ d1) ++ (n2 ++ d2)) ++ (n3 +
 regroup n1 d1 n2 d2 n3 d3 = simp append_assoc
 
 -- the timers of line 2
-pub timers-put : {E : Type 0} (w0 w1 w2 w3 : Option (List ℕ)) (f0 f1 f2 f3 : Bool) (p : Times) (r : Result (Unit {0}) E)
+pub timers-put : {E : Type 0} (w0 w1 w2 w3 : Option (List ℕ)) (f0 f1 f2 f3 : Bool) (p : Times) (r : Result (⊤) E)
     → Put w0 w1 f0 f1 (codes "t1 " ++ decimal p.t1) → Put w1 w2 f1 f2 (codes " t2 " ++ decimal p.t2) → Puts w2 w3 f2 f3 (codes " t4 " ++ decimal p.t4) r
     → Puts w0 w3 f0 f3 (timers_text p) r
 timers-put w0 w1 w2 w3 f0 f1 f2 f3 p r t1 t2 t4 =
@@ -36,7 +36,7 @@ one-group : (t p w d e r : List ℕ) → (((t ++ p) ++ (w ++ d)) ++ e) ++ r ≡ 
 one-group t p w d e r = simp append_assoc
 
 -- the pieces of a header of format 1
-pub one-put : {E : Type 0} (w0 w1 w2 w3 w4 w5 : Option (List ℕ)) (f0 f1 f2 f3 f4 f5 : Bool) (p : Times) (r : Result (Unit {0}) E)
+pub one-put : {E : Type 0} (w0 w1 w2 w3 w4 w5 : Option (List ℕ)) (f0 f1 f2 f3 f4 f5 : Bool) (p : Times) (r : Result (⊤) E)
     → Put w0 w1 f0 f1 (codes "sip-trace 1\n") → Put w1 w2 f1 f2 (timers_text p) → Put w2 w3 f2 f3 (codes " tolerance " ++ decimal p.late)
     → Put w3 w4 f3 f4 (line_feed ∷ []) → Puts w4 w5 f4 f5 (written_rules p.rules) r → Puts w0 w5 f0 f5 (header_text One p) r
 one-put w0 w1 w2 w3 w4 w5 f0 f1 f2 f3 f4 f5 p r title timers tolerance end rules =

@@ -1,4 +1,4 @@
-use Rattle.std.specs.Prelude.{◌≡◌, ◌⊎◌, ◌++◌, ℕ, Bool, true, false, Option, None, List, [], ◌∷◌, if◌then◌else◌, codes}
+use Rattle.std.specs.Prelude.{◌≡◌, ◌⊎◌, ◌++◌, ℕ, Bool, true, false, Option, None, List, [], ◌∷◌, if◌then◌else◌, codes, ⊤}
 use Rattle.sip_machine.specs.declared.event.Method.TheVariants.{Invite}
 use Rattle.sip_machine.specs.declared.event.Kind.{Kind}
 use Rattle.sip_machine.specs.declared.event.Kind.TheVariants.{Request, Response}
@@ -102,7 +102,7 @@ invite_server_3261_names (code.In phase again) = invite_server_names phase
 
 -- its moments are within the limits, and its interval is below 2^50, so that no sum wraps
 abbrev pub InviteServer3261InRange : CodePhase → Type 0
-InviteServer3261InRange code.Passed = Unit {0}
+InviteServer3261InRange code.Passed = ⊤
 InviteServer3261InRange (code.In phase again) = InviteServerInRange phase
 
 -- a phase in words, as a listing tells it: whether the INVITE came again stands behind the rest, where it matters

@@ -1,8 +1,9 @@
 //! How debts lie beside a phase: in a box where some are owed, and not at all where a transaction owes nothing.
-ghost use Rattle.std.specs.Prelude.{◌≡◌, ◌<◌, ◌++◌, ◌∷◌, [], List, IfOk, OnOk, OnErr, All, filter, map, flat_map, position, remove, replicate};
+ghost use Rattle.std.specs.Prelude.{◌≡◌, ◌<◌, ◌++◌, ◌∷◌, [], List, IfOk, OnOk, OnErr, IsTrue, All, filter, map, flat_map, remove, replicate};
 ghost use Rattle.std.specs.Cmp.Lexicographic.{pointwise};
 ghost use Rattle.sip_machine.specs.Debts.{earliest};
 ghost use Rattle.sip_machine.specs.inner.Fingerprints.{debts_cmp, fingerprint};
+ghost use Rattle.sip_machine.specs.inner.Paying.{FindsFirst};
 ghost use Rattle.sip_machine.specs.inner.Outbox.{counts_at, softened_debt, is_payable, debt_deadlines};
 ghost use Rattle.sip_machine.specs.declared.outbox.Debt.{Debt};
 
@@ -45,7 +46,7 @@ pub trait Debts: Debug + Drop {
 
     /// The index of the first debt that a send of the message at the moment pays, None if it pays none.
     fn payable(&self, message: u32, moment: u64) -> Option<usize>
-        ensures { result ≡ position (is_payable message moment) (listed self.now) };
+        ensures { FindsFirst (λ debt. IsTrue (is_payable message moment debt)) (listed self.now) result };
 
     /// Takes out the debt at the index, if there is one.
     fn remove(&mut self, index: usize)

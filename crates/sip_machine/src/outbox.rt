@@ -12,6 +12,7 @@ ghost use Rattle.sip_machine.specs.declared.outbox.Debt.{Debt};
 ghost use Rattle.sip_machine.specs.declared.outbox.Run.{Run};
 ghost use Rattle.sip_machine.specs.inner.Fingerprints.{debts_cmp, fingerprint};
 ghost use Rattle.sip_machine.specs.inner.FingerprintLaws.{debts_total, debts_ties, debts_po};
+ghost use Rattle.sip_machine.specs.inner.Paying.{FindsFirst};
 ghost use Rattle.sip_machine.specs.inner.Summaries.{Summarizes};
 ghost use Rattle.sip_machine.specs.inner.Runs.{debts_of, kinds, AreRuns, AreApartBut, EndsWith, run_deadlines};
 
@@ -145,7 +146,7 @@ impl Outbox {
 
     /// The index of the first debt that a send of the message at the moment pays, None if it pays none.
     pub(crate) fn payable(&self, message: u32, moment: u64) -> Option<usize>
-        ensures { result ≡ position (is_payable message moment) self.now }
+        ensures { FindsFirst (λ debt. IsTrue (is_payable message moment debt)) self.now result }
     {
         let at = first_payable(&self.runs, message, moment)?;
         Some(first_of(&self.runs, self.summary.count, at))
@@ -303,10 +304,11 @@ fn keep_counting(runs: &mut Vec<Run>, moment: u64) -> Summary
     let mut kept = 0;
     for at in 0..runs.len() {
         let run = runs[at];
-        if counts(run.debt, moment) {
-            summary = summary.with(run);
-            kept = put(runs, kept, run);
+        if !counts(run.debt, moment) {
+            continue;
         }
+        summary = summary.with(run);
+        kept = put(runs, kept, run);
     }
     runs.truncate(kept);
     summary

@@ -6,9 +6,9 @@ use Rattle.sip_states.specs.inner.Ways.{GivesAfter}
 use Rattle.sip_states.proofs.Following.{Follows}
 use Rattle.sip_states.proofs.Stepping.{covers_stand}
 use Rattle.sip_states.proofs.Taking.{many_wide, took_kept}
-use Rattle.sip_states.proofs.state_set.StateSet.take.Given.{Over}
-use Rattle.sip_states.proofs.state_set.StateSet.take.Goals as goal
-use Rattle.sip_states.proofs.state_set.StateSet.take.Goals.{After-len}
+use Rattle.sip_states.proofs.state_set.StateSet.take_each.Given.{Over}
+use Rattle.sip_states.proofs.state_set.StateSet.take_each.Goals as goal
+use Rattle.sip_states.proofs.state_set.StateSet.take_each.Goals.{After-len}
 
 pub find_given-requires-clause-known : goal.find_given-requires-clause-known
 find_given-requires-clause-known g c = rw c.as_slice.ensures.value (rw (← c.self.view_is) at c.requires.known)

@@ -9,6 +9,7 @@ mod OrderLaws
 mod RunLaws
 pub mod OutboxLemmas
 pub mod RunsLemmas
+pub mod RebuiltLemmas
 pub mod FingerprintLemmas
 pub mod SummaryLemmas
 pub mod RisesLemmas

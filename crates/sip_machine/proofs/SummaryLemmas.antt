@@ -78,7 +78,7 @@ all-before s t debts le all = All-weaker (λ d. IsTrue (counts_at t d)) (λ d. I
 counts-must : (t : ℕ) (d : Debt) → d.must ≡ true → IsTrue (counts_at t d)
 counts-must t d must = grind (arith, nat_tests)
 
-counts-may : (t : ℕ) (d : Debt) → t ≤ d.deadline → IsTrue (counts_at t d)
+pub counts-may : (t : ℕ) (d : Debt) → t ≤ d.deadline → IsTrue (counts_at t d)
 counts-may t d le = grind (arith, nat_tests)
 
 pub fresh-must : (debts : List Debt) (n t : ℕ) (d : Debt) → d.must ≡ true → All (λ d. IsTrue (counts_at t d)) debts →

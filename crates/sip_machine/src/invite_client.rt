@@ -239,27 +239,21 @@ impl Phases for InviteClient {
         }))
     }
 
-    fn pays(
+    fn paid(
         &self,
         alloc: Global,
         book: &Book,
         phase: &InviteClientPhase,
         event: &Event,
-        owes: &mut Owes<InviteClientPhase>,
-    ) -> Result<bool, AllocError> {
+        owes: &Owes<InviteClientPhase>,
+    ) -> Result<Option<usize>, AllocError> {
         let Kind::Request(Method::Ack) = event.kind() else {
-            return Ok(false);
+            return Ok(None);
         };
         let InviteClientPhase::Completed { request, .. } = *phase else {
-            return Ok(false);
+            return Ok(None);
         };
-        match first_acked(alloc, book, request, owes.runs(), event)? {
-            Some(index) => {
-                owes.remove(index);
-                Ok(true)
-            }
-            None => Ok(false),
-        }
+        first_acked(alloc, book, request, owes.runs(), event)
     }
 
     fn stays(&self, _phase: &InviteClientPhase, _kind: Kind) -> bool {

@@ -107,15 +107,15 @@ impl Phases for InviteClient3261 {
         self.corrected.sends(alloc, book, phase, event)
     }
 
-    fn pays(
+    fn paid(
         &self,
         alloc: Global,
         book: &Book,
         phase: &InviteClientPhase,
         event: &Event,
-        owes: &mut Owes<InviteClientPhase>,
-    ) -> Result<bool, AllocError> {
-        self.corrected.pays(alloc, book, phase, event, owes)
+        owes: &Owes<InviteClientPhase>,
+    ) -> Result<Option<usize>, AllocError> {
+        self.corrected.paid(alloc, book, phase, event, owes)
     }
 
     fn stays(&self, phase: &InviteClientPhase, kind: Kind) -> bool {

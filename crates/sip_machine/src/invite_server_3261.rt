@@ -20,7 +20,7 @@ use crate::event::{Event, Kind, Method, is_success};
 use crate::invite_server::{InviteServer, InviteServerPhase};
 use crate::owes::Owes;
 use crate::owing::Owing;
-use crate::paying::pays_equal;
+use crate::paying::first_equal;
 use crate::phases::{Change, Phase, Phases, Turn};
 use crate::told::{Field, Told};
 use sip_times::Params;
@@ -150,21 +150,21 @@ impl Phases for InviteServer3261 {
         }
     }
 
-    fn pays(
+    fn paid(
         &self,
         _alloc: Global,
         book: &Book,
         _phase: &InviteServer3261Phase,
         event: &Event,
-        owes: &mut Owes<InviteServer3261Phase>,
-    ) -> Result<bool, AllocError> {
+        owes: &Owes<InviteServer3261Phase>,
+    ) -> Result<Option<usize>, AllocError> {
         match event.kind() {
-            Kind::Request(_) => Ok(false),
+            Kind::Request(_) => Ok(None),
             Kind::Response(code) => {
                 if is_success(code) {
-                    return Ok(false);
+                    return Ok(None);
                 }
-                Ok(pays_equal(book, event, owes))
+                Ok(first_equal(book, event, owes))
             }
         }
     }

@@ -1,5 +1,5 @@
 //! What is known of debts without a look at each of them.
-ghost use Rattle.std.specs.Prelude.{◌≡◌, ◌+◌, ◌<◌, ◌++◌, ◌∷◌, [], List, IfSome, All, IsTrue, replicate};
+ghost use Rattle.std.specs.Prelude.{◌≡◌, ◌+◌, ◌<◌, ◌^◌, ◌++◌, ◌∷◌, [], List, All, IsTrue, replicate};
 ghost use Rattle.sip_machine.specs.declared.outbox.Debt.{Debt};
 ghost use Rattle.sip_machine.specs.Debts.{earliest};
 ghost use Rattle.sip_machine.specs.inner.Runs.{debts_of, run_deadlines, AreRuns};
@@ -42,33 +42,33 @@ impl Summary {
         }
     }
 
-    /// With equal debts behind the others, None where they are too many to count.
-    pub(crate) fn with(&self, run: Run) -> Option<Summary>
+    /// With equal debts behind the others.
+    pub(crate) fn with(&self, run: Run) -> Summary
         requires filled { 0 < run.count }
-        ensures count { IfSome result (λ more. more.count ≡ self.now.count + run.count) }
-        ensures debts { IfSome result (λ more. (debts : List Debt) → Summarizes debts self.now → Summarizes (debts ++ replicate run.count run.debt) more) }
+        requires fits { self.now.count + run.count < 2 ^ 64 }
+        ensures { (debts : List Debt) → Summarizes debts self.now → Summarizes (debts ++ replicate run.count run.debt) result }
     {
-        let count = self.count.checked_add(run.count)?;
+        let count = self.count + run.count;
         let prints = (run.count as u64).wrapping_mul(print_of(run.debt));
         let fingerprint = self.fingerprint.wrapping_add(prints);
         let deadline = run.debt.deadline;
         let latest = risen(self.latest, deadline);
         if run.debt.must {
-            return Some(Summary {
+            return Summary {
                 count,
                 due: Some(earlier(deadline, self.due)),
                 latest,
                 fingerprint,
                 ..*self
-            });
+            };
         }
-        Some(Summary {
+        Summary {
             count,
             fresh: self.fresh.min(deadline),
             latest,
             fingerprint,
             ..*self
-        })
+        }
     }
 
     /// Without a debt, where those that are left stand in these runs.

@@ -3,7 +3,8 @@
 ghost use Rattle.std.specs.Prelude.{◌↔◌, ◌<◌, ◌≤◌, IfOk, IsTrue, All};
 ghost use Rattle.sip_machine.specs.Texts.{Keeps, text_of};
 ghost use Rattle.sip_machine.specs.inner.Acks.{PaysDebt};
-ghost use Rattle.sip_machine.specs.inner.Runs.{debts_of, FindsFirst};
+ghost use Rattle.sip_machine.specs.inner.Runs.{debts_of};
+ghost use Rattle.sip_machine.specs.inner.Paying.{FindsFirst};
 ghost use Rattle.sip_machine.specs.inner.Tos.{IsToOf};
 
 use crate::book::Book;

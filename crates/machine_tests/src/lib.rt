@@ -18,4 +18,6 @@ mod plain_server;
 #[cfg(test)]
 mod rules_3261;
 #[cfg(test)]
+mod runs;
+#[cfg(test)]
 mod tests;

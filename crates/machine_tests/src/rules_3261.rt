@@ -1,20 +1,14 @@
 //! The INVITE machines of RFC 3261 without its correction, and restarts, with moments worked out by hand for T1 500, T2 4000, T4 5000 and 50 either way.
-ghost use Rattle.std.specs.Prelude.{All, IfOk};
-ghost use Rattle.sip_machine.specs.MachineEvent.{FitsBook};
-ghost use Rattle.sip_machine.specs.Rules.{Knows};
 
-use crate::messages::{Numbered, Start, book_of, event_of};
+use crate::messages::{Numbered, Start, book_of};
+use crate::runs::{Entry, run};
 use sip_machine::{
-    Action, Book, Event, InviteClient, InviteClient3261, InviteClientPhase, InviteServer,
-    InviteServer3261, InviteServer3261Phase, InviteServerPhase, Machine, Owing, Params, Phase, Run,
-    Waiting,
+    Action, InviteClient, InviteClient3261, InviteClientPhase, InviteServer, InviteServer3261,
+    InviteServer3261Phase, InviteServerPhase, Machine, Owing, Params, Phase, Run, Waiting,
 };
 use std::alloc::Global;
 use std::process::Abort;
 use std::test::Fail;
-
-/// An entry: its moment, what was done, and the number of its message.
-type Entry = (u64, Action, u32);
 
 const INVITE: u32 = 1;
 
@@ -51,42 +45,6 @@ fn states_after<M: Machine>(
 ) -> Result<Vec<M::State>, Fail> {
     let book = book_of(alloc, &MESSAGES, "INVITE", "UDP")?;
     run(alloc, machine, &book, entries)
-}
-
-fn run<M: Machine>(
-    alloc: Global,
-    machine: &M,
-    book: &Book,
-    entries: &[Entry],
-) -> Result<Vec<M::State>, Fail> {
-    let mut states = Vec::new(alloc);
-    states.push(machine.first())?;
-    for &(moment, action, number) in entries {
-        let event = event_of(alloc, book, moment, action, number)?;
-        states = step(alloc, machine, book, &states, &event)?;
-    }
-    Ok(states)
-}
-
-/// The states that the event gives.
-fn step<M: Machine>(
-    alloc: Global,
-    machine: &M,
-    book: &Book,
-    states: &[M::State],
-    event: &Event,
-) -> Result<Vec<M::State>, Fail>
-    requires fits { FitsBook book.now event.now }
-    requires known { All (Knows M.names book.now) states.now }
-    requires in_range { All M.in_range states.now }
-    ensures known { IfOk result (λ next. All (Knows M.names book.now) next.items) }
-    ensures in_range { IfOk result (λ next. All M.in_range next.items) }
-{
-    let mut next = Vec::new(alloc);
-    for state in states {
-        machine.successors(book, state, event, &mut next)?;
-    }
-    Ok(next)
 }
 
 /// A debt that is wanted: its message, its deadline, and whether it must be sent.

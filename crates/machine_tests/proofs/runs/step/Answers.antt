@@ -1,7 +1,7 @@
 use Rattle.std.proofs.Common.{sym, subst}
 use Rattle.std.proofs.lemmas.List.Elements.{All-append}
 use Rattle.sip_machine.specs.Rules.{Knows}
-use Rattle.machine_tests.proofs.rules_3261.step.Goals as goal
+use Rattle.machine_tests.proofs.runs.step.Goals as goal
 
 pub successors-requires-clause-known : goal.successors-requires-clause-known
 successors-requires-clause-known g c =

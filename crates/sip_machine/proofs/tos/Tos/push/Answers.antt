@@ -1,0 +1,1 @@
+use Rattle.sip_machine.proofs.tos.Tos.push.Goals as goal

@@ -1,0 +1,2 @@
+use Rattle.sip_machine.proofs.ToLemmas.{MayOwn-others, MayOwn-new}
+use Rattle.sip_machine.proofs.tos.note.Goals as goal

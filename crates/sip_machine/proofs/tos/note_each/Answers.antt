@@ -1,0 +1,1 @@
+use Rattle.sip_machine.proofs.tos.note_each.Goals as goal

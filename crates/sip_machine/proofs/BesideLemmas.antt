@@ -5,6 +5,7 @@ use Rattle.std.specs.List.Sorted.{IsNonDecreasingBy, IsPartitionPoint}
 use Rattle.std.proofs.Common.{inl, inr, refl, sym, ◌∙◌, ap, ap₂, subst, arith, cond, get_or}
 use Rattle.std.proofs.lemmas.Bool.{cases_lt}
 use Rattle.std.proofs.lemmas.Bool.Decides.{eqb_tells, nat_tests}
+use Rattle.std.proofs.lemmas.List.{get_or-map, length-map}
 use Rattle.std.proofs.lemmas.List.Elements.{All-head, All-tail, Contains-append_left, Contains-append_right}
 use Rattle.std.proofs.lemmas.List.Sums.{sum_by-cons, get_or-le-sum_by}
 use Rattle.sip_machine.specs.inner.Tos.{count_between}
@@ -20,6 +21,17 @@ rises_weakly f xs up = λ i j d le low. elim (cases_lt i j) [
       let same : i ≡ j = omega (arith, le, from) in
       subst (λ k. f (get_or xs i d) ≤ f (get_or xs k d)) same (omega arith)
 ]
+
+-- what rises behind a map rises before it
+pub AllPairs-of_map : {X Y : Type 0} (f : X → Y) (g : Y → ℕ) (xs : List X) → AllPairs (λ a b. g a < g b) (map f xs) → AllPairs (λ a b. g (f a) < g (f b)) xs
+AllPairs-of_map f g xs up = λ i j d lt low.
+    let high : j < length (map f xs) = rw length-map low in
+    let less : g (get_or (map f xs) i (f d)) < g (get_or (map f xs) j (f d)) = up i j (f d) lt high in
+    rw (get_or-map f xs i d (f d) (omega (arith, lt, low)), get_or-map f xs j d (f d) low) at less
+
+pub map-map : {X Y : Type 0} (f : X → Y) (g : Y → ℕ) (xs : List X) → map g (map f xs) ≡ map (λ x. g (f x)) xs
+map-map f g [] = refl
+map-map f g (x ∷ xs) = ap (λ ns. g (f x) ∷ ns) (map-map f g xs)
 
 -- how many pass among one more
 count-cons : {X : Type 0} (p : X → Bool) (x : X) (xs : List X) → count_by p (x ∷ xs) ≡ cond (p x) 1 0 + count_by p xs

@@ -29,6 +29,9 @@ position-none p xs d all =
 pub pays-other : (message t : ℕ) (debt : Debt) → debt.message ≢ message → is_payable message t debt ≡ false
 pays-other message t debt other = grind (arith, nat_tests)
 
+pub pays-before : (message t : ℕ) (debt : Debt) → nat_lt debt.message message ≡ true → is_payable message t debt ≡ false
+pays-before message t debt before = grind (arith, nat_tests)
+
 -- nor one behind a later message, where numbers climb
 pub pays-later : (message t : ℕ) (runs : List Run) (i : ℕ) (d : Run) → IsNonDecreasingBy (λ run. run.debt.message) runs → message < (get_or runs i d).debt.message →
     (k : ℕ) → i ≤ k → k < length runs → is_payable message t (get_or runs k d).debt ≡ false

@@ -21,7 +21,7 @@ use Rattle.sip_machine.specs.declared.tos.Owner.TheVariants.{Only, Several}
 use Rattle.sip_machine.specs.declared.tos.Holder.{Holder}
 use Rattle.sip_machine.specs.declared.tos.Holder.TheVariants.{One, Nobody, Unknown}
 use Rattle.sip_machine.specs.inner.Order.{hash_of}
-use Rattle.sip_machine.specs.inner.Tos.{IsToOf, IsTo, AreTos, Owners, IsOwner, MayOwn, AreOwned, IsHolder, HoldsBetween, count_between}
+use Rattle.sip_machine.specs.inner.Tos.{IsToOf, IsTo, AreTos, Owners, IsOwner, MayOwn, owner_with, AreOwned, IsHolder, HoldsBetween, count_between}
 use Rattle.sip_machine.proofs.BesideLemmas.{among-all, count_between-is, many}
 use Rattle.sip_machine.proofs.TextLaws.{Keeps-grow, text_of-grow}
 use Rattle.sip_machine.proofs.RetainLemmas.{only-Keeps, text_of-only}
@@ -128,6 +128,13 @@ AllPairs-picked R (true ∷ bs) (x ∷ xs) up =
     AllPairs-cons R x (items_where_true bs xs) (All-picked (R x) bs xs first) rest
 AllPairs-picked R (false ∷ bs) (x ∷ xs) up = AllPairs-picked R bs xs (λ i j d lt low. up (suc i) (suc j) d (omega (arith, lt)) (omega (arith, low)))
 
+pub left_over : (bs : List Bool) (tos left : List To) (numbers : List ℕ) → left ≡ items_where_true bs tos → All (λ to. Contains numbers to.number) left →
+    All (λ to. Contains tos to × Contains numbers to.number) left
+left_over bs tos left numbers is among = λ k d low.
+    let (j, j_low, at) = (get_or_picked bs tos k d (rw is at low)).1 in
+    let same : get_or left k d ≡ get_or tos j d = ap (λ xs. get_or xs k d) is ∙ at in
+    (subst (Contains tos) (sym same) (Contains-get_or tos j d j_low), among k d low)
+
 pub AllPairs-take : {X : Type 0} (R : X → X → Type 0) (n : ℕ) (xs : List X) → AllPairs R xs → AllPairs R (take n xs)
 AllPairs-take R n xs up = λ i j d lt low. elim (cases_lt (length xs) n) [
   | inl over ↦ rw (take_all n xs (omega (arith, over))) (up i j d lt (rw (take_all n xs (omega (arith, over))) at low))
@@ -139,30 +146,42 @@ AllPairs-take R n xs up = λ i j d lt low. elim (cases_lt (length xs) n) [
 
 -- Whose they are.
 
-is_told : {X : Type 0} (o : Option X) (P : X → Type 0) → IsSomeAnd o P → is_some o ≡ true
-is_told None P h = absurd h
-is_told (Some x) P h = refl
+-- one may own what it owned with one more, and the one more does
+owner-stays : (owner : Option Owner) (n number : ℕ) → IsSomeAnd owner (IsOwner n) → IsOwner n (owner_with owner number)
+owner-stays None n number may = absurd may
+owner-stays (Some (Only m)) n number may =
+    elim (eqb_tells m number) [
+      | inl same ↦ subst (IsOwner n) (sym (ap (λ b. cond b (Only number) Several) same.0)) (may ∙ same.1)
+      | inr other ↦ subst (IsOwner n) (sym (ap (λ b. cond b (Only number) Several) other.0)) tt
+    ]
+owner-stays (Some Several) n number may = tt
+
+owner-more : (owner : Option Owner) (number : ℕ) → IsOwner number (owner_with owner number)
+owner-more None number = refl
+owner-more (Some (Only m)) number =
+    elim (eqb_tells m number) [
+      | inl same ↦ subst (IsOwner number) (sym (ap (λ b. cond b (Only number) Several) same.0)) refl
+      | inr other ↦ subst (IsOwner number) (sym (ap (λ b. cond b (Only number) Several) other.0)) tt
+    ]
+owner-more (Some Several) number = tt
 
 -- what is told when one more is
-pub MayOwn-others : (old new : Owners) (hash number : ℕ) (owner : Owner) → owner ≡ (if is_some (get nat_eq old hash) then Several else Only number) →
+pub MayOwn-others : (old new : Owners) (hash number : ℕ) (owner : Owner) → owner ≡ owner_with (get nat_eq old hash) number →
     ((q : ℕ) → get nat_eq new q ≡ cond (nat_eq hash q) (Some owner) (get nat_eq old q)) → (h n : ℕ) → MayOwn old h n → MayOwn new h n
 MayOwn-others old new hash number owner is updates h n may =
     elim (eqb_tells hash h) [
       | inl same ↦
           let now : get nat_eq new h ≡ Some owner = updates h ∙ ap (λ b. cond b (Some owner) (get nat_eq old h)) same.0 in
-          let there : is_some (get nat_eq old hash) ≡ true = is_told (get nat_eq old hash) (IsOwner n) (subst (λ k. IsSomeAnd (get nat_eq old k) (IsOwner n)) (sym same.1) may) in
-          let several : owner ≡ Several = is ∙ ap (λ b. cond b Several (Only number)) there in
-          subst (λ o. IsSomeAnd o (IsOwner n)) (sym (now ∙ ap Some several)) tt
+          let before : IsSomeAnd (get nat_eq old hash) (IsOwner n) = subst (λ k. IsSomeAnd (get nat_eq old k) (IsOwner n)) (sym same.1) may in
+          let stays : IsOwner n owner = subst (IsOwner n) (sym is) (owner-stays (get nat_eq old hash) n number before) in
+          subst (λ o. IsSomeAnd o (IsOwner n)) (sym now) stays
       | inr other ↦ subst (λ o. IsSomeAnd o (IsOwner n)) (sym (updates h ∙ ap (λ b. cond b (Some owner) (get nat_eq old h)) other.0)) may
     ]
 
-is_owner : (b : Bool) (number : ℕ) (owner : Owner) → owner ≡ (if b then Several else Only number) → IsOwner number owner
-is_owner true number owner is = subst (IsOwner number) (sym is) tt
-is_owner false number owner is = subst (IsOwner number) (sym is) refl
-
-pub MayOwn-new : (old new : Owners) (hash number : ℕ) (owner : Owner) → owner ≡ (if is_some (get nat_eq old hash) then Several else Only number) →
+pub MayOwn-new : (old new : Owners) (hash number : ℕ) (owner : Owner) → owner ≡ owner_with (get nat_eq old hash) number →
     get nat_eq new hash ≡ Some owner → MayOwn new hash number
-MayOwn-new old new hash number owner is now = subst (λ o. IsSomeAnd o (IsOwner number)) (sym now) (is_owner (is_some (get nat_eq old hash)) number owner is)
+MayOwn-new old new hash number owner is now =
+    subst (λ o. IsSomeAnd o (IsOwner number)) (sym now) (subst (IsOwner number) (sym is) (owner-more (get nat_eq old hash) number))
 
 -- whose a To is that is one of the list
 pub owned_by : (owners : Owners) (tos : List To) (text : List ℕ) (n : ℕ) → AreOwned owners tos → get nat_eq owners (hash_of text) ≡ Some (Only n) → All (λ to. to.text ≡ text → to.number ≡ n) tos
@@ -186,8 +205,8 @@ held_by_none tos text its n up only has other = λ k d low same.
 -- Which kept message has a To.
 
 pub AllPairs-map : {X : Type 0} (f : X → ℕ) (xs : List X) → AllPairs (λ a b. f a < f b) xs → AllPairs (λ a b. a < b) (map f xs)
-AllPairs-map {X} f [] up = λ i j d lt low. absurd (omega arith)
-AllPairs-map {X} f (x ∷ xs) up = λ i j d lt low.
+AllPairs-map f [] up = λ i j d lt low. absurd (omega arith)
+AllPairs-map f (x ∷ xs) up = λ i j d lt low.
     let high : j < length (x ∷ xs) = rw length-map at low in
     rw (get_or-map f (x ∷ xs) i x d (omega (arith, lt, high)), get_or-map f (x ∷ xs) j x d high) (up i j x lt high)
 

@@ -1,6 +1,6 @@
 //! What a machine owes, oldest cause first: a list of messages with their deadlines.
 ghost use Rattle.std.specs.Prelude.{◌≡◌, ◌≢◌, ◌↔◌, ◌++◌, ◌∷◌, [], ◌+◌, ◌<◌, ◌≤◌, ◌^◌, ℕ, List, IfOk, OnOk, OnErr, IsTrue, IfSome, All, length, position, remove, map, filter, take, drop, get_or, flat_map, replicate};
-ghost use Rattle.std.specs.List.{AllWithin, find};
+ghost use Rattle.std.specs.List.{find};
 ghost use Rattle.std.specs.List.Sorted.{IsNonDecreasingBy};
 ghost use Rattle.std.specs.Option.{option_map};
 ghost use Rattle.std.specs.Ordering.{as_partial_cmp};
@@ -456,42 +456,35 @@ fn first_of(runs: &[Run], count: usize, at: usize) -> usize
     first
 }
 
-/// The index of the first run of debts that a send of the message at the moment pays. Where numbers climb, only those of
-/// the message are looked at.
+/// The index of the first run of debts that a send of the message at the moment pays.
 fn first_payable(runs: &[Run], climbs: bool, message: u32, moment: u64) -> Option<usize>
     requires { IsTrue climbs → IsNonDecreasingBy (λ run. run.debt.message) runs.now }
     ensures value { result ≡ position (λ run. is_payable message moment run.debt) runs.now }
     ensures within { IfSome result (λ i. i < length runs.now) }
 {
-    for at in first_from(runs, climbs, message)..runs.len() {
+    if climbs {
+        return first_climbing(runs, message, moment);
+    }
+    runs.iter().position(|run| run.debt.message == message && moment <= run.debt.deadline)
+}
+
+/// The same where the numbers of messages climb, by a look at the runs of this message alone.
+fn first_climbing(runs: &[Run], message: u32, moment: u64) -> Option<usize>
+    requires { IsNonDecreasingBy (λ run. run.debt.message) runs.now }
+    ensures value { result ≡ position (λ run. is_payable message moment run.debt) runs.now }
+    ensures within { IfSome result (λ i. i < length runs.now) }
+{
+    let first = runs.partition_point(|run| run.debt.message < message);
+    for at in first..runs.len() {
         let debt = runs[at].debt;
-        if pays(debt, message, moment) {
-            return Some(at);
-        }
-        if climbs && message < debt.message {
+        if debt.message != message {
             return None;
+        }
+        if moment <= debt.deadline {
+            return Some(at);
         }
     }
     None
-}
-
-/// Whether a send of the message at the moment pays the debt.
-fn pays(debt: Debt, message: u32, moment: u64) -> bool
-    ensures { result ≡ is_payable message moment debt }
-{
-    debt.message == message && moment <= debt.deadline
-}
-
-/// An index before which no run is of this message.
-fn first_from(runs: &[Run], climbs: bool, message: u32) -> usize
-    requires { IsTrue climbs → IsNonDecreasingBy (λ run. run.debt.message) runs.now }
-    ensures within { result ≤ length runs.now }
-    ensures before { AllWithin (λ run. run.debt.message ≢ message) runs.now 0 result }
-{
-    if !climbs {
-        return 0;
-    }
-    runs.partition_point(|run| run.debt.message < message)
 }
 
 /// The deadline of the first debt that has to be paid.

@@ -37,7 +37,7 @@ impl Summary {
     /// Of no debts.
     pub(crate) fn empty() -> Summary
         ensures summary { Summarizes [] result }
-        ensures nothing { result ≡ nothing }
+        ensures told { result ≡ nothing }
     {
         Summary {
             count: 0,

@@ -1,9 +1,9 @@
 //! The Tos of messages for which an ACK may come, by the numbers of the messages and by themselves.
-ghost use Rattle.std.specs.Prelude.{◌≡◌, ◌<◌, ◌≤◌, ◌++◌, ◌∷◌, [], ℕ, IfSome, OnOk, OnErr, IsTrue, All, AllPairs, Contains, length, map, take, if◌then◌else◌};
+ghost use Rattle.std.specs.Prelude.{◌≡◌, ◌<◌, ◌≤◌, ◌++◌, ◌∷◌, [], ℕ, IfSome, OnOk, OnErr, IsTrue, All, AllPairs, Contains, length, map, take};
 ghost use Rattle.std.specs.List.{HoldsAt};
 ghost use Rattle.sip_machine.specs.declared.tos.To.{To};
 ghost use Rattle.sip_machine.specs.inner.Order.{hash_of};
-ghost use Rattle.sip_machine.specs.inner.Tos.{AreOwned, IsHolder, MayOwn, count_between};
+ghost use Rattle.sip_machine.specs.inner.Tos.{AreOwned, IsHolder, MayOwn, count_between, owner_with};
 
 use crate::hashed::Hashed;
 use std::alloc::{AllocError, Global};
@@ -96,10 +96,12 @@ impl Tos {
         Ok(())
     }
 
-    /// Keeps those of the messages with these numbers, which rise. It takes no memory.
+    /// Keeps those of the messages with these numbers, which rise. It takes no memory: where some went, there is room for
+    /// those that are left.
     pub(crate) fn retain(&mut self, numbers: &[u32])
         ensures { All (λ to. Contains self.old to × Contains numbers.now to.number) self.new }
     {
+        forget(&mut self.owners, &self.list, numbers);
         self.list.retain(|to| is_among(numbers, to.number));
         note_all(&mut self.owners, &mut self.list);
     }
@@ -168,28 +170,36 @@ fn note(owners: &mut HashMap<u64, Owner>, hash: u64, number: u32) -> Result<(), 
     ensures ok { OnOk result (MayOwn owners.new hash number) }
     ensures others { (h n : ℕ) → MayOwn owners.old h n → MayOwn owners.new h n }
 {
-    let owner = owner_with(owners.contains_key(&hash), number);
+    let owner = owner_with(owners.get(&hash).copied(), number);
     owners.insert(hash, owner)?;
     Ok(())
 }
 
-/// Whose the Tos of a hash are with that of this message, where there are others, or none.
-fn owner_with(others: bool, number: u32) -> Owner
-    ensures { result ≡ (if others then Owner.Several else Owner.Only number) }
+/// Whose the Tos of a hash are with that of this message.
+fn owner_with(owner: Option<Owner>, number: u32) -> Owner
+    ensures { result ≡ owner_with owner number }
 {
-    if others {
-        Owner::Several
-    } else {
-        Owner::Only(number)
+    match owner {
+        Some(Owner::Only(other)) if other != number => Owner::Several,
+        Some(Owner::Several) => Owner::Several,
+        _ => Owner::Only(number),
     }
 }
 
-/// Tells anew whose the Tos are. Those go for which there is no memory.
+/// Tells of a To of each message but those with these numbers no more whose it is.
+fn forget(owners: &mut HashMap<u64, Owner>, list: &[To], numbers: &[u32]) {
+    for to in list {
+        if !is_among(numbers, to.number) {
+            owners.remove(&to.text.hash());
+        }
+    }
+}
+
+/// Tells whose the Tos are. Those go for which there is no memory.
 fn note_all(owners: &mut HashMap<u64, Owner>, list: &mut Vec<To>)
     ensures kept { (n : ℕ) × (list.new.items ≡ take n list.old.items) }
     ensures owned { AreOwned owners.new list.new.items }
 {
-    owners.clear();
     let told = note_each(owners, list);
     list.truncate(told);
 }

@@ -1,4 +1,4 @@
-use Rattle.std.specs.Prelude.{◌≡◌, ◌≤◌, ◌+◌, ◌-◌, ◌^◌, ◌&&◌, ℕ, Bool, true, Option, Some, None, option_to_list, IsTrue, List, [], ◌∷◌, All, length, max, min, nat_le, if◌then◌else◌, ⊤}
+use Rattle.std.specs.Prelude.{◌≡◌, ◌≤◌, ◌-◌, ◌^◌, ◌&&◌, ℕ, Bool, true, Option, Some, None, option_to_list, IsTrue, List, [], ◌∷◌, All, length, max, min, nat_le, if◌then◌else◌, ⊤}
 use Rattle.sip_machine.specs.declared.outbox.Debt.{Debt}
 use Rattle.sip_machine.specs.declared.summary.Summary.{Summary}
 use Rattle.sip_machine.specs.Debts.{earliest}

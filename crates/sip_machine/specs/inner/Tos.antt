@@ -1,4 +1,4 @@
-use Rattle.std.specs.Prelude.{◌≡◌, ◌≢◌, ◌≤◌, ◌↔◌, ◌-◌, ℕ, List, All, Contains, IsSomeAnd, nat_eq, nat_le, nat_lt, ⊤}
+use Rattle.std.specs.Prelude.{◌≡◌, ◌≢◌, ◌≤◌, ◌↔◌, ◌-◌, ◌==◌, ℕ, Option, Some, None, List, All, Contains, IsSomeAnd, nat_eq, nat_le, nat_lt, if◌then◌else◌, ⊤}
 use Rattle.std.specs.List.{count_by}
 use Rattle.std.specs.HashMap.{get, HashMap}
 use Rattle.std.specs.declared.hash.FoldHasher.{FoldHasher}
@@ -47,6 +47,12 @@ IsOwner number Several = ⊤
 -- and a To of this hash, as far as the owners tell
 abbrev pub MayOwn : Owners → ℕ → ℕ → Type 0
 MayOwn owners hash number = IsSomeAnd (get nat_eq owners hash) (IsOwner number)
+
+-- whose the Tos of a hash are with that of one more message
+abbrev pub owner_with : Option Owner → ℕ → Owner
+owner_with None number = Only number
+owner_with (Some (Only n)) number = if n == number then Only number else Several
+owner_with (Some Several) number = Several
 
 -- each of the Tos is told
 abbrev pub AreOwned : Owners → List To → Type 0

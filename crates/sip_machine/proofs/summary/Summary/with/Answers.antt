@@ -13,7 +13,7 @@ returns-clause-summary c debts is =
     record {
       count = ap (λ m. m + n) is.count ∙ sym (count-more debts n d);
       due = due-more debts n d self.due c.due_with.result c.requires.filled is.due c.due_with.ensures;
-      fingerprint = ap₂ (λ a p. (a + (n * p) % 2 ^ 64) % 2 ^ 64) is.fingerprint c.print_of-prints.ensures ∙ fingerprint-more debts n d;
+      fingerprint = ap₂ (λ a p. (a + (n * p) % 2 ^ 64) % 2 ^ 64) is.fingerprint c.print_of.ensures ∙ fingerprint-more debts n d;
       fresh = fresh-more debts n self.fresh c.fresh_with.result d is.fresh c.fresh_with.ensures;
       latest = subst (λ latest. RisesTo latest (debts ++ replicate n d)) (sym c.risen.ensures) (RisesTo-more debts n d self.latest is.latest);
       numbers = rw (c.min.ensures, c.max.ensures) (numbers-more debts n self.lowest self.highest d is.numbers);

@@ -29,8 +29,19 @@ position-none p xs d all =
 pub pays-other : (message t : ℕ) (debt : Debt) → debt.message ≢ message → is_payable message t debt ≡ false
 pays-other message t debt other = grind (arith, nat_tests)
 
-pub pays-before : (message t : ℕ) (debt : Debt) → nat_lt debt.message message ≡ true → is_payable message t debt ≡ false
-pays-before message t debt before = grind (arith, nat_tests)
+-- nor one whose deadline has passed, and it pays one of its own whose deadline has not
+pub pays-late : (message t : ℕ) (debt : Debt) → debt.deadline < t → is_payable message t debt ≡ false
+pays-late message t debt late = grind (arith, nat_tests)
+
+pub pays-now : (message t : ℕ) (debt : Debt) → debt.message ≡ message → t ≤ debt.deadline → is_payable message t debt ≡ true
+pays-now message t debt same now = grind (arith, nat_tests)
+
+-- what a test says
+pub lower : (n m : ℕ) → nat_lt n m ≡ true → n < m
+lower n m is = grind (arith, nat_tests)
+
+pub not_lower : (n m : ℕ) → nat_lt n m ≡ false → m ≤ n
+not_lower n m is = grind (arith, nat_tests)
 
 -- nor one behind a later message, where numbers climb
 pub pays-later : (message t : ℕ) (runs : List Run) (i : ℕ) (d : Run) → IsNonDecreasingBy (λ run. run.debt.message) runs → message < (get_or runs i d).debt.message →

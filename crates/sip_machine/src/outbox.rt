@@ -1,6 +1,6 @@
 //! What a machine owes, oldest cause first: a list of messages with their deadlines.
 ghost use Rattle.std.specs.Prelude.{◌≡◌, ◌≢◌, ◌↔◌, ◌++◌, ◌∷◌, [], ◌+◌, ◌<◌, ◌≤◌, ◌^◌, ℕ, List, IfOk, OnOk, OnErr, IsTrue, IfSome, All, length, position, remove, map, filter, take, drop, get_or, flat_map, replicate};
-ghost use Rattle.std.specs.List.{find};
+ghost use Rattle.std.specs.List.{AllWithin, find};
 ghost use Rattle.std.specs.List.Sorted.{IsNonDecreasingBy};
 ghost use Rattle.std.specs.Option.{option_map};
 ghost use Rattle.std.specs.Ordering.{as_partial_cmp};
@@ -474,8 +474,7 @@ fn first_climbing(runs: &[Run], message: u32, moment: u64) -> Option<usize>
     ensures value { result ≡ position (λ run. is_payable message moment run.debt) runs.now }
     ensures within { IfSome result (λ i. i < length runs.now) }
 {
-    let first = runs.partition_point(|run| run.debt.message < message);
-    for at in first..runs.len() {
+    for at in first_from(runs, message)..runs.len() {
         let debt = runs[at].debt;
         if debt.message != message {
             return None;
@@ -485,6 +484,16 @@ fn first_climbing(runs: &[Run], message: u32, moment: u64) -> Option<usize>
         }
     }
     None
+}
+
+/// The index of the first run of no lower message.
+fn first_from(runs: &[Run], message: u32) -> usize
+    requires { IsNonDecreasingBy (λ run. run.debt.message) runs.now }
+    ensures within { result ≤ length runs.now }
+    ensures before { AllWithin (λ run. run.debt.message < message) runs.now 0 result }
+    ensures behind { AllWithin (λ run. message ≤ run.debt.message) runs.now result (length runs.now) }
+{
+    runs.partition_point(|run| run.debt.message < message)
 }
 
 /// The deadline of the first debt that has to be paid.

@@ -1,6 +1,6 @@
 -- What stands beside kept messages stays what it is, and tells which of them has a To.
 use Prim.Native.Nat.{suc}
-use Rattle.std.specs.Prelude.{◌≡◌, ◌≢◌, ◌<◌, ◌≤◌, ◌↔◌, ◌-◌, ℕ, Bool, true, false, IsTrue, IsSomeAnd, Option, Some, None, is_some, bytes_eq, List, [], ◌∷◌, ◌++◌, All, AllPairs, Contains, if◌then◌else◌, length, map, take, nat_eq}
+use Rattle.std.specs.Prelude.{◌≡◌, ◌≢◌, ◌<◌, ◌≤◌, ◌↔◌, ◌-◌, ℕ, Bool, true, false, IsTrue, IsSomeAnd, Option, Some, None, is_some, bytes_eq, List, [], ◌∷◌, ◌++◌, All, AllPairs, Contains, if◌then◌else◌, length, map, slice_get, take, nat_eq}
 use Rattle.std.specs.List.{items_where_true}
 use Rattle.std.specs.HashMap.{get}
 use Rattle.std.specs.Cmp.Lexicographic.{bytes_decides}
@@ -8,6 +8,7 @@ use Rattle.std.proofs.Common.{inl, inr, refl, sym, ◌∙◌, ap, subst, arith, 
 use Rattle.std.proofs.lemmas.Bool.{cases_lt}
 use Rattle.std.proofs.lemmas.Bool.Decides.{eqb_tells}
 use Rattle.std.proofs.lemmas.Grind.{get_or_picked}
+use Rattle.std.proofs.lemmas.Option.{slice_get-get_or, get_or_from_slice_get}
 use Rattle.std.proofs.lemmas.List.{get_or-map, get_or-take, get_or_default, length-map, length-take-le, take_all}
 use Rattle.std.proofs.lemmas.List.Elements.{All-contains, All-get_or, All-head, All-tail, All-push, All-weaker, Contains-get_or}
 use Rattle.std.proofs.lemmas.List.Kept.{AllPairs-cons}
@@ -112,6 +113,13 @@ all_below tos number last up some at low = λ k d within.
           let here : (get_or tos k d).number ≡ last.number = ap (λ i. (get_or tos i d).number) same ∙ number_is in
           omega (arith, here, low)
     ]
+
+pub below_last : (tos : List To) (number : ℕ) (last : Option To) → AllPairs (λ a b. a.number < b.number) tos → last ≡ slice_get tos (length tos - 1) →
+    ((to : To) → last ≡ Some to → to.number < number) → All (λ to. to.number < number) tos
+below_last [] number last up is low = λ k d within. absurd (omega arith)
+below_last (t ∷ ts) number None up is low = absurd (let e = is ∙ slice_get-get_or (t ∷ ts) (length (t ∷ ts) - 1) t (omega arith) in cc)
+below_last (t ∷ ts) number (Some last) up is low =
+    all_below (t ∷ ts) number last up (omega arith) (sym (get_or_from_slice_get (t ∷ ts) (length (t ∷ ts) - 1) last last (sym is))) (low last refl)
 
 -- some of them in their order
 pub All-picked : {X : Type 0} (P : X → Type 0) (bs : List Bool) (xs : List X) → All P xs → All P (items_where_true bs xs)

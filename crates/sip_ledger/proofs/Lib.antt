@@ -1,0 +1,4 @@
+pub mod BitsLemmas
+pub mod ListedLemmas
+pub mod RowLemmas
+pub mod TableLemmas

@@ -1,0 +1,15 @@
+use Rattle.std.proofs.Common.{◌≡◌, ◌+◌, ◌≤◌, ◌<◌, length, sym, ap, subst, ◌∙◌, inl, inr, arith}
+use Rattle.std.proofs.lemmas.Bool.{cases_lt, and_parts}
+use Rattle.sip_ledger.specs.Bits.{has}
+use Rattle.sip_ledger.proofs.ListedLemmas.{no_entry, listed-counting}
+use Rattle.sip_ledger.proofs.RowLemmas.{expired-open, expired-debts}
+use Rattle.sip_ledger.proofs.row.expire.Goals as goal
+
+pub settle-requires-clause-given : goal.settle-requires-clause-given
+settle-requires-clause-given c =
+    expired-open c.args.entries.now (has c.args.owed.now) (has c.args.must.now) (has c.drop_past.new.owed) c.args.moment c.requires.row c.drop_past.ensures
+
+pub returns-clause-debts : goal.returns-clause-debts
+returns-clause-debts c =
+    c.settle.ensures.debts
+    ∙ expired-debts c.args.entries.now (has c.args.owed.now) (has c.args.must.now) (has c.drop_past.new.owed) c.args.moment c.drop_past.ensures

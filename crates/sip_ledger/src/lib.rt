@@ -1,0 +1,9 @@
+//! What the states of one set owe: one list of debts for all, and for each state a row of bits over it.
+#![tactic(auto)]
+
+mod bits;
+mod debt;
+mod row;
+mod table;
+
+pub use crate::debt::{Debt, Entry};

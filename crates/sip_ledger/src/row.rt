@@ -1,0 +1,217 @@
+//! A row of bits over a list of entries: what one state owes, and what of it must be sent.
+ghost use Rattle.std.specs.Prelude.{◌≡◌, ◌≢◌, ◌↔◌, ℕ, ◌+◌, ◌-◌, ◌*◌, ◌/◌, ◌^◌, ◌<◌, ◌≤◌, ◌++◌, ◌∷◌, [], ◌&&◌, ◌||◌, true, false, List, Some, option_to_list, length, get_or, filter, map, All, IsTrue, IfSome, IfNone};
+ghost use Rattle.std.specs.Bool.{OnTrue, OnFalse};
+ghost use Rattle.sip_ledger.specs.Bits.{has};
+ghost use Rattle.sip_ledger.specs.Debts.{IsWithoutFirst, counts_at, softened_debt, is_payable, debt_deadlines, earliest};
+ghost use Rattle.sip_ledger.specs.Rows.{debt_of, row_debts, IsRow, IsGap};
+ghost use Rattle.sip_ledger.specs.inner.Places.{IsFirstPayable, NonePayable, IsOpenRow, IsMoved, IsGainedAt, IsExpired};
+
+ghost use Rattle.sip_ledger.specs.declared.debt.Entry.{Entry};
+
+use crate::bits::{clear, end, has, next, set};
+use crate::debt::Entry;
+
+/// A bit, and where the gap before it begins.
+#[derive(Clone, Copy, Debug)]
+pub(crate) struct Place {
+    /// One past the bit before it.
+    low: usize,
+    /// The bit.
+    at: usize,
+}
+
+/// Takes out the first debt that a send of the message at the moment pays, and tells whether there was one.
+pub(crate) fn pay(entries: &[Entry], owed: &mut [u64], must: &mut [u64], message: u32, moment: u64) -> bool
+    requires row { IsRow entries.now (has owed.old) (has must.old) }
+    requires owed { length entries.now ≤ 64 * length owed.old }
+    requires must { length entries.now ≤ 64 * length must.old }
+    requires fits { 64 * length owed.old < 2 ^ 64 }
+    ensures row { IsRow entries.now (has owed.new) (has must.new) }
+    ensures paid { OnTrue result (IsWithoutFirst (λ debt. IsTrue (is_payable message moment debt))
+        (row_debts entries.now owed.old must.old) (row_debts entries.now owed.new must.new)) }
+    ensures unpaid { OnFalse result ((row_debts entries.now owed.new must.new ≡ row_debts entries.now owed.old must.old)
+        × All (λ debt. ¬ (IsTrue (is_payable message moment debt))) (row_debts entries.now owed.old must.old)) }
+{
+    match first_payable(entries, owed, message, moment) {
+        Some(place) => {
+            clear(owed, place.at);
+            clear(must, place.at);
+            settle(entries, owed, must, place);
+            true
+        }
+        None => false,
+    }
+}
+
+/// The first bit whose debt a send of the message at the moment pays.
+fn first_payable(entries: &[Entry], owed: &[u64], message: u32, moment: u64) -> Option<Place>
+    requires within { (k : ℕ) → has owed.now k ≡ true → k < length entries.now }
+    requires fits { 64 * length owed.now < 2 ^ 64 }
+    ensures found { IfSome result (IsFirstPayable message moment entries.now (has owed.now)) }
+    ensures none { IfNone result (NonePayable message moment entries.now (has owed.now)) }
+{
+    let mut low = 0;
+    while let Some(at) = next(owed, low) {
+        let entry = entries[at];
+        if entry.message == message && moment <= entry.deadline {
+            return Some(Place { low, at });
+        }
+        low = at + 1;
+    }
+    None
+}
+
+/// Moves bits that have room before them to where they can stand earliest, until one stands that has no hole before it.
+fn settle(entries: &[Entry], owed: &mut [u64], must: &mut [u64], place: Place)
+    requires given { IsOpenRow entries.now (has owed.old) (has must.old) place.low place.at }
+    requires owed { length entries.now ≤ 64 * length owed.old }
+    requires must { length entries.now ≤ 64 * length must.old }
+    requires fits { 64 * length owed.old < 2 ^ 64 }
+    ensures row { IsRow entries.now (has owed.new) (has must.new) }
+    ensures debts { row_debts entries.now owed.new must.new ≡ row_debts entries.now owed.old must.old }
+{
+    let mut low = place.low;
+    let mut hole = place.at;
+    while low <= hole {
+        match next(owed, low) {
+            Some(at) => {
+                let to = first_equal(entries, low, at);
+                if to < at {
+                    move_bit(owed, must, at, to);
+                    hole = hole.max(at);
+                }
+                low = to + 1;
+            }
+            None => return,
+        }
+    }
+}
+
+/// The first entry from here on that is equal to the one at the index.
+fn first_equal(entries: &[Entry], low: usize, at: usize) -> usize
+    requires order { low ≤ at }
+    requires within { at < length entries.now }
+    ensures order { (low ≤ result) × (result ≤ at) }
+    ensures equal { (e : Entry) → get_or entries.now result e ≡ get_or entries.now at e }
+    ensures first { (i : ℕ) (e : Entry) → low ≤ i → i < result → get_or entries.now i e ≢ get_or entries.now at e }
+{
+    let entry = entries[at];
+    let mut i = low;
+    while i < at && entries[i] != entry {
+        i += 1;
+    }
+    i
+}
+
+/// Moves a bit to a place that is free.
+fn move_bit(owed: &mut [u64], must: &mut [u64], from: usize, to: usize)
+    requires owed { (from / 64 < length owed.old) × (to / 64 < length owed.old) }
+    requires must { (from / 64 < length must.old) × (to / 64 < length must.old) }
+    requires apart { from ≢ to }
+    requires free { has must.old to ≡ false }
+    ensures { IsMoved from to (has owed.old) (has must.old) (has owed.new) (has must.new) }
+{
+    set(owed, to);
+    clear(owed, from);
+    if has(must, from) {
+        set(must, to);
+        clear(must, from);
+    }
+}
+
+/// Where a debt of this entry is gained: the index of an entry that is there, or the number of all.
+pub(crate) fn gained_at(entries: &[Entry], owed: &[u64], entry: Entry) -> usize
+    requires within { (k : ℕ) → has owed.now k ≡ true → k < length entries.now }
+    requires fits { 64 * length owed.now < 2 ^ 64 }
+    ensures { IsGainedAt entries.now (has owed.now) entry result }
+{
+    let mut at = end(owed);
+    while at < entries.len() && entries[at] != entry {
+        at += 1;
+    }
+    at
+}
+
+/// Sets a bit behind the others.
+pub(crate) fn owe(owed: &mut [u64], must: &mut [u64], at: usize, due: bool)
+    requires owed { at / 64 < length owed.old }
+    requires must { at / 64 < length must.old }
+    requires free { has must.old at ≡ false }
+    ensures owed { has owed.new at ≡ true }
+    ensures owed_others { (k : ℕ) → k ≢ at → has owed.new k ≡ has owed.old k }
+    ensures must { has must.new at ≡ due }
+    ensures must_others { (k : ℕ) → k ≢ at → has must.new k ≡ has must.old k }
+{
+    set(owed, at);
+    if due {
+        set(must, at);
+    }
+}
+
+/// Of what is owed, nothing has to be sent any more.
+pub(crate) fn soften(must: &mut [u64])
+    ensures { (k : ℕ) → has must.new k ≡ false }
+{
+    for word in must.iter_mut() {
+        *word = 0;
+    }
+}
+
+/// The least deadline of what must be sent.
+pub(crate) fn earliest_must(entries: &[Entry], must: &[u64]) -> Option<u64>
+    requires within { (k : ℕ) → has must.now k ≡ true → k < length entries.now }
+    requires fits { 64 * length must.now < 2 ^ 64 }
+    ensures { (owed : List ℕ) → IsRow entries.now (has owed) (has must.now) →
+        result ≡ earliest (debt_deadlines (row_debts entries.now owed must.now)) }
+{
+    let mut least = None;
+    let mut from = 0;
+    while let Some(at) = next(must, from) {
+        least = Some(earlier(entries[at].deadline, least));
+        from = at + 1;
+    }
+    least
+}
+
+/// The earlier of a moment and another one, if there is one.
+fn earlier(moment: u64, other: Option<u64>) -> u64
+    ensures { Some result ≡ earliest (moment ∷ option_to_list other) }
+{
+    match other {
+        Some(other) => moment.min(other),
+        None => moment,
+    }
+}
+
+/// Drops what may be sent and whose deadline is below the moment.
+pub(crate) fn expire(entries: &[Entry], owed: &mut [u64], must: &mut [u64], moment: u64)
+    requires row { IsRow entries.now (has owed.old) (has must.old) }
+    requires owed { length entries.now ≤ 64 * length owed.old }
+    requires must { length entries.now ≤ 64 * length must.old }
+    requires fits { 64 * length owed.old < 2 ^ 64 }
+    ensures row { IsRow entries.now (has owed.new) (has must.new) }
+    ensures debts { row_debts entries.now owed.new must.new ≡ filter (counts_at moment) (row_debts entries.now owed.old must.old) }
+{
+    drop_past(entries, owed, must, moment);
+    let all = Place {
+        low: 0,
+        at: entries.len(),
+    };
+    settle(entries, owed, must, all);
+}
+
+/// Clears the bits of what may be sent and whose deadline is below the moment.
+fn drop_past(entries: &[Entry], owed: &mut [u64], must: &[u64], moment: u64)
+    requires within { (k : ℕ) → has owed.old k ≡ true → k < length entries.now }
+    requires owed { length entries.now ≤ 64 * length owed.old }
+    requires fits { 64 * length owed.old < 2 ^ 64 }
+    ensures { IsExpired moment entries.now (has must.now) (has owed.old) (has owed.new) }
+{
+    let mut from = 0;
+    while let Some(at) = next(owed, from) {
+        if entries[at].deadline < moment && !has(must, at) {
+            clear(owed, at);
+        }
+        from = at + 1;
+    }
+}

@@ -2,3 +2,4 @@ pub mod BitsLemmas
 pub mod ListedLemmas
 pub mod RowLemmas
 pub mod TableLemmas
+pub mod LedgerLemmas

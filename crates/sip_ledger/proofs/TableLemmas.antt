@@ -1,18 +1,15 @@
 -- Rows of words, one behind another.
-use Rattle.std.proofs.Common.{◌≡◌, ◌≢◌, ℕ, ◌+◌, ◌-◌, ◌*◌, ◌^◌, ◌<◌, ◌≤◌, List, [], ◌∷◌, ◌++◌, length, take, drop, get_or, set, map, refl, sym, ap, ap₂, ◌∙◌, subst, inl, inr, arith}
-use Rattle.std.specs.List.{range_with_len}
+use Rattle.std.proofs.Common.{◌≡◌, ◌≢◌, ℕ, ◌+◌, ◌-◌, ◌*◌, ◌^◌, ◌<◌, ◌≤◌, List, [], ◌∷◌, ◌++◌, length, take, drop, refl, sym, ap, ◌∙◌, subst, inl, inr, arith}
 use Rattle.std.proofs.Math.Nat.{mul-le-mul_left}
 use Rattle.std.proofs.lemmas.Bool.{cases_lt, cases_eq}
-use Rattle.std.proofs.lemmas.List.{length-append, length-drop, length-take-le, take-append-drop, take-append-le, drop-append-le, take_at, drop_at, same_lists, length-set, length-map, get_or-set_same, get_or-set_other}
-use Rattle.std.proofs.lemmas.List.FromFn.{get_or-map-range_with_len, length-map-range_with_len}
+use Rattle.std.proofs.lemmas.List.{append_assoc, length-append, length-drop, length-take-le, take-append-drop, take-append-le, take-take, take_all, drop-append-le, drop-drop, drop-take, take_at, drop_at}
 use Rattle.std.proofs.lemmas.Slice.{drop-put_mid}
 use borrow.Rule.Slice.PartMut.{put_mid, post_of, same_len_mid}
-use Rattle.sip_ledger.specs.declared.debt.Debt.{Debt}
 use Rattle.sip_ledger.specs.declared.debt.Entry.{Entry}
 use Rattle.sip_ledger.specs.Bits.{has}
-use Rattle.sip_ledger.specs.Rows.{row_debts, IsRow}
-use Rattle.sip_ledger.specs.Ledgers.{part, row_at, rows_of, IsLedger}
-use Rattle.sip_ledger.specs.inner.Tables.{IsInside, IsTableRow, ChangesRow, ChangesTable}
+use Rattle.sip_ledger.specs.Rows.{IsRow}
+use Rattle.sip_ledger.specs.Ledgers.{Table, table_of, part, IsLedger}
+use Rattle.sip_ledger.specs.inner.Tables.{IsInside, IsTableRow, ChangesRow, ChangesTable, IsWidened}
 
 -- a row begins behind those before it
 pub row-before : (k row width : ℕ) → k < row → k * width + width ≤ row * width
@@ -99,63 +96,86 @@ pub same-row : (width row : ℕ) (words : List ℕ) → ChangesRow width row wor
 same-row width row words = record { long = refl; others = λ k other. refl; }
 
 -- a row of a ledger is one of its table
-pub table-row : (entries : List Entry) (width rows row : ℕ) (owed must : List ℕ) → length entries < 2 ^ 63 → IsLedger entries width rows owed must → row < rows →
-    IsTableRow entries width row owed must
-table-row entries width rows row owed must small ledger inside = record {
-  owed_inside = row-inside rows width row owed ledger.owed_long inside;
-  must_inside = row-inside rows width row must ledger.must_long inside;
+pub table-row : (t : Table) (row : ℕ) → length t.entries < 2 ^ 63 → IsLedger t → row < t.rows → IsTableRow t.entries t.width row t.owed t.must
+table-row t row small ledger inside = record {
+  owed_inside = row-inside t.rows t.width row t.owed ledger.owed_long inside;
+  must_inside = row-inside t.rows t.width row t.must ledger.must_long inside;
   wide = ledger.wide;
   fits = let narrow = ledger.narrow in omega (arith, narrow, small);
   is = ledger.each row inside;
 }
 
-pub table-ledger : (entries : List Entry) (width rows row : ℕ) (owed must owed' must' : List ℕ) → IsLedger entries width rows owed must →
-    ChangesTable entries width row owed must owed' must' → IsLedger entries width rows owed' must'
-table-ledger entries width rows row owed must owed' must' ledger changes = record {
+-- a table of other words
+abbrev pub with_words : Table → List ℕ → List ℕ → Table
+with_words t owed must = table_of t.entries t.width t.rows owed must
+
+pub table-ledger : (t : Table) (row : ℕ) (owed' must' : List ℕ) → IsLedger t → ChangesTable t.entries t.width row t.owed t.must owed' must' → IsLedger (with_words t owed' must')
+table-ledger t row owed' must' ledger changes = record {
   owed_long = changes.owed_changes.long ∙ ledger.owed_long;
   must_long = changes.must_changes.long ∙ ledger.must_long;
   wide = ledger.wide;
   narrow = ledger.narrow;
   each = λ k inside. elim (cases_eq k row) [
-    | inl here ↦ subst (λ n. IsRow entries (has (part width n owed')) (has (part width n must'))) (sym here) changes.is
+    | inl here ↦ subst (λ n. IsRow t.entries (has (part t.width n owed')) (has (part t.width n must'))) (sym here) changes.is
     | inr other ↦
-        subst (λ o. IsRow entries (has o) (has (part width k must'))) (sym (changes.owed_changes.others k other))
-        (subst (λ m. IsRow entries (has (part width k owed)) (has m)) (sym (changes.must_changes.others k other)) (ledger.each k inside))
+        subst (λ o. IsRow t.entries (has o) (has (part t.width k must'))) (sym (changes.owed_changes.others k other))
+        (subst (λ m. IsRow t.entries (has (part t.width k t.owed)) (has m)) (sym (changes.must_changes.others k other)) (ledger.each k inside))
   ];
 }
-
--- what the rows owe, by their places
-pub rows-length : (entries : List Entry) (width rows : ℕ) (owed must : List ℕ) → length (rows_of entries width rows owed must) ≡ rows
-rows-length entries width rows owed must = length-map-range_with_len (row_at entries width owed must) 0 rows
-
-pub rows-get : (entries : List Entry) (width rows : ℕ) (owed must : List ℕ) (row : ℕ) (d : List Debt) → row < rows →
-    get_or (rows_of entries width rows owed must) row d ≡ row_at entries width owed must row
-rows-get entries width rows owed must row d inside =
-    let here : 0 + row ≡ row = omega arith in
-    get_or-map-range_with_len (row_at entries width owed must) 0 rows row row d inside here
-
-pub rows-set : (entries : List Entry) (width rows row : ℕ) (owed must owed' must' : List ℕ) → row < rows → ChangesTable entries width row owed must owed' must' →
-    rows_of entries width rows owed' must' ≡ set (rows_of entries width rows owed must) row (row_at entries width owed' must' row)
-rows-set entries width rows row owed must owed' must' inside changes =
-    let old = rows_of entries width rows owed must in
-    let new = rows_of entries width rows owed' must' in
-    let debts = row_at entries width owed' must' row in
-    let old_long = rows-length entries width rows owed must in
-    let new_long = rows-length entries width rows owed' must' in
-    same_lists new (set old row debts) (new_long ∙ sym (length-set old row debts ∙ old_long)) (λ k d below.
-    let there : k < rows = omega (arith, below, new_long) in
-    rows-get entries width rows owed' must' k d there
-    ∙ elim (cases_eq k row) [
-      | inl here ↦
-          ap (row_at entries width owed' must') here
-          ∙ sym (get_or-set_same old row debts d (omega (arith, inside, old_long)))
-          ∙ ap (λ n. get_or (set old row debts) n d) (sym here)
-      | inr other ↦
-          ap₂ (row_debts entries) (changes.owed_changes.others k other) (changes.must_changes.others k other)
-          ∙ sym (rows-get entries width rows owed must k d there)
-          ∙ sym (get_or-set_other old row k debts d other)
-    ])
 
 -- the words of a vector behind a write of all of them
 pub whole-again : (len : ℕ) (new old : List ℕ) → length new ≡ length old → length old ≡ len → take len (new ++ drop (length new) old) ≡ new
 whole-again len new old same long = take_at new (drop (length new) old) len (same ∙ long)
+
+-- a row that is written over with another one
+pub pasted-changes : (width from to : ℕ) (words : List ℕ) → IsInside width from words → IsInside width to words →
+    ChangesRow width to words (written width to words (part width from words)) × (part width to (written width to words (part width from words)) ≡ part width from words)
+pasted-changes width from to words from_inside to_inside =
+    let long = length-part width from words from_inside in
+    (written-changes width to words (part width from words) to_inside long, written-part width to words (part width from words) to_inside long)
+
+-- rows behind others
+split-rows : (k r width n : ℕ) → k + r ≡ n → n * width ≡ k * width + r * width
+split-rows k r width n is = omega (arith, ap (λ x. x * width) is)
+
+pub part-of_more : (width rows k : ℕ) (xs ys : List ℕ) → length xs ≡ rows * width → k < rows → part width k (xs ++ ys) ≡ part width k xs
+part-of_more width rows k xs ys long inside = part-front width k xs ys (row-inside rows width k xs long inside)
+
+pub part-of_last : (width rows : ℕ) (xs ys : List ℕ) → length xs ≡ rows * width → length ys ≡ width → part width rows (xs ++ ys) ≡ ys
+part-of_last width rows xs ys long row_long = ap (take width) (drop_at xs ys (rows * width) long) ∙ take_all width ys (omega (arith, row_long))
+
+-- rows of the first words, and of those behind them
+pub part-take : (width n k : ℕ) (xs : List ℕ) → k < n → part width k (take (n * width) xs) ≡ part width k xs
+part-take width n k xs inside =
+    let r = n - k in
+    let whole : k + r ≡ n = omega (arith, inside) in
+    let split = split-rows k r width n whole in
+    let fits : width ≤ r * width = omega (arith, row-before k n width inside, split) in
+    ap (λ x. take width (drop (k * width) (take x xs))) split ∙ ap (take width) (drop-take (k * width) (r * width) xs) ∙ take-take width (r * width) (drop (k * width) xs) fits
+
+pub part-drop : (width n k : ℕ) (xs : List ℕ) → part width k (drop (n * width) xs) ≡ part width (n + k) xs
+part-drop width n k xs = ap (take width) (drop-drop (k * width) (n * width) xs) ∙ ap (λ x. take width (drop x xs)) (sym (split-rows n k width (n + k) refl))
+
+-- how many words fewer rows have
+pub fewer-words : (width n rows : ℕ) → n ≤ rows → rows * width ≡ n * width + (rows - n) * width
+fewer-words width n rows fewer = let whole : n + (rows - n) ≡ rows = omega (arith, fewer) in split-rows n (rows - n) width rows whole
+
+-- a row more gets a word more
+pub widened-more : (width rows row : ℕ) (old new : List ℕ) → length old ≡ rows * width → row < rows → IsWidened width row old new →
+    IsWidened width (row + 1) old ((new ++ part width row old) ++ 0 ∷ [])
+widened-more width rows row old new long inside was =
+    let piece = part width row old ++ 0 ∷ [] in
+    let row_long = length-part width row old (row-inside rows width row old long inside) in
+    let piece_long : length piece ≡ width + 1 = omega (arith, length-append (part width row old) (0 ∷ []), row_long) in
+    subst (IsWidened width (row + 1) old) (sym (append_assoc new (part width row old) (0 ∷ [])))
+    (record {
+      long = let before = was.long in omega (arith, length-append new piece, piece_long, before);
+      each = λ k below. elim (cases_eq k row) [
+        | inl here ↦
+            ap (λ n. part (width + 1) n (new ++ piece)) here ∙ part-of_last (width + 1) row new piece was.long piece_long
+            ∙ ap (λ n. part width n old ++ 0 ∷ []) (sym here)
+        | inr other ↦
+            let early : k < row = omega (arith, below, other) in
+            part-of_more (width + 1) row k new piece was.long early ∙ was.each k early
+      ];
+    })

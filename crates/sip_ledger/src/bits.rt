@@ -28,6 +28,15 @@ pub(crate) fn clear(words: &mut [u64], bit: usize)
     words[bit / 64] &= !(1 << (bit % 64));
 }
 
+/// Clears every bit.
+pub(crate) fn clear_all(words: &mut [u64])
+    ensures { (k : ℕ) → has words.new k ≡ false }
+{
+    for word in words.iter_mut() {
+        *word = 0;
+    }
+}
+
 /// The first bit that is set, from here on.
 pub(crate) fn next(words: &[u64], from: usize) -> Option<usize>
     requires { 64 * length words.now < 2 ^ 64 }

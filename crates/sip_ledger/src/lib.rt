@@ -3,7 +3,10 @@
 
 mod bits;
 mod debt;
+mod ledger;
 mod row;
 mod table;
+mod words;
 
 pub use crate::debt::{Debt, Entry};
+pub use crate::ledger::Ledger;

@@ -1,6 +1,7 @@
 //! A row of bits over a list of entries: what one state owes, and what of it must be sent.
 ghost use Rattle.std.specs.Prelude.{◌≡◌, ◌≢◌, ◌↔◌, ℕ, ◌+◌, ◌-◌, ◌*◌, ◌/◌, ◌^◌, ◌<◌, ◌≤◌, ◌++◌, ◌∷◌, [], ◌&&◌, ◌||◌, true, false, List, Some, option_to_list, length, get_or, filter, map, All, IsTrue, IfSome, IfNone};
 ghost use Rattle.std.specs.Bool.{OnTrue, OnFalse};
+ghost use Rattle.std.specs.List.{list_any};
 ghost use Rattle.sip_ledger.specs.Bits.{has};
 ghost use Rattle.sip_ledger.specs.Debts.{IsWithoutFirst, counts_at, softened_debt, is_payable, debt_deadlines, earliest};
 ghost use Rattle.sip_ledger.specs.Rows.{debt_of, row_debts, IsRow, IsGap};
@@ -148,13 +149,22 @@ pub(crate) fn owe(owed: &mut [u64], must: &mut [u64], at: usize, due: bool)
     }
 }
 
-/// Of what is owed, nothing has to be sent any more.
-pub(crate) fn soften(must: &mut [u64])
-    ensures { (k : ℕ) → has must.new k ≡ false }
+/// Whether a send of the message at the moment pays a debt.
+pub(crate) fn can_pay(entries: &[Entry], owed: &[u64], message: u32, moment: u64) -> bool
+    requires within { (k : ℕ) → has owed.now k ≡ true → k < length entries.now }
+    requires fits { 64 * length owed.now < 2 ^ 64 }
+    ensures { (must : List ℕ) → result ≡ list_any (is_payable message moment) (row_debts entries.now owed.now must) }
 {
-    for word in must.iter_mut() {
-        *word = 0;
-    }
+    first_payable(entries, owed, message, moment).is_some()
+}
+
+/// Whether nothing is owed.
+pub(crate) fn owes_nothing(owed: &[u64]) -> bool
+    requires { 64 * length owed.now < 2 ^ 64 }
+    ensures { (entries : List Entry) (must : List ℕ) → IsRow entries (has owed.now) (has must) →
+        IsTrue result ↔ (row_debts entries owed.now must ≡ []) }
+{
+    end(owed) == 0
 }
 
 /// The least deadline of what must be sent.

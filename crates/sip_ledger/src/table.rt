@@ -1,14 +1,16 @@
 //! Rows of words, one behind another.
-ghost use Rattle.std.specs.Prelude.{◌≡◌, ◌≢◌, ◌<◌, ◌≤◌, ◌+◌, ◌*◌, ◌^◌, ◌++◌, ◌∷◌, [], ℕ, IfOk, List, IsTrue, All, true, false, length, map, filter};
+ghost use Rattle.std.specs.Prelude.{◌≡◌, ◌↔◌, ◌<◌, ◌≤◌, ◌+◌, ◌*◌, ◌^◌, ◌++◌, ◌∷◌, [], ℕ, List, IsTrue, All, true, false, length, filter};
 ghost use Rattle.std.specs.Bool.{OnTrue, OnFalse};
+ghost use Rattle.std.specs.List.{list_any};
 ghost use Rattle.sip_ledger.specs.Bits.{has};
-ghost use Rattle.sip_ledger.specs.Debts.{IsWithoutFirst, counts_at, softened_debt, is_payable, debt_deadlines, earliest};
+ghost use Rattle.sip_ledger.specs.Debts.{IsWithoutFirst, counts_at, is_payable, debt_deadlines, earliest};
 ghost use Rattle.sip_ledger.specs.declared.debt.Entry.{Entry};
 ghost use Rattle.sip_ledger.specs.Rows.{debt_of};
 ghost use Rattle.sip_ledger.specs.Ledgers.{part, row_at};
 ghost use Rattle.sip_ledger.specs.inner.Places.{IsGainedAt};
-ghost use Rattle.sip_ledger.specs.inner.Tables.{IsInside, IsTableRow, ChangesRow, ChangesTable, IsWidened};
+ghost use Rattle.sip_ledger.specs.inner.Tables.{IsInside, IsTableRow, ChangesRow, ChangesTable};
 
+use crate::bits;
 use crate::debt::Entry;
 use crate::row;
 
@@ -63,15 +65,57 @@ pub(crate) fn expire(
     );
 }
 
-/// Of what the row owes, nothing has to be sent any more.
-pub(crate) fn soften(must: &mut [u64], width: usize, row: usize)
-    requires { IsInside width row must.old }
-    ensures changes { ChangesRow width row must.old must.new }
-    ensures none { (k : ℕ) → has (part width row must.new) k ≡ false }
+/// Clears the bits of the row.
+pub(crate) fn clear(words: &mut [u64], width: usize, row: usize)
+    requires { IsInside width row words.old }
+    ensures changes { ChangesRow width row words.old words.new }
+    ensures none { (k : ℕ) → has (part width row words.new) k ≡ false }
 {
     let start = row * width;
     let end = start + width;
-    row::soften(&mut must[start..end]);
+    bits::clear_all(&mut words[start..end]);
+}
+
+/// Gives the row the bits of another one.
+pub(crate) fn copy(words: &mut [u64], width: usize, from: usize, to: usize)
+    requires from { IsInside width from words.old }
+    requires to { IsInside width to words.old }
+    ensures changes { ChangesRow width to words.old words.new }
+    ensures same { part width to words.new ≡ part width from words.old }
+{
+    let start = from * width;
+    words.copy_within(start..start + width, to * width);
+}
+
+/// Whether the row has a debt that a send of the message at the moment pays.
+pub(crate) fn can_pay(
+    entries: &[Entry],
+    owed: &[u64],
+    width: usize,
+    row: usize,
+    message: u32,
+    moment: u64,
+) -> bool
+    requires inside { IsInside width row owed.now }
+    requires within { (k : ℕ) → has (part width row owed.now) k ≡ true → k < length entries.now }
+    requires fits { 64 * width < 2 ^ 64 }
+    ensures { (must : List ℕ) → result ≡ list_any (is_payable message moment) (row_at entries.now width owed.now must row) }
+{
+    let start = row * width;
+    let end = start + width;
+    row::can_pay(entries, &owed[start..end], message, moment)
+}
+
+/// Whether the row owes nothing.
+pub(crate) fn owes_nothing(owed: &[u64], width: usize, row: usize) -> bool
+    requires inside { IsInside width row owed.now }
+    requires fits { 64 * width < 2 ^ 64 }
+    ensures { (entries : List Entry) (must : List ℕ) → IsTableRow entries width row owed.now must →
+        IsTrue result ↔ (row_at entries width owed.now must row ≡ []) }
+{
+    let start = row * width;
+    let end = start + width;
+    row::owes_nothing(&owed[start..end])
 }
 
 /// The least deadline of what the row must send.

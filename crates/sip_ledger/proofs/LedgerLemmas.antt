@@ -1,0 +1,285 @@
+-- What the rows of a ledger owe, as its words change.
+use Rattle.std.proofs.Common.{◌≡◌, ◌≢◌, ℕ, ◌+◌, ◌-◌, ◌*◌, ◌/◌, ◌%◌, ◌^◌, ◌<◌, ◌≤◌, Bool, true, false, List, [], ◌∷◌, ◌++◌, length, take, drop, get_or, set, map, replicate, refl, sym, ap, ap₂, ◌∙◌, subst, inl, inr, arith}
+use Rattle.std.proofs.lemmas.Bool.{cases_lt, cases_eq, true≢false}
+use Rattle.std.proofs.lemmas.List.{length-append, length-drop, length-take-le, length-set, length_push, length-replicate, get_or_append_left, get_or_push, get_or_past, get_or-take, get_or-drop, get_or-replicate, get_or-set_same, get_or-set_other, same_lists}
+use Rattle.std.proofs.lemmas.List.FromFn.{get_or-map-range_with_len, length-map-range_with_len}
+use Rattle.sip_masks.specs.Bits.{test}
+use Rattle.sip_ledger.specs.declared.debt.Debt.{Debt}
+use Rattle.sip_ledger.specs.declared.debt.Entry.{Entry}
+use Rattle.sip_ledger.specs.Bits.{has}
+use Rattle.sip_ledger.specs.Debts.{softened_debt}
+use Rattle.sip_ledger.specs.Rows.{debts_from, row_debts, IsRow, IsGap}
+use Rattle.sip_ledger.specs.Ledgers.{Table, table_of, part, row_at, rows_of, row_of, IsLedger}
+use Rattle.sip_ledger.specs.inner.Places.{IsGainedAt}
+use Rattle.sip_ledger.specs.inner.Tables.{ChangesTable, IsWidened, IsGrown}
+use Rattle.sip_ledger.proofs.BitsLemmas.{has-is, has-past, has-zero_word}
+use Rattle.sip_ledger.proofs.ListedLemmas.{listed-same, listed-none, listed-softened}
+use Rattle.sip_ledger.proofs.RowLemmas.{grown-row, grown-debts}
+use Rattle.sip_ledger.proofs.TableLemmas.{part-of_more, part-of_last, part-take, part-drop, fewer-words, with_words, table-ledger, same-row}
+
+-- what a row of a table owes, by its words
+abbrev pub row_in : Table → ℕ → List Debt
+row_in t k = row_at t.entries t.width t.owed t.must k
+
+pub rows-length : (t : Table) → length (rows_of t) ≡ t.rows
+unfolding rows_of
+rows-length t = length-map-range_with_len (row_at t.entries t.width t.owed t.must) 0 t.rows
+
+pub rows-get : (t : Table) (row : ℕ) (d : List Debt) → row < t.rows → get_or (rows_of t) row d ≡ row_in t row
+unfolding rows_of
+rows-get t row d inside =
+    let here : 0 + row ≡ row = omega arith in
+    get_or-map-range_with_len (row_at t.entries t.width t.owed t.must) 0 t.rows row row d inside here
+
+pub row-is : (t : Table) (row : ℕ) → row < t.rows → row_of t row ≡ row_in t row
+row-is t row inside = rows-get t row [] inside
+
+-- a list that has what each row owes is what the rows owe
+pub rows-are : (t : Table) (xs : List (List Debt)) → length xs ≡ t.rows → ((k : ℕ) (d : List Debt) → k < t.rows → row_in t k ≡ get_or xs k d) → rows_of t ≡ xs
+rows-are t xs long each = same_lists (rows_of t) xs (rows-length t ∙ sym long) (λ k d below.
+    let there : k < t.rows = omega (arith, below, rows-length t) in
+    rows-get t k d there ∙ each k d there)
+
+pub rows-none : (t : Table) → t.rows ≡ 0 → rows_of t ≡ []
+rows-none t none = rows-are t [] (sym none) (λ k d below. absurd (omega (arith, below, none)))
+
+pub rows-inside : (t : Table) (row : ℕ) → row < length (rows_of t) → row < t.rows
+rows-inside t row inside = omega (arith, inside, rows-length t)
+
+-- one row changes
+pub record IsChanged (t : Table) (row : ℕ) (owed' must' : List ℕ) : Type 0 where
+  pub ledger : IsLedger (with_words t owed' must')
+  pub rows : rows_of (with_words t owed' must') ≡ set (rows_of t) row (row_in (with_words t owed' must') row)
+  pub before : row_of t row ≡ row_in t row
+  pub after : row_of (with_words t owed' must') row ≡ row_in (with_words t owed' must') row
+
+pub changed : (t : Table) (row : ℕ) (owed' must' : List ℕ) → IsLedger t → row < t.rows → ChangesTable t.entries t.width row t.owed t.must owed' must' → IsChanged t row owed' must'
+changed t row owed' must' ledger inside changes =
+    let t' = with_words t owed' must' in
+    let debts = row_in t' row in
+    record {
+      ledger = table-ledger t row owed' must' ledger changes;
+      rows = rows-are t' (set (rows_of t) row debts) (length-set (rows_of t) row debts ∙ rows-length t) (λ k d below.
+          elim (cases_eq k row) [
+            | inl here ↦
+                ap (row_in t') here
+                ∙ sym (get_or-set_same (rows_of t) row debts d (omega (arith, inside, rows-length t)))
+                ∙ ap (λ n. get_or (set (rows_of t) row debts) n d) (sym here)
+            | inr other ↦
+                ap₂ (row_debts t.entries) (changes.owed_changes.others k other) (changes.must_changes.others k other)
+                ∙ sym (rows-get t k d below)
+                ∙ sym (get_or-set_other (rows_of t) row k debts d other)
+          ]);
+      before = row-is t row inside;
+      after = row-is t' row inside;
+    }
+
+-- a row of no bits
+pub has-none : (width k : ℕ) → has (replicate width 0) k ≡ false
+has-none width k =
+    elim (cases_lt (k / 64) width) [
+      | inl inside ↦ has-zero_word (replicate width 0) (k / 64) k (get_or-replicate width (k / 64) 0 0 inside) (omega arith) (omega arith)
+      | inr past ↦ has-past (replicate width 0) k (omega (arith, past, length-replicate width 0))
+    ]
+
+pub unset-row : (entries : List Entry) (o m : ℕ → Bool) → ((k : ℕ) → o k ≡ false) → ((k : ℕ) → m k ≡ false) → IsRow entries o m
+unset-row entries o m unset must_unset = record {
+  within = λ k set. absurd (true≢false (sym set ∙ unset k));
+  among = λ k set. absurd (true≢false (sym set ∙ must_unset k));
+  leftmost = λ i k e before set gap same. absurd (true≢false (sym set ∙ unset k));
+}
+
+pub unset-debts : (entries : List Entry) (o m : ℕ → Bool) → ((k : ℕ) → o k ≡ false) → debts_from o m 0 entries ≡ []
+unset-debts entries o m unset = listed-none o m 0 entries (λ k _ _. unset k)
+
+-- a row that has to send nothing
+pub softened-row : (entries : List Entry) (o m m' : ℕ → Bool) → IsRow entries o m → ((k : ℕ) → m' k ≡ false) → IsRow entries o m'
+softened-row entries o m m' row unset = record {
+  within = row.within;
+  among = λ k set. absurd (true≢false (sym set ∙ unset k));
+  leftmost = row.leftmost;
+}
+
+-- a row whose bits are those of another one
+pub row-along : (entries : List Entry) (o m o' m' : ℕ → Bool) → ((k : ℕ) → o' k ≡ o k) → ((k : ℕ) → m' k ≡ m k) → IsRow entries o m → IsRow entries o' m'
+row-along entries o m o' m' owed must row = record {
+  within = λ k set. row.within k (sym (owed k) ∙ set);
+  among = λ k set. owed k ∙ row.among k (sym (must k) ∙ set);
+  leftmost = λ i k e before set gap. row.leftmost i k e before (sym (owed k) ∙ set) (λ j above below. sym (owed j) ∙ gap j above below);
+}
+
+pub gained-along : (entries : List Entry) (entry : Entry) (o o' : ℕ → Bool) (at : ℕ) → ((k : ℕ) → o' k ≡ o k) → IsGainedAt entries o entry at → IsGainedAt entries o' entry at
+gained-along entries entry o o' at same gained = record {
+  within = gained.within;
+  is = gained.is;
+  last = λ k above. same k ∙ gained.last k above;
+  apart = λ i e before gap. gained.apart i e before (λ j above below. sym (same j) ∙ gap j above below);
+}
+
+-- a row more
+pub record IsPushed (t : Table) (owed' must' : List ℕ) : Type 0 where
+  pub ledger : IsLedger (table_of t.entries t.width (t.rows + 1) (t.owed ++ owed') (t.must ++ must'))
+  pub rows : rows_of (table_of t.entries t.width (t.rows + 1) (t.owed ++ owed') (t.must ++ must')) ≡ rows_of t ++ row_debts t.entries owed' must' ∷ []
+
+pub pushed-row : (t : Table) (owed' must' : List ℕ) → IsLedger t → length owed' ≡ t.width → length must' ≡ t.width → IsRow t.entries (has owed') (has must') → IsPushed t owed' must'
+pushed-row t owed' must' ledger owed_long must_long row =
+    let t' = table_of t.entries t.width (t.rows + 1) (t.owed ++ owed') (t.must ++ must') in
+    let debts = row_debts t.entries owed' must' in
+    let owed_before = ledger.owed_long in
+    let must_before = ledger.must_long in
+    let owed_last = part-of_last t.width t.rows t.owed owed' owed_before owed_long in
+    let must_last = part-of_last t.width t.rows t.must must' must_before must_long in
+    record {
+      ledger = record {
+        owed_long = omega (arith, length-append t.owed owed', owed_before, owed_long);
+        must_long = omega (arith, length-append t.must must', must_before, must_long);
+        wide = ledger.wide;
+        narrow = ledger.narrow;
+        each = λ k below. elim (cases_eq k t.rows) [
+          | inl here ↦
+              subst (λ n. IsRow t.entries (has (part t.width n (t.owed ++ owed'))) (has (part t.width n (t.must ++ must')))) (sym here)
+              (subst (λ o. IsRow t.entries (has o) (has (part t.width t.rows (t.must ++ must')))) (sym owed_last)
+              (subst (λ m. IsRow t.entries (has owed') (has m)) (sym must_last) row))
+          | inr other ↦
+              let early : k < t.rows = omega (arith, below, other) in
+              subst (λ o. IsRow t.entries (has o) (has (part t.width k (t.must ++ must')))) (sym (part-of_more t.width t.rows k t.owed owed' owed_before early))
+              (subst (λ m. IsRow t.entries (has (part t.width k t.owed)) (has m)) (sym (part-of_more t.width t.rows k t.must must' must_before early)) (ledger.each k early))
+        ];
+      };
+      rows = rows-are t' (rows_of t ++ debts ∷ []) (length_push (rows_of t) debts ∙ ap (λ n. n + 1) (rows-length t)) (λ k d below.
+          elim (cases_eq k t.rows) [
+            | inl here ↦
+                ap (row_in t') here ∙ ap₂ (row_debts t.entries) owed_last must_last
+                ∙ sym (get_or_push (rows_of t) debts d k (rows-length t ∙ sym here))
+            | inr other ↦
+                let early : k < t.rows = omega (arith, below, other) in
+                ap₂ (row_debts t.entries) (part-of_more t.width t.rows k t.owed owed' owed_before early) (part-of_more t.width t.rows k t.must must' must_before early)
+                ∙ sym (rows-get t k d early)
+                ∙ sym (get_or_append_left (rows_of t) (debts ∷ []) d k (omega (arith, early, rows-length t)))
+          ]);
+    }
+
+-- the first rows
+pub record IsCut (t : Table) (n : ℕ) : Type 0 where
+  pub ledger : IsLedger (table_of t.entries t.width n (take (n * t.width) t.owed) (take (n * t.width) t.must))
+  pub rows : rows_of (table_of t.entries t.width n (take (n * t.width) t.owed) (take (n * t.width) t.must)) ≡ take n (rows_of t)
+
+pub cut-rows : (t : Table) (n : ℕ) → IsLedger t → n ≤ t.rows → IsCut t n
+cut-rows t n ledger fewer =
+    let t' = table_of t.entries t.width n (take (n * t.width) t.owed) (take (n * t.width) t.must) in
+    let words = fewer-words t.width n t.rows fewer in
+    let owed_long = ledger.owed_long in
+    let must_long = ledger.must_long in
+    record {
+      ledger = record {
+        owed_long = length-take-le (n * t.width) t.owed (omega (arith, owed_long, words));
+        must_long = length-take-le (n * t.width) t.must (omega (arith, must_long, words));
+        wide = ledger.wide;
+        narrow = ledger.narrow;
+        each = λ k below.
+            subst (λ o. IsRow t.entries (has o) (has (part t.width k (take (n * t.width) t.must)))) (sym (part-take t.width n k t.owed below))
+            (subst (λ m. IsRow t.entries (has (part t.width k t.owed)) (has m)) (sym (part-take t.width n k t.must below)) (ledger.each k (omega (arith, below, fewer))));
+      };
+      rows = rows-are t' (take n (rows_of t)) (length-take-le n (rows_of t) (omega (arith, fewer, rows-length t))) (λ k d below.
+          let early : k < t.rows = omega (arith, below, fewer) in
+          ap₂ (row_debts t.entries) (part-take t.width n k t.owed below) (part-take t.width n k t.must below)
+          ∙ sym (rows-get t k d early)
+          ∙ sym (get_or-take n (rows_of t) k d below));
+    }
+
+-- the rows behind the first ones
+pub record IsShortened (t : Table) (n : ℕ) : Type 0 where
+  pub ledger : IsLedger (table_of t.entries t.width (t.rows - n) (drop (n * t.width) t.owed) (drop (n * t.width) t.must))
+  pub rows : rows_of (table_of t.entries t.width (t.rows - n) (drop (n * t.width) t.owed) (drop (n * t.width) t.must)) ≡ drop n (rows_of t)
+
+pub shortened-rows : (t : Table) (n : ℕ) → IsLedger t → n ≤ t.rows → IsShortened t n
+shortened-rows t n ledger fewer =
+    let t' = table_of t.entries t.width (t.rows - n) (drop (n * t.width) t.owed) (drop (n * t.width) t.must) in
+    let words = fewer-words t.width n t.rows fewer in
+    let owed_long = ledger.owed_long in
+    let must_long = ledger.must_long in
+    record {
+      ledger = record {
+        owed_long = omega (arith, length-drop (n * t.width) t.owed, owed_long, words);
+        must_long = omega (arith, length-drop (n * t.width) t.must, must_long, words);
+        wide = ledger.wide;
+        narrow = ledger.narrow;
+        each = λ k below.
+            subst (λ o. IsRow t.entries (has o) (has (part t.width k (drop (n * t.width) t.must)))) (sym (part-drop t.width n k t.owed))
+            (subst (λ m. IsRow t.entries (has (part t.width (n + k) t.owed)) (has m)) (sym (part-drop t.width n k t.must)) (ledger.each (n + k) (omega (arith, below, fewer))));
+      };
+      rows = rows-are t' (drop n (rows_of t)) (length-drop n (rows_of t) ∙ ap (λ l. l - n) (rows-length t)) (λ k d below.
+          let later : n + k < t.rows = omega (arith, below, fewer) in
+          ap₂ (row_debts t.entries) (part-drop t.width n k t.owed) (part-drop t.width n k t.must)
+          ∙ sym (rows-get t (n + k) d later)
+          ∙ sym (get_or-drop n (rows_of t) k d));
+    }
+
+-- an entry more
+pub grown-ledger : (entry : Entry) (t t' : Table) → IsLedger t → IsGrown entry t t' → rows_of t' ≡ rows_of t
+grown-ledger entry t t' ledger grown =
+    rows-are t' (rows_of t) (rows-length t ∙ sym grown.rows) (λ k d below.
+    let rows = grown.rows in
+    let inside : k < t.rows = omega (arith, below, rows) in
+    let o = has (part t.width k t.owed) in
+    let m = has (part t.width k t.must) in
+    let o' = has (part t'.width k t'.owed) in
+    let m' = has (part t'.width k t'.must) in
+    listed-same o' m' o m 0 t'.entries (λ j _ _. (grown.owed k inside j, grown.must k inside j))
+    ∙ ap (debts_from o m 0) grown.entries
+    ∙ grown-debts t.entries entry o m (ledger.each k inside).within
+    ∙ sym (rows-get t k d inside))
+
+-- a word of 0 behind others has no bit
+get_or-zero : (xs : List ℕ) (n : ℕ) → get_or (xs ++ 0 ∷ []) n 0 ≡ get_or xs n 0
+get_or-zero xs n =
+    elim (cases_lt n (length xs)) [
+      | inl inside ↦ get_or_append_left xs (0 ∷ []) 0 n inside
+      | inr behind ↦ elim (cases_eq n (length xs)) [
+        | inl end ↦ get_or_push xs 0 0 n (sym end) ∙ sym (get_or_past xs n 0 behind)
+        | inr past ↦ get_or_past (xs ++ 0 ∷ []) n 0 (omega (arith, length_push xs 0, behind, past)) ∙ sym (get_or_past xs n 0 behind)
+      ]
+    ]
+
+pub has-zero : (xs : List ℕ) (k : ℕ) → has (xs ++ 0 ∷ []) k ≡ has xs k
+unfolding has
+has-zero xs k = ap (λ w. test w (k % 64)) (get_or-zero xs (k / 64))
+
+pub widened-bits : (width rows : ℕ) (old new : List ℕ) → IsWidened width rows old new → (row : ℕ) → row < rows → (k : ℕ) →
+    has (part (width + 1) row new) k ≡ has (part width row old) k
+widened-bits width rows old new wide row inside k = ap (λ w. has w k) (wide.each row inside) ∙ has-zero (part width row old) k
+
+-- an entry more, for which there is room
+pub record IsMore (entry : Entry) (t t' : Table) : Type 0 where
+  pub ledger : IsLedger t'
+  pub grown : IsGrown entry t t'
+
+pub more-within : (entry : Entry) (t : Table) → IsLedger t → length t.entries < 64 * t.width → IsMore entry t (table_of (t.entries ++ entry ∷ []) t.width t.rows t.owed t.must)
+more-within entry t ledger room = record {
+  ledger = record {
+    owed_long = ledger.owed_long;
+    must_long = ledger.must_long;
+    wide = omega (arith, length_push t.entries entry, room);
+    narrow = let narrow = ledger.narrow in omega (arith, length_push t.entries entry, narrow);
+    each = λ k inside. grown-row t.entries entry (has (part t.width k t.owed)) (has (part t.width k t.must)) (ledger.each k inside);
+  };
+  grown = record { entries = refl; rows = refl; owed = λ row inside k. refl; must = λ row inside k. refl; };
+}
+
+pub more-widened : (entry : Entry) (t : Table) (owed' must' : List ℕ) → IsLedger t → 64 * t.width ≤ length t.entries → IsWidened t.width t.rows t.owed owed' → IsWidened t.width t.rows t.must must' →
+    IsMore entry t (table_of (t.entries ++ entry ∷ []) (t.width + 1) t.rows owed' must')
+more-widened entry t owed' must' ledger full owed_wide must_wide =
+    let owed = widened-bits t.width t.rows t.owed owed' owed_wide in
+    let must = widened-bits t.width t.rows t.must must' must_wide in
+    record {
+      ledger = record {
+        owed_long = owed_wide.long;
+        must_long = must_wide.long;
+        wide = let wide = ledger.wide in omega (arith, length_push t.entries entry, wide);
+        narrow = omega (arith, length_push t.entries entry, full);
+        each = λ k inside.
+            row-along (t.entries ++ entry ∷ []) (has (part t.width k t.owed)) (has (part t.width k t.must)) (has (part (t.width + 1) k owed')) (has (part (t.width + 1) k must'))
+            (owed k inside) (must k inside) (grown-row t.entries entry (has (part t.width k t.owed)) (has (part t.width k t.must)) (ledger.each k inside));
+      };
+      grown = record { entries = refl; rows = refl; owed = owed; must = must; };
+    }

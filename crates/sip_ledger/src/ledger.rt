@@ -1,0 +1,249 @@
+//! What many rows owe.
+ghost use Rattle.std.specs.Prelude.{◌≡◌, ◌↔◌, ◌<◌, ◌++◌, ◌∷◌, [], ℕ, List, IsTrue, OnOk, OnErr, IfOk, All, length, set, map, filter, take, drop};
+ghost use Rattle.std.specs.Bool.{OnTrue, OnFalse};
+ghost use Rattle.std.specs.List.{list_any};
+ghost use Rattle.sip_ledger.specs.Debts.{IsWithoutFirst, counts_at, softened_debt, is_payable, debt_deadlines, earliest};
+ghost use Rattle.sip_ledger.specs.Ledgers.{rows_of, row_of};
+ghost use Rattle.sip_ledger.specs.inner.Tables.{IsGrown, IsPlace};
+
+use crate::debt::{Debt, Entry};
+use crate::table;
+use crate::words;
+use std::alloc::{AllocError, Global};
+use std::marker::Model;
+
+/// What each of many rows owes, oldest first: one list of entries for all, and for each row a bit for each entry that it owes
+/// and one for each that it must send. Rows have their words one behind another; where no row ever owed anything there are none.
+#[derive(Debug, Drop)]
+pub struct Ledger {
+    entries: Vec<Entry>,
+    width: usize,
+    rows: usize,
+    owed: Vec<u64>,
+    must: Vec<u64>,
+}
+
+impl Model for Ledger {
+    ghost use Rattle.sip_ledger.specs.Ledgers.{Table, table_of, IsLedger};
+
+    ghost Value = { Table };
+
+    ghost view = { λ l. table_of l.entries.items l.width l.rows l.owed.items l.must.items };
+
+    ghost invariant = { λ l. IsLedger (table_of l.entries.items l.width l.rows l.owed.items l.must.items) };
+}
+
+impl Ledger {
+    /// There are no rows.
+    pub fn new(alloc: Global) -> Self
+        ensures { rows_of result ≡ [] }
+    {
+        Ledger {
+            entries: Vec::new(alloc),
+            width: 0,
+            rows: 0,
+            owed: Vec::new(alloc),
+            must: Vec::new(alloc),
+        }
+    }
+
+    /// How many rows there are.
+    pub fn len(&self) -> usize
+        ensures { result ≡ length (rows_of self.now) }
+    {
+        self.rows
+    }
+
+    /// Whether there are no rows.
+    pub fn is_empty(&self) -> bool
+        ensures { IsTrue result ↔ (rows_of self.now ≡ []) }
+    {
+        self.rows == 0
+    }
+
+    /// Puts a row that owes nothing behind the others. On an error all is as before.
+    pub fn push(&mut self) -> Result<(), AllocError>
+        ensures ok { OnOk result (rows_of self.new ≡ rows_of self.old ++ [] ∷ []) }
+        ensures err { OnErr result (self.new ≡ self.old) }
+    {
+        let rows = self.rows.checked_add(1).ok_or(AllocError)?;
+        words::put_row(&mut self.owed, &mut self.must, self.width)?;
+        self.rows = rows;
+        Ok(())
+    }
+
+    /// Puts a row that owes what this one does behind the others. On an error all is as before.
+    pub fn push_copy(&mut self, row: usize) -> Result<(), AllocError>
+        requires { row < length (rows_of self.old) }
+        ensures ok { OnOk result (rows_of self.new ≡ rows_of self.old ++ row_of self.old row ∷ []) }
+        ensures err { OnErr result (self.new ≡ self.old) }
+    {
+        let rows = self.rows.checked_add(1).ok_or(AllocError)?;
+        words::copy_row(&mut self.owed, &mut self.must, self.width, row)?;
+        self.rows = rows;
+        Ok(())
+    }
+
+    /// Keeps the first rows.
+    pub fn truncate(&mut self, rows: usize)
+        ensures { rows_of self.new ≡ take rows (rows_of self.old) }
+    {
+        if rows < self.rows {
+            let kept = rows * self.width;
+            self.owed.truncate(kept);
+            self.must.truncate(kept);
+            self.rows = rows;
+        }
+    }
+
+    /// Drops the first rows.
+    pub fn drop_first(&mut self, rows: usize)
+        ensures { rows_of self.new ≡ drop rows (rows_of self.old) }
+    {
+        let dropped = rows.min(self.rows);
+        let first = dropped * self.width;
+        words::drop_first(&mut self.owed, first);
+        words::drop_first(&mut self.must, first);
+        self.rows -= dropped;
+    }
+
+    /// Lets the row owe what another one does, and nothing else.
+    pub fn copy(&mut self, from: usize, to: usize)
+        requires from { from < length (rows_of self.old) }
+        requires to { to < length (rows_of self.old) }
+        ensures { rows_of self.new ≡ set (rows_of self.old) to (row_of self.old from) }
+    {
+        table::copy(&mut self.owed, self.width, from, to);
+        table::copy(&mut self.must, self.width, from, to);
+    }
+
+    /// Lets the row owe one more debt, behind its others. On an error all is as before.
+    pub fn gain(&mut self, row: usize, debt: Debt) -> Result<(), AllocError>
+        requires { row < length (rows_of self.old) }
+        ensures ok { OnOk result (rows_of self.new ≡ set (rows_of self.old) row (row_of self.old row ++ debt ∷ [])) }
+        ensures err { OnErr result (self.new ≡ self.old) }
+    {
+        let entry = Entry {
+            message: debt.message,
+            deadline: debt.deadline,
+        };
+        let at = self.place(row, entry)?;
+        table::gain(
+            &mut self.owed,
+            &mut self.must,
+            self.width,
+            row,
+            at,
+            debt.must,
+        );
+        Ok(())
+    }
+
+    /// Where the row gains a debt of this entry: the index of one that is there now. On an error all is as before.
+    fn place(&mut self, row: usize, entry: Entry) -> Result<usize, AllocError>
+        requires { row < length (rows_of self.old) }
+        ensures ok { IfOk result (IsPlace row entry self.old self.new) }
+        ensures err { OnErr result (self.new ≡ self.old) }
+    {
+        let at = table::gained_at(&self.entries, &self.owed, self.width, row, entry);
+        if at < self.entries.len() {
+            return Ok(at);
+        }
+        self.grow(entry)?;
+        Ok(at)
+    }
+
+    /// Puts an entry behind the others, which no row owes. On an error all is as before.
+    fn grow(&mut self, entry: Entry) -> Result<(), AllocError>
+        ensures ok { OnOk result (IsGrown entry self.old self.new) }
+        ensures err { OnErr result (self.new ≡ self.old) }
+    {
+        if self.entries.len() < 64 * self.width {
+            self.entries.push(entry)?;
+            return Ok(());
+        }
+        let alloc = *self.entries.allocator();
+        self.entries.reserve(1)?;
+        let owed = words::widened(alloc, &self.owed, self.width, self.rows)?;
+        let must = words::widened(alloc, &self.must, self.width, self.rows)?;
+        self.entries.push_reserved(entry);
+        self.owed = owed;
+        self.must = must;
+        self.width += 1;
+        Ok(())
+    }
+
+    /// Takes out of the row the first debt that a send of the message at the moment pays, and tells whether there was one.
+    pub fn pay(&mut self, row: usize, message: u32, moment: u64) -> bool
+        requires { row < length (rows_of self.old) }
+        ensures paid { OnTrue result (IsWithoutFirst (λ debt. IsTrue (is_payable message moment debt)) (row_of self.old row) (row_of self.new row)) }
+        ensures unpaid { OnFalse result ((rows_of self.new ≡ rows_of self.old) × All (λ debt. ¬ (IsTrue (is_payable message moment debt))) (row_of self.old row)) }
+        ensures others { rows_of self.new ≡ set (rows_of self.old) row (row_of self.new row) }
+    {
+        table::pay(
+            &self.entries,
+            &mut self.owed,
+            &mut self.must,
+            self.width,
+            row,
+            message,
+            moment,
+        )
+    }
+
+    /// Whether the row has a debt that a send of the message at the moment pays.
+    pub fn can_pay(&self, row: usize, message: u32, moment: u64) -> bool
+        requires { row < length (rows_of self.now) }
+        ensures { result ≡ list_any (is_payable message moment) (row_of self.now row) }
+    {
+        table::can_pay(&self.entries, &self.owed, self.width, row, message, moment)
+    }
+
+    /// Drops what the row may send and whose deadline is below the moment.
+    pub fn expire(&mut self, row: usize, moment: u64)
+        requires { row < length (rows_of self.old) }
+        ensures { rows_of self.new ≡ set (rows_of self.old) row (filter (counts_at moment) (row_of self.old row)) }
+    {
+        table::expire(
+            &self.entries,
+            &mut self.owed,
+            &mut self.must,
+            self.width,
+            row,
+            moment,
+        );
+    }
+
+    /// Of what the row owes, nothing has to be sent any more.
+    pub fn soften(&mut self, row: usize)
+        requires { row < length (rows_of self.old) }
+        ensures { rows_of self.new ≡ set (rows_of self.old) row (map softened_debt (row_of self.old row)) }
+    {
+        table::clear(&mut self.must, self.width, row);
+    }
+
+    /// The row owes nothing any more.
+    pub fn clear(&mut self, row: usize)
+        requires { row < length (rows_of self.old) }
+        ensures { rows_of self.new ≡ set (rows_of self.old) row [] }
+    {
+        table::clear(&mut self.owed, self.width, row);
+        table::clear(&mut self.must, self.width, row);
+    }
+
+    /// The least deadline of what the row must send.
+    pub fn earliest_must(&self, row: usize) -> Option<u64>
+        requires { row < length (rows_of self.now) }
+        ensures { result ≡ earliest (debt_deadlines (row_of self.now row)) }
+    {
+        table::earliest_must(&self.entries, &self.must, self.width, row)
+    }
+
+    /// Whether the row owes nothing.
+    pub fn owes_nothing(&self, row: usize) -> bool
+        requires { row < length (rows_of self.now) }
+        ensures { IsTrue result ↔ (row_of self.now row ≡ []) }
+    {
+        table::owes_nothing(&self.owed, self.width, row)
+    }
+}

@@ -1,19 +1,18 @@
 -- What the rows of a ledger owe, as its words change.
-use Rattle.std.proofs.Common.{◌≡◌, ◌≢◌, ℕ, ◌+◌, ◌-◌, ◌*◌, ◌/◌, ◌%◌, ◌^◌, ◌<◌, ◌≤◌, Bool, true, false, List, [], ◌∷◌, ◌++◌, length, take, drop, get_or, set, map, replicate, refl, sym, ap, ap₂, ◌∙◌, subst, inl, inr, arith}
+use Rattle.std.proofs.Common.{◌≡◌, ◌≢◌, ℕ, ◌+◌, ◌-◌, ◌*◌, ◌/◌, ◌%◌, ◌^◌, ◌<◌, ◌≤◌, Bool, true, false, List, [], ◌∷◌, ◌++◌, length, take, drop, get_or, set, map, min, replicate, refl, sym, ap, ap₂, ◌∙◌, subst, inl, inr, arith}
 use Rattle.std.proofs.lemmas.Bool.{cases_lt, cases_eq, true≢false}
-use Rattle.std.proofs.lemmas.List.{length-append, length-drop, length-take-le, length-set, length_push, length-replicate, get_or_append_left, get_or_push, get_or_past, get_or-take, get_or-drop, get_or-replicate, get_or-set_same, get_or-set_other, same_lists}
+use Rattle.std.proofs.lemmas.List.{length-append, length-drop, length-take-le, length-set, length_push, length-replicate, get_or_append_left, get_or_push, get_or_past, get_or-take, get_or-drop, get_or-replicate, get_or-set_same, get_or-set_other, same_lists, drop_all}
 use Rattle.std.proofs.lemmas.List.FromFn.{get_or-map-range_with_len, length-map-range_with_len}
 use Rattle.sip_masks.specs.Bits.{test}
 use Rattle.sip_ledger.specs.declared.debt.Debt.{Debt}
 use Rattle.sip_ledger.specs.declared.debt.Entry.{Entry}
 use Rattle.sip_ledger.specs.Bits.{has}
-use Rattle.sip_ledger.specs.Debts.{softened_debt}
 use Rattle.sip_ledger.specs.Rows.{debts_from, row_debts, IsRow, IsGap}
 use Rattle.sip_ledger.specs.Ledgers.{Table, table_of, part, row_at, rows_of, row_of, IsLedger}
 use Rattle.sip_ledger.specs.inner.Places.{IsGainedAt}
-use Rattle.sip_ledger.specs.inner.Tables.{ChangesTable, IsWidened, IsGrown}
+use Rattle.sip_ledger.specs.inner.Tables.{ChangesTable, IsWidened, IsNarrowed, IsEmptyFront, IsGrown}
 use Rattle.sip_ledger.proofs.BitsLemmas.{has-is, has-past, has-zero_word}
-use Rattle.sip_ledger.proofs.ListedLemmas.{listed-same, listed-none, listed-softened}
+use Rattle.sip_ledger.proofs.ListedLemmas.{parts, listed-same, listed-none, listed-shift}
 use Rattle.sip_ledger.proofs.RowLemmas.{grown-row, grown-debts}
 use Rattle.sip_ledger.proofs.TableLemmas.{part-of_more, part-of_last, part-take, part-drop, fewer-words, with_words, table-ledger, same-row}
 
@@ -283,3 +282,95 @@ more-widened entry t owed' must' ledger full owed_wide must_wide =
       };
       grown = record { entries = refl; rows = refl; owed = owed; must = must; };
     }
+
+-- the first entries are dropped, which no row owes
+pub shifted-row : (entries : List Entry) (o m : ℕ → Bool) (n : ℕ) → IsRow entries o m → IsRow (drop n entries) (λ k. o (n + k)) (λ k. m (n + k))
+shifted-row entries o m n row = record {
+  within = λ k set. omega (arith, row.within (n + k) set, length-drop n entries);
+  among = λ k set. row.among (n + k) set;
+  leftmost = λ i k e before set gap same.
+      row.leftmost (n + i) (n + k) e (omega (arith, before)) set
+      (λ j above below.
+          let back : n + (j - n) ≡ j = omega (arith, above) in
+          ap o (sym back) ∙ gap (j - n) (omega (arith, above)) (omega (arith, below, above)))
+      (sym (get_or-drop n entries i e) ∙ same ∙ get_or-drop n entries k e);
+}
+
+pub shifted-debts : (entries : List Entry) (o m : ℕ → Bool) (n : ℕ) → n ≤ length entries → ((k : ℕ) → k < n → o k ≡ false) →
+    debts_from (λ k. o (n + k)) (λ k. m (n + k)) 0 (drop n entries) ≡ debts_from o m 0 entries
+shifted-debts entries o m n within unset =
+    let none : n + 0 ≡ n = omega arith in
+    listed-shift o m n 0 (drop n entries)
+    ∙ ap (λ i. debts_from o m i (drop n entries)) none
+    ∙ ap (λ l. l ++ debts_from o m n (drop n entries)) (sym (listed-none o m 0 (take n entries) (λ k _ below. unset k (omega (arith, below, length-take-le n entries within)))))
+    ∙ sym (parts o m entries n within)
+
+-- the bits of words without the first ones
+pub has-dropped : (words : List ℕ) (n k : ℕ) → has (drop n words) k ≡ has words (64 * n + k)
+unfolding has
+has-dropped words n k =
+    let word : (64 * n + k) / 64 ≡ n + k / 64 = omega arith in
+    let bit : (64 * n + k) % 64 ≡ k % 64 = omega arith in
+    ap (λ w. test w (k % 64)) (get_or-drop n words (k / 64) 0) ∙ sym (ap₂ (λ j i. test (get_or words j 0) i) word bit)
+
+pub front-unset : (words : List ℕ) (front k : ℕ) → ((n : ℕ) → n < front → get_or words n 0 ≡ 0) → k < 64 * front → has words k ≡ false
+front-unset words front k zero below = has-zero_word words (k / 64) k (zero (k / 64) (omega (arith, below))) (omega arith) (omega arith)
+
+-- every row is without its first words, which are 0
+pub record IsTidied (t : Table) (dropped : ℕ) (owed' must' : List ℕ) (entries' : List Entry) : Type 0 where
+  pub ledger : IsLedger (table_of entries' (t.width - dropped) t.rows owed' must')
+  pub rows : rows_of (table_of entries' (t.width - dropped) t.rows owed' must') ≡ rows_of t
+
+pub tidied : (t : Table) (dropped past : ℕ) (owed' must' : List ℕ) (entries' : List Entry) → IsLedger t → dropped ≤ t.width → past ≡ min (length t.entries) (64 * dropped) →
+    IsEmptyFront t.width t.rows dropped t.owed → IsNarrowed t.width t.rows dropped t.owed owed' → IsNarrowed t.width t.rows dropped t.must must' →
+    entries' ≡ drop past t.entries → IsTidied t dropped owed' must' entries'
+tidied t dropped past owed' must' entries' ledger few is_past empty owed_narrow must_narrow is_entries =
+    let n = 64 * dropped in
+    let kept = t.width - dropped in
+    let wide = ledger.wide in
+    let narrow = ledger.narrow in
+    let same_entries : entries' ≡ drop n t.entries = is_entries ∙ ap (λ k. drop k t.entries) is_past ∙ least-dropped n t.entries in
+    let long : length entries' ≡ length t.entries - n = ap length same_entries ∙ length-drop n t.entries in
+    let owed_bits = λ (k : ℕ) (inside : k < t.rows) (j : ℕ).
+        let e : has (part kept k owed') j ≡ has (part t.width k t.owed) (n + j) = ap (λ w. has w j) (owed_narrow.each k inside) ∙ has-dropped (part t.width k t.owed) dropped j in e in
+    let must_bits = λ (k : ℕ) (inside : k < t.rows) (j : ℕ).
+        let e : has (part kept k must') j ≡ has (part t.width k t.must) (n + j) = ap (λ w. has w j) (must_narrow.each k inside) ∙ has-dropped (part t.width k t.must) dropped j in e in
+    let t' = table_of entries' kept t.rows owed' must' in
+    record {
+      ledger = record {
+        owed_long = owed_narrow.long;
+        must_long = must_narrow.long;
+        wide = omega (arith, long, wide, few);
+        narrow = omega (arith, long, narrow, few);
+        each = λ k inside.
+            let o = has (part t.width k t.owed) in
+            let m = has (part t.width k t.must) in
+            subst (λ l. IsRow l (has (part kept k owed')) (has (part kept k must'))) (sym same_entries)
+            (row-along (drop n t.entries) (λ j. o (n + j)) (λ j. m (n + j)) (has (part kept k owed')) (has (part kept k must')) (owed_bits k inside) (must_bits k inside)
+            (shifted-row t.entries o m n (ledger.each k inside)));
+      };
+      rows = rows-are t' (rows_of t) (rows-length t) (λ k d inside.
+          let o = has (part t.width k t.owed) in
+          let m = has (part t.width k t.must) in
+          let none = λ (j : ℕ) (below : j < n). let e : o j ≡ false = front-unset (part t.width k t.owed) dropped j (λ i early. empty k i inside early) below in e in
+          ap (debts_from (has (part kept k owed')) (has (part kept k must')) 0) same_entries
+          ∙ listed-same (has (part kept k owed')) (has (part kept k must')) (λ j. o (n + j)) (λ j. m (n + j)) 0 (drop n t.entries) (λ j _ _. (owed_bits k inside j, must_bits k inside j))
+          ∙ dropped-debts t.entries o m n none
+          ∙ sym (rows-get t k d inside));
+    }
+  where
+    least-dropped : (n : ℕ) (entries : List Entry) → drop (min (length entries) n) entries ≡ drop n entries
+    least-dropped n entries = elim (cases_lt n (length entries)) [
+      | inl less ↦ let is : min (length entries) n ≡ n = omega (arith, less) in ap (λ k. drop k entries) is
+      | inr more ↦
+          let is : min (length entries) n ≡ length entries = omega (arith, more) in
+          ap (λ k. drop k entries) is ∙ drop_all (length entries) entries (omega arith) ∙ sym (drop_all n entries more)
+    ]
+    dropped-debts : (entries : List Entry) (o m : ℕ → Bool) (n : ℕ) → ((k : ℕ) → k < n → o k ≡ false) →
+        debts_from (λ k. o (n + k)) (λ k. m (n + k)) 0 (drop n entries) ≡ debts_from o m 0 entries
+    dropped-debts entries o m n unset = elim (cases_lt (length entries) n) [
+      | inl past ↦
+          ap (debts_from (λ k. o (n + k)) (λ k. m (n + k)) 0) (drop_all n entries (omega (arith, past)))
+          ∙ sym (listed-none o m 0 entries (λ k _ below. unset k (omega (arith, below, past))))
+      | inr within ↦ shifted-debts entries o m n within unset
+    ]

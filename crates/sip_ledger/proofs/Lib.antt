@@ -3,3 +3,5 @@ pub mod ListedLemmas
 pub mod RowLemmas
 pub mod TableLemmas
 pub mod LedgerLemmas
+pub mod RunLemmas
+pub mod WordsLemmas

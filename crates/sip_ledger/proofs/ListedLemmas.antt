@@ -198,3 +198,27 @@ fold-push a m (x ∷ xs) = fold-push (min a x) m xs
 pub earliest-push : (ms : List ℕ) (m : ℕ) → earliest (ms ++ m ∷ []) ≡ earliest (m ∷ option_to_list (earliest ms))
 earliest-push [] m = refl
 earliest-push (x ∷ xs) m = let turned : min (fold min x xs) m ≡ min m (fold min x xs) = omega arith in ap Some (fold-push x m xs ∙ turned)
+
+-- there are no more debts than entries
+pub listed-length : (o m : ℕ → Bool) (i : ℕ) (xs : List Entry) → length (debts_from o m i xs) ≤ length xs
+listed-length o m i [] = omega arith
+listed-length o m i (x ∷ xs) =
+    let rest = debts_from o m (i + 1) xs in
+    let more = listed-length o m (i + 1) xs in
+    elim (o i) as (λ b. length (cond b (debt_of x (m i) ∷ rest) rest) ≤ suc (length xs)) [ true ↦ omega (arith, more) | false ↦ omega (arith, more) ]
+
+-- the messages of debts, whatever has to be paid
+pub listed-messages : (o m m' : ℕ → Bool) (i : ℕ) (xs : List Entry) → map (λ (d : Debt). d.message) (debts_from o m i xs) ≡ map (λ (d : Debt). d.message) (debts_from o m' i xs)
+listed-messages o m m' i [] = refl
+listed-messages o m m' i (x ∷ xs) =
+    cond-map (λ (d : Debt). d.message) (o i) (debt_of x (m i)) (debts_from o m (i + 1) xs)
+    ∙ ap (λ l. cond (o i) (x.message ∷ l) l) (listed-messages o m m' (i + 1) xs)
+    ∙ sym (cond-map (λ (d : Debt). d.message) (o i) (debt_of x (m' i)) (debts_from o m' (i + 1) xs))
+
+-- a place further on
+pub listed-shift : (o m : ℕ → Bool) (n i : ℕ) (xs : List Entry) → debts_from (λ k. o (n + k)) (λ k. m (n + k)) i xs ≡ debts_from o m (n + i) xs
+listed-shift o m n i [] = refl
+listed-shift o m n i (x ∷ xs) =
+    let next : n + (i + 1) ≡ n + i + 1 = omega arith in
+    cond-same (o (n + i)) (o (n + i)) (debt_of x (m (n + i))) (debt_of x (m (n + i))) (debts_from (λ k. o (n + k)) (λ k. m (n + k)) (i + 1) xs) (debts_from o m (n + i + 1) xs) refl refl
+    (listed-shift o m n (i + 1) xs ∙ ap (λ j. debts_from o m j xs) next)

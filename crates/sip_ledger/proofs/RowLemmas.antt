@@ -1,14 +1,17 @@
 -- Rows whose bits change.
 use Rattle.std.proofs.Common.{◌≡◌, ◌≢◌, ℕ, ◌+◌, ◌-◌, ◌^◌, ◌<◌, ◌≤◌, max, Bool, true, false, cond, List, [], ◌∷◌, ◌++◌, length, take, get_or, append-nil, suc, refl, sym, ap, ap₂, ◌∙◌, subst, inl, inr, arith}
-use Rattle.std.specs.Prelude.{All, IsTrue, ◌&&◌, ◌||◌, nat_le, filter}
-use Rattle.std.proofs.lemmas.Bool.{cases_lt, cases_eq, true≢false, false_from_ne_true, and_from, or_left}
+use Rattle.std.specs.Prelude.{All, IsTrue, ◌↔◌, ◌&&◌, ◌||◌, nat_le, filter}
+use Rattle.std.specs.List.{list_any}
+use Rattle.std.proofs.lemmas.Bool.{cases_lt, cases_eq, true≢false, false_from_ne_true, and_from, or_left, or_right}
+use Rattle.std.proofs.lemmas.List.Folds.{list_any-append}
 use Rattle.std.proofs.lemmas.List.{get_or-take, get_or_default, get_or_append_left, get_or_at, length-append, length-take-le}
 use Rattle.sip_ledger.specs.declared.debt.Debt.{Debt}
 use Rattle.sip_ledger.specs.declared.debt.Entry.{Entry}
+use Rattle.sip_ledger.specs.declared.row.Place.{Place}
 use Rattle.sip_ledger.specs.Debts.{IsWithoutFirst, counts_at}
 use Rattle.sip_ledger.specs.Rows.{debt_of, debts_from, row_debts, IsGap, IsRow}
-use Rattle.sip_ledger.specs.inner.Places.{IsOpenRow, IsMoved, IsExpired, IsGainedAt}
-use Rattle.sip_ledger.specs.Bits.{has}
+use Rattle.sip_ledger.specs.inner.Places.{IsFirst, NonePasses, AsksNoMust, IsOpenRow, IsMoved, IsExpired, IsGainedAt}
+use Rattle.sip_ledger.specs.Bits.{has, NoneFrom}
 use Rattle.sip_ledger.proofs.BitsLemmas.{same-from_bits}
 use Rattle.sip_ledger.proofs.ListedLemmas.{no_entry, front, back, parts, back-set, back-unset, back-over, back-same, back-none, front-same, listed-All, listed-append, listed-none, listed-counting}
 
@@ -409,3 +412,47 @@ pub same-words : (entries : List Entry) (xs ms ys ns : List ℕ) → length xs �
 same-words entries xs ms ys ns x_long m_long x_small m_small y_small n_small row row' same =
     let bits = one-spelling entries (has xs) (has ms) (has ys) (has ns) row row' same in
     (same-from_bits xs ys x_long x_small y_small (λ k. (bits k).0), same-from_bits ms ns m_long m_small n_small (λ k. (bits k).1))
+
+-- a debt that passes a test, or none
+pub listed-any : (test : Debt → Bool) (entries : List Entry) (o m : ℕ → Bool) (at : ℕ) → at < length entries → o at ≡ true →
+    test (debt_of (get_or entries at no_entry) (m at)) ≡ true → list_any test (debts_from o m 0 entries) ≡ true
+listed-any test entries o m at within is passes =
+    let debt = debt_of (get_or entries at no_entry) (m at) in
+    let before = front o m entries at in
+    let behind = back o m entries (at + 1) in
+    ap (list_any test) (parts o m entries at (omega (arith, within)) ∙ ap (λ l. before ++ l) (back-set o m entries at no_entry within is))
+    ∙ list_any-append test before (debt ∷ behind)
+    ∙ or_right (list_any test before) (list_any test (debt ∷ behind)) (or_left (test debt) (list_any test behind) passes)
+
+pub first-any : (test : Debt → Bool) (entries : List Entry) (o m : ℕ → Bool) (place : Place) → AsksNoMust test → ((k : ℕ) → o k ≡ true → k < length entries) →
+    IsFirst test entries o place → list_any test (debts_from o m 0 entries) ≡ true
+first-any test entries o m place asks within first =
+    listed-any test entries o m place.at (within place.at first.bit.is) first.bit.is (asks (get_or entries place.at no_entry) (m place.at) ∙ first.passes no_entry)
+
+pub none-passes : (test : Debt → Bool) (entries : List Entry) (o m : ℕ → Bool) → AsksNoMust test → NonePasses test entries o →
+    All (λ debt. test debt ≡ false) (debts_from o m 0 entries)
+none-passes test entries o m asks none =
+    listed-All (λ debt. test debt ≡ false) o m 0 entries (λ j e below set.
+    let here : 0 + j ≡ j = omega arith in
+    asks (get_or entries j e) (m (0 + j)) ∙ none j e (ap o (sym here) ∙ set))
+
+-- whether anything is owed
+pub some-debt : (entries : List Entry) (o m : ℕ → Bool) (k : ℕ) → k < length entries → o k ≡ true → debts_from o m 0 entries ≢ []
+some-debt entries o m k within is none =
+    let debt = debt_of (get_or entries k no_entry) (m k) in
+    let before = front o m entries k in
+    let behind = back o m entries (k + 1) in
+    let whole = sym (parts o m entries k (omega (arith, within)) ∙ ap (λ l. before ++ l) (back-set o m entries k no_entry within is)) ∙ none in
+    absurd (omega (arith, ap length whole, length-append before (debt ∷ behind)))
+
+pub owes-nothing : (entries : List Entry) (words must : List ℕ) (end : ℕ) → IsRow entries (has words) (has must) → NoneFrom words end →
+    (0 < end → has words (end - 1) ≡ true) → (end ≡ 0) ↔ (row_debts entries words must ≡ [])
+owes-nothing entries words must end row none last = (
+  (λ zero. listed-none (has words) (has must) 0 entries (λ k _ _. none k (omega (arith, zero)))),
+  (λ nothing. elim (cases_lt 0 end) [
+    | inl some ↦
+        let is = last some in
+        absurd (some-debt entries (has words) (has must) (end - 1) (row.within (end - 1) is) is nothing)
+    | inr zero ↦ omega (arith, zero)
+  ]),
+)

@@ -1,5 +1,5 @@
 use Rattle.std.specs.Prelude.{◌≡◌, ◌==◌, ◌&&◌, ◌||◌, ℕ, Bool, false, Option, List, ◌∷◌, ◌++◌, All, filter, map, min, nat_le}
-use Rattle.std.specs.List.{reduce}
+use Rattle.std.specs.List.{list_any, reduce}
 use Rattle.sip_ledger.specs.declared.debt.Debt.{Debt}
 
 -- What is owed, oldest first.
@@ -25,6 +25,10 @@ softened_debt debt = record { message = debt.message; deadline = debt.deadline; 
 -- a send of this message at t can pay the debt
 abbrev pub is_payable : ℕ → ℕ → Debt → Bool
 is_payable message t debt = debt.message == message && nat_le t debt.deadline
+
+-- a send of one of the messages at t can pay the debt
+abbrev pub is_any_payable : List ℕ → ℕ → Debt → Bool
+is_any_payable messages t debt = list_any (λ message. is_payable message t debt) messages
 
 -- the deadlines of debts that have to be paid
 abbrev pub debt_deadlines : List Debt → List ℕ

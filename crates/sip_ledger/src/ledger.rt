@@ -2,11 +2,14 @@
 ghost use Rattle.std.specs.Prelude.{◌≡◌, ◌↔◌, ◌<◌, ◌++◌, ◌∷◌, [], ℕ, List, IsTrue, OnOk, OnErr, IfOk, All, length, set, map, filter, take, drop};
 ghost use Rattle.std.specs.Bool.{OnTrue, OnFalse};
 ghost use Rattle.std.specs.List.{list_any};
-ghost use Rattle.sip_ledger.specs.Debts.{IsWithoutFirst, counts_at, softened_debt, is_payable, debt_deadlines, earliest};
+ghost use Rattle.sip_ledger.specs.Debts.{IsWithoutFirst, counts_at, softened_debt, is_payable, is_any_payable, debt_deadlines, earliest};
 ghost use Rattle.sip_ledger.specs.Ledgers.{rows_of, row_of};
+ghost use Rattle.sip_ledger.specs.Prints.{print_of};
+ghost use Rattle.sip_ledger.specs.Runs.{AreRuns};
 ghost use Rattle.sip_ledger.specs.inner.Tables.{IsGrown, IsPlace};
 
 use crate::debt::{Debt, Entry};
+use crate::run::Run;
 use crate::table;
 use crate::words;
 use std::alloc::{AllocError, Global};
@@ -180,15 +183,37 @@ impl Ledger {
         ensures unpaid { OnFalse result ((rows_of self.new ≡ rows_of self.old) × All (λ debt. ¬ (IsTrue (is_payable message moment debt))) (row_of self.old row)) }
         ensures others { rows_of self.new ≡ set (rows_of self.old) row (row_of self.new row) }
     {
-        table::pay(
+        self.pay_any(row, &[message], moment)
+    }
+
+    /// The same of a send of one of these messages.
+    pub fn pay_any(&mut self, row: usize, numbers: &[u32], moment: u64) -> bool
+        requires { row < length (rows_of self.old) }
+        ensures paid { OnTrue result (IsWithoutFirst (λ debt. IsTrue (is_any_payable numbers.now moment debt)) (row_of self.old row) (row_of self.new row)) }
+        ensures unpaid { OnFalse result ((rows_of self.new ≡ rows_of self.old) × All (λ debt. ¬ (IsTrue (is_any_payable numbers.now moment debt))) (row_of self.old row)) }
+        ensures others { rows_of self.new ≡ set (rows_of self.old) row (row_of self.new row) }
+    {
+        match table::first_payable(
             &self.entries,
-            &mut self.owed,
-            &mut self.must,
+            &self.owed,
             self.width,
             row,
-            message,
+            numbers,
             moment,
-        )
+        ) {
+            Some(place) => {
+                table::take_out(
+                    &self.entries,
+                    &mut self.owed,
+                    &mut self.must,
+                    self.width,
+                    row,
+                    place,
+                );
+                true
+            }
+            None => false,
+        }
     }
 
     /// Whether the row has a debt that a send of the message at the moment pays.
@@ -196,7 +221,15 @@ impl Ledger {
         requires { row < length (rows_of self.now) }
         ensures { result ≡ list_any (is_payable message moment) (row_of self.now row) }
     {
-        table::can_pay(&self.entries, &self.owed, self.width, row, message, moment)
+        table::first_payable(
+            &self.entries,
+            &self.owed,
+            self.width,
+            row,
+            &[message],
+            moment,
+        )
+        .is_some()
     }
 
     /// Drops what the row may send and whose deadline is below the moment.
@@ -245,5 +278,64 @@ impl Ledger {
         ensures { IsTrue result ↔ (row_of self.now row ≡ []) }
     {
         table::owes_nothing(&self.owed, self.width, row)
+    }
+    /// Whether two rows owe the same.
+    pub fn same(&self, row: usize, other: usize) -> bool
+        requires row { row < length (rows_of self.now) }
+        requires other { other < length (rows_of self.now) }
+        ensures { IsTrue result ↔ (row_of self.now row ≡ row_of self.now other) }
+    {
+        table::same(&self.owed, self.width, row, other)
+            && table::same(&self.must, self.width, row, other)
+    }
+
+    /// A number for what the row owes: rows that owe the same have the same, and others hardly ever.
+    pub fn print(&self, row: usize) -> u64
+        requires { row < length (rows_of self.now) }
+        ensures is { result ≡ print_of self.now row }
+        ensures same { (other : ℕ) → other < length (rows_of self.now) → row_of self.now other ≡ row_of self.now row → print_of self.now other ≡ result }
+    {
+        let start = row * self.width;
+        let end = start + self.width;
+        let owed = words::print(0, &self.owed[start..end]);
+        words::print(owed, &self.must[start..end])
+    }
+
+    /// Puts the number of each message that the row owes behind the others, once for each debt.
+    pub fn names(&self, row: usize, numbers: &mut Vec<u32>) -> Result<(), AllocError>
+        requires { row < length (rows_of self.now) }
+        ensures { OnOk result (numbers.new.items ≡ numbers.old.items ++ map (λ debt. debt.message) (row_of self.now row)) }
+    {
+        table::names(&self.entries, &self.owed, self.width, row, numbers)
+    }
+
+    /// What the row owes, with equal neighbours in one.
+    pub fn runs(&self, alloc: Global, row: usize) -> Result<Vec<Run>, AllocError>
+        requires { row < length (rows_of self.now) }
+        ensures { IfOk result (λ runs. AreRuns (row_of self.now row) runs.items) }
+    {
+        table::runs(
+            alloc,
+            &self.entries,
+            &self.owed,
+            &self.must,
+            self.width,
+            row,
+        )
+    }
+
+    /// Lets entries that no row owes go, where they fill half of the words or more, from the first one on.
+    pub fn tidy(&mut self)
+        ensures { rows_of self.new ≡ rows_of self.old }
+    {
+        let dropped = words::empty_front(&self.owed, self.width, self.rows);
+        if dropped == 0 || dropped < self.width / 2 {
+            return;
+        }
+        words::narrow(&mut self.owed, self.width, self.rows, dropped);
+        words::narrow(&mut self.must, self.width, self.rows, dropped);
+        let past = self.entries.len().min(64 * dropped);
+        words::drop_first(&mut self.entries, past);
+        self.width -= dropped;
     }
 }

@@ -5,8 +5,10 @@ mod bits;
 mod debt;
 mod ledger;
 mod row;
+mod run;
 mod table;
 mod words;
 
-pub use crate::debt::{Debt, Entry};
+pub use crate::debt::Debt;
 pub use crate::ledger::Ledger;
+pub use crate::run::Run;

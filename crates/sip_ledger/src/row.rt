@@ -1,16 +1,18 @@
 //! A row of bits over a list of entries: what one state owes, and what of it must be sent.
-ghost use Rattle.std.specs.Prelude.{◌≡◌, ◌≢◌, ◌↔◌, ℕ, ◌+◌, ◌-◌, ◌*◌, ◌/◌, ◌^◌, ◌<◌, ◌≤◌, ◌++◌, ◌∷◌, [], ◌&&◌, ◌||◌, true, false, List, Some, option_to_list, length, get_or, filter, map, All, IsTrue, IfSome, IfNone};
-ghost use Rattle.std.specs.Bool.{OnTrue, OnFalse};
-ghost use Rattle.std.specs.List.{list_any};
+ghost use Rattle.std.specs.Prelude.{◌≡◌, ◌≢◌, ◌↔◌, ℕ, ◌+◌, ◌-◌, ◌*◌, ◌/◌, ◌^◌, ◌<◌, ◌≤◌, ◌++◌, ◌∷◌, [], true, false, Bool, List, Some, option_to_list, length, get_or, filter, map, IsTrue, IfSome, IfNone, IfOk, OnOk};
 ghost use Rattle.sip_ledger.specs.Bits.{has};
-ghost use Rattle.sip_ledger.specs.Debts.{IsWithoutFirst, counts_at, softened_debt, is_payable, debt_deadlines, earliest};
+ghost use Rattle.sip_ledger.specs.Debts.{IsWithoutFirst, counts_at, is_any_payable, debt_deadlines, earliest};
 ghost use Rattle.sip_ledger.specs.Rows.{debt_of, row_debts, IsRow, IsGap};
-ghost use Rattle.sip_ledger.specs.inner.Places.{IsFirstPayable, NonePayable, IsOpenRow, IsMoved, IsGainedAt, IsExpired};
+ghost use Rattle.sip_ledger.specs.inner.Places.{IsBit, IsFirst, NonePasses, AsksNoMust, IsOpenRow, IsMoved, IsGainedAt, IsExpired};
+ghost use Rattle.sip_ledger.specs.Runs.{AreRuns};
 
+ghost use Rattle.sip_ledger.specs.declared.debt.Debt.{Debt};
 ghost use Rattle.sip_ledger.specs.declared.debt.Entry.{Entry};
 
 use crate::bits::{clear, end, has, next, set};
-use crate::debt::Entry;
+use crate::debt::{Debt, Entry};
+use crate::run::{Run, append};
+use std::alloc::{AllocError, Global};
 
 /// A bit, and where the gap before it begins.
 #[derive(Clone, Copy, Debug)]
@@ -21,45 +23,49 @@ pub(crate) struct Place {
     at: usize,
 }
 
-/// Takes out the first debt that a send of the message at the moment pays, and tells whether there was one.
-pub(crate) fn pay(entries: &[Entry], owed: &mut [u64], must: &mut [u64], message: u32, moment: u64) -> bool
-    requires row { IsRow entries.now (has owed.old) (has must.old) }
-    requires owed { length entries.now ≤ 64 * length owed.old }
-    requires must { length entries.now ≤ 64 * length must.old }
-    requires fits { 64 * length owed.old < 2 ^ 64 }
-    ensures row { IsRow entries.now (has owed.new) (has must.new) }
-    ensures paid { OnTrue result (IsWithoutFirst (λ debt. IsTrue (is_payable message moment debt))
-        (row_debts entries.now owed.old must.old) (row_debts entries.now owed.new must.new)) }
-    ensures unpaid { OnFalse result ((row_debts entries.now owed.new must.new ≡ row_debts entries.now owed.old must.old)
-        × All (λ debt. ¬ (IsTrue (is_payable message moment debt))) (row_debts entries.now owed.old must.old)) }
-{
-    match first_payable(entries, owed, message, moment) {
-        Some(place) => {
-            clear(owed, place.at);
-            clear(must, place.at);
-            settle(entries, owed, must, place);
-            true
-        }
-        None => false,
-    }
-}
-
-/// The first bit whose debt a send of the message at the moment pays.
-fn first_payable(entries: &[Entry], owed: &[u64], message: u32, moment: u64) -> Option<Place>
+/// The first bit whose debt a send of one of the messages at the moment pays.
+pub(crate) fn first_payable(
+    entries: &[Entry],
+    owed: &[u64],
+    numbers: &[u32],
+    moment: u64,
+) -> Option<Place>
     requires within { (k : ℕ) → has owed.now k ≡ true → k < length entries.now }
     requires fits { 64 * length owed.now < 2 ^ 64 }
-    ensures found { IfSome result (IsFirstPayable message moment entries.now (has owed.now)) }
-    ensures none { IfNone result (NonePayable message moment entries.now (has owed.now)) }
+    ensures found { IfSome result (IsFirst (is_any_payable numbers.now moment) entries.now (has owed.now)) }
+    ensures none { IfNone result (NonePasses (is_any_payable numbers.now moment) entries.now (has owed.now)) }
 {
     let mut low = 0;
     while let Some(at) = next(owed, low) {
-        let entry = entries[at];
-        if entry.message == message && moment <= entry.deadline {
+        if is_paid(entries[at], numbers, moment) {
             return Some(Place { low, at });
         }
         low = at + 1;
     }
     None
+}
+
+/// Whether a send of one of the messages at the moment pays a debt of the entry.
+fn is_paid(entry: Entry, numbers: &[u32], moment: u64) -> bool
+    ensures { (must : Bool) → result ≡ is_any_payable numbers.now moment (debt_of entry must) }
+{
+    moment <= entry.deadline && numbers.contains(&entry.message)
+}
+
+/// Takes out the debt at the place.
+pub(crate) fn take_out(entries: &[Entry], owed: &mut [u64], must: &mut [u64], place: Place)
+    requires row { IsRow entries.now (has owed.old) (has must.old) }
+    requires owed { length entries.now ≤ 64 * length owed.old }
+    requires must { length entries.now ≤ 64 * length must.old }
+    requires fits { 64 * length owed.old < 2 ^ 64 }
+    requires bit { IsBit (has owed.old) place }
+    ensures row { IsRow entries.now (has owed.new) (has must.new) }
+    ensures taken { (test : Debt → Bool) → AsksNoMust test → IsFirst test entries.now (has owed.old) place →
+        IsWithoutFirst (λ debt. IsTrue (test debt)) (row_debts entries.now owed.old must.old) (row_debts entries.now owed.new must.new) }
+{
+    clear(owed, place.at);
+    clear(must, place.at);
+    settle(entries, owed, must, place);
 }
 
 /// Moves bits that have room before them to where they can stand earliest, until one stands that has no hole before it.
@@ -149,15 +155,6 @@ pub(crate) fn owe(owed: &mut [u64], must: &mut [u64], at: usize, due: bool)
     }
 }
 
-/// Whether a send of the message at the moment pays a debt.
-pub(crate) fn can_pay(entries: &[Entry], owed: &[u64], message: u32, moment: u64) -> bool
-    requires within { (k : ℕ) → has owed.now k ≡ true → k < length entries.now }
-    requires fits { 64 * length owed.now < 2 ^ 64 }
-    ensures { (must : List ℕ) → result ≡ list_any (is_payable message moment) (row_debts entries.now owed.now must) }
-{
-    first_payable(entries, owed, message, moment).is_some()
-}
-
 /// Whether nothing is owed.
 pub(crate) fn owes_nothing(owed: &[u64]) -> bool
     requires { 64 * length owed.now < 2 ^ 64 }
@@ -224,4 +221,48 @@ fn drop_past(entries: &[Entry], owed: &mut [u64], must: &[u64], moment: u64)
         }
         from = at + 1;
     }
+}
+
+/// Puts the number of each message that is owed behind the others, once for each debt.
+pub(crate) fn names(
+    entries: &[Entry],
+    owed: &[u64],
+    numbers: &mut Vec<u32>,
+) -> Result<(), AllocError>
+    requires within { (k : ℕ) → has owed.now k ≡ true → k < length entries.now }
+    requires fits { 64 * length owed.now < 2 ^ 64 }
+    ensures { (must : List ℕ) → OnOk result (numbers.new.items ≡ numbers.old.items ++ map (λ debt. debt.message) (row_debts entries.now owed.now must)) }
+{
+    let mut from = 0;
+    while let Some(at) = next(owed, from) {
+        numbers.push(entries[at].message)?;
+        from = at + 1;
+    }
+    Ok(())
+}
+
+/// What is owed, with equal neighbours in one.
+pub(crate) fn runs(
+    alloc: Global,
+    entries: &[Entry],
+    owed: &[u64],
+    must: &[u64],
+) -> Result<Vec<Run>, AllocError>
+    requires within { (k : ℕ) → has owed.now k ≡ true → k < length entries.now }
+    requires fits { 64 * length owed.now < 2 ^ 64 }
+    ensures { IfOk result (λ runs. AreRuns (row_debts entries.now owed.now must.now) runs.items) }
+{
+    let mut runs = Vec::new(alloc);
+    let mut from = 0;
+    while let Some(at) = next(owed, from) {
+        let entry = entries[at];
+        let debt = Debt {
+            message: entry.message,
+            deadline: entry.deadline,
+            must: has(must, at),
+        };
+        append(&mut runs, debt)?;
+        from = at + 1;
+    }
+    Ok(runs)
 }

@@ -1,45 +1,64 @@
 //! Rows of words, one behind another.
-ghost use Rattle.std.specs.Prelude.{◌≡◌, ◌↔◌, ◌<◌, ◌≤◌, ◌+◌, ◌*◌, ◌^◌, ◌++◌, ◌∷◌, [], ℕ, List, IsTrue, All, true, false, length, filter};
-ghost use Rattle.std.specs.Bool.{OnTrue, OnFalse};
-ghost use Rattle.std.specs.List.{list_any};
+ghost use Rattle.std.specs.Prelude.{◌≡◌, ◌↔◌, ◌<◌, ◌≤◌, ◌+◌, ◌*◌, ◌^◌, ◌++◌, ◌∷◌, [], ℕ, Bool, List, IsTrue, IfSome, IfNone, IfOk, OnOk, true, false, length, filter, map};
 ghost use Rattle.sip_ledger.specs.Bits.{has};
-ghost use Rattle.sip_ledger.specs.Debts.{IsWithoutFirst, counts_at, is_payable, debt_deadlines, earliest};
+ghost use Rattle.sip_ledger.specs.Debts.{IsWithoutFirst, counts_at, is_any_payable, debt_deadlines, earliest};
+ghost use Rattle.sip_ledger.specs.declared.debt.Debt.{Debt};
 ghost use Rattle.sip_ledger.specs.declared.debt.Entry.{Entry};
 ghost use Rattle.sip_ledger.specs.Rows.{debt_of};
 ghost use Rattle.sip_ledger.specs.Ledgers.{part, row_at};
-ghost use Rattle.sip_ledger.specs.inner.Places.{IsGainedAt};
+ghost use Rattle.sip_ledger.specs.Runs.{AreRuns};
+ghost use Rattle.sip_ledger.specs.inner.Places.{IsBit, IsFirst, NonePasses, AsksNoMust, IsGainedAt};
 ghost use Rattle.sip_ledger.specs.inner.Tables.{IsInside, IsTableRow, ChangesRow, ChangesTable};
 
 use crate::bits;
 use crate::debt::Entry;
-use crate::row;
+use crate::row::{self, Place};
+use crate::run::Run;
+use std::alloc::{AllocError, Global};
 
-/// Takes out of the row the first debt that a send of the message at the moment pays, and tells whether there was one.
-pub(crate) fn pay(
+/// The first bit of the row whose debt a send of one of the messages at the moment pays.
+pub(crate) fn first_payable(
+    entries: &[Entry],
+    owed: &[u64],
+    width: usize,
+    row: usize,
+    numbers: &[u32],
+    moment: u64,
+) -> Option<Place>
+    requires inside { IsInside width row owed.now }
+    requires within { (k : ℕ) → has (part width row owed.now) k ≡ true → k < length entries.now }
+    requires fits { 64 * width < 2 ^ 64 }
+    ensures found { IfSome result (IsFirst (is_any_payable numbers.now moment) entries.now (has (part width row owed.now))) }
+    ensures none { IfNone result (NonePasses (is_any_payable numbers.now moment) entries.now (has (part width row owed.now))) }
+{
+    let start = row * width;
+    let end = start + width;
+    row::first_payable(entries, &owed[start..end], numbers, moment)
+}
+
+/// Takes the debt at the place out of the row.
+pub(crate) fn take_out(
     entries: &[Entry],
     owed: &mut [u64],
     must: &mut [u64],
     width: usize,
     row: usize,
-    message: u32,
-    moment: u64,
-) -> bool
-    requires { IsTableRow entries.now width row owed.old must.old }
+    place: Place,
+)
+    requires row { IsTableRow entries.now width row owed.old must.old }
+    requires bit { IsBit (has (part width row owed.old)) place }
     ensures changes { ChangesTable entries.now width row owed.old must.old owed.new must.new }
-    ensures paid { OnTrue result (IsWithoutFirst (λ debt. IsTrue (is_payable message moment debt))
-        (row_at entries.now width owed.old must.old row) (row_at entries.now width owed.new must.new row)) }
-    ensures unpaid { OnFalse result ((row_at entries.now width owed.new must.new row ≡ row_at entries.now width owed.old must.old row)
-        × All (λ debt. ¬ (IsTrue (is_payable message moment debt))) (row_at entries.now width owed.old must.old row)) }
+    ensures taken { (test : Debt → Bool) → AsksNoMust test → IsFirst test entries.now (has (part width row owed.old)) place →
+        IsWithoutFirst (λ debt. IsTrue (test debt)) (row_at entries.now width owed.old must.old row) (row_at entries.now width owed.new must.new row) }
 {
     let start = row * width;
     let end = start + width;
-    row::pay(
+    row::take_out(
         entries,
         &mut owed[start..end],
         &mut must[start..end],
-        message,
-        moment,
-    )
+        place,
+    );
 }
 
 /// Drops what the row may send and whose deadline is below the moment.
@@ -85,25 +104,6 @@ pub(crate) fn copy(words: &mut [u64], width: usize, from: usize, to: usize)
 {
     let start = from * width;
     words.copy_within(start..start + width, to * width);
-}
-
-/// Whether the row has a debt that a send of the message at the moment pays.
-pub(crate) fn can_pay(
-    entries: &[Entry],
-    owed: &[u64],
-    width: usize,
-    row: usize,
-    message: u32,
-    moment: u64,
-) -> bool
-    requires inside { IsInside width row owed.now }
-    requires within { (k : ℕ) → has (part width row owed.now) k ≡ true → k < length entries.now }
-    requires fits { 64 * width < 2 ^ 64 }
-    ensures { (must : List ℕ) → result ≡ list_any (is_payable message moment) (row_at entries.now width owed.now must row) }
-{
-    let start = row * width;
-    let end = start + width;
-    row::can_pay(entries, &owed[start..end], message, moment)
 }
 
 /// Whether the row owes nothing.
@@ -175,4 +175,50 @@ pub(crate) fn gain(
     let start = row * width;
     let end = start + width;
     row::owe(&mut owed[start..end], &mut must[start..end], at, due);
+}
+
+/// Whether two rows have the same bits.
+pub(crate) fn same(words: &[u64], width: usize, row: usize, other: usize) -> bool
+    requires row { IsInside width row words.now }
+    requires other { IsInside width other words.now }
+    ensures { IsTrue result ↔ (part width row words.now ≡ part width other words.now) }
+{
+    let start = row * width;
+    let begin = other * width;
+    &words[start..start + width] == &words[begin..begin + width]
+}
+
+/// Puts the number of each message that the row owes behind the others, once for each debt.
+pub(crate) fn names(
+    entries: &[Entry],
+    owed: &[u64],
+    width: usize,
+    row: usize,
+    numbers: &mut Vec<u32>,
+) -> Result<(), AllocError>
+    requires inside { IsInside width row owed.now }
+    requires within { (k : ℕ) → has (part width row owed.now) k ≡ true → k < length entries.now }
+    requires fits { 64 * width < 2 ^ 64 }
+    ensures { (must : List ℕ) → OnOk result (numbers.new.items ≡ numbers.old.items ++ map (λ debt. debt.message) (row_at entries.now width owed.now must row)) }
+{
+    let start = row * width;
+    let end = start + width;
+    row::names(entries, &owed[start..end], numbers)
+}
+
+/// What the row owes, with equal neighbours in one.
+pub(crate) fn runs(
+    alloc: Global,
+    entries: &[Entry],
+    owed: &[u64],
+    must: &[u64],
+    width: usize,
+    row: usize,
+) -> Result<Vec<Run>, AllocError>
+    requires { IsTableRow entries.now width row owed.now must.now }
+    ensures { IfOk result (λ runs. AreRuns (row_at entries.now width owed.now must.now row) runs.items) }
+{
+    let start = row * width;
+    let end = start + width;
+    row::runs(alloc, entries, &owed[start..end], &must[start..end])
 }

@@ -1,7 +1,8 @@
 //! The words of all rows, one row behind another.
-ghost use Rattle.std.specs.Prelude.{◌≡◌, ◌<◌, ◌≤◌, ◌+◌, ◌*◌, ◌++◌, ℕ, OnOk, OnErr, IfOk, length, drop, replicate, vec_len};
+ghost use Rattle.std.specs.Prelude.{◌≡◌, ◌<◌, ◌≤◌, ◌*◌, ◌++◌, ℕ, OnOk, OnErr, IfOk, length, drop, fold, get_or, replicate};
 ghost use Rattle.sip_ledger.specs.Ledgers.{part};
-ghost use Rattle.sip_ledger.specs.inner.Tables.{IsInside, IsWidened};
+ghost use Rattle.sip_ledger.specs.Prints.{mixed};
+ghost use Rattle.sip_ledger.specs.inner.Tables.{IsInside, IsWidened, IsNarrowed, IsEmptyFront};
 
 use std::alloc::{AllocError, Global};
 
@@ -42,14 +43,14 @@ pub(crate) fn copy_row(
     must.extend_from_within(start..end)
 }
 
-/// Drops the first words.
-pub(crate) fn drop_first(words: &mut Vec<u64>, count: usize)
-    requires { count ≤ length words.old.items }
-    ensures { words.new.items ≡ drop count words.old.items }
+/// Drops the first items.
+pub(crate) fn drop_first<T: Copy + Drop>(items: &mut Vec<T>, count: usize)
+    requires { count ≤ length items.old.items }
+    ensures { items.new.items ≡ drop count items.old.items }
 {
-    let kept = words.len() - count;
-    words.copy_within(count.., 0);
-    words.truncate(kept);
+    let kept = items.len() - count;
+    items.copy_within(count.., 0);
+    items.truncate(kept);
 }
 
 /// A copy in which each row has a word more.
@@ -69,4 +70,59 @@ pub(crate) fn widened(
         wide.push(0)?;
     }
     Ok(wide)
+}
+
+/// How many words are 0 at the front of every row.
+pub(crate) fn empty_front(words: &[u64], width: usize, rows: usize) -> usize
+    requires { length words.now ≡ rows * width }
+    ensures within { result ≤ width }
+    ensures empty { IsEmptyFront width rows result words.now }
+{
+    let mut front = width;
+    for row in 0..rows {
+        let start = row * width;
+        front = zeros(&words[start..start + front]);
+        if front == 0 {
+            return 0;
+        }
+    }
+    front
+}
+
+/// How many words are 0 before the first that is not.
+fn zeros(words: &[u64]) -> usize
+    ensures within { result ≤ length words.now }
+    ensures zero { (k : ℕ) → k < result → get_or words.now k 0 ≡ 0 }
+{
+    for (i, word) in words.iter().enumerate() {
+        if *word != 0 {
+            return i;
+        }
+    }
+    words.len()
+}
+
+/// Takes the first words out of each row.
+pub(crate) fn narrow(words: &mut Vec<u64>, width: usize, rows: usize, dropped: usize)
+    requires long { length words.old.items ≡ rows * width }
+    requires within { dropped ≤ width }
+    ensures { IsNarrowed width rows dropped words.old.items words.new.items }
+{
+    let kept = width - dropped;
+    for row in 0..rows {
+        let start = row * width;
+        words.copy_within(start + dropped..start + width, row * kept);
+    }
+    words.truncate(rows * kept);
+}
+
+/// A number for the words, from another one.
+pub(crate) fn print(seed: u64, words: &[u64]) -> u64
+    ensures { result ≡ fold mixed seed words.now }
+{
+    let mut print = seed;
+    for word in words {
+        print = (print ^ *word).wrapping_mul(11_400_714_819_323_198_485);
+    }
+    print
 }

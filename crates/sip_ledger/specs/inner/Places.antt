@@ -1,23 +1,31 @@
 use Rattle.std.specs.Prelude.{◌≡◌, ◌≢◌, ◌&&◌, ◌||◌, ◌<◌, ◌≤◌, ◌-◌, ℕ, Bool, true, false, List, IsTrue, get_or, length, nat_le}
+use Rattle.sip_ledger.specs.declared.debt.Debt.{Debt}
 use Rattle.sip_ledger.specs.declared.debt.Entry.{Entry}
 use Rattle.sip_ledger.specs.declared.row.Place.{Place}
-use Rattle.sip_ledger.specs.Debts.{is_payable}
 use Rattle.sip_ledger.specs.Rows.{debt_of, IsGap}
 
 -- Places of bits in a row.
 
--- the bit at the place is the first one whose debt a send of the message at t pays, and the place begins behind the bit before it
-pub record IsFirstPayable (message t : ℕ) (entries : List Entry) (owed : ℕ → Bool) (place : Place) : Type 0 where
+-- a bit at the place, which begins behind the bit before it
+pub record IsBit (owed : ℕ → Bool) (place : Place) : Type 0 where
   pub is : owed place.at ≡ true
   pub after : place.low ≤ place.at
   pub gap : IsGap owed place.low place.at
   pub begins : 0 < place.low → owed (place.low - 1) ≡ true
-  pub pays : (e : Entry) → IsTrue (is_payable message t (debt_of (get_or entries place.at e) true))
-  pub before : (k : ℕ) (e : Entry) → k < place.at → owed k ≡ true → is_payable message t (debt_of (get_or entries k e) true) ≡ false
 
--- no debt of the row is paid by a send of the message at t
-abbrev pub NonePayable : ℕ → ℕ → List Entry → (ℕ → Bool) → Type 0
-NonePayable message t entries owed = (k : ℕ) (e : Entry) → owed k ≡ true → is_payable message t (debt_of (get_or entries k e) true) ≡ false
+-- the first bit whose debt passes the test
+pub record IsFirst (test : Debt → Bool) (entries : List Entry) (owed : ℕ → Bool) (place : Place) : Type 0 where
+  pub bit : IsBit owed place
+  pub passes : (e : Entry) → IsTrue (test (debt_of (get_or entries place.at e) true))
+  pub before : (k : ℕ) (e : Entry) → k < place.at → owed k ≡ true → test (debt_of (get_or entries k e) true) ≡ false
+
+-- no debt of the row passes the test
+abbrev pub NonePasses : (Debt → Bool) → List Entry → (ℕ → Bool) → Type 0
+NonePasses test entries owed = (k : ℕ) (e : Entry) → owed k ≡ true → test (debt_of (get_or entries k e) true) ≡ false
+
+-- the test asks not whether a debt has to be paid
+abbrev pub AsksNoMust : (Debt → Bool) → Type 0
+AsksNoMust test = (entry : Entry) (must : Bool) → test (debt_of entry must) ≡ test (debt_of entry true)
 
 -- a row whose bits may have room before them: those below low stand, and so do those whose gap begins behind the hole
 pub record IsOpenRow (entries : List Entry) (owed must : ℕ → Bool) (low hole : ℕ) : Type 0 where

@@ -1,4 +1,4 @@
-use Rattle.std.specs.Prelude.{◌≡◌, ◌≢◌, ◌<◌, ◌≤◌, ◌+◌, ◌*◌, ◌^◌, ℕ, List, [], ◌∷◌, ◌++◌, length}
+use Rattle.std.specs.Prelude.{◌≡◌, ◌≢◌, ◌<◌, ◌≤◌, ◌+◌, ◌-◌, ◌*◌, ◌^◌, ℕ, List, [], ◌∷◌, ◌++◌, length, drop, get_or}
 use Rattle.sip_ledger.specs.declared.debt.Entry.{Entry}
 use Rattle.sip_ledger.specs.Bits.{has}
 use Rattle.sip_ledger.specs.Rows.{IsRow}
@@ -34,6 +34,15 @@ pub record ChangesTable (entries : List Entry) (width row : ℕ) (owed must owed
 pub record IsWidened (width rows : ℕ) (old new : List ℕ) : Type 0 where
   pub long : length new ≡ rows * (width + 1)
   pub each : (k : ℕ) → k < rows → part (width + 1) k new ≡ part width k old ++ 0 ∷ []
+
+-- each row is without its first words
+pub record IsNarrowed (width rows dropped : ℕ) (old new : List ℕ) : Type 0 where
+  pub long : length new ≡ rows * (width - dropped)
+  pub each : (k : ℕ) → k < rows → part (width - dropped) k new ≡ drop dropped (part width k old)
+
+-- the first words of each row are 0
+abbrev pub IsEmptyFront : ℕ → ℕ → ℕ → List ℕ → Type 0
+IsEmptyFront width rows front words = (row n : ℕ) → row < rows → n < front → get_or (part width row words) n 0 ≡ 0
 
 -- an entry more behind the others, over which the rows have the bits that they had
 pub record IsGrown (entry : Entry) (old new : Table) : Type 0 where

@@ -17,7 +17,7 @@ pub has-is : (words : List ℕ) (k : ℕ) → has words k ≡ test (get_or words
 unfolding has
 has-is words k = refl
 
-test-zero : (i : ℕ) → test 0 i ≡ false
+pub test-zero : (i : ℕ) → test 0 i ≡ false
 unfolding test
 test-zero i = ap (λ n. n == 1) (bit_at-zero i)
 
@@ -45,11 +45,11 @@ has-set_there words bit k w there =
 abbrev pub with_bit : ℕ → ℕ → ℕ
 with_bit w i = bit_or w (1 * 2 ^ i % 2 ^ 64)
 
-test-with_same : (w i : ℕ) → i < 64 → test (with_bit w i) i ≡ true
+pub test-with_same : (w i : ℕ) → i < 64 → test (with_bit w i) i ≡ true
 unfolding test
 test-with_same w i low = ap (λ n. n == 1) (bit_at_set_same w64 w i low)
 
-test-with_other : (w i j : ℕ) → i < 64 → j ≢ i → test (with_bit w i) j ≡ test w j
+pub test-with_other : (w i j : ℕ) → i < 64 → j ≢ i → test (with_bit w i) j ≡ test w j
 unfolding test
 test-with_other w i j low other = ap (λ n. n == 1) (bit_at_set_other w64 w i low j other)
 
@@ -113,7 +113,7 @@ has-rest_none words at k none from below =
     let is : at + j ≡ k = omega (arith, from) in
     ap (has words) (sym is) ∙ has-rest words at j (omega (arith, is, below)) ∙ ap (λ w. test w j) none ∙ test-zero j
 
-lowest-set : (word : ℕ) → 0 < word → word < 2 ^ 64 → (trailing_zeros w64 word < 64) × (test word (trailing_zeros w64 word) ≡ true) × ((i : ℕ) → i < trailing_zeros w64 word → test word i ≡ false)
+pub lowest-set : (word : ℕ) → 0 < word → word < 2 ^ 64 → (trailing_zeros w64 word < 64) × (test word (trailing_zeros w64 word) ≡ true) × ((i : ℕ) → i < trailing_zeros w64 word → test word i ≡ false)
 unfolding test
 lowest-set word some small =
     let found = bit_at-trailing_zeros w64 word some small in

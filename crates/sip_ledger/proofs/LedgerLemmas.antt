@@ -1,12 +1,13 @@
 -- What the rows of a ledger owe, as its words change.
 use Rattle.std.proofs.Common.{◌≡◌, ◌≢◌, ℕ, ◌+◌, ◌-◌, ◌*◌, ◌/◌, ◌%◌, ◌^◌, ◌<◌, ◌≤◌, Bool, true, false, List, [], ◌∷◌, ◌++◌, length, take, drop, get_or, set, map, min, replicate, refl, sym, ap, ap₂, ◌∙◌, subst, inl, inr, arith}
 use Rattle.std.proofs.lemmas.Bool.{cases_lt, cases_eq, true≢false}
-use Rattle.std.proofs.lemmas.List.{length-append, length-drop, length-take-le, length-set, length_push, length-replicate, get_or_append_left, get_or_push, get_or_past, get_or-take, get_or-drop, get_or-replicate, get_or-set_same, get_or-set_other, same_lists, drop_all}
+use Rattle.std.proofs.lemmas.List.{length-append, length-drop, length-take-le, length-set, length_push, length-replicate, get_or_append_left, get_or_push, get_or_past, get_or-take, get_or-drop, get_or-replicate, get_or-set_same, get_or-set_other, set-get_or, same_lists, drop_all}
 use Rattle.std.proofs.lemmas.List.FromFn.{get_or-map-range_with_len, length-map-range_with_len}
 use Rattle.sip_masks.specs.Bits.{test}
 use Rattle.sip_ledger.specs.declared.debt.Debt.{Debt}
 use Rattle.sip_ledger.specs.declared.debt.Entry.{Entry}
 use Rattle.sip_ledger.specs.Bits.{has}
+use Rattle.sip_ledger.specs.Debts.{IsWithoutFirst}
 use Rattle.sip_ledger.specs.Rows.{debts_from, row_debts, IsRow, IsGap}
 use Rattle.sip_ledger.specs.Ledgers.{Table, table_of, part, row_at, rows_of, row_of, IsLedger}
 use Rattle.sip_ledger.specs.inner.Places.{IsGainedAt}
@@ -374,3 +375,45 @@ tidied t dropped past owed' must' entries' ledger few is_past empty owed_narrow 
           ∙ sym (listed-none o m 0 entries (λ k _ below. unset k (omega (arith, below, past))))
       | inr within ↦ shifted-debts entries o m n within unset
     ]
+
+-- A ledger t whose value is v, in the words of a contract.
+
+pub row-within : (t v : Table) (row : ℕ) → t ≡ v → row < length (rows_of v) → row < t.rows
+row-within t v row view inside = rows-inside t row (subst (λ x. row < length (rows_of x)) (sym view) inside)
+
+pub row-before_change : (t v : Table) (row : ℕ) → t ≡ v → row < t.rows → row_of v row ≡ row_in t row
+row-before_change t v row view inside = ap (λ x. row_of x row) (sym view) ∙ row-is t row inside
+
+-- the row owes this then
+pub changed-to : (t v : Table) (row : ℕ) (owed' must' : List ℕ) (debts : List Debt) → t ≡ v → IsChanged t row owed' must' → row_in (with_words t owed' must') row ≡ debts →
+    rows_of (with_words t owed' must') ≡ set (rows_of v) row debts
+changed-to t v row owed' must' debts view is same = is.rows ∙ ap₂ (λ l d. set l row d) (ap rows_of view) same
+
+-- the row owes what it owed but for the first debt of a kind
+pub changed-first : (P : Debt → Type 0) (t v : Table) (row : ℕ) (owed' must' : List ℕ) → t ≡ v → row < t.rows → IsChanged t row owed' must' →
+    IsWithoutFirst P (row_in t row) (row_in (with_words t owed' must') row) → IsWithoutFirst P (row_of v row) (row_of (with_words t owed' must') row)
+changed-first P t v row owed' must' view inside is without =
+    subst (λ l. IsWithoutFirst P l (row_of (with_words t owed' must') row)) (sym (row-before_change t v row view inside))
+    (subst (λ l. IsWithoutFirst P (row_in t row) l) (sym is.after) without)
+
+pub changed-others : (t v : Table) (row : ℕ) (owed' must' : List ℕ) → t ≡ v → IsChanged t row owed' must' →
+    rows_of (with_words t owed' must') ≡ set (rows_of v) row (row_of (with_words t owed' must') row)
+changed-others t v row owed' must' view is = changed-to t v row owed' must' (row_of (with_words t owed' must') row) view is (sym is.after)
+
+pub unchanged-others : (v : Table) (row : ℕ) → rows_of v ≡ set (rows_of v) row (row_of v row)
+unchanged-others v row = sym (set-get_or (rows_of v) row [])
+
+pub no-rows : (t v : Table) → t ≡ v → (t.rows ≡ 0 → rows_of v ≡ []) × (rows_of v ≡ [] → t.rows ≡ 0)
+no-rows t v view = (
+  (λ none. ap rows_of (sym view) ∙ rows-none t none),
+  (λ none. sym (rows-length t) ∙ ap length (ap rows_of view ∙ none)),
+)
+
+pub empty-ledger : (entries : List Entry) (owed must : List ℕ) → entries ≡ [] → owed ≡ [] → must ≡ [] → IsLedger (table_of entries 0 0 owed must)
+empty-ledger entries owed must no_entries no_owed no_must = record {
+  owed_long = ap length no_owed;
+  must_long = ap length no_must;
+  wide = omega (arith, ap length no_entries);
+  narrow = omega arith;
+  each = λ k below. absurd (omega (arith, below));
+}

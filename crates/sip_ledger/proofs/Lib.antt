@@ -5,3 +5,5 @@ pub mod TableLemmas
 pub mod LedgerLemmas
 pub mod RunLemmas
 pub mod WordsLemmas
+pub mod MemoLemmas
+pub mod WordLemmas

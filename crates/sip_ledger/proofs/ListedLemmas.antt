@@ -4,7 +4,7 @@ use Rattle.std.specs.Prelude.{All, nat_le, Some, option_to_list, min}
 use Rattle.std.specs.List.{fold}
 use Rattle.std.proofs.lemmas.Bool.{cases_lt, cases_eq}
 use Rattle.std.proofs.lemmas.List.{append_cancel_right, drop_more, drop_all, length-drop, length-take-le, get_or-take, get_or-drop, take-append-drop, take_more}
-use Rattle.std.proofs.lemmas.List.Elements.{All-nil, All-cons}
+use Rattle.std.proofs.lemmas.List.Elements.{All-nil, All-cons, All-head, All-tail, All-map}
 use Rattle.sip_ledger.specs.declared.debt.Debt.{Debt}
 use Rattle.sip_ledger.specs.declared.debt.Entry.{Entry}
 use Rattle.sip_ledger.specs.Debts.{counts_at, softened_debt, debt_deadlines, earliest}
@@ -222,3 +222,13 @@ listed-shift o m n i (x ∷ xs) =
     let next : n + (i + 1) ≡ n + i + 1 = omega arith in
     cond-same (o (n + i)) (o (n + i)) (debt_of x (m (n + i))) (debt_of x (m (n + i))) (debts_from (λ k. o (n + k)) (λ k. m (n + k)) (i + 1) xs) (debts_from o m (n + i + 1) xs) refl refl
     (listed-shift o m n (i + 1) xs ∙ ap (λ j. debts_from o m j xs) next)
+
+-- the least of rising moments is the first one
+fold-first : (x : ℕ) (xs : List ℕ) → All (λ y. x ≤ y) xs → fold min x xs ≡ x
+fold-first x [] above = refl
+fold-first x (y ∷ ys) above =
+    let here : min x y ≡ x = omega (arith, All-head (λ z. x ≤ z) y ys above) in
+    ap (λ n. fold min n ys) here ∙ fold-first x ys (All-tail (λ z. x ≤ z) y ys above)
+
+pub earliest-first : (x : ℕ) (xs : List ℕ) → All (λ y. x ≤ y) xs → Some x ≡ earliest (x ∷ xs)
+earliest-first x xs above = ap Some (sym (fold-first x xs above))

@@ -1,14 +1,17 @@
 //! What many rows owe.
-ghost use Rattle.std.specs.Prelude.{◌≡◌, ◌↔◌, ◌<◌, ◌++◌, ◌∷◌, [], ℕ, List, IsTrue, OnOk, OnErr, IfOk, All, length, set, map, filter, take, drop};
+ghost use Rattle.std.specs.Prelude.{◌≡◌, ◌↔◌, ◌<◌, ◌++◌, ◌∷◌, [], ℕ, List, IsTrue, OnOk, OnErr, IfOk, All, true, length, set, map, filter, take, drop};
 ghost use Rattle.std.specs.Bool.{OnTrue, OnFalse};
 ghost use Rattle.std.specs.List.{list_any};
 ghost use Rattle.sip_ledger.specs.Debts.{IsWithoutFirst, counts_at, softened_debt, is_payable, is_any_payable, debt_deadlines, earliest};
 ghost use Rattle.sip_ledger.specs.Ledgers.{rows_of, row_of};
 ghost use Rattle.sip_ledger.specs.Prints.{print_of};
 ghost use Rattle.sip_ledger.specs.Runs.{AreRuns};
+ghost use Rattle.sip_ledger.specs.inner.Places.{AreRising};
 ghost use Rattle.sip_ledger.specs.inner.Tables.{IsGrown, IsPlace};
 
 use crate::debt::{Debt, Entry};
+use crate::memo::{Memo, Question};
+use crate::row;
 use crate::run::Run;
 use crate::table;
 use crate::words;
@@ -17,6 +20,7 @@ use std::marker::Model;
 
 /// What each of many rows owes, oldest first: one list of entries for all, and for each row a bit for each entry that it owes
 /// and one for each that it must send. Rows have their words one behind another; where no row ever owed anything there are none.
+/// What is asked of all rows at one moment is answered for all entries once, while one word has them.
 #[derive(Debug, Drop)]
 pub struct Ledger {
     entries: Vec<Entry>,
@@ -24,16 +28,20 @@ pub struct Ledger {
     rows: usize,
     owed: Vec<u64>,
     must: Vec<u64>,
+    rises: bool,
+    payable: Memo,
+    past: Memo,
 }
 
 impl Model for Ledger {
-    ghost use Rattle.sip_ledger.specs.Ledgers.{Table, table_of, IsLedger};
+    ghost use Rattle.sip_ledger.specs.Ledgers.{Table, table_of};
+    ghost use Rattle.sip_ledger.specs.inner.Memos.{IsKept};
 
     ghost Value = { Table };
 
     ghost view = { λ l. table_of l.entries.items l.width l.rows l.owed.items l.must.items };
 
-    ghost invariant = { λ l. IsLedger (table_of l.entries.items l.width l.rows l.owed.items l.must.items) };
+    ghost invariant = { λ l. IsKept (table_of l.entries.items l.width l.rows l.owed.items l.must.items) l.rises l.payable l.past };
 }
 
 impl Ledger {
@@ -47,6 +55,9 @@ impl Ledger {
             rows: 0,
             owed: Vec::new(alloc),
             must: Vec::new(alloc),
+            rises: true,
+            payable: Memo::none(),
+            past: Memo::none(),
         }
     }
 
@@ -161,8 +172,10 @@ impl Ledger {
         ensures ok { OnOk result (IsGrown entry self.old self.new) }
         ensures err { OnErr result (self.new ≡ self.old) }
     {
+        let rises = rise(&self.entries, self.rises, entry);
         if self.entries.len() < 64 * self.width {
             self.entries.push(entry)?;
+            self.rises = rises;
             return Ok(());
         }
         let alloc = *self.entries.allocator();
@@ -173,6 +186,7 @@ impl Ledger {
         self.owed = owed;
         self.must = must;
         self.width += 1;
+        self.rises = rises;
         Ok(())
     }
 
@@ -183,7 +197,28 @@ impl Ledger {
         ensures unpaid { OnFalse result ((rows_of self.new ≡ rows_of self.old) × All (λ debt. ¬ (IsTrue (is_payable message moment debt))) (row_of self.old row)) }
         ensures others { rows_of self.new ≡ set (rows_of self.old) row (row_of self.new row) }
     {
-        self.pay_any(row, &[message], moment)
+        if self.width != 1 {
+            return self.pay_any(row, &[message], moment);
+        }
+        let question = Question {
+            message: Some(message),
+            moment,
+        };
+        self.payable = self.payable.asked(&self.entries, question);
+        match row::first_in(self.owed[row], self.payable.bits) {
+            Some(place) => {
+                table::take_out(
+                    &self.entries,
+                    &mut self.owed,
+                    &mut self.must,
+                    1,
+                    row,
+                    place,
+                );
+                true
+            }
+            None => false,
+        }
     }
 
     /// The same of a send of one of these messages.
@@ -217,19 +252,28 @@ impl Ledger {
     }
 
     /// Whether the row has a debt that a send of the message at the moment pays.
-    pub fn can_pay(&self, row: usize, message: u32, moment: u64) -> bool
-        requires { row < length (rows_of self.now) }
-        ensures { result ≡ list_any (is_payable message moment) (row_of self.now row) }
+    pub fn can_pay(&mut self, row: usize, message: u32, moment: u64) -> bool
+        requires { row < length (rows_of self.old) }
+        ensures same { self.new ≡ self.old }
+        ensures can { result ≡ list_any (is_payable message moment) (row_of self.old row) }
     {
-        table::first_payable(
-            &self.entries,
-            &self.owed,
-            self.width,
-            row,
-            &[message],
+        if self.width != 1 {
+            return table::first_payable(
+                &self.entries,
+                &self.owed,
+                self.width,
+                row,
+                &[message],
+                moment,
+            )
+            .is_some();
+        }
+        let question = Question {
+            message: Some(message),
             moment,
-        )
-        .is_some()
+        };
+        self.payable = self.payable.asked(&self.entries, question);
+        row::first_in(self.owed[row], self.payable.bits).is_some()
     }
 
     /// Drops what the row may send and whose deadline is below the moment.
@@ -237,6 +281,9 @@ impl Ledger {
         requires { row < length (rows_of self.old) }
         ensures { rows_of self.new ≡ set (rows_of self.old) row (filter (counts_at moment) (row_of self.old row)) }
     {
+        if self.is_fresh(row, moment) {
+            return;
+        }
         table::expire(
             &self.entries,
             &mut self.owed,
@@ -245,6 +292,23 @@ impl Ledger {
             row,
             moment,
         );
+    }
+
+    /// Whether nothing of the row expires, as far as one word tells.
+    fn is_fresh(&mut self, row: usize, moment: u64) -> bool
+        requires { row < length (rows_of self.old) }
+        ensures same { self.new ≡ self.old }
+        ensures fresh { OnTrue result (filter (counts_at moment) (row_of self.old row) ≡ row_of self.old row) }
+    {
+        if self.width != 1 {
+            return false;
+        }
+        let question = Question {
+            message: None,
+            moment,
+        };
+        self.past = self.past.asked(&self.entries, question);
+        self.owed[row] & self.past.bits & !self.must[row] == 0
     }
 
     /// Of what the row owes, nothing has to be sent any more.
@@ -269,6 +333,9 @@ impl Ledger {
         requires { row < length (rows_of self.now) }
         ensures { result ≡ earliest (debt_deadlines (row_of self.now row)) }
     {
+        if self.rises {
+            return table::first_must(&self.entries, &self.must, self.width, row);
+        }
         table::earliest_must(&self.entries, &self.must, self.width, row)
     }
 
@@ -337,5 +404,16 @@ impl Ledger {
         let past = self.entries.len().min(64 * dropped);
         words::drop_first(&mut self.entries, past);
         self.width -= dropped;
+        self.payable = Memo::none();
+        self.past = Memo::none();
     }
+}
+
+/// Whether deadlines never fall, with one entry more.
+fn rise(entries: &[Entry], rises: bool, entry: Entry) -> bool
+    requires { rises ≡ true → AreRising entries.now }
+    ensures { result ≡ true → AreRising (entries.now ++ entry ∷ []) }
+{
+    let count = entries.len();
+    count == 0 || (rises && entries[count - 1].deadline <= entry.deadline)
 }

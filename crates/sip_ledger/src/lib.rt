@@ -4,6 +4,7 @@
 mod bits;
 mod debt;
 mod ledger;
+mod memo;
 mod row;
 mod run;
 mod table;

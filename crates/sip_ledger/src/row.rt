@@ -1,9 +1,10 @@
 //! A row of bits over a list of entries: what one state owes, and what of it must be sent.
 ghost use Rattle.std.specs.Prelude.{◌≡◌, ◌≢◌, ◌↔◌, ℕ, ◌+◌, ◌-◌, ◌*◌, ◌/◌, ◌^◌, ◌<◌, ◌≤◌, ◌++◌, ◌∷◌, [], true, false, Bool, List, Some, option_to_list, length, get_or, filter, map, IsTrue, IfSome, IfNone, IfOk, OnOk};
+ghost use Rattle.sip_masks.specs.Bits.{test};
 ghost use Rattle.sip_ledger.specs.Bits.{has};
 ghost use Rattle.sip_ledger.specs.Debts.{IsWithoutFirst, counts_at, is_any_payable, debt_deadlines, earliest};
 ghost use Rattle.sip_ledger.specs.Rows.{debt_of, row_debts, IsRow, IsGap};
-ghost use Rattle.sip_ledger.specs.inner.Places.{IsBit, IsFirst, NonePasses, AsksNoMust, IsOpenRow, IsMoved, IsGainedAt, IsExpired};
+ghost use Rattle.sip_ledger.specs.inner.Places.{AreRising, IsBit, IsFirst, IsFirstIn, NonePasses, AsksNoMust, IsOpenRow, IsMoved, IsGainedAt, IsExpired};
 ghost use Rattle.sip_ledger.specs.Runs.{AreRuns};
 
 ghost use Rattle.sip_ledger.specs.declared.debt.Debt.{Debt};
@@ -43,6 +44,23 @@ pub(crate) fn first_payable(
         low = at + 1;
     }
     None
+}
+
+/// The first bit of the word that the mask has too.
+pub(crate) fn first_in(owed: u64, bits: u64) -> Option<Place>
+    ensures found { IfSome result (IsFirstIn owed bits) }
+    ensures none { IfNone result ((k : ℕ) → has (owed ∷ []) k ≡ true → test bits k ≡ false) }
+{
+    let both = owed & bits;
+    if both == 0 {
+        return None;
+    }
+    let at = both.trailing_zeros() as usize;
+    let before = owed & ((1 << at) - 1);
+    Some(Place {
+        low: end(&[before]),
+        at,
+    })
 }
 
 /// Whether a send of one of the messages at the moment pays a debt of the entry.
@@ -178,6 +196,20 @@ pub(crate) fn earliest_must(entries: &[Entry], must: &[u64]) -> Option<u64>
         from = at + 1;
     }
     least
+}
+
+/// The same where deadlines never fall.
+pub(crate) fn first_must(entries: &[Entry], must: &[u64]) -> Option<u64>
+    requires within { (k : ℕ) → has must.now k ≡ true → k < length entries.now }
+    requires fits { 64 * length must.now < 2 ^ 64 }
+    requires rising { AreRising entries.now }
+    ensures { (owed : List ℕ) → IsRow entries.now (has owed) (has must.now) →
+        result ≡ earliest (debt_deadlines (row_debts entries.now owed must.now)) }
+{
+    match next(must, 0) {
+        Some(at) => Some(entries[at].deadline),
+        None => None,
+    }
 }
 
 /// The earlier of a moment and another one, if there is one.

@@ -7,7 +7,7 @@ ghost use Rattle.sip_ledger.specs.declared.debt.Entry.{Entry};
 ghost use Rattle.sip_ledger.specs.Rows.{debt_of};
 ghost use Rattle.sip_ledger.specs.Ledgers.{part, row_at};
 ghost use Rattle.sip_ledger.specs.Runs.{AreRuns};
-ghost use Rattle.sip_ledger.specs.inner.Places.{IsBit, IsFirst, NonePasses, AsksNoMust, IsGainedAt};
+ghost use Rattle.sip_ledger.specs.inner.Places.{AreRising, IsBit, IsFirst, NonePasses, AsksNoMust, IsGainedAt};
 ghost use Rattle.sip_ledger.specs.inner.Tables.{IsInside, IsTableRow, ChangesRow, ChangesTable};
 
 use crate::bits;
@@ -134,6 +134,20 @@ pub(crate) fn earliest_must(
     let start = row * width;
     let end = start + width;
     row::earliest_must(entries, &must[start..end])
+}
+
+/// The same where deadlines never fall.
+pub(crate) fn first_must(entries: &[Entry], must: &[u64], width: usize, row: usize) -> Option<u64>
+    requires inside { IsInside width row must.now }
+    requires within { (k : ℕ) → has (part width row must.now) k ≡ true → k < length entries.now }
+    requires fits { 64 * width < 2 ^ 64 }
+    requires rising { AreRising entries.now }
+    ensures { (owed : List ℕ) → IsTableRow entries.now width row owed must.now →
+        result ≡ earliest (debt_deadlines (row_at entries.now width owed must.now row)) }
+{
+    let start = row * width;
+    let end = start + width;
+    row::first_must(entries, &must[start..end])
 }
 
 /// Where the row gains a debt of this entry: the index of an entry that is there, or the number of all.

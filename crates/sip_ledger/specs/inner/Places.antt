@@ -1,7 +1,9 @@
-use Rattle.std.specs.Prelude.{◌≡◌, ◌≢◌, ◌&&◌, ◌||◌, ◌<◌, ◌≤◌, ◌-◌, ℕ, Bool, true, false, List, IsTrue, get_or, length, nat_le}
+use Rattle.std.specs.Prelude.{◌≡◌, ◌≢◌, ◌&&◌, ◌||◌, ◌<◌, ◌≤◌, ◌-◌, ℕ, Bool, true, false, List, [], ◌∷◌, IsTrue, get_or, length, nat_le}
+use Rattle.sip_masks.specs.Bits.{test}
 use Rattle.sip_ledger.specs.declared.debt.Debt.{Debt}
 use Rattle.sip_ledger.specs.declared.debt.Entry.{Entry}
 use Rattle.sip_ledger.specs.declared.row.Place.{Place}
+use Rattle.sip_ledger.specs.Bits.{has}
 use Rattle.sip_ledger.specs.Rows.{debt_of, IsGap}
 
 -- Places of bits in a row.
@@ -22,6 +24,12 @@ pub record IsFirst (test : Debt → Bool) (entries : List Entry) (owed : ℕ →
 -- no debt of the row passes the test
 abbrev pub NonePasses : (Debt → Bool) → List Entry → (ℕ → Bool) → Type 0
 NonePasses test entries owed = (k : ℕ) (e : Entry) → owed k ≡ true → test (debt_of (get_or entries k e) true) ≡ false
+
+-- the first bit of one word that a mask has too
+pub record IsFirstIn (owed bits : ℕ) (place : Place) : Type 0 where
+  pub bit : IsBit (has (owed ∷ [])) place
+  pub marked : test bits place.at ≡ true
+  pub before : (k : ℕ) → k < place.at → has (owed ∷ []) k ≡ true → test bits k ≡ false
 
 -- the test asks not whether a debt has to be paid
 abbrev pub AsksNoMust : (Debt → Bool) → Type 0

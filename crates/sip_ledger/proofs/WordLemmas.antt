@@ -17,7 +17,7 @@ use Rattle.sip_ledger.specs.Debts.{counts_at}
 use Rattle.sip_ledger.specs.Rows.{debts_from, IsGap}
 use Rattle.sip_ledger.specs.Ledgers.{part}
 use Rattle.sip_ledger.specs.inner.Memos.{asked_of, IsMask}
-use Rattle.sip_ledger.specs.inner.Places.{IsFirst, IsFirstIn, NonePasses}
+use Rattle.sip_ledger.specs.inner.Places.{AreRising, IsFirst, IsFirstIn, NonePasses}
 use Rattle.sip_ledger.specs.declared.row.Place.{Place}
 use Rattle.sip_ledger.proofs.BitsLemmas.{has-is, has-past, test-zero, lowest-set}
 use Rattle.sip_ledger.proofs.ListedLemmas.{listed-counting}
@@ -148,6 +148,22 @@ fresh-word t entries owed bits must small mask within zero =
               or_right (m j) (nat_le t (get_or entries j e).deadline)
               (le-leb t (get_or entries j e).deadline (ltb-false (get_or entries j e).deadline t (sym (mask.tells j e inside) ∙ unmarked)))
         ] in r in
+    subst (λ n. o n ≡ (o n && (m n || nat_le t (get_or entries j e).deadline))) (sym here) (kept (o j) (m j || nat_le t (get_or entries j e).deadline) counts)))
+  where
+    kept : (a b : Bool) → (a ≡ true → b ≡ true) → a ≡ (a && b)
+    kept true b then = sym (then refl)
+    kept false b then = refl
+
+-- where deadlines never fall and the first debt counts, all do
+pub fresh-first : (t : ℕ) (entries : List Entry) (o m : ℕ → Bool) (at : ℕ) → AreRising entries → ((k : ℕ) → k < at → o k ≡ false) →
+    ((e : Entry) → at < length entries → t ≤ (get_or entries at e).deadline) → filter (counts_at t) (debts_from o m 0 entries) ≡ debts_from o m 0 entries
+fresh-first t entries o m at rises none first =
+    sym (listed-counting t o m o 0 entries (λ j e inside.
+    let here : 0 + j ≡ j = omega arith in
+    let counts = λ (set : o j ≡ true). let r : (m j || nat_le t (get_or entries j e).deadline) ≡ true =
+        let above : at ≤ j = elim (cases_lt j at) [ inl under ↦ absurd (true≢false (sym set ∙ none j under)) | inr over ↦ over ] in
+        or_right (m j) (nat_le t (get_or entries j e).deadline)
+        (le-leb t (get_or entries j e).deadline (omega (arith, first e (omega (arith, above, inside)), rises at j e above inside))) in r in
     subst (λ n. o n ≡ (o n && (m n || nat_le t (get_or entries j e).deadline))) (sym here) (kept (o j) (m j || nat_le t (get_or entries j e).deadline) counts)))
   where
     kept : (a b : Bool) → (a ≡ true → b ≡ true) → a ≡ (a && b)

@@ -294,14 +294,15 @@ impl Ledger {
         );
     }
 
-    /// Whether nothing of the row expires, as far as one word tells.
+    /// Whether it is plain that nothing of the row expires.
     fn is_fresh(&mut self, row: usize, moment: u64) -> bool
         requires { row < length (rows_of self.old) }
         ensures same { self.new ≡ self.old }
         ensures fresh { OnTrue result (filter (counts_at moment) (row_of self.old row) ≡ row_of self.old row) }
     {
         if self.width != 1 {
-            return false;
+            return self.rises
+                && table::is_fresh(&self.entries, &self.owed, self.width, row, moment);
         }
         let question = Question {
             message: None,

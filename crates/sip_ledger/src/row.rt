@@ -1,5 +1,6 @@
 //! A row of bits over a list of entries: what one state owes, and what of it must be sent.
 ghost use Rattle.std.specs.Prelude.{◌≡◌, ◌≢◌, ◌↔◌, ℕ, ◌+◌, ◌-◌, ◌*◌, ◌/◌, ◌^◌, ◌<◌, ◌≤◌, ◌++◌, ◌∷◌, [], true, false, Bool, List, Some, option_to_list, length, get_or, filter, map, IsTrue, IfSome, IfNone, IfOk, OnOk};
+ghost use Rattle.std.specs.Bool.{OnTrue};
 ghost use Rattle.sip_masks.specs.Bits.{test};
 ghost use Rattle.sip_ledger.specs.Bits.{has};
 ghost use Rattle.sip_ledger.specs.Debts.{IsWithoutFirst, counts_at, is_any_payable, debt_deadlines, earliest};
@@ -237,6 +238,19 @@ pub(crate) fn expire(entries: &[Entry], owed: &mut [u64], must: &mut [u64], mome
         at: entries.len(),
     };
     settle(entries, owed, must, all);
+}
+
+/// Whether it is plain that nothing expires, where deadlines never fall: the first of what is owed does not.
+pub(crate) fn is_fresh(entries: &[Entry], owed: &[u64], moment: u64) -> bool
+    requires within { (k : ℕ) → has owed.now k ≡ true → k < length entries.now }
+    requires fits { 64 * length owed.now < 2 ^ 64 }
+    requires rising { AreRising entries.now }
+    ensures { (must : List ℕ) → OnTrue result (filter (counts_at moment) (row_debts entries.now owed.now must) ≡ row_debts entries.now owed.now must) }
+{
+    match next(owed, 0) {
+        Some(at) => moment <= entries[at].deadline,
+        None => true,
+    }
 }
 
 /// Clears the bits of what may be sent and whose deadline is below the moment.

@@ -1,5 +1,6 @@
 //! Rows of words, one behind another.
 ghost use Rattle.std.specs.Prelude.{◌≡◌, ◌↔◌, ◌<◌, ◌≤◌, ◌+◌, ◌*◌, ◌^◌, ◌++◌, ◌∷◌, [], ℕ, Bool, List, IsTrue, IfSome, IfNone, IfOk, OnOk, true, false, length, filter, map};
+ghost use Rattle.std.specs.Bool.{OnTrue};
 ghost use Rattle.sip_ledger.specs.Bits.{has};
 ghost use Rattle.sip_ledger.specs.Debts.{IsWithoutFirst, counts_at, is_any_payable, debt_deadlines, earliest};
 ghost use Rattle.sip_ledger.specs.declared.debt.Debt.{Debt};
@@ -82,6 +83,25 @@ pub(crate) fn expire(
         &mut must[start..end],
         moment,
     );
+}
+
+/// Whether it is plain that nothing of the row expires, where deadlines never fall.
+pub(crate) fn is_fresh(
+    entries: &[Entry],
+    owed: &[u64],
+    width: usize,
+    row: usize,
+    moment: u64,
+) -> bool
+    requires inside { IsInside width row owed.now }
+    requires within { (k : ℕ) → has (part width row owed.now) k ≡ true → k < length entries.now }
+    requires fits { 64 * width < 2 ^ 64 }
+    requires rising { AreRising entries.now }
+    ensures { (must : List ℕ) → OnTrue result (filter (counts_at moment) (row_at entries.now width owed.now must row) ≡ row_at entries.now width owed.now must row) }
+{
+    let start = row * width;
+    let end = start + width;
+    row::is_fresh(entries, &owed[start..end], moment)
 }
 
 /// Clears the bits of the row.

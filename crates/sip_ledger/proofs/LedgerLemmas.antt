@@ -1,21 +1,27 @@
 -- What the rows of a ledger owe, as its words change.
 use Rattle.std.proofs.Common.{◌≡◌, ◌≢◌, ℕ, ◌+◌, ◌-◌, ◌*◌, ◌/◌, ◌%◌, ◌^◌, ◌<◌, ◌≤◌, Bool, true, false, List, [], ◌∷◌, ◌++◌, length, take, drop, get_or, set, map, min, replicate, refl, sym, ap, ap₂, ◌∙◌, subst, inl, inr, arith}
-use Rattle.std.proofs.lemmas.Bool.{cases_lt, cases_eq, true≢false}
-use Rattle.std.proofs.lemmas.List.{length-append, length-drop, length-take-le, length-set, length_push, length-replicate, get_or_append_left, get_or_push, get_or_past, get_or-take, get_or-drop, get_or-replicate, get_or-set_same, get_or-set_other, set-get_or, same_lists, drop_all}
+use Rattle.std.specs.Prelude.{All, IsTrue, ◌||◌, Option, None, Some, is_some, IfSome, IfNone}
+use Rattle.std.specs.List.{fold, list_any}
+use Rattle.std.proofs.lemmas.Bool.{cases_lt, cases_eq, true≢false, false_from_ne_true}
+use Rattle.std.proofs.lemmas.List.Elements.{All-weaker}
+use Rattle.std.proofs.lemmas.List.Folds.{list_any_none}
+use Rattle.std.proofs.lemmas.List.{length-append, length-drop, length-take, length-take-le, length-set, length_push, length-replicate, get_or_append_left, get_or_push, get_or_past, get_or-take, get_or-drop, get_or-replicate, get_or-set_same, get_or-set_other, set-get_or, same_lists, drop_all, take_all}
 use Rattle.std.proofs.lemmas.List.FromFn.{get_or-map-range_with_len, length-map-range_with_len}
 use Rattle.sip_masks.specs.Bits.{test}
 use Rattle.sip_ledger.specs.declared.debt.Debt.{Debt}
 use Rattle.sip_ledger.specs.declared.debt.Entry.{Entry}
+use Rattle.sip_ledger.specs.declared.row.Place.{Place}
 use Rattle.sip_ledger.specs.Bits.{has}
-use Rattle.sip_ledger.specs.Debts.{IsWithoutFirst}
+use Rattle.sip_ledger.specs.Debts.{IsWithoutFirst, is_payable, is_any_payable}
 use Rattle.sip_ledger.specs.Rows.{debts_from, row_debts, IsRow, IsGap}
 use Rattle.sip_ledger.specs.Ledgers.{Table, table_of, part, row_at, rows_of, row_of, IsLedger}
-use Rattle.sip_ledger.specs.inner.Places.{IsGainedAt}
-use Rattle.sip_ledger.specs.inner.Tables.{ChangesTable, IsWidened, IsNarrowed, IsEmptyFront, IsGrown}
+use Rattle.sip_ledger.specs.Prints.{mixed, print_of}
+use Rattle.sip_ledger.specs.inner.Places.{AsksNoMust, IsFirst, IsGainedAt, NonePasses}
+use Rattle.sip_ledger.specs.inner.Tables.{ChangesRow, ChangesTable, IsWidened, IsNarrowed, IsEmptyFront, IsGrown, IsPlace}
 use Rattle.sip_ledger.proofs.BitsLemmas.{has-is, has-past, has-zero_word}
 use Rattle.sip_ledger.proofs.ListedLemmas.{parts, listed-same, listed-none, listed-shift}
-use Rattle.sip_ledger.proofs.RowLemmas.{grown-row, grown-debts}
-use Rattle.sip_ledger.proofs.TableLemmas.{part-of_more, part-of_last, part-take, part-drop, fewer-words, with_words, table-ledger, same-row}
+use Rattle.sip_ledger.proofs.RowLemmas.{first-any, grown-row, grown-debts, grown-gained, none-passes, same-words}
+use Rattle.sip_ledger.proofs.TableLemmas.{row-before, row-inside, length-part, part-of_more, part-of_last, part-take, part-drop, fewer-words, with_words, table-ledger, same-row}
 
 -- what a row of a table owes, by its words
 abbrev pub row_in : Table → ℕ → List Debt
@@ -317,6 +323,26 @@ has-dropped words n k =
 pub front-unset : (words : List ℕ) (front k : ℕ) → ((n : ℕ) → n < front → get_or words n 0 ≡ 0) → k < 64 * front → has words k ≡ false
 front-unset words front k zero below = has-zero_word words (k / 64) k (zero (k / 64) (omega (arith, below))) (omega arith) (omega arith)
 
+-- the first entries are dropped, as many as there are
+least-dropped : (n : ℕ) (entries : List Entry) → drop (min (length entries) n) entries ≡ drop n entries
+least-dropped n entries =
+    elim (cases_lt n (length entries)) [
+      | inl less ↦ let is : min (length entries) n ≡ n = omega (arith, less) in ap (λ k. drop k entries) is
+      | inr more ↦
+          let is : min (length entries) n ≡ length entries = omega (arith, more) in
+          ap (λ k. drop k entries) is ∙ drop_all (length entries) entries (omega arith) ∙ sym (drop_all n entries more)
+    ]
+
+dropped-debts : (entries : List Entry) (o m : ℕ → Bool) (n : ℕ) → ((k : ℕ) → k < n → o k ≡ false) →
+    debts_from (λ k. o (n + k)) (λ k. m (n + k)) 0 (drop n entries) ≡ debts_from o m 0 entries
+dropped-debts entries o m n unset =
+    elim (cases_lt (length entries) n) [
+      | inl past ↦
+          ap (debts_from (λ k. o (n + k)) (λ k. m (n + k)) 0) (drop_all n entries (omega (arith, past)))
+          ∙ sym (listed-none o m 0 entries (λ k _ below. unset k (omega (arith, below, past))))
+      | inr within ↦ shifted-debts entries o m n within unset
+    ]
+
 -- every row is without its first words, which are 0
 pub record IsTidied (t : Table) (dropped : ℕ) (owed' must' : List ℕ) (entries' : List Entry) : Type 0 where
   pub ledger : IsLedger (table_of entries' (t.width - dropped) t.rows owed' must')
@@ -359,22 +385,6 @@ tidied t dropped past owed' must' entries' ledger few is_past empty owed_narrow 
           ∙ dropped-debts t.entries o m n none
           ∙ sym (rows-get t k d inside));
     }
-  where
-    least-dropped : (n : ℕ) (entries : List Entry) → drop (min (length entries) n) entries ≡ drop n entries
-    least-dropped n entries = elim (cases_lt n (length entries)) [
-      | inl less ↦ let is : min (length entries) n ≡ n = omega (arith, less) in ap (λ k. drop k entries) is
-      | inr more ↦
-          let is : min (length entries) n ≡ length entries = omega (arith, more) in
-          ap (λ k. drop k entries) is ∙ drop_all (length entries) entries (omega arith) ∙ sym (drop_all n entries more)
-    ]
-    dropped-debts : (entries : List Entry) (o m : ℕ → Bool) (n : ℕ) → ((k : ℕ) → k < n → o k ≡ false) →
-        debts_from (λ k. o (n + k)) (λ k. m (n + k)) 0 (drop n entries) ≡ debts_from o m 0 entries
-    dropped-debts entries o m n unset = elim (cases_lt (length entries) n) [
-      | inl past ↦
-          ap (debts_from (λ k. o (n + k)) (λ k. m (n + k)) 0) (drop_all n entries (omega (arith, past)))
-          ∙ sym (listed-none o m 0 entries (λ k _ below. unset k (omega (arith, below, past))))
-      | inr within ↦ shifted-debts entries o m n within unset
-    ]
 
 -- A ledger t whose value is v, in the words of a contract.
 
@@ -417,3 +427,159 @@ empty-ledger entries owed must no_entries no_owed no_must = record {
   narrow = omega arith;
   each = λ k below. absurd (omega (arith, below));
 }
+
+-- words enough for numbers of 64 bits
+pub words-fit : (t : Table) (n : ℕ) → IsLedger t → n ≤ t.rows → length t.owed < 2 ^ 63 → n * t.width < 2 ^ 63
+words-fit t n ledger few small =
+    let words = fewer-words t.width n t.rows few in
+    let long = ledger.owed_long in
+    omega (arith, words, long, small)
+
+pub row-fits : (t : Table) (row : ℕ) → IsLedger t → row < t.rows → length t.owed < 2 ^ 63 → row * t.width + t.width < 2 ^ 63
+row-fits t row ledger inside small =
+    let words = row-before row t.rows t.width inside in
+    let long = ledger.owed_long in
+    omega (arith, words, long, small)
+
+-- all rows are kept, or none
+pub kept-all : (v : Table) (n : ℕ) → length (rows_of v) ≤ n → rows_of v ≡ take n (rows_of v)
+kept-all v n all = sym (take_all n (rows_of v) all)
+
+-- rows that change all at once: by what is known of their words
+
+pub cleared : (t : Table) (row : ℕ) (owed' must' : List ℕ) → ChangesRow t.width row t.owed owed' → ChangesRow t.width row t.must must' →
+    ((k : ℕ) → has (part t.width row owed') k ≡ false) → ((k : ℕ) → has (part t.width row must') k ≡ false) → ChangesTable t.entries t.width row t.owed t.must owed' must'
+cleared t row owed' must' owed_changes must_changes owed_none must_none = record {
+  owed_changes = owed_changes;
+  must_changes = must_changes;
+  is = unset-row t.entries (has (part t.width row owed')) (has (part t.width row must')) owed_none must_none;
+}
+
+pub softened : (t : Table) (row : ℕ) (must' : List ℕ) → IsLedger t → row < t.rows → ChangesRow t.width row t.must must' →
+    ((k : ℕ) → has (part t.width row must') k ≡ false) → ChangesTable t.entries t.width row t.owed t.must t.owed must'
+softened t row must' ledger inside must_changes none = record {
+  owed_changes = same-row t.width row t.owed;
+  must_changes = must_changes;
+  is = softened-row t.entries (has (part t.width row t.owed)) (has (part t.width row t.must)) (has (part t.width row must')) (ledger.each row inside) none;
+}
+
+pub copied : (t : Table) (from to : ℕ) (owed' must' : List ℕ) → IsLedger t → from < t.rows → ChangesRow t.width to t.owed owed' → ChangesRow t.width to t.must must' →
+    part t.width to owed' ≡ part t.width from t.owed → part t.width to must' ≡ part t.width from t.must → ChangesTable t.entries t.width to t.owed t.must owed' must'
+copied t from to owed' must' ledger inside owed_changes must_changes owed_same must_same = record {
+  owed_changes = owed_changes;
+  must_changes = must_changes;
+  is = subst (λ o. IsRow t.entries (has o) (has (part t.width to must'))) (sym owed_same)
+      (subst (λ m. IsRow t.entries (has (part t.width from t.owed)) (has m)) (sym must_same) (ledger.each from inside));
+}
+
+-- where an entry is put, a row gains its debt
+pub placed : (entry : Entry) (t t' : Table) (row at : ℕ) → IsLedger t → IsGrown entry t t' → row < t.rows → at ≡ length t.entries →
+    IsGainedAt t.entries (has (part t.width row t.owed)) entry at → IsPlace row entry t t' at
+placed entry t t' row at ledger grown inside here gained = record {
+  inside = omega (arith, ap length grown.entries, length_push t.entries entry, here);
+  is = subst (λ l. IsGainedAt l (has (part t'.width row t'.owed)) entry at) (sym grown.entries)
+      (gained-along (t.entries ++ entry ∷ []) entry (has (part t.width row t.owed)) (has (part t'.width row t'.owed)) at (grown.owed row inside)
+      (grown-gained t.entries entry (has (part t.width row t.owed)) at gained here));
+  debts = grown-ledger entry t t' ledger grown;
+}
+
+-- the bit of a place is free
+pub free-at : (entries : List Entry) (o m : ℕ → Bool) (entry : Entry) (at : ℕ) → IsRow entries o m → IsGainedAt entries o entry at → m at ≡ false
+free-at entries o m entry at row gained = false_from_ne_true (m at) (λ set. true≢false (sym (row.among at set) ∙ gained.last at (omega arith)))
+
+-- tests that say the same leave the same
+pub without-same : (P Q : Debt → Type 0) (xs ys : List Debt) → ((d : Debt) → P d → Q d) → ((d : Debt) → Q d → P d) → IsWithoutFirst P xs ys → IsWithoutFirst Q xs ys
+without-same P Q xs ys to from is = record {
+  before = is.before;
+  first = is.first;
+  after = is.after;
+  whole = is.whole;
+  holds = to is.first is.holds;
+  none_before = All-weaker (λ d. ¬ (P d)) (λ d. ¬ (Q d)) (λ d none q. none (from d q)) is.before is.none_before;
+  rest = is.rest;
+}
+
+or-false : (b : Bool) → (b || false) ≡ b
+or-false true = refl
+or-false false = refl
+
+-- one message of one
+pub single : (message t : ℕ) (d : Debt) → is_any_payable (message ∷ []) t d ≡ is_payable message t d
+single message t d = or-false (is_payable message t d)
+
+any-same : (p q : Debt → Bool) → ((d : Debt) → p d ≡ q d) → (xs : List Debt) → list_any p xs ≡ list_any q xs
+any-same p q same [] = refl
+any-same p q same (x ∷ xs) = ap₂ (λ a b. a || b) (same x) (any-same p q same xs)
+
+pub any-single : (message t : ℕ) (xs : List Debt) → list_any (is_any_payable (message ∷ []) t) xs ≡ list_any (is_payable message t) xs
+any-single message t xs = any-same (is_any_payable (message ∷ []) t) (is_payable message t) (single message t) xs
+
+-- a row of which no debt passes a test
+pub unpaid-row : (test : Debt → Bool) (t v : Table) (row : ℕ) → t ≡ v → row < t.rows → NonePasses test t.entries (has (part t.width row t.owed)) → AsksNoMust test →
+    All (λ debt. ¬ (IsTrue (test debt))) (row_of v row)
+unpaid-row test t v row view inside none asks =
+    let fails : All (λ debt. ¬ (IsTrue (test debt))) (row_in t row) =
+        All-weaker (λ d. test d ≡ false) (λ d. ¬ (IsTrue (test d))) (λ d off on. true≢false (sym on ∙ off)) (row_in t row)
+        (none-passes test t.entries (has (part t.width row t.owed)) (has (part t.width row t.must)) asks none) in
+    subst (All (λ debt. ¬ (IsTrue (test debt)))) (sym (row-before_change t v row view inside)) fails
+
+-- whether a row has a debt that passes a test
+pub some-passes : (test : Debt → Bool) (t v : Table) (row : ℕ) (place : Place) → t ≡ v → IsLedger t → row < t.rows → AsksNoMust test →
+    IsFirst test t.entries (has (part t.width row t.owed)) place → true ≡ list_any test (row_of v row)
+some-passes test t v row place view ledger inside asks first =
+    sym (ap (list_any test) (row-before_change t v row view inside)
+    ∙ first-any test t.entries (has (part t.width row t.owed)) (has (part t.width row t.must)) place asks (ledger.each row inside).within first)
+
+pub none-any : (test : Debt → Bool) (t v : Table) (row : ℕ) → t ≡ v → row < t.rows → AsksNoMust test →
+    NonePasses test t.entries (has (part t.width row t.owed)) → false ≡ list_any test (row_of v row)
+none-any test t v row view inside asks none =
+    sym (ap (list_any test) (row-before_change t v row view inside)
+    ∙ list_any_none test (row_in t row) (none-passes test t.entries (has (part t.width row t.owed)) (has (part t.width row t.must)) asks none))
+
+-- two rows of the same words, and of the same debts
+pub same-debts : (t v : Table) (row other : ℕ) → t ≡ v → row < t.rows → other < t.rows → part t.width row t.owed ≡ part t.width other t.owed →
+    part t.width row t.must ≡ part t.width other t.must → row_of v row ≡ row_of v other
+same-debts t v row other view inside there owed must =
+    row-before_change t v row view inside ∙ ap₂ (row_debts t.entries) owed must ∙ sym (row-before_change t v other view there)
+
+-- words of 64 bits
+abbrev pub AreWords : List ℕ → Type 0
+AreWords words = (k : ℕ) → get_or words k 0 < 2 ^ 64
+
+part-words : (width row : ℕ) (words : List ℕ) → AreWords words → AreWords (part width row words)
+part-words width row words small k =
+    elim (cases_lt k width) [
+      | inl inside ↦ let is = get_or-take width (drop (row * width) words) k 0 inside ∙ get_or-drop (row * width) words k 0 in omega (arith, is, small (row * width + k))
+      | inr past ↦
+          let none = get_or_past (part width row words) k 0 (omega (arith, past, length-take width (drop (row * width) words))) in
+          omega (arith, none)
+    ]
+
+pub same-parts : (t v : Table) (row other : ℕ) → t ≡ v → IsLedger t → row < t.rows → other < t.rows → AreWords t.owed → AreWords t.must →
+    row_of v row ≡ row_of v other → (part t.width row t.owed ≡ part t.width other t.owed) × (part t.width row t.must ≡ part t.width other t.must)
+same-parts t v row other view ledger inside there owed_small must_small same =
+    let long = λ (words : List ℕ) (are : length words ≡ t.rows * t.width) (k : ℕ) (below : k < t.rows).
+        let e : length (part t.width k words) ≡ t.width = length-part t.width k words (row-inside t.rows t.width k words are below) in e in
+    same-words t.entries (part t.width row t.owed) (part t.width row t.must) (part t.width other t.owed) (part t.width other t.must)
+    (long t.owed ledger.owed_long row inside ∙ sym (long t.owed ledger.owed_long other there))
+    (long t.must ledger.must_long row inside ∙ sym (long t.must ledger.must_long other there))
+    (part-words t.width row t.owed owed_small) (part-words t.width row t.must must_small) (part-words t.width other t.owed owed_small) (part-words t.width other t.must must_small)
+    (ledger.each row inside) (ledger.each other there)
+    (sym (row-before_change t v row view inside) ∙ same ∙ row-before_change t v other view there)
+
+-- rows that owe the same have the same print
+pub print-is : (t v : Table) (row : ℕ) → t ≡ v → print_of v row ≡ fold mixed (fold mixed 0 (part t.width row t.owed)) (part t.width row t.must)
+unfolding print_of
+print-is t v row view = ap (λ x. print_of x row) (sym view)
+
+pub same-prints : (t v : Table) (row other : ℕ) → t ≡ v → IsLedger t → row < t.rows → other < t.rows → AreWords t.owed → AreWords t.must →
+    row_of v row ≡ row_of v other → print_of v row ≡ print_of v other
+same-prints t v row other view ledger inside there owed_small must_small same =
+    let parts = same-parts t v row other view ledger inside there owed_small must_small same in
+    print-is t v row view ∙ ap₂ (λ o m. fold mixed (fold mixed 0 o) m) parts.0 parts.1 ∙ sym (print-is t v other view)
+
+pub found-any : (test : Debt → Bool) (t v : Table) (row : ℕ) (r : Option Place) → t ≡ v → IsLedger t → row < t.rows → AsksNoMust test →
+    IfSome r (IsFirst test t.entries (has (part t.width row t.owed))) → IfNone r (NonePasses test t.entries (has (part t.width row t.owed))) →
+    is_some r ≡ list_any test (row_of v row)
+found-any test t v row None view ledger inside asks found none = none-any test t v row view inside asks none
+found-any test t v row (Some place) view ledger inside asks found none = some-passes test t v row place view ledger inside asks found

@@ -5,7 +5,7 @@ use Rattle.std.specs.Int.{bit_at, bit_not, trailing_zeros}
 use Rattle.std.proofs.lemmas.Bool.{cases_lt, cases_Bool, true≢false, false_from_ne_true, true_from_ne_false, and_parts, and_from, and_left, and_right, or_left, or_right, ltb-false, le-leb}
 use Rattle.std.proofs.lemmas.Bool.Decides.{nat_tests}
 use Rattle.std.proofs.lemmas.Nat.{pow_below}
-use Rattle.std.proofs.lemmas.List.{drop_more}
+use Rattle.std.proofs.lemmas.List.{drop_more, get_or_default}
 use Rattle.std.proofs.lemmas.Nat.Bits.{bit_at_ones, bit_at_ones_above, bit_at_not}
 use lib.Bits.{bit_and}
 use Rattle.sip_masks.specs.Bits.{test}
@@ -14,7 +14,7 @@ use Rattle.sip_ledger.specs.declared.debt.Debt.{Debt}
 use Rattle.sip_ledger.specs.declared.debt.Entry.{Entry}
 use Rattle.sip_ledger.specs.Bits.{has, NoneFrom}
 use Rattle.sip_ledger.specs.Debts.{counts_at}
-use Rattle.sip_ledger.specs.Rows.{debts_from, IsGap}
+use Rattle.sip_ledger.specs.Rows.{debts_from}
 use Rattle.sip_ledger.specs.Ledgers.{part}
 use Rattle.sip_ledger.specs.inner.Memos.{asked_of, IsMask}
 use Rattle.sip_ledger.specs.inner.Places.{AreRising, IsFirst, IsFirstIn, NonePasses}
@@ -169,3 +169,8 @@ fresh-first t entries o m at rises none first =
     kept : (a b : Bool) → (a ≡ true → b ≡ true) → a ≡ (a && b)
     kept true b then = sym (then refl)
     kept false b then = refl
+
+-- a row of one word, which was read
+pub word-part : (width row n x : ℕ) (words : List ℕ) → width ≡ 1 → row < length words → x ≡ get_or words row n → part width row words ≡ x ∷ []
+word-part width row n x words one inside is =
+    ap (λ w. part w row words) one ∙ part-one words row inside ∙ ap (λ y. y ∷ []) (get_or_default words row 0 n inside ∙ sym is)

@@ -1,17 +1,20 @@
 //! What many rows owe.
-ghost use Rattle.std.specs.Prelude.{◌≡◌, ◌↔◌, ◌<◌, ◌++◌, ◌∷◌, [], ℕ, List, IsTrue, OnOk, OnErr, IfOk, All, true, length, set, map, filter, take, drop};
+ghost use Rattle.std.specs.Prelude.{◌≡◌, ◌↔◌, ◌<◌, ◌++◌, ◌∷◌, [], ℕ, List, IsTrue, OnOk, OnErr, IfOk, IfSome, IfNone, is_some, None, Bool, All, true, length, set, map, filter, take, drop};
 ghost use Rattle.std.specs.Bool.{OnTrue, OnFalse};
 ghost use Rattle.std.specs.List.{list_any};
 ghost use Rattle.sip_ledger.specs.Debts.{IsWithoutFirst, counts_at, softened_debt, is_payable, is_any_payable, debt_deadlines, earliest};
-ghost use Rattle.sip_ledger.specs.Ledgers.{rows_of, row_of};
+ghost use Rattle.sip_ledger.specs.declared.debt.Debt.{Debt};
+ghost use Rattle.sip_ledger.specs.Bits.{has};
+ghost use Rattle.sip_ledger.specs.Ledgers.{part, rows_of, row_of};
 ghost use Rattle.sip_ledger.specs.Prints.{print_of};
 ghost use Rattle.sip_ledger.specs.Runs.{AreRuns};
-ghost use Rattle.sip_ledger.specs.inner.Places.{AreRising};
+ghost use Rattle.sip_ledger.specs.inner.Memos.{asked_of, IsMask};
+ghost use Rattle.sip_ledger.specs.inner.Places.{AreRising, AsksNoMust, IsBit, IsFirst, NonePasses};
 ghost use Rattle.sip_ledger.specs.inner.Tables.{IsGrown, IsPlace};
 
 use crate::debt::{Debt, Entry};
 use crate::memo::{Memo, Question};
-use crate::row;
+use crate::row::{self, Place};
 use crate::run::Run;
 use crate::table;
 use crate::words;
@@ -80,9 +83,11 @@ impl Ledger {
         ensures ok { OnOk result (rows_of self.new ≡ rows_of self.old ++ [] ∷ []) }
         ensures err { OnErr result (self.new ≡ self.old) }
     {
-        let rows = self.rows.checked_add(1).ok_or(AllocError)?;
+        if self.rows == usize::MAX {
+            return Err(AllocError);
+        }
         words::put_row(&mut self.owed, &mut self.must, self.width)?;
-        self.rows = rows;
+        self.rows += 1;
         Ok(())
     }
 
@@ -92,9 +97,11 @@ impl Ledger {
         ensures ok { OnOk result (rows_of self.new ≡ rows_of self.old ++ row_of self.old row ∷ []) }
         ensures err { OnErr result (self.new ≡ self.old) }
     {
-        let rows = self.rows.checked_add(1).ok_or(AllocError)?;
+        if self.rows == usize::MAX {
+            return Err(AllocError);
+        }
         words::copy_row(&mut self.owed, &mut self.must, self.width, row)?;
-        self.rows = rows;
+        self.rows += 1;
         Ok(())
     }
 
@@ -197,24 +204,9 @@ impl Ledger {
         ensures unpaid { OnFalse result ((rows_of self.new ≡ rows_of self.old) × All (λ debt. ¬ (IsTrue (is_payable message moment debt))) (row_of self.old row)) }
         ensures others { rows_of self.new ≡ set (rows_of self.old) row (row_of self.new row) }
     {
-        if self.width != 1 {
-            return self.pay_any(row, &[message], moment);
-        }
-        let question = Question {
-            message: Some(message),
-            moment,
-        };
-        self.payable = self.payable.asked(&self.entries, question);
-        match row::first_in(self.owed[row], self.payable.bits) {
+        match self.first_payable(row, message, moment) {
             Some(place) => {
-                table::take_out(
-                    &self.entries,
-                    &mut self.owed,
-                    &mut self.must,
-                    1,
-                    row,
-                    place,
-                );
+                self.take_out(row, place);
                 true
             }
             None => false,
@@ -228,23 +220,9 @@ impl Ledger {
         ensures unpaid { OnFalse result ((rows_of self.new ≡ rows_of self.old) × All (λ debt. ¬ (IsTrue (is_any_payable numbers.now moment debt))) (row_of self.old row)) }
         ensures others { rows_of self.new ≡ set (rows_of self.old) row (row_of self.new row) }
     {
-        match table::first_payable(
-            &self.entries,
-            &self.owed,
-            self.width,
-            row,
-            numbers,
-            moment,
-        ) {
+        match self.first_of_any(row, numbers, moment) {
             Some(place) => {
-                table::take_out(
-                    &self.entries,
-                    &mut self.owed,
-                    &mut self.must,
-                    self.width,
-                    row,
-                    place,
-                );
+                self.take_out(row, place);
                 true
             }
             None => false,
@@ -257,23 +235,94 @@ impl Ledger {
         ensures same { self.new ≡ self.old }
         ensures can { result ≡ list_any (is_payable message moment) (row_of self.old row) }
     {
-        if self.width != 1 {
-            return table::first_payable(
-                &self.entries,
-                &self.owed,
-                self.width,
-                row,
-                &[message],
-                moment,
-            )
-            .is_some();
+        self.first_payable(row, message, moment).is_some()
+    }
+
+    /// Whether the row has a debt that a send of one of these messages at the moment pays.
+    pub fn can_pay_any(&self, row: usize, numbers: &[u32], moment: u64) -> bool
+        requires { row < length (rows_of self.now) }
+        ensures { result ≡ list_any (is_any_payable numbers.now moment) (row_of self.now row) }
+    {
+        self.first_of_any(row, numbers, moment).is_some()
+    }
+
+    /// The first bit of the row whose debt a send of the message at the moment pays.
+    fn first_payable(&mut self, row: usize, message: u32, moment: u64) -> Option<Place>
+        requires { row < length (rows_of self.old) }
+        ensures same { self.new ≡ self.old }
+        ensures found { IfSome result (IsFirst (is_payable message moment) self.old.entries (has (part self.old.width row self.old.owed))) }
+        ensures none { IfNone result (NonePasses (is_payable message moment) self.old.entries (has (part self.old.width row self.old.owed))) }
+        ensures any { is_some result ≡ list_any (is_payable message moment) (row_of self.old row) }
+    {
+        if self.width == 1 {
+            let bits = self.payable_bits(message, moment);
+            row::first_in(self.owed[row], bits)
+        } else {
+            self.first_of_any(row, &[message], moment)
         }
+    }
+
+    /// The same of a send of one of these messages.
+    fn first_of_any(&self, row: usize, numbers: &[u32], moment: u64) -> Option<Place>
+        requires { row < length (rows_of self.now) }
+        ensures found { IfSome result (IsFirst (is_any_payable numbers.now moment) self.now.entries (has (part self.now.width row self.now.owed))) }
+        ensures none { IfNone result (NonePasses (is_any_payable numbers.now moment) self.now.entries (has (part self.now.width row self.now.owed))) }
+        ensures any { is_some result ≡ list_any (is_any_payable numbers.now moment) (row_of self.now row) }
+    {
+        table::first_payable(
+            &self.entries,
+            &self.owed,
+            self.width,
+            row,
+            numbers,
+            moment,
+        )
+    }
+
+    /// Takes the debt at the place out of the row.
+    fn take_out(&mut self, row: usize, place: Place)
+        requires row { row < length (rows_of self.old) }
+        requires bit { IsBit (has (part self.old.width row self.old.owed)) place }
+        ensures others { rows_of self.new ≡ set (rows_of self.old) row (row_of self.new row) }
+        ensures taken { (test : Debt → Bool) → AsksNoMust test → IsFirst test self.old.entries (has (part self.old.width row self.old.owed)) place →
+            IsWithoutFirst (λ debt. IsTrue (test debt)) (row_of self.old row) (row_of self.new row) }
+    {
+        table::take_out(
+            &self.entries,
+            &mut self.owed,
+            &mut self.must,
+            self.width,
+            row,
+            place,
+        );
+    }
+
+    /// Which entries a send of the message at the moment pays, where one word has all of them.
+    fn payable_bits(&mut self, message: u32, moment: u64) -> u64
+        requires { self.old.width ≡ 1 }
+        ensures same { self.new ≡ self.old }
+        ensures bits { IsMask (is_payable message moment) self.old.entries (length self.old.entries) result }
+    {
         let question = Question {
             message: Some(message),
             moment,
         };
         self.payable = self.payable.asked(&self.entries, question);
-        row::first_in(self.owed[row], self.payable.bits).is_some()
+        self.payable.bits
+    }
+
+    /// Which entries are past at the moment, where one word has all of them.
+    fn past_bits(&mut self, moment: u64) -> u64
+        requires { self.old.width ≡ 1 }
+        ensures same { self.new ≡ self.old }
+        ensures bits { IsMask (asked_of None moment) self.old.entries (length self.old.entries) result }
+    {
+        let question = Question {
+            message: None,
+            moment,
+        };
+        self.past = self.past.asked(&self.entries, question);
+        self.past.bits
     }
 
     /// Drops what the row may send and whose deadline is below the moment.
@@ -300,16 +349,11 @@ impl Ledger {
         ensures same { self.new ≡ self.old }
         ensures fresh { OnTrue result (filter (counts_at moment) (row_of self.old row) ≡ row_of self.old row) }
     {
-        if self.width != 1 {
-            return self.rises
-                && table::is_fresh(&self.entries, &self.owed, self.width, row, moment);
+        if self.width == 1 {
+            let bits = self.past_bits(moment);
+            return row::keeps_past(self.owed[row], self.must[row], bits);
         }
-        let question = Question {
-            message: None,
-            moment,
-        };
-        self.past = self.past.asked(&self.entries, question);
-        self.owed[row] & self.past.bits & !self.must[row] == 0
+        self.rises && table::is_fresh(&self.entries, &self.owed, self.width, row, moment)
     }
 
     /// Of what the row owes, nothing has to be sent any more.

@@ -1,5 +1,5 @@
 //! A row of bits over a list of entries: what one state owes, and what of it must be sent.
-ghost use Rattle.std.specs.Prelude.{◌≡◌, ◌≢◌, ◌↔◌, ℕ, ◌+◌, ◌-◌, ◌*◌, ◌/◌, ◌^◌, ◌<◌, ◌≤◌, ◌++◌, ◌∷◌, [], true, false, Bool, List, Some, option_to_list, length, get_or, filter, map, IsTrue, IfSome, IfNone, IfOk, OnOk};
+ghost use Rattle.std.specs.Prelude.{◌≡◌, ◌≢◌, ◌↔◌, ℕ, ◌+◌, ◌-◌, ◌*◌, ◌/◌, ◌^◌, ◌<◌, ◌≤◌, ◌++◌, ◌∷◌, [], true, false, Bool, List, None, Some, option_to_list, length, get_or, filter, map, IsTrue, IfSome, IfNone, IfOk, OnOk};
 ghost use Rattle.std.specs.Bool.{OnTrue};
 ghost use Rattle.sip_masks.specs.Bits.{test};
 ghost use Rattle.sip_ledger.specs.Bits.{has};
@@ -7,6 +7,7 @@ ghost use Rattle.sip_ledger.specs.Debts.{IsWithoutFirst, counts_at, is_any_payab
 ghost use Rattle.sip_ledger.specs.Rows.{debt_of, row_debts, IsRow, IsGap};
 ghost use Rattle.sip_ledger.specs.inner.Places.{AreRising, IsBit, IsFirst, IsFirstIn, NonePasses, AsksNoMust, IsOpenRow, IsMoved, IsGainedAt, IsExpired};
 ghost use Rattle.sip_ledger.specs.Runs.{AreRuns};
+ghost use Rattle.sip_ledger.specs.inner.Memos.{asked_of, IsMask};
 
 ghost use Rattle.sip_ledger.specs.declared.debt.Debt.{Debt};
 ghost use Rattle.sip_ledger.specs.declared.debt.Entry.{Entry};
@@ -62,6 +63,15 @@ pub(crate) fn first_in(owed: u64, bits: u64) -> Option<Place>
         low: end(&[before]),
         at,
     })
+}
+
+/// Whether each bit of the word that the mask has too must be sent.
+pub(crate) fn keeps_past(owed: u64, must: u64, bits: u64) -> bool
+    ensures { (moment : ℕ) (entries : List Entry) → IsMask (asked_of None moment) entries (length entries) bits →
+        IsRow entries (has (owed ∷ [])) (has (must ∷ [])) →
+        OnTrue result (filter (counts_at moment) (row_debts entries (owed ∷ []) (must ∷ [])) ≡ row_debts entries (owed ∷ []) (must ∷ [])) }
+{
+    owed & bits & !must == 0
 }
 
 /// Whether a send of one of the messages at the moment pays a debt of the entry.

@@ -1,0 +1,75 @@
+use Rattle.std.proofs.Common.{◌≡◌, ◌≢◌, ℕ, ◌+◌, ◌-◌, ◌*◌, ◌^◌, ◌<◌, ◌≤◌, Bool, true, false, List, [], ◌∷◌, ◌++◌, length, take, drop, get_or, set, map, filter, min, refl, sym, ap, ap₂, ◌∙◌, subst, inl, inr, arith}
+use Rattle.std.specs.Prelude.{IsTrue, All, None, Some}
+use Rattle.std.specs.List.{list_any}
+use Rattle.std.proofs.lemmas.Bool.{OnTrue_at}
+use Rattle.std.proofs.lemmas.List.{length-append, with_items_is, set-get_or, get_or_default}
+use Rattle.sip_ledger.specs.declared.debt.Debt.{Debt}
+use Rattle.sip_ledger.specs.declared.debt.Entry.{Entry}
+use Rattle.sip_ledger.specs.Bits.{has}
+use Rattle.sip_ledger.specs.Debts.{IsWithoutFirst, is_payable, is_any_payable, softened_debt, counts_at, debt_deadlines, earliest}
+use Rattle.sip_ledger.specs.Rows.{IsRow, row_debts, debt_of}
+use Rattle.sip_ledger.specs.Ledgers.{Table, table_of, part, rows_of, row_of}
+use Rattle.sip_ledger.specs.inner.Memos.{IsMask, IsMemo, asked, asked_of}
+use Rattle.sip_ledger.specs.inner.Places.{IsGainedAt, IsBit, IsFirst, NonePasses, AreRising}
+use Rattle.sip_ledger.specs.inner.Tables.{ChangesRow, ChangesTable, IsInside, IsTableRow, IsPlace, IsGrown}
+use Rattle.sip_ledger.proofs.ListedLemmas.{no_entry, listed-softened}
+use Rattle.sip_ledger.proofs.LedgerLemmas.{row_in, changed, changed-to, changed-first, changed-others, unchanged-others, row-within, row-before_change, rows-inside, rows-length, row-is, cleared, softened, copied, placed, free-at, unset-debts, more-within, more-widened, without-same, single, any-single, unpaid-row, found-any, some-passes, none-any, same-debts, same-parts, same-prints, print-is, words-fit, row-fits, tidied}
+use Rattle.sip_ledger.proofs.MemoLemmas.{mask-grown}
+use Rattle.sip_ledger.proofs.TableLemmas.{row-inside, table-row, same-row, with_words}
+use Rattle.sip_ledger.proofs.RowLemmas.{first-any, none-passes}
+use Rattle.sip_ledger.proofs.WordLemmas.{part-one, first-of_word, none-of_word, fresh-word}
+use Rattle.sip_ledger.proofs.ledger.Ledger.expire.Goals as goal
+
+pub returns-then-is_fresh : goal.returns-then-is_fresh
+returns-then-is_fresh c =
+    let v = c.args.self.now in
+    rw c.is_fresh.ensures.same (unchanged-others v c.args.row ∙ ap (λ d. set (rows_of v) c.args.row d) (sym (OnTrue_at c.if-is_fresh.true c.is_fresh.ensures.fresh)))
+
+pub expire-requires : goal.expire-requires
+expire-requires c =
+    let s = c.self.inside in
+    let t = table_of s.entries.items s.width s.rows s.owed.items s.must.items in
+    let v = c.args.self.now in
+    let row = c.args.row in
+    let inside = row-within t v row (c.self.view_is ∙ c.is_fresh.ensures.same) c.requires in
+    let ledger = c.self.invariant.ledger in
+    let small : length s.entries.items < 2 ^ 63 = omega (arith, s.entries.ok, s.entries.small) in
+    rw (c.deref.ensures.value, c.deref_mut.ensures.value, c.deref_mut-2.ensures.value) (table-row t row small ledger inside)
+
+pub invariant_of-self : goal.invariant_of-self
+invariant_of-self c =
+    let s = c.self.inside in
+    let t = table_of s.entries.items s.width s.rows s.owed.items s.must.items in
+    let v = c.args.self.now in
+    let row = c.args.row in
+    let inside = row-within t v row (c.self.view_is ∙ c.is_fresh.ensures.same) c.requires in
+    let ledger = c.self.invariant.ledger in
+    let small : length s.entries.items < 2 ^ 63 = omega (arith, s.entries.ok, s.entries.small) in
+    let o = c.expire.new.owed in
+    let m = c.expire.new.must in
+    let owed_is = with_items_is s.owed o (c.expire.auto.owed ∙ c.deref_mut.ensures.len) in
+    let must_is = with_items_is s.must m (c.expire.auto.must ∙ c.deref_mut-2.ensures.len) in
+    let changes = rw (c.deref.ensures.value, c.deref_mut.ensures.value, c.deref_mut-2.ensures.value) at c.expire.ensures.changes in
+    let is = changed t row o m ledger inside changes in
+    let debts = rw (c.deref.ensures.value, c.deref_mut.ensures.value, c.deref_mut-2.ensures.value) at c.expire.ensures.debts in
+    rw (owed_is, must_is) (record { ledger = is.ledger; rises = c.self.invariant.rises; payable = c.self.invariant.payable; past = c.self.invariant.past })
+
+pub returns : goal.returns
+returns c =
+    let s = c.self.inside in
+    let t = table_of s.entries.items s.width s.rows s.owed.items s.must.items in
+    let v = c.args.self.now in
+    let row = c.args.row in
+    let inside = row-within t v row (c.self.view_is ∙ c.is_fresh.ensures.same) c.requires in
+    let ledger = c.self.invariant.ledger in
+    let small : length s.entries.items < 2 ^ 63 = omega (arith, s.entries.ok, s.entries.small) in
+    let o = c.expire.new.owed in
+    let m = c.expire.new.must in
+    let owed_is = with_items_is s.owed o (c.expire.auto.owed ∙ c.deref_mut.ensures.len) in
+    let must_is = with_items_is s.must m (c.expire.auto.must ∙ c.deref_mut-2.ensures.len) in
+    let changes = rw (c.deref.ensures.value, c.deref_mut.ensures.value, c.deref_mut-2.ensures.value) at c.expire.ensures.changes in
+    let is = changed t row o m ledger inside changes in
+    let debts = rw (c.deref.ensures.value, c.deref_mut.ensures.value, c.deref_mut-2.ensures.value) at c.expire.ensures.debts in
+    let view = c.self.view_is ∙ c.is_fresh.ensures.same in
+    rw (owed_is, must_is) (changed-to t v row o m (filter (counts_at c.args.moment) (row_of v row)) view is
+    (debts ∙ ap (filter (counts_at c.args.moment)) (sym (row-before_change t v row view inside))))

@@ -1,0 +1,10 @@
+use Rattle.std.proofs.lemmas.List.Elements.{All-head, All-nil}
+use Rattle.std.proofs.lemmas.Bool.{OnTrue_at}
+use Rattle.sip_machine.specs.Texts.{Keeps}
+use Rattle.sip_machine.specs.Rules.{Knows}
+use Rattle.machine_tests.proofs.runs.run_alone.Goals as goal
+
+pub loop-moment-init : goal.loop-moment-init
+loop-moment-init g c =
+    let fits = g.met.M.Machine.first_fits c.args.machine.now in
+    rw c.first.ensures (rw fits.0 (All-nil (Keeps c.args.book.now)), fits.1)

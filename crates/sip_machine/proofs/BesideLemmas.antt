@@ -68,6 +68,9 @@ count_between-parted f xs low high from to within within' parts parts' =
 abbrev pub between : ℕ → ℕ → ℕ → Bool
 between low high n = nat_le low n && nat_le n high
 
+abbrev one_of : Bool → ℕ
+one_of b = cond b 1 0
+
 abbrev pub many : ℕ → ℕ → List ℕ → ℕ
 many low high ns = count_by (between low high) ns
 
@@ -94,7 +97,7 @@ many-some : (low high : ℕ) (ns : List ℕ) (n : ℕ) → Contains ns n → low
 many-some low high ns n (k, within, at) le le' =
     let some = get_or-le-sum_by (λ n. cond (between low high n) 1 0) ns k n within in
     let here : between low high n ≡ true = grind (arith, nat_tests) in
-    let one : cond (between low high (get_or ns k n)) 1 0 ≡ 1 = ap (λ m. cond (between low high m) 1 0) at ∙ ap (λ b. cond b 1 0) here in
+    let one : one_of (between low high (get_or ns k n)) ≡ 1 = ap (λ m. one_of (between low high m)) at ∙ ap one_of here in
     omega (arith, some, one)
 
 -- what rises from a number on is above it
@@ -141,7 +144,7 @@ many-among low high (n ∷ ns) (m ∷ ms) up up' all =
       | inl same ↦
           let rest = many-among low high ns ms (rest_rises n ns up) (rest_rises m ms up')
           (among_rest n ns ms (λ x has. all x (tail_in m ms x has)) (λ x has is. (let lt = above m ms x up' has in omega (arith, lt, is, same.1)))) in
-          let one : cond (between low high n) 1 0 ≡ cond (between low high m) 1 0 = ap (λ x. cond (between low high x) 1 0) same.1 in
+          let one : one_of (between low high n) ≡ one_of (between low high m) = ap (λ x. one_of (between low high x)) same.1 in
           omega (arith, a, b, rest, one)
       | inr other ↦
           let rest = many-among low high ns (m ∷ ms) (rest_rises n ns up) up' (all_behind n m ns ms up up' all other.1) in
@@ -158,7 +161,7 @@ among-all low high (n ∷ ns) (m ∷ ms) up up' all few x has le le' =
     let b = count-cons (between low high) m ms in
     elim (eqb_tells n m) [
       | inl same ↦
-          let one : cond (between low high n) 1 0 ≡ cond (between low high m) 1 0 = ap (λ x. cond (between low high x) 1 0) same.1 in
+          let one : one_of (between low high n) ≡ one_of (between low high m) = ap (λ x. one_of (between low high x)) same.1 in
           elim (Contains-cons_cases n ns x has) [
             | inl is ↦ subst (Contains (m ∷ ms)) (sym same.1 ∙ is) (head_in m ms)
             | inr rest ↦
@@ -172,7 +175,7 @@ among-all low high (n ∷ ns) (m ∷ ms) up up' all few x has le le' =
           elim (Contains-cons_cases n ns x has) [
             | inl is ↦
                 let here : between low high n ≡ true = rw is (grind (arith, nat_tests)) in
-                let one : cond (between low high n) 1 0 ≡ 1 = ap (λ b. cond b 1 0) here in
+                let one : one_of (between low high n) ≡ 1 = ap one_of here in
                 absurd (omega (arith, a, one, most, few))
             | inr rest ↦ among-all low high ns (m ∷ ms) (rest_rises n ns up) up' behind (omega (arith, a, few)) x rest le le'
           ]

@@ -1,10 +1,10 @@
 -- What stands beside kept messages stays what it is, and tells which of them has a To.
 use Prim.Native.Nat.{suc}
-use Rattle.std.specs.Prelude.{◌≡◌, ◌≢◌, ◌<◌, ◌≤◌, ◌↔◌, ◌-◌, ℕ, Bool, true, false, IsTrue, IsSomeAnd, Option, Some, None, is_some, bytes_eq, List, [], ◌∷◌, ◌++◌, All, AllPairs, Contains, if◌then◌else◌, length, map, slice_get, take, nat_eq}
+use Rattle.std.specs.Prelude.{◌≡◌, ◌≢◌, ◌<◌, ◌≤◌, ◌↔◌, ◌-◌, ℕ, Bool, true, false, IfSome, IsTrue, IsSomeAnd, Option, Some, None, is_some, bytes_eq, List, [], ◌∷◌, ◌++◌, All, AllPairs, Contains, if◌then◌else◌, length, map, slice_get, take, nat_eq}
 use Rattle.std.specs.List.{items_where_true}
 use Rattle.std.specs.HashMap.{get}
 use Rattle.std.specs.Cmp.Lexicographic.{bytes_decides}
-use Rattle.std.proofs.Common.{inl, inr, refl, sym, ◌∙◌, ap, subst, arith, cond, get_or}
+use Rattle.std.proofs.Common.{Result, Ok, Err, OnOk, is_err, true≢false, inl, inr, refl, sym, ◌∙◌, ap, subst, arith, cond, get_or}
 use Rattle.std.proofs.lemmas.Bool.{cases_lt}
 use Rattle.std.proofs.lemmas.Bool.Decides.{eqb_tells}
 use Rattle.std.proofs.lemmas.Grind.{get_or_picked}
@@ -115,11 +115,11 @@ all_below tos number last up some at low = λ k d within.
     ]
 
 pub below_last : (tos : List To) (number : ℕ) (last : Option To) → AllPairs (λ a b. a.number < b.number) tos → last ≡ slice_get tos (length tos - 1) →
-    ((to : To) → last ≡ Some to → to.number < number) → All (λ to. to.number < number) tos
+    IfSome last (λ to. to.number < number) → All (λ to. to.number < number) tos
 below_last [] number last up is low = λ k d within. absurd (omega arith)
 below_last (t ∷ ts) number None up is low = absurd (let e = is ∙ slice_get-get_or (t ∷ ts) (length (t ∷ ts) - 1) t (omega arith) in cc)
 below_last (t ∷ ts) number (Some last) up is low =
-    all_below (t ∷ ts) number last up (omega arith) (sym (get_or_from_slice_get (t ∷ ts) (length (t ∷ ts) - 1) last last (sym is))) (low last refl)
+    all_below (t ∷ ts) number last up (omega arith) (sym (get_or_from_slice_get (t ∷ ts) (length (t ∷ ts) - 1) last last (sym is))) low
 
 -- some of them in their order
 pub All-picked : {X : Type 0} (P : X → Type 0) (bs : List Bool) (xs : List X) → All P xs → All P (items_where_true bs xs)
@@ -153,6 +153,10 @@ AllPairs-take R n xs up = λ i j d lt low. elim (cases_lt (length xs) n) [
 ]
 
 -- Whose they are.
+
+pub on_ok : {T E : Type 0} (r : Result T E) (P : Type 0) → is_err r ≡ false → OnOk r P → P
+on_ok (Ok x) P is_not ok = ok
+on_ok (Err e) P is_not ok = absurd (true≢false is_not)
 
 -- one may own what it owned with one more, and the one more does
 owner-stays : (owner : Option Owner) (n number : ℕ) → IsSomeAnd owner (IsOwner n) → IsOwner n (owner_with owner number)

@@ -7,4 +7,4 @@ pub returns : goal.returns
 returns c =
     let texts = texts_of c.self.inside.kept.items in
     rw (← c.self.view_is) (holds_between texts c.self.inside.tos c.args.to.now c.args.low c.args.high c.self.invariant.0 c.self.invariant.2 c.between.ensures.rising
-    (sym c.kept_between.ensures ∙ c.if-kept_between-between.false ∙ c.between.ensures.count) c.holder.result c.holder.ensures)
+    (sym (rw c.deref.ensures.value at c.kept_between.ensures) ∙ c.if-kept_between-between.false ∙ c.between.ensures.count) c.holder.result c.holder.ensures)

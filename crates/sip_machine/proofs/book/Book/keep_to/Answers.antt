@@ -7,8 +7,8 @@ use Rattle.sip_machine.proofs.OrderLaws.{by_result}
 use Rattle.sip_machine.proofs.ToLemmas.{AreTos-push}
 use Rattle.sip_machine.proofs.book.Book.keep_to.Goals as goal
 
-pub invariant_of-self-in-Ok : goal.invariant_of-self-in-Ok
-invariant_of-self-in-Ok c =
+pub invariant_of-self : goal.invariant_of-self
+invariant_of-self c =
     let texts = texts_of c.self.inside.kept.items in
     let to : To = record { number = c.args.number; text = c.of.result } in
     let is : IsTo texts to = record {

@@ -24,16 +24,18 @@ FindsFirst-same P Q debts None same none = λ k d low holds. none k d low ((same
 FindsFirst-same P Q debts (Some i) same (low, first) =
     let along = subst (All (λ d. P d ↔ Q d)) first.whole same in
     let front = All-front (λ d. P d ↔ Q d) first.before (first.first ∷ first.after) along in
-    let here = All-head (λ d. P d ↔ Q d) first.first first.after (All-back (λ d. P d ↔ Q d) first.before (first.first ∷ first.after) along) in
-    (low, record {
-      before = first.before;
-      first = first.first;
-      after = first.after;
-      whole = first.whole;
-      holds = here.0 first.holds;
-      none_before = λ k d within holds. first.none_before k d within ((front k d within).1 holds);
-      rest = first.rest;
-    })
+    let here = All-head (λ d. P d ↔ Q d) first.first first.after (All-back (λ d. P d ↔ Q d) first.before (first.first ∷ first.after) along) in (
+      low,
+      record {
+        before = first.before;
+        first = first.first;
+        after = first.after;
+        whole = first.whole;
+        holds = here.0 first.holds;
+        none_before = λ k d within holds. first.none_before k d within ((front k d within).1 holds);
+        rest = first.rest;
+      },
+    )
 
 -- a send of the only message with a To pays the debts that have it
 pays-it : (n t : ℕ) (debt : Debt) → IsTrue (is_payable n t debt) ↔ (debt.message ≡ n) × (t ≤ debt.deadline)

@@ -17,5 +17,5 @@ returns c =
     (IsPartitionedBy-leb (λ k. k.number) kept high up) in
     c.saturating_sub.ensures
     ∙ count_between-parted (λ k. k.number) kept low high c.partition_point-from.result c.partition_point-to.result
-        c.partition_point-from.ensures.bound c.partition_point-to.ensures.bound parts parts'
+    c.partition_point-from.ensures.bound c.partition_point-to.ensures.bound parts parts'
     ∙ ap (count_between low high) (sym (map-map (λ k. (k.number, k.bytes.items)) (λ t. t.0) kept))

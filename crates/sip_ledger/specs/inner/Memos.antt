@@ -30,8 +30,8 @@ abbrev pub IsMemo : List Entry → Memo → Type 0
 IsMemo entries memo = IsMask (asked memo.question) entries memo.looked memo.bits
 
 -- a ledger, and what is kept beside it: whether its deadlines never fall, and two memos
-pub record IsKept (table : Table) (rises : Bool) (payable past : Memo) : Type 0 where
+pub record IsKept (table : Table) (rising : Bool) (paid over : Memo) : Type 0 where
   pub ledger : IsLedger table
-  pub rises : rises ≡ true → AreRising table.entries
-  pub payable : IsMemo table.entries payable
-  pub past : IsMemo table.entries past
+  pub rises : rising ≡ true → AreRising table.entries
+  pub payable : IsMemo table.entries paid
+  pub past : IsMemo table.entries over

@@ -17,10 +17,10 @@ use Rattle.sip_ledger.specs.Rows.{debts_from, row_debts, IsRow, IsGap}
 use Rattle.sip_ledger.specs.Ledgers.{Table, table_of, part, row_at, rows_of, row_of, IsLedger}
 use Rattle.sip_ledger.specs.Prints.{mixed, print_of}
 use Rattle.sip_ledger.specs.inner.Places.{AsksNoMust, IsFirst, IsGainedAt, NonePasses}
-use Rattle.sip_ledger.specs.inner.Tables.{ChangesRow, ChangesTable, IsWidened, IsNarrowed, IsEmptyFront, IsGrown, IsPlace}
-use Rattle.sip_ledger.proofs.BitsLemmas.{has-is, has-past, has-zero_word}
+use Rattle.sip_ledger.specs.inner.Tables.{AreWords, ChangesRow, ChangesTable, IsWidened, IsNarrowed, IsEmptyFront, IsGrown, IsPlace}
+use Rattle.sip_ledger.proofs.BitsLemmas.{has-is, has-past, has-zero_word, same-from_bits}
 use Rattle.sip_ledger.proofs.ListedLemmas.{parts, listed-same, listed-none, listed-shift}
-use Rattle.sip_ledger.proofs.RowLemmas.{first-any, grown-row, grown-debts, grown-gained, none-passes, same-words}
+use Rattle.sip_ledger.proofs.RowLemmas.{first-any, grown-row, grown-debts, grown-gained, none-passes, one-spelling}
 use Rattle.sip_ledger.proofs.TableLemmas.{row-before, row-inside, length-part, part-of_more, part-of_last, part-take, part-drop, fewer-words, with_words, table-ledger, same-row}
 
 -- what a row of a table owes, by its words
@@ -85,7 +85,7 @@ pub has-none : (width k : ℕ) → has (replicate width 0) k ≡ false
 has-none width k =
     elim (cases_lt (k / 64) width) [
       | inl inside ↦ has-zero_word (replicate width 0) (k / 64) k (get_or-replicate width (k / 64) 0 0 inside) (omega arith) (omega arith)
-      | inr past ↦ has-past (replicate width 0) k (omega (arith, past, length-replicate width 0))
+      | inr past ↦ has-past (replicate width 0) k (omega (arith, past, length-replicate {A = ℕ} width 0))
     ]
 
 pub unset-row : (entries : List Entry) (o m : ℕ → Bool) → ((k : ℕ) → o k ≡ false) → ((k : ℕ) → m k ≡ false) → IsRow entries o m
@@ -542,10 +542,6 @@ pub same-debts : (t v : Table) (row other : ℕ) → t ≡ v → row < t.rows �
 same-debts t v row other view inside there owed must =
     row-before_change t v row view inside ∙ ap₂ (row_debts t.entries) owed must ∙ sym (row-before_change t v other view there)
 
--- words of 64 bits
-abbrev pub AreWords : List ℕ → Type 0
-AreWords words = (k : ℕ) → get_or words k 0 < 2 ^ 64
-
 part-words : (width row : ℕ) (words : List ℕ) → AreWords words → AreWords (part width row words)
 part-words width row words small k =
     elim (cases_lt k width) [
@@ -555,17 +551,28 @@ part-words width row words small k =
           omega (arith, none)
     ]
 
-pub same-parts : (t v : Table) (row other : ℕ) → t ≡ v → IsLedger t → row < t.rows → other < t.rows → AreWords t.owed → AreWords t.must →
-    row_of v row ≡ row_of v other → (part t.width row t.owed ≡ part t.width other t.owed) × (part t.width row t.must ≡ part t.width other t.must)
-same-parts t v row other view ledger inside there owed_small must_small same =
-    let long = λ (words : List ℕ) (are : length words ≡ t.rows * t.width) (k : ℕ) (below : k < t.rows).
-        let e : length (part t.width k words) ≡ t.width = length-part t.width k words (row-inside t.rows t.width k words are below) in e in
-    same-words t.entries (part t.width row t.owed) (part t.width row t.must) (part t.width other t.owed) (part t.width other t.must)
-    (long t.owed ledger.owed_long row inside ∙ sym (long t.owed ledger.owed_long other there))
-    (long t.must ledger.must_long row inside ∙ sym (long t.must ledger.must_long other there))
-    (part-words t.width row t.owed owed_small) (part-words t.width row t.must must_small) (part-words t.width other t.owed owed_small) (part-words t.width other t.must must_small)
-    (ledger.each row inside) (ledger.each other there)
-    (sym (row-before_change t v row view inside) ∙ same ∙ row-before_change t v other view there)
+-- rows that owe the same have the same bits, and the same words
+same-bits : (t v : Table) (row other : ℕ) → t ≡ v → IsLedger t → row < t.rows → other < t.rows → row_of v row ≡ row_of v other →
+    (k : ℕ) → (has (part t.width row t.owed) k ≡ has (part t.width other t.owed) k) × (has (part t.width row t.must) k ≡ has (part t.width other t.must) k)
+same-bits t v row other view ledger inside there same =
+    one-spelling t.entries (has (part t.width row t.owed)) (has (part t.width row t.must)) (has (part t.width other t.owed)) (has (part t.width other t.must))
+    (ledger.each row inside) (ledger.each other there) (sym (row-before_change t v row view inside) ∙ same ∙ row-before_change t v other view there)
+
+parts-long : (width rows row other : ℕ) (words : List ℕ) → length words ≡ rows * width → row < rows → other < rows → length (part width row words) ≡ length (part width other words)
+parts-long width rows row other words long inside there =
+    length-part width row words (row-inside rows width row words long inside) ∙ sym (length-part width other words (row-inside rows width other words long there))
+
+pub same-owed : (t v : Table) (row other : ℕ) → t ≡ v → IsLedger t → row < t.rows → other < t.rows → AreWords t.owed → row_of v row ≡ row_of v other →
+    part t.width row t.owed ≡ part t.width other t.owed
+same-owed t v row other view ledger inside there small same =
+    same-from_bits (part t.width row t.owed) (part t.width other t.owed) (parts-long t.width t.rows row other t.owed ledger.owed_long inside there)
+    (part-words t.width row t.owed small) (part-words t.width other t.owed small) (λ k. (same-bits t v row other view ledger inside there same k).0)
+
+pub same-must : (t v : Table) (row other : ℕ) → t ≡ v → IsLedger t → row < t.rows → other < t.rows → AreWords t.must → row_of v row ≡ row_of v other →
+    part t.width row t.must ≡ part t.width other t.must
+same-must t v row other view ledger inside there small same =
+    same-from_bits (part t.width row t.must) (part t.width other t.must) (parts-long t.width t.rows row other t.must ledger.must_long inside there)
+    (part-words t.width row t.must small) (part-words t.width other t.must small) (λ k. (same-bits t v row other view ledger inside there same k).1)
 
 -- rows that owe the same have the same print
 pub print-is : (t v : Table) (row : ℕ) → t ≡ v → print_of v row ≡ fold mixed (fold mixed 0 (part t.width row t.owed)) (part t.width row t.must)
@@ -575,8 +582,9 @@ print-is t v row view = ap (λ x. print_of x row) (sym view)
 pub same-prints : (t v : Table) (row other : ℕ) → t ≡ v → IsLedger t → row < t.rows → other < t.rows → AreWords t.owed → AreWords t.must →
     row_of v row ≡ row_of v other → print_of v row ≡ print_of v other
 same-prints t v row other view ledger inside there owed_small must_small same =
-    let parts = same-parts t v row other view ledger inside there owed_small must_small same in
-    print-is t v row view ∙ ap₂ (λ o m. fold mixed (fold mixed 0 o) m) parts.0 parts.1 ∙ sym (print-is t v other view)
+    print-is t v row view
+    ∙ ap₂ (λ o m. fold mixed (fold mixed 0 o) m) (same-owed t v row other view ledger inside there owed_small same) (same-must t v row other view ledger inside there must_small same)
+    ∙ sym (print-is t v other view)
 
 pub found-any : (test : Debt → Bool) (t v : Table) (row : ℕ) (r : Option Place) → t ≡ v → IsLedger t → row < t.rows → AsksNoMust test →
     IfSome r (IsFirst test t.entries (has (part t.width row t.owed))) → IfNone r (NonePasses test t.entries (has (part t.width row t.owed))) →

@@ -7,3 +7,4 @@ pub mod RunLemmas
 pub mod WordsLemmas
 pub mod MemoLemmas
 pub mod WordLemmas
+pub mod WordRowLemmas

@@ -53,7 +53,7 @@ gap-begins o low i k begins order gap =
     ]
 
 -- a set bit before the next one is one of the first
-before-next : (o : ℕ → Bool) (low at k : ℕ) → IsGap o low at → k < at → o k ≡ true → k < low
+pub before-next : (o : ℕ → Bool) (low at k : ℕ) → IsGap o low at → k < at → o k ≡ true → k < low
 before-next o low at k gap before is =
     elim (cases_lt k low) [
       | inl first ↦ first

@@ -135,7 +135,7 @@ pasted-changes width from to words from_inside to_inside =
     (written-changes width to words (part width from words) to_inside long, written-part width to words (part width from words) to_inside long)
 
 -- rows behind others
-split-rows : (k r width n : ℕ) → k + r ≡ n → n * width ≡ k * width + r * width
+pub split-rows : (k r width n : ℕ) → k + r ≡ n → n * width ≡ k * width + r * width
 split-rows k r width n is = omega (arith, ap (λ x. x * width) is)
 
 pub part-of_more : (width rows k : ℕ) (xs ys : List ℕ) → length xs ≡ rows * width → k < rows → part width k (xs ++ ys) ≡ part width k xs

@@ -6,7 +6,7 @@ use Rattle.std.proofs.lemmas.Bool.{cases_lt, cases_Bool, true≢false, false_fro
 use Rattle.std.proofs.lemmas.Bool.Decides.{nat_tests}
 use Rattle.std.proofs.lemmas.Nat.{pow_below}
 use Rattle.std.proofs.lemmas.List.{drop_more, get_or_default}
-use Rattle.std.proofs.lemmas.Nat.Bits.{bit_at_ones, bit_at_ones_above, bit_at_not}
+use Rattle.std.proofs.lemmas.Nat.Bits.{bit_at-lt, bit_at_ones, bit_at_ones_above, bit_at_not}
 use lib.Bits.{bit_and}
 use Rattle.sip_masks.specs.Bits.{test}
 use Rattle.sip_masks.proofs.BitLemmas.{test-and}
@@ -121,14 +121,14 @@ fresh-bit : (owed bits must k : ℕ) → must < 2 ^ 64 → bit_and (bit_and owed
 unfolding test
 fresh-bit owed bits must k small zero low is marked =
     true_from_ne_false (test must k) (λ unset.
-    let other : test (bit_not w64 must) k ≡ true = ap (λ n. n == 1) (bit_at_not w64 must k small low) ∙ turned (bit_at must k) unset in
+    let other : test (bit_not w64 must) k ≡ true = ap (λ n. n == 1) (bit_at_not w64 must k small low) ∙ turned (bit_at must k) (bit_at-lt must k) unset in
     let both : test (bit_and (bit_and owed bits) (bit_not w64 must)) k ≡ true =
         test-and (bit_and owed bits) (bit_not w64 must) k
         ∙ and_from (test (bit_and owed bits) k) (test (bit_not w64 must) k) (test-and owed bits k ∙ and_from (test owed k) (test bits k) is marked) other in
     true≢false (sym both ∙ ap (λ w. test w k) zero ∙ test-zero k))
   where
-    turned : (n : ℕ) → (n == 1) ≡ false → (1 - n == 1) ≡ true
-    turned n e = grind (arith, nat_tests)
+    turned : (n : ℕ) → n < 2 → (n == 1) ≡ false → (1 - n == 1) ≡ true
+    turned n small e = grind (arith, nat_tests)
 
 pub fresh-word : (t : ℕ) (entries : List Entry) (owed bits must : ℕ) → must < 2 ^ 64 → IsMask (asked_of None t) entries (length entries) bits →
     ((k : ℕ) → has (owed ∷ []) k ≡ true → k < length entries) → bit_and (bit_and owed bits) (bit_not w64 must) ≡ 0 →

@@ -1,5 +1,6 @@
 -- The words of all rows, moved within their list.
 use Rattle.std.proofs.Common.{◌≡◌, ◌≢◌, ℕ, ◌+◌, ◌-◌, ◌*◌, ◌<◌, ◌≤◌, List, [], ◌∷◌, ◌++◌, length, take, drop, get_or, refl, sym, ap, ap₂, ◌∙◌, subst, inl, inr, arith}
+use Rattle.std.specs.List.{copy_within}
 use Rattle.std.proofs.Math.Nat.{mul-le-mul_left}
 use Rattle.std.proofs.lemmas.Bool.{cases_eq}
 use Rattle.std.proofs.lemmas.List.{append_assoc, append-nil, length-append, length-drop, length-take-le, drop-drop, drop-take, take_at, take_rest, take-append-drop, get_or-take}
@@ -27,11 +28,14 @@ pasted-row width from to words =
     ∙ ap (λ n. put_mid (to * width) n words (part width from words)) other
 
 -- the first ones are dropped
-pub dropped-first : {X : Type 0} (count kept : ℕ) (xs : List X) → count + kept ≡ length xs → take kept (take kept (drop count xs) ++ drop kept xs) ≡ drop count xs
-dropped-first count kept xs whole =
-    let long : length (drop count xs) ≡ kept = omega (arith, length-drop count xs, whole) in
-    let all : kept ≡ length xs - count = omega (arith, whole) in
-    take_at (take kept (drop count xs)) (drop kept xs) kept (length-take-le kept (drop count xs) (omega (arith, long)))
+pub dropped-first : {X : Type 0} (count len : ℕ) (xs : List X) → len ≡ length xs → count ≤ length xs → take (len - count) (copy_within xs count len 0) ≡ drop count xs
+dropped-first count len xs is few =
+    let kept = len - count in
+    let zero : 0 + kept ≡ kept = omega arith in
+    let long : length (drop count xs) ≡ kept = omega (arith, length-drop count xs, is) in
+    let all : kept ≡ length xs - count = omega (arith, is) in
+    ap (λ n. take kept (take kept (drop count xs) ++ drop n xs)) zero
+    ∙ take_at (take kept (drop count xs)) (drop kept xs) kept (length-take-le kept (drop count xs) (omega (arith, long)))
     ∙ ap (λ n. take n (drop count xs)) all ∙ take_rest xs count
 
 -- some rows are without their first words, and the words of the others stand

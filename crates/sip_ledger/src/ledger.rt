@@ -407,10 +407,8 @@ impl Ledger {
         ensures is { result ≡ print_of self.now row }
         ensures same { (other : ℕ) → other < length (rows_of self.now) → row_of self.now other ≡ row_of self.now row → print_of self.now other ≡ result }
     {
-        let start = row * self.width;
-        let end = start + self.width;
-        let owed = words::print(0, &self.owed[start..end]);
-        words::print(owed, &self.must[start..end])
+        let owed = table::print(0, &self.owed, self.width, row);
+        table::print(owed, &self.must, self.width, row)
     }
 
     /// Puts the number of each message that the row owes behind the others, once for each debt.

@@ -1,5 +1,5 @@
 //! Rows of words, one behind another.
-ghost use Rattle.std.specs.Prelude.{◌≡◌, ◌↔◌, ◌<◌, ◌≤◌, ◌+◌, ◌*◌, ◌^◌, ◌++◌, ◌∷◌, [], ℕ, Bool, List, IsTrue, IfSome, IfNone, IfOk, OnOk, true, false, length, filter, map};
+ghost use Rattle.std.specs.Prelude.{◌≡◌, ◌↔◌, ◌<◌, ◌≤◌, ◌+◌, ◌*◌, ◌^◌, ◌++◌, ◌∷◌, [], ℕ, Bool, List, IsTrue, IfSome, IfNone, IfOk, OnOk, true, false, length, filter, fold, map};
 ghost use Rattle.std.specs.Bool.{OnTrue};
 ghost use Rattle.sip_ledger.specs.Bits.{has};
 ghost use Rattle.sip_ledger.specs.Debts.{IsWithoutFirst, counts_at, is_any_payable, debt_deadlines, earliest};
@@ -7,14 +7,16 @@ ghost use Rattle.sip_ledger.specs.declared.debt.Debt.{Debt};
 ghost use Rattle.sip_ledger.specs.declared.debt.Entry.{Entry};
 ghost use Rattle.sip_ledger.specs.Rows.{debt_of};
 ghost use Rattle.sip_ledger.specs.Ledgers.{part, row_at};
+ghost use Rattle.sip_ledger.specs.Prints.{mixed};
 ghost use Rattle.sip_ledger.specs.Runs.{AreRuns};
 ghost use Rattle.sip_ledger.specs.inner.Places.{AreRising, IsBit, IsFirst, NonePasses, AsksNoMust, IsGainedAt};
-ghost use Rattle.sip_ledger.specs.inner.Tables.{IsInside, IsTableRow, ChangesRow, ChangesTable};
+ghost use Rattle.sip_ledger.specs.inner.Tables.{AreWords, IsInside, IsTableRow, ChangesRow, ChangesTable};
 
 use crate::bits;
 use crate::debt::Entry;
 use crate::row::{self, Place};
 use crate::run::Run;
+use crate::words;
 use std::alloc::{AllocError, Global};
 
 /// The first bit of the row whose debt a send of one of the messages at the moment pays.
@@ -215,11 +217,23 @@ pub(crate) fn gain(
 pub(crate) fn same(words: &[u64], width: usize, row: usize, other: usize) -> bool
     requires row { IsInside width row words.now }
     requires other { IsInside width other words.now }
-    ensures { IsTrue result ↔ (part width row words.now ≡ part width other words.now) }
+    ensures same { IsTrue result ↔ (part width row words.now ≡ part width other words.now) }
+    ensures words { AreWords words.now }
 {
     let start = row * width;
     let begin = other * width;
     &words[start..start + width] == &words[begin..begin + width]
+}
+
+/// A number for the words of the row, from another one.
+pub(crate) fn print(seed: u64, words: &[u64], width: usize, row: usize) -> u64
+    requires { IsInside width row words.now }
+    ensures print { result ≡ fold mixed seed (part width row words.now) }
+    ensures words { AreWords words.now }
+{
+    let start = row * width;
+    let end = start + width;
+    words::print(seed, &words[start..end])
 }
 
 /// Puts the number of each message that the row owes behind the others, once for each debt.

@@ -11,6 +11,10 @@ use Rattle.sip_ledger.specs.inner.Places.{IsGainedAt}
 abbrev pub IsInside : ℕ → ℕ → List ℕ → Type 0
 IsInside width row words = row * width + width ≤ length words
 
+-- words of 64 bits
+abbrev pub AreWords : List ℕ → Type 0
+AreWords words = (k : ℕ) → get_or words k 0 < 2 ^ 64
+
 -- a row among others, with words enough for the entries
 pub record IsTableRow (entries : List Entry) (width row : ℕ) (owed must : List ℕ) : Type 0 where
   pub owed_inside : IsInside width row owed

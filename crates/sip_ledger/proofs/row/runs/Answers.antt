@@ -28,7 +28,8 @@ loop-at-preserved c =
     let inside = c.requires.within at found.is in (
       omega (arith, inside),
       subst (λ l. AreRuns l c.append.new.runs.items) (sym (front-next o m entries from at no_entry found.after inside found.none_before found.is))
-        (c.in_ok-append.ensures (front o m entries from) c.loop-at.invariant.1),
+        (subst (λ b. AreRuns (front o m entries from ++ debt_of (get_or entries at no_entry) b ∷ []) c.append.new.runs.items) c.has.ensures
+        (c.in_ok-append.ensures (front o m entries from) c.loop-at.invariant.1)),
     )
 
 pub returns : goal.returns

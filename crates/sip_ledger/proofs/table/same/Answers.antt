@@ -6,8 +6,8 @@ use Rattle.sip_ledger.specs.Ledgers.{part}
 use Rattle.sip_ledger.proofs.TableLemmas.{span, span-is}
 use Rattle.sip_ledger.proofs.table.same.Goals as goal
 
-pub returns : goal.returns
-returns c =
+pub returns-clause-same : goal.returns-clause-same
+returns-clause-same c =
     let words = c.args.words.now in
     let one = span c.args.width c.args.row words in
     let two = span c.args.width c.args.other words in

@@ -12,7 +12,7 @@ use Rattle.sip_ledger.specs.inner.Memos.{IsMask, IsMemo, asked, asked_of}
 use Rattle.sip_ledger.specs.inner.Places.{IsGainedAt, IsBit, IsFirst, NonePasses, AreRising}
 use Rattle.sip_ledger.specs.inner.Tables.{ChangesRow, ChangesTable, IsInside, IsTableRow, IsPlace, IsGrown}
 use Rattle.sip_ledger.proofs.ListedLemmas.{no_entry, listed-softened}
-use Rattle.sip_ledger.proofs.LedgerLemmas.{row_in, changed, changed-to, changed-first, changed-others, unchanged-others, row-within, row-before_change, rows-inside, rows-length, row-is, cleared, softened, copied, placed, free-at, unset-debts, more-within, more-widened, without-same, single, any-single, unpaid-row, found-any, some-passes, none-any, same-debts, same-parts, same-prints, print-is, words-fit, row-fits, tidied}
+use Rattle.sip_ledger.proofs.LedgerLemmas.{row_in, changed, changed-to, changed-first, changed-others, unchanged-others, row-within, row-before_change, rows-inside, rows-length, row-is, cleared, softened, copied, placed, free-at, unset-debts, more-within, more-widened, without-same, single, any-single, unpaid-row, found-any, some-passes, none-any, same-debts, same-prints, print-is, words-fit, row-fits, tidied}
 use Rattle.sip_ledger.proofs.MemoLemmas.{mask-grown}
 use Rattle.sip_ledger.proofs.TableLemmas.{row-inside, table-row, same-row, with_words}
 use Rattle.sip_ledger.proofs.RowLemmas.{first-any, none-passes}
@@ -27,7 +27,7 @@ first_must-requires-clause-inside c =
     let row = c.args.row in
     let inside = row-within t v row c.self.view_is c.requires in
     let ledger = c.self.invariant.ledger in
-    rw c.deref-2.ensures.value (row-inside s.rows s.width row s.must.items ledger.must_long inside)
+    rw c.deref-then-self.ensures.value (row-inside s.rows s.width row s.must.items ledger.must_long inside)
 
 pub first_must-requires-clause-within : goal.first_must-requires-clause-within
 first_must-requires-clause-within c =
@@ -37,7 +37,7 @@ first_must-requires-clause-within c =
     let row = c.args.row in
     let inside = row-within t v row c.self.view_is c.requires in
     let ledger = c.self.invariant.ledger in
-    rw (c.deref.ensures.value, c.deref-2.ensures.value) (λ k set. (ledger.each row inside).within k ((ledger.each row inside).among k set))
+    rw (c.deref.ensures.value, c.deref-then-self.ensures.value) (λ k set. (ledger.each row inside).within k ((ledger.each row inside).among k set))
 
 pub first_must-requires-clause-fits : goal.first_must-requires-clause-fits
 first_must-requires-clause-fits c =
@@ -61,7 +61,7 @@ earliest_must-requires-clause-inside c =
     let row = c.args.row in
     let inside = row-within t v row c.self.view_is c.requires in
     let ledger = c.self.invariant.ledger in
-    rw c.deref-4.ensures.value (row-inside s.rows s.width row s.must.items ledger.must_long inside)
+    rw c.deref-3.ensures.value (row-inside s.rows s.width row s.must.items ledger.must_long inside)
 
 pub earliest_must-requires-clause-within : goal.earliest_must-requires-clause-within
 earliest_must-requires-clause-within c =
@@ -71,7 +71,7 @@ earliest_must-requires-clause-within c =
     let row = c.args.row in
     let inside = row-within t v row c.self.view_is c.requires in
     let ledger = c.self.invariant.ledger in
-    rw (c.deref-3.ensures.value, c.deref-4.ensures.value) (λ k set. (ledger.each row inside).within k ((ledger.each row inside).among k set))
+    rw (c.deref-2.ensures.value, c.deref-3.ensures.value) (λ k set. (ledger.each row inside).within k ((ledger.each row inside).among k set))
 
 pub earliest_must-requires-clause-fits : goal.earliest_must-requires-clause-fits
 earliest_must-requires-clause-fits c =
@@ -93,7 +93,7 @@ returns-then-self c =
     let inside = row-within t v row c.self.view_is c.requires in
     let ledger = c.self.invariant.ledger in
     let small : length s.entries.items < 2 ^ 63 = omega (arith, s.entries.ok, s.entries.small) in
-    let said = rw (c.deref.ensures.value, c.deref-2.ensures.value) at c.first_must.ensures in
+    let said = rw (c.deref.ensures.value, c.deref-then-self.ensures.value) at c.first_must.ensures in
     said s.owed.items (table-row t row small ledger inside) ∙ ap (λ l. earliest (debt_deadlines l)) (sym (row-before_change t v row c.self.view_is inside))
 
 pub returns : goal.returns
@@ -105,5 +105,5 @@ returns c =
     let inside = row-within t v row c.self.view_is c.requires in
     let ledger = c.self.invariant.ledger in
     let small : length s.entries.items < 2 ^ 63 = omega (arith, s.entries.ok, s.entries.small) in
-    let said = rw (c.deref-3.ensures.value, c.deref-4.ensures.value) at c.earliest_must.ensures in
+    let said = rw (c.deref-2.ensures.value, c.deref-3.ensures.value) at c.earliest_must.ensures in
     said s.owed.items (table-row t row small ledger inside) ∙ ap (λ l. earliest (debt_deadlines l)) (sym (row-before_change t v row c.self.view_is inside))

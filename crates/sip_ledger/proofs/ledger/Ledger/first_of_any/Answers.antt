@@ -12,7 +12,7 @@ use Rattle.sip_ledger.specs.inner.Memos.{IsMask, IsMemo, asked, asked_of}
 use Rattle.sip_ledger.specs.inner.Places.{IsGainedAt, IsBit, IsFirst, NonePasses, AreRising}
 use Rattle.sip_ledger.specs.inner.Tables.{ChangesRow, ChangesTable, IsInside, IsTableRow, IsPlace, IsGrown}
 use Rattle.sip_ledger.proofs.ListedLemmas.{no_entry, listed-softened}
-use Rattle.sip_ledger.proofs.LedgerLemmas.{row_in, changed, changed-to, changed-first, changed-others, unchanged-others, row-within, row-before_change, rows-inside, rows-length, row-is, cleared, softened, copied, placed, free-at, unset-debts, more-within, more-widened, without-same, single, any-single, unpaid-row, found-any, some-passes, none-any, same-debts, same-parts, same-prints, print-is, words-fit, row-fits, tidied}
+use Rattle.sip_ledger.proofs.LedgerLemmas.{row_in, changed, changed-to, changed-first, changed-others, unchanged-others, row-within, row-before_change, rows-inside, rows-length, row-is, cleared, softened, copied, placed, free-at, unset-debts, more-within, more-widened, without-same, single, any-single, unpaid-row, found-any, some-passes, none-any, same-debts, same-prints, print-is, words-fit, row-fits, tidied}
 use Rattle.sip_ledger.proofs.MemoLemmas.{mask-grown}
 use Rattle.sip_ledger.proofs.TableLemmas.{row-inside, table-row, same-row, with_words}
 use Rattle.sip_ledger.proofs.RowLemmas.{first-any, none-passes}

@@ -12,26 +12,26 @@ use Rattle.sip_ledger.specs.inner.Memos.{IsMask, IsMemo, asked, asked_of}
 use Rattle.sip_ledger.specs.inner.Places.{IsGainedAt, IsBit, IsFirst, NonePasses, AreRising}
 use Rattle.sip_ledger.specs.inner.Tables.{ChangesRow, ChangesTable, IsInside, IsTableRow, IsPlace, IsGrown}
 use Rattle.sip_ledger.proofs.ListedLemmas.{no_entry, listed-softened}
-use Rattle.sip_ledger.proofs.LedgerLemmas.{row_in, changed, changed-to, changed-first, changed-others, unchanged-others, row-within, row-before_change, rows-inside, rows-length, row-is, cleared, softened, copied, placed, free-at, unset-debts, more-within, more-widened, without-same, single, any-single, unpaid-row, found-any, some-passes, none-any, same-debts, same-parts, same-prints, print-is, words-fit, row-fits, tidied}
+use Rattle.sip_ledger.proofs.LedgerLemmas.{row_in, changed, changed-to, changed-first, changed-others, unchanged-others, row-within, row-before_change, rows-inside, rows-length, row-is, cleared, softened, copied, placed, free-at, unset-debts, more-within, more-widened, without-same, single, any-single, unpaid-row, found-any, some-passes, none-any, same-debts, same-prints, print-is, words-fit, row-fits, tidied}
 use Rattle.sip_ledger.proofs.MemoLemmas.{mask-grown}
 use Rattle.sip_ledger.proofs.TableLemmas.{row-inside, table-row, same-row, with_words}
 use Rattle.sip_ledger.proofs.RowLemmas.{first-any, none-passes}
 use Rattle.sip_ledger.proofs.WordLemmas.{part-one, first-of_word, none-of_word, fresh-word}
 use Rattle.sip_ledger.proofs.ledger.Ledger.payable_bits.Goals as goal
 
-pub asked-requires-clause-few : goal.asked-requires-clause-few
-asked-requires-clause-few c =
+pub asked-self-inside-requires-clause-few : goal.asked-self-inside-requires-clause-few
+asked-self-inside-requires-clause-few c =
     let s = c.self.inside in
     let wide = c.self.invariant.ledger.wide in
     omega (arith, ap length c.deref.ensures.value, wide, ap (λ (x : Table). x.width) c.self.view_is, c.requires)
 
-pub asked-requires-clause-memo : goal.asked-requires-clause-memo
-asked-requires-clause-memo c = rw c.deref.ensures.value c.self.invariant.payable
+pub asked-self-inside-requires-clause-memo : goal.asked-self-inside-requires-clause-memo
+asked-self-inside-requires-clause-memo c = rw c.deref.ensures.value c.self.invariant.payable
 
 pub invariant_of-self : goal.invariant_of-self
 invariant_of-self c =
-    let memo = rw c.deref.ensures.value at c.asked.ensures.memo in
+    let memo = rw c.deref.ensures.value at c.asked-self-inside.ensures.memo in
     record { ledger = c.self.invariant.ledger; rises = c.self.invariant.rises; payable = memo; past = c.self.invariant.past }
 
 pub returns-clause-bits : goal.returns-clause-bits
-returns-clause-bits c = rw (← c.self.view_is) (rw c.deref.ensures.value at c.asked.ensures.all)
+returns-clause-bits c = rw (← c.self.view_is) (rw c.deref.ensures.value at c.asked-self-inside.ensures.all)

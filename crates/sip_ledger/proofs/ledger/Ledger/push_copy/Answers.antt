@@ -23,9 +23,6 @@ copy_row-requires-clause-must c =
 pub invariant_of-self : goal.invariant_of-self
 invariant_of-self c = rw (c.in_err-copy_row.ensures.err.0, c.in_err-copy_row.ensures.err.1) c.self.invariant
 
-pub returns-in_err-copy_row-clause-err : goal.returns-in_err-copy_row-clause-err
-returns-in_err-copy_row-clause-err c = rw c.from_residual.ensures (rw (c.in_err-copy_row.ensures.err.0, c.in_err-copy_row.ensures.err.1) c.self.view_is)
-
 pub invariant_of-self-2 : goal.invariant_of-self-2
 invariant_of-self-2 c =
     let s = c.self.inside in

@@ -18,14 +18,14 @@ invariant_of-self c =
     let s = c.self.inside in
     let t = table_of s.entries.items s.width s.rows s.owed.items s.must.items in
     let cut = cut-rows t c.args.rows c.self.invariant.ledger (omega (arith, c.if-rows-self.true)) in
-    rw (c.truncate.ensures.items, c.truncate-2.ensures.items) (record { ledger = cut.ledger; rises = c.self.invariant.rises; payable = c.self.invariant.payable; past = c.self.invariant.past })
+    rw (c.truncate.ensures.items, c.truncate-then-rows-self.ensures.items) (record { ledger = cut.ledger; rises = c.self.invariant.rises; payable = c.self.invariant.payable; past = c.self.invariant.past })
 
 pub returns-then-rows-self : goal.returns-then-rows-self
 returns-then-rows-self c =
     let s = c.self.inside in
     let t = table_of s.entries.items s.width s.rows s.owed.items s.must.items in
     let cut = cut-rows t c.args.rows c.self.invariant.ledger (omega (arith, c.if-rows-self.true)) in
-    rw (c.truncate.ensures.items, c.truncate-2.ensures.items) (cut.rows ∙ ap (λ x. take c.args.rows (rows_of x)) c.self.view_is)
+    rw (c.truncate.ensures.items, c.truncate-then-rows-self.ensures.items) (cut.rows ∙ ap (λ x. take c.args.rows (rows_of x)) c.self.view_is)
 
 pub returns-else-rows-self : goal.returns-else-rows-self
 returns-else-rows-self c =

@@ -1,0 +1,106 @@
+use Rattle.std.proofs.Common.{◌≡◌, ◌≢◌, ℕ, ◌+◌, ◌-◌, ◌*◌, ◌^◌, ◌<◌, ◌≤◌, Bool, true, false, List, [], ◌∷◌, ◌++◌, length, take, drop, get_or, set, map, filter, min, refl, sym, ap, ap₂, ◌∙◌, subst, inl, inr, arith}
+use Rattle.std.specs.Prelude.{IsTrue, All, None, Some}
+use Rattle.std.specs.List.{list_any}
+use Rattle.std.proofs.lemmas.List.{length-append, with_items_is, set-get_or, get_or_default}
+use Rattle.sip_ledger.specs.declared.debt.Debt.{Debt}
+use Rattle.sip_ledger.specs.declared.debt.Entry.{Entry}
+use Rattle.sip_ledger.specs.Bits.{has}
+use Rattle.sip_ledger.specs.Debts.{IsWithoutFirst, is_payable, is_any_payable, softened_debt, counts_at, debt_deadlines, earliest}
+use Rattle.sip_ledger.specs.Rows.{IsRow, row_debts, debt_of}
+use Rattle.sip_ledger.specs.Ledgers.{Table, table_of, part, rows_of, row_of}
+use Rattle.sip_ledger.specs.inner.Memos.{IsMask, IsMemo, asked, asked_of}
+use Rattle.sip_ledger.specs.inner.Places.{IsGainedAt, IsBit, IsFirst, NonePasses, AreRising}
+use Rattle.sip_ledger.specs.inner.Tables.{ChangesRow, ChangesTable, IsInside, IsTableRow, IsPlace, IsGrown}
+use Rattle.sip_ledger.proofs.ListedLemmas.{no_entry, listed-softened}
+use Rattle.sip_ledger.proofs.LedgerLemmas.{row_in, changed, changed-to, changed-first, changed-others, unchanged-others, row-within, row-before_change, rows-inside, rows-length, row-is, cleared, softened, copied, placed, free-at, unset-debts, more-within, more-widened, without-same, single, any-single, unpaid-row, found-any, some-passes, none-any, same-debts, same-prints, print-is, words-fit, row-fits, tidied}
+use Rattle.sip_ledger.proofs.MemoLemmas.{mask-grown}
+use Rattle.sip_ledger.proofs.TableLemmas.{row-inside, table-row, same-row, with_words}
+use Rattle.sip_ledger.proofs.RowLemmas.{first-any, none-passes}
+use Rattle.sip_ledger.proofs.WordLemmas.{word-part}
+use Rattle.sip_ledger.proofs.WordRowLemmas.{row-in_word, IsWordRow, word-found, word-none, word-fresh, word-row}
+use Rattle.sip_ledger.proofs.ledger.Ledger.is_fresh.Goals as goal
+use Rattle.std.specs.Bool.{OnTrue}
+use Rattle.sip_ledger.proofs.ledger.Ledger.is_fresh.Goals.{then-self, else-self}
+
+pub index-requires : goal.index-requires
+index-requires c =
+    let s = c.self-then-self-eq1.inside in
+    let t = table_of s.entries.items s.width s.rows s.owed.items s.must.items in
+    let v = c.args.self.now in
+    let row = c.args.row in
+    let view : t ≡ v = c.self-then-self-eq1.view_is ∙ c.past_bits-bits.ensures.same in
+    let inside = row-within t v row view c.requires in
+    let ledger = c.self-then-self-eq1.invariant.ledger in
+    let one : s.width ≡ 1 = ap (λ (x : Table). x.width) (view ∙ sym c.self.view_is) ∙ c.if-self-eq1.true in
+    let places = row-in_word t row ledger one inside in
+    omega (arith, places.0, s.owed.ok)
+
+pub index-requires-then-self-eq1 : goal.index-requires-then-self-eq1
+index-requires-then-self-eq1 c =
+    let s = c.self-then-self-eq1.inside in
+    let t = table_of s.entries.items s.width s.rows s.owed.items s.must.items in
+    let v = c.args.self.now in
+    let row = c.args.row in
+    let view : t ≡ v = c.self-then-self-eq1.view_is ∙ c.past_bits-bits.ensures.same in
+    let inside = row-within t v row view c.requires in
+    let ledger = c.self-then-self-eq1.invariant.ledger in
+    let one : s.width ≡ 1 = ap (λ (x : Table). x.width) (view ∙ sym c.self.view_is) ∙ c.if-self-eq1.true in
+    let places = row-in_word t row ledger one inside in
+    omega (arith, places.1, s.must.ok)
+
+pub returns-then-self-eq1-clause-fresh : goal.returns-then-self-eq1-clause-fresh
+returns-then-self-eq1-clause-fresh c =
+    let s = c.self-then-self-eq1.inside in
+    let t = table_of s.entries.items s.width s.rows s.owed.items s.must.items in
+    let v = c.args.self.now in
+    let row = c.args.row in
+    let view : t ≡ v = c.self-then-self-eq1.view_is ∙ c.past_bits-bits.ensures.same in
+    let inside = row-within t v row view c.requires in
+    let ledger = c.self-then-self-eq1.invariant.ledger in
+    let one : s.width ≡ 1 = ap (λ (x : Table). x.width) (view ∙ sym c.self.view_is) ∙ c.if-self-eq1.true in
+    let places = row-in_word t row ledger one inside in
+    let word = c.index.result.now in
+    let must = c.index-then-self-eq1.result.now in
+    let own = word-part s.width row word word s.owed.items one places.0 c.index.ensures in
+    let own_must = word-part s.width row must must s.must.items one places.1 c.index-then-self-eq1.ensures in
+    let mask : IsMask (asked_of None c.args.moment) s.entries.items (length s.entries.items) c.past_bits-bits.result =
+        subst (λ (l : List Entry). IsMask (asked_of None c.args.moment) l (length l) c.past_bits-bits.result) (sym (ap (λ (x : Table). x.entries) view)) c.past_bits-bits.ensures.bits in
+    word-fresh c.args.moment t v row word must c.keeps_past.result view inside own own_must
+    (c.keeps_past.ensures c.args.moment s.entries.items mask (word-row s.entries.items s.width row word must s.owed.items s.must.items own own_must (ledger.each row inside)))
+
+pub is_fresh-requires-clause-inside : goal.is_fresh-requires-clause-inside
+is_fresh-requires-clause-inside c =
+    let s = c.self.inside in
+    let t = table_of s.entries.items s.width s.rows s.owed.items s.must.items in
+    let v = c.args.self.now in
+    let row = c.args.row in
+    let inside = row-within t v row c.self.view_is c.requires in
+    let ledger = c.self.invariant.ledger in
+    rw c.deref-then-self.ensures.value (row-inside s.rows s.width row s.owed.items ledger.owed_long inside)
+
+pub is_fresh-requires-clause-within : goal.is_fresh-requires-clause-within
+is_fresh-requires-clause-within c =
+    let s = c.self.inside in
+    let t = table_of s.entries.items s.width s.rows s.owed.items s.must.items in
+    let v = c.args.self.now in
+    let row = c.args.row in
+    let inside = row-within t v row c.self.view_is c.requires in
+    let ledger = c.self.invariant.ledger in
+    rw (c.deref.ensures.value, c.deref-then-self.ensures.value) (ledger.each row inside).within
+
+pub returns-clause-fresh : goal.returns-clause-fresh
+returns-clause-fresh c =
+    let s = c.self.inside in
+    let t = table_of s.entries.items s.width s.rows s.owed.items s.must.items in
+    let v = c.args.self.now in
+    let row = c.args.row in
+    let inside = row-within t v row c.self.view_is c.requires in
+    let ledger = c.self.invariant.ledger in
+    let p = counts_at c.args.moment in
+    let P = λ (b : Bool). OnTrue b (filter p (row_of v row) ≡ row_of v row) in
+    elim c.if-self.branch [
+      | then-self w ↦
+          let said = rw (w.deref.ensures.value, w.deref-then-self.ensures.value) at (w.is_fresh.ensures s.must.items) in
+          subst P (sym w.result-is) (subst (λ l. OnTrue w.is_fresh.result (filter p l ≡ l)) (sym (row-before_change t v row c.self.view_is inside)) said)
+      | else-self w ↦ subst P (sym w.result-is) tt
+    ]

@@ -1,6 +1,7 @@
 use Rattle.std.proofs.Common.{◌≡◌, ◌≢◌, ℕ, ◌+◌, ◌-◌, ◌*◌, ◌^◌, ◌<◌, ◌≤◌, Bool, true, false, List, [], ◌∷◌, ◌++◌, length, take, drop, get_or, set, map, filter, min, refl, sym, ap, ap₂, ◌∙◌, subst, inl, inr, arith}
 use Rattle.std.specs.Prelude.{IsTrue, All, None, Some}
 use Rattle.std.specs.List.{list_any}
+use Rattle.std.proofs.lemmas.Bool.{OnTrue_from, true≢false}
 use Rattle.std.proofs.lemmas.List.{length-append, with_items_is, set-get_or, get_or_default}
 use Rattle.sip_ledger.specs.declared.debt.Debt.{Debt}
 use Rattle.sip_ledger.specs.declared.debt.Entry.{Entry}
@@ -98,9 +99,10 @@ returns-clause-fresh c =
     let ledger = c.self.invariant.ledger in
     let p = counts_at c.args.moment in
     let P = λ (b : Bool). OnTrue b (filter p (row_of v row) ≡ row_of v row) in
+    let off : P false = OnTrue_from false (filter p (row_of v row) ≡ row_of v row) (λ yes. absurd (true≢false (sym yes))) in
     elim c.if-self.branch [
       | then-self w ↦
           let said = rw (w.deref.ensures.value, w.deref-then-self.ensures.value) at (w.is_fresh.ensures s.must.items) in
           subst P (sym w.result-is) (subst (λ l. OnTrue w.is_fresh.result (filter p l ≡ l)) (sym (row-before_change t v row c.self.view_is inside)) said)
-      | else-self w ↦ subst P (sym w.result-is) tt
+      | else-self w ↦ subst P (sym (w.result-is ∙ w.if-self.false)) off
     ]

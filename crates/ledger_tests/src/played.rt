@@ -5,6 +5,7 @@ use std::process::Abort;
 use std::test::Fail;
 
 /// Numbers by chance.
+#[derive(Drop)]
 struct Chance(u64);
 
 impl Chance {

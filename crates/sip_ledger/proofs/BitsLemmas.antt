@@ -1,5 +1,5 @@
 -- One bit of many words.
-use Rattle.std.proofs.Common.{◌≡◌, ◌≢◌, ℕ, suc, ◌+◌, ◌-◌, ◌*◌, ◌/◌, ◌%◌, ◌^◌, ◌<◌, ◌≤◌, Bool, true, false, ◌&&◌, ◌||◌, ◌==◌, List, length, get_or, set, bit_or, w64, refl, sym, ap, ap₂, ◌∙◌, subst, inl, inr, arith, pow-suc, add-one}
+use Rattle.std.proofs.Common.{◌≡◌, ◌≢◌, ℕ, suc, ◌+◌, ◌-◌, ◌*◌, ◌/◌, ◌%◌, ◌^◌, ◌<◌, ◌≤◌, true, false, ◌==◌, List, length, get_or, set, bit_or, w64, refl, sym, ap, ap₂, ◌∙◌, inl, inr, arith, pow-suc, add-one}
 use Rattle.std.specs.Int.{bit_at, bit_not, trailing_zeros}
 use Rattle.std.proofs.lemmas.Bool.{cases_lt, cases_eq, true≢false}
 use Rattle.std.proofs.lemmas.Bool.Decides.{nat_tests}
@@ -8,9 +8,8 @@ use Rattle.std.proofs.lemmas.List.{get_or-set_same, get_or-set_other, get_or_pas
 use Rattle.std.proofs.lemmas.Nat.Bits.{shr_and_one, bit_at-lt, bit_at-zero, bit_at_above, bit_at_set_same, bit_at_set_other, bit_at_clear_same, bit_at_clear_other, bit_at-trailing_zeros, same_from_bits_below}
 use lib.Bits.{bit_and}
 use Rattle.sip_masks.specs.Bits.{test}
-use Rattle.sip_masks.proofs.BitLemmas.{test-and, test-or}
 use Rattle.sip_masks.proofs.WordLemmas.{test-shr, test-above}
-use Rattle.sip_ledger.specs.Bits.{has, NoneFrom, IsNext}
+use Rattle.sip_ledger.specs.Bits.{has, IsNext}
 
 -- a bit is told by its word
 pub has-is : (words : List ℕ) (k : ℕ) → has words k ≡ test (get_or words (k / 64) 0) (k % 64)

@@ -1,5 +1,5 @@
 -- What the rows of a ledger owe, as its words change.
-use Rattle.std.proofs.Common.{◌≡◌, ◌≢◌, ℕ, ◌+◌, ◌-◌, ◌*◌, ◌/◌, ◌%◌, ◌^◌, ◌<◌, ◌≤◌, Bool, true, false, List, [], ◌∷◌, ◌++◌, length, take, drop, get_or, set, map, min, replicate, refl, sym, ap, ap₂, ◌∙◌, subst, inl, inr, arith}
+use Rattle.std.proofs.Common.{◌≡◌, ℕ, ◌+◌, ◌-◌, ◌*◌, ◌/◌, ◌%◌, ◌^◌, ◌<◌, ◌≤◌, Bool, true, false, List, [], ◌∷◌, ◌++◌, length, take, drop, get_or, set, min, replicate, refl, sym, ap, ap₂, ◌∙◌, subst, inl, inr, arith}
 use Rattle.std.specs.Prelude.{All, IsTrue, ◌||◌, Option, None, Some, is_some, IfSome, IfNone}
 use Rattle.std.specs.List.{fold, list_any}
 use Rattle.std.proofs.lemmas.Bool.{cases_lt, cases_eq, true≢false, false_from_ne_true}
@@ -13,12 +13,12 @@ use Rattle.sip_ledger.specs.declared.debt.Entry.{Entry}
 use Rattle.sip_ledger.specs.declared.row.Place.{Place}
 use Rattle.sip_ledger.specs.Bits.{has}
 use Rattle.sip_ledger.specs.Debts.{IsWithoutFirst, is_payable, is_any_payable}
-use Rattle.sip_ledger.specs.Rows.{debts_from, row_debts, IsRow, IsGap}
+use Rattle.sip_ledger.specs.Rows.{debts_from, row_debts, IsRow}
 use Rattle.sip_ledger.specs.Ledgers.{Table, table_of, part, row_at, rows_of, row_of, IsLedger}
 use Rattle.sip_ledger.specs.Prints.{mixed, print_of}
 use Rattle.sip_ledger.specs.inner.Places.{AsksNoMust, IsFirst, IsGainedAt, NonePasses}
 use Rattle.sip_ledger.specs.inner.Tables.{AreWords, ChangesRow, ChangesTable, IsWidened, IsNarrowed, IsEmptyFront, IsGrown, IsPlace}
-use Rattle.sip_ledger.proofs.BitsLemmas.{has-is, has-past, has-zero_word, same-from_bits}
+use Rattle.sip_ledger.proofs.BitsLemmas.{has-past, has-zero_word, same-from_bits}
 use Rattle.sip_ledger.proofs.ListedLemmas.{parts, listed-same, listed-none, listed-shift}
 use Rattle.sip_ledger.proofs.RowLemmas.{first-any, grown-row, grown-debts, grown-gained, none-passes, one-spelling}
 use Rattle.sip_ledger.proofs.TableLemmas.{row-before, row-inside, length-part, part-of_more, part-of_last, part-take, part-drop, fewer-words, with_words, table-ledger, same-row}
@@ -269,7 +269,7 @@ more-within entry t ledger room = record {
     narrow = let narrow = ledger.narrow in omega (arith, length_push t.entries entry, narrow);
     each = λ k inside. grown-row t.entries entry (has (part t.width k t.owed)) (has (part t.width k t.must)) (ledger.each k inside);
   };
-  grown = record { entries = refl; rows = refl; owed = λ row inside k. refl; must = λ row inside k. refl; };
+  grown = record { entries = refl; rows = refl; owed = λ row inside k. refl; must = λ row inside k. refl };
 }
 
 pub more-widened : (entry : Entry) (t : Table) (owed' must' : List ℕ) → IsLedger t → 64 * t.width ≤ length t.entries → IsWidened t.width t.rows t.owed owed' → IsWidened t.width t.rows t.must must' →
@@ -287,7 +287,7 @@ more-widened entry t owed' must' ledger full owed_wide must_wide =
             row-along (t.entries ++ entry ∷ []) (has (part t.width k t.owed)) (has (part t.width k t.must)) (has (part (t.width + 1) k owed')) (has (part (t.width + 1) k must'))
             (owed k inside) (must k inside) (grown-row t.entries entry (has (part t.width k t.owed)) (has (part t.width k t.must)) (ledger.each k inside));
       };
-      grown = record { entries = refl; rows = refl; owed = owed; must = must; };
+      grown = record { entries = refl; rows = refl; owed = owed; must = must };
     }
 
 -- the first entries are dropped, which no row owes
@@ -298,8 +298,8 @@ shifted-row entries o m n row = record {
   leftmost = λ i k e before set gap same.
       row.leftmost (n + i) (n + k) e (omega (arith, before)) set
       (λ j above below.
-          let back : n + (j - n) ≡ j = omega (arith, above) in
-          ap o (sym back) ∙ gap (j - n) (omega (arith, above)) (omega (arith, below, above)))
+      let back : n + (j - n) ≡ j = omega (arith, above) in
+      ap o (sym back) ∙ gap (j - n) (omega (arith, above)) (omega (arith, below, above)))
       (sym (get_or-drop n entries i e) ∙ same ∙ get_or-drop n entries k e);
 }
 
@@ -359,9 +359,9 @@ tidied t dropped past owed' must' entries' ledger few is_past empty owed_narrow 
     let same_entries : entries' ≡ drop n t.entries = is_entries ∙ ap (λ k. drop k t.entries) is_past ∙ least-dropped n t.entries in
     let long : length entries' ≡ length t.entries - n = ap length same_entries ∙ length-drop n t.entries in
     let owed_bits = λ (k : ℕ) (inside : k < t.rows) (j : ℕ).
-        let e : has (part kept k owed') j ≡ has (part t.width k t.owed) (n + j) = ap (λ w. has w j) (owed_narrow.each k inside) ∙ has-dropped (part t.width k t.owed) dropped j in e in
+    let e : has (part kept k owed') j ≡ has (part t.width k t.owed) (n + j) = ap (λ w. has w j) (owed_narrow.each k inside) ∙ has-dropped (part t.width k t.owed) dropped j in e in
     let must_bits = λ (k : ℕ) (inside : k < t.rows) (j : ℕ).
-        let e : has (part kept k must') j ≡ has (part t.width k t.must) (n + j) = ap (λ w. has w j) (must_narrow.each k inside) ∙ has-dropped (part t.width k t.must) dropped j in e in
+    let e : has (part kept k must') j ≡ has (part t.width k t.must) (n + j) = ap (λ w. has w j) (must_narrow.each k inside) ∙ has-dropped (part t.width k t.must) dropped j in e in
     let t' = table_of entries' kept t.rows owed' must' in
     record {
       ledger = record {
@@ -519,8 +519,8 @@ pub unpaid-row : (test : Debt → Bool) (t v : Table) (row : ℕ) → t ≡ v �
     All (λ debt. ¬ (IsTrue (test debt))) (row_of v row)
 unpaid-row test t v row view inside none asks =
     let fails : All (λ debt. ¬ (IsTrue (test debt))) (row_in t row) =
-        All-weaker (λ d. test d ≡ false) (λ d. ¬ (IsTrue (test d))) (λ d off on. true≢false (sym on ∙ off)) (row_in t row)
-        (none-passes test t.entries (has (part t.width row t.owed)) (has (part t.width row t.must)) asks none) in
+    All-weaker (λ d. test d ≡ false) (λ d. ¬ (IsTrue (test d))) (λ d off on. true≢false (sym on ∙ off)) (row_in t row)
+    (none-passes test t.entries (has (part t.width row t.owed)) (has (part t.width row t.must)) asks none) in
     subst (All (λ debt. ¬ (IsTrue (test debt)))) (sym (row-before_change t v row view inside)) fails
 
 -- whether a row has a debt that passes a test

@@ -1,10 +1,9 @@
 -- The debts at bits of a list of entries.
-use Rattle.std.proofs.Common.{◌≡◌, ◌≢◌, ℕ, zero, suc, ◌+◌, ◌-◌, ◌<◌, ◌≤◌, Bool, true, false, ◌&&◌, ◌||◌, cond, List, [], ◌∷◌, ◌++◌, length, take, drop, get_or, map, filter, refl, sym, ap, ap₂, ◌∙◌, subst, inl, inr, arith, append-nil}
+use Rattle.std.proofs.Common.{◌≡◌, ℕ, zero, suc, ◌+◌, ◌-◌, ◌<◌, ◌≤◌, Bool, true, false, ◌&&◌, ◌||◌, cond, List, [], ◌∷◌, ◌++◌, length, take, drop, get_or, map, filter, refl, sym, ap, ◌∙◌, subst, arith}
 use Rattle.std.specs.Prelude.{All, nat_le, Some, option_to_list, min}
 use Rattle.std.specs.List.{fold}
-use Rattle.std.proofs.lemmas.Bool.{cases_lt, cases_eq}
-use Rattle.std.proofs.lemmas.List.{append_cancel_right, drop_more, drop_all, length-drop, length-take-le, get_or-take, get_or-drop, take-append-drop, take_more}
-use Rattle.std.proofs.lemmas.List.Elements.{All-nil, All-cons, All-head, All-tail, All-map}
+use Rattle.std.proofs.lemmas.List.{append_cancel_right, drop_more, length-take-le, take-append-drop, take_more}
+use Rattle.std.proofs.lemmas.List.Elements.{All-nil, All-cons, All-head, All-tail}
 use Rattle.sip_ledger.specs.declared.debt.Debt.{Debt}
 use Rattle.sip_ledger.specs.declared.debt.Entry.{Entry}
 use Rattle.sip_ledger.specs.Debts.{counts_at, softened_debt, debt_deadlines, earliest}
@@ -134,10 +133,10 @@ listed-counting t o m o' i [] each = refl
 listed-counting t o m o' i (x ∷ xs) each =
     let none : i ≡ i + 0 = omega arith in
     let here : o' i ≡ (o i && (m i || nat_le t x.deadline)) =
-        subst (λ n. o' n ≡ (o n && (m n || nat_le t x.deadline))) (sym none) (each 0 x (omega arith)) in
+    subst (λ n. o' n ≡ (o n && (m n || nat_le t x.deadline))) (sym none) (each 0 x (omega arith)) in
     let rest = listed-counting t o m o' (i + 1) xs (λ j e below.
-        let next : i + 1 + j ≡ i + suc j = omega arith in
-        subst (λ n. o' n ≡ (o n && (m n || nat_le t (get_or xs j e).deadline))) (sym next) (each (suc j) e (omega (arith, below)))) in
+    let next : i + 1 + j ≡ i + suc j = omega arith in
+    subst (λ n. o' n ≡ (o n && (m n || nat_le t (get_or xs j e).deadline))) (sym next) (each (suc j) e (omega (arith, below)))) in
     cond-same (o' i) (o i && (m i || nat_le t x.deadline)) (debt_of x (m i)) (debt_of x (m i)) (debts_from o' m (i + 1) xs)
     (filter (counts_at t) (debts_from o m (i + 1) xs)) here refl rest
     ∙ sym (cond-filter (counts_at t) (o i) (debt_of x (m i)) (debts_from o m (i + 1) xs))

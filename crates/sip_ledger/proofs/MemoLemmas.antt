@@ -1,5 +1,5 @@
 -- What is kept of entries, with an entry more or some fewer.
-use Rattle.std.proofs.Common.{◌≡◌, ◌≢◌, ℕ, ◌+◌, ◌-◌, ◌<◌, ◌≤◌, Bool, true, false, List, [], ◌∷◌, ◌++◌, length, drop, get_or, refl, sym, ap, ◌∙◌, subst, inl, inr, arith}
+use Rattle.std.proofs.Common.{◌≡◌, ◌≢◌, ℕ, ◌+◌, ◌-◌, ◌<◌, ◌≤◌, Bool, true, false, List, [], ◌∷◌, ◌++◌, length, drop, get_or, sym, ap, ◌∙◌, inl, inr, arith}
 use Rattle.std.proofs.lemmas.Bool.{cases_lt, cases_eq}
 use Rattle.std.proofs.lemmas.List.{get_or_append_left, get_or_push, get_or-drop, get_or_default, length-drop, length_push}
 use Rattle.sip_masks.specs.Bits.{test}
@@ -12,7 +12,7 @@ use Rattle.sip_ledger.proofs.BitsLemmas.{test-zero, with_bit, test-with_same, te
 use Rattle.sip_ledger.proofs.ListedLemmas.{no_entry}
 
 pub mask-none : (asks : Debt → Bool) (entries : List Entry) → IsMask asks entries 0 0
-mask-none asks entries = record { within = omega arith; tells = λ k e below. absurd (omega (arith, below)); clear = λ k _. test-zero k; }
+mask-none asks entries = record { within = omega arith; tells = λ k e below. absurd (omega (arith, below)); clear = λ k _. test-zero k }
 
 -- an entry more is looked at
 pub mask-with : (asks : Debt → Bool) (entries : List Entry) (at bits : ℕ) → IsMask asks entries at bits → at < length entries → at < 64 →

@@ -1,6 +1,6 @@
 -- Rows whose bits change.
 use Rattle.std.proofs.Common.{◌≡◌, ◌≢◌, ℕ, ◌+◌, ◌-◌, ◌^◌, ◌<◌, ◌≤◌, max, Bool, true, false, cond, List, [], ◌∷◌, ◌++◌, length, take, get_or, append-nil, suc, refl, sym, ap, ap₂, ◌∙◌, subst, inl, inr, arith}
-use Rattle.std.specs.Prelude.{All, IsTrue, ◌↔◌, ◌&&◌, ◌||◌, nat_le, filter}
+use Rattle.std.specs.Prelude.{All, ◌↔◌, ◌&&◌, ◌||◌, nat_le, filter}
 use Rattle.std.specs.List.{list_any}
 use Rattle.std.proofs.lemmas.Bool.{cases_lt, cases_eq, true≢false, false_from_ne_true, and_from, or_left, or_right}
 use Rattle.std.proofs.lemmas.List.Folds.{list_any-append}
@@ -22,26 +22,26 @@ moved-debts entries o m o' m' from to order within is gap equal moved =
     let debt = debt_of (get_or entries from no_entry) (m from) in
     let here : debt_of (get_or entries to no_entry) (m' to) ≡ debt = ap₂ debt_of (equal no_entry) moved.must_to in
     let new : back o' m' entries to ≡ debt ∷ back o m entries (from + 1) =
-        back-set o' m' entries to no_entry (omega (arith, order, within)) moved.owed_to
-        ∙ ap (λ d. d ∷ back o' m' entries (to + 1)) here
-        ∙ ap (λ l. debt ∷ l)
-        (back-over o' m' entries (to + 1) from (omega (arith, order)) (omega (arith, within))
-        (λ j above below.
-            let not_from : j ≢ from = omega (arith, below) in
-            let not_to : j ≢ to = omega (arith, above) in
-            moved.owed_others j not_from not_to ∙ gap j (omega (arith, above)) below)
-        ∙ back-unset o' m' entries from within moved.owed_from
-        ∙ back-same o' m' o m entries (from + 1) (λ j above.
-            let not_from : j ≢ from = omega (arith, above) in
-            let not_to : j ≢ to = omega (arith, above, order) in
-            (moved.owed_others j not_from not_to, moved.must_others j not_from not_to))) in
+    back-set o' m' entries to no_entry (omega (arith, order, within)) moved.owed_to
+    ∙ ap (λ d. d ∷ back o' m' entries (to + 1)) here
+    ∙ ap (λ l. debt ∷ l)
+    (back-over o' m' entries (to + 1) from (omega (arith, order)) (omega (arith, within))
+    (λ j above below.
+    let not_from : j ≢ from = omega (arith, below) in
+    let not_to : j ≢ to = omega (arith, above) in
+    moved.owed_others j not_from not_to ∙ gap j (omega (arith, above)) below)
+    ∙ back-unset o' m' entries from within moved.owed_from
+    ∙ back-same o' m' o m entries (from + 1) (λ j above.
+    let not_from : j ≢ from = omega (arith, above) in
+    let not_to : j ≢ to = omega (arith, above, order) in
+    (moved.owed_others j not_from not_to, moved.must_others j not_from not_to))) in
     let old : back o m entries to ≡ debt ∷ back o m entries (from + 1) =
-        back-over o m entries to from (omega (arith, order)) (omega (arith, within)) gap ∙ back-set o m entries from no_entry within is in
+    back-over o m entries to from (omega (arith, order)) (omega (arith, within)) gap ∙ back-set o m entries from no_entry within is in
     parts o' m' entries to (omega (arith, order, within))
     ∙ ap₂ (λ a b. a ++ b) (front-same o' m' o m entries to (omega (arith, order, within)) (λ j below.
-        let not_from : j ≢ from = omega (arith, below, order) in
-        let not_to : j ≢ to = omega (arith, below) in
-        (moved.owed_others j not_from not_to, moved.must_others j not_from not_to))) (new ∙ sym old)
+    let not_from : j ≢ from = omega (arith, below, order) in
+    let not_to : j ≢ to = omega (arith, below) in
+    (moved.owed_others j not_from not_to, moved.must_others j not_from not_to))) (new ∙ sym old)
     ∙ sym (parts o m entries to (omega (arith, order, within)))
 
 -- a gap right before a bit behind the first ones begins behind them
@@ -104,9 +104,9 @@ moved-open entries o m o' m' low hole from to was begin order is gap equal first
           elim (cases_eq k to) [
             | inl here ↦
                 let begins' = λ (some : 0 < low).
-                    let not_from : low - 1 ≢ from = omega (arith, some, begin, order) in
-                    let not_to : low - 1 ≢ to = omega (arith, some, begin) in
-                    moved.owed_others (low - 1) not_from not_to ∙ was.begins some in
+                let not_from : low - 1 ≢ from = omega (arith, some, begin, order) in
+                let not_to : low - 1 ≢ to = omega (arith, some, begin) in
+                moved.owed_others (low - 1) not_from not_to ∙ was.begins some in
                 let behind : low ≤ i = gap-begins o' low i k begins' (omega (arith, begin, here)) unset in
                 first i e behind (omega (arith, before, here)) (same ∙ ap (λ n. get_or entries n e) here ∙ equal e)
             | inr not_to ↦
@@ -114,9 +114,9 @@ moved-open entries o m o' m' low hole from to was begin order is gap equal first
                 let not_from : k ≢ from = omega (arith, early, order) in
                 let set_before : o k ≡ true = sym (moved.owed_others k not_from not_to) ∙ set in
                 was.below i k e before set_before (λ j above under.
-                    let j_from : j ≢ from = omega (arith, under, early, order) in
-                    let j_to : j ≢ to = omega (arith, under, early) in
-                    sym (moved.owed_others j j_from j_to) ∙ unset j above under)
+                let j_from : j ≢ from = omega (arith, under, early, order) in
+                let j_to : j ≢ to = omega (arith, under, early) in
+                sym (moved.owed_others j j_from j_to) ∙ unset j above under)
                 (before-next o low from k gap (omega (arith, early, order)) set_before) same
           ];
       behind = λ i k e before set unset past same.
@@ -124,9 +124,9 @@ moved-open entries o m o' m' low hole from to was begin order is gap equal first
           let not_from : k ≢ from = omega (arith, beyond, before) in
           let not_to : k ≢ to = omega (arith, beyond, before, order) in
           was.behind i k e before (sym (moved.owed_others k not_from not_to) ∙ set) (λ j above under.
-              let j_from : j ≢ from = omega (arith, above, beyond) in
-              let j_to : j ≢ to = omega (arith, above, beyond, order) in
-              sym (moved.owed_others j j_from j_to) ∙ unset j above under)
+          let j_from : j ≢ from = omega (arith, above, beyond) in
+          let j_to : j ≢ to = omega (arith, above, beyond, order) in
+          sym (moved.owed_others j j_from j_to) ∙ unset j above under)
           (omega (arith, past)) same;
     }
 
@@ -145,7 +145,7 @@ removed P entries o m o' m' at left within is gone others must_others holds none
       let early : j < at = omega (arith, below, length-take-le at entries (omega (arith, within))) in
       let here : 0 + j ≡ j = omega arith in
       let same : debt_of (get_or (take at entries) j e) (m (0 + j)) ≡ debt_of (get_or entries j no_entry) (m j) =
-          ap₂ debt_of (get_or-take at entries j e early ∙ get_or_default entries j e no_entry (omega (arith, early, within))) (ap m here) in
+      ap₂ debt_of (get_or-take at entries j e early ∙ get_or_default entries j e no_entry (omega (arith, early, within))) (ap m here) in
       subst (λ d. ¬ (P d)) (sym same) (none j early (sym (ap o here) ∙ set)));
   rest = is_left ∙ parts o' m' entries at (omega (arith, within))
       ∙ ap₂ (λ a b. a ++ b)
@@ -210,7 +210,7 @@ gained-debts entries o m o' m' at inside last here others must_others =
     let debt = debt_of (get_or entries at no_entry) (m' at) in
     let less : at ≤ length entries = omega (arith, inside) in
     let old : debts_from o m 0 entries ≡ front o m entries at =
-        parts o m entries at less ∙ ap (λ l. front o m entries at ++ l) (back-none o m entries at last) ∙ append-nil (front o m entries at) in
+    parts o m entries at less ∙ ap (λ l. front o m entries at ++ l) (back-none o m entries at last) ∙ append-nil (front o m entries at) in
     parts o' m' entries at less
     ∙ ap₂ (λ a b. a ++ b)
     (front-same o' m' o m entries at less (λ j below. let not : j ≢ at = omega (arith, below) in (others j not, must_others j not)) ∙ sym old)
@@ -278,9 +278,9 @@ clash : (entries : List Entry) (o m o' m' : ℕ → Bool) (i : ℕ) (x : Entry) 
 clash entries o m o' m' i x xs row rest set unset same =
     let tail = rest-tail entries i x xs rest in
     let left : debts_from o m i (x ∷ xs) ≡ debt_of x (m i) ∷ debts_from o m (i + 1) xs =
-        ap (λ b. cond b (debt_of x (m i) ∷ debts_from o m (i + 1) xs) (debts_from o m (i + 1) xs)) set in
+    ap (λ b. cond b (debt_of x (m i) ∷ debts_from o m (i + 1) xs) (debts_from o m (i + 1) xs)) set in
     let right : debts_from o' m' i (x ∷ xs) ≡ debts_from o' m' (i + 1) xs =
-        ap (λ b. cond b (debt_of x (m' i) ∷ debts_from o' m' (i + 1) xs) (debts_from o' m' (i + 1) xs)) unset in
+    ap (λ b. cond b (debt_of x (m' i) ∷ debts_from o' m' (i + 1) xs) (debts_from o' m' (i + 1) xs)) unset in
     let found = first-bit o' m' (i + 1) xs (debt_of x (m i)) (debts_from o m (i + 1) xs) (sym right ∙ sym same ∙ left) in
     let k = i + 1 + found.j in
     let is = found.is no_entry in
@@ -307,26 +307,26 @@ agree entries o m o' m' i (x ∷ xs) row row' rest same k above below =
     let tail = rest-tail entries i x xs rest in
     let more = agree entries o m o' m' (i + 1) xs row row' tail in
     let at = λ (b : Bool) (p : ℕ → Bool) (q : ℕ → Bool) (is : p i ≡ b).
-        ap (λ b. cond b (debt_of x (q i) ∷ debts_from p q (i + 1) xs) (debts_from p q (i + 1) xs)) is in
+    ap (λ b. cond b (debt_of x (q i) ∷ debts_from p q (i + 1) xs) (debts_from p q (i + 1) xs)) is in
     let later = λ (tails : debts_from o m (i + 1) xs ≡ debts_from o' m' (i + 1) xs) (not : k ≢ i).
-        more tails k (omega (arith, above, not)) (omega (arith, below)) in
+    more tails k (omega (arith, above, not)) (omega (arith, below)) in
     alike ((o k ≡ o' k) × (o k ≡ true → m k ≡ m' k)) (o i) (o' i)
     (λ set unset. absurd (clash entries o m o' m' i x xs row' rest set unset same))
     (λ unset set. absurd (clash entries o' m' o m i x xs row rest set unset (sym same)))
     (λ set set'.
-        let heads : debt_of x (m i) ∷ debts_from o m (i + 1) xs ≡ debt_of x (m' i) ∷ debts_from o' m' (i + 1) xs = sym (at true o m set) ∙ same ∙ at true o' m' set' in
-        let head : debt_of x (m i) ≡ debt_of x (m' i) = cc in
-        let tails : debts_from o m (i + 1) xs ≡ debts_from o' m' (i + 1) xs = cc in
-        elim (cases_eq k i) [
-          | inl here ↦ (ap o here ∙ set ∙ sym (ap o' here ∙ set'), λ _. ap m here ∙ ap (λ d. d.must) head ∙ sym (ap m' here))
-          | inr not ↦ later tails not
-        ])
+    let heads : debt_of x (m i) ∷ debts_from o m (i + 1) xs ≡ debt_of x (m' i) ∷ debts_from o' m' (i + 1) xs = sym (at true o m set) ∙ same ∙ at true o' m' set' in
+    let head : debt_of x (m i) ≡ debt_of x (m' i) = cc in
+    let tails : debts_from o m (i + 1) xs ≡ debts_from o' m' (i + 1) xs = cc in
+    elim (cases_eq k i) [
+      | inl here ↦ (ap o here ∙ set ∙ sym (ap o' here ∙ set'), λ _. ap m here ∙ ap (λ d. d.must) head ∙ sym (ap m' here))
+      | inr not ↦ later tails not
+    ])
     (λ unset unset'.
-        let tails : debts_from o m (i + 1) xs ≡ debts_from o' m' (i + 1) xs = sym (at false o m unset) ∙ same ∙ at false o' m' unset' in
-        elim (cases_eq k i) [
-          | inl here ↦ (ap o here ∙ unset ∙ sym (ap o' here ∙ unset'), λ set. absurd (true≢false (sym set ∙ ap o here ∙ unset)))
-          | inr not ↦ later tails not
-        ])
+    let tails : debts_from o m (i + 1) xs ≡ debts_from o' m' (i + 1) xs = sym (at false o m unset) ∙ same ∙ at false o' m' unset' in
+    elim (cases_eq k i) [
+      | inl here ↦ (ap o here ∙ unset ∙ sym (ap o' here ∙ unset'), λ set. absurd (true≢false (sym set ∙ ap o here ∙ unset)))
+      | inr not ↦ later tails not
+    ])
 
 unset-must : (entries : List Entry) (o m : ℕ → Bool) (k : ℕ) → IsRow entries o m → o k ≡ false → m k ≡ false
 unset-must entries o m k row unset = false_from_ne_true (m k) (λ set. true≢false (sym (row.among k set) ∙ unset))
@@ -345,12 +345,14 @@ one-spelling entries o m o' m' row row' same k =
     } in
     elim (cases_lt k (length entries)) [
       | inl inside ↦
-          let here = agree entries o m o' m' 0 entries row row' whole same k (omega arith) (omega (arith, inside)) in
-          (here.0, alike (m k ≡ m' k) (o k) (o' k)
-            (λ set unset. absurd (true≢false (sym set ∙ here.0 ∙ unset)))
-            (λ unset set. absurd (true≢false (sym set ∙ sym here.0 ∙ unset)))
-            (λ set _. here.1 set)
-            (λ unset unset'. unset-must entries o m k row unset ∙ sym (unset-must entries o' m' k row' unset')))
+          let here = agree entries o m o' m' 0 entries row row' whole same k (omega arith) (omega (arith, inside)) in (
+            here.0,
+            alike (m k ≡ m' k) (o k) (o' k)
+                (λ set unset. absurd (true≢false (sym set ∙ here.0 ∙ unset)))
+                (λ unset set. absurd (true≢false (sym set ∙ sym here.0 ∙ unset)))
+                (λ set _. here.1 set)
+                (λ unset unset'. unset-must entries o m k row unset ∙ sym (unset-must entries o' m' k row' unset')),
+          )
       | inr past ↦
           let unset = unset-past entries o m k row past in
           let unset' = unset-past entries o' m' k row' past in
@@ -400,9 +402,9 @@ pub gains : (entries : List Entry) (entry : Entry) (o m o' m' : ℕ → Bool) (a
     IsRow entries o' m' × (debts_from o' m' 0 entries ≡ debts_from o m 0 entries ++ debt_of entry due ∷ [])
 gains entries entry o m o' m' at due row gained inside here others must_here must_others = (
   gained-row entries o m o' m' at row inside (λ j above below. gained.last j above)
-    (λ i e before gap same. gained.apart i e before gap (same ∙ gained.is e inside)) here others must_others,
+      (λ i e before gap same. gained.apart i e before gap (same ∙ gained.is e inside)) here others must_others,
   gained-debts entries o m o' m' at inside gained.last here others must_others
-    ∙ ap₂ (λ e d. debts_from o m 0 entries ++ debt_of e d ∷ []) (gained.is no_entry inside) must_here,
+      ∙ ap₂ (λ e d. debts_from o m 0 entries ++ debt_of e d ∷ []) (gained.is no_entry inside) must_here,
 )
 
 -- rows of words that owe the same have the same words

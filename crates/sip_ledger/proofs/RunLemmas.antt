@@ -1,6 +1,5 @@
 -- Runs of equal debts with one debt more.
-use Rattle.std.proofs.Common.{◌≡◌, ◌≢◌, ℕ, ◌+◌, ◌-◌, ◌<◌, ◌≤◌, List, [], ◌∷◌, ◌++◌, length, take, drop, get_or, set, flat_map, replicate, suc, refl, sym, ap, ◌∙◌, inl, inr, arith}
-use Rattle.std.specs.Prelude.{All}
+use Rattle.std.proofs.Common.{◌≡◌, ℕ, ◌+◌, ◌-◌, ◌<◌, List, [], ◌∷◌, ◌++◌, length, take, get_or, set, replicate, suc, sym, ap, ◌∙◌, inl, inr, arith}
 use Rattle.std.proofs.lemmas.Bool.{cases_lt, cases_eq}
 use Rattle.std.proofs.lemmas.Grind.{flat_map-append}
 use Rattle.std.proofs.lemmas.List.{append-nil, append_assoc, drop_all, get_or_append_left, get_or_default, get_or_push, get_or-set_same, get_or-set_other, length-set, length_push, replicate_more, set_split, take-append-drop, drop_more}
@@ -45,15 +44,15 @@ widened-run debts runs a debt are ends is =
     let wide : Run = record { debt = a.debt; count = a.count + 1 } in
     let of : a.debt ≡ debt = ap (λ (r : Run). r.debt) is ∙ ends.last a in
     let kept = λ (at : ℕ) (e : Run) (below : at < length runs).
-        let P : Type 0 = (get_or (set runs n wide) at e).debt ≡ (get_or runs at e).debt in
-        let proof : P = elim (cases_eq at n) [
-          | inl here ↦
-              ap (λ k. (get_or (set runs n wide) k e).debt) here
-              ∙ ap (λ (r : Run). r.debt) (get_or-set_same runs n wide e (omega (arith, long)))
-              ∙ ap (λ (r : Run). r.debt) (is ∙ get_or_default runs n a e (omega (arith, long)))
-              ∙ ap (λ k. (get_or runs k e).debt) (sym here)
-          | inr other ↦ ap (λ (r : Run). r.debt) (get_or-set_other runs n at wide e other)
-        ] in proof in
+    let P : Type 0 = (get_or (set runs n wide) at e).debt ≡ (get_or runs at e).debt in
+    let proof : P = elim (cases_eq at n) [
+      | inl here ↦
+          ap (λ k. (get_or (set runs n wide) k e).debt) here
+          ∙ ap (λ (r : Run). r.debt) (get_or-set_same runs n wide e (omega (arith, long)))
+          ∙ ap (λ (r : Run). r.debt) (is ∙ get_or_default runs n a e (omega (arith, long)))
+          ∙ ap (λ k. (get_or runs k e).debt) (sym here)
+      | inr other ↦ ap (λ (r : Run). r.debt) (get_or-set_other runs n at wide e other)
+    ] in proof in
     record {
       whole =
           ap debts_in (last-set runs n wide long)

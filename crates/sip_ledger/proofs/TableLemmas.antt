@@ -1,5 +1,5 @@
 -- Rows of words, one behind another.
-use Rattle.std.proofs.Common.{◌≡◌, ◌≢◌, ℕ, ◌+◌, ◌-◌, ◌*◌, ◌^◌, ◌<◌, ◌≤◌, List, [], ◌∷◌, ◌++◌, length, take, drop, refl, sym, ap, ◌∙◌, subst, inl, inr, arith}
+use Rattle.std.proofs.Common.{◌≡◌, ℕ, ◌+◌, ◌-◌, ◌*◌, ◌^◌, ◌<◌, ◌≤◌, List, [], ◌∷◌, ◌++◌, length, take, drop, refl, sym, ap, ◌∙◌, subst, inl, inr, arith}
 use Rattle.std.proofs.Math.Nat.{mul-le-mul_left}
 use Rattle.std.proofs.lemmas.Bool.{cases_lt, cases_eq}
 use Rattle.std.proofs.lemmas.List.{append_assoc, length-append, length-drop, length-take-le, take-append-drop, take-append-le, take-take, take_all, drop-append-le, drop-drop, drop-take, take_at, drop_at}
@@ -93,7 +93,7 @@ table-changes entries width row owed must ys zs given y_same z_same is =
     }
 
 pub same-row : (width row : ℕ) (words : List ℕ) → ChangesRow width row words words
-same-row width row words = record { long = refl; others = λ k other. refl; }
+same-row width row words = record { long = refl; others = λ k other. refl }
 
 -- a row of a ledger is one of its table
 pub table-row : (t : Table) (row : ℕ) → length t.entries < 2 ^ 63 → IsLedger t → row < t.rows → IsTableRow t.entries t.width row t.owed t.must

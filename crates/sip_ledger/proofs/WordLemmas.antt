@@ -1,8 +1,8 @@
 -- One word by itself, and masks over it.
-use Rattle.std.proofs.Common.{◌≡◌, ◌≢◌, ℕ, ◌+◌, ◌-◌, ◌*◌, ◌/◌, ◌%◌, ◌^◌, ◌<◌, ◌≤◌, Bool, true, false, ◌&&◌, ◌||◌, ◌==◌, List, [], ◌∷◌, length, take, drop, get_or, filter, w64, refl, sym, ap, ap₂, ◌∙◌, subst, inl, inr, arith}
-use Rattle.std.specs.Prelude.{None, nat_le, nat_lt}
+use Rattle.std.proofs.Common.{◌≡◌, ℕ, ◌+◌, ◌-◌, ◌*◌, ◌/◌, ◌%◌, ◌^◌, ◌<◌, ◌≤◌, Bool, true, false, ◌&&◌, ◌||◌, ◌==◌, List, [], ◌∷◌, length, take, drop, get_or, filter, w64, refl, sym, ap, ap₂, ◌∙◌, subst, inl, inr, arith}
+use Rattle.std.specs.Prelude.{None, nat_le}
 use Rattle.std.specs.Int.{bit_at, bit_not, trailing_zeros}
-use Rattle.std.proofs.lemmas.Bool.{cases_lt, cases_Bool, true≢false, false_from_ne_true, true_from_ne_false, and_parts, and_from, and_left, and_right, or_left, or_right, ltb-false, le-leb}
+use Rattle.std.proofs.lemmas.Bool.{cases_lt, cases_Bool, true≢false, false_from_ne_true, true_from_ne_false, and_parts, and_from, and_right, or_left, or_right, ltb-false, le-leb}
 use Rattle.std.proofs.lemmas.Bool.Decides.{nat_tests}
 use Rattle.std.proofs.lemmas.Nat.{pow_below}
 use Rattle.std.proofs.lemmas.List.{drop_more, get_or_default}
@@ -30,9 +30,9 @@ has-one w k low =
 
 pub one-low : (w k : ℕ) → has (w ∷ []) k ≡ true → k < 64
 one-low w k set = elim (cases_lt k 64) [
-    | inl low ↦ low
-    | inr high ↦ absurd (true≢false (sym set ∙ has-past (w ∷ []) k (omega (arith, high))))
-  ]
+  | inl low ↦ low
+  | inr high ↦ absurd (true≢false (sym set ∙ has-past (w ∷ []) k (omega (arith, high))))
+]
 
 -- the bits of a word below a place
 abbrev below : ℕ → ℕ
@@ -73,7 +73,7 @@ first-in owed bits low some small none last =
       | inr past ↦ has-past (before ∷ []) k (omega (arith, past))
     ] in e in
     let same = λ (k : ℕ) (under : k < at). let e : has (before ∷ []) k ≡ has (owed ∷ []) k =
-        has-one before k (omega (arith, under, found.0)) ∙ test-below owed at k found.0 under ∙ sym (has-one owed k (omega (arith, under, found.0))) in e in
+    has-one before k (omega (arith, under, found.0)) ∙ test-below owed at k found.0 under ∙ sym (has-one owed k (omega (arith, under, found.0))) in e in
     let under = λ (positive : 0 < low). let e : low - 1 < at = elim (cases_lt (low - 1) at) [
       | inl less ↦ less
       | inr more ↦ absurd (true≢false (sym (last positive) ∙ unset (low - 1) more))
@@ -123,8 +123,8 @@ fresh-bit owed bits must k small zero low is marked =
     true_from_ne_false (test must k) (λ unset.
     let other : test (bit_not w64 must) k ≡ true = ap (λ n. n == 1) (bit_at_not w64 must k small low) ∙ turned (bit_at must k) (bit_at-lt must k) unset in
     let both : test (bit_and (bit_and owed bits) (bit_not w64 must)) k ≡ true =
-        test-and (bit_and owed bits) (bit_not w64 must) k
-        ∙ and_from (test (bit_and owed bits) k) (test (bit_not w64 must) k) (test-and owed bits k ∙ and_from (test owed k) (test bits k) is marked) other in
+    test-and (bit_and owed bits) (bit_not w64 must) k
+    ∙ and_from (test (bit_and owed bits) k) (test (bit_not w64 must) k) (test-and owed bits k ∙ and_from (test owed k) (test bits k) is marked) other in
     true≢false (sym both ∙ ap (λ w. test w k) zero ∙ test-zero k))
   where
     turned : (n : ℕ) → n < 2 → (n == 1) ≡ false → (1 - n == 1) ≡ true
@@ -139,15 +139,15 @@ fresh-word t entries owed bits must small mask within zero =
     sym (listed-counting t o m o 0 entries (λ j e inside.
     let here : 0 + j ≡ j = omega arith in
     let counts = λ (set : o j ≡ true). let r : (m j || nat_le t (get_or entries j e).deadline) ≡ true =
-        let low = one-low owed j set in
-        elim (cases_Bool (test bits j)) [
-          | inl marked ↦
-              or_left (m j) (nat_le t (get_or entries j e).deadline)
-              (has-one must j low ∙ fresh-bit owed bits must j small zero low (sym (has-one owed j low) ∙ set) marked)
-          | inr unmarked ↦
-              or_right (m j) (nat_le t (get_or entries j e).deadline)
-              (le-leb t (get_or entries j e).deadline (ltb-false (get_or entries j e).deadline t (sym (mask.tells j e inside) ∙ unmarked)))
-        ] in r in
+    let low = one-low owed j set in
+    elim (cases_Bool (test bits j)) [
+      | inl marked ↦
+          or_left (m j) (nat_le t (get_or entries j e).deadline)
+          (has-one must j low ∙ fresh-bit owed bits must j small zero low (sym (has-one owed j low) ∙ set) marked)
+      | inr unmarked ↦
+          or_right (m j) (nat_le t (get_or entries j e).deadline)
+          (le-leb t (get_or entries j e).deadline (ltb-false (get_or entries j e).deadline t (sym (mask.tells j e inside) ∙ unmarked)))
+    ] in r in
     subst (λ n. o n ≡ (o n && (m n || nat_le t (get_or entries j e).deadline))) (sym here) (kept (o j) (m j || nat_le t (get_or entries j e).deadline) counts)))
   where
     kept : (a b : Bool) → (a ≡ true → b ≡ true) → a ≡ (a && b)
@@ -161,9 +161,9 @@ fresh-first t entries o m at rises none first =
     sym (listed-counting t o m o 0 entries (λ j e inside.
     let here : 0 + j ≡ j = omega arith in
     let counts = λ (set : o j ≡ true). let r : (m j || nat_le t (get_or entries j e).deadline) ≡ true =
-        let above : at ≤ j = elim (cases_lt j at) [ inl under ↦ absurd (true≢false (sym set ∙ none j under)) | inr over ↦ over ] in
-        or_right (m j) (nat_le t (get_or entries j e).deadline)
-        (le-leb t (get_or entries j e).deadline (omega (arith, first e (omega (arith, above, inside)), rises at j e above inside))) in r in
+    let above : at ≤ j = elim (cases_lt j at) [ inl under ↦ absurd (true≢false (sym set ∙ none j under)) | inr over ↦ over ] in
+    or_right (m j) (nat_le t (get_or entries j e).deadline)
+    (le-leb t (get_or entries j e).deadline (omega (arith, first e (omega (arith, above, inside)), rises at j e above inside))) in r in
     subst (λ n. o n ≡ (o n && (m n || nat_le t (get_or entries j e).deadline))) (sym here) (kept (o j) (m j || nat_le t (get_or entries j e).deadline) counts)))
   where
     kept : (a b : Bool) → (a ≡ true → b ≡ true) → a ≡ (a && b)

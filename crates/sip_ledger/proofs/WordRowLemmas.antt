@@ -1,8 +1,7 @@
 -- Rows of one word, and what a mask of the entries tells of them.
-use Rattle.std.proofs.Common.{◌≡◌, ℕ, ◌+◌, ◌*◌, ◌^◌, ◌<◌, ◌≤◌, Bool, true, false, List, [], ◌∷◌, length, filter, sym, ap, ap₂, ◌∙◌, subst, arith}
-use Rattle.std.specs.Prelude.{Option, None, Some, is_some, IfSome, IfNone}
+use Rattle.std.proofs.Common.{◌≡◌, ℕ, ◌+◌, ◌*◌, ◌<◌, Bool, true, false, List, [], ◌∷◌, length, filter, sym, ap, ap₂, ◌∙◌, subst, arith}
+use Rattle.std.specs.Prelude.{Option, None, Some, IfSome, IfNone}
 use Rattle.std.specs.Bool.{OnTrue}
-use Rattle.std.specs.List.{list_any}
 use Rattle.sip_masks.specs.Bits.{test}
 use Rattle.sip_ledger.specs.declared.debt.Debt.{Debt}
 use Rattle.sip_ledger.specs.declared.debt.Entry.{Entry}
@@ -12,10 +11,10 @@ use Rattle.sip_ledger.specs.Debts.{counts_at}
 use Rattle.sip_ledger.specs.Rows.{row_debts, IsRow}
 use Rattle.sip_ledger.specs.Ledgers.{Table, part, row_of, IsLedger}
 use Rattle.sip_ledger.specs.inner.Memos.{IsMask}
-use Rattle.sip_ledger.specs.inner.Places.{AsksNoMust, IsFirst, IsFirstIn, NonePasses}
+use Rattle.sip_ledger.specs.inner.Places.{IsFirst, IsFirstIn, NonePasses}
 use Rattle.sip_ledger.proofs.TableLemmas.{row-inside}
 use Rattle.sip_ledger.proofs.WordLemmas.{first-of_word, none-of_word}
-use Rattle.sip_ledger.proofs.LedgerLemmas.{found-any, row-before_change}
+use Rattle.sip_ledger.proofs.LedgerLemmas.{row-before_change}
 
 pub row-in_word : (t : Table) (row : ℕ) → IsLedger t → t.width ≡ 1 → row < t.rows → (row < length t.owed) × (row < length t.must)
 row-in_word t row ledger one inside =

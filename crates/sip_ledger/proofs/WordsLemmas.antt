@@ -1,15 +1,15 @@
 -- The words of all rows, moved within their list.
-use Rattle.std.proofs.Common.{◌≡◌, ◌≢◌, ℕ, ◌+◌, ◌-◌, ◌*◌, ◌<◌, ◌≤◌, List, [], ◌∷◌, ◌++◌, length, take, drop, get_or, refl, sym, ap, ap₂, ◌∙◌, subst, inl, inr, arith}
+use Rattle.std.proofs.Common.{◌≡◌, ℕ, ◌+◌, ◌-◌, ◌*◌, ◌<◌, ◌≤◌, List, ◌++◌, length, take, drop, get_or, refl, sym, ap, ◌∙◌, subst, inl, inr, arith}
 use Rattle.std.specs.List.{copy_within}
 use Rattle.std.proofs.Math.Nat.{mul-le-mul_left}
 use Rattle.std.proofs.lemmas.Bool.{cases_eq}
-use Rattle.std.proofs.lemmas.List.{append_assoc, append-nil, length-append, length-drop, length-take-le, drop-drop, drop-take, take_at, take_rest, take-append-drop, get_or-take}
+use Rattle.std.proofs.lemmas.List.{append_assoc, length-append, length-drop, length-take-le, drop-drop, drop-take, take_at, take_rest, get_or-take}
 use Rattle.std.proofs.lemmas.Slice.{drop-put_mid}
-use borrow.Rule.Slice.PartMut.{put_mid, post_of}
+use borrow.Rule.Slice.PartMut.{put_mid}
 use lib.Seq.{paste}
 use Rattle.sip_ledger.specs.Ledgers.{part}
-use Rattle.sip_ledger.specs.inner.Tables.{IsInside, ChangesRow, IsNarrowed}
-use Rattle.sip_ledger.proofs.TableLemmas.{row-before, row-inside, written, pasted-changes, part-of_more, part-of_last, part-take, split-rows}
+use Rattle.sip_ledger.specs.inner.Tables.{IsNarrowed}
+use Rattle.sip_ledger.proofs.TableLemmas.{row-inside, written, part-of_more, part-of_last, part-take}
 
 -- words that are written over others, in two ways
 pub pasted : (a n : ℕ) (xs zs : List ℕ) → paste xs a zs n ≡ put_mid a n xs (take n zs)
@@ -45,7 +45,7 @@ pub record IsNarrowing (width rows dropped row : ℕ) (old words : List ℕ) : T
   pub rest : drop (row * width) words ≡ drop (row * width) old
 
 pub narrowing-none : (width rows dropped : ℕ) (old : List ℕ) → length old ≡ rows * width → IsNarrowing width rows dropped 0 old old
-narrowing-none width rows dropped old long = record { long = long; done = λ k below. absurd (omega (arith, below)); rest = refl; }
+narrowing-none width rows dropped old long = record { long = long; done = λ k below. absurd (omega (arith, below)); rest = refl }
 
 -- one more
 pub narrowing-more : (width rows dropped row : ℕ) (old words : List ℕ) → dropped ≤ width → row < rows → IsNarrowing width rows dropped row old words →
@@ -60,7 +60,7 @@ narrowing-more width rows dropped row old words few inside was =
     let a = row * kept in
     let room : a ≤ length words = omega (arith, here, narrow) in
     let piece_long : length piece ≡ kept =
-        length-take-le kept (drop (row * width + dropped) words) (omega (arith, length-drop (row * width + dropped) words, here, whole)) in
+    length-take-le kept (drop (row * width + dropped) words) (omega (arith, length-drop (row * width + dropped) words, here, whole)) in
     let front_long : length (take a words) ≡ row * kept = length-take-le a words room in
     let tail = drop (a + kept) words in
     let both_long : length (take a words ++ piece) ≡ (row + 1) * kept = omega (arith, length-append (take a words) piece, front_long, piece_long) in

@@ -1,4 +1,4 @@
-use Rattle.std.specs.Prelude.{ℕ, ◌*◌, ◌%◌, ◌^◌, List, bit_xor, fold}
+use Rattle.std.specs.Prelude.{ℕ, ◌*◌, ◌%◌, ◌^◌, bit_xor, fold}
 use Rattle.sip_ledger.specs.Ledgers.{Table, part}
 
 -- A number for what a row owes, which tells most rows apart at once.

@@ -16,8 +16,7 @@ use crate::debt::{Debt, Entry};
 use crate::memo::{Memo, Question};
 use crate::row::{self, Place};
 use crate::run::Run;
-use crate::table;
-use crate::words;
+use crate::{table, words};
 use std::alloc::{AllocError, Global};
 use std::marker::Model;
 
@@ -269,14 +268,7 @@ impl Ledger {
         ensures none { IfNone result (NonePasses (is_any_payable numbers.now moment) self.now.entries (has (part self.now.width row self.now.owed))) }
         ensures any { is_some result ≡ list_any (is_any_payable numbers.now moment) (row_of self.now row) }
     {
-        table::first_payable(
-            &self.entries,
-            &self.owed,
-            self.width,
-            row,
-            numbers,
-            moment,
-        )
+        table::first_payable(&self.entries, &self.owed, self.width, row, numbers, moment)
     }
 
     /// Takes the debt at the place out of the row.

@@ -8,7 +8,6 @@ ghost use Rattle.sip_ledger.specs.Rows.{debt_of, row_debts, IsRow, IsGap};
 ghost use Rattle.sip_ledger.specs.inner.Places.{AreRising, IsBit, IsFirst, IsFirstIn, NonePasses, AsksNoMust, IsOpenRow, IsMoved, IsGainedAt, IsExpired};
 ghost use Rattle.sip_ledger.specs.Runs.{AreRuns};
 ghost use Rattle.sip_ledger.specs.inner.Memos.{asked_of, IsMask};
-
 ghost use Rattle.sip_ledger.specs.declared.debt.Debt.{Debt};
 ghost use Rattle.sip_ledger.specs.declared.debt.Entry.{Entry};
 

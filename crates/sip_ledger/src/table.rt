@@ -12,11 +12,10 @@ ghost use Rattle.sip_ledger.specs.Runs.{AreRuns};
 ghost use Rattle.sip_ledger.specs.inner.Places.{AreRising, IsBit, IsFirst, NonePasses, AsksNoMust, IsGainedAt};
 ghost use Rattle.sip_ledger.specs.inner.Tables.{AreWords, IsInside, IsTableRow, ChangesRow, ChangesTable};
 
-use crate::bits;
 use crate::debt::Entry;
 use crate::row::{self, Place};
 use crate::run::Run;
-use crate::words;
+use crate::{bits, words};
 use std::alloc::{AllocError, Global};
 
 /// The first bit of the row whose debt a send of one of the messages at the moment pays.
@@ -56,12 +55,7 @@ pub(crate) fn take_out(
 {
     let start = row * width;
     let end = start + width;
-    row::take_out(
-        entries,
-        &mut owed[start..end],
-        &mut must[start..end],
-        place,
-    );
+    row::take_out(entries, &mut owed[start..end], &mut must[start..end], place);
 }
 
 /// Drops what the row may send and whose deadline is below the moment.

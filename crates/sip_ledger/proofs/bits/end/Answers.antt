@@ -1,6 +1,5 @@
-use Rattle.std.proofs.Common.{◌≡◌, ℕ, ◌/◌, ◌%◌, ◌*◌, ◌<◌, ◌≤◌, ◌+◌, ◌-◌, Bool, true, get_or, length, sym, ap, ◌∙◌, inl, inr, arith}
+use Rattle.std.proofs.Common.{◌≡◌, ◌*◌, ◌<◌, ◌+◌, ◌-◌, get_or, sym, ap, ◌∙◌, inl, inr, arith}
 use Rattle.std.proofs.lemmas.Bool.{cases_lt}
-use Rattle.sip_masks.specs.Bits.{test}
 use Rattle.sip_ledger.specs.Bits.{has}
 use Rattle.sip_ledger.proofs.BitsLemmas.{test-of, top-set, top-above, has-past, has-zero_word}
 use Rattle.sip_ledger.proofs.bits.end.Goals as goal

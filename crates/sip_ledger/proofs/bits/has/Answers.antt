@@ -1,4 +1,4 @@
-use Rattle.std.proofs.Common.{◌≡◌, ◌/◌, ◌%◌, false, get_or, length, sym, ◌∙◌, nat_lt, arith}
+use Rattle.std.proofs.Common.{◌/◌, ◌%◌, get_or, length, sym, ◌∙◌, arith}
 use Rattle.std.proofs.lemmas.Bool.{le-ltb}
 use Rattle.sip_ledger.proofs.BitsLemmas.{test-code, has-is, has-past}
 use Rattle.sip_ledger.proofs.bits.has.Goals as goal

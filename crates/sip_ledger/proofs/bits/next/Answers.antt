@@ -1,4 +1,4 @@
-use Rattle.std.proofs.Common.{◌≡◌, ◌/◌, ◌%◌, ◌^◌, ◌<◌, ◌≤◌, ◌+◌, ◌-◌, get_or, length, inl, inr, arith}
+use Rattle.std.proofs.Common.{◌≡◌, ◌/◌, ◌%◌, ◌^◌, get_or, inl, inr, arith}
 use Rattle.std.proofs.lemmas.Bool.{cases_lt}
 use Rattle.std.proofs.lemmas.Nat.{shr_le}
 use Rattle.sip_ledger.proofs.BitsLemmas.{next-here, has-rest_none, has-past}

@@ -1,4 +1,4 @@
-use Rattle.std.proofs.Common.{◌≡◌, ◌+◌, ◌≤◌, List, ◌∷◌, [], ◌++◌, length, get_or, map, sym, ap, ◌∙◌, arith, append-nil}
+use Rattle.std.proofs.Common.{◌≡◌, ◌∷◌, [], ◌++◌, get_or, map, sym, ap, ◌∙◌, arith, append-nil}
 use Rattle.std.specs.Prelude.{option_to_list}
 use Rattle.std.proofs.lemmas.List.{map-append}
 use Rattle.sip_ledger.specs.declared.debt.Debt.{Debt}
@@ -20,10 +20,10 @@ loop-at-preserved c =
     let before = map (λ (d : Debt). d.deadline) (front m m entries from) in (
       omega (arith, inside),
       c.earlier.ensures
-        ∙ ap (λ o. earliest (entry.deadline ∷ option_to_list o)) c.loop-at.invariant.1
-        ∙ sym (earliest-push before entry.deadline)
-        ∙ ap earliest (sym (map-append (λ (d : Debt). d.deadline) (front m m entries from) (debt_of entry (m at) ∷ [])))
-        ∙ ap (λ l. earliest (map (λ (d : Debt). d.deadline) l)) (sym (front-next m m entries from at no_entry found.after inside found.none_before found.is)),
+          ∙ ap (λ o. earliest (entry.deadline ∷ option_to_list o)) c.loop-at.invariant.1
+          ∙ sym (earliest-push before entry.deadline)
+          ∙ ap earliest (sym (map-append (λ (d : Debt). d.deadline) (front m m entries from) (debt_of entry (m at) ∷ [])))
+          ∙ ap (λ l. earliest (map (λ (d : Debt). d.deadline) l)) (sym (front-next m m entries from at no_entry found.after inside found.none_before found.is)),
     )
 
 pub returns : goal.returns
@@ -32,9 +32,9 @@ returns c owed row =
     let m = has c.args.must.now in
     let from = c.loop-at.from in
     let whole : debts_from m m 0 entries ≡ front m m entries from =
-        parts m m entries from c.loop-at.invariant.0
-        ∙ ap (λ l. front m m entries from ++ l) (back-none m m entries from c.in_default.ensures.none)
-        ∙ append-nil (front m m entries from) in
+    parts m m entries from c.loop-at.invariant.0
+    ∙ ap (λ l. front m m entries from ++ l) (back-none m m entries from c.in_default.ensures.none)
+    ∙ append-nil (front m m entries from) in
     c.loop-at.invariant.1
     ∙ ap (λ l. earliest (map (λ (d : Debt). d.deadline) l)) (sym whole)
     ∙ ap earliest (sym (listed-must (has owed) m 0 entries row.among))

@@ -1,7 +1,5 @@
-use Rattle.std.proofs.Common.{◌≡◌, ◌+◌, ◌≤◌, ◌<◌, length, sym, ap, subst, ◌∙◌, inl, inr, arith}
-use Rattle.std.proofs.lemmas.Bool.{cases_lt, and_parts}
+use Rattle.std.proofs.Common.{◌∙◌}
 use Rattle.sip_ledger.specs.Bits.{has}
-use Rattle.sip_ledger.proofs.ListedLemmas.{no_entry, listed-counting}
 use Rattle.sip_ledger.proofs.RowLemmas.{expired-open, expired-debts}
 use Rattle.sip_ledger.proofs.row.expire.Goals as goal
 

@@ -1,4 +1,4 @@
-use Rattle.std.proofs.Common.{◌≡◌, ℕ, ◌+◌, ◌-◌, ◌<◌, ◌≤◌, Bool, true, false, length, get_or, sym, ap, ◌∙◌, inl, inr, arith}
+use Rattle.std.proofs.Common.{◌≡◌, ◌+◌, ◌-◌, true, get_or, sym, ap, ◌∙◌, inl, inr, arith}
 use Rattle.std.proofs.lemmas.Bool.{cases_eq}
 use Rattle.std.proofs.lemmas.List.{get_or_default}
 use Rattle.sip_ledger.specs.declared.debt.Entry.{Entry}
@@ -16,7 +16,7 @@ returns-then-is_paid-clause-found c =
     let found = c.in-Some.ensures.found in
     let inside = c.requires.within at found.is in
     record {
-      bit = record { is = found.is; after = found.after; gap = found.none_before; begins = c.loop-at.invariant.0; };
+      bit = record { is = found.is; after = found.after; gap = found.none_before; begins = c.loop-at.invariant.0 };
       passes = λ e.
           ap (λ x. is_any_payable c.args.numbers.now c.args.moment (debt_of x true)) (get_or_default entries at e no_entry inside)
           ∙ sym (c.is_paid.ensures true) ∙ c.if-is_paid.true;

@@ -1,6 +1,5 @@
-use Rattle.std.proofs.Common.{◌≡◌, ◌==◌, ◌∙◌, ℕ, false, get_or, sym}
+use Rattle.std.proofs.Common.{◌==◌, ◌∙◌, get_or, sym}
 use Rattle.std.specs.Prelude.{nat_le}
-use Rattle.std.specs.List.{list_any}
 use Rattle.std.proofs.lemmas.Bool.{lt-leb, and_right}
 use Rattle.std.proofs.lemmas.List.Folds.{list_any_none}
 use Rattle.sip_ledger.specs.Debts.{is_payable}

@@ -1,4 +1,4 @@
-use Rattle.std.proofs.Common.{◌≡◌, ◌+◌, ◌≤◌, List, ◌∷◌, [], ◌++◌, length, get_or, map, sym, ap, ◌∙◌, arith, append-nil}
+use Rattle.std.proofs.Common.{◌≡◌, ◌∷◌, [], ◌++◌, get_or, map, sym, ap, ◌∙◌, arith, append-nil}
 use Rattle.std.proofs.lemmas.List.{append_assoc, map-append}
 use Rattle.sip_ledger.specs.declared.debt.Debt.{Debt}
 use Rattle.sip_ledger.specs.Bits.{has}
@@ -18,9 +18,9 @@ loop-at-preserved c =
     let before = map (λ (d : Debt). d.message) (front o o entries from) in (
       omega (arith, inside),
       c.in_ok-push.ensures.items
-        ∙ ap (λ l. l ++ entry.message ∷ []) c.loop-at.invariant.1
-        ∙ append_assoc c.args.numbers.now.items before (entry.message ∷ [])
-        ∙ ap (λ l. c.args.numbers.now.items ++ l)
+          ∙ ap (λ l. l ++ entry.message ∷ []) c.loop-at.invariant.1
+          ∙ append_assoc c.args.numbers.now.items before (entry.message ∷ [])
+          ∙ ap (λ l. c.args.numbers.now.items ++ l)
           (sym (map-append (λ (d : Debt). d.message) (front o o entries from) (debt_of entry (o at) ∷ []))
           ∙ ap (map (λ (d : Debt). d.message)) (sym (front-next o o entries from at no_entry found.after inside found.none_before found.is))),
     )
@@ -31,9 +31,9 @@ returns c must =
     let o = has c.args.owed.now in
     let from = c.loop-at.from in
     let whole : debts_from o o 0 entries ≡ front o o entries from =
-        parts o o entries from c.loop-at.invariant.0
-        ∙ ap (λ l. front o o entries from ++ l) (back-none o o entries from c.in_default.ensures.none)
-        ∙ append-nil (front o o entries from) in
+    parts o o entries from c.loop-at.invariant.0
+    ∙ ap (λ l. front o o entries from ++ l) (back-none o o entries from c.in_default.ensures.none)
+    ∙ append-nil (front o o entries from) in
     c.loop-at.invariant.1
     ∙ ap (λ l. c.args.numbers.now.items ++ map (λ (d : Debt). d.message) l) (sym whole)
     ∙ ap (λ l. c.args.numbers.now.items ++ l) (listed-messages o o (has must) 0 entries)

@@ -1,4 +1,3 @@
-use Rattle.std.proofs.Common.{◌≡◌, ℕ, ◌∙◌, sym}
 use Rattle.std.proofs.lemmas.Bool.{eqb-true, eq-eqb}
 use Rattle.sip_ledger.proofs.RowLemmas.{owes-nothing}
 use Rattle.sip_ledger.proofs.row.owes_nothing.Goals as goal

@@ -1,4 +1,4 @@
-use Rattle.std.proofs.Common.{◌≡◌, ◌+◌, ◌-◌, ◌^◌, ◌<◌, ◌≤◌, List, ◌∷◌, [], ◌++◌, length, get_or, take, sym, ap, ◌∙◌, subst, arith, append-nil}
+use Rattle.std.proofs.Common.{◌≡◌, ◌∷◌, [], ◌++◌, length, get_or, take, sym, ap, ◌∙◌, subst, arith, append-nil}
 use Rattle.std.proofs.lemmas.List.{length-take-le}
 use Rattle.sip_ledger.specs.Bits.{has}
 use Rattle.sip_ledger.specs.Rows.{debts_from, debt_of}
@@ -28,8 +28,8 @@ loop-at-preserved c =
     let inside = c.requires.within at found.is in (
       omega (arith, inside),
       subst (λ l. AreRuns l c.append.new.runs.items) (sym (front-next o m entries from at no_entry found.after inside found.none_before found.is))
-        (subst (λ b. AreRuns (front o m entries from ++ debt_of (get_or entries at no_entry) b ∷ []) c.append.new.runs.items) c.has.ensures
-        (c.in_ok-append.ensures (front o m entries from) c.loop-at.invariant.1)),
+          (subst (λ b. AreRuns (front o m entries from ++ debt_of (get_or entries at no_entry) b ∷ []) c.append.new.runs.items) c.has.ensures
+          (c.in_ok-append.ensures (front o m entries from) c.loop-at.invariant.1)),
     )
 
 pub returns : goal.returns
@@ -39,7 +39,7 @@ returns c =
     let m = has c.args.must.now in
     let from = c.loop-at.from in
     let whole : debts_from o m 0 entries ≡ front o m entries from =
-        parts o m entries from c.loop-at.invariant.0
-        ∙ ap (λ l. front o m entries from ++ l) (back-none o m entries from c.in_default.ensures.none)
-        ∙ append-nil (front o m entries from) in
+    parts o m entries from c.loop-at.invariant.0
+    ∙ ap (λ l. front o m entries from ++ l) (back-none o m entries from c.in_default.ensures.none)
+    ∙ append-nil (front o m entries from) in
     subst (λ l. AreRuns l c.loop-at.runs.items) (sym whole) c.loop-at.invariant.1

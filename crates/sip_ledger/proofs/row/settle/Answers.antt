@@ -1,5 +1,4 @@
-use Rattle.std.proofs.Common.{◌≡◌, ℕ, ◌+◌, ◌≤◌, ◌<◌, List, max, sym, subst, ap, ◌∙◌, arith}
-use Rattle.sip_ledger.specs.declared.debt.Entry.{Entry}
+use Rattle.std.proofs.Common.{◌≡◌, ℕ, ◌+◌, List, max, sym, subst, ◌∙◌, arith}
 use Rattle.sip_ledger.specs.Bits.{has}
 use Rattle.sip_ledger.specs.Rows.{row_debts}
 use Rattle.sip_ledger.specs.inner.Places.{IsOpenRow}
@@ -26,18 +25,20 @@ loop-low-preserved c =
           let owed = w.move_bit.new.owed in
           let must = w.move_bit.new.must in
           along (λ o m h. IsOpenRow entries (has o) (has m) (to + 1) h × (row_debts entries o m ≡ row_debts entries c.args.owed.now c.args.must.now))
-          c.if-to-at.owed owed c.if-to-at.must must c.if-to-at.hole (max l.hole at) w.owed-is w.must-is (w.hole-is ∙ w.max-hole.ensures)
-          (moved-open entries (has l.owed) (has l.must) (has owed) (has must) l.low l.hole at to given equal.order.0 w.if-to-at.true found.is found.none_before
-            equal.equal equal.first w.move_bit.ensures,
+          c.if-to-at.owed owed c.if-to-at.must must c.if-to-at.hole (max l.hole at) w.owed-is w.must-is (w.hole-is ∙ w.max-hole.ensures) (
+            moved-open entries (has l.owed) (has l.must) (has owed) (has must) l.low l.hole at to given equal.order.0 w.if-to-at.true found.is found.none_before
+                equal.equal equal.first w.move_bit.ensures,
             moved-debts entries (has l.owed) (has l.must) (has owed) (has must) at to w.if-to-at.true (given.within at found.is) found.is
-              (λ j above below. found.none_before j (omega (arith, above, equal.order)) below) equal.equal w.move_bit.ensures
-            ∙ l.invariant.1)
+                (λ j above below. found.none_before j (omega (arith, above, equal.order)) below) equal.equal w.move_bit.ensures
+                ∙ l.invariant.1,
+          )
       | else-to-at w ↦
           let here : at ≡ to = omega (arith, w.if-to-at.false, equal.order) in
           along (λ o m h. IsOpenRow entries (has o) (has m) (to + 1) h × (row_debts entries o m ≡ row_debts entries c.args.owed.now c.args.must.now))
-          c.if-to-at.owed l.owed c.if-to-at.must l.must c.if-to-at.hole l.hole w.owed-is w.must-is w.hole-is
-          (subst (λ n. IsOpenRow entries (has l.owed) (has l.must) (n + 1) l.hole) here
-            (stays-open entries (has l.owed) (has l.must) l.low l.hole at given found.after found.is found.none_before
-              (λ i e above below. equal.first i e above (omega (arith, below, here)))),
-            l.invariant.1)
+          c.if-to-at.owed l.owed c.if-to-at.must l.must c.if-to-at.hole l.hole w.owed-is w.must-is w.hole-is (
+            subst (λ n. IsOpenRow entries (has l.owed) (has l.must) (n + 1) l.hole) here
+                (stays-open entries (has l.owed) (has l.must) l.low l.hole at given found.after found.is found.none_before
+                (λ i e above below. equal.first i e above (omega (arith, below, here)))),
+            l.invariant.1,
+          )
     ]

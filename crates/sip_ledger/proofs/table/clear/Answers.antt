@@ -1,4 +1,4 @@
-use Rattle.std.proofs.Common.{◌≡◌, ℕ, false, subst, sym, ◌∙◌}
+use Rattle.std.proofs.Common.{◌≡◌, false, subst, sym, ◌∙◌}
 use Rattle.sip_ledger.specs.Bits.{has}
 use Rattle.sip_ledger.proofs.TableLemmas.{length-span, written-part, written-changes}
 use Rattle.sip_ledger.proofs.table.clear.Goals as goal

@@ -1,4 +1,3 @@
-use Rattle.std.proofs.Common.{◌≡◌, ◌∙◌}
 use Rattle.sip_ledger.proofs.TableLemmas.{pasted-changes}
 use Rattle.sip_ledger.proofs.WordsLemmas.{pasted-row}
 use Rattle.sip_ledger.proofs.table.copy.Goals as goal

@@ -1,4 +1,4 @@
-use Rattle.std.proofs.Common.{◌≡◌, ℕ, List, filter, length, sym, subst, ◌∙◌}
+use Rattle.std.proofs.Common.{◌≡◌, filter, sym, subst, ◌∙◌}
 use Rattle.sip_ledger.specs.Bits.{has}
 use Rattle.sip_ledger.specs.Debts.{counts_at}
 use Rattle.sip_ledger.specs.Rows.{IsRow, row_debts}

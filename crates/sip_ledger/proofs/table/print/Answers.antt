@@ -1,4 +1,4 @@
-use Rattle.std.proofs.Common.{◌≡◌, ap, ◌∙◌}
+use Rattle.std.proofs.Common.{ap, ◌∙◌}
 use Rattle.std.specs.List.{fold}
 use Rattle.sip_ledger.specs.Prints.{mixed}
 use Rattle.sip_ledger.proofs.TableLemmas.{span-is}

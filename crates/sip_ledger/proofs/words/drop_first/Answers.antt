@@ -1,4 +1,4 @@
-use Rattle.std.proofs.Common.{◌≡◌, ◌-◌, ◌≤◌, length, take, ◌∙◌, ap, arith}
+use Rattle.std.proofs.Common.{◌-◌, take, ◌∙◌, ap}
 use Rattle.std.specs.List.{copy_within}
 use Rattle.sip_ledger.proofs.WordsLemmas.{dropped-first}
 use Rattle.sip_ledger.proofs.words.drop_first.Goals as goal

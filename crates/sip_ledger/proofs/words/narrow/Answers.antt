@@ -1,4 +1,4 @@
-use Rattle.std.proofs.Common.{◌≡◌, ◌+◌, ◌-◌, ◌*◌, ◌<◌, ◌≤◌, length, subst, arith}
+use Rattle.std.proofs.Common.{◌≡◌, subst, arith}
 use Rattle.sip_ledger.proofs.WordsLemmas.{IsNarrowing, narrowing-none, narrowing-more, narrowed}
 use Rattle.sip_ledger.proofs.words.narrow.Goals as goal
 

@@ -1,4 +1,3 @@
-use Rattle.std.proofs.Common.{◌≡◌, ◌<◌, ◌≤◌, length, arith}
 use Rattle.sip_ledger.proofs.TableLemmas.{span-is, widened-more}
 use Rattle.sip_ledger.proofs.words.widened.Goals as goal
 

@@ -1,9 +1,6 @@
-use Rattle.std.proofs.Common.{◌≡◌, ◌≢◌, ℕ, ◌+◌, ◌-◌, ◌*◌, ◌^◌, ◌<◌, ◌≤◌, Bool, true, false, List, [], ◌∷◌, ◌++◌, length, take, drop, get_or, set, map, filter, min, replicate, refl, sym, ap, ap₂, ◌∙◌, subst, inl, inr, arith}
-use Rattle.std.proofs.lemmas.List.{length-replicate, length-append, with_items_is, take_all, drop_min, set-get_or}
-use Rattle.sip_ledger.specs.declared.debt.Debt.{Debt}
-use Rattle.sip_ledger.specs.Bits.{has}
-use Rattle.sip_ledger.specs.Rows.{IsRow, row_debts}
-use Rattle.sip_ledger.specs.Ledgers.{Table, table_of, part, rows_of, row_of}
+use Rattle.std.proofs.Common.{◌≡◌, length, drop, min, sym, ap, ◌∙◌, arith}
+use Rattle.std.proofs.lemmas.List.{drop_min}
+use Rattle.sip_ledger.specs.Ledgers.{table_of, rows_of}
 use Rattle.sip_ledger.proofs.LedgerLemmas.{shortened-rows, words-fit, rows-length}
 use Rattle.sip_ledger.proofs.TableLemmas.{fewer-words}
 use Rattle.sip_ledger.proofs.ledger.Ledger.drop_first.Goals as goal

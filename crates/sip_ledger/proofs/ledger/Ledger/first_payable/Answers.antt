@@ -1,23 +1,11 @@
-use Rattle.std.proofs.Common.{◌≡◌, ◌≢◌, ℕ, ◌+◌, ◌-◌, ◌*◌, ◌^◌, ◌<◌, ◌≤◌, Bool, true, false, List, [], ◌∷◌, ◌++◌, length, take, drop, get_or, set, map, filter, min, refl, sym, ap, ap₂, ◌∙◌, subst, inl, inr, arith}
-use Rattle.std.specs.Prelude.{IsTrue, All, None, Some}
-use Rattle.std.specs.List.{list_any}
-use Rattle.std.proofs.lemmas.List.{length-append, with_items_is, set-get_or, get_or_default}
-use Rattle.sip_ledger.specs.declared.debt.Debt.{Debt}
+use Rattle.std.proofs.Common.{◌≡◌, List, length, refl, sym, ap, ◌∙◌, subst, arith}
 use Rattle.sip_ledger.specs.declared.debt.Entry.{Entry}
-use Rattle.sip_ledger.specs.Bits.{has}
-use Rattle.sip_ledger.specs.Debts.{IsWithoutFirst, is_payable, is_any_payable, softened_debt, counts_at, debt_deadlines, earliest}
-use Rattle.sip_ledger.specs.Rows.{IsRow, row_debts, debt_of}
-use Rattle.sip_ledger.specs.Ledgers.{Table, table_of, part, rows_of, row_of}
-use Rattle.sip_ledger.specs.inner.Memos.{IsMask, IsMemo, asked, asked_of}
-use Rattle.sip_ledger.specs.inner.Places.{IsGainedAt, IsBit, IsFirst, NonePasses, AreRising}
-use Rattle.sip_ledger.specs.inner.Tables.{ChangesRow, ChangesTable, IsInside, IsTableRow, IsPlace, IsGrown}
-use Rattle.sip_ledger.proofs.ListedLemmas.{no_entry, listed-softened}
-use Rattle.sip_ledger.proofs.LedgerLemmas.{row_in, changed, changed-to, changed-first, changed-others, unchanged-others, row-within, row-before_change, rows-inside, rows-length, row-is, cleared, softened, copied, placed, free-at, unset-debts, more-within, more-widened, without-same, single, any-single, unpaid-row, found-any, some-passes, none-any, same-debts, same-prints, print-is, words-fit, row-fits, tidied}
-use Rattle.sip_ledger.proofs.MemoLemmas.{mask-grown}
-use Rattle.sip_ledger.proofs.TableLemmas.{row-inside, table-row, same-row, with_words}
-use Rattle.sip_ledger.proofs.RowLemmas.{first-any, none-passes}
+use Rattle.sip_ledger.specs.Debts.{is_payable}
+use Rattle.sip_ledger.specs.Ledgers.{Table, table_of}
+use Rattle.sip_ledger.specs.inner.Memos.{IsMask}
+use Rattle.sip_ledger.proofs.LedgerLemmas.{row-within, found-any}
 use Rattle.sip_ledger.proofs.WordLemmas.{word-part}
-use Rattle.sip_ledger.proofs.WordRowLemmas.{row-in_word, IsWordRow, word-found, word-none, word-fresh, word-row}
+use Rattle.sip_ledger.proofs.WordRowLemmas.{row-in_word, IsWordRow, word-found, word-none}
 use Rattle.sip_ledger.proofs.ledger.Ledger.first_payable.Goals as goal
 
 pub index-requires : goal.index-requires
@@ -48,8 +36,8 @@ returns-then-self-eq1-clause-found c =
     let own = word-part s.width row word word s.owed.items one places.0 c.index.ensures in
     let asks = is_payable c.args.message c.args.moment in
     let mask : IsMask asks s.entries.items (length s.entries.items) c.payable_bits-bits.result =
-        subst (λ (l : List Entry). IsMask asks l (length l) c.payable_bits-bits.result) (sym (ap (λ (x : Table). x.entries) view)) c.payable_bits-bits.ensures.bits in
-    let is : IsWordRow asks t row word c.payable_bits-bits.result = record { own = own; mask = mask; spelled = ledger.each row inside; } in
+    subst (λ (l : List Entry). IsMask asks l (length l) c.payable_bits-bits.result) (sym (ap (λ (x : Table). x.entries) view)) c.payable_bits-bits.ensures.bits in
+    let is : IsWordRow asks t row word c.payable_bits-bits.result = record { own = own; mask = mask; spelled = ledger.each row inside } in
     word-found asks t v row word c.payable_bits-bits.result c.first_in.result view is c.first_in.ensures.found
 
 pub returns-then-self-eq1-clause-none : goal.returns-then-self-eq1-clause-none
@@ -67,8 +55,8 @@ returns-then-self-eq1-clause-none c =
     let own = word-part s.width row word word s.owed.items one places.0 c.index.ensures in
     let asks = is_payable c.args.message c.args.moment in
     let mask : IsMask asks s.entries.items (length s.entries.items) c.payable_bits-bits.result =
-        subst (λ (l : List Entry). IsMask asks l (length l) c.payable_bits-bits.result) (sym (ap (λ (x : Table). x.entries) view)) c.payable_bits-bits.ensures.bits in
-    let is : IsWordRow asks t row word c.payable_bits-bits.result = record { own = own; mask = mask; spelled = ledger.each row inside; } in
+    subst (λ (l : List Entry). IsMask asks l (length l) c.payable_bits-bits.result) (sym (ap (λ (x : Table). x.entries) view)) c.payable_bits-bits.ensures.bits in
+    let is : IsWordRow asks t row word c.payable_bits-bits.result = record { own = own; mask = mask; spelled = ledger.each row inside } in
     word-none asks t v row word c.payable_bits-bits.result c.first_in.result view is c.first_in.ensures.none
 
 pub returns-then-self-eq1-clause-any : goal.returns-then-self-eq1-clause-any
@@ -86,8 +74,8 @@ returns-then-self-eq1-clause-any c =
     let own = word-part s.width row word word s.owed.items one places.0 c.index.ensures in
     let asks = is_payable c.args.message c.args.moment in
     let mask : IsMask asks s.entries.items (length s.entries.items) c.payable_bits-bits.result =
-        subst (λ (l : List Entry). IsMask asks l (length l) c.payable_bits-bits.result) (sym (ap (λ (x : Table). x.entries) view)) c.payable_bits-bits.ensures.bits in
-    let is : IsWordRow asks t row word c.payable_bits-bits.result = record { own = own; mask = mask; spelled = ledger.each row inside; } in
+    subst (λ (l : List Entry). IsMask asks l (length l) c.payable_bits-bits.result) (sym (ap (λ (x : Table). x.entries) view)) c.payable_bits-bits.ensures.bits in
+    let is : IsWordRow asks t row word c.payable_bits-bits.result = record { own = own; mask = mask; spelled = ledger.each row inside } in
     found-any asks t v row c.first_in.result view ledger inside (λ e b. refl)
     (word-found asks t t row word c.payable_bits-bits.result c.first_in.result refl is c.first_in.ensures.found)
     (word-none asks t t row word c.payable_bits-bits.result c.first_in.result refl is c.first_in.ensures.none)

@@ -1,24 +1,14 @@
-use Rattle.std.proofs.Common.{◌≡◌, ◌≢◌, ℕ, ◌+◌, ◌-◌, ◌*◌, ◌^◌, ◌<◌, ◌≤◌, Bool, true, false, List, [], ◌∷◌, ◌++◌, length, take, drop, get_or, set, map, filter, min, refl, sym, ap, ap₂, ◌∙◌, subst, inl, inr, arith}
-use Rattle.std.specs.Prelude.{IsTrue, All, None, Some}
-use Rattle.std.specs.List.{list_any}
+use Rattle.std.proofs.Common.{◌≡◌, Bool, false, List, length, filter, sym, ap, ◌∙◌, subst, arith}
+use Rattle.std.specs.Prelude.{None}
 use Rattle.std.proofs.lemmas.Bool.{OnTrue_from, true≢false}
-use Rattle.std.proofs.lemmas.List.{length-append, with_items_is, set-get_or, get_or_default}
-use Rattle.sip_ledger.specs.declared.debt.Debt.{Debt}
 use Rattle.sip_ledger.specs.declared.debt.Entry.{Entry}
-use Rattle.sip_ledger.specs.Bits.{has}
-use Rattle.sip_ledger.specs.Debts.{IsWithoutFirst, is_payable, is_any_payable, softened_debt, counts_at, debt_deadlines, earliest}
-use Rattle.sip_ledger.specs.Rows.{IsRow, row_debts, debt_of}
-use Rattle.sip_ledger.specs.Ledgers.{Table, table_of, part, rows_of, row_of}
-use Rattle.sip_ledger.specs.inner.Memos.{IsMask, IsMemo, asked, asked_of}
-use Rattle.sip_ledger.specs.inner.Places.{IsGainedAt, IsBit, IsFirst, NonePasses, AreRising}
-use Rattle.sip_ledger.specs.inner.Tables.{ChangesRow, ChangesTable, IsInside, IsTableRow, IsPlace, IsGrown}
-use Rattle.sip_ledger.proofs.ListedLemmas.{no_entry, listed-softened}
-use Rattle.sip_ledger.proofs.LedgerLemmas.{row_in, changed, changed-to, changed-first, changed-others, unchanged-others, row-within, row-before_change, rows-inside, rows-length, row-is, cleared, softened, copied, placed, free-at, unset-debts, more-within, more-widened, without-same, single, any-single, unpaid-row, found-any, some-passes, none-any, same-debts, same-prints, print-is, words-fit, row-fits, tidied}
-use Rattle.sip_ledger.proofs.MemoLemmas.{mask-grown}
-use Rattle.sip_ledger.proofs.TableLemmas.{row-inside, table-row, same-row, with_words}
-use Rattle.sip_ledger.proofs.RowLemmas.{first-any, none-passes}
+use Rattle.sip_ledger.specs.Debts.{counts_at}
+use Rattle.sip_ledger.specs.Ledgers.{Table, table_of, row_of}
+use Rattle.sip_ledger.specs.inner.Memos.{IsMask, asked_of}
+use Rattle.sip_ledger.proofs.LedgerLemmas.{row-within, row-before_change}
+use Rattle.sip_ledger.proofs.TableLemmas.{row-inside}
 use Rattle.sip_ledger.proofs.WordLemmas.{word-part}
-use Rattle.sip_ledger.proofs.WordRowLemmas.{row-in_word, IsWordRow, word-found, word-none, word-fresh, word-row}
+use Rattle.sip_ledger.proofs.WordRowLemmas.{row-in_word, word-fresh, word-row}
 use Rattle.sip_ledger.proofs.ledger.Ledger.is_fresh.Goals as goal
 use Rattle.std.specs.Bool.{OnTrue}
 use Rattle.sip_ledger.proofs.ledger.Ledger.is_fresh.Goals.{then-self, else-self}
@@ -65,7 +55,7 @@ returns-then-self-eq1-clause-fresh c =
     let own = word-part s.width row word word s.owed.items one places.0 c.index.ensures in
     let own_must = word-part s.width row must must s.must.items one places.1 c.index-then-self-eq1.ensures in
     let mask : IsMask (asked_of None c.args.moment) s.entries.items (length s.entries.items) c.past_bits-bits.result =
-        subst (λ (l : List Entry). IsMask (asked_of None c.args.moment) l (length l) c.past_bits-bits.result) (sym (ap (λ (x : Table). x.entries) view)) c.past_bits-bits.ensures.bits in
+    subst (λ (l : List Entry). IsMask (asked_of None c.args.moment) l (length l) c.past_bits-bits.result) (sym (ap (λ (x : Table). x.entries) view)) c.past_bits-bits.ensures.bits in
     word-fresh c.args.moment t v row word must c.keeps_past.result view inside own own_must
     (c.keeps_past.ensures c.args.moment s.entries.items mask (word-row s.entries.items s.width row word must s.owed.items s.must.items own own_must (ledger.each row inside)))
 

@@ -1,5 +1,5 @@
-use Rattle.std.proofs.Common.{refl, true}
-use Rattle.sip_ledger.proofs.LedgerLemmas.{rows-none, empty-ledger}
+use Rattle.std.proofs.Common.{refl}
+use Rattle.sip_ledger.proofs.LedgerLemmas.{rows-none}
 use Rattle.sip_ledger.proofs.ledger.Ledger.new.Goals as goal
 
 pub returns : goal.returns

@@ -1,23 +1,10 @@
-use Rattle.std.proofs.Common.{◌≡◌, ◌≢◌, ℕ, ◌+◌, ◌-◌, ◌*◌, ◌^◌, ◌<◌, ◌≤◌, Bool, true, false, List, [], ◌∷◌, ◌++◌, length, take, drop, get_or, set, map, filter, min, refl, sym, ap, ap₂, ◌∙◌, subst, inl, inr, arith}
-use Rattle.std.specs.Prelude.{IsTrue, All, None, Some}
-use Rattle.std.specs.List.{list_any}
-use Rattle.std.proofs.lemmas.List.{length-append, with_items_is, set-get_or, get_or_default}
-use Rattle.sip_ledger.specs.declared.debt.Debt.{Debt}
-use Rattle.sip_ledger.specs.declared.debt.Entry.{Entry}
+use Rattle.std.proofs.Common.{◌≡◌, ◌^◌, ◌<◌, length, sym, ap, ◌∙◌, subst, arith}
 use Rattle.sip_ledger.specs.Bits.{has}
-use Rattle.sip_ledger.specs.Debts.{IsWithoutFirst, is_payable, is_any_payable, softened_debt, counts_at, debt_deadlines, earliest}
-use Rattle.sip_ledger.specs.Rows.{IsRow, row_debts, debt_of}
-use Rattle.sip_ledger.specs.Ledgers.{Table, table_of, part, rows_of, row_of}
-use Rattle.sip_ledger.specs.inner.Memos.{IsMask, IsMemo, asked, asked_of}
-use Rattle.sip_ledger.specs.inner.Places.{IsGainedAt, IsBit, IsFirst, NonePasses, AreRising}
-use Rattle.sip_ledger.specs.inner.Tables.{ChangesRow, ChangesTable, IsInside, IsTableRow, IsPlace, IsGrown}
-use Rattle.sip_ledger.proofs.ListedLemmas.{no_entry, listed-softened}
-use Rattle.sip_ledger.proofs.LedgerLemmas.{row_in, changed, changed-to, changed-first, changed-others, unchanged-others, row-within, row-before_change, rows-inside, rows-length, row-is, cleared, softened, copied, placed, free-at, unset-debts, more-within, more-widened, without-same, single, any-single, unpaid-row, found-any, some-passes, none-any, same-debts, same-prints, print-is, words-fit, row-fits, tidied}
-use Rattle.sip_ledger.proofs.MemoLemmas.{mask-grown}
-use Rattle.sip_ledger.proofs.TableLemmas.{row-inside, table-row, same-row, with_words}
-use Rattle.sip_ledger.proofs.RowLemmas.{first-any, none-passes}
-use Rattle.sip_ledger.proofs.WordLemmas.{word-part}
-use Rattle.sip_ledger.proofs.WordRowLemmas.{row-in_word, IsWordRow, word-found, word-none, word-fresh, word-row}
+use Rattle.sip_ledger.specs.Ledgers.{table_of, part, rows_of}
+use Rattle.sip_ledger.specs.inner.Places.{IsGainedAt}
+use Rattle.sip_ledger.specs.inner.Tables.{IsPlace, IsGrown}
+use Rattle.sip_ledger.proofs.LedgerLemmas.{row-within, placed}
+use Rattle.sip_ledger.proofs.TableLemmas.{row-inside, table-row}
 use Rattle.sip_ledger.proofs.ledger.Ledger.place.Goals as goal
 
 pub gained_at-at-requires-clause-inside : goal.gained_at-at-requires-clause-inside
@@ -62,7 +49,7 @@ returns-then-at-len-clause-ok c =
     let entry = c.args.entry in
     let at = c.gained_at-at.result in
     let gained : IsGainedAt s.entries.items (has (part s.width row s.owed.items)) entry at = rw (c.deref.ensures.value, c.deref-2.ensures.value) at c.gained_at-at.ensures in
-    let here : IsPlace row entry v t at = record { inside = omega (arith, c.if-at-len.true, c.len.ensures, s.entries.ok); is = gained; debts = ap rows_of c.self.view_is; } in
+    let here : IsPlace row entry v t at = record { inside = omega (arith, c.if-at-len.true, c.len.ensures, s.entries.ok); is = gained; debts = ap rows_of c.self.view_is } in
     subst (λ x. IsPlace row entry v x at) c.self.view_is here
 
 pub returns-clause-ok : goal.returns-clause-ok
@@ -80,4 +67,4 @@ returns-clause-ok c =
     let here : at ≡ length s.entries.items = omega (arith, within, c.if-at-len.false, c.len.ensures, s.entries.ok) in
     let grown = subst (λ x. IsGrown entry x c.grow.new.self) (sym c.self.view_is) c.in_ok-grow.ensures.ok in
     let place = placed entry t c.grow.new.self row at ledger grown inside here gained in
-    record { inside = place.inside; is = place.is; debts = place.debts ∙ ap rows_of c.self.view_is; }
+    record { inside = place.inside; is = place.is; debts = place.debts ∙ ap rows_of c.self.view_is }

@@ -1,9 +1,7 @@
-use Rattle.std.proofs.Common.{◌≡◌, ◌≢◌, ℕ, ◌+◌, ◌-◌, ◌*◌, ◌^◌, ◌<◌, ◌≤◌, Bool, true, false, List, [], ◌∷◌, ◌++◌, length, take, drop, get_or, set, map, filter, min, replicate, refl, sym, ap, ap₂, ◌∙◌, subst, inl, inr, arith}
-use Rattle.std.proofs.lemmas.List.{length-replicate, length-append, with_items_is, take_all, drop_min, set-get_or}
-use Rattle.sip_ledger.specs.declared.debt.Debt.{Debt}
+use Rattle.std.proofs.Common.{ℕ, [], ◌∷◌, ◌++◌, replicate, ap, ap₂, ◌∙◌}
+use Rattle.std.proofs.lemmas.List.{length-replicate}
 use Rattle.sip_ledger.specs.Bits.{has}
-use Rattle.sip_ledger.specs.Rows.{IsRow, row_debts}
-use Rattle.sip_ledger.specs.Ledgers.{Table, table_of, part, rows_of, row_of}
+use Rattle.sip_ledger.specs.Ledgers.{table_of, rows_of}
 use Rattle.sip_ledger.proofs.LedgerLemmas.{pushed-row, unset-row, unset-debts, has-none}
 use Rattle.sip_ledger.proofs.ledger.Ledger.push.Goals as goal
 
@@ -16,7 +14,7 @@ invariant_of-self-2 c =
     let t = table_of s.entries.items s.width s.rows s.owed.items s.must.items in
     let none = replicate s.width 0 in
     let pushed = pushed-row t none none c.self.invariant.ledger (length-replicate {A = ℕ} s.width 0) (length-replicate {A = ℕ} s.width 0)
-        (unset-row s.entries.items (has none) (has none) (has-none s.width) (has-none s.width)) in
+    (unset-row s.entries.items (has none) (has none) (has-none s.width) (has-none s.width)) in
     rw (c.in_ok-put_row.ensures.owed, c.in_ok-put_row.ensures.must) (record { ledger = pushed.ledger; rises = c.self.invariant.rises; payable = c.self.invariant.payable; past = c.self.invariant.past })
 
 pub returns-clause-ok : goal.returns-clause-ok
@@ -25,6 +23,6 @@ returns-clause-ok c =
     let t = table_of s.entries.items s.width s.rows s.owed.items s.must.items in
     let none = replicate s.width 0 in
     let pushed = pushed-row t none none c.self.invariant.ledger (length-replicate {A = ℕ} s.width 0) (length-replicate {A = ℕ} s.width 0)
-        (unset-row s.entries.items (has none) (has none) (has-none s.width) (has-none s.width)) in
+    (unset-row s.entries.items (has none) (has none) (has-none s.width) (has-none s.width)) in
     rw (c.in_ok-put_row.ensures.owed, c.in_ok-put_row.ensures.must)
     (pushed.rows ∙ ap₂ (λ l d. l ++ d ∷ []) (ap rows_of c.self.view_is) (unset-debts s.entries.items (has none) (has none) (has-none s.width)))

@@ -1,9 +1,5 @@
-use Rattle.std.proofs.Common.{◌≡◌, ◌≢◌, ℕ, ◌+◌, ◌-◌, ◌*◌, ◌^◌, ◌<◌, ◌≤◌, Bool, true, false, List, [], ◌∷◌, ◌++◌, length, take, drop, get_or, set, map, filter, min, replicate, refl, sym, ap, ap₂, ◌∙◌, subst, inl, inr, arith}
-use Rattle.std.proofs.lemmas.List.{length-replicate, length-append, with_items_is, take_all, drop_min, set-get_or}
-use Rattle.sip_ledger.specs.declared.debt.Debt.{Debt}
-use Rattle.sip_ledger.specs.Bits.{has}
-use Rattle.sip_ledger.specs.Rows.{IsRow, row_debts}
-use Rattle.sip_ledger.specs.Ledgers.{Table, table_of, part, rows_of, row_of}
+use Rattle.std.proofs.Common.{[], ◌∷◌, ◌++◌, sym, ap, ap₂, ◌∙◌}
+use Rattle.sip_ledger.specs.Ledgers.{table_of, part, rows_of}
 use Rattle.sip_ledger.proofs.LedgerLemmas.{pushed-row, row-within, row-before_change}
 use Rattle.sip_ledger.proofs.TableLemmas.{row-inside, length-part}
 use Rattle.sip_ledger.proofs.ledger.Ledger.push_copy.Goals as goal
@@ -31,8 +27,8 @@ invariant_of-self-2 c =
     let inside = row-within t c.args.self.now row c.self.view_is c.requires in
     let ledger = c.self.invariant.ledger in
     let pushed = pushed-row t (part s.width row s.owed.items) (part s.width row s.must.items) ledger
-        (length-part s.width row s.owed.items (row-inside s.rows s.width row s.owed.items ledger.owed_long inside))
-        (length-part s.width row s.must.items (row-inside s.rows s.width row s.must.items ledger.must_long inside)) (ledger.each row inside) in
+    (length-part s.width row s.owed.items (row-inside s.rows s.width row s.owed.items ledger.owed_long inside))
+    (length-part s.width row s.must.items (row-inside s.rows s.width row s.must.items ledger.must_long inside)) (ledger.each row inside) in
     rw (c.in_ok-copy_row.ensures.owed, c.in_ok-copy_row.ensures.must) (record { ledger = pushed.ledger; rises = c.self.invariant.rises; payable = c.self.invariant.payable; past = c.self.invariant.past })
 
 pub returns-clause-ok : goal.returns-clause-ok
@@ -43,7 +39,7 @@ returns-clause-ok c =
     let inside = row-within t c.args.self.now row c.self.view_is c.requires in
     let ledger = c.self.invariant.ledger in
     let pushed = pushed-row t (part s.width row s.owed.items) (part s.width row s.must.items) ledger
-        (length-part s.width row s.owed.items (row-inside s.rows s.width row s.owed.items ledger.owed_long inside))
-        (length-part s.width row s.must.items (row-inside s.rows s.width row s.must.items ledger.must_long inside)) (ledger.each row inside) in
+    (length-part s.width row s.owed.items (row-inside s.rows s.width row s.owed.items ledger.owed_long inside))
+    (length-part s.width row s.must.items (row-inside s.rows s.width row s.must.items ledger.must_long inside)) (ledger.each row inside) in
     rw (c.in_ok-copy_row.ensures.owed, c.in_ok-copy_row.ensures.must)
     (pushed.rows ∙ ap₂ (λ l d. l ++ d ∷ []) (ap rows_of c.self.view_is) (sym (row-before_change t c.args.self.now row c.self.view_is inside)))

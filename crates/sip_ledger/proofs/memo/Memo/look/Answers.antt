@@ -1,4 +1,4 @@
-use Rattle.std.proofs.Common.{◌≡◌, ℕ, ◌+◌, ◌<◌, ◌≤◌, length, subst, sym, ◌∙◌, arith}
+use Rattle.std.proofs.Common.{◌+◌, subst, sym, ◌∙◌, arith}
 use Rattle.sip_ledger.specs.inner.Memos.{asked, IsMask}
 use Rattle.sip_ledger.proofs.MemoLemmas.{mask-with, mask-without}
 use Rattle.sip_ledger.proofs.memo.Memo.look.Goals as goal

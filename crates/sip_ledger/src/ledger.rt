@@ -299,6 +299,9 @@ impl Ledger {
             message: Some(message),
             moment,
         };
+        if self.payable.has(question, self.entries.len()) {
+            return self.payable.bits;
+        }
         self.payable = self.payable.asked(&self.entries, question);
         self.payable.bits
     }
@@ -313,6 +316,9 @@ impl Ledger {
             message: None,
             moment,
         };
+        if self.past.has(question, self.entries.len()) {
+            return self.past.bits;
+        }
         self.past = self.past.asked(&self.entries, question);
         self.past.bits
     }

@@ -50,6 +50,13 @@ impl Memo {
         }
     }
 
+    /// Whether so many entries were looked at for this question.
+    pub(crate) fn has(&self, question: Question, entries: usize) -> bool
+        ensures { result ≡ true → (self.now.question ≡ question) × (self.now.looked ≡ entries) }
+    {
+        self.looked == entries && self.question == question
+    }
+
     /// All entries are looked at for this question.
     pub(crate) fn asked(self, entries: &[Entry], question: Question) -> Self
         requires few { length entries.now ≤ 64 }

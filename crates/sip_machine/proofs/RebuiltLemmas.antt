@@ -1,7 +1,7 @@
-use Rattle.std.specs.Prelude.{◌≡◌, ◌<◌, ◌≤◌, ◌+◌, ◌-◌, ◌^◌, ℕ, Bool, List, [], ◌++◌, All, drop, filter, get_or, length, not, set, take}
+use Rattle.std.specs.Prelude.{◌≡◌, ◌<◌, ◌≤◌, ◌+◌, ◌-◌, ◌^◌, ℕ, Bool, List, [], ◌++◌, drop, filter, get_or, length, not, set, take}
 use Rattle.std.proofs.Common.{refl, sym, ◌∙◌, ap, subst, arith}
 use Rattle.std.proofs.Math.Seq.{take-set-lt}
-use Rattle.std.proofs.lemmas.List.{drop-drop, drop-set-lt, get_or-drop, get_or-take, get_or_default, length-append, length-map, length-replicate, length-set, length-take-le, take-take, take_all, take_more_set}
+use Rattle.std.proofs.lemmas.List.{drop-drop, get_or-drop, get_or-take, get_or_default, length-take-le}
 use Rattle.std.proofs.lemmas.List.Elements.{All-get_or, All-nil}
 use Rattle.std.proofs.lemmas.List.Filters.{length-filter_both}
 use Rattle.sip_machine.specs.declared.outbox.Debt.{Debt}
@@ -9,7 +9,7 @@ use Rattle.sip_machine.specs.declared.outbox.Run.{Run}
 use Rattle.sip_machine.specs.declared.summary.Summary.{Summary}
 use Rattle.sip_machine.specs.inner.Runs.{debts_of, AreRuns, EndsWith}
 use Rattle.sip_machine.specs.inner.Summaries.{Summarizes}
-use Rattle.sip_machine.proofs.RunsLemmas.{each, start_of, none, run_within, widened-debts, widened-runs, ends_at, appended-runs}
+use Rattle.sip_machine.proofs.RunsLemmas.{each, start_of, none, run_within, widened-debts, widened-runs, ends_at}
 
 -- Runs that are written anew where they stand.
 

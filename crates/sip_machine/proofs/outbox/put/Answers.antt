@@ -1,4 +1,4 @@
-use Rattle.std.proofs.Common.{◌≡◌, ◌<◌, ◌≤◌, length, sym, ◌∙◌, arith, take, true≢false}
+use Rattle.std.proofs.Common.{sym, ◌∙◌, take, true≢false}
 use Rattle.std.proofs.lemmas.List.{take_more_set}
 use Rattle.sip_machine.specs.inner.Runs.{EndsWith}
 use Rattle.sip_machine.proofs.RunsLemmas.{appended-runs}

@@ -14,8 +14,11 @@ pub mod FingerprintLemmas
 pub mod SummaryLemmas
 pub mod RisesLemmas
 pub mod RunOrderLemmas
+pub mod PayableLemmas
 pub mod ProvisionalLemmas
 pub mod AckLemmas
+pub mod BesideLemmas
 pub mod ToLemmas
 pub mod RetainLemmas
+pub mod HolderLemmas
 pub mod NamingLemmas

@@ -5,6 +5,7 @@ ghost use Rattle.sip_machine.specs.Debts.{earliest};
 ghost use Rattle.sip_machine.specs.inner.Fingerprints.{debts_cmp, fingerprint};
 ghost use Rattle.sip_machine.specs.inner.Paying.{FindsFirst};
 ghost use Rattle.sip_machine.specs.inner.Outbox.{counts_at, softened_debt, is_payable, debt_deadlines};
+ghost use Rattle.sip_machine.specs.inner.Summaries.{AreBetween};
 ghost use Rattle.sip_machine.specs.declared.outbox.Debt.{Debt};
 
 use crate::outbox::{Debt, Outbox, Run};
@@ -47,6 +48,10 @@ pub trait Debts: Debug + Drop {
     /// The index of the first debt that a send of the message at the moment pays, None if it pays none.
     fn payable(&self, message: u32, moment: u64) -> Option<usize>
         ensures { FindsFirst (λ debt. IsTrue (is_payable message moment debt)) (listed self.now) result };
+
+    /// Numbers between which those of all messages are that are owed.
+    fn span(&self) -> (u32, u32)
+        ensures { AreBetween result.0 result.1 (listed self.now) };
 
     /// Takes out the debt at the index, if there is one.
     fn remove(&mut self, index: usize)
@@ -167,6 +172,13 @@ impl Debts for BoxedDebts {
         }
     }
 
+    fn span(&self) -> (u32, u32) {
+        match &self.outbox {
+            Some(outbox) => outbox.span(),
+            None => (0, 0),
+        }
+    }
+
     fn remove(&mut self, index: usize) {
         let Some(outbox) = &mut self.outbox else {
             return;
@@ -253,6 +265,10 @@ impl Debts for NoDebts {
 
     fn payable(&self, _message: u32, _moment: u64) -> Option<usize> {
         None
+    }
+
+    fn span(&self) -> (u32, u32) {
+        (0, 0)
     }
 
     fn remove(&mut self, _index: usize) {}

@@ -253,7 +253,7 @@ impl Phases for InviteClient {
         let InviteClientPhase::Completed { request, .. } = *phase else {
             return Ok(None);
         };
-        first_acked(alloc, book, request, owes.runs(), event)
+        first_acked(alloc, book, request, owes, event)
     }
 
     fn stays(&self, _phase: &InviteClientPhase, _kind: Kind) -> bool {

@@ -26,6 +26,7 @@ mod retransmits;
 mod summary;
 mod timers;
 mod told;
+mod tos;
 mod waiting;
 
 pub use book::Book;

@@ -1,6 +1,7 @@
 //! What a machine owes, oldest cause first: a list of messages with their deadlines.
 ghost use Rattle.std.specs.Prelude.{◌≡◌, ◌≢◌, ◌↔◌, ◌++◌, ◌∷◌, [], ◌+◌, ◌<◌, ◌≤◌, ◌^◌, ℕ, List, IfOk, OnOk, OnErr, IsTrue, IfSome, All, length, position, remove, map, filter, take, drop, get_or, flat_map, replicate};
-ghost use Rattle.std.specs.List.{find};
+ghost use Rattle.std.specs.List.{AllWithin, find};
+ghost use Rattle.std.specs.List.Sorted.{IsNonDecreasingBy};
 ghost use Rattle.std.specs.Option.{option_map};
 ghost use Rattle.std.specs.Ordering.{as_partial_cmp};
 ghost use Rattle.std.specs.Cmp.Lexicographic.{pointwise, slice_cmp, lists_per, lists_equiv};
@@ -13,7 +14,7 @@ ghost use Rattle.sip_machine.specs.declared.outbox.Run.{Run};
 ghost use Rattle.sip_machine.specs.inner.Fingerprints.{debts_cmp, fingerprint};
 ghost use Rattle.sip_machine.specs.inner.FingerprintLaws.{debts_total, debts_ties, debts_po};
 ghost use Rattle.sip_machine.specs.inner.Paying.{FindsFirst};
-ghost use Rattle.sip_machine.specs.inner.Summaries.{Summarizes};
+ghost use Rattle.sip_machine.specs.inner.Summaries.{Summarizes, AreBetween};
 ghost use Rattle.sip_machine.specs.inner.Runs.{debts_of, kinds, AreRuns, AreApartBut, EndsWith, run_deadlines};
 
 use crate::summary::Summary;
@@ -148,7 +149,7 @@ impl Outbox {
     pub(crate) fn payable(&self, message: u32, moment: u64) -> Option<usize>
         ensures { FindsFirst (λ debt. IsTrue (is_payable message moment debt)) self.now result }
     {
-        let at = first_payable(&self.runs, message, moment)?;
+        let at = first_payable(&self.runs, self.summary.climbs, message, moment)?;
         Some(first_of(&self.runs, self.summary.count, at))
     }
 
@@ -161,6 +162,13 @@ impl Outbox {
         }
         let at = run_at(&self.runs, self.summary.count, index);
         take_out(&mut self.runs, &mut self.summary, at);
+    }
+
+    /// Numbers between which those of all messages are that are owed.
+    pub(crate) fn span(&self) -> (u32, u32)
+        ensures { AreBetween result.0 result.1 self.now }
+    {
+        (self.summary.lowest, self.summary.highest)
     }
 
     /// The least deadline of what must be sent.
@@ -449,11 +457,43 @@ fn first_of(runs: &[Run], count: usize, at: usize) -> usize
 }
 
 /// The index of the first run of debts that a send of the message at the moment pays.
-fn first_payable(runs: &[Run], message: u32, moment: u64) -> Option<usize>
+fn first_payable(runs: &[Run], climbs: bool, message: u32, moment: u64) -> Option<usize>
+    requires { IsTrue climbs → IsNonDecreasingBy (λ run. run.debt.message) runs.now }
     ensures value { result ≡ position (λ run. is_payable message moment run.debt) runs.now }
     ensures within { IfSome result (λ i. i < length runs.now) }
 {
+    if climbs {
+        return first_climbing(runs, message, moment);
+    }
     runs.iter().position(|run| run.debt.message == message && moment <= run.debt.deadline)
+}
+
+/// The same where the numbers of messages climb, by a look at the runs of this message alone.
+fn first_climbing(runs: &[Run], message: u32, moment: u64) -> Option<usize>
+    requires { IsNonDecreasingBy (λ run. run.debt.message) runs.now }
+    ensures value { result ≡ position (λ run. is_payable message moment run.debt) runs.now }
+    ensures within { IfSome result (λ i. i < length runs.now) }
+{
+    for at in first_from(runs, message)..runs.len() {
+        let debt = runs[at].debt;
+        if debt.message != message {
+            return None;
+        }
+        if moment <= debt.deadline {
+            return Some(at);
+        }
+    }
+    None
+}
+
+/// The index of the first run of no lower message.
+fn first_from(runs: &[Run], message: u32) -> usize
+    requires { IsNonDecreasingBy (λ run. run.debt.message) runs.now }
+    ensures within { result ≤ length runs.now }
+    ensures before { AllWithin (λ run. run.debt.message < message) runs.now 0 result }
+    ensures behind { AllWithin (λ run. message ≤ run.debt.message) runs.now result (length runs.now) }
+{
+    runs.partition_point(|run| run.debt.message < message)
 }
 
 /// The deadline of the first debt that has to be paid.

@@ -66,4 +66,4 @@ loop-at-preserved c =
     let put = c.put-kept.ensures in
     subst (λ ds. Rebuilt old ds (l.at + 1) c.put-kept.new.runs.items c.put-kept.result c.with-summary.result) (sym more)
     (Rebuilt-more old debts l.at l.runs.items l.kept l.summary run c.put-kept.new.runs.items c.put-kept.result c.with-summary.result l.invariant
-    c.with-summary.ensures put.debts put.runs put.within put.len put.rest)
+    c.with-summary.ensures.summary put.debts put.runs put.within put.len put.rest)

@@ -1,18 +1,11 @@
 use Rattle.std.proofs.Common.{ap, sym, ◌∙◌, subst}
 use Rattle.std.proofs.lemmas.Result.{IfOk-weaker}
 use Rattle.sip_machine.specs.declared.event.Kind.TheVariants.{Request}
-use Rattle.sip_machine.specs.Texts.{Keeps, text_of}
+use Rattle.sip_machine.specs.Texts.{text_of}
 use Rattle.sip_machine.specs.MachineEvent.{event_in}
 use Rattle.sip_machine.specs.InviteClient.{Completed, Satisfies}
-use Rattle.sip_machine.specs.inner.OwesLaws.{All-names}
 use Rattle.sip_machine.specs.inner.Paying.{PaysFor, FindsFirst}
-use Rattle.sip_machine.proofs.RunsLemmas.{each-All}
 use Rattle.sip_machine.proofs.invite_client.InviteClientPhases.paid.Goals as goal
-
-pub first_acked-requires-clause-debts : goal.first_acked-requires-clause-debts
-first_acked-requires-clause-debts c =
-    each-All (λ debt. Keeps c.args.book.now debt.message) c.runs.result.now c.runs.ensures.filled
-    (rw c.runs.ensures.debts (All-names (Keeps c.args.book.now) c.args.owes.now c.requires.owed))
 
 pub returns : goal.returns
 returns c =
@@ -23,5 +16,5 @@ returns c =
     (λ index finds.
     rw s.is
     (subst (λ k. FindsFirst (PaysFor (Satisfies (Completed s.reliable (text_of texts s.request) s.set) k (event_in texts n)) texts n.moment) c.args.owes.now index)
-    (ap Request (sym c.in-Request-Ack.field-0-is) ∙ c.in-Request-Ack.ensures) (rw c.runs.ensures.debts at finds)))
+    (ap Request (sym c.in-Request-Ack.field-0-is) ∙ c.in-Request-Ack.ensures) finds))
     c.first_acked.ensures

@@ -2,8 +2,13 @@ use Rattle.std.proofs.Common.{◌≡◌, true, Some, None, All, position, subst,
 use Rattle.sip_machine.specs.inner.Outbox.{is_payable}
 use Rattle.sip_machine.specs.inner.Paying.{FindsFirst}
 use Rattle.sip_machine.proofs.OutboxLemmas.{All-position_None}
+use Rattle.sip_machine.proofs.RisesLemmas.{runs_rise}
 use Rattle.sip_machine.proofs.RunsLemmas.{All-each, one_less, first_passing, start_of}
 use Rattle.sip_machine.proofs.outbox.Outbox.payable.Goals as goal
+
+pub first_payable-requires : goal.first_payable-requires
+first_payable-requires c climbs =
+    rw c.deref.ensures.value (runs_rise (λ debt. debt.message) c.self.inside.runs.items c.self.invariant.0.filled (c.self.invariant.1.climbs climbs))
 
 pub returns-in_err-at : goal.returns-in_err-at
 returns-in_err-at c =

@@ -2,7 +2,7 @@ use Rattle.std.proofs.Common.{sym, rules}
 use Rattle.std.specs.declared.cmp.Ordering.TheVariants.{Equal}
 use Rattle.std.proofs.lemmas.Cmp.{ranked}
 use Rattle.std.proofs.lemmas.List.Sorted.{answers_always}
-use Rattle.sip_machine.proofs.book.place_of.Goals as goal
+use Rattle.sip_machine.proofs.tos.place_of.Goals as goal
 
 pub returns-in-Ok-clause-number : goal.returns-in-Ok-clause-number
 returns-in-Ok-clause-number c =

@@ -1,8 +1,8 @@
 //! Rows of the format, read in pieces of any size and written again.
 use crate::devices::{Pieces, Room};
 use sip_log::{
-    Broken, FromRead, LogError, LogReader, Progress, Sink, Source, ToWrite, WriteError, read_entries,
-    write_entry, write_header,
+    Broken, FromRead, LogError, LogReader, Progress, Sink, Source, ToWrite, WriteError,
+    read_entries, write_entry, write_header,
 };
 use sip_times::{Action, Params, Rules};
 use std::alloc::{AllocError, Global};
@@ -300,7 +300,11 @@ fn a_buffer_is_used_again(rt: HostRuntime) -> Result<(), Fail> {
     let mut buffer = Vec::from_slice(rt.alloc(), b"longer than each of the messages")?;
     let room = buffer.capacity();
     for message in MESSAGES {
-        let entry = progress.next_into(buffer, &mut left).ok().flatten().ok_or("no entry")?;
+        let entry = progress
+            .next_into(buffer, &mut left)
+            .ok()
+            .flatten()
+            .ok_or("no entry")?;
         assert!(rt; entry.bytes.as_slice() == *message);
         buffer = entry.bytes;
     }

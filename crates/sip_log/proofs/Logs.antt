@@ -1,7 +1,8 @@
 -- The log of an input: there is one, and only one.
 use Rattle.std.proofs.Common.{◌≡◌, ◌≢◌, inl, inr, ◌≤◌, ◌+◌, ℕ, suc, List, [], ◌∷◌, ◌++◌, length, get_or, refl, subst, sym, ap, ◌∙◌, arith, append_assoc}
-use Rattle.std.specs.Prelude.{flat_map}
-use Rattle.std.proofs.lemmas.List.{append-nil}
+use Rattle.std.specs.Prelude.{flat_map, All}
+use Rattle.std.proofs.lemmas.List.{append-nil, append_cancel_left, length-append}
+use Rattle.std.proofs.lemmas.List.Elements.{All-nil, All-cons}
 use Rattle.sip_times.specs.Times.{Times, AreTimes}
 use Rattle.sip_times.specs.declared.rules.Rules.{Rules}
 use Rattle.sip_times.specs.declared.rules.Rules.TheVariants.{R3261, R6026}
@@ -10,7 +11,7 @@ use Rattle.sip_times.specs.declared.action.Action.TheVariants.{Sent, Received, F
 use Rattle.sip_log.specs.declared.format.Format.{Format}
 use Rattle.sip_log.specs.declared.format.Format.TheVariants.{One, Two}
 use Rattle.sip_log.specs.Next.{Next, gives}
-use Rattle.sip_log.specs.Spelling.{Item, letter, RulesLine, Header, lines_text, written_rules, header_text, entry_text}
+use Rattle.sip_log.specs.Spelling.{Item, letter, rules_text, RulesLine, Header, lines_text, written_rules, header_text, entry_text}
 use Rattle.sip_log.specs.Log.{most_entries, ComesNext, InOrder, last_of, LogEnd, Clean, next_at, IsLog, Log, Faulty, Readable, IsLogOf}
 use Rattle.sip_log.specs.Turn.{ComeInTurn}
 use Rattle.sip_log.specs.inner.Follow.{Follow}
@@ -168,6 +169,34 @@ log-of-two input other p behind items one two is =
     let none : is.rest ≡ [] = is.next in
     let whole : behind ≡ flat_map entry_text items = sym same.2 ∙ ap (λ (t : List ℕ). flat_map entry_text items ++ t) none ∙ append-nil (flat_map entry_text items) in
     clean-log Two other p items (subst (Header Two p other) whole two) is.few (two-order 0 items (subst (λ f. InOrder f 0 items) same.0 is.order))
+
+-- a header of format 1 without a line of rules
+
+-- behind a line of rules something less is left
+no-rules : (rules : Rules) (text behind : List ℕ) → text ≡ behind → RulesLine rules text behind → rules ≡ R6026
+no-rules rules text behind same (inr is) = is.0
+no-rules R6026 text behind same (inl is) = refl
+no-rules R3261 text behind same (inl is) =
+    let line : length (rules_text R3261) ≡ 11 = refl in
+    absurd (omega (arith, line, ap length (sym same ∙ is), length-append (rules_text R3261) behind))
+
+pub rules-of-one : (input : List ℕ) (p : Times) (behind : List ℕ) → Header One p input behind → input ≡ lines_text One p ++ behind → p.rules ≡ R6026
+rules-of-one input p behind is whole =
+    no-rules p.rules is.rest behind (append_cancel_left (lines_text One p) is.rest behind (sym is.lines ∙ whole)) is.rules
+
+-- entries of format 1
+one-order : (last : ℕ) (items : List Item) → InOrder One last items → All (λ e. e.action ≢ Restart) items
+one-order last [] order = All-nil (λ e. e.action ≢ Restart)
+one-order last (e ∷ es) order = All-cons (λ x. x.action ≢ Restart) e es (λ restart. other (order.1.0 restart)) (one-order e.moment es order.2)
+  where
+    other : One ≢ Two
+    other same = cc
+
+pub restarts-of-one : (input : List ℕ) (p q : Times) (behind : List ℕ) (items : List Item) (end : LogEnd) → Header One p input behind → IsLogOf input (Readable q items end)
+    → All (λ e. e.action ≢ Restart) items
+restarts-of-one input p q behind items end one is =
+    let same = Header-one is.format One input q p _ behind is.header one in
+    one-order 0 items (subst (λ f. InOrder f 0 items) same.0 is.order)
 
 -- entries that come in turn are the first of those that follow
 turn-front : (format : Format) (count last : ℕ) (rest : List ℕ) (items : List Item) (end : LogEnd) (read : List Item) (left : List ℕ) → Follow format count last rest items end

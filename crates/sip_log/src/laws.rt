@@ -1,10 +1,12 @@
 //! Laws of the format and of its devices. The functions do nothing: their contracts are the laws.
-ghost use Rattle.std.specs.Prelude.{◌≡◌, ◌↔◌, ◌<◌, ◌≤◌, ◌++◌, ℕ, List, length, flat_map};
+ghost use Rattle.std.specs.Prelude.{◌≡◌, ◌≢◌, ◌↔◌, ◌<◌, ◌≤◌, ◌++◌, ℕ, List, All, length, flat_map};
 ghost use Rattle.sip_times.specs.Times.{Times, AreTimes};
+ghost use Rattle.sip_times.specs.declared.action.Action.TheVariants.{Restart};
+ghost use Rattle.sip_times.specs.declared.rules.Rules.TheVariants.{R6026};
 ghost use Rattle.sip_log.specs.Next.{Next, gives};
 ghost use Rattle.sip_log.specs.declared.format.Format.{Format};
 ghost use Rattle.sip_log.specs.declared.format.Format.TheVariants.{One, Two};
-ghost use Rattle.sip_log.specs.Spelling.{Item, Header, header_text, entry_text};
+ghost use Rattle.sip_log.specs.Spelling.{Item, Header, lines_text, header_text, entry_text};
 ghost use Rattle.sip_log.specs.Turn.{ComeInTurn};
 ghost use Rattle.sip_log.specs.Log.{IsEntry, IsWithinLimits, most_entries, ComesNext, InOrder, LogEnd, Clean, IsLog, NoHeader, Log, Readable, IsLogOf};
 ghost use Rattle.sip_log.specs.LogSays.{LogSays, LacksHeader};
@@ -64,6 +66,15 @@ pub fn entries_read_in_turn_are_a_front_of_the_log()
     ensures { (input : List ℕ) (p : Times) (items : List Item) (end : LogEnd) → IsLogOf input (Readable p items end) →
         (format : Format) (q : Times) (behind left : List ℕ) (read : List Item) → Header format q input behind → ComeInTurn format 0 0 behind read left →
         (more : List Item) × (items ≡ read ++ more) }
+{}
+
+/// A log of format 1 has one tolerance, early and late alike, and no restarts, and without a line of rules those of RFC 6026: it says what it said
+/// before there were two tolerances, restarts and rules.
+pub fn a_log_of_format_1_is_as_it_was()
+    ensures tolerance { (input : List ℕ) (p : Times) (behind : List ℕ) → Header One p input behind → p.early ≡ p.late }
+    ensures rules { (input : List ℕ) (p : Times) (behind : List ℕ) → Header One p input behind → input ≡ lines_text One p ++ behind → p.rules ≡ R6026 }
+    ensures restarts { (input : List ℕ) (p q : Times) (behind : List ℕ) (items : List Item) (end : LogEnd) → Header One p input behind →
+        IsLogOf input (Readable q items end) → All (λ e. e.action ≢ Restart) items }
 {}
 
 /// A log of format 1 that is read to its end is, behind a header of format 2 with the same times, the same log.

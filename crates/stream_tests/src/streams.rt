@@ -112,6 +112,40 @@ fn keeps_few_messages_of_many(rt: HostRuntime) -> Result<(), Fail> {
     Ok(())
 }
 
+/// The log of so many OPTIONS, each with a branch of its own: one every ten milliseconds, and a restart of the element behind each.
+fn restarted(alloc: Global, count: u64) -> Result<String, Fail>
+    requires { count ≤ 1000 }
+{
+    let mut notation = String::new(alloc);
+    notation.push_str("early 50 late 50: ")?;
+    for branch in 0..count {
+        let sent = branch * 10;
+        let restart = sent + 5;
+        let entries = format!(in alloc; "S {sent} OPTIONS #{branch}; Z {restart};")?;
+        notation.push_str(entries.as_str())?;
+    }
+    log_of(alloc, notation.as_str())
+}
+
+/// No request is needed behind a restart. The first sweep comes behind the 65th request, which is entry 129, and each leaves that request
+/// alone.
+#[test]
+fn forgets_behind_restarts(rt: HostRuntime) -> Result<(), Fail> {
+    let log = restarted(rt.alloc(), 1_000)?;
+    let (kept, verdict) = kept_behind_each(&rt, log.as_str())?;
+    assert_eq!(rt;
+        verdict,
+        Some(Verdict::Legal {
+            entries: 2_000,
+            transactions: 1_000
+        })
+    );
+    assert_eq!(rt; kept.len(), 2_000);
+    assert_eq!(rt; (kept[127], kept[128], kept[259], kept[260]), (64, 1, 66, 1));
+    assert!(rt; kept.iter().all(|count| *count <= 66));
+    Ok(())
+}
+
 /// Each request at moment 0 waits for its response, so that no sweep forgets one.
 #[test]
 fn keeps_what_is_needed(rt: HostRuntime) -> Result<(), Fail> {

@@ -207,15 +207,7 @@ named_hearers t c some given apart = record {
   others = λ all. absurd (false≢true (sym some ∙ all));
 }
 
--- a number that is among some is one of them
-pub among_is : (ns : List ℕ) (n : ℕ) → is_among ns n ≡ true → Contains ns n
-among_is [] n among = absurd (false≢true among)
-among_is (m ∷ ns) n among = go (nat_eq n m) refl
-  where
-    go : (b : Bool) → nat_eq n m ≡ b → Contains (m ∷ ns) n
-    go true same = subst (Contains (m ∷ ns)) (sym ((unsigned_Decides n m).0 same)) (Contains-here m ns)
-    go false differ = Contains-there m ns n (among_is ns n (sym (ap (λ b. b || is_among ns n) differ) ∙ among))
-
+-- a number that is one of some is among them
 pub is_among-of : (ns : List ℕ) (n : ℕ) → Contains ns n → is_among ns n ≡ true
 is_among-of [] n has = absurd (Contains-none n has)
 is_among-of (m ∷ ns) n has = elim (Contains-cons m ns n has) [ inl same ↦ among_first n m ns (sym same) | inr rest ↦ among_rest n m ns (is_among-of ns n rest) ]

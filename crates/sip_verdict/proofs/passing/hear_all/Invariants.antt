@@ -8,5 +8,5 @@ invariant-loop-number g l =
       times_are : l.tables.times ≡ l.initial.tables.times;
       keys_are : l.tables.keys ≡ l.initial.tables.keys;
       may : MayPass l.book l.tables l.event.moment;
-      heard : HearsEach l.book l.event (take l.number-index l.numbers) l.initial.tables l.others l.tables l.outcome;
+      heard : HearsEach l.book l.event (take l.number-index l.numbers) l.initial.tables l.fn.others l.tables l.outcome;
     }

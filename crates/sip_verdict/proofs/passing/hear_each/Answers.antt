@@ -1,5 +1,5 @@
-use Rattle.std.proofs.Common.{◌≡◌, false, refl, sym, ap, subst, arith}
-use Rattle.sip_verdict.specs.declared.passing.Outcome.{Outcome}
+use Rattle.std.proofs.Common.{◌∙◌, refl, sym, ap, subst, arith}
+use Rattle.sip_verdict.specs.inner.Tracking.{first_of}
 use Rattle.sip_verdict.specs.inner.Concerned.{each, is_all}
 use Rattle.sip_verdict.specs.inner.TablesTracking.{HearsEach}
 use Rattle.sip_verdict.proofs.TablesPassing.{given_still, named_hearers}
@@ -22,23 +22,23 @@ returns-in-None-clause-heard g c =
       ),
     )
 
-pub returns-in-Own-clause-heard : goal.returns-in-Own-clause-heard
-returns-in-Own-clause-heard g c =
+pub returns-in_ok-hear_one-in-Own-clause-heard : goal.returns-in_ok-hear_one-in-Own-clause-heard
+returns-in_ok-hear_one-in-Own-clause-heard g c =
     let t = c.args.tables.now in
     let u = c.hear_one.new.tables in
     let h = c.args.hearing.now in
     let hear = c.requires.hear in
-    let heard = c.in_ok-hear_one.ensures in (
+    let heard = c.in_ok-hear_one-in-Own.ensures in (
       heard.may,
       (
         each h.concerned,
         named_hearers t h.concerned (ap is_all c.in-Own.is) hear.given hear.apart,
-        subst (λ x. HearsEach c.args.book.now h.event (each x) t c.args.others u c.first.result) (sym c.in-Own.is) (u, c.in_ok-hear_one.field-0, heard.heard, (refl, c.first.ensures)),
+        subst (λ x. HearsEach c.args.book.now h.event (each x) t c.args.others u c.first.result) (sym c.in-Own.is) (u, c.in_ok-hear_one-in-Own.field-0, heard.heard, (refl, c.first.ensures)),
       ),
     )
 
-pub returns-in-OwnAndCancelled-clause-heard : goal.returns-in-OwnAndCancelled-clause-heard
-returns-in-OwnAndCancelled-clause-heard g c =
+pub returns-in_ok-hear_one-in-OwnAndCancelled-2-clause-heard : goal.returns-in_ok-hear_one-in-OwnAndCancelled-2-clause-heard
+returns-in_ok-hear_one-in-OwnAndCancelled-2-clause-heard g c =
     let t = c.args.tables.now in
     let mid = c.hear_one-in-OwnAndCancelled.new.tables in
     let u = c.hear_one-in-OwnAndCancelled-2.new.tables in
@@ -50,7 +50,7 @@ returns-in-OwnAndCancelled-clause-heard g c =
       (
         each h.concerned,
         named_hearers t h.concerned (ap is_all c.in-OwnAndCancelled.is) hear.given hear.apart,
-        subst (λ x. HearsEach c.args.book.now h.event (each x) t c.args.others u c.first-in-OwnAndCancelled-2.result) (sym c.in-OwnAndCancelled.is)
-        (mid, own.field-0, own.ensures.heard, (u, cancelled.field-0, cancelled.ensures.heard, (refl, ?))),
+        subst (λ x. HearsEach c.args.book.now h.event (each x) t c.args.others u c.first-in-OwnAndCancelled.result) (sym c.in-OwnAndCancelled.is)
+        (mid, own.field-0, own.ensures.heard, (u, cancelled.field-0, cancelled.ensures.heard, (refl, c.first-in-OwnAndCancelled.ensures ∙ ap (λ o. first_of o cancelled.field-0) c.first-others.ensures))),
       ),
     )

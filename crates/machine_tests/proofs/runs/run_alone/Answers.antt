@@ -7,4 +7,7 @@ use Rattle.machine_tests.proofs.runs.run_alone.Goals as goal
 pub loop-moment-init : goal.loop-moment-init
 loop-moment-init g c =
     let fits = g.met.M.Machine.first_fits c.args.machine.now in
-    rw c.first.ensures (rw fits.0 (All-nil (Keeps c.args.book.now)), fits.1)
+    rw c.first-state.ensures (rw fits.0 (All-nil (Keeps c.args.book.now)), fits.1)
+
+pub loop-moment-preserved : goal.loop-moment-preserved
+loop-moment-preserved g c = ?

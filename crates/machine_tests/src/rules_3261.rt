@@ -69,10 +69,8 @@ fn are_owed(runs: &[Run], wants: &[Owed]) -> bool {
 
 fn are_wanted<P: Phase>(states: &[Owing<P>], wants: &[Want<P>]) -> bool {
     states.len() == wants.len()
-        && states
-            .iter()
-            .zip(wants)
-            .all(|(state, want)| state.phase == want.0 && are_owed(state.owes.runs(), want.1))
+        && states.iter().zip(wants).all(|(state, want)| state.phase == want.0
+            && are_owed(state.owes.runs(), want.1))
 }
 
 type Server = (&'static [Entry], &'static [Want<InviteServer3261Phase>]);
@@ -154,10 +152,16 @@ static A_2XX_IS_THE_LAST_OF_A_SERVER: &[Server] = &[
     (&[INVITE_CAME], &[(INVITED, &[])]),
     (&[INVITE_CAME, OK_WENT], &[(PASSED, &[])]),
     (&[INVITE_CAME, (0, Action::Failed, OK)], &[(PASSED, &[])]),
-    (&[INVITE_CAME, OK_WENT, (900_000, Action::Sent, OK)], &[(PASSED, &[])]),
+    (
+        &[INVITE_CAME, OK_WENT, (900_000, Action::Sent, OK)],
+        &[(PASSED, &[])],
+    ),
     (&[INVITE_CAME, OK_WENT, (600, Action::Sent, BUSY)], &[]),
     (&[INVITE_CAME, OK_WENT, (600, Action::Sent, RINGING)], &[]),
-    (&[INVITE_CAME, OK_WENT, (600, Action::Received, ACK)], &[(PASSED, &[])]),
+    (
+        &[INVITE_CAME, OK_WENT, (600, Action::Received, ACK)],
+        &[(PASSED, &[])],
+    ),
     // what is owed is gone with the 2xx
     (
         &[
@@ -181,26 +185,54 @@ static A_2XX_IS_THE_LAST_OF_A_SERVER: &[Server] = &[
 ];
 
 static AN_INVITE_COMES_AGAIN_BEHIND_A_2XX: &[Server] = &[
-    (&[INVITE_CAME, OK_WENT, INVITE_CAME_AGAIN], &[(INVITED_AGAIN, &[])]),
     (
-        &[INVITE_CAME, OK_WENT, INVITE_CAME_AGAIN, (510, Action::Sent, RINGING)],
+        &[INVITE_CAME, OK_WENT, INVITE_CAME_AGAIN],
+        &[(INVITED_AGAIN, &[])],
+    ),
+    (
+        &[
+            INVITE_CAME,
+            OK_WENT,
+            INVITE_CAME_AGAIN,
+            (510, Action::Sent, RINGING),
+        ],
         &[(RINGS_AGAIN, &[])],
     ),
     (
-        &[INVITE_CAME, OK_WENT, INVITE_CAME_AGAIN, (750, Action::Sent, RINGING)],
+        &[
+            INVITE_CAME,
+            OK_WENT,
+            INVITE_CAME_AGAIN,
+            (750, Action::Sent, RINGING),
+        ],
         &[(RINGS_AGAIN, &[])],
     ),
     (
-        &[INVITE_CAME, OK_WENT, INVITE_CAME_AGAIN, (751, Action::Sent, RINGING)],
+        &[
+            INVITE_CAME,
+            OK_WENT,
+            INVITE_CAME_AGAIN,
+            (751, Action::Sent, RINGING),
+        ],
         &[],
     ),
     // the 2xx of the transaction, or the user's again
     (
-        &[INVITE_CAME, OK_WENT, INVITE_CAME_AGAIN, (510, Action::Sent, OK)],
+        &[
+            INVITE_CAME,
+            OK_WENT,
+            INVITE_CAME_AGAIN,
+            (510, Action::Sent, OK),
+        ],
         &[(PASSED, &[]), (INVITED_AGAIN, &[])],
     ),
     (
-        &[INVITE_CAME, OK_WENT, INVITE_CAME_AGAIN, (510, Action::Sent, BUSY)],
+        &[
+            INVITE_CAME,
+            OK_WENT,
+            INVITE_CAME_AGAIN,
+            (510, Action::Sent, BUSY),
+        ],
         &[(BUSY_AGAIN, &[])],
     ),
     (
@@ -235,9 +267,16 @@ static AN_INVITE_COMES_AGAIN_BEHIND_A_2XX: &[Server] = &[
         &[(CONFIRMED_AGAIN, &[])],
     ),
     // where it did not, a 2xx behind another final response is none of its rows
-    (&[INVITE_CAME, (10, Action::Sent, BUSY)], &[(BUSY_ONCE, &[])]),
     (
-        &[INVITE_CAME, (10, Action::Sent, BUSY), (20, Action::Sent, OK)],
+        &[INVITE_CAME, (10, Action::Sent, BUSY)],
+        &[(BUSY_ONCE, &[])],
+    ),
+    (
+        &[
+            INVITE_CAME,
+            (10, Action::Sent, BUSY),
+            (20, Action::Sent, OK),
+        ],
         &[],
     ),
 ];
@@ -246,7 +285,10 @@ static A_SERVER_STARTS_ANEW: &[Server] = &[
     (&[(100, Action::Restart, NONE)], &[(IDLE, &[])]),
     (&[INVITE_CAME, (100, Action::Restart, NONE)], &[(IDLE, &[])]),
     (&[INVITE_CAME, (251, Action::Restart, NONE)], &[]),
-    (&[INVITE_CAME, OK_WENT, (100, Action::Restart, NONE)], &[(IDLE, &[])]),
+    (
+        &[INVITE_CAME, OK_WENT, (100, Action::Restart, NONE)],
+        &[(IDLE, &[])],
+    ),
     (
         &[
             INVITE_CAME,
@@ -294,9 +336,16 @@ const INVITE_WENT: Entry = (0, Action::Sent, INVITE);
 static A_2XX_ENDS_A_CLIENT: &[Client] = &[
     (&[INVITE_WENT], &[(CALLS, &[])]),
     (&[INVITE_WENT, (100, Action::Received, OK)], &[(ENDED, &[])]),
-    (&[INVITE_WENT, (100, Action::Received, RINGING)], &[(PROCEEDS, &[])]),
     (
-        &[INVITE_WENT, (50, Action::Received, RINGING), (100, Action::Received, OK)],
+        &[INVITE_WENT, (100, Action::Received, RINGING)],
+        &[(PROCEEDS, &[])],
+    ),
+    (
+        &[
+            INVITE_WENT,
+            (50, Action::Received, RINGING),
+            (100, Action::Received, OK),
+        ],
         &[(ENDED, &[])],
     ),
     (
@@ -304,31 +353,60 @@ static A_2XX_ENDS_A_CLIENT: &[Client] = &[
         &[(IS_BUSY, &[(BUSY, 150, MUST)])],
     ),
     (
-        &[INVITE_WENT, (100, Action::Received, BUSY), (120, Action::Received, OK)],
+        &[
+            INVITE_WENT,
+            (100, Action::Received, BUSY),
+            (120, Action::Received, OK),
+        ],
         &[(IS_BUSY, &[(BUSY, 150, MUST)])],
     ),
     (
-        &[INVITE_WENT, (100, Action::Received, OK), (900_000, Action::Received, OK)],
+        &[
+            INVITE_WENT,
+            (100, Action::Received, OK),
+            (900_000, Action::Received, OK),
+        ],
         &[(ENDED, &[])],
     ),
 ];
 
 static A_CLIENT_STARTS_ANEW: &[Client] = &[
-    (&[(100, Action::Restart, NONE)], &[(InviteClientPhase::Idle, &[])]),
-    (&[INVITE_WENT, (100, Action::Restart, NONE)], &[(ENDED, &[])]),
-    (&[INVITE_WENT, (550, Action::Restart, NONE)], &[(ENDED, &[])]),
-    (&[INVITE_WENT, (551, Action::Restart, NONE)], &[]),
-    // the ACK that is owed is gone
     (
-        &[INVITE_WENT, (100, Action::Received, BUSY), (150, Action::Restart, NONE)],
+        &[(100, Action::Restart, NONE)],
+        &[(InviteClientPhase::Idle, &[])],
+    ),
+    (
+        &[INVITE_WENT, (100, Action::Restart, NONE)],
         &[(ENDED, &[])],
     ),
     (
-        &[INVITE_WENT, (100, Action::Received, BUSY), (151, Action::Restart, NONE)],
+        &[INVITE_WENT, (550, Action::Restart, NONE)],
+        &[(ENDED, &[])],
+    ),
+    (&[INVITE_WENT, (551, Action::Restart, NONE)], &[]),
+    // the ACK that is owed is gone
+    (
+        &[
+            INVITE_WENT,
+            (100, Action::Received, BUSY),
+            (150, Action::Restart, NONE),
+        ],
+        &[(ENDED, &[])],
+    ),
+    (
+        &[
+            INVITE_WENT,
+            (100, Action::Received, BUSY),
+            (151, Action::Restart, NONE),
+        ],
         &[],
     ),
     (
-        &[INVITE_WENT, (100, Action::Restart, NONE), (200, Action::Sent, INVITE)],
+        &[
+            INVITE_WENT,
+            (100, Action::Restart, NONE),
+            (200, Action::Sent, INVITE),
+        ],
         &[],
     ),
 ];
@@ -380,10 +458,24 @@ fn a_client_starts_anew(rt: HostRuntime) -> Result<(), Fail> {
 #[test]
 fn by_rfc_6026_an_invite_behind_a_2xx_changes_nothing(rt: HostRuntime) -> Result<(), Fail> {
     let server = InviteServer::new(params()?);
-    let states = states_after(rt.alloc(), &server, &[INVITE_CAME, OK_WENT, INVITE_CAME_AGAIN])?;
-    assert!(rt; are_wanted(&states, &[(InviteServerPhase::Accepted { set: 0 }, &[])]), "{states:?}");
+    let states = states_after(
+        rt.alloc(),
+        &server,
+        &[INVITE_CAME, OK_WENT, INVITE_CAME_AGAIN],
+    )?;
+    assert!(rt;
+        are_wanted(&states, &[(InviteServerPhase::Accepted { set: 0 }, &[])]),
+        "{states:?}"
+    );
     let client = InviteClient::new(params()?);
-    let states = states_after(rt.alloc(), &client, &[INVITE_WENT, (100, Action::Received, OK)])?;
-    assert!(rt; are_wanted(&states, &[(InviteClientPhase::Accepted { set: 100 }, &[])]), "{states:?}");
+    let states = states_after(
+        rt.alloc(),
+        &client,
+        &[INVITE_WENT, (100, Action::Received, OK)],
+    )?;
+    assert!(rt;
+        are_wanted(&states, &[(InviteClientPhase::Accepted { set: 100 }, &[])]),
+        "{states:?}"
+    );
     Ok(())
 }

@@ -1,16 +1,15 @@
 -- A quiet set stays as it is: it waits for ever, and a restart of the element leaves it.
-use Rattle.std.proofs.Common.{◌≡◌, ◌≤◌, ◌<◌, ◌^◌, ◌⊎◌, ◌↔◌, ◌∙◌, inl, inr, ℕ, None, List, [], ◌∷◌, Contains, map, refl, sym, ap, subst, arith}
+use Rattle.std.proofs.Common.{◌≡◌, ◌≤◌, ◌<◌, ◌^◌, ◌⊎◌, ◌↔◌, ◌∙◌, inl, inr, ℕ, None, [], ◌∷◌, Contains, map, refl, sym, ap, subst, arith}
 use Rattle.std.proofs.lemmas.List.Elements.{All-nil, All-cons}
 use Rattle.sip_times.specs.declared.action.Action.TheVariants.{Restart}
 use Rattle.sip_machine.specs.Times.{Times}
 use Rattle.sip_machine.specs.Texts.{Texts}
-use Rattle.sip_machine.specs.Limits.{IsWithin}
 use Rattle.sip_machine.specs.MachineEvent.{MachineEvent}
 use Rattle.sip_machine.specs.Rules.{Rules, IsLawful, StandFor, Knows}
 use Rattle.sip_machine.specs.Figure.{Figure, Owing, quiet, Restarts, Steps}
 use Rattle.sip_states.specs.Runs.{Wait, RunGives}
 use Rattle.sip_states.specs.Held.{Held}
-use Rattle.sip_states.specs.KeyMachine.{MachineKind, OfInviteClient, OfPlainClient, OfInviteServer, OfPlainServer, OfInviteClient3261, OfInviteServer3261, transaction_of, coded_of, PhaseOf, StateOf, key_rules}
+use Rattle.sip_states.specs.KeyMachine.{MachineKind, OfInviteClient, OfPlainClient, OfInviteServer, OfPlainServer, OfInviteClient3261, OfInviteServer3261, transaction_of, PhaseOf, StateOf, key_rules}
 use Rattle.sip_states.specs.AnySet.{meaning_of, IsQuietIn}
 use Rattle.sip_states.proofs.Waiting.{StaysFrom, EndsFrom, IsWithin-none, IsOpenAt-none, Wait-stay, Wait-cases}
 use Rattle.sip_states.proofs.ByMachine.{first_of, last_of, first_is_of, last_is_of, first_knows, last_knows, lawful_of}

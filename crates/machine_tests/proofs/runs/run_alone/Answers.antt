@@ -12,8 +12,7 @@ loop-moment-init g c =
 
 pub loop-moment-preserved : goal.loop-moment-preserved
 loop-moment-preserved g c =
-    let one = OnTrue_at c.if-not-branch.false c.in_ok-step.ensures.one in
-    (
+    let one = OnTrue_at c.if-not-branch.false c.in_ok-step.ensures.one in (
       All-head (Knows g.M.Machine.names c.args.book.now) c.step.new.state [] one.known,
       All-head g.M.Machine.in_range c.step.new.state [] one.in_range,
     )

@@ -1,10 +1,10 @@
-use Rattle.std.proofs.Common.{◌≡◌, ◌<◌, ◌∙◌, [], false, ap, subst, length, true, arith}
+use Rattle.std.proofs.Common.{◌≡◌, ◌∙◌, [], false, ap, length, true, arith}
 use Rattle.std.proofs.lemmas.Option.{slice_get_within}
 use Rattle.std.proofs.lemmas.List.{length-set}
 use Rattle.indexmap.specs.IndexMap.{values}
 use Rattle.sip_states.specs.AnySet.{IsQuietSet}
 use Rattle.sip_states.specs.Sweep.{numbers_of}
-use Rattle.sip_states.specs.inner.Marks.{IsMarked, AreMoved}
+use Rattle.sip_states.specs.inner.Marks.{IsMarked}
 use Rattle.sip_states.proofs.ByMachine.{quiet_silent}
 use Rattle.sip_states.proofs.AdvanceLemmas.{item_among, unmarked, within_set}
 use Rattle.sip_states.proofs.tables.unmark_quiet.Goals as goal

@@ -1,4 +1,4 @@
-use Rattle.std.proofs.Common.{◌≡◌, ◌<◌, ◌+◌, ◌∙◌, map, take, length, get_or, sym, ap, true, subst, arith}
+use Rattle.std.proofs.Common.{◌+◌, ◌∙◌, map, get_or, sym, ap, true, subst, arith}
 use Rattle.std.proofs.lemmas.List.{take_all}
 use Rattle.std.proofs.lemmas.Option.{slice_get_within}
 use Rattle.std.proofs.lemmas.Map.Entries.{length-values_of, length-keys_of}

@@ -66,7 +66,7 @@ fn step(
     list: &mut Vec<Debt>,
     row: usize,
 ) -> Result<(), Fail> {
-    let message = chance.below(4) as u32;
+    let message = u32::try_from(chance.below(4)).unwrap_or(0);
     let moment = chance.below(40);
     assert!(rt; row < ledger.len());
     match chance.below(20) {

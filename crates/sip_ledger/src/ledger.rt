@@ -281,6 +281,7 @@ impl Ledger {
     {
         table::take_out(
             &self.entries,
+            self.rises,
             &mut self.owed,
             &mut self.must,
             self.width,
@@ -333,6 +334,7 @@ impl Ledger {
         }
         table::expire(
             &self.entries,
+            self.rises,
             &mut self.owed,
             &mut self.must,
             self.width,

@@ -81,7 +81,14 @@ fn is_paid(entry: Entry, numbers: &[u32], moment: u64) -> bool
 }
 
 /// Takes out the debt at the place.
-pub(crate) fn take_out(entries: &[Entry], owed: &mut [u64], must: &mut [u64], place: Place)
+pub(crate) fn take_out(
+    entries: &[Entry],
+    rises: bool,
+    owed: &mut [u64],
+    must: &mut [u64],
+    place: Place,
+)
+    requires rising { rises ≡ true → AreRising entries.now }
     requires row { IsRow entries.now (has owed.old) (has must.old) }
     requires owed { length entries.now ≤ 64 * length owed.old }
     requires must { length entries.now ≤ 64 * length must.old }
@@ -93,11 +100,18 @@ pub(crate) fn take_out(entries: &[Entry], owed: &mut [u64], must: &mut [u64], pl
 {
     clear(owed, place.at);
     clear(must, place.at);
-    settle(entries, owed, must, place);
+    settle(entries, rises, owed, must, place);
 }
 
 /// Moves bits that have room before them to where they can stand earliest, until one stands that has no hole before it.
-fn settle(entries: &[Entry], owed: &mut [u64], must: &mut [u64], place: Place)
+fn settle(
+    entries: &[Entry],
+    rises: bool,
+    owed: &mut [u64],
+    must: &mut [u64],
+    place: Place,
+)
+    requires rising { rises ≡ true → AreRising entries.now }
     requires given { IsOpenRow entries.now (has owed.old) (has must.old) place.low place.at }
     requires owed { length entries.now ≤ 64 * length owed.old }
     requires must { length entries.now ≤ 64 * length must.old }
@@ -110,7 +124,7 @@ fn settle(entries: &[Entry], owed: &mut [u64], must: &mut [u64], place: Place)
     while low <= hole {
         match next(owed, low) {
             Some(at) => {
-                let to = first_equal(entries, low, at);
+                let to = first_equal(entries, rises, low, at);
                 if to < at {
                     move_bit(owed, must, at, to);
                     hole = hole.max(at);
@@ -123,7 +137,50 @@ fn settle(entries: &[Entry], owed: &mut [u64], must: &mut [u64], place: Place)
 }
 
 /// The first entry from here on that is equal to the one at the index.
-fn first_equal(entries: &[Entry], low: usize, at: usize) -> usize
+fn first_equal(entries: &[Entry], rises: bool, low: usize, at: usize) -> usize
+    requires rising { rises ≡ true → AreRising entries.now }
+    requires order { low ≤ at }
+    requires within { at < length entries.now }
+    ensures order { (low ≤ result) × (result ≤ at) }
+    ensures equal { (e : Entry) → get_or entries.now result e ≡ get_or entries.now at e }
+    ensures first { (i : ℕ) (e : Entry) → low ≤ i → i < result → get_or entries.now i e ≢ get_or entries.now at e }
+{
+    if rises {
+        first_of_deadline(entries, low, at)
+    } else {
+        first_of_all(entries, low, at)
+    }
+}
+
+/// The same where deadlines never fall: equal entries stand among those of one deadline.
+fn first_of_deadline(entries: &[Entry], low: usize, at: usize) -> usize
+    requires rising { AreRising entries.now }
+    requires order { low ≤ at }
+    requires within { at < length entries.now }
+    ensures order { (low ≤ result) × (result ≤ at) }
+    ensures equal { (e : Entry) → get_or entries.now result e ≡ get_or entries.now at e }
+    ensures first { (i : ℕ) (e : Entry) → low ≤ i → i < result → get_or entries.now i e ≢ get_or entries.now at e }
+{
+    first_of_all(entries, start_of_deadline(entries, low, at), at)
+}
+
+/// Where the entries of one deadline begin that end with the one at the index, or here if they begin before.
+fn start_of_deadline(entries: &[Entry], low: usize, at: usize) -> usize
+    requires order { low ≤ at }
+    requires within { at < length entries.now }
+    ensures order { (low ≤ result) × (result ≤ at) }
+    ensures before { (e : Entry) → low < result → (get_or entries.now (result - 1) e).deadline ≢ (get_or entries.now at e).deadline }
+{
+    let deadline = entries[at].deadline;
+    let mut start = at;
+    while start > low && entries[start - 1].deadline == deadline {
+        start -= 1;
+    }
+    start
+}
+
+/// The same whatever the deadlines are.
+fn first_of_all(entries: &[Entry], low: usize, at: usize) -> usize
     requires order { low ≤ at }
     requires within { at < length entries.now }
     ensures order { (low ≤ result) × (result ≤ at) }
@@ -233,7 +290,14 @@ fn earlier(moment: u64, other: Option<u64>) -> u64
 }
 
 /// Drops what may be sent and whose deadline is below the moment.
-pub(crate) fn expire(entries: &[Entry], owed: &mut [u64], must: &mut [u64], moment: u64)
+pub(crate) fn expire(
+    entries: &[Entry],
+    rises: bool,
+    owed: &mut [u64],
+    must: &mut [u64],
+    moment: u64,
+)
+    requires rising { rises ≡ true → AreRising entries.now }
     requires row { IsRow entries.now (has owed.old) (has must.old) }
     requires owed { length entries.now ≤ 64 * length owed.old }
     requires must { length entries.now ≤ 64 * length must.old }
@@ -246,7 +310,7 @@ pub(crate) fn expire(entries: &[Entry], owed: &mut [u64], must: &mut [u64], mome
         low: 0,
         at: entries.len(),
     };
-    settle(entries, owed, must, all);
+    settle(entries, rises, owed, must, all);
 }
 
 /// Whether it is plain that nothing expires, where deadlines never fall: the first of what is owed does not.

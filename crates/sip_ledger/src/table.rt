@@ -41,12 +41,14 @@ pub(crate) fn first_payable(
 /// Takes the debt at the place out of the row.
 pub(crate) fn take_out(
     entries: &[Entry],
+    rises: bool,
     owed: &mut [u64],
     must: &mut [u64],
     width: usize,
     row: usize,
     place: Place,
 )
+    requires rising { rises ≡ true → AreRising entries.now }
     requires row { IsTableRow entries.now width row owed.old must.old }
     requires bit { IsBit (has (part width row owed.old)) place }
     ensures changes { ChangesTable entries.now width row owed.old must.old owed.new must.new }
@@ -55,19 +57,27 @@ pub(crate) fn take_out(
 {
     let start = row * width;
     let end = start + width;
-    row::take_out(entries, &mut owed[start..end], &mut must[start..end], place);
+    row::take_out(
+        entries,
+        rises,
+        &mut owed[start..end],
+        &mut must[start..end],
+        place,
+    );
 }
 
 /// Drops what the row may send and whose deadline is below the moment.
 pub(crate) fn expire(
     entries: &[Entry],
+    rises: bool,
     owed: &mut [u64],
     must: &mut [u64],
     width: usize,
     row: usize,
     moment: u64,
 )
-    requires { IsTableRow entries.now width row owed.old must.old }
+    requires rising { rises ≡ true → AreRising entries.now }
+    requires row { IsTableRow entries.now width row owed.old must.old }
     ensures changes { ChangesTable entries.now width row owed.old must.old owed.new must.new }
     ensures debts { row_at entries.now width owed.new must.new row ≡ filter (counts_at moment) (row_at entries.now width owed.old must.old row) }
 {
@@ -75,6 +85,7 @@ pub(crate) fn expire(
     let end = start + width;
     row::expire(
         entries,
+        rises,
         &mut owed[start..end],
         &mut must[start..end],
         moment,

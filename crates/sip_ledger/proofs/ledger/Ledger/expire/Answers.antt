@@ -12,8 +12,11 @@ returns-then-is_fresh c =
     let v = c.args.self.now in
     rw c.is_fresh.ensures.same (unchanged-others v c.args.row ∙ ap (λ d. set (rows_of v) c.args.row d) (sym (OnTrue_at c.if-is_fresh.true c.is_fresh.ensures.fresh)))
 
-pub expire-requires : goal.expire-requires
-expire-requires c =
+pub expire-requires-clause-rising : goal.expire-requires-clause-rising
+expire-requires-clause-rising c = rw c.deref.ensures.value c.self.invariant.rises
+
+pub expire-requires-clause-row : goal.expire-requires-clause-row
+expire-requires-clause-row c =
     let s = c.self.inside in
     let t = table_of s.entries.items s.width s.rows s.owed.items s.must.items in
     let v = c.args.self.now in

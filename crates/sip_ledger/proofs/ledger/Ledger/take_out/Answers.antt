@@ -6,6 +6,9 @@ use Rattle.sip_ledger.proofs.LedgerLemmas.{changed, changed-first, changed-other
 use Rattle.sip_ledger.proofs.TableLemmas.{table-row}
 use Rattle.sip_ledger.proofs.ledger.Ledger.take_out.Goals as goal
 
+pub take_out-requires-clause-rising : goal.take_out-requires-clause-rising
+take_out-requires-clause-rising c = rw c.deref.ensures.value c.self.invariant.rises
+
 pub take_out-requires-clause-row : goal.take_out-requires-clause-row
 take_out-requires-clause-row c =
     let s = c.self.inside in

@@ -104,13 +104,7 @@ pub(crate) fn take_out(
 }
 
 /// Moves bits that have room before them to where they can stand earliest, until one stands that has no hole before it.
-fn settle(
-    entries: &[Entry],
-    rises: bool,
-    owed: &mut [u64],
-    must: &mut [u64],
-    place: Place,
-)
+fn settle(entries: &[Entry], rises: bool, owed: &mut [u64], must: &mut [u64], place: Place)
     requires rising { rises ≡ true → AreRising entries.now }
     requires given { IsOpenRow entries.now (has owed.old) (has must.old) place.low place.at }
     requires owed { length entries.now ≤ 64 * length owed.old }

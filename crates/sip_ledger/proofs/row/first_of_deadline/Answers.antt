@@ -1,4 +1,4 @@
-use Rattle.std.proofs.Common.{◌≡◌, ◌≢◌, ℕ, ◌-◌, ◌<◌, ◌≤◌, get_or, ap, inl, inr, arith}
+use Rattle.std.proofs.Common.{◌-◌, ap, inl, inr, arith}
 use Rattle.std.proofs.lemmas.Bool.{cases_lt}
 use Rattle.sip_ledger.specs.declared.debt.Entry.{Entry}
 use Rattle.sip_ledger.proofs.row.first_of_deadline.Goals as goal
@@ -12,7 +12,11 @@ returns-clause-first c i e from before same =
       | inl early ↦
           let equal = ap (λ (x : Entry). x.deadline) same in
           c.start_of_deadline.ensures.before e (omega (arith, from, early))
-          (omega (arith, equal, c.requires.rising i (start - 1) e (omega (arith, early)) (omega (arith, order, c.requires.within)),
-          c.requires.rising (start - 1) c.args.at e (omega (arith, order)) c.requires.within))
+          (omega (
+            arith,
+            equal,
+            c.requires.rising i (start - 1) e (omega (arith, early)) (omega (arith, order, c.requires.within)),
+            c.requires.rising (start - 1) c.args.at e (omega (arith, order)) c.requires.within,
+          ))
       | inr late ↦ c.first_of_all.ensures.first i e late before same
     ]

@@ -1,7 +1,6 @@
 use Rattle.std.proofs.Common.{◌≡◌, length, ap, ◌∙◌, subst, arith}
 use Rattle.sip_ledger.specs.Ledgers.{Table}
 use Rattle.std.specs.Prelude.{None}
-use Rattle.sip_ledger.specs.Debts.{is_payable}
 use Rattle.sip_ledger.specs.inner.Memos.{IsMask, asked, asked_of}
 use Rattle.sip_ledger.proofs.ledger.Ledger.past_bits.Goals as goal
 

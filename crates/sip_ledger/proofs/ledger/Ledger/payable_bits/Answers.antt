@@ -1,8 +1,7 @@
 use Rattle.std.proofs.Common.{◌≡◌, length, ap, ◌∙◌, subst, arith}
 use Rattle.sip_ledger.specs.Ledgers.{Table}
-use Rattle.std.specs.Prelude.{None}
 use Rattle.sip_ledger.specs.Debts.{is_payable}
-use Rattle.sip_ledger.specs.inner.Memos.{IsMask, asked, asked_of}
+use Rattle.sip_ledger.specs.inner.Memos.{IsMask, asked}
 use Rattle.sip_ledger.proofs.ledger.Ledger.payable_bits.Goals as goal
 
 pub asked-self-inside-requires-clause-few : goal.asked-self-inside-requires-clause-few

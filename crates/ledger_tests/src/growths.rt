@@ -6,11 +6,7 @@ use std::process::Abort;
 use std::test::Fail;
 
 /// Two ledgers have the same rows.
-fn alike(
-    rt: &(impl Abort + AllocGlobal),
-    ledger: &Ledger,
-    twin: &Ledger,
-) -> Result<(), Fail> {
+fn alike(rt: &(impl Abort + AllocGlobal), ledger: &Ledger, twin: &Ledger) -> Result<(), Fail> {
     assert_eq!(rt; ledger.len(), twin.len());
     for row in 0..ledger.len() {
         let owed = debts(rt, ledger, row)?;

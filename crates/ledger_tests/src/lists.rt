@@ -62,11 +62,17 @@ pub(crate) fn owes(
     assert!(rt; owed.as_slice() == list, "{row}: {owed:?} for {list:?}");
     assert!(rt; row < ledger.len());
     assert!(rt; ledger.owes_nothing(row) == list.is_empty());
-    assert!(rt; ledger.earliest_must(row) == earliest_must(list), "{row}: {list:?}");
+    assert!(rt;
+        ledger.earliest_must(row) == earliest_must(list),
+        "{row}: {list:?}"
+    );
     for message in 0..4 {
         assert!(rt; row < ledger.len());
         let can = ledger.can_pay(row, message, 20);
-        assert!(rt; can == can_pay(list, message, 20), "{row}: {message} in {list:?}");
+        assert!(rt;
+            can == can_pay(list, message, 20),
+            "{row}: {message} in {list:?}"
+        );
     }
     Ok(())
 }

@@ -40,18 +40,11 @@ fn pay(
 }
 
 /// The row pays one of two messages, as its list does.
-fn pay_any(
-    rt: &impl Abort,
-    ledger: &mut Ledger,
-    list: &mut Vec<Debt>,
-    row: usize,
-    moment: u64,
-) {
+fn pay_any(rt: &impl Abort, ledger: &mut Ledger, list: &mut Vec<Debt>, row: usize, moment: u64) {
     assert!(rt; row < ledger.len());
     let paid = ledger.pay_any(row, &[1, 2], moment);
-    let first = list
-        .iter()
-        .position(|debt| (debt.message == 1 || debt.message == 2) && moment <= debt.deadline);
+    let first = list.iter().position(|debt| (debt.message == 1 || debt.message == 2)
+        && moment <= debt.deadline);
     assert!(rt; paid == first.is_some());
     if let Some(first) = first {
         list.remove(first);

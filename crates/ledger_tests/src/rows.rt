@@ -5,10 +5,7 @@ use std::process::Abort;
 use std::test::Fail;
 
 /// A ledger of one row, which owes this.
-fn of_one(
-    rt: &(impl Abort + AllocGlobal),
-    list: &[Debt],
-) -> Result<Ledger, Fail> {
+fn of_one(rt: &(impl Abort + AllocGlobal), list: &[Debt]) -> Result<Ledger, Fail> {
     let mut ledger = Ledger::new(rt.alloc());
     ledger.push()?;
     for debt in list {
@@ -92,7 +89,13 @@ fn rows_are_copied_and_dropped(rt: HostRuntime) -> Result<(), Fail> {
 
 #[test]
 fn equal_neighbours_are_one_run(rt: HostRuntime) -> Result<(), Fail> {
-    let list = [must(1, 10), must(1, 10), may(1, 10), must(2, 10), must(1, 10)];
+    let list = [
+        must(1, 10),
+        must(1, 10),
+        may(1, 10),
+        must(2, 10),
+        must(1, 10),
+    ];
     let ledger = of_one(&rt, &list)?;
     assert!(rt; 0 < ledger.len());
     let runs = ledger.runs(rt.alloc(), 0)?;

@@ -37,9 +37,9 @@ returns-clause-recorded g c =
     let t = c.args.tables.now in
     IfOk-weaker c.hear_each.result _ _
     (λ outcome heard.
-    let hearers = heard.2 in
-    heard_recorded c.args.book.now h.event heard.1 t c.hear_each.new.tables c.overdue-overdue.result outcome hearers.given
-    (recorded_more (each h.concerned) heard.1 t hearers.named (rw c.in-Some.is at c.requires.recorded)) heard.3) c.hear_each.ensures.heard
+    let hearers = heard.1.1 in
+    heard_recorded c.args.book.now h.event heard.1.0 t c.hear_each.new.tables c.overdue-overdue.result outcome hearers.given
+    (recorded_more (each h.concerned) heard.1.0 t hearers.named (rw c.in-Some.is at c.requires.recorded)) heard.1.2) c.hear_each.ensures.heard
 
 pub returns-clause-outcome : goal.returns-clause-outcome
 returns-clause-outcome g c =
@@ -50,9 +50,9 @@ returns-clause-outcome g c =
     IfOk-weaker c.hear_each.result _ _
     (λ outcome heard p es e newest told ready.
     let told_it = rw c.in-Some.is at told in
-    let hearers = heard.2 in
-    let recorded = recorded_more (each h.concerned) heard.1 t hearers.named (rw c.in-Some.is at c.requires.recorded) in
-    heard_outcome c.args.book.now p es e c.args.moment _ t c.requires.may heard.1 recorded told_it ready newest hearers.heard
-    (quiet_others c.args.book.now p es e c.args.moment h t c.requires.may told_it ready newest hear heard.1 hearers) h.event (λ n key at. (told_it n key at).event)
+    let hearers = heard.1.1 in
+    let recorded = recorded_more (each h.concerned) heard.1.0 t hearers.named (rw c.in-Some.is at c.requires.recorded) in
+    heard_outcome c.args.book.now p es e c.args.moment _ t c.requires.may heard.1.0 recorded told_it ready newest hearers.heard
+    (quiet_others c.args.book.now p es e c.args.moment h t c.requires.may told_it ready newest hear heard.1.0 hearers) h.event (λ n key at. (told_it n key at).event)
     (omega (arith, newest, hear.at)) hearers.given hearers.apart u heard.0.long outcome
-    (subst (λ o. HearsEach c.args.book.now h.event heard.1 t o u outcome) c.overdue-overdue.ensures heard.3)) c.hear_each.ensures.heard
+    (subst (λ o. HearsEach c.args.book.now h.event heard.1.0 t o u outcome) c.overdue-overdue.ensures heard.1.2)) c.hear_each.ensures.heard

@@ -301,6 +301,30 @@ def repeats_when_wide(entries):
         yield letter, place, text
 
 
+def restarts_behind_many(entries):
+    """OPTIONS and 200, and then as many restarts as there are transactions, all of which are over."""
+    yield from options(entries * 2 // 3)
+    for moment in range(entries // 3):
+        yield "Z", 10 * entries + moment, ""
+
+
+def restarts_behind_a_million(entries):
+    """CANCELs that the transport refused, each of which leaves two transactions that are over, and then restarts: of 900,000 entries a million
+    transactions and 400,000 restarts."""
+    count = entries * 5 // 9
+    for number in range(count):
+        yield "F", 10 * number, small("CANCEL sip:b@example.com SIP/2.0", "CANCEL", number)
+    for moment in range(entries - count):
+        yield "Z", 10 * count + moment, ""
+
+
+def restarts_between(entries):
+    """A restart behind each OPTIONS that is sent."""
+    for number in range(entries // 2):
+        yield "S", 10 * number, small("OPTIONS sip:b@example.com SIP/2.0", "OPTIONS", number)
+        yield "Z", 10 * number + 5, ""
+
+
 def many_fields(entries):
     """Messages of thousands of short fields."""
     fields = "".join("a:\r\n" for _ in range(12000))
@@ -317,13 +341,17 @@ COUNTED_WIDE = (128, 256)
 WORST = {
     marks: 1, idle_keys: 1, one_long_key: 1, other_messages: 1, many_live_keys: 1, many_due_keys: 1, repeats_at_once: 1,
     many_owed: 1 / 10, acks_first_first: 1 / 50, acks_last_first: 1 / 50, repeats_when_wide: 1 / 200, many_fields: 1 / 500,
-    at_one_moment: 1, wide_and_over: 1 / 10,
+    at_one_moment: 1, wide_and_over: 1 / 10, restarts_behind_many: 1, restarts_behind_a_million: 1, restarts_between: 1,
 }
 # What time and memory are to grow with no faster than the entries, and the numbers of entries that are put side by side.
-GROWING = (calls, registers, options, at_one_moment, keys, many_live_keys)
+GROWING = (
+    calls, registers, options, at_one_moment, keys, many_live_keys, restarts_behind_many, restarts_behind_a_million, restarts_between,
+)
 SIZES = (10_000, 100_000, 1_000_000)
 # A long tolerance lets much be owed at once.
 LONG = (wide, wide_and_over, many_owed, repeats_when_wide)
+# Restarts stand in logs of format 2.
+RESTARTS = (restarts_behind_many, restarts_behind_a_million, restarts_between)
 
 
 def name_of(kind):
@@ -333,7 +361,10 @@ def name_of(kind):
 def write_log(path, kind, entries):
     count = 0
     with path.open("w", newline="") as file:
-        file.write(f"sip-trace 1\nt1 500 t2 4000 t4 5000 tolerance {10000 if kind in LONG else 50}\n")
+        if kind in RESTARTS:
+            file.write("sip-trace 2\nt1 500 t2 4000 t4 5000 early 50 late 50\n")
+        else:
+            file.write(f"sip-trace 1\nt1 500 t2 4000 t4 5000 tolerance {10000 if kind in LONG else 50}\n")
         for letter, moment, text in kind(entries):
             file.write(f"{letter} {moment} {len(text)}\n{text}\n" if text else f"{letter} {moment}\n")
             count += 1

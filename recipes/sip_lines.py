@@ -1,7 +1,8 @@
 """What the recipes share: the lines that from-* print, the parts of a SIP message, the log of one element, and the program.
 
 A line is a message that someone saw, `MOMENT FROM TO HEX` with single blanks: the moment in seconds with any fraction, ADDRESS:PORT
-twice (an IPv6 address stands without brackets: the last colon counts), and the bytes.
+twice (an IPv6 address stands without brackets: the last colon counts), and the bytes. `MOMENT ADDRESS:PORT restart` tells that the element
+with this address was started anew.
 """
 import gzip
 import hashlib
@@ -11,10 +12,15 @@ import shutil
 import subprocess
 import sys
 from decimal import Decimal, InvalidOperation
+from typing import NamedTuple
 
 MOST_ENTRIES = 1_000_000
 MOST_BYTES = 65_535
+MOST_TOLERANCE = 10_000
 COOKIE = b"z9hg4bk"
+LETTERS = ("S", "R", "F", "M", "Z")
+SILENT = ("M", "Z")  # entries without a message
+RESTART = "restart"
 
 START_LINE = re.compile(rb"\A(?:SIP/\d[^\r\n]*|[^\s]+ [^\r\n]*SIP/\d+\.\d+[ \t]*)[\r\n]", re.I)
 LATER_START = re.compile(rb"\r\n(?=SIP/2\.0 \d{3} |[^\s]+ [^\s]+ SIP/2\.0\r\n)", re.I)
@@ -64,13 +70,13 @@ def print_line(moment, source, target, data):
 
 
 def read_lines(file):
-    """The number, moment, ends and bytes of each line."""
+    """The number, moment, ends and bytes of each line. One that tells a restart has the element and RESTART as its ends, and no bytes."""
     for number, line in enumerate(file, 1):
         words = line.split()
         try:
             moment, source, target = Decimal(words[0]), words[1], words[2]
             data = bytes.fromhex(words[3]) if len(words) > 3 else b""
-            if len(words) > 4 or not moment.is_finite():
+            if len(words) > (3 if target == RESTART else 4) or not moment.is_finite():
                 raise ValueError
         except (IndexError, ValueError, InvalidOperation):
             die("line %d is not MOMENT FROM TO HEX" % number)
@@ -212,43 +218,78 @@ class Cutter:
         return start
 
 
+class Times(NamedTuple):
+    """What the header of a log says."""
+    t1: int
+    t2: int
+    t4: int
+    early: int
+    late: int
+    rules: int = 0  # 3261 or 6026, or 0 where there is no line of rules
+    format: int = 1
+
+    def header(self):
+        """As bytes. A log with two tolerances is of format 2, and one of format 1 has the same verdict there."""
+        if self.format == 2 or self.early != self.late:
+            lines = "sip-trace 2\nt1 %d t2 %d t4 %d early %d late %d\n" % self[:5]
+        else:
+            lines = "sip-trace 1\nt1 %d t2 %d t4 %d tolerance %d\n" % self[:4]
+        return (lines + ("rules %d\n" % self.rules if self.rules else "")).encode()
+
+    def tolerance(self):
+        """In words."""
+        return "tolerance %d" % self.late if self.early == self.late else "early %d, late %d" % (self.early, self.late)
+
+
+HEADER = re.compile(rb"sip-trace (?:1\nt1 (\d+) t2 (\d+) t4 (\d+) tolerance (\d+)|2\nt1 (\d+) t2 (\d+) t4 (\d+) early (\d+) late (\d+))\n")
+RULES = re.compile(rb"rules (3261|6026)\n")
+
+
 class Log:
     """A log that is read entry by entry, from a name as `opened` takes it."""
 
     def __init__(self, name):
         self.file = opened(name)
-        self.header = self.file.readline() + self.file.readline()
-        words = self.header.split()
-        if words[:2] != [b"sip-trace", b"1"] or len(words) != 10:
+        found = HEADER.fullmatch(self.file.readline() + self.file.readline())
+        if not found:
             die("this is no log: see recipes/why-no-log", 2)
-        self.times = {words[n].decode(): int(words[n + 1]) for n in range(2, 10, 2)}
+        numbers = [int(number) for number in found.groups() if number]
+        self.line = self.file.readline()  # the next one
+        rules = RULES.fullmatch(self.line)
+        if rules:
+            self.line = self.file.readline()
+        # format 1 has one tolerance, for early and for late
+        self.times = Times(*numbers[:4], numbers[-1], int(rules[1]) if rules else 0, len(numbers) - 3)
+        self.header = self.times.header()
         self.last = 0
 
     def __iter__(self):
-        """Number, letter, moment and bytes of each entry; a mark has none. Sets `last` to the last moment."""
-        for number, line in enumerate(iter(self.file.readline, b""), 1):
-            words = line.split()
-            if len(words) != (2 if words[:1] == [b"M"] else 3) or words[0] not in (b"S", b"R", b"F", b"M"):
+        """Number, letter, moment and bytes of each entry; a mark and a restart have none. Sets `last` to the last moment."""
+        number = 0
+        while self.line:
+            number, words = number + 1, self.line.split()
+            letter = words[0].decode("latin-1") if words else ""
+            has_message = letter not in SILENT
+            if letter not in LETTERS or len(words) != 2 + has_message or letter == "Z" and self.times.format == 1:
                 die("entry %d cannot be read: see `siptrace check`" % number, 2)
             data = b""
-            if words[0] != b"M":
+            if has_message:
                 data = self.file.read(int(words[2]) + 1)
                 if len(data) != int(words[2]) + 1 or data[-1:] != b"\n":
                     die("entry %d is cut or has another length: see `siptrace check`" % number, 2)
             self.last = int(words[1])
-            yield number, words[0].decode(), self.last, data[:-1]
-
-
-def header(t1, t2, t4, tolerance):
-    return b"sip-trace 1\nt1 %d t2 %d t4 %d tolerance %d\n" % (t1, t2, t4, tolerance)
+            yield number, letter, self.last, data[:-1]
+            self.line = self.file.readline()
 
 
 def entry(letter, moment, data):
+    if letter in SILENT:
+        return b"%s %d\n" % (letter.encode(), moment)
     return b"%s %d %d\n%s\n" % (letter.encode(), moment, len(data), data)
 
 
 def mark(moment):
-    return b"M %d\n" % moment
+    return entry("M", moment, b"")
 
 
 def program():
@@ -272,9 +313,22 @@ def ask(*words, log=b""):
 
 
 def add_times(parser):
-    """The options for the times in a log's header."""
+    """The options for the header of a log."""
     for name, value, what in (("t1", 500, "T1"), ("t2", 4000, "T2"), ("t4", 5000, "T4"), ("tolerance", 50, "how much sooner or later timers may fire")):
         parser.add_argument("--" + name, type=int, default=value, metavar="MS", help="%s in milliseconds (%d)" % (what, value))
+    parser.add_argument("--early", type=int, metavar="MS", help="how much sooner alone, in place of the tolerance: 0 for a clock that is late and never early")
+    parser.add_argument("--late", type=int, metavar="MS", help="how much later alone")
+    parser.add_argument("--rules", type=int, choices=(3261, 6026), default=0, help="3261 for an element that was built by RFC 3261 without RFC 6026")
+    parser.add_argument("--restarts", action="store_true", help="lines MOMENT ADDRESS:PORT restart tell when the element was started anew. A log with restarts is "
+                        "of format 2, and so is one with --early or --late")
+
+
+def times_of(words):
+    """What these options say."""
+    early = words.tolerance if words.early is None else words.early
+    late = words.tolerance if words.late is None else words.late
+    is_2 = words.restarts or words.early is not None or words.late is not None
+    return Times(words.t1, words.t2, words.t4, early, late, words.rules, 2 if is_2 else 1)
 
 
 def ends_quietly_without_reader(run):

@@ -30,3 +30,14 @@ fn refused_while_a_call_is_cancelled(rt: HostRuntime) -> Result<(), Fail> {
 fn refused_while_a_client_registers(rt: HostRuntime) -> Result<(), Fail> {
     judge_rows(&rt, &[(STORED, "legal entries 4 transactions 1")])
 }
+
+#[test]
+fn refused_while_an_element_is_restarted(rt: HostRuntime) -> Result<(), Fail> {
+    judge_rows(
+        &rt,
+        &[(
+            "early 50 late 50 rules 3261: S 0 INVITE; R 0 INVITE; Z 200; R 300 INVITE; S 310 200",
+            "legal entries 5 transactions 2",
+        )],
+    )
+}

@@ -1,16 +1,22 @@
-//! Tests that cross the crates: whole logs, judged, and their verdicts as text.
+//! Tests that cross the crates: whole logs, judged at once and entry by entry, listed and shown.
 #![tactic(auto)]
 
+#[cfg(test)]
+mod formats;
 #[cfg(test)]
 mod growths;
 #[cfg(test)]
 mod hashers;
+#[cfg(test)]
+mod listings;
 #[cfg(test)]
 mod many;
 #[cfg(test)]
 mod proxy;
 #[cfg(test)]
 mod rows;
+#[cfg(test)]
+mod streams;
 #[cfg(test)]
 mod tests;
 #[cfg(test)]

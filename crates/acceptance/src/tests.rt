@@ -10,6 +10,9 @@ use worked_logs::{Row, STORED, header, log_of};
 /// Entries in the notation, text behind them, and the verdict.
 type Behind = (&'static str, &'static str, &'static str);
 
+/// Nothing but a header of format 2.
+const IN_FORMAT_2: &str = "early 50 late 50: ";
+
 /// Lines behind the header, and behind entries.
 const LINES: &[Behind] = &[
     (
@@ -32,6 +35,31 @@ const LINES: &[Behind] = &[
     ("", "M 0 \n", "log fault 1 21 EntryLine"),
     ("", "s 0 5\n", "log fault 1 21 EntryLine"),
     ("M 10", "M 9\n", "log fault 2 23 Order"),
+    // Restarts, which format 1 does not have.
+    ("", "Z 100\n", "log fault 1 21 EntryLine"),
+    (IN_FORMAT_2, "Z 100\n", "legal entries 1 transactions 0"),
+    (IN_FORMAT_2, "Z 100", "log fault 1 22 Truncated"),
+    (IN_FORMAT_2, "Z 0 5\nhello\n", "log fault 1 21 EntryLine"),
+    (IN_FORMAT_2, "Z 00\n", "log fault 1 21 EntryLine"),
+    (IN_FORMAT_2, "z 0\n", "log fault 1 21 EntryLine"),
+    (IN_FORMAT_2, "Z 10000000000000\n", "log fault 1 24 Limit"),
+    (IN_FORMAT_2, "M 100\nZ 99\n", "log fault 2 23 Order"),
+    (IN_FORMAT_2, "Z 100\nM 99\n", "log fault 2 23 Order"),
+    // One line of rules, right behind the header.
+    ("", "rules 3261\n", "legal entries 0 transactions 0"),
+    ("", "rules 6026\n", "legal entries 0 transactions 0"),
+    (
+        IN_FORMAT_2,
+        "rules 3261\n",
+        "legal entries 0 transactions 0",
+    ),
+    ("", "rules 9999\n", "log fault 1 21 EntryLine"),
+    ("", "rules 3261", "log fault 1 22 Truncated"),
+    ("", "rules 3261 \n", "log fault 1 21 EntryLine"),
+    ("", "rules  3261\n", "log fault 1 21 EntryLine"),
+    ("rules 3261: ", "rules 3261\n", "log fault 1 21 EntryLine"),
+    ("rules 3261: ", "M 10\n", "legal entries 1 transactions 0"),
+    ("M 10", "rules 3261\n", "log fault 2 21 EntryLine"),
     // The breach is before the entry that cannot be read.
     (
         "S 0,449 INVITE",
@@ -59,6 +87,15 @@ const HEADERS: &[&str] = &[
     "sip-trace 1\nt1  500 t2 4000 t4 5000 tolerance 50\n",
     "sip-trace 1\nt1 0500 t2 4000 t4 5000 tolerance 50\n",
     "sip-trace 1\nt1 500 t2 4000 t4 5000 tolerance 50",
+    // Each format has tolerances of its own.
+    "sip-trace 2\nt1 500 t2 4000 t4 5000 tolerance 50\n",
+    "sip-trace 1\nt1 500 t2 4000 t4 5000 early 50 late 50\n",
+    "sip-trace 3\nt1 500 t2 4000 t4 5000 early 50 late 50\n",
+    "sip-trace 2\nt1 500 t2 4000 t4 5000 early 10001 late 50\n",
+    "sip-trace 2\nt1 500 t2 4000 t4 5000 early 50 late 10001\n",
+    "sip-trace 2\nt1 500 t2 4000 t4 5000 late 50 early 50\n",
+    "sip-trace 2\nt1 500 t2 4000 t4 5000 early 50\n",
+    "sip-trace 2\nt1 500 t2 4000 t4 5000 early 50 late 50",
 ];
 
 #[test]
@@ -69,21 +106,26 @@ fn judges_headers(rt: HostRuntime) -> Result<(), Fail> {
     Ok(())
 }
 
-#[test]
-fn judges_any_pieces(rt: HostRuntime) -> Result<(), Fail> {
-    let log = log_of(rt.alloc(), STORED)?;
+/// A log of format 2 with a line of rules and a restart.
+const RESTARTED: &str = "early 50 late 50 rules 3261: R 0 INVITE; Z 100";
+
+/// Judges the bytes one by one, and in two pieces, wherever they are cut.
+fn judges_pieces(rt: &(impl Abort + AllocGlobal), notation: &str, want: &str) -> Result<(), Fail> {
+    let log = log_of(rt.alloc(), notation)?;
     let bytes = log.as_str().as_bytes();
     let text = verdict_of_single_bytes(rt.alloc(), bytes)?;
-    assert_eq!(rt; text.as_str(), "legal entries 4 transactions 1");
+    assert_eq!(rt; text.as_str(), want);
     for place in 1..bytes.len() {
         let text = verdict_cut_at(rt.alloc(), bytes, place)?;
-        assert_eq!(rt;
-            text.as_str(),
-            "legal entries 4 transactions 1",
-            "cut at {place}"
-        );
+        assert_eq!(rt; text.as_str(), want, "cut at {place}");
     }
     Ok(())
+}
+
+#[test]
+fn judges_any_pieces(rt: HostRuntime) -> Result<(), Fail> {
+    judges_pieces(&rt, STORED, "legal entries 4 transactions 1")?;
+    judges_pieces(&rt, RESTARTED, "legal entries 2 transactions 1")
 }
 
 /// The lengths of fronts of the stored run, from one to another, and the text of the verdict on each of them.
@@ -98,6 +140,18 @@ const FRONTS: &[(usize, usize, &str)] = &[
     (667, 667, "legal entries 3 transactions 1"),
     (668, 673, "log fault 4 22 Truncated"),
     (674, 674, "legal entries 4 transactions 1"),
+];
+
+/// The same of a log of format 2: the line of rules begins behind byte 52, the entry of the INVITE behind 63, and the restart behind 266.
+const FRONTS_IN_FORMAT_2: &[(usize, usize, &str)] = &[
+    (0, 51, "log fault 0 20 Header"),
+    (52, 52, "legal entries 0 transactions 0"),
+    (53, 62, "log fault 1 22 Truncated"),
+    (63, 63, "legal entries 0 transactions 0"),
+    (64, 265, "log fault 1 22 Truncated"),
+    (266, 266, "legal entries 1 transactions 1"),
+    (267, 271, "log fault 2 22 Truncated"),
+    (272, 272, "legal entries 2 transactions 1"),
 ];
 
 /// Judges the fronts of these lengths.
@@ -117,10 +171,12 @@ fn judges_fronts(
 
 #[test]
 fn judges_any_front(rt: HostRuntime) -> Result<(), Fail> {
-    let log = log_of(rt.alloc(), STORED)?;
-    let bytes = log.as_str().as_bytes();
-    for &(first, last, want) in FRONTS {
-        judges_fronts(&rt, bytes, (first, last), want)?;
+    for (notation, fronts) in [(STORED, FRONTS), (RESTARTED, FRONTS_IN_FORMAT_2)] {
+        let log = log_of(rt.alloc(), notation)?;
+        let bytes = log.as_str().as_bytes();
+        for &(first, last, want) in fronts {
+            judges_fronts(&rt, bytes, (first, last), want)?;
+        }
     }
     Ok(())
 }
@@ -136,6 +192,7 @@ const READ: &[Row] = &[
         "S 0 INVITE; R 50 180; S 100 CANCEL",
         "legal entries 3 transactions 2",
     ),
+    (RESTARTED, "legal entries 2 transactions 1"),
 ];
 
 /// The bytes come one by one, and the call behind so many fails, wherever that is.

@@ -4,6 +4,8 @@
 #[cfg(test)]
 mod devices;
 #[cfg(test)]
+mod formats;
+#[cfg(test)]
 mod retries;
 #[cfg(test)]
 mod tests;

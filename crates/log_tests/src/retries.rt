@@ -1,6 +1,6 @@
 //! Reads of std that fail, and what is tried again.
 
-use sip_log::{FromRead, Source};
+use sip_log::{FromRead, Source, read_entries};
 use std::io;
 use std::io::Read;
 
@@ -70,5 +70,42 @@ fn fills_buffers_of_every_length(rt: HostRuntime) {
             kind: io::ErrorKind::Other,
         });
         assert_eq!(rt; single.fill(&mut buf[..len]).ok(), Some(len.min(1)));
+    }
+}
+
+/// Tells its end once, and fails behind it.
+#[derive(Drop)]
+struct OnceEnded<'a> {
+    bytes: &'a [u8],
+    ended: bool,
+}
+
+impl<'a> Read for OnceEnded<'a> {
+    fn read(&mut self, buf: &mut [u8]) -> io::Result<usize> {
+        if self.ended {
+            return Err(io::Error::from(io::ErrorKind::TimedOut));
+        }
+        let count = self.bytes.len().min(buf.len());
+        self.ended = count == 0 && !buf.is_empty();
+        let (front, behind) = self.bytes.split_at(count);
+        buf[..count].copy_from_slice(front);
+        self.bytes = behind;
+        Ok(count)
+    }
+}
+
+/// A header alone is looked at twice for its end, once for a line of rules and once for an entry; its reader is asked once.
+#[test]
+fn a_reader_that_told_its_end_is_not_asked_again(rt: HostRuntime) {
+    for bytes in [
+        b"sip-trace 1\nt1 500 t2 4000 t4 5000 tolerance 50\n".as_slice(),
+        b"sip-trace 2\nt1 500 t2 4000 t4 5000 early 50 late 50\nM 0\n".as_slice(),
+    ] {
+        let reader = OnceEnded {
+            bytes,
+            ended: false,
+        };
+        let entries = read_entries(rt.alloc(), &mut FromRead::new(reader));
+        assert!(rt; entries.is_ok());
     }
 }

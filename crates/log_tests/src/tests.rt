@@ -4,17 +4,17 @@ use sip_log::{
     Broken, FromRead, LogError, LogReader, Progress, Sink, Source, ToWrite, WriteError,
     read_entries, write_entry, write_header,
 };
-use sip_times::{Action, Params};
+use sip_times::{Action, Params, Rules};
 use std::alloc::{AllocError, Global};
 use std::test::Fail;
 
-const HEADER: &[u8] = b"sip-trace 1\nt1 500 t2 4000 t4 5000 tolerance 50\n";
+pub(crate) const HEADER: &[u8] = b"sip-trace 1\nt1 500 t2 4000 t4 5000 tolerance 50\n";
 
 /// Calls enough to read any log of these tests to its end.
 const CALLS: usize = 64;
 
 /// Reads to the end: how many entries, and why no more. A further call tells it again.
-fn read<R: Source + Drop>(alloc: Global, source: R) -> Option<(u32, Option<LogError>)> {
+pub(crate) fn read<R: Source + Drop>(alloc: Global, source: R) -> Option<(u32, Option<LogError>)> {
     let mut reader = LogReader::new(alloc, source);
     let mut count = 0;
     for _ in 0..CALLS {
@@ -38,7 +38,7 @@ fn read<R: Source + Drop>(alloc: Global, source: R) -> Option<(u32, Option<LogEr
 }
 
 /// Reads bytes whole, in single bytes, and in two pieces cut at each place; None where the answers differ.
-fn read_cut(alloc: Global, bytes: &[u8]) -> Option<(u32, Option<LogError>)> {
+pub(crate) fn read_cut(alloc: Global, bytes: &[u8]) -> Option<(u32, Option<LogError>)> {
     let whole = read(alloc, FromRead::new(bytes))?;
     if read(alloc, Pieces::single(bytes)) != Some(whole) {
         return None;
@@ -52,10 +52,14 @@ fn read_cut(alloc: Global, bytes: &[u8]) -> Option<(u32, Option<LogError>)> {
 }
 
 /// A row: bytes, how many entries they have, and why no more.
-type Row = (&'static [u8], u32, Option<LogError>);
+pub(crate) type Row = (&'static [u8], u32, Option<LogError>);
 
 /// The first of the rows, each behind these bytes, that is read otherwise.
-fn first_other(alloc: Global, front: &[u8], rows: &[Row]) -> Result<Option<usize>, AllocError> {
+pub(crate) fn first_other(
+    alloc: Global,
+    front: &[u8],
+    rows: &[Row],
+) -> Result<Option<usize>, AllocError> {
     for (index, (row, count, error)) in rows.iter().enumerate() {
         let mut bytes = Vec::from_slice(alloc, front)?;
         bytes.extend_from_slice(row)?;
@@ -282,7 +286,9 @@ fn what_an_entry_tells(rt: HostRuntime) -> Result<(), Fail> {
     );
     assert!(rt; entry.bytes.as_slice() == message.as_slice());
     assert!(rt; matches!(reader.next(), Err(LogError::Truncated)));
-    assert_eq!(rt; reader.params().map(|params| params.tolerance()), Some(50));
+    let params = reader.params().ok_or("no times")?;
+    assert_eq!(rt; (params.early(), params.late()), (50, 50));
+    assert_eq!(rt; params.rules(), Rules::R6026);
     Ok(())
 }
 

@@ -37,8 +37,8 @@ fn readers_and_writers_look(rt: HostRuntime) -> Result<(), Fail> {
     let told = format!(in rt.alloc(); "{reader:?}")?;
     assert_eq!(rt;
         told.as_str(),
-        "LogReader { source: FromRead { reader: [115, 105], failure: None }, \
-         progress: Progress { alloc: Global, stage: Fresh, params: None, count: 0, last: 0 } }"
+        "LogReader { source: FromRead { reader: [115, 105], failure: None, ended: false }, \
+         progress: Progress { alloc: Global, stage: Fresh, format: One, params: None, count: 0, last: 0 } }"
     );
     let mut reader = LogReader::new(rt.alloc(), bytes);
     let entry = reader.next().ok().flatten().ok_or("no entry")?;
@@ -51,8 +51,8 @@ fn readers_and_writers_look(rt: HostRuntime) -> Result<(), Fail> {
     assert_eq!(rt;
         told.as_str(),
         "LogReader { source: [], progress: Progress { alloc: Global, \
-         stage: Entries(Window { start: 43, end: 44, .. }), \
-         params: Some(Params { t1: 1, t2: 2, t4: 3, tolerance: 4 }), count: 1, last: 5 } }"
+         stage: Entries(Window { start: 43, end: 44, .. }), format: One, \
+         params: Some(Params { t1: 1, t2: 2, t4: 3, early: 4, late: 4, rules: R6026 }), count: 1, last: 5 } }"
     );
     let writer = ToWrite::new(Vec::<u8>::new(rt.alloc()));
     let told = format!(in rt.alloc(); "{writer:?}")?;

@@ -1,21 +1,16 @@
 //! The INVITE client, with moments worked out by hand for T1 500 and a tolerance of 50.
 ghost use Rattle.std.specs.Prelude.{All, IfOk};
-ghost use Rattle.sip_machine.specs.MachineEvent.{FitsBook};
-ghost use Rattle.sip_machine.specs.Rules.{Knows};
-ghost use Rattle.sip_machine.specs.Owing.{owing_names, OwingInRange};
-ghost use Rattle.sip_machine.specs.InviteClient.{invite_client_names, InviteClientInRange};
+ghost use Rattle.sip_machine.specs.Owing.{OwingInRange};
+ghost use Rattle.sip_machine.specs.InviteClient.{InviteClientInRange};
 
-use crate::messages::{Numbered, Start, book_of, event_of};
+use crate::messages::{Numbered, Start, book_of};
+use crate::runs::{Entry, run};
 use sip_machine::{
-    Action, Book, Debt, Event, InviteClient, InviteClientPhase, InviteClientState, Machine, Params,
-    Run,
+    Action, Debt, InviteClient, InviteClientPhase, InviteClientState, Machine, Params, Run,
 };
 use std::alloc::Global;
 use std::process::Abort;
 use std::test::Fail;
-
-/// An entry: its moment, what was done, and the number of its message.
-type Entry = (u64, Action, u32);
 
 const INVITE: u32 = 1;
 
@@ -122,44 +117,6 @@ fn states_after(
 {
     let book = book_of(alloc, &MESSAGES, "INVITE", transport)?;
     run(alloc, client, &book, entries)
-}
-
-fn run(
-    alloc: Global,
-    client: &InviteClient,
-    book: &Book,
-    entries: &[Entry],
-) -> Result<Vec<InviteClientState>, Fail>
-    ensures { IfOk result (λ states. All (OwingInRange InviteClientInRange) states.items) }
-{
-    let mut states = Vec::new(alloc);
-    states.push(client.first())?;
-    for &(moment, action, number) in entries {
-        let event = event_of(alloc, book, moment, action, number)?;
-        states = step(alloc, client, book, &states, &event)?;
-    }
-    Ok(states)
-}
-
-/// The states that the event gives.
-fn step(
-    alloc: Global,
-    client: &InviteClient,
-    book: &Book,
-    states: &[InviteClientState],
-    event: &Event,
-) -> Result<Vec<InviteClientState>, Fail>
-    requires fits { FitsBook book.now event.now }
-    requires known { All (Knows (owing_names invite_client_names) book.now) states.now }
-    requires in_range { All (OwingInRange InviteClientInRange) states.now }
-    ensures known { IfOk result (λ next. All (Knows (owing_names invite_client_names) book.now) next.items) }
-    ensures in_range { IfOk result (λ next. All (OwingInRange InviteClientInRange) next.items) }
-{
-    let mut next = Vec::new(alloc);
-    for state in states {
-        client.successors(book, state, event, &mut next)?;
-    }
-    Ok(next)
 }
 
 /// Entries, and where they lead.

@@ -1,21 +1,16 @@
 //! The INVITE server, with moments worked out by hand for T1 500, T2 4000, T4 5000 and a tolerance of 50.
 ghost use Rattle.std.specs.Prelude.{All, IfOk};
-ghost use Rattle.sip_machine.specs.MachineEvent.{FitsBook};
-ghost use Rattle.sip_machine.specs.Rules.{Knows};
-ghost use Rattle.sip_machine.specs.Owing.{owing_names, OwingInRange};
-ghost use Rattle.sip_machine.specs.InviteServer.{invite_server_names, InviteServerInRange};
+ghost use Rattle.sip_machine.specs.Owing.{OwingInRange};
+ghost use Rattle.sip_machine.specs.InviteServer.{InviteServerInRange};
 
-use crate::messages::{Numbered, Start, book_of, event_of};
+use crate::messages::{Numbered, Start, book_of};
+use crate::runs::{Entry, run};
 use sip_machine::{
-    Action, Book, Debt, Event, InviteServer, InviteServerPhase, InviteServerState, Machine, Owes,
-    Owing, Params, Run,
+    Action, InviteServer, InviteServerPhase, InviteServerState, Machine, Owes, Owing, Params, Run,
 };
 use std::alloc::Global;
 use std::process::Abort;
 use std::test::Fail;
-
-/// An entry: its moment, what was done, and the number of its message.
-type Entry = (u64, Action, u32);
 
 const INVITE: u32 = 1;
 
@@ -132,44 +127,6 @@ fn states_after(alloc: Global, entries: &[Entry]) -> Result<Vec<InviteServerStat
 {
     let book = book_of(alloc, &MESSAGES, "INVITE", "UDP")?;
     run(alloc, &server()?, &book, entries)
-}
-
-fn run(
-    alloc: Global,
-    server: &InviteServer,
-    book: &Book,
-    entries: &[Entry],
-) -> Result<Vec<InviteServerState>, Fail>
-    ensures { IfOk result (λ states. All (OwingInRange InviteServerInRange) states.items) }
-{
-    let mut states = Vec::new(alloc);
-    states.push(server.first())?;
-    for &(moment, action, number) in entries {
-        let event = event_of(alloc, book, moment, action, number)?;
-        states = step(alloc, server, book, &states, &event)?;
-    }
-    Ok(states)
-}
-
-/// The states that the event gives.
-fn step(
-    alloc: Global,
-    server: &InviteServer,
-    book: &Book,
-    states: &[InviteServerState],
-    event: &Event,
-) -> Result<Vec<InviteServerState>, Fail>
-    requires fits { FitsBook book.now event.now }
-    requires known { All (Knows (owing_names invite_server_names) book.now) states.now }
-    requires in_range { All (OwingInRange InviteServerInRange) states.now }
-    ensures known { IfOk result (λ next. All (Knows (owing_names invite_server_names) book.now) next.items) }
-    ensures in_range { IfOk result (λ next. All (OwingInRange InviteServerInRange) next.items) }
-{
-    let mut next = Vec::new(alloc);
-    for state in states {
-        server.successors(book, state, event, &mut next)?;
-    }
-    Ok(next)
 }
 
 /// Where the entries lead.

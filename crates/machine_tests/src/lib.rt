@@ -16,4 +16,8 @@ mod plain_client;
 #[cfg(test)]
 mod plain_server;
 #[cfg(test)]
+mod rules_3261;
+#[cfg(test)]
+mod runs;
+#[cfg(test)]
 mod tests;

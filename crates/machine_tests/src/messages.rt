@@ -73,7 +73,7 @@ pub(crate) fn book_of(
     Ok(book)
 }
 
-/// The event of a kept message.
+/// The event of a kept message, or a restart, which has none.
 pub(crate) fn event_of(
     alloc: Global,
     book: &Book,
@@ -83,14 +83,17 @@ pub(crate) fn event_of(
 ) -> Result<Event, Fail>
     ensures { IfOk result (λ event. FitsBook book.now event) }
 {
+    if moment > 9_999_999_999_999 || action == Action::Mark {
+        return Err("not an entry".into());
+    }
+    if action == Action::Restart {
+        return Ok(Event::restart(moment));
+    }
     let Some(bytes) = book.bytes(number) else {
         return Err("not kept".into());
     };
     let Ok(message) = Message::read(alloc, bytes) else {
         return Err("not a message".into());
     };
-    if moment > 9_999_999_999_999 || action == Action::Mark {
-        return Err("not an entry".into());
-    }
     Ok(Event::of(moment, action, number, &message))
 }

@@ -1,21 +1,15 @@
 //! The non-INVITE client, with moments worked out by hand for T1 500, T2 4000, T4 5000 and a tolerance of 50.
-ghost use Rattle.std.specs.Prelude.{◌≡◌, false, All, IfOk};
-ghost use Rattle.sip_machine.specs.MachineEvent.{FitsBook};
-ghost use Rattle.sip_machine.specs.Rules.{Knows};
-ghost use Rattle.sip_machine.specs.Owing.{owing_names, OwingInRange};
-ghost use Rattle.sip_machine.specs.PlainClient.{plain_client_names, PlainClientInRange};
+ghost use Rattle.std.specs.Prelude.{◌≡◌, false};
+ghost use Rattle.sip_machine.specs.PlainClient.{PlainClientInRange};
 
-use crate::messages::{Numbered, Start, book_of, event_of};
+use crate::messages::{Numbered, Start, book_of};
+use crate::runs::{Entry, run};
 use sip_machine::{
-    Action, Book, Event, Machine, Owes, Owing, Params, PlainClient, PlainClientPhase,
-    PlainClientState, Waiting,
+    Action, Machine, Owes, Owing, Params, PlainClient, PlainClientPhase, PlainClientState, Waiting,
 };
 use std::alloc::Global;
 use std::process::Abort;
 use std::test::Fail;
-
-/// An entry: its moment, what was done, and the number of its message.
-type Entry = (u64, Action, u32);
 
 const REQUEST: u32 = 1;
 
@@ -57,43 +51,6 @@ fn phase_after(alloc: Global, entries: &[Entry]) -> Result<Option<PlainClientPha
         [only] => Ok(Some(only.phase)),
         _ => Ok(None),
     }
-}
-
-/// The states after the entries, of all steps.
-fn run(
-    alloc: Global,
-    client: &PlainClient,
-    book: &Book,
-    entries: &[Entry],
-) -> Result<Vec<PlainClientState>, Fail> {
-    let mut states = Vec::new(alloc);
-    states.push(client.first())?;
-    for &(moment, action, number) in entries {
-        let event = event_of(alloc, book, moment, action, number)?;
-        states = step(alloc, client, book, &states, &event)?;
-    }
-    Ok(states)
-}
-
-/// The states that the event gives.
-fn step(
-    alloc: Global,
-    client: &PlainClient,
-    book: &Book,
-    states: &[PlainClientState],
-    event: &Event,
-) -> Result<Vec<PlainClientState>, Fail>
-    requires fits { FitsBook book.now event.now }
-    requires known { All (Knows (owing_names plain_client_names) book.now) states.now }
-    requires in_range { All (OwingInRange PlainClientInRange) states.now }
-    ensures known { IfOk result (λ next. All (Knows (owing_names plain_client_names) book.now) next.items) }
-    ensures in_range { IfOk result (λ next. All (OwingInRange PlainClientInRange) next.items) }
-{
-    let mut next = Vec::new(alloc);
-    for state in states {
-        client.successors(book, state, event, &mut next)?;
-    }
-    Ok(next)
 }
 
 /// A state that is wanted, of the request of moment 0 over an unreliable transport.

@@ -1,21 +1,17 @@
 //! The non-INVITE server, with moments worked out by hand for T1 500 and a tolerance of 50.
 ghost use Rattle.std.specs.Prelude.{All, IfOk};
-ghost use Rattle.sip_machine.specs.MachineEvent.{FitsBook};
-ghost use Rattle.sip_machine.specs.Rules.{Knows};
-ghost use Rattle.sip_machine.specs.Owing.{owing_names, OwingInRange};
-ghost use Rattle.sip_machine.specs.PlainServer.{plain_server_names, PlainServerInRange};
+ghost use Rattle.sip_machine.specs.Owing.{OwingInRange};
+ghost use Rattle.sip_machine.specs.PlainServer.{PlainServerInRange};
 
-use crate::messages::{Numbered, Start, book_of, event_of};
+use crate::messages::{Numbered, Start, book_of};
+use crate::runs::{Entry, run};
 use sip_machine::{
-    Action, Book, Debt, Event, Machine, Owes, Owing, Params, PlainServer, PlainServerPhase,
-    PlainServerState, Run,
+    Action, Debt, Machine, Owes, Owing, Params, PlainServer, PlainServerPhase, PlainServerState,
+    Run,
 };
 use std::alloc::Global;
 use std::process::Abort;
 use std::test::Fail;
-
-/// An entry: its moment, what was done, and the number of its message.
-type Entry = (u64, Action, u32);
 
 const REQUEST: u32 = 1;
 
@@ -105,44 +101,6 @@ fn states_after(alloc: Global, entries: &[Entry]) -> Result<Vec<PlainServerState
 {
     let book = book_of(alloc, &MESSAGES, "OPTIONS", "UDP")?;
     run(alloc, &server()?, &book, entries)
-}
-
-fn run(
-    alloc: Global,
-    server: &PlainServer,
-    book: &Book,
-    entries: &[Entry],
-) -> Result<Vec<PlainServerState>, Fail>
-    ensures { IfOk result (λ states. All (OwingInRange PlainServerInRange) states.items) }
-{
-    let mut states = Vec::new(alloc);
-    states.push(server.first())?;
-    for &(moment, action, number) in entries {
-        let event = event_of(alloc, book, moment, action, number)?;
-        states = step(alloc, server, book, &states, &event)?;
-    }
-    Ok(states)
-}
-
-/// The states that the event gives.
-fn step(
-    alloc: Global,
-    server: &PlainServer,
-    book: &Book,
-    states: &[PlainServerState],
-    event: &Event,
-) -> Result<Vec<PlainServerState>, Fail>
-    requires fits { FitsBook book.now event.now }
-    requires known { All (Knows (owing_names plain_server_names) book.now) states.now }
-    requires in_range { All (OwingInRange PlainServerInRange) states.now }
-    ensures known { IfOk result (λ next. All (Knows (owing_names plain_server_names) book.now) next.items) }
-    ensures in_range { IfOk result (λ next. All (OwingInRange PlainServerInRange) next.items) }
-{
-    let mut next = Vec::new(alloc);
-    for state in states {
-        server.successors(book, state, event, &mut next)?;
-    }
-    Ok(next)
 }
 
 /// Where the entries lead.

@@ -24,7 +24,8 @@ fn limits(rt: HostRuntime) -> Result<(), Fail> {
     }
     let params = Params::new(10_000, 60_000, 60_000, 10_000).ok_or("refused")?;
     assert!(rt; params.t1() == 10_000 && params.t2() == 60_000);
-    assert!(rt; params.t4() == 60_000 && params.tolerance() == 10_000);
+    assert!(rt; params.t4() == 60_000);
+    assert!(rt; params.early() == 10_000 && params.late() == 10_000);
     assert!(rt; Params::new(1, 1, 1, 0).is_some());
     Ok(())
 }

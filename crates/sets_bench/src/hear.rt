@@ -15,7 +15,7 @@ pub type What = (Action, u32);
 pub fn event_of(alloc: Global, book: &Book, what: What) -> io::Result<Event> {
     let (action, number) = what;
     let bytes = book.bytes(number).ok_or(io::ErrorKind::NotFound)?;
-    if action == Action::Mark {
+    if matches!(action, Action::Mark | Action::Restart) {
         return Err(io::ErrorKind::InvalidInput.into());
     }
     match Message::read(alloc, bytes) {

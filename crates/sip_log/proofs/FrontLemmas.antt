@@ -4,6 +4,7 @@ use Rattle.std.proofs.lemmas.List.{get_or-take, length-take, length-append}
 use Rattle.std.proofs.Math.ListN.{get_or-append}
 use Rattle.std.proofs.Math.Seq.{get_or-append_seam}
 use Rattle.memchr.specs.Find.{IsFirstByte, is_byte}
+use Rattle.sip_log.specs.declared.format.Format.{Format}
 use Rattle.sip_log.specs.LogFault as faults
 use Rattle.sip_log.specs.Spelling.{line_feed, Item}
 use Rattle.sip_log.specs.inner.Line.{longest_line, Head, HeadLine}
@@ -51,32 +52,32 @@ module _ (held ys : List ℕ) where
       → (line behind : List ℕ) → ¬ (FrontLine (held ++ ys) line behind)
   FrontLine-none none enough line behind is = line-none longest_line held ys none enough line behind is.whole is.short
 
-module _ (last : ℕ) (held ys : List ℕ) where
+module _ (format : Format) (last : ℕ) (held ys : List ℕ) where
   -- fewer bytes are left, none of them a line feed
   pub AtLine-truncated : IsFirstByte (is_byte line_feed) (take longest_line held) None → length held < longest_line → ys ≡ []
-      → LineComes last (held ++ ys) (stops faults.Truncated)
+      → LineComes format last (held ++ ys) (stops faults.Truncated)
   AtLine-truncated none few end =
       inl (FrontLine-none held ys none (inr end), inl ((λ enough. omega (arith, ap length end, length-append held ys, enough)), refl))
 
   -- no line feed among the first 32 bytes
   pub AtLine-long : IsFirstByte (is_byte line_feed) (take longest_line held) None → longest_line ≤ length held
-      → LineComes last (held ++ ys) (stops faults.EntryLine)
+      → LineComes format last (held ++ ys) (stops faults.EntryLine)
   AtLine-long none many =
       inl (FrontLine-none held ys none (inl many), inr (omega (arith, length-append held ys), refl))
 
   module _ (k : ℕ) (short : k < longest_line) (found : IsFirstByte (is_byte line_feed) (take longest_line held) (Some k)) where
     -- a line that is not of the form
-    pub AtLine-other : ((head : Head) → ¬ (HeadLine (take k held) head)) → LineComes last (held ++ ys) (stops faults.EntryLine)
+    pub AtLine-other : ((head : Head) → ¬ (HeadLine format (take k held) head)) → LineComes format last (held ++ ys) (stops faults.EntryLine)
     AtLine-other other = inr (take k held, drop (k + 1) held ++ ys, FrontLine-held held ys k short found, inl (other, refl))
 
     -- a line, and what comes behind it
-    pub AtLine-head : (head : Head) (next : Next Item) → HeadLine (take k held) head → HeadComes last head (drop (k + 1) held ++ ys) next
-        → LineComes last (held ++ ys) next
+    pub AtLine-head : (head : Head) (next : Next Item) → HeadLine format (take k held) head → HeadComes last head (drop (k + 1) held ++ ys) next
+        → LineComes format last (held ++ ys) next
     AtLine-head head next is behind =
         inr (take k held, drop (k + 1) held ++ ys, FrontLine-held held ys k short found, inr (head, is, behind))
 
 -- an entry, where bytes are left and the most entries are not reached
-pub ComesNext-entry : (count last : ℕ) (held ys : List ℕ) (next : Next Item) → 1 ≤ length held → count < most_entries → LineComes last (held ++ ys) next
-    → EntryComes count last (held ++ ys) next
-ComesNext-entry count last held ys next some few at =
+pub ComesNext-entry : (format : Format) (count last : ℕ) (held ys : List ℕ) (next : Next Item) → 1 ≤ length held → count < most_entries → LineComes format last (held ++ ys) next
+    → EntryComes format count last (held ++ ys) next
+ComesNext-entry format count last held ys next some few at =
     inr ((λ none. omega (arith, ap length none, length-append held ys, some)), inr (few, at))

@@ -4,25 +4,30 @@ use Rattle.std.specs.Prelude.{codes}
 use Rattle.std.specs.Char.{digit_value}
 use Rattle.std.specs.Str.Parse.{AllDigits, digits_value}
 use Rattle.std.proofs.lemmas.Bool.{cases_eq, cases_lt}
-use Rattle.std.proofs.lemmas.List.{append-nil, append_cancel_left, length-append, length-take-le}
-use Rattle.sip_times.specs.Times.{Times, AreTimes, last_moment}
+use Rattle.std.proofs.lemmas.List.{append-nil, length-append, length-take-le}
+use Rattle.sip_times.specs.Times.{Times, AreTimes, under, last_moment}
+use Rattle.sip_times.specs.declared.rules.Rules.{Rules}
+use Rattle.sip_times.specs.declared.rules.Rules.TheVariants.{R3261, R6026}
 use Rattle.sip_times.specs.declared.action.Action.{Action}
-use Rattle.sip_times.specs.declared.action.Action.TheVariants.{Sent, Received, Failed, Mark}
+use Rattle.sip_times.specs.declared.action.Action.TheVariants.{Sent, Received, Failed, Mark, Restart}
+use Rattle.sip_log.specs.declared.format.Format.{Format}
+use Rattle.sip_log.specs.declared.format.Format.TheVariants.{One, Two}
 use Rattle.sip_log.specs.LogFault.{LogFault}
+use Rattle.sip_log.specs.LogFault as faults
 use Rattle.sip_log.specs.inner.Number.{IsNumber, digit_zero}
-use Rattle.sip_log.specs.Spelling.{line_feed, space, letter, Item}
-use Rattle.sip_log.specs.inner.Line.{longest_line, Numbers, Head, message, mark, HeadLine, KeepsLimits, moment_of}
-use Rattle.sip_log.specs.Log.{FrontLine, most_entries, LogEnd, Clean, Stops}
+use Rattle.sip_log.specs.Spelling.{line_feed, space, letter, Item, rules_text, RulesLine, Header}
+use Rattle.sip_log.specs.inner.Line.{longest_line, Numbers, Head, message, plain, HeadLine, KeepsLimits, moment_of}
+use Rattle.sip_log.specs.Log.{IsOf, FrontLine, most_entries, LogEnd, Clean, Stops, NoHeader}
 use Rattle.sip_log.specs.Next.{Next, ends, gives, stops}
 use Rattle.sip_log.specs.inner.Unless.{Unless}
-use Rattle.sip_log.specs.inner.Header.{TimesLine, TimesFront, Header, NoFront, NumberAfter, Parted}
+use Rattle.sip_log.specs.inner.Header.{Parted, NumberAfter, Tolerances, TimesLine, TimesFront, title_text, HeaderComes, ComesSecond}
 use Rattle.sip_log.specs.inner.Entry.{MessageComes, BodyComes, LineComes, EntryComes}
 use Rattle.sip_log.specs.inner.Follow.{Follow}
-use Rattle.sip_log.specs.LogFault as faults
 use Rattle.sip_log.proofs.SplitLemmas.{Lacks, Lacks-cons, Lacks-cut, Cut, cut-one, cut-at}
-use Rattle.sip_log.proofs.LineLemmas.{Numbers-parts, Numbers-of}
-use Rattle.sip_log.proofs.LogLaws.{TimesLine-one}
-use Rattle.sip_log.proofs.HeaderLemmas.{TimesParts, TimesLine-parts, TimesLine-of, TimesLine-lacks, NumberAfter-part, NumberAfter-of, t2-after, t4-after, tolerance-after, none-after, title}
+use Rattle.sip_log.proofs.LineLemmas.{Numbers-parts, Numbers-of, HeadLine-unlettered, HeadLine-no_numbers, HeadLine-no_number}
+use Rattle.sip_log.proofs.LogLaws.{ComesFirst-one}
+use Rattle.sip_log.proofs.SpellingLemmas.{message-or-not, header-spelled, header-read}
+use Rattle.sip_log.proofs.HeaderLemmas.{NumberAfter-one, NumberAfter-part, NumberAfter-of, TimesLine-lacks, TimesLine-one, t2-after, t4-after, tolerances-after}
 
 -- it holds or not
 abbrev pub Settled : Type 0 → Type 0
@@ -95,66 +100,85 @@ numbers-or-not text = elim (cut-or-lacks space text) [
   ]
 ]
 
+-- a restart is of format 2 alone
+one-has-none : IsOf One Restart → ⊥
+one-has-none of = absurd (other (of refl))
+  where
+    other : One ≢ Two
+    other same = cc
+
 -- the action of a letter
-action-or-not : (b : ℕ) → ((a : Action) × (a ≢ Mark) × (b ≡ letter a)) ⊎ ((a : Action) → a ≢ Mark → b ≢ letter a)
-action-or-not b = elim (cases_eq b (letter Sent)) [
+abbrev ActionOrNot : Format → ℕ → Type 0
+ActionOrNot format b = ((a : Action) × IsOf format a × (b ≡ letter a)) ⊎ ((a : Action) → IsOf format a → b ≢ letter a)
+
+restart-or-not : (format : Format) (b : ℕ) → b ≢ letter Sent → b ≢ letter Received → b ≢ letter Failed → b ≢ letter Mark → b ≡ letter Restart → ActionOrNot format b
+restart-or-not One b sent received failed mark is =
+    inr (λ a. elim a as (λ a. IsOf One a → b ≢ letter a) [
+      | Sent ↦ λ of. sent
+      | Received ↦ λ of. received
+      | Failed ↦ λ of. failed
+      | Mark ↦ λ of. mark
+      | Restart ↦ λ of. absurd (one-has-none of)
+    ])
+restart-or-not Two b sent received failed mark is = inl (Restart, (λ same. refl), is)
+
+action-or-not : (format : Format) (b : ℕ) → ActionOrNot format b
+action-or-not format b = elim (cases_eq b (letter Sent)) [
   | inl is ↦ inl (Sent, (λ same. cc), is)
   | inr sent ↦ elim (cases_eq b (letter Received)) [
     | inl is ↦ inl (Received, (λ same. cc), is)
     | inr received ↦ elim (cases_eq b (letter Failed)) [
       | inl is ↦ inl (Failed, (λ same. cc), is)
-      | inr failed ↦ inr (λ a. elim a as (λ a. a ≢ Mark → b ≢ letter a) [ Sent ↦ λ other. sent | Received ↦ λ other. received | Failed ↦ λ other. failed | Mark ↦ λ other. absurd (other refl) ])
+      | inr failed ↦ elim (cases_eq b (letter Mark)) [
+        | inl is ↦ inl (Mark, (λ same. cc), is)
+        | inr mark ↦ elim (cases_eq b (letter Restart)) [
+          | inl is ↦ restart-or-not format b sent received failed mark is
+          | inr restart ↦ inr (λ a. elim a as (λ a. IsOf format a → b ≢ letter a) [
+            | Sent ↦ λ of. sent
+            | Received ↦ λ of. received
+            | Failed ↦ λ of. failed
+            | Mark ↦ λ of. mark
+            | Restart ↦ λ of. restart
+          ])
+        ]
+      ]
     ]
   ]
 ]
 
-abbrev HeadOrNot : List ℕ → Type 0
-HeadOrNot line = ((h : Head) × HeadLine line h) ⊎ ((h : Head) → ¬ (HeadLine line h))
+abbrev HeadOrNot : Format → List ℕ → Type 0
+HeadOrNot format line = ((h : Head) × HeadLine format line h) ⊎ ((h : Head) → ¬ (HeadLine format line h))
 
 -- a line without a blank behind its letter
-no-head : (line : List ℕ) → ((b : ℕ) (text : List ℕ) → line ≢ b ∷ space ∷ text) → (h : Head) → ¬ (HeadLine line h)
-no-head line other (message action moment len) is = other (letter action) is.0 is.3
-no-head line other (mark moment) is = other (letter Mark) is.0 is.2
+no-head : (format : Format) (line : List ℕ) → ((b : ℕ) (text : List ℕ) → line ≢ b ∷ space ∷ text) → (h : Head) → ¬ (HeadLine format line h)
+no-head format line other (message action moment len) is = other (letter action) is.0 is.3
+no-head format line other (plain action moment) is = other (letter action) is.0 is.4
 
-mark-line : (text : List ℕ) → HeadOrNot (letter Mark ∷ space ∷ text)
-mark-line text = elim (number-or-not text) as (λ _. HeadOrNot (letter Mark ∷ space ∷ text)) [
-  | inl is ↦ inl (mark is.0, (text, is.1, refl))
-  | inr none ↦ inr (λ h. elim h as (λ h. ¬ (HeadLine (letter Mark ∷ space ∷ text) h)) [
-    | message action moment len ↦ λ is. is.1 (letter-mark action (ap (λ (t : List ℕ). get_or t 0 0) is.3))
-    | mark moment ↦ λ is. none moment (subst (λ t. IsNumber t moment) (ap (drop 2) (sym is.2)) is.1)
-  ])
-]
-  where
-    letter-mark : (a : Action) → letter Mark ≡ letter a → a ≡ Mark
-    letter-mark Sent same = absurd (omega arith)
-    letter-mark Received same = absurd (omega arith)
-    letter-mark Failed same = absurd (omega arith)
-    letter-mark Mark same = refl
-
-message-line : (b : ℕ) (text : List ℕ) → b ≢ letter Mark → HeadOrNot (b ∷ space ∷ text)
-message-line b text other = elim (action-or-not b) as (λ _. HeadOrNot (b ∷ space ∷ text)) [
-  | inr none ↦ inr (λ h. elim h as (λ h. ¬ (HeadLine (b ∷ space ∷ text) h)) [
-    | message action moment len ↦ λ is. none action is.1 (ap (λ (t : List ℕ). get_or t 0 0) is.3)
-    | mark moment ↦ λ is. other (ap (λ (t : List ℕ). get_or t 0 0) is.2)
-  ])
-  | inl by ↦ elim (numbers-or-not text) as (λ _. HeadOrNot (b ∷ space ∷ text)) [
-    | inl is ↦ inl (message by.0 is.0 is.1, (text, by.1, is.2, ap (λ c. c ∷ space ∷ text) by.2))
-    | inr none ↦ inr (λ h. elim h as (λ h. ¬ (HeadLine (b ∷ space ∷ text) h)) [
-      | message action moment len ↦ λ is. none moment len (subst (λ t. Numbers t moment len) (ap (drop 2) (sym is.3)) is.2)
-      | mark moment ↦ λ is. other (ap (λ (t : List ℕ). get_or t 0 0) is.2)
-    ])
+-- a line with the letter of its format
+lettered-or-not : (format : Format) (action : Action) (text : List ℕ) → IsOf format action → HeadOrNot format (letter action ∷ space ∷ text)
+lettered-or-not format action text of = elim (message-or-not action) as (λ _. HeadOrNot format (letter action ∷ space ∷ text)) [
+  | inl has ↦ elim (numbers-or-not text) as (λ _. HeadOrNot format (letter action ∷ space ∷ text)) [
+    | inl is ↦ inl (message action is.0 is.1, (text, has, is.2, refl))
+    | inr none ↦ inr (HeadLine-no_numbers format (letter action ∷ space ∷ text) action has refl none)
+  ]
+  | inr lacks ↦ elim (number-or-not text) as (λ _. HeadOrNot format (letter action ∷ space ∷ text)) [
+    | inl is ↦ inl (plain action is.0, (text, lacks, of, is.1, refl))
+    | inr none ↦ inr (HeadLine-no_number format (letter action ∷ space ∷ text) action lacks refl none)
   ]
 ]
 
-head-or-not : (line : List ℕ) → HeadOrNot line
-head-or-not [] = inr (no-head [] (λ b text same. cc))
-head-or-not (b ∷ []) = inr (no-head (b ∷ []) (λ c text same. cc))
-head-or-not (b ∷ s ∷ text) = elim (cases_eq s space) as (λ _. HeadOrNot (b ∷ s ∷ text)) [
-  | inr other ↦ inr (no-head (b ∷ s ∷ text) (λ c t same. other (ap (λ (t : List ℕ). get_or t 1 0) same)))
-  | inl blank ↦ subst (λ s. HeadOrNot (b ∷ s ∷ text)) (sym blank) (elim (cases_eq b (letter Mark)) as (λ _. HeadOrNot (b ∷ space ∷ text)) [
-    | inl is ↦ subst (λ b. HeadOrNot (b ∷ space ∷ text)) (sym is) (mark-line text)
-    | inr other ↦ message-line b text other
-  ])
+letter-or-not : (format : Format) (b : ℕ) (text : List ℕ) → HeadOrNot format (b ∷ space ∷ text)
+letter-or-not format b text = elim (action-or-not format b) as (λ _. HeadOrNot format (b ∷ space ∷ text)) [
+  | inr none ↦ inr (HeadLine-unlettered format (b ∷ space ∷ text) none)
+  | inl by ↦ subst (λ c. HeadOrNot format (c ∷ space ∷ text)) (sym by.2) (lettered-or-not format by.0 text by.1)
+]
+
+head-or-not : (format : Format) (line : List ℕ) → HeadOrNot format line
+head-or-not format [] = inr (no-head format [] (λ b text same. cc))
+head-or-not format (b ∷ []) = inr (no-head format (b ∷ []) (λ c text same. cc))
+head-or-not format (b ∷ s ∷ text) = elim (cases_eq s space) as (λ _. HeadOrNot format (b ∷ s ∷ text)) [
+  | inr other ↦ inr (no-head format (b ∷ s ∷ text) (λ c t same. other (ap (λ (t : List ℕ). get_or t 1 0) same)))
+  | inl blank ↦ subst (λ s. HeadOrNot format (b ∷ s ∷ text)) (sym blank) (letter-or-not format b text)
 ]
 
 front-or-not : (rest : List ℕ) → ((line : List ℕ) × (behind : List ℕ) × FrontLine rest line behind) ⊎ ((line behind : List ℕ) → ¬ (FrontLine rest line behind))
@@ -191,21 +215,21 @@ message-some action moment len behind = Unless-some (len < length behind) faults
 
 body-some : (head : Head) (behind : List ℕ) → Comes (BodyComes head behind)
 body-some (message action moment len) behind = message-some action moment len behind
-body-some (mark moment) behind = (gives (record { action = Mark; moment = moment; text = [] }) behind, refl)
+body-some (plain action moment) behind = (gives (record { action = action; moment = moment; text = [] }) behind, refl)
 
 pub limits-or-not : (head : Head) → Settled (KeepsLimits head)
 limits-or-not (message action moment len) = elim (both _ _ (at_most moment last_moment) (within 1 len 65535)) as (λ _. Settled (KeepsLimits (message action moment len))) [
   | inl is ↦ inl (is.0, is.1.0, is.1.1)
   | inr other ↦ inr (λ is. other (is.0, (is.1, is.2)))
 ]
-limits-or-not (mark moment) = at_most moment last_moment
+limits-or-not (plain action moment) = at_most moment last_moment
 
-line-some : (last : ℕ) (rest : List ℕ) → Comes (LineComes last rest)
-line-some last rest = elim (front-or-not rest) [
+line-some : (format : Format) (last : ℕ) (rest : List ℕ) → Comes (LineComes format last rest)
+line-some format last rest = elim (front-or-not rest) [
   | inr none ↦
       let next = Unless-some (longest_line ≤ length rest) faults.Truncated (λ next. next ≡ stops faults.EntryLine) (at_most longest_line (length rest)) (λ long. (stops faults.EntryLine, refl)) in
       (next.0, inl (none, next.1))
-  | inl front ↦ elim (head-or-not front.0) [
+  | inl front ↦ elim (head-or-not format front.0) [
     | inr none ↦ (stops faults.EntryLine, inr (front.0, front.1, front.2, inl (none, refl)))
     | inl head ↦
         let next = Unless-some (KeepsLimits head.0) faults.Limit _ (limits-or-not head.0)
@@ -214,10 +238,10 @@ line-some last rest = elim (front-or-not rest) [
   ]
 ]
 
-next-some : (count last : ℕ) (rest : List ℕ) → Comes (EntryComes count last rest)
-next-some count last [] = (ends, inl (refl, refl))
-next-some count last (x ∷ xs) =
-    let next = Unless-some (count < most_entries) faults.Limit _ (at_most (suc count) most_entries) (λ few. line-some last (x ∷ xs)) in
+next-some : (format : Format) (count last : ℕ) (rest : List ℕ) → Comes (EntryComes format count last rest)
+next-some format count last [] = (ends, inl (refl, refl))
+next-some format count last (x ∷ xs) =
+    let next = Unless-some (count < most_entries) faults.Limit _ (at_most (suc count) most_entries) (λ few. line-some format last (x ∷ xs)) in
     (next.0, inr ((λ same. cc), next.1))
 
 -- an entry leaves fewer bytes
@@ -231,45 +255,45 @@ body-shorter (message action moment len) rest e behind is =
     let closed = Unless-gives _ _ e behind _ close in
     let same : behind ≡ after = cc in
     omega (arith, ap length same, ap length whole, length-append text (b ∷ after))
-body-shorter (mark moment) rest e behind is =
+body-shorter (plain action moment) rest e behind is =
     let same : behind ≡ rest = cc in
     omega (arith, ap length same)
 
-line-shorter : (last : ℕ) (rest : List ℕ) (e : Item) (behind : List ℕ) → LineComes last rest (gives e behind) → length behind < length rest
-line-shorter last rest e behind (inl (none, next)) = absurd (no-entry (Unless-gives _ _ e behind _ next))
+line-shorter : (format : Format) (last : ℕ) (rest : List ℕ) (e : Item) (behind : List ℕ) → LineComes format last rest (gives e behind) → length behind < length rest
+line-shorter format last rest e behind (inl (none, next)) = absurd (no-entry (Unless-gives _ _ e behind _ next))
   where
     no-entry : gives e behind ≢ stops faults.EntryLine
     no-entry same = cc
-line-shorter last rest e behind (inr (line, after, front, inl (other, same))) = cc
-line-shorter last rest e behind (inr (line, after, front, inr (head, is, next))) =
+line-shorter format last rest e behind (inr (line, after, front, inl (other, same))) = cc
+line-shorter format last rest e behind (inr (line, after, front, inr (head, is, next))) =
     let body = Unless-gives _ _ e behind _ (Unless-gives _ _ e behind _ next) in
     omega (arith, body-shorter head after e behind body, ap length front.whole, length-append line (line_feed ∷ after))
 
-next-shorter : (count last : ℕ) (rest : List ℕ) (e : Item) (behind : List ℕ) → EntryComes count last rest (gives e behind) → length behind < length rest
-next-shorter count last rest e behind (inl (none, same)) = cc
-next-shorter count last rest e behind (inr (some, next)) = line-shorter last rest e behind (Unless-gives _ _ e behind _ next)
+next-shorter : (format : Format) (count last : ℕ) (rest : List ℕ) (e : Item) (behind : List ℕ) → EntryComes format count last rest (gives e behind) → length behind < length rest
+next-shorter format count last rest e behind (inl (none, same)) = cc
+next-shorter format count last rest e behind (inr (some, next)) = line-shorter format last rest e behind (Unless-gives _ _ e behind _ next)
 
 -- entries and an end
-abbrev Follows : ℕ → ℕ → List ℕ → Type 0
-Follows count last rest = (es : List Item) × (end : LogEnd) × Follow count last rest es end
+abbrev Follows : Format → ℕ → ℕ → List ℕ → Type 0
+Follows format count last rest = (es : List Item) × (end : LogEnd) × Follow format count last rest es end
 
-follows-from : (count last : ℕ) (rest : List ℕ) (next : Next Item) → EntryComes count last rest next
-    → ((e : Item) (behind : List ℕ) → length behind < length rest → Follows (count + 1) e.moment behind) → Follows count last rest
-follows-from count last rest ends next more = ([], Clean, next)
-follows-from count last rest (stops reason) next more = ([], Stops reason, next)
-follows-from count last rest (gives e behind) next more =
-    let (es, end, follow) = more e behind (next-shorter count last rest e behind next) in
+follows-from : (format : Format) (count last : ℕ) (rest : List ℕ) (next : Next Item) → EntryComes format count last rest next
+    → ((e : Item) (behind : List ℕ) → length behind < length rest → Follows format (count + 1) e.moment behind) → Follows format count last rest
+follows-from format count last rest ends next more = ([], Clean, next)
+follows-from format count last rest (stops reason) next more = ([], Stops reason, next)
+follows-from format count last rest (gives e behind) next more =
+    let (es, end, follow) = more e behind (next-shorter format count last rest e behind next) in
     (e ∷ es, end, (behind, next, follow))
 
-follows-some : (most count last : ℕ) (rest : List ℕ) → length rest < most → Follows count last rest
-follows-some zero count last rest short = absurd (omega arith)
-follows-some (suc most) count last rest short =
-    let next = next-some count last rest in
-    follows-from count last rest next.0 next.1 (λ e behind shorter. follows-some most (count + 1) e.moment behind (omega arith))
+follows-some : (format : Format) (most count last : ℕ) (rest : List ℕ) → length rest < most → Follows format count last rest
+follows-some format zero count last rest short = absurd (omega arith)
+follows-some format (suc most) count last rest short =
+    let next = next-some format count last rest in
+    follows-from format count last rest next.0 next.1 (λ e behind shorter. follows-some format most (count + 1) e.moment behind (omega arith))
 
 -- the rest of an input has entries in a row, and an end
-pub Follow-some : (count last : ℕ) (rest : List ℕ) → (es : List Item) × (end : LogEnd) × Follow count last rest es end
-Follow-some count last rest = follows-some (suc (length rest)) count last rest (omega arith)
+pub Follow-some : (format : Format) (count last : ℕ) (rest : List ℕ) → (es : List Item) × (end : LogEnd) × Follow format count last rest es end
+Follow-some format count last rest = follows-some format (suc (length rest)) count last rest (omega arith)
 
 -- The header.
 
@@ -291,47 +315,72 @@ number_after-or-not word text = elim (begins-or-not word text) [
   ]
 ]
 
-abbrev TimesOrNot : List ℕ → Type 0
-TimesOrNot line = ((p : Times) × TimesLine line p) ⊎ ((p : Times) → ¬ (TimesLine line p))
+abbrev LastOrNot : List ℕ → List ℕ → Type 0
+LastOrNot word text = ((n : ℕ) × NumberAfter word text n []) ⊎ ((n : ℕ) → ¬ (NumberAfter word text n []))
 
-times-or-not : (line : List ℕ) → TimesOrNot line
-times-or-not line = elim (number_after-or-not (codes "t1 ") line) as (λ _. TimesOrNot line) [
-  | inr none ↦ inr (λ p is. none _ _ (TimesLine-parts line p is).t1_is)
-  | inl t1 ↦ elim (number_after-or-not (codes " t2 ") t1.1) as (λ _. TimesOrNot line) [
-    | inr none ↦ inr (λ p is. none _ _ (t2-after line p (TimesLine-parts line p is) t1.0 t1.1 t1.2))
-    | inl t2 ↦ elim (number_after-or-not (codes " t4 ") t2.1) as (λ _. TimesOrNot line) [
-      | inr none ↦ inr (λ p is. none _ _ (t4-after line p (TimesLine-parts line p is) t1.0 t1.1 t1.2 t2.0 t2.1 t2.2))
-      | inl t4 ↦ elim (number_after-or-not (codes " tolerance ") t4.1) as (λ _. TimesOrNot line) [
-        | inr none ↦ inr (λ p is. none _ _ (tolerance-after line p (TimesLine-parts line p is) t1.0 t1.1 t1.2 t2.0 t2.1 t2.2 t4.0 t4.1 t4.2))
-        | inl tolerance ↦ last t1.0 t1.1 t1.2 t2.0 t2.1 t2.2 t4.0 t4.1 t4.2 tolerance.0 tolerance.1 tolerance.2
+last-or-not : (word text : List ℕ) → LastOrNot word text
+last-or-not word text = elim (number_after-or-not word text) as (λ _. LastOrNot word text) [
+  | inr none ↦ inr (λ n is. none n [] is)
+  | inl is ↦ ends-here is.0 is.1 is.2
+]
+  where
+    ends-here : (n : ℕ) (behind : List ℕ) → NumberAfter word text n behind → LastOrNot word text
+    ends-here n [] is = inl (n, is)
+    ends-here n (x ∷ xs) is = inr (λ n2 is2. nil-cons (NumberAfter-one word text n2 n [] (x ∷ xs) is2 is).1)
+      where
+        nil-cons : [] ≢ x ∷ xs
+        nil-cons same = cc
+
+abbrev TolerancesOrNot : Format → List ℕ → Type 0
+TolerancesOrNot format text = ((early : ℕ) × (late : ℕ) × Tolerances format text early late) ⊎ ((early late : ℕ) → ¬ (Tolerances format text early late))
+
+tolerances-or-not : (format : Format) (text : List ℕ) → TolerancesOrNot format text
+tolerances-or-not One text = elim (last-or-not (codes " tolerance ") text) as (λ _. TolerancesOrNot One text) [
+  | inl is ↦ inl (is.0, is.0, (is.1, refl))
+  | inr none ↦ inr (λ early late is. none late is.0)
+]
+tolerances-or-not Two text = elim (number_after-or-not (codes " early ") text) as (λ _. TolerancesOrNot Two text) [
+  | inr none ↦ inr (λ early late is. none early is.0 is.1)
+  | inl early ↦ elim (last-or-not (codes " late ") early.1) as (λ _. TolerancesOrNot Two text) [
+    | inl late ↦ inl (early.0, late.0, (early.1, early.2, late.1))
+    | inr none ↦ inr (λ e late is.
+        none late (subst (λ t. NumberAfter (codes " late ") t late []) (NumberAfter-one (codes " early ") text e early.0 is.0 early.1 is.1 early.2).1 is.2))
+  ]
+]
+
+abbrev TimesOrNot : Format → List ℕ → Type 0
+TimesOrNot format line = ((p : Times) × TimesLine format line p) ⊎ ((p : Times) → ¬ (TimesLine format line p))
+
+times-or-not : (format : Format) (line : List ℕ) → TimesOrNot format line
+times-or-not format line = elim (number_after-or-not (codes "t1 ") line) as (λ _. TimesOrNot format line) [
+  | inr none ↦ inr (λ p is. none _ _ is.t1_is)
+  | inl t1 ↦ elim (number_after-or-not (codes " t2 ") t1.1) as (λ _. TimesOrNot format line) [
+    | inr none ↦ inr (λ p is. none _ _ (t2-after format line p is t1.0 t1.1 t1.2))
+    | inl t2 ↦ elim (number_after-or-not (codes " t4 ") t2.1) as (λ _. TimesOrNot format line) [
+      | inr none ↦ inr (λ p is. none _ _ (t4-after format line p is t1.0 t1.1 t1.2 t2.0 t2.1 t2.2))
+      | inl t4 ↦ elim (tolerances-or-not format t4.1) as (λ _. TimesOrNot format line) [
+        | inr none ↦ inr (λ p is. none _ _ (tolerances-after format line p is t1.0 t1.1 t1.2 t2.0 t2.1 t2.2 t4.0 t4.1 t4.2))
+        | inl both ↦
+            let times : Times = record { t1 = t1.0; t2 = t2.0; t4 = t4.0; early = both.0; late = both.1; rules = R6026 } in
+            let is : TimesLine format line times = record {
+              rest1 = t1.1;
+              rest2 = t2.1;
+              rest3 = t4.1;
+              t1_is = t1.2;
+              t2_is = t2.2;
+              t4_is = t4.2;
+              tolerances = both.2;
+              rules = refl;
+            } in
+            inl (times, is)
       ]
     ]
   ]
 ]
-  where
-    last : (n1 : ℕ) (rest1 : List ℕ) → NumberAfter (codes "t1 ") line n1 rest1 → (n2 : ℕ) (rest2 : List ℕ) → NumberAfter (codes " t2 ") rest1 n2 rest2
-        → (n3 : ℕ) (rest3 : List ℕ) → NumberAfter (codes " t4 ") rest2 n3 rest3 → (n4 : ℕ) (rest4 : List ℕ) → NumberAfter (codes " tolerance ") rest3 n4 rest4
-        → TimesOrNot line
-    last n1 rest1 t1 n2 rest2 t2 n3 rest3 t4 n4 [] tolerance =
-        let parts : TimesParts line (record { t1 = n1; t2 = n2; t4 = n3; tolerance = n4 }) = record {
-          rest1 = rest1;
-          rest2 = rest2;
-          rest3 = rest3;
-          t1_is = t1;
-          t2_is = t2;
-          t4_is = t4;
-          tolerance_is = tolerance;
-        } in
-        inl (_, TimesLine-of line _ parts)
-    last n1 rest1 t1 n2 rest2 t2 n3 rest3 t4 n4 (x ∷ xs) tolerance =
-        inr (λ p is. absurd (nil-cons (none-after line p (TimesLine-parts line p is) n1 rest1 t1 n2 rest2 t2 n3 rest3 t4 n4 (x ∷ xs) tolerance)))
-      where
-        nil-cons : x ∷ xs ≢ []
-        nil-cons same = cc
 
 are-times-or-not : (p : Times) → Settled (AreTimes p)
 are-times-or-not p =
-    elim (both _ _ (both _ _ (within 1 p.t1 10000) (within 1 p.t2 60000)) (both _ _ (within 1 p.t4 60000) (at_most p.tolerance 10000))) as (λ _. Settled (AreTimes p)) [
+    elim (both _ _ (both _ _ (within 1 p.t1 10000) (within 1 p.t2 60000)) (both _ _ (within 1 p.t4 60000) (both _ _ (at_most p.early 10000) (at_most p.late 10000)))) as (λ _. Settled (AreTimes p)) [
       | inl is ↦ inl (record {
         t1_low = is.0.0.0;
         t1_high = is.0.0.1;
@@ -339,36 +388,82 @@ are-times-or-not p =
         t2_high = is.0.1.1;
         t4_low = is.1.0.0;
         t4_high = is.1.0.1;
-        tolerance_high = is.1.1;
+        early_high = is.1.1.0;
+        late_high = is.1.1.1;
       })
-      | inr other ↦ inr (λ is. other (((is.t1_low, is.t1_high), (is.t2_low, is.t2_high)), ((is.t4_low, is.t4_high), is.tolerance_high)))
+      | inr other ↦ inr (λ is. other (((is.t1_low, is.t1_high), (is.t2_low, is.t2_high)), ((is.t4_low, is.t4_high), (is.early_high, is.late_high))))
     ]
 
-abbrev SecondOrNot : List ℕ → Type 0
-SecondOrNot rest = ((p : Times) × (behind : List ℕ) × TimesFront rest p behind) ⊎ ((p : Times) (behind : List ℕ) → ¬ (TimesFront rest p behind))
+abbrev SecondOrNot : Format → List ℕ → Type 0
+SecondOrNot format rest = ((p : Times) × (behind : List ℕ) × TimesFront format rest p behind) ⊎ ((p : Times) (behind : List ℕ) → ¬ (TimesFront format rest p behind))
 
-second-or-not : (rest : List ℕ) → SecondOrNot rest
-second-or-not rest = elim (cut-or-lacks line_feed rest) as (λ _. SecondOrNot rest) [
+second-or-not : (format : Format) (rest : List ℕ) → SecondOrNot format rest
+second-or-not format rest = elim (cut-or-lacks line_feed rest) as (λ _. SecondOrNot format rest) [
   | inr lacks ↦ inr (λ p behind is. Lacks-cut line_feed rest is.line behind lacks is.whole)
-  | inl at ↦ elim (times-or-not at.0) as (λ _. SecondOrNot rest) [
+  | inl at ↦ elim (times-or-not format at.0) as (λ _. SecondOrNot format rest) [
     | inr none ↦ inr (λ p behind is. none p (line-is at.0 at.1 at.2 p behind is))
-    | inl times ↦ elim (are-times-or-not times.0) as (λ _. SecondOrNot rest) [
+    | inl times ↦ elim (are-times-or-not times.0) as (λ _. SecondOrNot format rest) [
       | inl limits ↦ inl (times.0, at.1, record { line = at.0; times = times.1; within = limits; whole = at.2.whole })
-      | inr outside ↦ inr (λ p behind is. outside (subst AreTimes (TimesLine-one at.0 p times.0 (line-is at.0 at.1 at.2 p behind is) times.1) is.within))
+      | inr outside ↦ inr (λ p behind is. outside (subst AreTimes (TimesLine-one format at.0 p times.0 (line-is at.0 at.1 at.2 p behind is) times.1) is.within))
     ]
   ]
 ]
   where
-    line-is : (front back : List ℕ) → Cut line_feed rest front back → (p : Times) (behind : List ℕ) → TimesFront rest p behind → TimesLine front p
+    line-is : (front back : List ℕ) → Cut line_feed rest front back → (p : Times) (behind : List ℕ) → TimesFront format rest p behind → TimesLine format front p
     line-is front back at p behind is =
-        let parts = cut-one line_feed is.line behind front back (TimesLine-lacks is.line p is.times) at.first (sym is.whole ∙ at.whole) in
-        subst (λ t. TimesLine t p) parts.0 is.times
+        let parts = cut-one line_feed is.line behind front back (TimesLine-lacks format is.line p is.times) at.first (sym is.whole ∙ at.whole) in
+        subst (λ t. TimesLine format t p) parts.0 is.times
 
-pub header-or-not : (input : List ℕ) → ((p : Times) × (behind : List ℕ) × Header input p behind) ⊎ NoFront input
-header-or-not input = elim (begins-or-not title input) [
-  | inr none ↦ inr (λ p behind is. none is.rest is.title)
-  | inl is ↦ elim (second-or-not is.0) [
-    | inl times ↦ inl (times.0, times.1, record { rest = is.0; title = is.1; times = times.2 })
-    | inr none ↦ inr (λ p behind is2. none p behind (subst (λ t. TimesFront t p behind) (append_cancel_left title _ _ (sym is2.title ∙ is.1)) is2.times))
+-- some rules stand behind line 2, or none, which are those of RFC 6026
+rules-some : (rest : List ℕ) → (rules : Rules) × (behind : List ℕ) × RulesLine rules rest behind
+rules-some rest = elim (begins-or-not (rules_text R3261) rest) as (λ _. (rules : Rules) × (behind : List ℕ) × RulesLine rules rest behind) [
+  | inl is ↦ (R3261, is.0, inl is.1)
+  | inr old ↦ elim (begins-or-not (rules_text R6026) rest) as (λ _. (rules : Rules) × (behind : List ℕ) × RulesLine rules rest behind) [
+    | inl is ↦ (R6026, is.0, inl is.1)
+    | inr new ↦ (R6026, rest, inr (refl, refl, (λ rules. elim rules as (λ rules. (more : List ℕ) → rest ≢ rules_text rules ++ more) [ R3261 ↦ old | R6026 ↦ new ])))
   ]
 ]
+
+second-some : (format : Format) (rest : List ℕ) → Comes (ComesSecond format rest)
+second-some format rest = elim (second-or-not format rest) as (λ _. Comes (ComesSecond format rest)) [
+  | inr none ↦ (stops faults.Header, inr (none, refl))
+  | inl front ↦
+      let line = rules-some front.1 in
+      (gives (format, under line.0 front.0) line.1, inl (front.0, front.1, front.2, (line.0, line.1, line.2, refl)))
+]
+
+-- something comes first
+first-some : (input : List ℕ) → Comes (HeaderComes input)
+first-some input = elim (begins-or-not (title_text One) input) as (λ _. Comes (HeaderComes input)) [
+  | inl is ↦ let next = second-some One is.0 in (next.0, inl (One, is.0, is.1, next.1))
+  | inr one ↦ elim (begins-or-not (title_text Two) input) as (λ _. Comes (HeaderComes input)) [
+    | inl is ↦ let next = second-some Two is.0 in (next.0, inl (Two, is.0, is.1, next.1))
+    | inr two ↦ (stops faults.Header, inr ((λ format. elim format as (λ format. (rest : List ℕ) → input ≢ title_text format ++ rest) [ One ↦ one | Two ↦ two ]), refl))
+  ]
+]
+
+-- where no header is read, there is none
+pub no-header : (input : List ℕ) (fault : LogFault) → HeaderComes input (stops fault) → NoHeader input
+no-header input fault is format p behind header = absurd (other (ComesFirst-one input _ _ (header-read format input p behind header) is))
+  where
+    other : ◌≢◌ {A = Next (Format × Times)} (gives (format, p) behind) (stops fault)
+    other same = cc
+
+-- something does
+first-not-ends : (input : List ℕ) → ¬ (HeaderComes input ends)
+first-not-ends input (inl (format, rest, title, inl (p, behind, front, (rules, more, line, same)))) = cc
+first-not-ends input (inl (format, rest, title, inr (none, same))) = cc
+first-not-ends input (inr (none, same)) = cc
+
+abbrev pub HeaderOrNot : List ℕ → Type 0
+HeaderOrNot input = ((format : Format) × (p : Times) × (behind : List ℕ) × Header format p input behind) ⊎ NoHeader input
+
+header-from : (input : List ℕ) (next : Next (Format × Times)) → HeaderComes input next → HeaderOrNot input
+header-from input ends is = absurd (first-not-ends input is)
+header-from input (gives (format, p) behind) is = inl (format, p, behind, header-spelled format input p behind is)
+header-from input (stops fault) is = inr (no-header input fault is)
+
+pub header-or-not : (input : List ℕ) → HeaderOrNot input
+header-or-not input =
+    let first = first-some input in
+    header-from input first.0 first.1

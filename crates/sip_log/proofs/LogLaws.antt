@@ -1,75 +1,118 @@
 -- What is read of an input is only one.
 use Rattle.std.proofs.Common.{◌≡◌, ◌≢◌, inl, inr, ℕ, ◌+◌, List, [], ◌∷◌, ◌++◌, length, get_or, drop, if◌then◌else◌, ◌==◌, refl, subst, sym, ap, ◌∙◌, arith}
 use Rattle.std.proofs.lemmas.List.{append_cancel_left}
-use Rattle.sip_times.specs.Times.{Times}
+use Rattle.sip_times.specs.Times.{Times, under}
+use Rattle.sip_times.specs.declared.rules.Rules.{Rules}
+use Rattle.sip_times.specs.declared.rules.Rules.TheVariants.{R3261, R6026}
 use Rattle.sip_times.specs.declared.action.Action.{Action}
-use Rattle.sip_times.specs.declared.action.Action.TheVariants.{Sent, Received, Failed, Mark}
+use Rattle.sip_log.specs.declared.format.Format.{Format}
+use Rattle.sip_log.specs.declared.format.Format.TheVariants.{One, Two}
 use Rattle.sip_log.specs.LogFault.{LogFault}
-use Rattle.sip_log.specs.Spelling.{line_feed, space, letter, Item}
-use Rattle.sip_log.specs.inner.Line.{Numbers, Head, message, mark, HeadLine}
+use Rattle.sip_log.specs.Spelling.{line_feed, space, Item, HasMessage, rules_text, RulesLine, Header}
+use Rattle.sip_log.specs.inner.Line.{Numbers, Head, message, plain, HeadLine}
 use Rattle.sip_log.specs.Log.{FrontLine, LogEnd, Clean, Stops, next_at}
 use Rattle.sip_log.specs.Next.{Next, gives}
 use Rattle.sip_log.specs.inner.Unless.{Unless}
-use Rattle.sip_log.specs.inner.Header.{TimesLine, Header}
+use Rattle.sip_log.specs.inner.Header.{TimesLine, TimesFront, title_text, HeaderComes, ComesSecond, ComesThird}
 use Rattle.sip_log.specs.inner.Entry.{CloseComes, MessageComes, BodyComes, HeadComes, FormComes, LineComes, EntryComes}
 use Rattle.sip_log.specs.inner.Follow.{Follow}
 use Rattle.sip_log.proofs.SplitLemmas.{cut-one}
 use Rattle.sip_log.proofs.NumberLemmas.{IsNumber-no_space, IsNumber-one}
-use Rattle.sip_log.proofs.HeaderLemmas.{TimesLine-parts, TimesLine-lacks, times-after, title}
+use Rattle.sip_log.proofs.LineLemmas.{letter-one}
+use Rattle.sip_log.proofs.HeaderLemmas.{TimesLine-lacks, TimesLine-one}
+use Rattle.sip_log.proofs.SpellingLemmas.{header-read}
 
--- Line 2 and the header.
+-- The header.
 
-pub TimesLine-one : (line : List ℕ) (p p2 : Times) → TimesLine line p → TimesLine line p2 → p ≡ p2
-TimesLine-one line p p2 is is2 =
-    let parts = TimesLine-parts line p2 is2 in
-    times-after line p (TimesLine-parts line p is) p2.t1 parts.rest1 parts.t1_is p2.t2 parts.rest2 parts.t2_is p2.t4 parts.rest3 parts.t4_is p2.tolerance [] parts.tolerance_is
+-- an input has one title
+title-one : (format format2 : Format) (rest rest2 : List ℕ) → title_text format ++ rest ≡ title_text format2 ++ rest2 → (format ≡ format2) × (rest ≡ rest2)
+title-one One One rest rest2 same = (refl, append_cancel_left (title_text One) rest rest2 same)
+title-one One Two rest rest2 same = let byte : ◌≡◌ {A = ℕ} 49 50 = ap (λ (t : List ℕ). get_or t 10 0) same in absurd (omega arith)
+title-one Two One rest rest2 same = let byte : ◌≡◌ {A = ℕ} 50 49 = ap (λ (t : List ℕ). get_or t 10 0) same in absurd (omega arith)
+title-one Two Two rest rest2 same = (refl, append_cancel_left (title_text Two) rest rest2 same)
+
+-- one line 2
+TimesFront-one : (format : Format) (rest : List ℕ) (p p2 : Times) (behind behind2 : List ℕ) → TimesFront format rest p behind → TimesFront format rest p2 behind2
+    → (p ≡ p2) × (behind ≡ behind2)
+TimesFront-one format rest p p2 behind behind2 a b =
+    let parts = cut-one line_feed a.line behind b.line behind2 (TimesLine-lacks format a.line p a.times) (TimesLine-lacks format b.line p2 b.times) (sym a.whole ∙ b.whole) in
+    (TimesLine-one format b.line p p2 (subst (λ line. TimesLine format line p) parts.0 a.times) b.times, parts.1)
+
+-- one line of rules
+rules_at : ℕ → Rules
+rules_at n = if n == 51 then R3261 else R6026
+
+rules_at-line : (rules : Rules) (rest : List ℕ) → rules_at (get_or (rules_text rules ++ rest) 6 0) ≡ rules
+unfolding rules_at
+rules_at-line R3261 rest = refl
+rules_at-line R6026 rest = refl
+
+rules_text-one : (rules rules2 : Rules) (rest rest2 : List ℕ) → rules_text rules ++ rest ≡ rules_text rules2 ++ rest2 → (rules ≡ rules2) × (rest ≡ rest2)
+rules_text-one rules rules2 rest rest2 same =
+    let is : rules ≡ rules2 = sym (rules_at-line rules rest) ∙ ap (λ (t : List ℕ). rules_at (get_or t 6 0)) same ∙ rules_at-line rules2 rest2 in
+    (is, append_cancel_left (rules_text rules2) rest rest2 (ap (λ r. rules_text r ++ rest) (sym is) ∙ same))
+
+pub RulesLine-one : (rules rules2 : Rules) (text rest rest2 : List ℕ) → RulesLine rules text rest → RulesLine rules2 text rest2 → (rules ≡ rules2) × (rest ≡ rest2)
+RulesLine-one rules rules2 text rest rest2 (inl a) (inl b) = rules_text-one rules rules2 rest rest2 (sym a ∙ b)
+RulesLine-one rules rules2 text rest rest2 (inl a) (inr b) = absurd (b.2 rules rest a)
+RulesLine-one rules rules2 text rest rest2 (inr a) (inl b) = absurd (a.2 rules2 rest2 b)
+RulesLine-one rules rules2 text rest rest2 (inr a) (inr b) = (a.0 ∙ sym b.0, sym a.1 ∙ b.1)
+
+ComesThird-one : (format : Format) (p : Times) (rest : List ℕ) (n n2 : Next (Format × Times)) → ComesThird format p rest n → ComesThird format p rest n2 → n ≡ n2
+ComesThird-one format p rest n n2 a b =
+    let same = RulesLine-one a.0 b.0 rest a.1 b.1 a.2 b.2 in
+    a.3 ∙ (λ i. gives (format, under (same.0 i) p) (same.1 i)) ∙ sym b.3
+
+ComesSecond-one : (format : Format) (rest : List ℕ) (n n2 : Next (Format × Times)) → ComesSecond format rest n → ComesSecond format rest n2 → n ≡ n2
+ComesSecond-one format rest n n2 (inl a) (inl b) =
+    let same = TimesFront-one format rest a.0 b.0 a.1 b.1 a.2 b.2 in
+    ComesThird-one format b.0 b.1 n n2 (coe 0 1 (i. ComesThird format (same.0 i) (same.1 i) n) a.3) b.3
+ComesSecond-one format rest n n2 (inl a) (inr b) = absurd (b.0 a.0 a.1 a.2)
+ComesSecond-one format rest n n2 (inr a) (inl b) = absurd (a.0 b.0 b.1 b.2)
+ComesSecond-one format rest n n2 (inr a) (inr b) = a.1 ∙ sym b.1
+
+-- one thing comes first
+pub ComesFirst-one : (input : List ℕ) (n n2 : Next (Format × Times)) → HeaderComes input n → HeaderComes input n2 → n ≡ n2
+ComesFirst-one input n n2 (inl a) (inl b) =
+    let same = title-one a.0 b.0 a.1 b.1 (sym a.2 ∙ b.2) in
+    ComesSecond-one b.0 b.1 n n2 (coe 0 1 (i. ComesSecond (same.0 i) (same.1 i) n) a.3) b.3
+ComesFirst-one input n n2 (inl a) (inr b) = absurd (b.0 a.0 a.1 a.2)
+ComesFirst-one input n n2 (inr a) (inl b) = absurd (a.0 b.0 b.1 b.2)
+ComesFirst-one input n n2 (inr a) (inr b) = a.1 ∙ sym b.1
 
 -- an input has one header
-pub Header-one : (input : List ℕ) (p p2 : Times) (behind behind2 : List ℕ) → Header input p behind → Header input p2 behind2
-    → (p ≡ p2) × (behind ≡ behind2)
-Header-one input p p2 behind behind2 is is2 =
-    let a = is.times in
-    let b = is2.times in
-    let rest = append_cancel_left title _ _ (sym is.title ∙ is2.title) in
-    let parts = cut-one line_feed a.line behind b.line behind2 (TimesLine-lacks a.line p a.times) (TimesLine-lacks b.line p2 b.times) (sym a.whole ∙ rest ∙ b.whole) in
-    (TimesLine-one b.line p p2 (subst (λ line. TimesLine line p) parts.0 a.times) b.times, parts.1)
+pub Header-one : (format format2 : Format) (input : List ℕ) (p p2 : Times) (behind behind2 : List ℕ) → Header format p input behind → Header format2 p2 input behind2
+    → (format ≡ format2) × (p ≡ p2) × (behind ≡ behind2)
+Header-one format format2 input p p2 behind behind2 is is2 =
+    let same = ComesFirst-one input _ _ (header-read format input p behind is) (header-read format2 input p2 behind2 is2) in
+    let first : ◌≡◌ {A = Format × Times} (format, p) (format2, p2) = cc in
+    let second : behind ≡ behind2 = cc in
+    (ap (λ (x : Format × Times). x.0) first, ap (λ (x : Format × Times). x.1) first, second)
 
 -- Entry lines.
-
--- the action of a letter
-action_at : ℕ → Action
-action_at n = if n == 83 then Sent else (if n == 82 then Received else (if n == 70 then Failed else Mark))
-
-action_at-letter : (a : Action) → action_at (letter a) ≡ a
-unfolding action_at
-action_at-letter Sent = refl
-action_at-letter Received = refl
-action_at-letter Failed = refl
-action_at-letter Mark = refl
-
-letter-one : (a b : Action) → letter a ≡ letter b → a ≡ b
-letter-one a b same = sym (action_at-letter a) ∙ ap action_at same ∙ action_at-letter b
 
 Numbers-one : (text : List ℕ) (moment len moment2 len2 : ℕ) → Numbers text moment len → Numbers text moment2 len2 → (moment ≡ moment2) × (len ≡ len2)
 Numbers-one text moment len moment2 len2 is is2 =
     let parts = cut-one space is.moment_text is.len_text is2.moment_text is2.len_text (IsNumber-no_space _ moment is.moment_is) (IsNumber-no_space _ moment2 is2.moment_is) (sym is.whole ∙ is2.whole) in
     (IsNumber-one _ _ moment moment2 parts.0 is.moment_is is2.moment_is, IsNumber-one _ _ len len2 parts.1 is.len_is is2.len_is)
 
-HeadLine-one : (line : List ℕ) (h h2 : Head) → HeadLine line h → HeadLine line h2 → h ≡ h2
-HeadLine-one line (message a m l) (message a2 m2 l2) is is2 =
+HeadLine-one : (format : Format) (line : List ℕ) (h h2 : Head) → HeadLine format line h → HeadLine format line h2 → h ≡ h2
+HeadLine-one format line (message a m l) (message a2 m2 l2) is is2 =
     let same = sym is.3 ∙ is2.3 in
     let action : a ≡ a2 = letter-one a a2 (ap (λ (t : List ℕ). get_or t 0 0) same) in
     let text : is.0 ≡ is2.0 = cc in
     let numbers = Numbers-one is2.0 m l m2 l2 (subst (λ t. Numbers t m l) text is.2) is2.2 in
     λ i. message (action i) (numbers.0 i) (numbers.1 i)
-HeadLine-one line (message a m l) (mark m2) is is2 =
-    absurd (is.1 (letter-one a Mark (ap (λ (t : List ℕ). get_or t 0 0) (sym is.3 ∙ is2.2))))
-HeadLine-one line (mark m) (message a2 m2 l2) is is2 =
-    absurd (is2.1 (letter-one a2 Mark (ap (λ (t : List ℕ). get_or t 0 0) (sym is2.3 ∙ is.2))))
-HeadLine-one line (mark m) (mark m2) is is2 =
-    let same = sym is.2 ∙ is2.2 in
+HeadLine-one format line (message a m l) (plain a2 m2) is is2 =
+    absurd (is2.1 (subst HasMessage (letter-one a a2 (ap (λ (t : List ℕ). get_or t 0 0) (sym is.3 ∙ is2.4))) is.1))
+HeadLine-one format line (plain a m) (message a2 m2 l2) is is2 =
+    absurd (is.1 (subst HasMessage (letter-one a2 a (ap (λ (t : List ℕ). get_or t 0 0) (sym is2.3 ∙ is.4))) is2.1))
+HeadLine-one format line (plain a m) (plain a2 m2) is is2 =
+    let same = sym is.4 ∙ is2.4 in
+    let action : a ≡ a2 = letter-one a a2 (ap (λ (t : List ℕ). get_or t 0 0) same) in
     let text : is.0 ≡ is2.0 = cc in
-    ap mark (IsNumber-one is.0 is2.0 m m2 text is.1 is2.1)
+    let moment = IsNumber-one is.0 is2.0 m m2 text is.3 is2.3 in
+    λ i. plain (action i) (moment i)
 
 FrontLine-one : (rest line behind line2 behind2 : List ℕ) → FrontLine rest line behind → FrontLine rest line2 behind2 → (line ≡ line2) × (behind ≡ behind2)
 FrontLine-one rest line behind line2 behind2 is is2 =
@@ -109,32 +152,32 @@ AtMessage-one action moment len behind n n2 = Unless-one _ _ n n2 _ _
 
 AtBody-one : (head : Head) (behind : List ℕ) (n n2 : Next Item) → BodyComes head behind n → BodyComes head behind n2 → n ≡ n2
 AtBody-one (message action moment len) behind n n2 a b = AtMessage-one action moment len behind n n2 a b
-AtBody-one (mark moment) behind n n2 a b = a ∙ sym b
+AtBody-one (plain action moment) behind n n2 a b = a ∙ sym b
 
 AtHead-one : (last : ℕ) (head : Head) (behind : List ℕ) (n n2 : Next Item) → HeadComes last head behind n → HeadComes last head behind n2 → n ≡ n2
 AtHead-one last head behind n n2 = Unless-one _ _ n n2 _ _ (Unless-one _ _ n n2 _ _ (AtBody-one head behind n n2))
 
-AtFront-one : (last : ℕ) (line behind : List ℕ) (n n2 : Next Item) → FormComes last line behind n → FormComes last line behind n2 → n ≡ n2
-AtFront-one last line behind n n2 (inl a) (inl b) = a.1 ∙ sym b.1
-AtFront-one last line behind n n2 (inl a) (inr b) = absurd (a.0 b.0 b.1)
-AtFront-one last line behind n n2 (inr a) (inl b) = absurd (b.0 a.0 a.1)
-AtFront-one last line behind n n2 (inr a) (inr b) =
-    AtHead-one last b.0 behind n n2 (subst (λ h. HeadComes last h behind n) (HeadLine-one line a.0 b.0 a.1 b.1) a.2) b.2
+AtFront-one : (format : Format) (last : ℕ) (line behind : List ℕ) (n n2 : Next Item) → FormComes format last line behind n → FormComes format last line behind n2 → n ≡ n2
+AtFront-one format last line behind n n2 (inl a) (inl b) = a.1 ∙ sym b.1
+AtFront-one format last line behind n n2 (inl a) (inr b) = absurd (a.0 b.0 b.1)
+AtFront-one format last line behind n n2 (inr a) (inl b) = absurd (b.0 a.0 a.1)
+AtFront-one format last line behind n n2 (inr a) (inr b) =
+    AtHead-one last b.0 behind n n2 (subst (λ h. HeadComes last h behind n) (HeadLine-one format line a.0 b.0 a.1 b.1) a.2) b.2
 
-AtLine-one : (last : ℕ) (rest : List ℕ) (n n2 : Next Item) → LineComes last rest n → LineComes last rest n2 → n ≡ n2
-AtLine-one last rest n n2 (inl a) (inl b) = Unless-one _ _ n n2 _ _ (λ e e2. e ∙ sym e2) a.1 b.1
-AtLine-one last rest n n2 (inl a) (inr b) = absurd (a.0 b.0 b.1 b.2)
-AtLine-one last rest n n2 (inr a) (inl b) = absurd (b.0 a.0 a.1 a.2)
-AtLine-one last rest n n2 (inr a) (inr b) =
+AtLine-one : (format : Format) (last : ℕ) (rest : List ℕ) (n n2 : Next Item) → LineComes format last rest n → LineComes format last rest n2 → n ≡ n2
+AtLine-one format last rest n n2 (inl a) (inl b) = Unless-one _ _ n n2 _ _ (λ e e2. e ∙ sym e2) a.1 b.1
+AtLine-one format last rest n n2 (inl a) (inr b) = absurd (a.0 b.0 b.1 b.2)
+AtLine-one format last rest n n2 (inr a) (inl b) = absurd (b.0 a.0 a.1 a.2)
+AtLine-one format last rest n n2 (inr a) (inr b) =
     let parts = FrontLine-one rest a.0 a.1 b.0 b.1 a.2 b.2 in
-    AtFront-one last b.0 b.1 n n2 (coe 0 1 (i. FormComes last (parts.0 i) (parts.1 i) n) a.3) b.3
+    AtFront-one format last b.0 b.1 n n2 (coe 0 1 (i. FormComes format last (parts.0 i) (parts.1 i) n) a.3) b.3
 
 -- one thing comes next
-pub ComesNext-one : (count last : ℕ) (rest : List ℕ) (n n2 : Next Item) → EntryComes count last rest n → EntryComes count last rest n2 → n ≡ n2
-ComesNext-one count last rest n n2 (inl a) (inl b) = a.1 ∙ sym b.1
-ComesNext-one count last rest n n2 (inl a) (inr b) = absurd (b.0 a.0)
-ComesNext-one count last rest n n2 (inr a) (inl b) = absurd (a.0 b.0)
-ComesNext-one count last rest n n2 (inr a) (inr b) = Unless-one _ _ n n2 _ _ (AtLine-one last rest n n2) a.1 b.1
+pub ComesNext-one : (format : Format) (count last : ℕ) (rest : List ℕ) (n n2 : Next Item) → EntryComes format count last rest n → EntryComes format count last rest n2 → n ≡ n2
+ComesNext-one format count last rest n n2 (inl a) (inl b) = a.1 ∙ sym b.1
+ComesNext-one format count last rest n n2 (inl a) (inr b) = absurd (b.0 a.0)
+ComesNext-one format count last rest n n2 (inr a) (inl b) = absurd (a.0 b.0)
+ComesNext-one format count last rest n n2 (inr a) (inr b) = Unless-one _ _ n n2 _ _ (AtLine-one format last rest n n2) a.1 b.1
 
 -- Logs.
 
@@ -150,14 +193,14 @@ next_at-not_gives Clean e behind same = cc
 next_at-not_gives (Stops reason) e behind same = cc
 
 -- the rest of an input has one list of entries, and one end
-pub Follow-one : (count last : ℕ) (rest : List ℕ) (es es2 : List Item) (end end2 : LogEnd) → Follow count last rest es end → Follow count last rest es2 end2
+pub Follow-one : (format : Format) (count last : ℕ) (rest : List ℕ) (es es2 : List Item) (end end2 : LogEnd) → Follow format count last rest es end → Follow format count last rest es2 end2
     → (es ≡ es2) × (end ≡ end2)
-Follow-one count last rest [] [] end end2 a b = (refl, next_at-one end end2 (ComesNext-one count last rest _ _ a b))
-Follow-one count last rest [] (e2 ∷ es2) end end2 a b = absurd (next_at-not_gives end e2 b.0 (ComesNext-one count last rest _ _ a b.1))
-Follow-one count last rest (e ∷ es) [] end end2 a b = absurd (next_at-not_gives end2 e a.0 (ComesNext-one count last rest _ _ b a.1))
-Follow-one count last rest (e ∷ es) (e2 ∷ es2) end end2 a b =
-    let same = ComesNext-one count last rest _ _ a.1 b.1 in
+Follow-one format count last rest [] [] end end2 a b = (refl, next_at-one end end2 (ComesNext-one format count last rest _ _ a b))
+Follow-one format count last rest [] (e2 ∷ es2) end end2 a b = absurd (next_at-not_gives end e2 b.0 (ComesNext-one format count last rest _ _ a b.1))
+Follow-one format count last rest (e ∷ es) [] end end2 a b = absurd (next_at-not_gives end2 e a.0 (ComesNext-one format count last rest _ _ b a.1))
+Follow-one format count last rest (e ∷ es) (e2 ∷ es2) end end2 a b =
+    let same = ComesNext-one format count last rest _ _ a.1 b.1 in
     let first : e ≡ e2 = cc in
     let behind : a.0 ≡ b.0 = cc in
-    let more = Follow-one (count + 1) e2.moment b.0 es es2 end end2 (coe 0 1 (i. Follow (count + 1) ((first i).moment) (behind i) es end) a.2) b.2 in
+    let more = Follow-one format (count + 1) e2.moment b.0 es es2 end end2 (coe 0 1 (i. Follow format (count + 1) ((first i).moment) (behind i) es end) a.2) b.2 in
     (λ i. first i ∷ more.0 i, more.1)

@@ -1,7 +1,7 @@
 -- What is known of the bytes that are held and of those left in a source is known of the input.
 use Rattle.std.proofs.Common.{◌≡◌, ℕ, Bool, List, ◌++◌, Option, Some, None, [], refl, subst, sym, ap, ◌∙◌, append_assoc}
 use Rattle.std.specs.Option.{IfSome}
-use Rattle.std.specs.Io.KnownBytes.{IsAtEnd, prepend_known}
+use Rattle.std.specs.Io.KnownBytes.{Consumes, IsAtEnd, prepend_known}
 use Rattle.sip_log.specs.declared.window.Window.{Window}
 use Rattle.sip_log.specs.inner.Reads.{Reads}
 use Rattle.sip_log.specs.inner.Window.{items, unread}
@@ -15,6 +15,23 @@ told {held = held} {held2 = held2} {left = Some xs} {left2 = Some ys} reads P fa
     let same : held2 ++ ys ≡ held ++ xs =
     ap (λ (t : List ℕ). t ++ ys) reads.held_is ∙ append_assoc held reads.came ys ∙ ap (λ (t : List ℕ). held ++ t) (sym reads.left_is) in
     subst P same (fact ys refl)
+
+Consumes-then : (left left2 left3 : Option (List ℕ)) (came more : List ℕ) → Consumes left left2 came → Consumes left2 left3 more → Consumes left left3 (came ++ more)
+Consumes-then None left2 left3 came more first second = tt
+Consumes-then (Some xs) None left3 came more first second = absurd first
+Consumes-then (Some xs) (Some ys) None came more first second = absurd second
+Consumes-then (Some xs) (Some ys) (Some zs) came more first second =
+    first ∙ ap (λ (t : List ℕ). came ++ t) second ∙ sym (append_assoc came more zs)
+
+-- bytes came, and then more
+pub Reads-then : {held held2 held3 : List ℕ} {left left2 left3 : Option (List ℕ)} {failed failed2 failed3 : Bool} → Reads held held2 left left2 failed failed2
+    → Reads held2 held3 left2 left3 failed2 failed3 → Reads held held3 left left3 failed failed3
+Reads-then {held = held} {left = left} {left2 = left2} {left3 = left3} first second = record {
+  came = first.came ++ second.came;
+  held_is = second.held_is ∙ ap (λ (t : List ℕ). t ++ second.came) first.held_is ∙ append_assoc held first.came second.came;
+  left_is = Consumes-then left left2 left3 first.came second.came first.left_is second.left_is;
+  fine = second.fine ∙ first.fine;
+}
 
 -- the other way: a fact on the input where the bytes left are known
 pub known : (held : List ℕ) (left : Option (List ℕ)) (ys : List ℕ) (P : List ℕ → Type 0) → left ≡ Some ys → IfSome (prepend_known held left) P → P (held ++ ys)

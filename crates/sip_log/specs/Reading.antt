@@ -1,12 +1,14 @@
-use Rattle.std.specs.Prelude.{◌≡◌, ◌+◌, ◌<◌, ◌≤◌, ◌++◌, ℕ, Bool, List, length, Option, Some, None, Result, Ok, Err, IfSome, IsSome, OnOk}
+use Rattle.std.specs.Prelude.{◌≡◌, ◌+◌, ◌<◌, ◌≤◌, ℕ, Bool, List, length, Option, Some, None, Result, Ok, Err, IfSome, IsSome, OnOk}
 use Rattle.std.specs.Io.KnownBytes.{prepend_known}
-use Rattle.sip_times.specs.Times.{Times, AreTimes, last_moment}
+use Rattle.sip_times.specs.Times.{Times, last_moment}
 use Rattle.sip_log.specs.declared.entry.Entry.{Entry}
 use Rattle.sip_log.specs.declared.log_error.LogError.{LogError}
 use Rattle.sip_log.specs.declared.log_error.LogError.TheVariants as errors
-use Rattle.sip_log.specs.LogFault.{Header}
+use Rattle.sip_log.specs.declared.format.Format.{Format}
+use Rattle.sip_log.specs.declared.format.Format.TheVariants.{One}
+use Rattle.sip_log.specs.LogFault as faults
 use Rattle.sip_log.specs.Next.{Next, ends, gives, stops}
-use Rattle.sip_log.specs.Spelling.{Item, header_text}
+use Rattle.sip_log.specs.Spelling.{Header, Item}
 use Rattle.sip_log.specs.Log.{most_entries, NoHeader, ComesNext}
 use Rattle.sip_log.specs.Told.{TellsWhatComes, next_of}
 
@@ -19,10 +21,11 @@ pub data Stage : Type 0 where
   ended : Stage
   failed : Stage
 
--- how far a log was read: the bytes held back, the times of its header, how many entries it gave, and the moment of the last
+-- how far a log was read: the bytes held back, its format and the times of its header, how many entries it gave, and the moment of the last
 pub record Place : Type 0 where
   pub stage : Stage
   pub held : List ℕ
+  pub format : Format
   pub times : Option Times
   pub count : ℕ
   pub last : ℕ
@@ -31,6 +34,7 @@ pub record Place : Type 0 where
 pub record ReaderState : Type 0 where
   pub stage : Stage
   pub left : Option (List ℕ)
+  pub format : Format
   pub times : Option Times
   pub count : ℕ
   pub last : ℕ
@@ -38,7 +42,8 @@ pub record ReaderState : Type 0 where
 
 -- a place beside what its source has left
 abbrev pub beside_source : Place → Option (List ℕ) → Bool → ReaderState
-beside_source p left has_failed = record { stage = p.stage; left = prepend_known p.held left; times = p.times; count = p.count; last = p.last; has_failed = has_failed }
+beside_source p left has_failed =
+    record { stage = p.stage; left = prepend_known p.held left; format = p.format; times = p.times; count = p.count; last = p.last; has_failed = has_failed }
 
 -- the entry has the next number, is not before the last one, and is within the limits
 pub record Continues (number last : ℕ) (e : Entry) : Type 0 where
@@ -54,23 +59,23 @@ Moves count last new (Ok None) = (new.stage ≡ ended) × (new.count ≡ count) 
 Moves count last new (Err e) = (new.stage ≡ failed) × (new.count ≡ count) × (new.last ≡ last)
 
 -- what comes first in an input, where these times were read of it: the fault of its header, or the header and what comes next behind it
-abbrev pub ComesFirst : Option Times → List ℕ → Next Item → Type 0
-ComesFirst None xs next = NoHeader xs × (next ≡ stops Header)
-ComesFirst (Some p) xs next = (behind : List ℕ) × AreTimes p × (xs ≡ header_text p ++ behind) × ComesNext 0 0 behind next
+abbrev pub ComesFirst : Format → Option Times → List ℕ → Next Item → Type 0
+ComesFirst format None xs next = NoHeader xs × (next ≡ stops faults.Header)
+ComesFirst format (Some p) xs next = (behind : List ℕ) × Header format p xs behind × ComesNext format 0 0 behind next
 
 -- what comes in the rest of an input
-abbrev pub Comes : Stage → ReaderState → Option Times → List ℕ → Next Item → Type 0
-Comes fresh old times xs next = ComesFirst times xs next
-Comes entries old times xs next = ComesNext old.count old.last xs next
-Comes ended old times xs next = ⊥
-Comes failed old times xs next = ⊥
+abbrev pub Comes : Stage → ReaderState → ReaderState → List ℕ → Next Item → Type 0
+Comes fresh old new xs next = ComesFirst new.format new.times xs next
+Comes entries old new xs next = ComesNext old.format old.count old.last xs next
+Comes ended old new xs next = ⊥
+Comes failed old new xs next = ⊥
 
 -- one call that reads: what comes in the rest of the input, and what is left behind it
 pub record ReadsNext (old new : ReaderState) (r : Result (Option Entry) LogError) : Type 0 where
   pub moves : Moves old.count old.last new r
   pub times : OnOk r (IsSome new.times)
-  pub kept : IfSome old.times (λ p. new.times ≡ Some p)
-  pub says : TellsWhatComes old.left new.left old.has_failed new.has_failed (Comes old.stage old new.times) next_of r
+  pub kept : IfSome old.times (λ p. (new.times ≡ Some p) × (new.format ≡ old.format))
+  pub says : TellsWhatComes old.left new.left old.has_failed new.has_failed (Comes old.stage old new) next_of r
 
 abbrev pub NextsAt : Stage → ReaderState → ReaderState → Result (Option Entry) LogError → Type 0
 NextsAt fresh old new r = ReadsNext old new r
@@ -79,17 +84,17 @@ NextsAt ended old new r = (r ≡ Ok None) × (new ≡ old)
 NextsAt failed old new r = (r ≡ Err errors.Failed) × (new ≡ old)
 
 -- what stands first in an input: a header with what is behind it, or the fault that there is none
-abbrev pub Heads : List ℕ → Next Times → Type 0
-Heads xs ends = ⊥
-Heads xs (gives p behind) = AreTimes p × (xs ≡ header_text p ++ behind)
-Heads xs (stops fault) = NoHeader xs × (fault ≡ Header)
+abbrev pub Heads : Format → List ℕ → Next Times → Type 0
+Heads format xs ends = ⊥
+Heads format xs (gives p behind) = Header format p xs behind
+Heads format xs (stops fault) = NoHeader xs × (fault ≡ faults.Header)
 
 -- a header that is read by itself: no entry was, and what is left stands behind it; or why there is none
 abbrev pub Opens : Option (List ℕ) → Option (List ℕ) → Bool → Bool → Result (Times × Place) LogError → Type 0
 Opens old left before after (Ok (p, place)) =
-    (place ≡ record { stage = entries; held = place.held; times = Some p; count = 0; last = 0 })
-    × TellsWhatComes {A = Times} old (prepend_known place.held left) before after Heads gives (Ok p)
-Opens old left before after (Err e) = TellsWhatComes {A = Times} old left before after Heads gives (Err e)
+    (place ≡ record { stage = entries; held = place.held; format = place.format; times = Some p; count = 0; last = 0 })
+    × TellsWhatComes {A = Times} old (prepend_known place.held left) before after (Heads place.format) gives (Ok p)
+Opens old left before after (Err e) = TellsWhatComes {A = Times} old left before after (Heads One) gives (Err e)
 
 -- one call: it reads, unless the end was told or an error was, which it tells again
 abbrev pub Nexts : ReaderState → ReaderState → Result (Option Entry) LogError → Type 0

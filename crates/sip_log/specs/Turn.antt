@@ -2,9 +2,10 @@ use Rattle.std.specs.Prelude.{◌≡◌, ◌+◌, ℕ, List, [], ◌∷◌}
 use Rattle.sip_log.specs.Next.{gives}
 use Rattle.sip_log.specs.Spelling.{Item}
 use Rattle.sip_log.specs.Log.{ComesNext}
+use Rattle.sip_log.specs.declared.format.Format.{Format}
 
 -- behind so many entries, the last at this moment: in the rest of an input these entries come in turn, and this is left behind them
-abbrev pub ComeInTurn : ℕ → ℕ → List ℕ → List Item → List ℕ → Type 0
-ComeInTurn count last rest [] left = left ≡ rest
-ComeInTurn count last rest (e ∷ es) left =
-    (behind : List ℕ) × ComesNext count last rest (gives e behind) × ComeInTurn (count + 1) e.moment behind es left
+abbrev pub ComeInTurn : Format → ℕ → ℕ → List ℕ → List Item → List ℕ → Type 0
+ComeInTurn format count last rest [] left = left ≡ rest
+ComeInTurn format count last rest (e ∷ es) left =
+    (behind : List ℕ) × ComesNext format count last rest (gives e behind) × ComeInTurn format (count + 1) e.moment behind es left

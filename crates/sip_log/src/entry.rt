@@ -9,6 +9,7 @@ ghost use Rattle.sip_log.specs.Told.{TellsWhatComes, entry_next, next_of};
 ghost use Rattle.sip_log.specs.Reading.{Continues};
 ghost use Rattle.sip_log.specs.inner.Line as log;
 
+use crate::format::Format;
 use crate::line::{Head, read_head};
 use crate::log_error::LogError;
 use crate::source::Source;
@@ -21,7 +22,7 @@ const LONGEST_LINE: usize = 32;
 /// The most entries of a log.
 const MOST_ENTRIES: u32 = 1_000_000;
 
-/// An entry: what was done at a moment, in milliseconds, and with which message. A mark has no message.
+/// An entry: what was done at a moment, in milliseconds, and with which message. A mark and a restart have no message.
 #[derive(Debug, Drop)]
 pub struct Entry {
     pub number: u32,
@@ -35,6 +36,7 @@ pub(crate) fn next_entry<R: Source>(
     buffer: Vec<u8>,
     window: &mut Window,
     source: &mut R,
+    format: Format,
     count: u32,
     last: u64,
 ) -> Result<Option<Entry>, LogError>
@@ -42,7 +44,7 @@ pub(crate) fn next_entry<R: Source>(
     ensures few { IfOk result (λ e. OnSome e (count < most_entries)) }
     ensures entry { IfOk result (λ e. IfSome e (Continues (count + 1) last)) }
     ensures says { TellsWhatComes (unread window.old (R.left source.old)) (unread window.new (R.left source.new))
-        (R.has_failed source.old) (R.has_failed source.new) (EntryComes count last) next_of result }
+        (R.has_failed source.old) (R.has_failed source.new) (EntryComes format count last) next_of result }
 {
     if !window.hold(source, 1)? {
         return Ok(None);
@@ -50,7 +52,7 @@ pub(crate) fn next_entry<R: Source>(
     if count >= MOST_ENTRIES {
         return Err(LogError::Limit);
     }
-    match read_entry(buffer, window, source, count + 1, last) {
+    match read_entry(buffer, window, source, format, count + 1, last) {
         Ok(entry) => Ok(Some(entry)),
         Err(error) => Err(error),
     }
@@ -61,12 +63,13 @@ fn read_entry<R: Source>(
     buffer: Vec<u8>,
     window: &mut Window,
     source: &mut R,
+    format: Format,
     number: u32,
     last: u64,
 ) -> Result<Entry, LogError>
     ensures entry { IfOk result (Continues number last) }
     ensures says { TellsWhatComes (unread window.old (R.left source.old)) (unread window.new (R.left source.new))
-        (R.has_failed source.old) (R.has_failed source.new) (LineComes last) entry_next result }
+        (R.has_failed source.old) (R.has_failed source.new) (LineComes format last) entry_next result }
 {
     let Some(len) = window.line_len(source, LONGEST_LINE)? else {
         if window.as_slice().len() < LONGEST_LINE {
@@ -74,7 +77,7 @@ fn read_entry<R: Source>(
         }
         return Err(LogError::EntryLine);
     };
-    let Some(head) = read_head(&window.as_slice()[..len]) else {
+    let Some(head) = read_head(format, &window.as_slice()[..len]) else {
         return Err(LogError::EntryLine);
     };
     window.consume(len + 1);
@@ -121,10 +124,10 @@ fn read_body<R: Source>(
         Head::Message(action, moment, len) => {
             read_message(buffer, window, source, number, action, moment, len)
         }
-        Head::Mark(moment) => Ok(Entry {
+        Head::Plain(action, moment) => Ok(Entry {
             number,
             moment,
-            action: Action::Mark,
+            action,
             bytes: buffer,
         }),
     }

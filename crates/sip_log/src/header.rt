@@ -1,70 +1,165 @@
-//! The first two lines of a log: the format and the times of the element.
-ghost use Rattle.std.specs.Prelude.{◌≡◌, ℕ, List, MatchOption};
+//! The lines of a log's header: the format, the times of the element, and the rules that it was built by.
+ghost use Rattle.std.specs.Prelude.{◌≡◌, ℕ, List, [], MatchOption};
 ghost use Rattle.sip_times.specs.Times.{Times, AreTimes};
-ghost use Rattle.sip_log.specs.inner.Header.{NumberAfter, TimesLine, HeaderComes, ComesSecond};
+ghost use Rattle.sip_times.specs.declared.rules.Rules.{Rules};
+ghost use Rattle.sip_times.specs.declared.rules.Rules.TheVariants.{R6026};
+ghost use Rattle.sip_log.specs.Spelling.{rules_text};
+ghost use Rattle.sip_log.specs.inner.Header.{NumberAfter, Tolerances, TimesLine, title_text, HeaderComes, ComesSecond, ComesThird};
 ghost use Rattle.sip_log.specs.Next.{gives};
 ghost use Rattle.sip_log.specs.inner.Number.{cut};
 ghost use Rattle.sip_log.specs.Told.{TellsWhatComes};
 ghost use Rattle.sip_log.specs.inner.Window.{unread};
 
+use crate::format::Format;
 use crate::log_error::LogError;
 use crate::number::number;
 use crate::source::Source;
 use crate::window::Window;
 use memchr::memchr;
-use sip_times::Params;
+use sip_times::{Params, Rules};
+
+/// The bytes of line 1 with its line feed.
+const TITLE: usize = 12;
 
 /// The most bytes of line 2 with its line feed, where its numbers are within their limits.
-const LONGEST_TIMES: usize = 43;
+const LONGEST_TIMES: usize = 50;
 
-/// Reads line 1 and line 2. Anything wrong in them is the fault `Header`.
+/// The bytes of the line of rules with its line feed.
+const RULES: usize = 11;
+
+/// Reads the header. Anything wrong in its first two lines is the fault `Header`.
 pub(crate) fn read_header<R: Source>(
     window: &mut Window,
     source: &mut R,
-) -> Result<Params, LogError>
+) -> Result<(Format, Params), LogError>
     ensures { TellsWhatComes (unread window.old (R.left source.old)) (unread window.new (R.left source.new))
         (R.has_failed source.old) (R.has_failed source.new) HeaderComes gives result }
 {
-    let title = b"sip-trace 1\n";
-    if !window.hold(source, title.len())? {
+    if !window.hold(source, TITLE)? {
         return Err(LogError::Header);
     }
-    if !window.as_slice().starts_with(title) {
+    let Some(format) = format_of(&window.as_slice()[..TITLE]) else {
         return Err(LogError::Header);
-    }
-    window.consume(title.len());
-    read_second(window, source)
+    };
+    window.consume(TITLE);
+    read_second(window, source, format)
 }
 
-/// Reads line 2.
-fn read_second<R: Source>(window: &mut Window, source: &mut R) -> Result<Params, LogError>
+/// The format that line 1 tells.
+fn format_of(line: &[u8]) -> Option<Format>
+    ensures { MatchOption result ((f : Format) → ¬ (line.now ≡ title_text f)) (λ f. line.now ≡ title_text f) }
+{
+    if line == b"sip-trace 1\n".as_slice() {
+        return Some(Format::One);
+    }
+    if line == b"sip-trace 2\n".as_slice() {
+        return Some(Format::Two);
+    }
+    None
+}
+
+/// Reads line 2, and the rules behind it.
+fn read_second<R: Source>(
+    window: &mut Window,
+    source: &mut R,
+    format: Format,
+) -> Result<(Format, Params), LogError>
     ensures { TellsWhatComes (unread window.old (R.left source.old)) (unread window.new (R.left source.new))
-        (R.has_failed source.old) (R.has_failed source.new) ComesSecond gives result }
+        (R.has_failed source.old) (R.has_failed source.new) (ComesSecond format) gives result }
 {
     let Some(len) = window.line_len(source, LONGEST_TIMES)? else {
         return Err(LogError::Header);
     };
-    let Some(times) = read_times(&window.as_slice()[..len]) else {
+    let Some(times) = read_times(format, &window.as_slice()[..len]) else {
         return Err(LogError::Header);
     };
     window.consume(len + 1);
-    Ok(times)
+    read_third(window, source, format, times)
+}
+
+/// Reads the line of rules, where there is one. No entry begins as it does, so that a first entry is not waited for.
+fn read_third<R: Source>(
+    window: &mut Window,
+    source: &mut R,
+    format: Format,
+    times: Params,
+) -> Result<(Format, Params), LogError>
+    requires { times.rules ≡ R6026 }
+    ensures { TellsWhatComes (unread window.old (R.left source.old)) (unread window.new (R.left source.new))
+        (R.has_failed source.old) (R.has_failed source.new) (ComesThird format times) gives result }
+{
+    if !window.hold(source, 1)? {
+        return Ok((format, times));
+    }
+    if window.as_slice()[0] != b'r' {
+        return Ok((format, times));
+    }
+    if !window.hold(source, RULES)? {
+        return Ok((format, times));
+    }
+    let Some(rules) = rules_of(&window.as_slice()[..RULES]) else {
+        return Ok((format, times));
+    };
+    window.consume(RULES);
+    Ok((format, times.with_rules(rules)))
+}
+
+/// The rules that a line tells.
+fn rules_of(line: &[u8]) -> Option<Rules>
+    ensures { MatchOption result ((r : Rules) → ¬ (line.now ≡ rules_text r)) (λ r. line.now ≡ rules_text r) }
+{
+    if line == b"rules 3261\n".as_slice() {
+        return Some(Rules::R3261);
+    }
+    if line == b"rules 6026\n".as_slice() {
+        return Some(Rules::R6026);
+    }
+    None
 }
 
 /// Reads line 2 without its line feed. None also where a number is outside its limits.
-fn read_times(line: &[u8]) -> Option<Params>
+fn read_times(format: Format, line: &[u8]) -> Option<Params>
     ensures { MatchOption result
-        ((p : Times) → TimesLine line.now p → ¬ (AreTimes p))
-        (λ p. TimesLine line.now p × AreTimes p) }
+        ((p : Times) → TimesLine format line.now p → ¬ (AreTimes p))
+        (λ p. TimesLine format line.now p × AreTimes p) }
 {
     let (t1, rest) = number_after(line, b"t1 ")?;
     let (t2, rest) = number_after(rest, b" t2 ")?;
     let (t4, rest) = number_after(rest, b" t4 ")?;
-    let (tolerance, rest) = number_after(rest, b" tolerance ")?;
+    let (early, late) = read_tolerances(format, rest)?;
+    Params::with_tolerances(t1, t2, t4, early, late)
+}
+
+/// Reads the end of line 2: how much an element may be early, and how much late. In format 1 both are one number.
+fn read_tolerances(format: Format, text: &[u8]) -> Option<(u64, u64)>
+    ensures { MatchOption result
+        ((early late : ℕ) → ¬ (Tolerances format text.now early late))
+        (λ r. (early : ℕ) × (late : ℕ) × Tolerances format text.now early late × (r.0 ≡ cut early) × (r.1 ≡ cut late)) }
+{
+    match format {
+        Format::One => {
+            let tolerance = last_number(text, b" tolerance ")?;
+            Some((tolerance, tolerance))
+        }
+        Format::Two => {
+            let (early, rest) = number_after(text, b" early ")?;
+            let late = last_number(rest, b" late ")?;
+            Some((early, late))
+        }
+    }
+}
+
+/// Reads a word and the number behind it, with which the text ends.
+fn last_number(text: &[u8], word: &[u8]) -> Option<u64>
+    ensures { MatchOption result
+        ((n : ℕ) → ¬ (NumberAfter word.now text.now n []))
+        (λ r. (n : ℕ) × NumberAfter word.now text.now n [] × (r ≡ cut n)) }
+{
+    let (value, rest) = number_after(text, word)?;
     if !rest.is_empty() {
         return None;
     }
-    Params::new(t1, t2, t4, tolerance)
+    Some(value)
 }
 
 /// Reads a word and the number behind it, up to a blank or the end, and answers what is behind it too.

@@ -1,8 +1,12 @@
 //! Laws of the format and of its devices. The functions do nothing: their contracts are the laws.
-ghost use Rattle.std.specs.Prelude.{◌≡◌, ◌↔◌, ◌<◌, ◌≤◌, ◌++◌, ℕ, List, length, flat_map};
+ghost use Rattle.std.specs.Prelude.{◌≡◌, ◌≢◌, ◌↔◌, ◌<◌, ◌≤◌, ◌++◌, ℕ, List, All, length, flat_map};
 ghost use Rattle.sip_times.specs.Times.{Times, AreTimes};
+ghost use Rattle.sip_times.specs.declared.action.Action.TheVariants.{Restart};
+ghost use Rattle.sip_times.specs.declared.rules.Rules.TheVariants.{R6026};
 ghost use Rattle.sip_log.specs.Next.{Next, gives};
-ghost use Rattle.sip_log.specs.Spelling.{Item, header_text, entry_text};
+ghost use Rattle.sip_log.specs.declared.format.Format.{Format};
+ghost use Rattle.sip_log.specs.declared.format.Format.TheVariants.{One, Two};
+ghost use Rattle.sip_log.specs.Spelling.{Item, Header, lines_text, header_text, entry_text};
 ghost use Rattle.sip_log.specs.Turn.{ComeInTurn};
 ghost use Rattle.sip_log.specs.Log.{IsEntry, IsWithinLimits, most_entries, ComesNext, InOrder, LogEnd, Clean, IsLog, NoHeader, Log, Readable, IsLogOf};
 ghost use Rattle.sip_log.specs.LogSays.{LogSays, LacksHeader};
@@ -40,25 +44,41 @@ pub fn an_input_says_its_log()
 
 /// A header and entries, written one after another, are the log of what was written.
 pub fn what_is_written_is_read()
-    ensures { (p : Times) (items : List Item) → AreTimes p → length items ≤ most_entries → InOrder 0 items →
-        IsLogOf (header_text p ++ flat_map entry_text items) (Readable p items Clean) }
+    ensures { (format : Format) (p : Times) (items : List Item) → AreTimes p → (format ≡ One → p.early ≡ p.late) →
+        length items ≤ most_entries → InOrder format 0 items →
+        IsLogOf (header_text format p ++ flat_map entry_text items) (Readable p items Clean) }
 {}
 
 /// Behind any entries, an entry that is written there is what comes next, whatever stands behind it.
 pub fn an_entry_is_read_as_it_was_written()
-    ensures { (count last : ℕ) (e : Item) (behind : List ℕ) (next : Next Item) → count < most_entries → last ≤ e.moment → IsEntry e →
-        ComesNext count last (entry_text e ++ behind) next → next ≡ gives e behind }
+    ensures { (format : Format) (count last : ℕ) (e : Item) (behind : List ℕ) (next : Next Item) → count < most_entries → last ≤ e.moment → IsEntry format e →
+        ComesNext format count last (entry_text e ++ behind) next → next ≡ gives e behind }
 {}
 
 /// An entry that was read is written back as the bytes that were read, and within the limits.
 pub fn an_entry_is_written_as_it_was_read()
-    ensures { (count last : ℕ) (rest : List ℕ) (e : Item) (behind : List ℕ) → ComesNext count last rest (gives e behind) →
+    ensures { (format : Format) (count last : ℕ) (rest : List ℕ) (e : Item) (behind : List ℕ) → ComesNext format count last rest (gives e behind) →
         (rest ≡ entry_text e ++ behind) × IsWithinLimits e.action e.moment (length e.text) }
 {}
 
 /// Entries that were read in turn behind the header are a front of the log's, whatever is left to read.
 pub fn entries_read_in_turn_are_a_front_of_the_log()
     ensures { (input : List ℕ) (p : Times) (items : List Item) (end : LogEnd) → IsLogOf input (Readable p items end) →
-        (behind left : List ℕ) (read : List Item) → input ≡ header_text p ++ behind → ComeInTurn 0 0 behind read left →
+        (format : Format) (q : Times) (behind left : List ℕ) (read : List Item) → Header format q input behind → ComeInTurn format 0 0 behind read left →
         (more : List Item) × (items ≡ read ++ more) }
+{}
+
+/// A log of format 1 has one tolerance, early and late alike, and no restarts, and without a line of rules those of RFC 6026: it says what it said
+/// before there were two tolerances, restarts and rules.
+pub fn a_log_of_format_1_is_as_it_was()
+    ensures tolerance { (input : List ℕ) (p : Times) (behind : List ℕ) → Header One p input behind → p.early ≡ p.late }
+    ensures rules { (input : List ℕ) (p : Times) (behind : List ℕ) → Header One p input behind → input ≡ lines_text One p ++ behind → p.rules ≡ R6026 }
+    ensures restarts { (input : List ℕ) (p q : Times) (behind : List ℕ) (items : List Item) (end : LogEnd) → Header One p input behind →
+        IsLogOf input (Readable q items end) → All (λ e. e.action ≢ Restart) items }
+{}
+
+/// A log of format 1 that is read to its end is, behind a header of format 2 with the same times, the same log.
+pub fn a_log_of_format_1_is_one_of_format_2()
+    ensures { (input other : List ℕ) (p : Times) (behind : List ℕ) (items : List Item) → Header One p input behind → Header Two p other behind →
+        IsLogOf input (Readable p items Clean) → IsLogOf other (Readable p items Clean) }
 {}

@@ -1,8 +1,9 @@
-//! A log of SIP messages with their moments: its format, read and written in pieces of any size.
+//! A log of SIP messages with their moments: its formats, read and written in pieces of any size.
 #![tactic(auto)]
 
 mod broken;
 mod entry;
+mod format;
 mod header;
 mod laws;
 mod line;
@@ -20,9 +21,10 @@ mod writing;
 pub use broken::Broken;
 pub use entry::Entry;
 pub use laws::{
-    a_sink_through_a_reference_is_that_sink, a_source_through_a_reference_is_that_source,
-    an_entry_is_read_as_it_was_written, an_entry_is_written_as_it_was_read, an_input_has_one_log,
-    an_input_says_its_log, each_input_has_a_log, what_is_written_is_read,
+    a_log_of_format_1_is_one_of_format_2, a_sink_through_a_reference_is_that_sink,
+    a_source_through_a_reference_is_that_source, an_entry_is_read_as_it_was_written,
+    an_entry_is_written_as_it_was_read, an_input_has_one_log, an_input_says_its_log,
+    each_input_has_a_log, what_is_written_is_read,
 };
 pub use log_error::LogError;
 pub use progress::Progress;
@@ -31,4 +33,4 @@ pub use sink::{Sink, ToWrite};
 pub use source::{FromRead, Source};
 pub use whole::read_entries;
 pub use write_error::WriteError;
-pub use writing::{put_entry, write_entry, write_header};
+pub use writing::{put_entry, write_entry, write_header, write_header_2};

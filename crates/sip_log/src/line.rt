@@ -1,13 +1,13 @@
 //! The line at which an entry begins.
-ghost use Rattle.std.specs.Prelude.{◌≡◌, ◌≢◌, ◌↔◌, ℕ, MatchOption, IsTrue};
+ghost use Rattle.std.specs.Prelude.{◌≡◌, ◌↔◌, ℕ, MatchOption, IsTrue};
 ghost use Rattle.sip_times.specs.declared.action.Action.{Action};
-ghost use Rattle.sip_times.specs.declared.action.Action.TheVariants.{Mark};
 ghost use Rattle.sip_log.specs.inner.Number.{cut};
-ghost use Rattle.sip_log.specs.Spelling.{letter};
-ghost use Rattle.sip_log.specs.Log.{IsWithinLimits};
+ghost use Rattle.sip_log.specs.Spelling.{HasMessage, letter};
+ghost use Rattle.sip_log.specs.Log.{IsOf, IsWithinLimits};
 ghost use Rattle.sip_log.specs.inner.Line.{Numbers, HeadLine, cut_head, head_of, moment_of, KeepsLimits};
 ghost use Rattle.sip_log.specs.inner.Line as log;
 
+use crate::format::Format;
 use crate::number::number;
 use memchr::memchr;
 use sip_times::Action;
@@ -18,11 +18,11 @@ const LAST_MOMENT: u64 = 9_999_999_999_999;
 /// The most bytes of a message.
 const LONGEST_MESSAGE: u64 = 65_535;
 
-/// What an entry's line tells: of a message its moment and its length, of a mark its moment.
+/// What an entry's line tells: of a message its moment and its length; of an entry without one its moment.
 #[derive(Clone, Copy)]
 pub(crate) enum Head {
     Message(Action, u64, u64),
-    Mark(u64),
+    Plain(Action, u64),
 }
 
 impl Head {
@@ -31,7 +31,7 @@ impl Head {
         ensures { result ≡ moment_of (head_of self) }
     {
         match self {
-            Head::Message(_, moment, _) | Head::Mark(moment) => moment,
+            Head::Message(_, moment, _) | Head::Plain(_, moment) => moment,
         }
     }
 
@@ -42,16 +42,26 @@ impl Head {
         match self {
             Head::Message(_, moment, len) => moment <= LAST_MOMENT
                 && (1..=LONGEST_MESSAGE).contains(&len),
-            Head::Mark(moment) => moment <= LAST_MOMENT,
+            Head::Plain(_, moment) => moment <= LAST_MOMENT,
         }
     }
 }
 
-/// Whether a moment and, but for a mark, the length of a message are within the limits.
+/// Whether an entry of this action has a message.
+pub(crate) fn has_message(action: Action) -> bool
+    ensures { IsTrue result ↔ HasMessage action }
+{
+    match action {
+        Action::Sent | Action::Received | Action::Failed => true,
+        Action::Mark | Action::Restart => false,
+    }
+}
+
+/// Whether a moment and, where there is one, the length of a message are within the limits.
 pub(crate) fn is_within_limits(action: Action, moment: u64, len: u64) -> bool
     ensures { IsTrue result ↔ IsWithinLimits action moment len }
 {
-    moment <= LAST_MOMENT && (action == Action::Mark || (1..=LONGEST_MESSAGE).contains(&len))
+    moment <= LAST_MOMENT && (!has_message(action) || (1..=LONGEST_MESSAGE).contains(&len))
 }
 
 /// The letter of an entry.
@@ -63,17 +73,20 @@ pub(crate) fn letter_of(action: Action) -> u8
         Action::Received => b'R',
         Action::Failed => b'F',
         Action::Mark => b'M',
+        Action::Restart => b'Z',
     }
 }
 
-/// What was done with a message, by the letter of its entry.
-fn action_of(byte: u8) -> Option<Action>
-    ensures { MatchOption result ((a : Action) → a ≢ Mark → byte ≢ letter a) (λ a. (a ≢ Mark) × (byte ≡ letter a)) }
+/// What was done, by the letter of its entry.
+fn action_of(format: Format, byte: u8) -> Option<Action>
+    ensures { MatchOption result ((a : Action) → IsOf format a → ¬ (byte ≡ letter a)) (λ a. IsOf format a × (byte ≡ letter a)) }
 {
     match byte {
         b'S' => Some(Action::Sent),
         b'R' => Some(Action::Received),
         b'F' => Some(Action::Failed),
+        b'M' => Some(Action::Mark),
+        b'Z' if format == Format::Two => Some(Action::Restart),
         _ => None,
     }
 }
@@ -91,19 +104,19 @@ fn read_numbers(text: &[u8]) -> Option<(u64, u64)>
 }
 
 /// Reads an entry's line, without its line feed. Its numbers are kept as `number` keeps them.
-pub(crate) fn read_head(line: &[u8]) -> Option<Head>
+pub(crate) fn read_head(format: Format, line: &[u8]) -> Option<Head>
     ensures { MatchOption result
-        ((h : log.Head) → ¬ (HeadLine line.now h))
-        (λ r. (h : log.Head) × HeadLine line.now h × (r ≡ cut_head h)) }
+        ((h : log.Head) → ¬ (HeadLine format line.now h))
+        (λ r. (h : log.Head) × HeadLine format line.now h × (r ≡ cut_head h)) }
 {
     let [byte, b' ', text @ ..] = line else {
         return None;
     };
-    if *byte == b'M' {
-        let moment = number(text)?;
-        return Some(Head::Mark(moment));
+    let action = action_of(format, *byte)?;
+    if has_message(action) {
+        let (moment, len) = read_numbers(text)?;
+        return Some(Head::Message(action, moment, len));
     }
-    let action = action_of(*byte)?;
-    let (moment, len) = read_numbers(text)?;
-    Some(Head::Message(action, moment, len))
+    let moment = number(text)?;
+    Some(Head::Plain(action, moment))
 }

@@ -9,7 +9,7 @@ use thiserror::Error;
 /// Why an entry of a log, or its header, cannot be read. The first five are faults of the log itself.
 #[derive(Clone, Copy, Debug, PartialEq, Eq, Error)]
 pub enum LogError {
-    /// The first two lines are not the header.
+    /// The first two lines are no header's.
     #[error("no header")]
     Header,
     /// The line is no entry's, or the byte after a message is no line feed.

@@ -1,10 +1,12 @@
 //! How far a log was read.
 ghost use Rattle.std.specs.Prelude.{◌≡◌, ℕ, List, [], None, IsSome};
+ghost use Rattle.sip_log.specs.declared.format.Format.TheVariants.{One};
 ghost use Rattle.sip_log.specs.Reading.{Stage, fresh, failed, Place, beside_source, Moves, Opens, Nexts};
 ghost use Rattle.sip_log.specs.Told.{TellsWhatComes, next_of};
 ghost use Rattle.sip_log.specs.inner.Entry.{EntryComes};
 
 use crate::entry::{Entry, next_entry};
+use crate::format::Format;
 use crate::header::read_header;
 use crate::log_error::LogError;
 use crate::source::Source;
@@ -28,6 +30,7 @@ enum Stage {
 pub struct Progress {
     alloc: Global,
     stage: Stage,
+    format: Format,
     params: Option<Params>,
     count: u32,
     last: u64,
@@ -42,7 +45,7 @@ impl Model for Progress {
     ghost use Rattle.sip_log.specs.inner.Place.{stage_of, held_at, FitsStage};
     ghost use Rattle.sip_log.specs.Log.{most_entries};
 
-    ghost view = { λ p. record { stage = stage_of p.stage; held = held_at p.stage; times = p.params; count = p.count; last = p.last } };
+    ghost view = { λ p. record { stage = stage_of p.stage; held = held_at p.stage; format = p.format; times = p.params; count = p.count; last = p.last } };
 
     ghost invariant = { λ p. (p.count ≤ most_entries) × FitsStage p.stage p.params p.count p.last };
 }
@@ -52,11 +55,12 @@ impl Progress {
 
     /// Nothing was read. Takes no memory.
     pub fn new(alloc: Global) -> Progress
-        ensures { result ≡ record { stage = fresh; held = []; times = None; count = 0; last = 0 } }
+        ensures { result ≡ record { stage = fresh; held = []; format = One; times = None; count = 0; last = 0 } }
     {
         Progress {
             alloc,
             stage: Stage::Fresh,
+            format: Format::One,
             params: None,
             count: 0,
             last: 0,
@@ -71,10 +75,12 @@ impl Progress {
     {
         let mut window = Window::new(alloc)?;
         match read_header(&mut window, source) {
-            Ok(params) => {
+            Ok(header) => {
+                let (format, params) = header;
                 let progress = Progress {
                     alloc,
                     stage: Stage::Entries(window),
+                    format,
                     params: Some(params),
                     count: 0,
                     last: 0,
@@ -117,7 +123,9 @@ impl Progress {
             Stage::Fresh => {
                 let mut window = Window::new(self.alloc)?;
                 match read_header(&mut window, source) {
-                    Ok(params) => {
+                    Ok(header) => {
+                        let (format, params) = header;
+                        self.format = format;
                         self.params = Some(params);
                         self.entry(window, buffer, source)
                     }
@@ -143,11 +151,19 @@ impl Progress {
         requires stage { self.old.stage ≡ failed }
         requires times { IsSome self.old.times }
         ensures moves { Moves self.old.count self.old.last (beside_source self.new (R.left source.new) (R.has_failed source.new)) result }
+        ensures format { self.new.format ≡ self.old.format }
         ensures times { self.new.times ≡ self.old.times }
         ensures says { TellsWhatComes (unread window (R.left source.old)) (beside_source self.new (R.left source.new) (R.has_failed source.new)).left
-            (R.has_failed source.old) (R.has_failed source.new) (EntryComes self.old.count self.old.last) next_of result }
+            (R.has_failed source.old) (R.has_failed source.new) (EntryComes self.old.format self.old.count self.old.last) next_of result }
     {
-        match next_entry(buffer, &mut window, source, self.count, self.last) {
+        match next_entry(
+            buffer,
+            &mut window,
+            source,
+            self.format,
+            self.count,
+            self.last,
+        ) {
             Ok(Some(entry)) => {
                 self.count = entry.number;
                 self.last = entry.moment;

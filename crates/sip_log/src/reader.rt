@@ -1,5 +1,6 @@
 //! Reads a log, entry by entry.
 ghost use Rattle.std.specs.Prelude.{◌≡◌, None};
+ghost use Rattle.sip_log.specs.declared.format.Format.TheVariants.{One};
 ghost use Rattle.sip_log.specs.Reading.{fresh, ReaderState, beside_source, Nexts};
 
 use crate::entry::Entry;
@@ -28,7 +29,7 @@ impl<R: Source> Model for LogReader<R> {
 impl<R: Source> LogReader<R> {
     /// Reads nothing yet, and takes no memory.
     pub fn new(alloc: Global, source: R) -> LogReader<R>
-        ensures { result ≡ record { stage = fresh; left = R.left source; times = None; count = 0; last = 0; has_failed = R.has_failed source } }
+        ensures { result ≡ record { stage = fresh; left = R.left source; format = One; times = None; count = 0; last = 0; has_failed = R.has_failed source } }
     {
         LogReader {
             source,

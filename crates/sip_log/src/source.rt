@@ -1,5 +1,5 @@
 //! Where a log's bytes come from.
-ghost use Rattle.std.specs.Prelude.{◌≡◌, ◌≢◌, ℕ, Bool, true, false, List, Option, Some, OnOk, OnErr, is_some};
+ghost use Rattle.std.specs.Prelude.{◌≡◌, ◌≢◌, ℕ, Bool, true, false, if◌then◌else◌, List, [], Option, Some, OnOk, OnErr, is_some};
 ghost use Rattle.std.specs.Option.{ForSome};
 ghost use Rattle.std.specs.declared.io.ErrorKind.TheVariants.{Interrupted};
 ghost use Rattle.sip_log.specs.Source.{Fills};
@@ -62,10 +62,12 @@ impl<'a> Source for &'a [u8] {
 }
 
 /// A source over a reader of std. A read that was interrupted is tried again; any other error is a failure, and its kind is kept.
+/// A reader that told its end is not asked again.
 #[derive(Debug, Drop)]
 pub struct FromRead<R> {
     reader: R,
     failure: Option<ErrorKind>,
+    ended: bool,
 }
 
 impl<R: Read> FromRead<R> {
@@ -77,6 +79,7 @@ impl<R: Read> FromRead<R> {
         FromRead {
             reader,
             failure: None,
+            ended: false,
         }
     }
 
@@ -84,6 +87,7 @@ impl<R: Read> FromRead<R> {
     fn read_on(&mut self, buf: &mut [u8]) -> Result<usize, Broken>
         ensures bytes { Fills (R.remaining self.old.reader) (R.remaining self.new.reader) result buf.new }
         ensures ok { OnOk result (self.new.failure ≡ self.old.failure) }
+        ensures same { self.new.ended ≡ self.old.ended }
         ensures err { OnErr result (is_some self.new.failure ≡ true) }
         ensures retried { OnErr result (ForSome self.new.failure (λ kind. kind ≢ Interrupted)) }
     {
@@ -103,12 +107,17 @@ impl<R: Read> FromRead<R> {
 }
 
 impl<R: Read> Source for FromRead<R> {
-    ghost left = { λ s. R.remaining s.reader };
+    ghost left = { λ s. if s.ended then Some [] else R.remaining s.reader };
 
     ghost has_failed = { λ s. is_some s.failure };
 
     fn fill(&mut self, buf: &mut [u8]) -> Result<usize, Broken> {
-        self.read_on(buf)
+        if self.ended {
+            return Ok(0);
+        }
+        let count = self.read_on(buf)?;
+        self.ended = count == 0 && !buf.is_empty();
+        Ok(count)
     }
 
     fn has_failed(&self) -> bool {

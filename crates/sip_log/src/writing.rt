@@ -1,7 +1,8 @@
 //! Writes a log: its header, and then its entries.
 ghost use Rattle.std.specs.Prelude.{◌≡◌, ◌++◌, ◌∷◌, [], ℕ, List, length, decimal, codes, true, OnOk, OnErr};
 ghost use Rattle.std.specs.Io.KnownBytes.{Appends};
-ghost use Rattle.sip_log.specs.Spelling.{header_text, entry_text, times_text, line_text, length_text, body_text, letter, line_feed};
+ghost use Rattle.sip_log.specs.Spelling.{timers_text, header_text, written_rules, entry_text, line_text, length_text, body_text, letter, line_feed};
+ghost use Rattle.sip_log.specs.declared.format.Format.TheVariants.{One, Two};
 ghost use Rattle.sip_log.specs.Log.{IsWithinLimits};
 ghost use Rattle.sip_log.specs.Writing.{Puts, Writes, WritesWithin};
 
@@ -10,23 +11,74 @@ use crate::line::{is_within_limits, letter_of};
 use crate::sink::Sink;
 use crate::write_error::WriteError;
 use itoa::Buffer;
-use sip_times::{Action, Params};
+use sip_times::{Action, Params, Rules};
 
-/// Writes the header of a log: the format, and the times of the element. Takes no memory.
+/// Writes the header of a log of format 1: the format, the times of the element, and its rules where they are those of
+/// RFC 3261. Takes no memory.
+///
+/// `WriteError::Limit` is answered where early and late differ, since this format has one tolerance; nothing is written
+/// then.
 pub fn write_header<W: Sink>(writer: &mut W, params: &Params) -> Result<(), WriteError>
-    ensures { Writes (W.written writer.old) (W.written writer.new) (W.has_failed writer.old) (W.has_failed writer.new)
-        (header_text params.now) result }
+    ensures { WritesWithin (params.now.early ≡ params.now.late) writer.old writer.new
+        (Writes (W.written writer.old) (W.written writer.new) (W.has_failed writer.old) (W.has_failed writer.new)
+        (header_text One params.now) result) result }
 {
-    writer.put(b"sip-trace 1\n")?;
-    put_named(writer, b"t1 ", params.t1())?;
-    put_named(writer, b" t2 ", params.t2())?;
-    put_named(writer, b" t4 ", params.t4())?;
-    put_named(writer, b" tolerance ", params.tolerance())?;
-    writer.put(b"\n")?;
+    if params.early() != params.late() {
+        return Err(WriteError::Limit);
+    }
+    put_header(writer, params)?;
     Ok(())
 }
 
-/// Writes an entry: what was done at a moment, in milliseconds, and the message. With a mark the bytes play no part.
+/// Writes the header of a log of format 2: the format, the times of the element, and its rules where they are those of
+/// RFC 3261. Takes no memory.
+pub fn write_header_2<W: Sink>(writer: &mut W, params: &Params) -> Result<(), WriteError>
+    ensures { Writes (W.written writer.old) (W.written writer.new) (W.has_failed writer.old) (W.has_failed writer.new)
+        (header_text Two params.now) result }
+{
+    writer.put(b"sip-trace 2\n")?;
+    put_timers(writer, params)?;
+    put_named(writer, b" early ", params.early())?;
+    put_named(writer, b" late ", params.late())?;
+    writer.put(b"\n")?;
+    put_rules(writer, params.rules())?;
+    Ok(())
+}
+
+/// Writes the header of format 1, with the late tolerance.
+fn put_header<W: Sink>(writer: &mut W, params: &Params) -> Result<(), Broken>
+    ensures { Puts (W.written writer.old) (W.written writer.new) (W.has_failed writer.old) (W.has_failed writer.new)
+        (header_text One params.now) result }
+{
+    writer.put(b"sip-trace 1\n")?;
+    put_timers(writer, params)?;
+    put_named(writer, b" tolerance ", params.late())?;
+    writer.put(b"\n")?;
+    put_rules(writer, params.rules())
+}
+
+/// Writes T1, T2 and T4 with their names.
+fn put_timers<W: Sink>(writer: &mut W, params: &Params) -> Result<(), Broken>
+    ensures { Puts (W.written writer.old) (W.written writer.new) (W.has_failed writer.old) (W.has_failed writer.new)
+        (timers_text params.now) result }
+{
+    put_named(writer, b"t1 ", params.t1())?;
+    put_named(writer, b" t2 ", params.t2())?;
+    put_named(writer, b" t4 ", params.t4())
+}
+
+/// Writes the line of rules for those of RFC 3261, and nothing for others.
+fn put_rules<W: Sink>(writer: &mut W, rules: Rules) -> Result<(), Broken>
+    ensures { Puts (W.written writer.old) (W.written writer.new) (W.has_failed writer.old) (W.has_failed writer.new)
+        (written_rules rules) result }
+{
+    match rules {
+        Rules::R3261 => writer.put(b"rules 3261\n"),
+        Rules::R6026 => Ok(()),
+    }
+}
+
+/// Writes an entry: what was done at a moment, in milliseconds, and the message. With a mark or a restart the bytes play no part.
 /// Takes no memory.
 ///
 /// `WriteError::Limit` is answered where the moment is above 9,999,999,999,999, or a message has no byte or more than
@@ -48,7 +100,7 @@ pub fn write_entry<W: Sink>(
     Ok(())
 }
 
-/// Writes the spelling of an entry, whether or not it is within the limits. With a mark the bytes play no part.
+/// Writes the spelling of an entry, whether or not it is within the limits. With a mark or a restart the bytes play no part.
 /// Takes no memory.
 pub fn put_entry<W: Sink>(
     writer: &mut W,
@@ -74,18 +126,18 @@ fn put_line<W: Sink>(writer: &mut W, action: Action, moment: u64, len: u64) -> R
     writer.put(b"\n")
 }
 
-/// Writes the length of a message behind the moment; nothing for a mark.
+/// Writes the length of a message behind the moment; nothing where there is none.
 fn put_length<W: Sink>(writer: &mut W, action: Action, len: u64) -> Result<(), Broken>
     ensures { Puts (W.written writer.old) (W.written writer.new) (W.has_failed writer.old) (W.has_failed writer.new)
         (length_text action len) result }
 {
     match action {
         Action::Sent | Action::Received | Action::Failed => put_named(writer, b" ", len),
-        Action::Mark => Ok(()),
+        Action::Mark | Action::Restart => Ok(()),
     }
 }
 
-/// Writes a message and its line feed; nothing for a mark.
+/// Writes a message and its line feed; nothing where there is none.
 fn put_body<W: Sink>(writer: &mut W, action: Action, bytes: &[u8]) -> Result<(), Broken>
     ensures { Puts (W.written writer.old) (W.written writer.new) (W.has_failed writer.old) (W.has_failed writer.new)
         (body_text action bytes.now) result }
@@ -95,7 +147,7 @@ fn put_body<W: Sink>(writer: &mut W, action: Action, bytes: &[u8]) -> Result<(),
             writer.put(bytes)?;
             writer.put(b"\n")
         }
-        Action::Mark => Ok(()),
+        Action::Mark | Action::Restart => Ok(()),
     }
 }
 

@@ -1,5 +1,6 @@
 pub mod OwingSteps
 pub mod RepliesLemmas
+pub mod Rows3261
 pub mod RuleLaws
 pub mod SingleLemmas
 pub mod BothLemmas
@@ -8,12 +9,16 @@ mod OrderLaws
 mod RunLaws
 pub mod OutboxLemmas
 pub mod RunsLemmas
+pub mod RebuiltLemmas
 pub mod FingerprintLemmas
 pub mod SummaryLemmas
 pub mod RisesLemmas
 pub mod RunOrderLemmas
+pub mod PayableLemmas
 pub mod ProvisionalLemmas
 pub mod AckLemmas
+pub mod BesideLemmas
 pub mod ToLemmas
 pub mod RetainLemmas
+pub mod HolderLemmas
 pub mod NamingLemmas

@@ -1,7 +1,7 @@
 use Prim.Native.Nat.{suc}
-use Rattle.std.specs.Prelude.{◌≡◌, ◌<◌, ◌≤◌, ◌+◌, ◌-◌, ℕ, Bool, true, false, Option, Some, option_to_list, List, [], ◌∷◌, ◌++◌, All, IsTrue, length, map, filter, min, replicate, take, drop, get_or}
+use Rattle.std.specs.Prelude.{◌≡◌, ◌<◌, ◌≤◌, ◌+◌, ◌-◌, ◌&&◌, ℕ, Bool, true, false, Option, Some, option_to_list, List, [], ◌∷◌, ◌++◌, All, IsTrue, length, map, filter, max, min, nat_le, replicate, take, drop, get_or}
 use Rattle.std.specs.List.{fold}
-use Rattle.std.proofs.Common.{refl, sym, ◌∙◌, ap, arith, cond}
+use Rattle.std.proofs.Common.{inl, inr, refl, sym, ◌∙◌, ap, arith, cond, true≢false}
 use Rattle.std.proofs.lemmas.Bool.Decides.{nat_tests}
 use Rattle.std.proofs.lemmas.List.{append-nil, length-append, length-replicate, map-append}
 use Rattle.std.proofs.lemmas.List.Elements.{All-append, All-head, All-tail, All-replicate, All-weaker, filter-append}
@@ -11,7 +11,9 @@ use Rattle.sip_machine.specs.Debts.{earliest}
 use Rattle.sip_machine.specs.inner.Outbox.{counts_at, debt_deadlines}
 use Rattle.sip_machine.specs.inner.DebtLaws.{All-front, All-back, earliest-some}
 use Rattle.sip_machine.specs.inner.Runs.{debts_of}
-use Rattle.sip_machine.proofs.RunsLemmas.{around, deadlines-each, deadlines-none, fold-each}
+use Rattle.sip_machine.specs.inner.Summaries.{AreBetween, Climbs, due_with, fresh_with}
+use Rattle.sip_machine.proofs.RisesLemmas.{RisesBy-more}
+use Rattle.sip_machine.proofs.RunsLemmas.{around, deadlines-each, deadlines-none, fold-each, must-cases}
 
 -- Laws of what is known of debts.
 
@@ -78,7 +80,7 @@ all-before s t debts le all = All-weaker (λ d. IsTrue (counts_at t d)) (λ d. I
 counts-must : (t : ℕ) (d : Debt) → d.must ≡ true → IsTrue (counts_at t d)
 counts-must t d must = grind (arith, nat_tests)
 
-counts-may : (t : ℕ) (d : Debt) → t ≤ d.deadline → IsTrue (counts_at t d)
+pub counts-may : (t : ℕ) (d : Debt) → t ≤ d.deadline → IsTrue (counts_at t d)
 counts-may t d le = grind (arith, nat_tests)
 
 pub fresh-must : (debts : List Debt) (n t : ℕ) (d : Debt) → d.must ≡ true → All (λ d. IsTrue (counts_at t d)) debts →
@@ -91,6 +93,61 @@ pub fresh-may : (debts : List Debt) (n s t : ℕ) (d : Debt) → s ≤ t → s �
 fresh-may debts n s t d le low all =
     All-append (λ d. IsTrue (counts_at s d)) debts (replicate n d) (all-before s t debts le all)
     (All-replicate (λ d. IsTrue (counts_at s d)) n d (counts-may s d low))
+
+-- the least deadline, whatever the debt is
+pub due-more : (debts : List Debt) (n : ℕ) (d : Debt) (due more : Option ℕ) → 0 < n → due ≡ earliest (debt_deadlines debts) → more ≡ due_with due d →
+    more ≡ earliest (debt_deadlines (debts ++ replicate n d))
+due-more debts n d due more some is told =
+    elim (must-cases d.must) [
+      | inl must ↦
+          told
+          ∙ ap (λ b. cond b (earliest (d.deadline ∷ option_to_list due)) due) must
+          ∙ due-must debts n d due (fold min d.deadline (option_to_list due)) must some is refl
+      | inr may ↦
+          told
+          ∙ ap (λ b. cond b (earliest (d.deadline ∷ option_to_list due)) due) may
+          ∙ due-may debts n d due may is
+    ]
+
+-- and what counts up to some moment
+pub fresh-more : (debts : List Debt) (n t more : ℕ) (d : Debt) → All (λ d. IsTrue (counts_at t d)) debts → more ≡ fresh_with t d →
+    All (λ d. IsTrue (counts_at more d)) (debts ++ replicate n d)
+fresh-more debts n t more d all told =
+    elim (must-cases d.must) [
+      | inl must ↦
+          let is : more ≡ t = told ∙ ap (λ b. cond b t (min t d.deadline)) must in
+          rw is (fresh-must debts n t d must all)
+      | inr may ↦
+          let is : more ≡ min t d.deadline = told ∙ ap (λ b. cond b t (min t d.deadline)) may in
+          fresh-may debts n more t d (omega (arith, is)) (omega (arith, is)) all
+    ]
+
+-- the numbers of messages, with one more and with one less
+pub numbers-more : (debts : List Debt) (n low high : ℕ) (d : Debt) → AreBetween low high debts →
+    AreBetween (min low d.message) (max high d.message) (debts ++ replicate n d)
+numbers-more debts n low high d all =
+    let P = λ (e : Debt). (min low d.message ≤ e.message) × (e.message ≤ max high d.message) in
+    All-append P debts (replicate n d)
+    (All-weaker (λ e. (low ≤ e.message) × (e.message ≤ high)) P (λ e h. (omega (arith, h.0), omega (arith, h.1))) debts all)
+    (All-replicate P n d (omega arith, omega arith))
+
+pub numbers-less : (before after : List Debt) (low high : ℕ) (d : Debt) → AreBetween low high (before ++ d ∷ after) → AreBetween low high (before ++ after)
+numbers-less before after low high d all =
+    let P = λ (e : Debt). (low ≤ e.message) × (e.message ≤ high) in
+    All-append P before after (All-front P before (d ∷ after) all) (All-tail P d after (All-back P before (d ∷ after) all))
+
+-- they climb still where the last one is above them
+both_true : (a b : Bool) → (a && b) ≡ true → (a ≡ true) × (b ≡ true)
+both_true true b e = (refl, e)
+both_true false b e = absurd (true≢false (sym e))
+
+pub climbs-more : (debts : List Debt) (n low high : ℕ) (d : Debt) (climbs more : Bool) → AreBetween low high debts → (IsTrue climbs → Climbs debts) →
+    more ≡ (climbs && nat_le high d.message) → IsTrue more → Climbs (debts ++ replicate n d)
+climbs-more debts n low high d climbs more all rises told is =
+    let both = both_true climbs (nat_le high d.message) (sym told ∙ is) in
+    let le : high ≤ d.message = grind (arith, nat_tests, both.1) in
+    RisesBy-more (λ e. e.message) debts n d (rises both.0)
+    (All-weaker (λ e. (low ≤ e.message) × (e.message ≤ high)) (λ e. e.message ≤ d.message) (λ e h. omega (arith, h.1, le)) debts all)
 
 -- so many more
 pub count-more : (debts : List Debt) (n : ℕ) (d : Debt) → length (debts ++ replicate n d) ≡ length debts + n

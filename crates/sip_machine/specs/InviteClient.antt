@@ -92,7 +92,7 @@ sends_by p x = []
 -- the figure of the INVITE client
 abbrev pub invite_client : Figure InviteClientPhase
 invite_client =
-    record { idle = Idle; ended = Ended; Receives = Receives; Sends = Sends; Satisfies = Satisfies; ends_refused = ends_refused; window = timer_window; sends_by = sends_by }
+    record { idle = Idle; ended = Ended; Receives = Receives; Sends = Sends; Satisfies = Satisfies; Stays = λ x k. ⊥; ends_refused = ends_refused; window = timer_window; sends_by = sends_by }
 
 -- until when its timers let a phase last
 abbrev pub closes : Times → InviteClientPhase → List ℕ

@@ -19,6 +19,8 @@ pub mod PlainClient
 pub mod PlainServer
 pub mod InviteClient
 pub mod InviteServer
+pub mod InviteClient3261
+pub mod InviteServer3261
 pub mod Transaction
 pub mod Naming
 pub mod Retained

@@ -1,5 +1,6 @@
-use Rattle.std.specs.Prelude.{◌≤◌, ℕ, Bool, List}
+use Rattle.std.specs.Prelude.{◌≢◌, ◌≤◌, ℕ, Bool, List}
 use Rattle.sip_times.specs.declared.action.Action.{Action}
+use Rattle.sip_times.specs.declared.action.Action.TheVariants.{Restart}
 use Rattle.sip_machine.specs.declared.event.Kind.{Kind}
 use Rattle.sip_machine.specs.Times.{last_moment}
 use Rattle.sip_machine.specs.NumberedEvent.{NumberedEvent}
@@ -19,6 +20,11 @@ event_in texts e =
     record { moment = e.moment; action = e.action; text = text_of texts e.number; kind = e.kind; reliable = e.reliable }
 
 -- the book keeps the message of the event, and its moment is within the limits
-pub record FitsBook (texts : Texts) (e : NumberedEvent) : Type 0 where
+pub record KeepsMessage (texts : Texts) (e : NumberedEvent) : Type 0 where
   pub keeps : Keeps texts e.number
+  pub limit : e.moment ≤ last_moment
+
+-- so it is with an event of a message; a restart has none, and fits any book
+pub record FitsBook (texts : Texts) (e : NumberedEvent) : Type 0 where
+  pub keeps : e.action ≢ Restart → Keeps texts e.number
   pub limit : e.moment ≤ last_moment

@@ -57,7 +57,7 @@ sends_by p x = []
 -- the figure of the non-INVITE client: it owes nothing, and a refused request ends it, section 17.1.4
 abbrev pub plain_client : Figure PlainClientPhase
 plain_client =
-    record { idle = Idle; ended = Ended; Receives = Receives; Sends = Sends; Satisfies = λ x k e message. ⊥; ends_refused = λ x k. true; window = timer_window; sends_by = sends_by }
+    record { idle = Idle; ended = Ended; Receives = Receives; Sends = Sends; Satisfies = λ x k e message. ⊥; Stays = λ x k. ⊥; ends_refused = λ x k. true; window = timer_window; sends_by = sends_by }
 
 -- until when its timers let a phase last
 abbrev pub closes : Times → PlainClientPhase → List ℕ

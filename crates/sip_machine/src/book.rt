@@ -6,14 +6,15 @@ ghost use Rattle.sip_machine.specs.Texts.{IsBook, Keeps, text_of};
 ghost use Rattle.sip_machine.specs.Retained.{only};
 ghost use Rattle.sip_message.specs.Reads.{Reads};
 ghost use Rattle.sip_machine.specs.inner.ReadAs.{IsReadAs};
-ghost use Rattle.sip_machine.specs.inner.Tos.{IsToOf};
+ghost use Rattle.sip_machine.specs.inner.Tos.{IsToOf, HoldsBetween, count_between};
 ghost use Rattle.sip_machine.specs.inner.Order.{texts_of, bytes_at, key_of, compare, begins_by, places_of, index_of, most_places, IsLed, IsInRuns, IsInside, IsGap};
 
 mod retain;
 
-use crate::book::retain::{is_among, keep_only, move_all};
+use crate::book::retain::{keep_only, move_all};
 use crate::event::is_unsuccessful;
 use crate::hashed::{Hashed, hash};
+use crate::tos::{Holder, Tos};
 use sip_key::solid_of;
 use sip_message::{Message, ReadError, StartLine};
 use std::alloc::{AllocError, Global};
@@ -28,8 +29,8 @@ use std::marker::Model;
 pub struct Book {
     kept: Vec<Kept>,
     order: Vec<Run>,
-    /// The To of some of the messages, that of a lower number first.
-    tos: Vec<To>,
+    /// The To of some of the messages.
+    tos: Tos,
     /// Buffers of messages that were forgotten, for those that come.
     spare: Vec<Vec<u8>>,
 }
@@ -39,13 +40,6 @@ pub struct Book {
 struct Kept {
     number: u32,
     bytes: Vec<u8>,
-}
-
-/// The To of the message with this number, without its blanks.
-#[derive(Debug, Drop)]
-struct To {
-    number: u32,
-    text: Hashed,
 }
 
 /// Where a message stands among those that are kept, with the hash of its bytes.
@@ -82,7 +76,7 @@ impl Model for Book {
 
     ghost view = { λ b. texts_of b.kept.items };
 
-    ghost invariant = { λ b. IsBook (texts_of b.kept.items) × IsInRuns (texts_of b.kept.items) b.order.items × AreTos (texts_of b.kept.items) b.tos.items };
+    ghost invariant = { λ b. IsBook (texts_of b.kept.items) × IsInRuns (texts_of b.kept.items) b.order.items × AreTos (texts_of b.kept.items) b.tos };
 }
 
 impl Book {
@@ -93,7 +87,7 @@ impl Book {
         Book {
             kept: Vec::new(alloc),
             order: Vec::new(alloc),
-            tos: Vec::new(alloc),
+            tos: Tos::new(alloc),
             spare: Vec::new(alloc),
         }
     }
@@ -175,9 +169,18 @@ impl Book {
     fn to_of(&self, number: u32, near: &mut usize) -> Option<&Hashed>
         ensures { IfSome result (λ to. IsToOf (text_of self.now number) to.now) }
     {
-        let at = place_of(&self.tos, number, *near)?;
-        *near = at + 1;
-        Some(&self.tos[at].text)
+        self.tos.get(number, near)
+    }
+
+    /// Which of the messages with numbers from `low` up to `high` has this To, from which the blanks were taken, where it
+    /// is told without a look at each of them: each has its To beside it, and no two have this one.
+    pub(crate) fn holder(&self, to: &Hashed, low: u32, high: u32) -> Holder
+        ensures { HoldsBetween self.now to.now low high result }
+    {
+        if kept_between(&self.kept, low, high) != self.tos.between(low, high) {
+            return Holder::Unknown;
+        }
+        self.tos.holder(to)
     }
 
     /// Puts the To of a message beside it where an ACK is owed for it, so that no ACK reads it anew. Where there is
@@ -187,12 +190,14 @@ impl Book {
         requires read { Reads (text_of self.old number) message.now }
         ensures { self.new ≡ self.old }
     {
-        if !is_refusal(message) || self.tos.last().is_some_and(|to| number <= to.number) {
+        if !is_refusal(message) {
+            return;
+        }
+        if !self.tos.are_below(number) {
             return;
         }
         if let Ok(text) = solid_of(*self.kept.allocator(), message.to().whole) {
-            let text = Hashed::of(text);
-            let _ = self.tos.push(To { number, text });
+            let _ = self.tos.push(number, Hashed::of(text));
         }
     }
 
@@ -231,7 +236,7 @@ impl Book {
     {
         move_all(&mut self.order, &self.kept, numbers);
         keep_only(&mut self.kept, &mut self.spare, numbers);
-        self.tos.retain(|to| is_among(numbers, to.number));
+        self.tos.retain(numbers);
     }
 }
 
@@ -245,18 +250,14 @@ fn is_refusal(message: &Message<'_>) -> bool {
     }
 }
 
-/// Where the To of the message with this number stands: here, or where a search finds it.
-fn place_of(tos: &[To], number: u32, here: usize) -> Option<usize>
-    ensures within { IfSome result (λ at. at < length tos.now) }
-    ensures number { IfSome result (λ at. HoldsAt (λ to. to.number ≡ number) tos.now at) }
+/// How many of the messages have numbers from `low` up to `high`.
+fn kept_between(kept: &[Kept], low: u32, high: u32) -> usize
+    requires { AllPairs (λ a b. a.0 < b.0) (texts_of kept.now) }
+    ensures { result ≡ count_between low high (map (λ k. k.0) (texts_of kept.now)) }
 {
-    if here < tos.len() && tos[here].number == number {
-        return Some(here);
-    }
-    match tos.binary_search_by_key(&number, |to| to.number) {
-        Ok(at) => Some(at),
-        Err(_) => None,
-    }
+    let from = kept.partition_point(|kept| kept.number < low);
+    let to = kept.partition_point(|kept| kept.number <= high);
+    to.saturating_sub(from)
 }
 
 /// The position of the message with these bytes; where there is none, its gap in the order.

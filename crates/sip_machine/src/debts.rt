@@ -1,10 +1,11 @@
 //! How debts lie beside a phase: in a box where some are owed, and not at all where a transaction owes nothing.
-ghost use Rattle.std.specs.Prelude.{◌≡◌, ◌<◌, ◌++◌, ◌∷◌, [], List, IfOk, OnOk, OnErr, IsTrue, All, filter, length, map, flat_map, remove, replicate};
-ghost use Rattle.std.specs.Bool.{OnTrue, OnFalse};
+ghost use Rattle.std.specs.Prelude.{◌≡◌, ◌<◌, ◌++◌, ◌∷◌, [], List, IfOk, OnOk, OnErr, IsTrue, All, filter, map, flat_map, remove, replicate};
 ghost use Rattle.std.specs.Cmp.Lexicographic.{pointwise};
-ghost use Rattle.sip_machine.specs.Debts.{IsWithoutFirst, earliest};
+ghost use Rattle.sip_machine.specs.Debts.{earliest};
 ghost use Rattle.sip_machine.specs.inner.Fingerprints.{debts_cmp, fingerprint};
+ghost use Rattle.sip_machine.specs.inner.Paying.{FindsFirst};
 ghost use Rattle.sip_machine.specs.inner.Outbox.{counts_at, softened_debt, is_payable, debt_deadlines};
+ghost use Rattle.sip_machine.specs.inner.Summaries.{AreBetween};
 ghost use Rattle.sip_machine.specs.declared.outbox.Debt.{Debt};
 
 use crate::outbox::{Debt, Outbox, Run};
@@ -31,24 +32,26 @@ pub trait Debts: Debug + Drop {
     fn try_clone(&self, alloc: Global) -> Result<Self, AllocError>
         ensures { IfOk result (λ copy. listed copy ≡ listed self.now) };
 
-    /// A copy without what may be sent and whose deadline is below the moment.
-    fn unexpired(&self, alloc: Global, moment: u64) -> Result<Self, AllocError>
-        ensures { IfOk result (λ copy. listed copy ≡ filter (counts_at moment) (listed self.now)) };
+    /// Drops what may be sent and whose deadline is below the moment.
+    fn expire(&mut self, moment: u64)
+        ensures { listed self.new ≡ filter (counts_at moment) (listed self.old) };
 
-    /// A copy of which all may be sent, and none has to be.
-    fn softened(&self, alloc: Global) -> Result<Self, AllocError>
-        ensures { IfOk result (λ copy. listed copy ≡ map softened_debt (listed self.now)) };
+    /// Lets all of them be sent, so that none has to be.
+    fn soften(&mut self)
+        ensures { listed self.new ≡ map softened_debt (listed self.old) };
 
     /// Adds a debt behind the others. On an error they are as before.
     fn push(&mut self, alloc: Global, debt: Debt) -> Result<(), AllocError>
         ensures ok { OnOk result (listed self.new ≡ listed self.old ++ debt ∷ []) }
         ensures err { OnErr result (listed self.new ≡ listed self.old) };
 
-    /// Takes out the first debt that a send of the message at the moment pays, and tells whether there was one.
-    fn pay(&mut self, message: u32, moment: u64) -> bool
-        ensures paid { OnTrue result (IsWithoutFirst (λ debt. IsTrue (is_payable message moment debt)) (listed self.old) (listed self.new)) }
-        ensures unpaid { OnFalse result ((listed self.new ≡ listed self.old)
-            × All (λ debt. ¬ (IsTrue (is_payable message moment debt))) (listed self.old)) };
+    /// The index of the first debt that a send of the message at the moment pays, None if it pays none.
+    fn payable(&self, message: u32, moment: u64) -> Option<usize>
+        ensures { FindsFirst (λ debt. IsTrue (is_payable message moment debt)) (listed self.now) result };
+
+    /// Numbers between which those of all messages are that are owed.
+    fn span(&self) -> (u32, u32)
+        ensures { AreBetween result.0 result.1 (listed self.now) };
 
     /// Takes out the debt at the index, if there is one.
     fn remove(&mut self, index: usize)
@@ -127,17 +130,22 @@ impl Debts for BoxedDebts {
         }
     }
 
-    fn unexpired(&self, alloc: Global, moment: u64) -> Result<BoxedDebts, AllocError> {
-        match &self.outbox {
-            Some(outbox) => BoxedDebts::of(alloc, outbox.unexpired(moment)?),
-            None => Ok(BoxedDebts::none()),
+    fn expire(&mut self, moment: u64) {
+        let Some(outbox) = &mut self.outbox else {
+            return;
+        };
+        outbox.expire(moment);
+        if outbox.is_empty() {
+            *self = BoxedDebts::none();
+        } else {
+            self.print = outbox.fingerprint();
         }
     }
 
-    fn softened(&self, alloc: Global) -> Result<BoxedDebts, AllocError> {
-        match &self.outbox {
-            Some(outbox) => BoxedDebts::of(alloc, outbox.softened()?),
-            None => Ok(BoxedDebts::none()),
+    fn soften(&mut self) {
+        if let Some(outbox) = &mut self.outbox {
+            outbox.soften();
+            self.print = outbox.fingerprint();
         }
     }
 
@@ -157,20 +165,28 @@ impl Debts for BoxedDebts {
         }
     }
 
-    fn pay(&mut self, message: u32, moment: u64) -> bool {
-        match &mut self.outbox {
-            Some(outbox) => {
-                let paid = outbox.pay(message, moment);
-                self.print = outbox.fingerprint();
-                paid
-            }
-            None => false,
+    fn payable(&self, message: u32, moment: u64) -> Option<usize> {
+        match &self.outbox {
+            Some(outbox) => outbox.payable(message, moment),
+            None => None,
+        }
+    }
+
+    fn span(&self) -> (u32, u32) {
+        match &self.outbox {
+            Some(outbox) => outbox.span(),
+            None => (0, 0),
         }
     }
 
     fn remove(&mut self, index: usize) {
-        if let Some(outbox) = &mut self.outbox {
-            outbox.remove(index);
+        let Some(outbox) = &mut self.outbox else {
+            return;
+        };
+        outbox.remove(index);
+        if outbox.is_empty() {
+            *self = BoxedDebts::none();
+        } else {
             self.print = outbox.fingerprint();
         }
     }
@@ -239,20 +255,20 @@ impl Debts for NoDebts {
         Ok(NoDebts)
     }
 
-    fn unexpired(&self, _alloc: Global, _moment: u64) -> Result<NoDebts, AllocError> {
-        Ok(NoDebts)
-    }
+    fn expire(&mut self, _moment: u64) {}
 
-    fn softened(&self, _alloc: Global) -> Result<NoDebts, AllocError> {
-        Ok(NoDebts)
-    }
+    fn soften(&mut self) {}
 
     fn push(&mut self, _alloc: Global, _debt: Debt) -> Result<(), AllocError> {
         Err(AllocError)
     }
 
-    fn pay(&mut self, _message: u32, _moment: u64) -> bool {
-        false
+    fn payable(&self, _message: u32, _moment: u64) -> Option<usize> {
+        None
+    }
+
+    fn span(&self) -> (u32, u32) {
+        (0, 0)
     }
 
     fn remove(&mut self, _index: usize) {}

@@ -1,8 +1,10 @@
 //! What happened at a moment: a message that was sent, received, or refused by the transport.
-ghost use Rattle.std.specs.Prelude.{◌≡◌, ◌≢◌, ◌≤◌, ◌↔◌, IsTrue};
+ghost use Rattle.std.specs.Prelude.{◌≡◌, ◌≢◌, ◌≤◌, ◌↔◌, IsTrue, false};
 ghost use Rattle.sip_message.specs.Transport.{is_reliable};
 ghost use Rattle.sip_message.specs.ValueParts.{start_parts};
-ghost use Rattle.sip_times.specs.declared.action.Action.TheVariants.{Mark};
+ghost use Rattle.sip_times.specs.declared.action.Action.TheVariants.{Mark, Restart};
+ghost use Rattle.sip_machine.specs.declared.event.Kind.TheVariants.{Request};
+ghost use Rattle.sip_machine.specs.declared.event.Method.TheVariants.{Other};
 ghost use Rattle.sip_machine.specs.Times.{last_moment};
 ghost use Rattle.sip_machine.specs.Message.{method_named, kind_of, IsProvisional, IsFinal, IsSuccess, IsUnsuccessful};
 
@@ -113,6 +115,7 @@ impl Event {
     /// The event of a message, at a moment in milliseconds. Its transport is that of the top Via.
     pub fn of(moment: u64, action: Action, number: u32, message: &Message<'_>) -> Event
         requires action { action ≢ Mark }
+        requires message { action ≢ Restart }
         requires limit { moment ≤ last_moment }
         ensures { result ≡ record {
           moment = moment;
@@ -128,6 +131,20 @@ impl Event {
             number,
             kind: Kind::of(message.start()),
             reliable: message.is_reliable(),
+        }
+    }
+
+    /// A restart of the element, at a moment in milliseconds. It has no message.
+    pub fn restart(moment: u64) -> Event
+        requires { moment ≤ last_moment }
+        ensures { result ≡ record { moment = moment; action = Restart; number = 0; kind = Request Other; reliable = false } }
+    {
+        Event {
+            moment,
+            action: Action::Restart,
+            number: 0,
+            kind: Kind::Request(Method::Other),
+            reliable: false,
         }
     }
 

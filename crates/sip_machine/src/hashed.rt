@@ -40,6 +40,13 @@ impl Hashed {
         &self.text
     }
 
+    /// Equal texts have equal ones.
+    pub(crate) fn hash(&self) -> u64
+        ensures { result ≡ hash_of self.now }
+    {
+        self.hash
+    }
+
     /// Whether the texts are the same: other hashes tell at once that they are not.
     pub(crate) fn is(&self, other: &Hashed) -> bool
         ensures { result ≡ bytes_eq self.now other.now }

@@ -7,7 +7,7 @@ ghost use Rattle.sip_machine.specs.Texts.{Texts};
 ghost use Rattle.sip_machine.specs.Rules.{Knows};
 ghost use Rattle.sip_machine.specs.Owing.{turn_seen, turn_names, TurnInRange};
 ghost use Rattle.sip_machine.specs.inner.Single.{AnswersOne};
-ghost use Rattle.sip_machine.specs.MachineEvent.{FitsBook, event_in};
+ghost use Rattle.sip_machine.specs.MachineEvent.{KeepsMessage, event_in};
 ghost use Rattle.sip_machine.specs.InviteClient.{Sends, invite_client_seen, invite_client_names, InviteClientInRange};
 
 mod acks;
@@ -239,27 +239,25 @@ impl Phases for InviteClient {
         }))
     }
 
-    fn pays(
+    fn paid(
         &self,
         alloc: Global,
         book: &Book,
         phase: &InviteClientPhase,
         event: &Event,
-        owes: &mut Owes<InviteClientPhase>,
-    ) -> Result<bool, AllocError> {
+        owes: &Owes<InviteClientPhase>,
+    ) -> Result<Option<usize>, AllocError> {
         let Kind::Request(Method::Ack) = event.kind() else {
-            return Ok(false);
+            return Ok(None);
         };
         let InviteClientPhase::Completed { request, .. } = *phase else {
-            return Ok(false);
+            return Ok(None);
         };
-        match first_acked(alloc, book, request, owes.runs(), event)? {
-            Some(index) => {
-                owes.remove(index);
-                Ok(true)
-            }
-            None => Ok(false),
-        }
+        first_acked(alloc, book, request, owes, event)
+    }
+
+    fn stays(&self, _phase: &InviteClientPhase, _kind: Kind) -> bool {
+        false
     }
 
     fn ends_refused(&self, phase: &InviteClientPhase, kind: Kind) -> bool {

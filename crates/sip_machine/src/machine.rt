@@ -1,5 +1,6 @@
 //! What every machine of a transaction (RFC 3261 section 17) offers, and the laws that it keeps.
-ghost use Rattle.std.specs.Prelude.{◌≡◌, ◌++◌, [], ℕ, List, Option, OnOk, OnErr, Contains, true};
+ghost use Rattle.std.specs.Prelude.{◌≡◌, ◌++◌, ◌∷◌, [], ℕ, List, Option, IfOk, OnOk, OnErr, Contains, true};
+ghost use Rattle.std.specs.Bool.{OnTrue, OnFalse};
 ghost use Rattle.sip_machine.specs.MachineEvent.{FitsBook, event_in};
 ghost use Rattle.sip_machine.specs.Texts.{Texts, IsBook, text_of};
 ghost use Rattle.sip_machine.specs.Rules.{Rules, IsLawful, Knows, StandFor};
@@ -7,7 +8,7 @@ ghost use Rattle.sip_machine.specs.Naming.{AppendsAll};
 
 use crate::book::Book;
 use crate::event::Event;
-use std::alloc::AllocError;
+use std::alloc::{AllocError, Global};
 
 /// A machine of a transaction. What it means are its rules, over states that hold their messages as
 /// bytes; a state of the code holds numbers of a `Book` in their place.
@@ -65,6 +66,23 @@ pub trait Machine: Drop {
             × StandFor names in_range seen book.now
             ((rules self.now).Take (seen book.now state.now) (event_in book.now event.now)) added) }
         ensures err { OnErr result (out.new.items ≡ out.old.items) };
+
+    /// Takes the event where the state stands, if it gives just one state, and tells whether it did. If it did not, or on
+    /// an error, the state is as before.
+    fn step(
+        &self,
+        alloc: Global,
+        book: &Book,
+        state: &mut Self::State,
+        event: &Event,
+    ) -> Result<bool, AllocError>
+        requires fits { FitsBook book.now event.now }
+        requires known { Knows names book.now state.old }
+        requires in_range { in_range state.old }
+        ensures one { IfOk result (λ stepped. OnTrue stepped (StandFor names in_range seen book.now
+            ((rules self.now).Take (seen book.now state.old) (event_in book.now event.now)) (state.new ∷ []))) }
+        ensures other { IfOk result (λ stepped. OnFalse stepped (state.new ≡ state.old)) }
+        ensures err { OnErr result (state.new ≡ state.old) };
 
     /// From when, and until when if there is such a moment, the state may end; None if it may not.
     /// Moments are in milliseconds.

@@ -1,19 +1,20 @@
 //! What a machine owes, oldest cause first: a list of messages with their deadlines.
-ghost use Rattle.std.specs.Prelude.{◌≡◌, ◌≢◌, ◌↔◌, ◌++◌, ◌∷◌, [], ◌+◌, ◌<◌, ◌^◌, ℕ, List, IfOk, OnOk, OnErr, IsTrue, IfSome, All, length, position, remove, map, filter, take, drop, get_or, flat_map, replicate};
-ghost use Rattle.std.specs.Bool.{OnTrue, OnFalse};
-ghost use Rattle.std.specs.List.{find};
+ghost use Rattle.std.specs.Prelude.{◌≡◌, ◌≢◌, ◌↔◌, ◌++◌, ◌∷◌, [], ◌+◌, ◌<◌, ◌≤◌, ◌^◌, ℕ, List, IfOk, OnOk, OnErr, IsTrue, IfSome, All, length, position, remove, map, filter, take, drop, get_or, flat_map, replicate};
+ghost use Rattle.std.specs.List.{AllWithin, find};
+ghost use Rattle.std.specs.List.Sorted.{IsNonDecreasingBy};
 ghost use Rattle.std.specs.Option.{option_map};
 ghost use Rattle.std.specs.Ordering.{as_partial_cmp};
 ghost use Rattle.std.specs.Cmp.Lexicographic.{pointwise, slice_cmp, lists_per, lists_equiv};
 ghost use Rattle.sip_machine.specs.contracts.outbox.DebtPartialEq.TheImpl.Laws as partial_eq;
 ghost use Rattle.sip_machine.specs.contracts.outbox.DebtEq.TheImpl.Laws as eq;
-ghost use Rattle.sip_machine.specs.Debts.{IsWithoutFirst, earliest};
+ghost use Rattle.sip_machine.specs.Debts.{earliest};
 ghost use Rattle.sip_machine.specs.inner.Outbox.{counts_at, softened_debt, is_payable, debt_deadlines};
 ghost use Rattle.sip_machine.specs.declared.outbox.Debt.{Debt};
 ghost use Rattle.sip_machine.specs.declared.outbox.Run.{Run};
 ghost use Rattle.sip_machine.specs.inner.Fingerprints.{debts_cmp, fingerprint};
 ghost use Rattle.sip_machine.specs.inner.FingerprintLaws.{debts_total, debts_ties, debts_po};
-ghost use Rattle.sip_machine.specs.inner.Summaries.{Summarizes};
+ghost use Rattle.sip_machine.specs.inner.Paying.{FindsFirst};
+ghost use Rattle.sip_machine.specs.inner.Summaries.{Summarizes, AreBetween};
 ghost use Rattle.sip_machine.specs.inner.Runs.{debts_of, kinds, AreRuns, AreApartBut, EndsWith, run_deadlines};
 
 use crate::summary::Summary;
@@ -73,17 +74,6 @@ impl Outbox {
         }
     }
 
-    /// Nothing is owed, with room for so many runs.
-    fn with_room(alloc: Global, runs: usize) -> Result<Outbox, AllocError>
-        ensures { IfOk result (λ outbox. outbox ≡ []) }
-    {
-        let runs = Vec::with_capacity(alloc, runs)?;
-        Ok(Outbox {
-            runs,
-            summary: Summary::empty(),
-        })
-    }
-
     /// The debts, in runs: equal neighbours stand in one.
     pub fn runs(&self) -> &[Run]
         ensures debts { flat_map (λ run. replicate run.count run.debt) result.now ≡ self.now }
@@ -112,17 +102,12 @@ impl Outbox {
         ensures ok { OnOk result (self.new ≡ self.old ++ debt ∷ []) }
         ensures err { OnErr result (self.new ≡ self.old) }
     {
-        self.push_run(Run { debt, count: 1 })
-    }
-
-    /// Adds equal debts behind the others. On an error they are as before.
-    fn push_run(&mut self, run: Run) -> Result<(), AllocError>
-        requires { 0 < run.count }
-        ensures ok { OnOk result (self.new ≡ self.old ++ replicate run.count run.debt) }
-        ensures err { OnErr result (self.new ≡ self.old) }
-    {
-        let summary = self.summary.with(run).ok_or(AllocError)?;
-        append(&mut self.runs, run)?;
+        if self.summary.count == usize::MAX {
+            return Err(AllocError);
+        }
+        let one = Run { debt, count: 1 };
+        let summary = self.summary.with(one);
+        append(&mut self.runs, one)?;
         self.summary = summary;
         Ok(())
     }
@@ -143,46 +128,29 @@ impl Outbox {
         })
     }
 
-    /// A copy without what may be sent and whose deadline is below the moment.
-    pub(crate) fn unexpired(&self, moment: u64) -> Result<Outbox, AllocError>
-        ensures { IfOk result (λ copy. copy ≡ filter (counts_at moment) self.now) }
+    /// Drops what may be sent and whose deadline is below the moment.
+    pub(crate) fn expire(&mut self, moment: u64)
+        ensures { self.new ≡ filter (counts_at moment) self.old }
     {
         if moment <= self.summary.fresh {
-            return self.try_clone();
+            return;
         }
-        let mut counting = Outbox::with_room(*self.runs.allocator(), self.runs.len())?;
-        for run in &self.runs {
-            if !counts(run.debt, moment) {
-                continue;
-            }
-            counting.push_run(*run)?;
-        }
-        Ok(counting)
+        self.summary = keep_counting(&mut self.runs, moment);
     }
 
-    /// A copy of which all may be sent, and none has to be.
-    pub(crate) fn softened(&self) -> Result<Outbox, AllocError>
-        ensures { IfOk result (λ copy. copy ≡ map softened_debt self.now) }
+    /// Lets all of them be sent, so that none has to be.
+    pub(crate) fn soften(&mut self)
+        ensures { self.new ≡ map softened_debt self.old }
     {
-        let mut soft = Outbox::with_room(*self.runs.allocator(), self.runs.len())?;
-        for run in &self.runs {
-            soft.push_run(softened(*run))?;
-        }
-        Ok(soft)
+        self.summary = soften_all(&mut self.runs);
     }
 
-    /// Takes out the first debt that a send of the message at the moment pays, and tells whether there was one.
-    pub(crate) fn pay(&mut self, message: u32, moment: u64) -> bool
-        ensures paid { OnTrue result (IsWithoutFirst (λ debt. IsTrue (is_payable message moment debt)) self.old self.new) }
-        ensures unpaid { OnFalse result ((self.new ≡ self.old) × All (λ debt. ¬ (IsTrue (is_payable message moment debt))) self.old) }
+    /// The index of the first debt that a send of the message at the moment pays, None if it pays none.
+    pub(crate) fn payable(&self, message: u32, moment: u64) -> Option<usize>
+        ensures { FindsFirst (λ debt. IsTrue (is_payable message moment debt)) self.now result }
     {
-        match first_payable(&self.runs, message, moment) {
-            Some(at) => {
-                take_out(&mut self.runs, &mut self.summary, at);
-                true
-            }
-            None => false,
-        }
+        let at = first_payable(&self.runs, self.summary.climbs, message, moment)?;
+        Some(first_of(&self.runs, self.summary.count, at))
     }
 
     /// Takes out the debt at the index, if there is one.
@@ -194,6 +162,13 @@ impl Outbox {
         }
         let at = run_at(&self.runs, self.summary.count, index);
         take_out(&mut self.runs, &mut self.summary, at);
+    }
+
+    /// Numbers between which those of all messages are that are owed.
+    pub(crate) fn span(&self) -> (u32, u32)
+        ensures { AreBetween result.0 result.1 self.now }
+    {
+        (self.summary.lowest, self.summary.highest)
     }
 
     /// The least deadline of what must be sent.
@@ -325,6 +300,67 @@ fn append(runs: &mut Vec<Run>, run: Run) -> Result<(), AllocError>
     Ok(())
 }
 
+/// Drops the runs whose debts do not count any more at the moment, and tells what is known of the others.
+fn keep_counting(runs: &mut Vec<Run>, moment: u64) -> Summary
+    requires runs { AreRuns runs.old.items }
+    requires fits { length (debts_of runs.old.items) < 2 ^ 64 }
+    ensures debts { debts_of runs.new.items ≡ filter (counts_at moment) (debts_of runs.old.items) }
+    ensures runs { AreRuns runs.new.items }
+    ensures summary { Summarizes (debts_of runs.new.items) result }
+{
+    let mut summary = Summary::empty();
+    let mut kept = 0;
+    for at in 0..runs.len() {
+        let run = runs[at];
+        if !counts(run.debt, moment) {
+            continue;
+        }
+        summary = summary.with(run);
+        kept = put(runs, kept, run);
+    }
+    runs.truncate(kept);
+    summary
+}
+
+/// Softens the runs, and tells what is known of them then.
+fn soften_all(runs: &mut Vec<Run>) -> Summary
+    requires runs { AreRuns runs.old.items }
+    requires fits { length (debts_of runs.old.items) < 2 ^ 64 }
+    ensures debts { debts_of runs.new.items ≡ map softened_debt (debts_of runs.old.items) }
+    ensures runs { AreRuns runs.new.items }
+    ensures summary { Summarizes (debts_of runs.new.items) result }
+{
+    let mut summary = Summary::empty();
+    let mut kept = 0;
+    for at in 0..runs.len() {
+        let run = softened(runs[at]);
+        summary = summary.with(run);
+        kept = put(runs, kept, run);
+    }
+    runs.truncate(kept);
+    summary
+}
+
+/// Puts a run behind the first ones, into the last of them if that is of the same debt, and tells how many they are then.
+fn put(runs: &mut Vec<Run>, kept: usize, run: Run) -> usize
+    requires within { kept < length runs.old.items }
+    requires runs { AreRuns (take kept runs.old.items) }
+    requires filled { 0 < run.count }
+    requires fits { length (debts_of (take kept runs.old.items)) + run.count < 2 ^ 64 }
+    ensures debts { debts_of (take result runs.new.items) ≡ debts_of (take kept runs.old.items) ++ replicate run.count run.debt }
+    ensures runs { AreRuns (take result runs.new.items) }
+    ensures within { result ≤ kept + 1 }
+    ensures len { length runs.new.items ≡ length runs.old.items }
+    ensures rest { drop (kept + 1) runs.new.items ≡ drop (kept + 1) runs.old.items }
+{
+    if ends_with(&runs[..kept], run.debt) {
+        runs[kept - 1].count += run.count;
+        return kept;
+    }
+    runs[kept] = run;
+    kept + 1
+}
+
 /// Whether the last run is of this debt.
 fn ends_with(runs: &[Run], debt: Debt) -> bool
     ensures { IsTrue result ↔ EndsWith runs.now debt }
@@ -402,12 +438,62 @@ fn run_at(runs: &[Run], count: usize, index: usize) -> usize
     at
 }
 
+/// The index of the first debt of the run at an index, of so many debts. Where there are no more debts than runs, each
+/// stands in its own.
+fn first_of(runs: &[Run], count: usize, at: usize) -> usize
+    requires within { at < length runs.now }
+    requires count { count ≡ length (debts_of runs.now) }
+    requires filled { All (λ run. 0 < run.count) runs.now }
+    ensures { result ≡ length (debts_of (take at runs.now)) }
+{
+    if count == runs.len() {
+        return at;
+    }
+    let mut first = 0;
+    for run in &runs[..at] {
+        first += run.count;
+    }
+    first
+}
+
 /// The index of the first run of debts that a send of the message at the moment pays.
-fn first_payable(runs: &[Run], message: u32, moment: u64) -> Option<usize>
+fn first_payable(runs: &[Run], climbs: bool, message: u32, moment: u64) -> Option<usize>
+    requires { IsTrue climbs → IsNonDecreasingBy (λ run. run.debt.message) runs.now }
     ensures value { result ≡ position (λ run. is_payable message moment run.debt) runs.now }
     ensures within { IfSome result (λ i. i < length runs.now) }
 {
+    if climbs {
+        return first_climbing(runs, message, moment);
+    }
     runs.iter().position(|run| run.debt.message == message && moment <= run.debt.deadline)
+}
+
+/// The same where the numbers of messages climb, by a look at the runs of this message alone.
+fn first_climbing(runs: &[Run], message: u32, moment: u64) -> Option<usize>
+    requires { IsNonDecreasingBy (λ run. run.debt.message) runs.now }
+    ensures value { result ≡ position (λ run. is_payable message moment run.debt) runs.now }
+    ensures within { IfSome result (λ i. i < length runs.now) }
+{
+    for at in first_from(runs, message)..runs.len() {
+        let debt = runs[at].debt;
+        if debt.message != message {
+            return None;
+        }
+        if moment <= debt.deadline {
+            return Some(at);
+        }
+    }
+    None
+}
+
+/// The index of the first run of no lower message.
+fn first_from(runs: &[Run], message: u32) -> usize
+    requires { IsNonDecreasingBy (λ run. run.debt.message) runs.now }
+    ensures within { result ≤ length runs.now }
+    ensures before { AllWithin (λ run. run.debt.message < message) runs.now 0 result }
+    ensures behind { AllWithin (λ run. message ≤ run.debt.message) runs.now result (length runs.now) }
+{
+    runs.partition_point(|run| run.debt.message < message)
 }
 
 /// The deadline of the first debt that has to be paid.

@@ -170,15 +170,19 @@ impl Phases for PlainClient {
         }))
     }
 
-    fn pays(
+    fn paid(
         &self,
         _alloc: Global,
         _book: &Book,
         _phase: &PlainClientPhase,
         _event: &Event,
-        _owes: &mut Owes<PlainClientPhase>,
-    ) -> Result<bool, AllocError> {
-        Ok(false)
+        _owes: &Owes<PlainClientPhase>,
+    ) -> Result<Option<usize>, AllocError> {
+        Ok(None)
+    }
+
+    fn stays(&self, _phase: &PlainClientPhase, _kind: Kind) -> bool {
+        false
     }
 
     fn ends_refused(&self, _phase: &PlainClientPhase, _kind: Kind) -> bool {

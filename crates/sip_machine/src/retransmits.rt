@@ -2,7 +2,7 @@
 ghost use Rattle.std.specs.Prelude.{◌≤◌, ◌<◌, ◌^◌, ◌↔◌, IsTrue};
 ghost use Rattle.sip_machine.specs.Times.{last_moment};
 ghost use Rattle.sip_machine.specs.Texts.{Keeps, text_of};
-ghost use Rattle.sip_machine.specs.MachineEvent.{FitsBook, event_in};
+ghost use Rattle.sip_machine.specs.MachineEvent.{KeepsMessage, event_in};
 ghost use Rattle.sip_machine.specs.Retransmits.{Retransmits};
 
 use crate::book::Book;
@@ -19,7 +19,7 @@ pub(crate) fn retransmits(
     interval: u64,
     event: &Event,
 ) -> bool
-    requires fits { FitsBook book.now event.now }
+    requires fits { KeepsMessage book.now event.now }
     requires known { Keeps book.now message }
     requires set { set ≤ last_moment }
     requires interval { interval < 2 ^ 50 }

@@ -1,10 +1,10 @@
 //! What is known of debts without a look at each of them.
-ghost use Rattle.std.specs.Prelude.{◌≡◌, ◌+◌, ◌<◌, ◌++◌, ◌∷◌, [], List, IfSome, All, IsTrue, replicate};
+ghost use Rattle.std.specs.Prelude.{◌≡◌, ◌+◌, ◌<◌, ◌^◌, ◌++◌, ◌∷◌, ◌&&◌, [], List, All, IsTrue, nat_le, replicate};
 ghost use Rattle.sip_machine.specs.declared.outbox.Debt.{Debt};
 ghost use Rattle.sip_machine.specs.Debts.{earliest};
 ghost use Rattle.sip_machine.specs.inner.Runs.{debts_of, run_deadlines, AreRuns};
 ghost use Rattle.sip_machine.specs.inner.Fingerprints.{print_of};
-ghost use Rattle.sip_machine.specs.inner.Summaries.{Summarizes, Rises, risen};
+ghost use Rattle.sip_machine.specs.inner.Summaries.{Summarizes, TellsAll, TellsTheSame, Rises, due_with, fresh_with, risen, nothing};
 
 use crate::limit::earlier;
 use crate::outbox::{Debt, Run, earliest_must, first_must};
@@ -19,6 +19,11 @@ pub(crate) struct Summary {
     pub(crate) fresh: u64,
     /// No deadline is past this moment, and none is below that of a debt before it; None once one was.
     pub(crate) latest: Option<u64>,
+    /// No number of a message is below this one, nor above the next one.
+    pub(crate) lowest: u32,
+    pub(crate) highest: u32,
+    /// No number of a message is below that of a debt before it; false once one was.
+    pub(crate) climbs: bool,
     /// The sum of the debts' prints, of 64 bits. Equal debts have equal ones.
     pub(crate) fingerprint: u64,
 }
@@ -31,52 +36,49 @@ const APART: u64 = 0xC2B2_AE3D_27D4_EB4F;
 impl Summary {
     /// Of no debts.
     pub(crate) fn empty() -> Summary
-        ensures { Summarizes [] result }
+        ensures summary { Summarizes [] result }
+        ensures told { result ≡ nothing }
     {
         Summary {
             count: 0,
             due: None,
             fresh: u64::MAX,
             latest: Some(0),
+            lowest: u32::MAX,
+            highest: 0,
+            climbs: true,
             fingerprint: 0,
         }
     }
 
-    /// With equal debts behind the others, None where they are too many to count.
-    pub(crate) fn with(&self, run: Run) -> Option<Summary>
+    /// With equal debts behind the others.
+    pub(crate) fn with(&self, run: Run) -> Summary
         requires filled { 0 < run.count }
-        ensures count { IfSome result (λ more. more.count ≡ self.now.count + run.count) }
-        ensures debts { IfSome result (λ more. (debts : List Debt) → Summarizes debts self.now → Summarizes (debts ++ replicate run.count run.debt) more) }
+        requires fits { self.now.count + run.count < 2 ^ 64 }
+        ensures summary { (debts : List Debt) → Summarizes debts self.now → Summarizes (debts ++ replicate run.count run.debt) result }
+        ensures all { TellsAll self.now run.debt result }
     {
-        let count = self.count.checked_add(run.count)?;
-        let prints = (run.count as u64).wrapping_mul(print_of(run.debt));
-        let fingerprint = self.fingerprint.wrapping_add(prints);
-        let deadline = run.debt.deadline;
-        let latest = risen(self.latest, deadline);
-        if run.debt.must {
-            return Some(Summary {
-                count,
-                due: Some(earlier(deadline, self.due)),
-                latest,
-                fingerprint,
-                ..*self
-            });
+        let debt = run.debt;
+        let prints = (run.count as u64).wrapping_mul(print_of(debt));
+        Summary {
+            count: self.count + run.count,
+            due: due_with(self.due, debt),
+            fresh: fresh_with(self.fresh, debt),
+            latest: risen(self.latest, debt.deadline),
+            lowest: self.lowest.min(debt.message),
+            highest: self.highest.max(debt.message),
+            climbs: is_above(self.climbs, self.highest, debt.message),
+            fingerprint: self.fingerprint.wrapping_add(prints),
         }
-        Some(Summary {
-            count,
-            fresh: self.fresh.min(deadline),
-            latest,
-            fingerprint,
-            ..*self
-        })
     }
 
     /// Without a debt, where those that are left stand in these runs.
     pub(crate) fn without(&self, debt: Debt, left: &[Run]) -> Summary
         requires left { AreRuns left.now }
         requires some { 0 < self.now.count }
-        ensures { (before after : List Debt) → Summarizes (before ++ debt ∷ after) self.now → debts_of left.now ≡ before ++ after →
+        ensures summary { (before after : List Debt) → Summarizes (before ++ debt ∷ after) self.now → debts_of left.now ≡ before ++ after →
             Summarizes (debts_of left.now) result }
+        ensures all { TellsTheSame self.now result }
     {
         let count = self.count - 1;
         let fingerprint = self.fingerprint.wrapping_sub(print_of(debt));
@@ -94,6 +96,35 @@ impl Summary {
             ..*self
         }
     }
+}
+
+/// The least deadline of what must be sent, with one more debt.
+fn due_with(due: Option<u64>, debt: Debt) -> Option<u64>
+    ensures { result ≡ due_with due debt }
+{
+    if debt.must {
+        Some(earlier(debt.deadline, due))
+    } else {
+        due
+    }
+}
+
+/// Up to when nothing expires, with one more debt.
+fn fresh_with(fresh: u64, debt: Debt) -> u64
+    ensures { result ≡ fresh_with fresh debt }
+{
+    if debt.must {
+        fresh
+    } else {
+        fresh.min(debt.deadline)
+    }
+}
+
+/// Whether numbers that are none above the highest do not fall with one more behind them.
+fn is_above(climbs: bool, highest: u32, number: u32) -> bool
+    ensures { result ≡ (climbs && nat_le highest number) }
+{
+    climbs && highest <= number
 }
 
 /// The latest deadline with one more behind the others, None if it is below another one.

@@ -1,7 +1,7 @@
 //! A request that a client sent, and that waits for its response (RFC 3261 sections 17.1.1.2 and 17.1.2.2).
 ghost use Rattle.std.specs.Prelude.{◌≡◌, ◌≤◌, ◌↔◌, IsTrue, Some, map};
 ghost use Rattle.sip_machine.specs.Texts.{Texts, Keeps, text_of};
-ghost use Rattle.sip_machine.specs.MachineEvent.{FitsBook, event_in};
+ghost use Rattle.sip_machine.specs.MachineEvent.{KeepsMessage, event_in};
 ghost use Rattle.sip_machine.specs.Retransmits.{Retransmits};
 ghost use Rattle.sip_machine.specs.Debts.{earliest};
 ghost use Rattle.sip_machine.specs.Waiting.{waiting_closes, waiting_fields, waiting_seen, WaitingInRange};
@@ -32,7 +32,7 @@ pub struct Waiting {
 impl Waiting {
     /// Whether the event is the request again, as timer A or E fires.
     pub(crate) fn repeats(&self, params: &Params, book: &Book, event: &Event) -> bool
-        requires fits { FitsBook book.now event.now }
+        requires fits { KeepsMessage book.now event.now }
         requires known { Keeps book.now self.now.request }
         requires in_range { WaitingInRange self.now }
         ensures { IsTrue result ↔

@@ -1,25 +1,27 @@
 -- Sets that wait, one after another, and what the marked ones name.
-use Rattle.std.proofs.Common.{cond, zero, suc, Bool, true, false, true≢false, Result, Ok, Err, OnOk, OnErr, AllPairs, Contains, ◌↔◌, ◌++◌, [], ◌∷◌, ◌≡◌, ◌≢◌, ◌≤◌, ◌<◌, ◌⊎◌, inl, inr, ℕ, Option, Some, None, List, take, option_copied, All, length, get_or, slice_get, slice_set, refl, sym, ap, ◌∙◌, subst, arith}
+use Rattle.std.proofs.Common.{cond, zero, suc, Bool, true, false, true≢false, Result, Ok, Err, OnOk, OnErr, AllPairs, Contains, ◌↔◌, ◌++◌, [], ◌∷◌, ◌≡◌, ◌≢◌, ◌≤◌, ◌<◌, ◌⊎◌, inl, inr, ℕ, Option, Some, None, List, ◌+◌, map, take, option_copied, All, length, get_or, slice_get, slice_set, refl, sym, ap, ◌∙◌, subst, arith}
 use Rattle.std.specs.List.{flat_map}
 use Rattle.std.specs.Result.{is_ok}
 use Rattle.std.specs.Slice.{IsItemAt}
 use Rattle.std.specs.Borrow.{Bor}
 use Rattle.std.proofs.lemmas.Bool.{ltb-true}
 use Rattle.std.proofs.lemmas.Option.{slice_get_within, slice_get-get_or}
-use Rattle.std.proofs.lemmas.List.{length-set, length-take-le, get_or-take, get_or_default}
+use Rattle.std.proofs.lemmas.List.{length-set, length-map, get_or-map, length-take-le, get_or-take, get_or_default}
 use Rattle.std.proofs.lemmas.List.Elements.{Contains-push, Contains-push_cases, Contains-append_left, Contains-append_right, Contains-get_or}
 use Rattle.sip_key.specs.Key.{KeyParts}
 use Rattle.sip_machine.specs.Times.{Times}
 use Rattle.sip_machine.proofs.TextLaws.{Contains-nil, Contains-cons_cases}
 use Rattle.sip_states.specs.KeyMachine.{machine_of_key}
-use Rattle.sip_states.specs.AnySet.{SetWaits, moment_of, start_of}
-use Rattle.sip_states.specs.Tables.{Tabled}
+use Rattle.sip_states.specs.AnySet.{SetWaits, moment_of, start_of, IsQuietSet}
+use Rattle.sip_states.specs.Tables.{Tabled, IsGiven}
+use Rattle.sip_states.specs.Restarting.{AreToRestart}
+use Rattle.sip_states.proofs.Listed.{Contains-map}
 use Rattle.sip_states.specs.Sweep.{numbers_of, IsAdvanced, AppendsNamed}
-use Rattle.sip_states.specs.inner.Marks.{IsMarked, AreMarked}
+use Rattle.sip_states.specs.inner.Marks.{IsMarked, ElseHolds, AreMarked}
 use Rattle.sip_states.specs.inner.Advance.{AdvancesAt}
 use Rattle.sip_states.specs.declared.any_set.AnySet.{AnySet}
 use Rattle.sip_states.proofs.NamesLemmas.{Contains-flat_map, Contains-from_flat_map}
-use Rattle.sip_states.proofs.ByMachine.{start_silent}
+use Rattle.sip_states.proofs.ByMachine.{start_silent, start_is_quiet}
 
 -- the element at a place, where another was put at one
 set_place : {A : Type 0} (xs : List A) (i n : ℕ) (a x : A) → slice_get (slice_set xs i a) n ≡ Some x → ((n ≡ i) × (a ≡ x)) ⊎ ((n ≢ i) × (slice_get xs n ≡ Some x))
@@ -133,16 +135,16 @@ pub some_advance : (moment : ℕ) (indices : List ℕ) (old new : List AnySet) �
     → (n : ℕ) (a b : AnySet) → slice_get old n ≡ Some a → slice_get new n ≡ Some b → IsAdvanced moment a b ⊎ (b ≡ a)
 some_advance moment indices old new up n a b was is = elim (up.each n a b was is) [ inl waited ↦ inl (inl waited.1) | inr same ↦ inr same.1 ]
 
--- those that are not marked still name nothing
-pub marked_still : (moment : ℕ) (indices : List ℕ) (marks : List Bool) (old new : List AnySet) → AreMarked marks old → ((n : ℕ) → Contains indices n → IsMarked marks n)
-    → AdvancesAt moment indices old new → AreMarked marks new
-marked_still moment indices marks old new are some up n set at mark =
+-- what holds of those that are not marked still does
+pub marked_still : (P : AnySet → Type 0) (moment : ℕ) (indices : List ℕ) (marks : List Bool) (old new : List AnySet) → ElseHolds P marks old → ((n : ℕ) → Contains indices n → IsMarked marks n)
+    → AdvancesAt moment indices old new → ElseHolds P marks new
+marked_still P moment indices marks old new are some up n set at mark =
     let low = slice_get_within new n set at in
     let long = up.long in
     let was : slice_get old n ≡ Some (get_or old n set) = slice_get-get_or old n set (omega arith) in
     elim (up.each n (get_or old n set) set was at) [
       | inl waited ↦ absurd (true≢false (same_of_some true false (sym (some n waited.0) ∙ mark)))
-      | inr same ↦ subst (λ s. numbers_of s ≡ []) (sym same.1) (are n (get_or old n set) was mark)
+      | inr same ↦ subst P (sym same.1) (are n (get_or old n set) was mark)
     ]
 
 -- the element at a place, where one more was put behind
@@ -152,38 +154,106 @@ push_place [] (suc n) a x at = absurd cc
 push_place (u ∷ xs) zero a x at = inl at
 push_place (u ∷ xs) (suc n) a x at = elim (push_place xs n a x at) [ inl h ↦ inl h | inr h ↦ inr (ap suc h.0, h.1) ]
 
--- one more that names nothing needs no mark
-pub marked_push : (marks : List Bool) (sets : List AnySet) (set : AnySet) → length marks ≡ length sets → AreMarked marks sets → numbers_of set ≡ []
-    → AreMarked (marks ++ false ∷ []) (sets ++ set ∷ [])
-marked_push marks sets set long are silent n other at mark =
+-- one more of which it holds needs no mark
+pub marked_push : (P : AnySet → Type 0) (marks : List Bool) (sets : List AnySet) (set : AnySet) → length marks ≡ length sets → ElseHolds P marks sets → P set
+    → ElseHolds P (marks ++ false ∷ []) (sets ++ set ∷ [])
+marked_push P marks sets set long are silent n other at mark =
     elim (push_place sets n set other at) [
       | inl old ↦ elim (push_place marks n false false mark) [
         | inl was ↦ are n other old was
         | inr new ↦ (let low = slice_get_within sets n other old in absurd (omega (arith, long, low, new.0)))
       ]
-      | inr new ↦ subst (λ s. numbers_of s ≡ []) new.1 silent
+      | inr new ↦ subst P new.1 silent
     ]
 
 -- one that is marked may be any
-pub marked_set : (marks : List Bool) (sets : List AnySet) (index : ℕ) (set : AnySet) → AreMarked marks sets → AreMarked (slice_set marks index true) (slice_set sets index set)
-marked_set marks sets index set are n other at mark =
+pub marked_set : (P : AnySet → Type 0) (marks : List Bool) (sets : List AnySet) (index : ℕ) (set : AnySet) → ElseHolds P marks sets → ElseHolds P (slice_set marks index true) (slice_set sets index set)
+marked_set P marks sets index set are n other at mark =
     elim (set_place marks index n true false mark) [
       | inl here ↦ absurd (true≢false here.1)
       | inr was ↦ elim (set_place sets index n set other at) [ inl here ↦ absurd (was.0 here.0) | inr old ↦ are n other old.1 was.1 ]
     ]
 
--- one that names nothing needs no mark
-pub unmarked : (marks : List Bool) (sets : List AnySet) (index : ℕ) (set : AnySet) → AreMarked marks sets → slice_get sets index ≡ Some set → numbers_of set ≡ []
-    → AreMarked (slice_set marks index false) sets
-unmarked marks sets index set are at silent n other is mark =
+-- one of which it holds needs no mark
+pub unmarked : (P : AnySet → Type 0) (marks : List Bool) (sets : List AnySet) (index : ℕ) (set : AnySet) → ElseHolds P marks sets → slice_get sets index ≡ Some set → P set
+    → ElseHolds P (slice_set marks index false) sets
+unmarked P marks sets index set are at silent n other is mark =
     elim (set_place marks index n false false mark) [
-      | inl here ↦ subst (λ s. numbers_of s ≡ []) (same_of_some set other (sym at ∙ ap (slice_get sets) (sym here.0) ∙ is)) silent
+      | inl here ↦ subst P (same_of_some set other (sym at ∙ ap (slice_get sets) (sym here.0) ∙ is)) silent
       | inr was ↦ are n other is was.1
     ]
 
+-- what is still marked once a mark was taken off was marked before
+pub not_unmarked : (marks : List Bool) (index n : ℕ) → IsMarked (slice_set marks index false) n → IsMarked marks n
+not_unmarked marks index n mark = elim (set_place marks index n false true mark) [ inl here ↦ absurd (true≢false (sym here.1)) | inr other ↦ other.1 ]
+
+-- Marks of two kinds: what is marked by the first is marked by the second.
+
+abbrev pub AreAmong : List Bool → List Bool → Type 0
+AreAmong marks moved = (index : ℕ) → IsMarked marks index → IsMarked moved index
+
+-- so it is with one more index that neither marks
+pub within_push : (marks moved : List Bool) → length marks ≡ length moved → AreAmong marks moved → AreAmong (marks ++ false ∷ []) (moved ++ false ∷ [])
+within_push marks moved long within index mark =
+    elim (push_place marks index false true mark) [
+      | inl old ↦ slice_get-push moved false index true (within index old)
+      | inr new ↦ absurd (true≢false (sym new.1))
+    ]
+  where
+    slice_get-push : (xs : List Bool) (a : Bool) (n : ℕ) (x : Bool) → slice_get xs n ≡ Some x → slice_get (xs ++ a ∷ []) n ≡ Some x
+    slice_get-push [] a n x at = absurd cc
+    slice_get-push (u ∷ xs) a zero x at = at
+    slice_get-push (u ∷ xs) a (suc n) x at = slice_get-push xs a n x at
+
+-- with one that both mark
+pub within_set : (marks moved : List Bool) (at : ℕ) (b : Bool) → length marks ≡ length moved → AreAmong marks moved → AreAmong (slice_set marks at b) (slice_set moved at b)
+within_set marks moved at b long within index mark =
+    elim (set_place marks at index b true mark) [
+      | inl here ↦ subst (λ n. slice_get (slice_set moved at b) n ≡ Some true) (sym here.0) (set_at moved at b true here.1 (let low = slice_get_within (slice_set marks at b) index true mark in let size = length-set marks at b in omega (arith, here.0, low, size, long)))
+      | inr other ↦ set_other moved at index b true other.0 (within index other.1)
+    ]
+  where
+    set_at : (xs : List Bool) (n : ℕ) (a x : Bool) → a ≡ x → n < length xs → slice_get (slice_set xs n a) n ≡ Some x
+    set_at [] n a x is low = absurd (omega arith)
+    set_at (u ∷ xs) zero a x is low = ap Some is
+    set_at (u ∷ xs) (suc n) a x is low = set_at xs n a x is (omega arith)
+
+    set_other : (xs : List Bool) (i n : ℕ) (a x : Bool) → n ≢ i → slice_get xs n ≡ Some x → slice_get (slice_set xs i a) n ≡ Some x
+    set_other [] i n a x differ at = absurd cc
+    set_other (u ∷ xs) zero zero a x differ at = absurd (differ refl)
+    set_other (u ∷ xs) zero (suc n) a x differ at = at
+    set_other (u ∷ xs) (suc i) zero a x differ at = at
+    set_other (u ∷ xs) (suc i) (suc n) a x differ at = set_other xs i n a x (λ same. differ (ap suc same)) at
+
 -- the set that a key starts with names nothing
 pub start_names : (p : Times) (key : KeyParts) → numbers_of (start_of p key) ≡ []
-start_names p key = start_silent p (machine_of_key key)
+start_names p key = start_silent p (machine_of_key p.rules key)
+
+-- and is quiet
+pub start_quiet : (p : Times) (key : KeyParts) → IsQuietSet (start_of p key)
+start_quiet p key = start_is_quiet p (machine_of_key p.rules key)
+
+-- What a restart may change.
+
+-- the numbers of marked sets are those
+pub restart_numbers : (t : Tabled) (moved : List Bool) (marked numbers : List ℕ) → numbers ≡ map (λ i. i + 1) marked → length moved ≡ length t.keys → length t.sets ≡ length t.keys → ElseHolds IsQuietSet moved t.sets
+    → ((n : ℕ) → Contains marked n ↔ IsMarked moved n) → AllPairs (λ a b. a ≢ b) marked → AreToRestart t numbers
+restart_numbers t moved marked numbers is long as_long quiet members once = subst (AreToRestart t) (sym is) (record {
+  given = λ k d low.
+      (let size = length-map marked (λ i. i + 1) in
+      let within : k < length marked = omega (arith, low, size) in
+      let mark = (members (get_or marked k 0)).0 (place_among marked k 0 within) in
+      let high = slice_get_within moved (get_or marked k 0) true mark in
+      subst (IsGiven t) (sym (get_or-map (λ i. i + 1) marked k 0 d within)) (record { low = omega arith; high = omega (arith, high, long) }));
+  apart = λ i j d less low same.
+      (let size = length-map marked (λ n. n + 1) in
+      let last : j < length marked = omega (arith, low, size) in
+      let first : i < length marked = omega (arith, less, last) in
+      once i j 0 less last (omega (arith, sym (get_or-map (λ n. n + 1) marked i 0 d first) ∙ same ∙ get_or-map (λ n. n + 1) marked j 0 d last)));
+  others = λ place set at none.
+      let low = slice_get_within t.sets place set at in
+      quiet place set at (not_marked moved place (omega (arith, low, as_long, long)) (λ mark. none (Contains-map (λ i. i + 1) marked place ((members place).1 mark))));
+})
 
 -- What marked sets name.
 

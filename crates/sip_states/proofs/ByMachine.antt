@@ -1,17 +1,19 @@
 -- A set of any machine, as one of its own.
-use Rattle.std.proofs.Common.{◌≡◌, [], ◌∷◌, ◌++◌, ℕ, List, All, Contains, refl, sym, ap, ◌∙◌, subst}
+use Rattle.std.proofs.Common.{◌≡◌, [], ◌∷◌, ◌++◌, inl, inr, ℕ, List, All, Contains, refl, sym, ap, ◌∙◌, subst}
 use Rattle.std.proofs.lemmas.List.Elements.{All-nil}
 use Rattle.sip_machine.specs.Times.{Times}
 use Rattle.sip_machine.specs.Texts.{Texts, Keeps, text_of}
+use Rattle.std.specs.List.{flat_map}
+use Rattle.sip_machine.specs.Owing.{owing_names}
 use Rattle.sip_machine.specs.Naming.{AppendsAll}
 use Rattle.sip_machine.specs.Rules.{IsLawful, Knows}
-use Rattle.sip_machine.specs.Transaction.{idle_state}
+use Rattle.sip_machine.specs.Transaction.{idle_state, ended_state}
 use Rattle.sip_machine.specs.inner.FigureLaws.{rules_lawful}
 use Rattle.sip_machine.specs.inner.OwingLaws.{owing_by_names, quiet_stands}
 use Rattle.sip_states.specs.Held.{Held}
-use Rattle.sip_states.specs.KeyMachine.{MachineKind, transaction_of, coded_of, coded_holds, PhaseOf, key_rules, StateOf, set_of, held_of, held_is, set_is, start_is, start_of_machine, of_machine, to_machine, of_one_machine}
+use Rattle.sip_states.specs.KeyMachine.{MachineKind, OfInviteClient, OfPlainClient, OfInviteServer, OfPlainServer, OfInviteClient3261, OfInviteServer3261, transaction_of, coded_of, coded_holds, PhaseOf, key_rules, StateOf, set_of, held_of, held_is, set_is, start_is, start_of_machine, of_machine, to_machine, of_one_machine}
 use Rattle.sip_states.specs.Meaning.{Meaning}
-use Rattle.sip_states.specs.AnySet.{meaning_of, OfHeld, OfSet, OfHelds, OfSets, moment_of}
+use Rattle.sip_states.specs.AnySet.{meaning_of, IsQuietIn, IsQuietSet, OfHeld, OfSet, OfHelds, OfSets, moment_of}
 use Rattle.sip_states.specs.Sweep.{names_of, numbers_of, AppendsNumbers}
 use Rattle.sip_states.specs.declared.any_set.AnySet.{AnySet}
 
@@ -63,6 +65,56 @@ numbers_appended set old new appends =
 pub start_silent : (p : Times) (machine : MachineKind) → numbers_of (start_of_machine p machine) ≡ []
 start_silent p machine =
     ap numbers_of (start_is p machine) ∙ numbers_are machine (record { machine = p; moment = 0; states = first_of machine ∷ [] }) ∙ ap (λ names. (names ++ []) ++ []) (coded_holds machine).idle_names
+
+-- The ended state.
+
+abbrev pub last_of : (machine : MachineKind) → StateOf machine
+last_of machine = ended_state (coded_of machine)
+
+-- it stands for that of the rules
+ended_is : (machine : MachineKind) (texts : Texts) → (coded_of machine).seen texts (coded_of machine).ended ≡ (transaction_of machine).figure.ended
+ended_is OfInviteClient texts = refl
+ended_is OfPlainClient texts = refl
+ended_is OfInviteServer texts = refl
+ended_is OfPlainServer texts = refl
+ended_is OfInviteClient3261 texts = refl
+ended_is OfInviteServer3261 texts = refl
+
+pub last_is_of : (machine : MachineKind) (texts : Texts) (p : Times) → (meaning_of machine).seen texts (last_of machine) ≡ ((meaning_of machine).rules p).ended
+last_is_of machine texts p = quiet_stands (coded_of machine).seen texts (coded_of machine).ended (transaction_of machine).figure.ended (ended_is machine texts)
+
+-- it names no message
+ended_names : (machine : MachineKind) → (coded_of machine).names (coded_of machine).ended ≡ []
+ended_names OfInviteClient = refl
+ended_names OfPlainClient = refl
+ended_names OfInviteServer = refl
+ended_names OfPlainServer = refl
+ended_names OfInviteClient3261 = refl
+ended_names OfInviteServer3261 = refl
+
+pub last_knows : (machine : MachineKind) (texts : Texts) → Knows (meaning_of machine).names texts (last_of machine)
+last_knows machine texts = subst (λ names. All (Keeps texts) (names ++ [])) (sym (ended_names machine)) (All-nil (Keeps texts))
+
+-- Quiet sets.
+
+-- a set of a machine is quiet by its one state
+pub quiet_in : (machine : MachineKind) (s : Held Times (StateOf machine)) → IsQuietSet (set_of machine s) → IsQuietIn machine s
+quiet_in machine s quiet = of_machine IsQuietIn machine s quiet
+
+-- the set that a machine starts with is quiet
+pub start_is_quiet : (p : Times) (machine : MachineKind) → IsQuietSet (start_of_machine p machine)
+start_is_quiet p machine =
+    subst IsQuietSet (sym (start_is p machine)) (to_machine IsQuietIn machine (record { machine = p; moment = 0; states = first_of machine ∷ [] }) (inl refl))
+
+-- a quiet set names nothing
+pub quiet_silent : (set : AnySet) → IsQuietSet set → numbers_of set ≡ []
+quiet_silent set quiet =
+    let (machine, s, is) = some_machine set in
+    ap numbers_of is ∙ numbers_are machine s
+    ∙ elim (quiet_in machine s (subst IsQuietSet is quiet)) [
+      | inl first ↦ ap (flat_map (owing_names (coded_of machine).names)) first ∙ ap (λ names. (names ++ []) ++ []) (coded_holds machine).idle_names
+      | inr last ↦ ap (flat_map (owing_names (coded_of machine).names)) last ∙ ap (λ names. (names ++ []) ++ []) (ended_names machine)
+    ]
 
 module _ (P : (X M S : Type 0) → Meaning X M S → Held M S → Type 0) where
   -- what holds of a set of a machine

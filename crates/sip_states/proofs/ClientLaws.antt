@@ -3,7 +3,7 @@ use Rattle.std.proofs.Common.{◌≡◌, ◌≤◌, ◌⊎◌, inl, inr, ℕ, Bo
 use Rattle.std.specs.Prelude.{⊤}
 use Rattle.std.proofs.Math.Decide.{dec_le}
 use Rattle.sip_times.specs.declared.action.Action.{Action}
-use Rattle.sip_times.specs.declared.action.Action.TheVariants.{Sent, Received, Failed, Mark}
+use Rattle.sip_times.specs.declared.action.Action.TheVariants.{Sent, Received, Failed, Mark, Restart}
 use Rattle.sip_machine.specs.declared.event.Method.{Method}
 use Rattle.sip_machine.specs.declared.event.Method.TheVariants.{Invite, Ack, Cancel}
 use Rattle.sip_machine.specs.declared.event.Kind.{Kind}
@@ -30,7 +30,8 @@ record IsKept {X : Type 0} (f : Figure X) (p : Times) (P : X → Type 0) : Type 
 module _ {X : Type 0} (f : Figure X) (p : Times) (P : X → Type 0) (kept : IsKept f p P) where
   emits_keeps : (e : MachineEvent) (x y : Owing X) → Emits f p e x y → P x.phase → P y.phase
   emits_keeps e x y (inl (row, is_row, is)) holds = rw is (kept.sent x.phase e.kind e row is_row holds)
-  emits_keeps e x y (inr (left, pays, is)) holds = rw is holds
+  emits_keeps e x y (inr (inl (left, pays, is))) holds = rw is holds
+  emits_keeps e x y (inr (inr (stays, same))) holds = rw same holds
 
   fails_keeps : (ends : Bool) (e : MachineEvent) (x y : Owing X) → Fails ends f p e x y → P x.phase → P y.phase
   fails_keeps true e x y (some, is) holds = rw is kept.ended
@@ -42,6 +43,8 @@ module _ {X : Type 0} (f : Figure X) (p : Times) (P : X → Type 0) (kept : IsKe
   steps_keep Sent e x y h holds = emits_keeps e x y h holds
   steps_keep Failed e x y h holds = fails_keeps (f.ends_refused x.phase e.kind) e x y h holds
   steps_keep Mark e x y h holds = absurd h
+  steps_keep Restart e x y (inl (idle, is)) holds = rw is (subst P idle holds)
+  steps_keep Restart e x y (inr (other, is)) holds = rw is kept.ended
 
   goes_keep : (x : Owing X) (h : ℕ) (steps : List Step) (y : Owing X) (m : ℕ) → Goes (rules_of_figure f p) x h steps y m → P x.phase → P y.phase
   goes_keep x h [] y m goes holds = rw goes.0 holds
@@ -147,7 +150,8 @@ no_invite same = cc
 
 invite_opens : (p : Times) (e : MachineEvent) (x y : Owing invite.InviteClientPhase) → Emits invite.invite_client p e x y → e.kind ≡ Request Invite → 1 ≤ invite_rank y.phase
 invite_opens p e x y (inl (row, is_row, to)) is = rw to (invite_opens_row p x.phase e row (subst (λ k. invite.Sends p x.phase k e row) is is_row))
-invite_opens p e x y (inr (left, pays, to)) is = absurd (no_invite (sym is ∙ pays_ack x.phase e.kind e pays.first.message pays.holds.0))
+invite_opens p e x y (inr (inl (left, pays, to))) is = absurd (no_invite (sym is ∙ pays_ack x.phase e.kind e pays.first.message pays.holds.0))
+invite_opens p e x y (inr (inr (stays, same))) is = absurd stays
 
 -- a final response leaves calling and proceeding
 module _ (p : Times) (code : ℕ) (e : MachineEvent) (y : Owing invite.InviteClientPhase) (is : e.kind ≡ Response code) (final : IsFinal code) where
@@ -191,7 +195,8 @@ invite_sends_row p x k e y low h = absurd h
 
 invite_sends : (p : Times) (e : MachineEvent) (x y : Owing invite.InviteClientPhase) → Emits invite.invite_client p e x y → 2 ≤ invite_rank x.phase → (e.kind ≡ Request Ack) ⊎ (e.kind ≡ Request Cancel)
 invite_sends p e x y (inl (row, is_row, to)) low = invite_sends_row p x.phase e.kind e row low is_row
-invite_sends p e x y (inr (left, pays, to)) low = inl (pays_ack x.phase e.kind e pays.first.message pays.holds.0)
+invite_sends p e x y (inr (inr (stays, same))) low = absurd stays
+invite_sends p e x y (inr (inl (left, pays, to))) low = inl (pays_ack x.phase e.kind e pays.first.message pays.holds.0)
 
 -- behind a final response of its INVITE a client sends ACK and CANCEL alone
 pub invite_behind_final : (p : Times) (before between behind : List MachineEvent) (request final e : MachineEvent) (code : ℕ) (y : Owing invite.InviteClientPhase) → request.action ≡ Sent → request.kind ≡ Request Invite →
@@ -239,7 +244,8 @@ module _ (p : Times) (one : MachineEvent) where
   awaits_opens : (y : Owing invite.InviteClientPhase) → Emits invite.invite_client p one (record { phase = invite.Idle; owes = [] }) y → one.kind ≡ Request Invite → Awaits y.phase
   awaits_opens y (inl (row, is_row, to)) is =
       rw to (rw (subst (λ k. invite.Sends p invite.Idle k one row) is is_row) (refl, refl, omega arith, omega arith))
-  awaits_opens y (inr (left, pays, to)) is = absurd (no_invite (sym is ∙ pays_ack invite.Idle one.kind one pays.first.message pays.holds.0))
+  awaits_opens y (inr (inr (stays, same))) is = absurd stays
+  awaits_opens y (inr (inl (left, pays, to))) is = absurd (no_invite (sym is ∙ pays_ack invite.Idle one.kind one pays.first.message pays.holds.0))
 
   -- and again
   again : (x : invite.InviteClientPhase) (e : MachineEvent) (y : Row invite.InviteClientPhase) → invite.Sends p x (Request Invite) e y → Awaits x → (e.text ≡ one.text) × (one.reliable ≡ false) × (open_at p one.moment p.t1 ≤ e.moment)
@@ -251,7 +257,8 @@ module _ (p : Times) (one : MachineEvent) where
 
   again_emits : (e : MachineEvent) (x y : Owing invite.InviteClientPhase) → Emits invite.invite_client p e x y → e.kind ≡ Request Invite → Awaits x.phase → (e.text ≡ one.text) × (one.reliable ≡ false) × (open_at p one.moment p.t1 ≤ e.moment)
   again_emits e x y (inl (row, is_row, to)) is holds = again x.phase e row (subst (λ k. invite.Sends p x.phase k e row) is is_row) holds
-  again_emits e x y (inr (left, pays, to)) is holds = absurd (no_invite (sym is ∙ pays_ack x.phase e.kind e pays.first.message pays.holds.0))
+  again_emits e x y (inr (inr (stays, same))) is holds = absurd stays
+  again_emits e x y (inr (inl (left, pays, to))) is holds = absurd (no_invite (sym is ∙ pays_ack x.phase e.kind e pays.first.message pays.holds.0))
 
   -- behind it, a client that waits awaits its response
   from_first : (h : ℕ) (steps : List Step) (y : Owing invite.InviteClientPhase) (m : ℕ) (between : List MachineEvent) → one.action ≡ Sent → one.kind ≡ Request Invite →
@@ -308,7 +315,8 @@ plain_opens_row p x method e y h = absurd h
 
 plain_opens : (p : Times) (e : MachineEvent) (x y : Owing plain.PlainClientPhase) → Emits plain.plain_client p e x y → IsRequest e.kind → 1 ≤ plain_rank y.phase
 plain_opens p e x y (inl (row, is_row, to)) is = rw to (plain_opens_row p x.phase is.0 e row (subst (λ k. plain.Sends p x.phase k e row) is.1 is_row))
-plain_opens p e x y (inr (left, pays, to)) is = absurd pays.holds.0
+plain_opens p e x y (inr (inr (stays, same))) is = absurd stays
+plain_opens p e x y (inr (inl (left, pays, to))) is = absurd pays.holds.0
 
 module _ (p : Times) (code : ℕ) (e : MachineEvent) (y : Owing plain.PlainClientPhase) (is : e.kind ≡ Response code) (final : IsFinal code) where
   plain_still_over : (phase : plain.PlainClientPhase) (owes : List Owed) → 2 ≤ plain_rank phase → Steps plain.plain_client p Received e (record { phase = phase; owes = owes }) y → 2 ≤ plain_rank y.phase
@@ -334,7 +342,8 @@ plain_sends_row p plain.Ended k e y low h = h
 
 plain_sends : (p : Times) (e : MachineEvent) (x y : Owing plain.PlainClientPhase) → Emits plain.plain_client p e x y → 2 ≤ plain_rank x.phase → ⊥
 plain_sends p e x y (inl (row, is_row, to)) low = plain_sends_row p x.phase e.kind e row low is_row
-plain_sends p e x y (inr (left, pays, to)) low = pays.holds.0
+plain_sends p e x y (inr (inr (stays, same))) low = absurd stays
+plain_sends p e x y (inr (inl (left, pays, to))) low = pays.holds.0
 
 -- behind a final response of its request a client sends nothing
 pub plain_behind_final : (p : Times) (before between behind : List MachineEvent) (request final e : MachineEvent) (code : ℕ) (y : Owing plain.PlainClientPhase) → request.action ≡ Sent → IsRequest request.kind →

@@ -14,6 +14,7 @@ pub mod TablesLemmas
 pub mod Taking
 pub mod Twice
 pub mod Waiting
+pub mod QuietLemmas
 pub mod NamesLemmas
 pub mod AdvanceLemmas
 pub mod MarksLemmas

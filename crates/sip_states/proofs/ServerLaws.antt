@@ -2,7 +2,7 @@
 use Rattle.std.proofs.Common.{◌≡◌, ◌⊎◌, inl, inr, ℕ, suc, Bool, true, false, None, List, [], ◌∷◌, ◌++◌, refl, subst, arith}
 use Rattle.std.specs.List.{Any}
 use Rattle.sip_times.specs.declared.action.Action.{Action}
-use Rattle.sip_times.specs.declared.action.Action.TheVariants.{Sent, Received, Failed, Mark}
+use Rattle.sip_times.specs.declared.action.Action.TheVariants.{Sent, Received, Failed, Mark, Restart}
 use Rattle.sip_machine.specs.declared.event.Method.{Method}
 use Rattle.sip_machine.specs.declared.event.Kind.{Kind}
 use Rattle.sip_machine.specs.declared.event.Kind.TheVariants.{Request, Response}
@@ -26,11 +26,13 @@ record IsAsleep {X : Type 0} (f : Figure X) (p : Times) : Type 0 where
   pub no_end : f.window p f.idle ≡ None
   pub silent : (k : Kind) (e : MachineEvent) (y : Row X) → f.Sends p f.idle k e y → ⊥
   pub woken : (k : Kind) (e : MachineEvent) (y : Row X) → f.Receives p f.idle k e y → (method : Method) × (k ≡ Request method)
+  pub unmoved : (k : Kind) → f.Stays f.idle k → ⊥
 
 module _ {X : Type 0} (f : Figure X) (p : Times) (asleep : IsAsleep f p) where
   emits_nothing : (e : MachineEvent) (y : Owing X) → Emits f p e (quiet f.idle) y → ⊥
   emits_nothing e y (inl (row, is_row, to)) = asleep.silent e.kind e row is_row
-  emits_nothing e y (inr (left, pays, to)) = none_owed pays.before pays.whole
+  emits_nothing e y (inr (inr (stays, same))) = asleep.unmoved e.kind stays
+  emits_nothing e y (inr (inl (left, pays, to))) = none_owed pays.before pays.whole
     where
       none_owed : (before : List Owed) → [] ≡ before ++ pays.first ∷ pays.after → ⊥
       none_owed [] is = cc
@@ -47,6 +49,8 @@ module _ {X : Type 0} (f : Figure X) (p : Times) (asleep : IsAsleep f p) where
   stays_or_asked e y Sent is h = absurd (emits_nothing e y h)
   stays_or_asked e y Failed is h = absurd (fails_nothing (f.ends_refused f.idle e.kind) e y h)
   stays_or_asked e y Mark is h = absurd h
+  stays_or_asked e y Restart is (inl (idle, same)) = inl same
+  stays_or_asked e y Restart is (inr (other, ends)) = absurd (other refl)
 
   -- and so do several
   goes_stay_or_asked : (h : ℕ) (steps : List Step) (y : Owing X) (m : ℕ) → Goes (rules_of_figure f p) (quiet f.idle) h steps y m → (y ≡ quiet f.idle) ⊎ Any IsAsked (taken steps)
@@ -81,7 +85,7 @@ invite_woken p (Response code) e y h = absurd h
 
 -- an INVITE server sends nothing before it is asked
 pub invite_sends_when_asked : (p : Times) (events : List MachineEvent) (e : MachineEvent) (y : Owing invite.InviteServerPhase) → AfterRun (key_rules p OfInviteServer) events e y → e.action ≡ Sent → Any IsAsked events
-invite_sends_when_asked p = sends_when_asked invite.invite_server p (record { no_end = refl; silent = λ k e y h. h; woken = invite_woken p })
+invite_sends_when_asked p = sends_when_asked invite.invite_server p (record { no_end = refl; silent = λ k e y h. h; woken = invite_woken p; unmoved = λ k stays. stays })
 
 plain_woken : (p : Times) (k : Kind) (e : MachineEvent) (y : Row plain.PlainServerPhase) → plain.Receives p plain.Idle k e y → (method : Method) × (k ≡ Request method)
 plain_woken p (Request method) e y h = (method, refl)
@@ -89,4 +93,4 @@ plain_woken p (Response code) e y h = absurd h
 
 -- nor does any other server
 pub plain_sends_when_asked : (p : Times) (events : List MachineEvent) (e : MachineEvent) (y : Owing plain.PlainServerPhase) → AfterRun (key_rules p OfPlainServer) events e y → e.action ≡ Sent → Any IsAsked events
-plain_sends_when_asked p = sends_when_asked plain.plain_server p (record { no_end = refl; silent = λ k e y h. h; woken = plain_woken p })
+plain_sends_when_asked p = sends_when_asked plain.plain_server p (record { no_end = refl; silent = λ k e y h. h; woken = plain_woken p; unmoved = λ k stays. stays })

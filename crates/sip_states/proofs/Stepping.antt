@@ -1,11 +1,11 @@
-use Rattle.std.proofs.Common.{◌≡◌, ◌≢◌, ◌↔◌, ◌≤◌, ◌⊎◌, inl, inr, ℕ, Option, List, [], ◌∷◌, ◌++◌, All, AllPairs, Contains, map, get_or}
+use Rattle.std.proofs.Common.{◌≡◌, ◌≢◌, ◌↔◌, ◌≤◌, ◌⊎◌, inl, inr, ℕ, Option, List, [], ◌∷◌, ◌++◌, All, AllPairs, Contains, ap, map, get_or, subst}
 use Rattle.std.proofs.lemmas.List.{map-append}
 use Rattle.std.proofs.lemmas.List.Elements.{All-nil, All-append, All-contains, Contains-get_or, Contains-append_left, Contains-append_right, Contains-append_cases, Contains-push, Contains-push_cases}
 use Rattle.sip_machine.specs.Texts.{Texts, IsBook}
 use Rattle.sip_machine.specs.MachineEvent.{MachineEvent}
 use Rattle.sip_machine.specs.Rules.{Rules, Waits, Knows, StandFor}
 use Rattle.sip_states.specs.inner.Ways.{SomeCanEnd, Covers, GivesFrom, GivesAfter}
-use Rattle.sip_states.proofs.Listed.{Contains-none, Contains-map, Contains-from_map}
+use Rattle.sip_states.proofs.Listed.{Contains-none, Contains-here, Contains-single, Contains-map, Contains-from_map}
 use Rattle.sip_states.proofs.Waiting.{Wait-stay, Wait-end, Wait-cases}
 use Rattle.sip_states.proofs.Following.{Follows, seen_ends, ends_seen, distinct_seen}
 
@@ -128,6 +128,28 @@ module _ {X S : Type 0} (names : S → List ℕ) (InRange : S → Type 0) (seen 
         λ g. elim (after_gives y g) [ inl from ↦ inl from | inr ends ↦ inr ends.1 ],
       )) new
       (Covers-append names InRange seen texts (GivesFrom seen texts r xs e) (r.Take (seen texts ended) e) found added new c stands is)
+
+  -- the only state, where it can wait and cannot end before, gives what its step gives
+  pub gives_alone : (s : S) → xs ≡ s ∷ [] → Waits r (seen texts s) e.moment → (SomeCanEnd window until h e.moment xs → ⊥) → (new : List S) →
+      StandFor names InRange seen texts (r.Take (seen texts s) e) new → StandFor names InRange seen texts (GivesAfter seen texts r xs h e) new
+  gives_alone s is waits none new stands =
+      let here : map (seen texts) xs ≡ seen texts s ∷ [] = ap (map (seen texts)) is in
+      let same : (y : X) → r.Take (seen texts s) e y ↔ GivesAfter seen texts r xs h e y =
+      λ y. (
+        λ takes. stayed_gives y (record { before = seen texts s; among = (rw here (Contains-here (seen texts s) []), waits); takes = takes }),
+        λ g. elim (after_gives y g) [
+          | inl from ↦
+              let only = (Contains-single (seen texts s) from.before).0 (rw here at from.among.0) in
+              subst (λ x. r.Take x e y) only from.takes
+          | inr ends ↦ absurd (none ends.0)
+        ],
+      ) in
+      record {
+        members = λ y. (λ has. (same y).0 ((stands.members y).0 has), λ gives. (stands.members y).1 ((same y).1 gives));
+        distinct = stands.distinct;
+        known = stands.known;
+        in_range = stands.in_range;
+      }
 
   -- states that cover a set stand for it once each is there once
   pub covers_stand : IsBook texts → (P : X → Type 0) (found new : List S) → Covers names InRange seen texts P found → ((x : S) → Contains new x ↔ Contains found x) →

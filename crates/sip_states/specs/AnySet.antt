@@ -1,12 +1,12 @@
 -- A set of states of one of the machines.
-use Rattle.std.specs.Prelude.{◌≡◌, ℕ, Option, []}
+use Rattle.std.specs.Prelude.{◌≡◌, ◌⊎◌, ℕ, Option, [], ◌∷◌}
 use Rattle.sip_key.specs.Key.{KeyParts}
 use Rattle.sip_machine.specs.Times.{Times}
 use Rattle.sip_machine.specs.Texts.{Texts}
 use Rattle.sip_machine.specs.NumberedEvent.{NumberedEvent}
 use Rattle.sip_machine.specs.Figure.{rules_of as rules_of_figure, until_of}
 use Rattle.sip_machine.specs.Owing.{owing_seen, owing_names, OwingInRange}
-use Rattle.sip_machine.specs.Transaction.{ended_state}
+use Rattle.sip_machine.specs.Transaction.{idle_state, ended_state}
 use Rattle.sip_states.specs.Runs.{IsWide}
 use Rattle.sip_states.specs.Held.{Held}
 use Rattle.sip_states.specs.KeyMachine.{MachineKind, machine_of_key, transaction_of, coded_of, PhaseOf, StateOf, held_of, by_machine, by_one_machine, start_of_machine}
@@ -77,6 +77,14 @@ IsSetTooWide texts e set = OfSet (λ X M S m s. IsWide (Given m texts s e)) set
 abbrev pub IsAgendaOf : Option ℕ → AnySet → Type 0
 IsAgendaOf limit set = OfSet (λ X M S m s. HasAgenda m limit s) set
 
+-- one state alone is in it, and it is the one before anything was sent or received, or the one after an end
+abbrev pub IsQuietIn : (machine : MachineKind) → Held Times (StateOf machine) → Type 0
+IsQuietIn machine s = (s.states ≡ idle_state (coded_of machine) ∷ []) ⊎ (s.states ≡ ended_state (coded_of machine) ∷ [])
+
+-- the set is quiet: a restart of the element leaves it as it is
+abbrev pub IsQuietSet : AnySet → Type 0
+IsQuietSet set = by_machine IsQuietIn set
+
 -- the set that a key starts with
 abbrev pub start_of : Times → KeyParts → AnySet
-start_of p key = start_of_machine p (machine_of_key key)
+start_of p key = start_of_machine p (machine_of_key p.rules key)

@@ -4,6 +4,8 @@ use Rattle.std.proofs.Common.{refl}
 use Rattle.sip_key.specs.declared.role.Role.{Role}
 use Rattle.sip_key.specs.declared.role.Role.TheVariants.{Client, Server}
 use Rattle.sip_key.specs.Key.{KeyParts}
+use Rattle.sip_times.specs.declared.rules.Rules.{Rules as BuiltBy}
+use Rattle.sip_times.specs.declared.rules.Rules.TheVariants.{R3261, R6026}
 use Rattle.sip_machine.specs.Times.{Times}
 use Rattle.sip_machine.specs.Rules.{Rules}
 use Rattle.sip_machine.specs.Figure.{Owing, rules_of as rules_of_figure}
@@ -12,30 +14,36 @@ use Rattle.sip_machine.specs.Transaction.{Transaction, Coded, idle_state}
 use Rattle.sip_machine.specs.InviteClient.{InviteClientPhase, invite_client, invite_client_coded}
 use Rattle.sip_machine.specs.PlainClient.{PlainClientPhase, plain_client, plain_client_coded}
 use Rattle.sip_machine.specs.InviteServer.{InviteServerPhase, invite_server, invite_server_coded}
+use Rattle.sip_machine.specs.InviteClient3261.{invite_client_3261, invite_client_3261_coded}
+use Rattle.sip_machine.specs.InviteServer3261.{InviteServer3261Phase, invite_server_3261, invite_server_3261_coded}
 use Rattle.sip_machine.specs.PlainServer.{PlainServerPhase, plain_server, plain_server_coded}
 use Rattle.sip_machine.specs.inner.Coded.{IsCoded}
 use Rattle.sip_machine.specs.inner.InviteClientLaws.{invite_client_is_coded}
 use Rattle.sip_machine.specs.inner.PlainClientLaws.{plain_client_is_coded}
 use Rattle.sip_machine.specs.inner.InviteServerLaws.{invite_server_is_coded}
+use Rattle.sip_machine.specs.inner.InviteClient3261Laws.{invite_client_3261_is_coded}
+use Rattle.sip_machine.specs.inner.InviteServer3261Laws.{invite_server_3261_is_coded}
 use Rattle.sip_machine.specs.inner.PlainServerLaws.{plain_server_is_coded}
 use Rattle.sip_states.specs.Held.{Held}
 use Rattle.sip_states.specs.declared.any_set.AnySet.{AnySet}
-use Rattle.sip_states.specs.declared.any_set.AnySet.TheVariants.{InviteClient, PlainClient, InviteServer, PlainServer}
+use Rattle.sip_states.specs.declared.any_set.AnySet.TheVariants.{InviteClient, PlainClient, InviteServer, PlainServer, InviteClient3261, InviteServer3261}
 
--- the machines of section 17
+-- the machines of section 17, those for INVITE with and without the accepted states of RFC 6026
 pub data MachineKind : Type 0 where
-  OfInviteClient OfPlainClient OfInviteServer OfPlainServer : MachineKind
+  OfInviteClient OfPlainClient OfInviteServer OfPlainServer OfInviteClient3261 OfInviteServer3261 : MachineKind
 
--- the machine of a role, for the method INVITE or any other
-abbrev pub machine_of : Role → Bool → MachineKind
-machine_of Client true = OfInviteClient
-machine_of Client false = OfPlainClient
-machine_of Server true = OfInviteServer
-machine_of Server false = OfPlainServer
+-- the machine of a role by these rules, for the method INVITE or any other
+abbrev pub machine_of : BuiltBy → Role → Bool → MachineKind
+machine_of R6026 Client true = OfInviteClient
+machine_of R3261 Client true = OfInviteClient3261
+machine_of rules Client false = OfPlainClient
+machine_of R6026 Server true = OfInviteServer
+machine_of R3261 Server true = OfInviteServer3261
+machine_of rules Server false = OfPlainServer
 
 -- the machine of a key
-abbrev pub machine_of_key : KeyParts → MachineKind
-machine_of_key key = machine_of key.role (bytes_eq key.method (codes "INVITE"))
+abbrev pub machine_of_key : BuiltBy → KeyParts → MachineKind
+machine_of_key rules key = machine_of rules key.role (bytes_eq key.method (codes "INVITE"))
 
 -- the figure of each machine
 abbrev pub transaction_of : MachineKind → Transaction
@@ -43,6 +51,8 @@ transaction_of OfInviteClient = record { Phase = InviteClientPhase; figure = inv
 transaction_of OfPlainClient = record { Phase = PlainClientPhase; figure = plain_client }
 transaction_of OfInviteServer = record { Phase = InviteServerPhase; figure = invite_server }
 transaction_of OfPlainServer = record { Phase = PlainServerPhase; figure = plain_server }
+transaction_of OfInviteClient3261 = record { Phase = InviteClientPhase; figure = invite_client_3261 }
+transaction_of OfInviteServer3261 = record { Phase = InviteServer3261Phase; figure = invite_server_3261 }
 
 -- the states of each machine: a phase, and what is owed
 abbrev pub PhaseOf : MachineKind → Type 0
@@ -60,6 +70,8 @@ coded_of OfInviteClient = invite_client_coded
 coded_of OfPlainClient = plain_client_coded
 coded_of OfInviteServer = invite_server_coded
 coded_of OfPlainServer = plain_server_coded
+coded_of OfInviteClient3261 = invite_client_3261_coded
+coded_of OfInviteServer3261 = invite_server_3261_coded
 
 -- as it is
 pub coded_holds : (machine : MachineKind) → IsCoded (transaction_of machine).figure (coded_of machine)
@@ -67,6 +79,8 @@ coded_holds OfInviteClient = invite_client_is_coded
 coded_holds OfPlainClient = plain_client_is_coded
 coded_holds OfInviteServer = invite_server_is_coded
 coded_holds OfPlainServer = plain_server_is_coded
+coded_holds OfInviteClient3261 = invite_client_3261_is_coded
+coded_holds OfInviteServer3261 = invite_server_3261_is_coded
 
 -- the states of each machine as the code has them
 abbrev pub StateOf : MachineKind → Type 0
@@ -78,6 +92,8 @@ set_of OfInviteClient s = InviteClient s
 set_of OfPlainClient s = PlainClient s
 set_of OfInviteServer s = InviteServer s
 set_of OfPlainServer s = PlainServer s
+set_of OfInviteClient3261 s = InviteClient3261 s
+set_of OfInviteServer3261 s = InviteServer3261 s
 
 -- the machine of a set, and what it holds
 abbrev pub held_of : AnySet → (machine : MachineKind) × Held Times (StateOf machine)
@@ -85,6 +101,8 @@ held_of (InviteClient s) = (OfInviteClient, s)
 held_of (PlainClient s) = (OfPlainClient, s)
 held_of (InviteServer s) = (OfInviteServer, s)
 held_of (PlainServer s) = (OfPlainServer, s)
+held_of (InviteClient3261 s) = (OfInviteClient3261, s)
+held_of (InviteServer3261 s) = (OfInviteServer3261, s)
 
 -- P of the set, by its machine
 abbrev pub by_machine : ((machine : MachineKind) → Held Times (StateOf machine) → Type 0) → AnySet → Type 0
@@ -92,6 +110,8 @@ by_machine P (InviteClient s) = P OfInviteClient s
 by_machine P (PlainClient s) = P OfPlainClient s
 by_machine P (InviteServer s) = P OfInviteServer s
 by_machine P (PlainServer s) = P OfPlainServer s
+by_machine P (InviteClient3261 s) = P OfInviteClient3261 s
+by_machine P (InviteServer3261 s) = P OfInviteServer3261 s
 
 -- P of two sets that are of one machine
 abbrev pub by_one_machine : ((machine : MachineKind) → Held Times (StateOf machine) → Held Times (StateOf machine) → Type 0) → AnySet → AnySet → Type 0
@@ -99,6 +119,8 @@ by_one_machine P (InviteClient s) (InviteClient t) = P OfInviteClient s t
 by_one_machine P (PlainClient s) (PlainClient t) = P OfPlainClient s t
 by_one_machine P (InviteServer s) (InviteServer t) = P OfInviteServer s t
 by_one_machine P (PlainServer s) (PlainServer t) = P OfPlainServer s t
+by_one_machine P (InviteClient3261 s) (InviteClient3261 t) = P OfInviteClient3261 s t
+by_one_machine P (InviteServer3261 s) (InviteServer3261 t) = P OfInviteServer3261 s t
 by_one_machine P old new = ⊥
 
 -- the set that a machine starts with: its first state, at moment 0
@@ -107,6 +129,8 @@ start_of_machine p OfInviteClient = InviteClient (record { machine = p; moment =
 start_of_machine p OfPlainClient = PlainClient (record { machine = p; moment = 0; states = idle_state (coded_of OfPlainClient) ∷ [] })
 start_of_machine p OfInviteServer = InviteServer (record { machine = p; moment = 0; states = idle_state (coded_of OfInviteServer) ∷ [] })
 start_of_machine p OfPlainServer = PlainServer (record { machine = p; moment = 0; states = idle_state (coded_of OfPlainServer) ∷ [] })
+start_of_machine p OfInviteClient3261 = InviteClient3261 (record { machine = p; moment = 0; states = idle_state (coded_of OfInviteClient3261) ∷ [] })
+start_of_machine p OfInviteServer3261 = InviteServer3261 (record { machine = p; moment = 0; states = idle_state (coded_of OfInviteServer3261) ∷ [] })
 
 -- Whichever its machine is, that is what a set is.
 
@@ -115,18 +139,24 @@ held_is OfInviteClient s = refl
 held_is OfPlainClient s = refl
 held_is OfInviteServer s = refl
 held_is OfPlainServer s = refl
+held_is OfInviteClient3261 s = refl
+held_is OfInviteServer3261 s = refl
 
 pub set_is : (set : AnySet) → set ≡ set_of (held_of set).0 (held_of set).1
 set_is (InviteClient s) = refl
 set_is (PlainClient s) = refl
 set_is (InviteServer s) = refl
 set_is (PlainServer s) = refl
+set_is (InviteClient3261 s) = refl
+set_is (InviteServer3261 s) = refl
 
 pub start_is : (p : Times) (machine : MachineKind) → start_of_machine p machine ≡ set_of machine (record { machine = p; moment = 0; states = idle_state (coded_of machine) ∷ [] })
 start_is p OfInviteClient = refl
 start_is p OfPlainClient = refl
 start_is p OfInviteServer = refl
 start_is p OfPlainServer = refl
+start_is p OfInviteClient3261 = refl
+start_is p OfInviteServer3261 = refl
 
 module _ (P : (machine : MachineKind) → Held Times (StateOf machine) → Type 0) where
   pub of_machine : (machine : MachineKind) (s : Held Times (StateOf machine)) → by_machine P (set_of machine s) → P machine s
@@ -134,12 +164,16 @@ module _ (P : (machine : MachineKind) → Held Times (StateOf machine) → Type 
   of_machine OfPlainClient s holds = holds
   of_machine OfInviteServer s holds = holds
   of_machine OfPlainServer s holds = holds
+  of_machine OfInviteClient3261 s holds = holds
+  of_machine OfInviteServer3261 s holds = holds
 
   pub to_machine : (machine : MachineKind) (s : Held Times (StateOf machine)) → P machine s → by_machine P (set_of machine s)
   to_machine OfInviteClient s holds = holds
   to_machine OfPlainClient s holds = holds
   to_machine OfInviteServer s holds = holds
   to_machine OfPlainServer s holds = holds
+  to_machine OfInviteClient3261 s holds = holds
+  to_machine OfInviteServer3261 s holds = holds
 
 pub of_one_machine : (P : (machine : MachineKind) → Held Times (StateOf machine) → Held Times (StateOf machine) → Type 0) (machine : MachineKind) (s : Held Times (StateOf machine)) (new : AnySet)
     → by_one_machine P (set_of machine s) new → (t : Held Times (StateOf machine)) × (new ≡ set_of machine t) × P machine s t
@@ -147,4 +181,6 @@ of_one_machine P OfInviteClient s (InviteClient t) holds = (t, refl, holds)
 of_one_machine P OfPlainClient s (PlainClient t) holds = (t, refl, holds)
 of_one_machine P OfInviteServer s (InviteServer t) holds = (t, refl, holds)
 of_one_machine P OfPlainServer s (PlainServer t) holds = (t, refl, holds)
+of_one_machine P OfInviteClient3261 s (InviteClient3261 t) holds = (t, refl, holds)
+of_one_machine P OfInviteServer3261 s (InviteServer3261 t) holds = (t, refl, holds)
 of_one_machine P machine s new holds = absurd holds

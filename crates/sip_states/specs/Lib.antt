@@ -10,3 +10,4 @@ pub mod Agenda
 pub mod Tables
 pub mod TablesLends
 pub mod Sweep
+pub mod Restarting

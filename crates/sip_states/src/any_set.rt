@@ -1,17 +1,20 @@
 //! The states of one transaction, whichever machine it has.
 ghost use Rattle.std.specs.Prelude.{◌≡◌, ◌↔◌, ◌≤◌, IfOk, IsErrOf, IsTrue, OnErr, OnOk};
 ghost use Rattle.sip_machine.specs.MachineEvent.{FitsBook};
-ghost use Rattle.sip_states.specs.AnySet.{moment_of, start_of, IsEmpty, IsKeptSet, IsKnownSet, SetWaits, SetTakes, IsSetTooWide, IsAgendaOf};
+ghost use Rattle.sip_states.specs.AnySet.{moment_of, start_of, IsEmpty, IsKeptSet, IsQuietSet, IsKnownSet, SetWaits, SetTakes, IsSetTooWide, IsAgendaOf};
 ghost use Rattle.sip_states.specs.Sweep.{AppendsNumbers};
 ghost use Rattle.sip_states.specs.Told.{AreTold};
 
 use crate::state_set::{StateSet, TakeError};
 use crate::told::{ToldState, told_states};
 use sip_key::{Key, Role};
-use sip_machine::{Book, Event, InviteClient, InviteServer, Params, PlainClient, PlainServer};
+use sip_machine::{
+    Book, Event, InviteClient, InviteClient3261, InviteServer, InviteServer3261, Params,
+    PlainClient, PlainServer, Rules,
+};
 use std::alloc::{AllocError, Global};
 
-/// The states in which the runs of one of the four machines of RFC 3261 section 17 can stand.
+/// The states in which the runs of one of the machines of RFC 3261 section 17 can stand.
 #[derive(Debug, Drop)]
 pub enum AnySet {
     /// Section 17.1.1.
@@ -22,25 +25,35 @@ pub enum AnySet {
     InviteServer(StateSet<InviteServer>),
     /// Section 17.2.2.
     PlainServer(StateSet<PlainServer>),
+    /// Section 17.1.1, without the accepted state of RFC 6026.
+    InviteClient3261(StateSet<InviteClient3261>),
+    /// Section 17.2.1, without it.
+    InviteServer3261(StateSet<InviteServer3261>),
 }
 
 impl AnySet {
-    /// The set that the key starts with: its role and its method, INVITE or another, tell the machine.
+    /// The set that the key starts with: its role, its method, INVITE or another, and the rules tell the machine.
     pub(crate) fn start(alloc: Global, params: Params, key: &Key) -> Result<Self, AllocError>
         ensures { IfOk result (λ set. set ≡ start_of params key.now) }
     {
         let is_invite = key.method() == b"INVITE".as_slice();
-        let set = match (key.role(), is_invite) {
-            (Role::Client, true) => {
+        let set = match (key.role(), is_invite, params.rules()) {
+            (Role::Client, true, Rules::R6026) => {
                 AnySet::InviteClient(StateSet::start(alloc, InviteClient::new(params))?)
             }
-            (Role::Client, false) => {
+            (Role::Client, true, Rules::R3261) => {
+                AnySet::InviteClient3261(StateSet::start(alloc, InviteClient3261::new(params))?)
+            }
+            (Role::Client, false, _) => {
                 AnySet::PlainClient(StateSet::start(alloc, PlainClient::new(params))?)
             }
-            (Role::Server, true) => {
+            (Role::Server, true, Rules::R6026) => {
                 AnySet::InviteServer(StateSet::start(alloc, InviteServer::new(params))?)
             }
-            (Role::Server, false) => {
+            (Role::Server, true, Rules::R3261) => {
+                AnySet::InviteServer3261(StateSet::start(alloc, InviteServer3261::new(params))?)
+            }
+            (Role::Server, false, _) => {
                 AnySet::PlainServer(StateSet::start(alloc, PlainServer::new(params))?)
             }
         };
@@ -59,6 +72,8 @@ impl AnySet {
             AnySet::PlainClient(set) => set.advance(moment),
             AnySet::InviteServer(set) => set.advance(moment),
             AnySet::PlainServer(set) => set.advance(moment),
+            AnySet::InviteClient3261(set) => set.advance(moment),
+            AnySet::InviteServer3261(set) => set.advance(moment),
         }
     }
 
@@ -77,6 +92,8 @@ impl AnySet {
             AnySet::PlainClient(set) => set.take(book, event),
             AnySet::InviteServer(set) => set.take(book, event),
             AnySet::PlainServer(set) => set.take(book, event),
+            AnySet::InviteClient3261(set) => set.take(book, event),
+            AnySet::InviteServer3261(set) => set.take(book, event),
         }
     }
 
@@ -89,6 +106,8 @@ impl AnySet {
             AnySet::PlainClient(set) => set.trim(),
             AnySet::InviteServer(set) => set.trim(),
             AnySet::PlainServer(set) => set.trim(),
+            AnySet::InviteClient3261(set) => set.trim(),
+            AnySet::InviteServer3261(set) => set.trim(),
         }
     }
 
@@ -102,6 +121,8 @@ impl AnySet {
             AnySet::PlainClient(set) => set.known(),
             AnySet::InviteServer(set) => set.known(),
             AnySet::PlainServer(set) => set.known(),
+            AnySet::InviteClient3261(set) => set.known(),
+            AnySet::InviteServer3261(set) => set.known(),
         }
     }
 
@@ -115,6 +136,8 @@ impl AnySet {
             AnySet::PlainClient(set) => set.last_moment(),
             AnySet::InviteServer(set) => set.last_moment(),
             AnySet::PlainServer(set) => set.last_moment(),
+            AnySet::InviteClient3261(set) => set.last_moment(),
+            AnySet::InviteServer3261(set) => set.last_moment(),
         }
     }
 
@@ -127,6 +150,22 @@ impl AnySet {
             AnySet::PlainClient(set) => set.names(out),
             AnySet::InviteServer(set) => set.names(out),
             AnySet::PlainServer(set) => set.names(out),
+            AnySet::InviteClient3261(set) => set.names(out),
+            AnySet::InviteServer3261(set) => set.names(out),
+        }
+    }
+
+    /// Whether its one state is the one before anything was sent or received, or the one after an end. Where it is not told so, nothing is said.
+    pub(crate) fn is_quiet(&self) -> bool
+        ensures { IsTrue result → IsQuietSet self.now }
+    {
+        match self {
+            AnySet::InviteClient(set) => set.is_quiet(),
+            AnySet::PlainClient(set) => set.is_quiet(),
+            AnySet::InviteServer(set) => set.is_quiet(),
+            AnySet::PlainServer(set) => set.is_quiet(),
+            AnySet::InviteClient3261(set) => set.is_quiet(),
+            AnySet::InviteServer3261(set) => set.is_quiet(),
         }
     }
 
@@ -139,6 +178,8 @@ impl AnySet {
             AnySet::PlainClient(set) => told_states(alloc, set),
             AnySet::InviteServer(set) => told_states(alloc, set),
             AnySet::PlainServer(set) => told_states(alloc, set),
+            AnySet::InviteClient3261(set) => told_states(alloc, set),
+            AnySet::InviteServer3261(set) => told_states(alloc, set),
         }
     }
 
@@ -151,6 +192,8 @@ impl AnySet {
             AnySet::PlainClient(set) => set.is_empty(),
             AnySet::InviteServer(set) => set.is_empty(),
             AnySet::PlainServer(set) => set.is_empty(),
+            AnySet::InviteClient3261(set) => set.is_empty(),
+            AnySet::InviteServer3261(set) => set.is_empty(),
         }
     }
 }

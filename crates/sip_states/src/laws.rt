@@ -4,7 +4,7 @@ ghost use Rattle.std.specs.Prelude.{◌≡◌, ◌≤◌, ◌↔◌, ◌⊎◌, 
 ghost use Rattle.sip_machine.specs.declared.event.Kind.TheVariants.{Request, Response};
 ghost use Rattle.sip_machine.specs.declared.event.Method.TheVariants.{Invite, Ack, Cancel};
 ghost use Rattle.sip_machine.specs.declared.event.Method.{Method};
-ghost use Rattle.sip_machine.specs.Figure.{Owing};
+ghost use Rattle.sip_machine.specs.Figure.{Owing, Restarts};
 ghost use Rattle.sip_machine.specs.MachineEvent.{MachineEvent};
 ghost use Rattle.sip_machine.specs.InviteClient.{InviteClientPhase, invite_client};
 ghost use Rattle.sip_machine.specs.InviteServer.{InviteServerPhase, invite_server};
@@ -67,6 +67,11 @@ pub fn an_invite_is_sent_again_after_t1()
     ensures { (p : Times) (first : MachineEvent) (between : List MachineEvent) (e : MachineEvent) (y : Owing InviteClientPhase) → first.action ≡ Sent → first.kind ≡ Request Invite →
         e.action ≡ Sent → e.kind ≡ Request Invite → StandsBehind invite_client p (first ∷ between) e y →
         (e.text ≡ first.text) × (first.reliable ≡ false) × (open_at p first.moment p.t1 ≤ e.moment) }
+{}
+
+/// A restart of the element behind a restart changes nothing.
+pub fn a_second_restart_changes_nothing()
+    ensures { (machine : MachineKind) (x y z : PhaseOf machine) → Restarts (transaction_of machine).figure x y → Restarts (transaction_of machine).figure y z → z ≡ y }
 {}
 
 /// A server sends nothing before a request came in (section 17.2).

@@ -1,5 +1,6 @@
 //! The states in which the runs of a machine can stand at a moment.
-ghost use Rattle.std.specs.Prelude.{◌≡◌, ◌≢◌, ◌↔◌, ◌+◌, [], ◌∷◌, ◌≤◌, OnOk, OnErr, All, Contains, IfOk, IsErrOf, IsTrue, flat_map, length, map};
+ghost use Rattle.std.specs.Prelude.{◌≡◌, ◌≢◌, ◌↔◌, ◌+◌, ◌⊎◌, [], ◌∷◌, ◌≤◌, OnOk, OnErr, All, Contains, IfOk, IsErrOf, IsTrue, flat_map, length, map};
+ghost use Rattle.std.specs.Bool.{OnTrue, OnFalse};
 ghost use Rattle.sip_machine.specs.Texts.{Texts, IsBook};
 ghost use Rattle.sip_machine.specs.MachineEvent.{FitsBook, event_in};
 ghost use Rattle.sip_machine.specs.Naming.{AppendsAll};
@@ -9,7 +10,7 @@ ghost use Rattle.sip_states.specs.Runs.{Wait, RunGives, IsAgenda, IsWide, widest
 
 use crate::each_once::keep_each_once;
 use crate::ends::{advance_states, last_of_all};
-use crate::steps::find_given;
+use crate::steps::{find_given, step_alone};
 use sip_machine::{Book, Event, Machine};
 use std::alloc::{AllocError, Global};
 use std::marker::Model;
@@ -109,6 +110,48 @@ impl<M: Machine> StateSet<M> {
             (event_in book.now event.now)) }
         ensures err { OnErr result (self.new ≡ self.old) }
     {
+        if self.take_alone(book, event)? {
+            return Ok(());
+        }
+        self.take_each(book, event)
+    }
+
+    /// Lets the only state take the event where it stands, and tells whether it did. If it did not, or on an error, the set is
+    /// as before.
+    fn take_alone(&mut self, book: &Book, event: &Event) -> Result<bool, AllocError>
+        requires order { self.old.moment ≤ event.now.moment }
+        requires fits { FitsBook book.now event.now }
+        requires known { All (Knows M.names book.now) self.old.states }
+        ensures at { IfOk result (λ taken. OnTrue taken ((self.new.machine ≡ self.old.machine) × (self.new.moment ≡ event.now.moment))) }
+        ensures states { IfOk result (λ taken. OnTrue taken (StandFor M.names M.in_range M.seen book.now
+            (RunGives (M.rules self.old.machine) (Wait (M.rules self.old.machine) (Contains (map (M.seen book.now) self.old.states)) self.old.moment event.now.moment)
+            (event_in book.now event.now)) self.new.states)) }
+        ensures few { IfOk result (λ taken. OnTrue taken (length self.new.states ≤ widest)) }
+        ensures other { IfOk result (λ taken. OnFalse taken (self.new ≡ self.old)) }
+        ensures err { OnErr result (self.new ≡ self.old) }
+    {
+        let stepped = step_alone(&self.machine, book, &mut self.states, self.moment, event)?;
+        if stepped {
+            self.moment = event.moment();
+        }
+        Ok(stepped)
+    }
+
+    /// Lets each state take the event, into room of its own.
+    fn take_each(&mut self, book: &Book, event: &Event) -> Result<(), TakeError>
+        requires order { self.old.moment ≤ event.now.moment }
+        requires fits { FitsBook book.now event.now }
+        requires known { All (Knows M.names book.now) self.old.states }
+        ensures at { OnOk result ((self.new.machine ≡ self.old.machine) × (self.new.moment ≡ event.now.moment)) }
+        ensures states { OnOk result (StandFor M.names M.in_range M.seen book.now
+            (RunGives (M.rules self.old.machine) (Wait (M.rules self.old.machine) (Contains (map (M.seen book.now) self.old.states)) self.old.moment event.now.moment)
+            (event_in book.now event.now)) self.new.states) }
+        ensures few { OnOk result (length self.new.states ≤ widest) }
+        ensures too_many { IsErrOf result TakeError.TooMany → IsWide
+            (RunGives (M.rules self.old.machine) (Wait (M.rules self.old.machine) (Contains (map (M.seen book.now) self.old.states)) self.old.moment event.now.moment)
+            (event_in book.now event.now)) }
+        ensures err { OnErr result (self.new ≡ self.old) }
+    {
         book.known();
         self.found.clear();
         find_given(
@@ -160,6 +203,16 @@ impl<M: Machine> StateSet<M> {
             self.machine.names(state, out)?;
         }
         Ok(())
+    }
+
+    /// Whether its one state is the first or the ended one.
+    pub(crate) fn is_quiet(&self) -> bool
+        ensures { IsTrue result → (self.now.states ≡ M.first self.now.machine ∷ []) ⊎ (self.now.states ≡ M.ended self.now.machine ∷ []) }
+    {
+        match self.states.as_slice() {
+            [state] => *state == self.machine.first() || *state == self.machine.ended(),
+            _ => false,
+        }
     }
 
     /// Whether no run is left.

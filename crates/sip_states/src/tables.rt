@@ -1,11 +1,12 @@
 //! The states of every transaction, by key.
-ghost use Rattle.std.specs.Prelude.{◌≡◌, ◌≢◌, ◌<◌, ◌≤◌, ◌+◌, ◌++◌, ◌-◌, ◌∷◌, [], All, AllPairs, length, slice_get, IfOk, OnErr, OnOk, Some};
+ghost use Rattle.std.specs.Prelude.{◌≡◌, ◌≢◌, ◌<◌, ◌≤◌, ◌+◌, ◌++◌, ◌-◌, ◌∷◌, [], All, AllPairs, length, slice_get, ℕ, IfOk, OnErr, OnOk, Some};
 ghost use Rattle.std.specs.Borrow.{sem};
 ghost use Rattle.indexmap.specs.IndexMap.{keys, values, index_map_len};
 ghost use Rattle.sip_states.specs.AnySet.{moment_of};
 ghost use Rattle.sip_states.specs.Sweep.{AdvancesAll, AdvancesSome, AppendsNamed};
 ghost use Rattle.sip_states.specs.inner.Advance.{AdvancesAt, AdvancesSomeAt};
-ghost use Rattle.sip_states.specs.inner.Marks.{AreMarked};
+ghost use Rattle.sip_states.specs.inner.Marks.{AreMarked, AreMoved, IsMarked};
+ghost use Rattle.sip_states.specs.Restarting.{AreToRestart};
 ghost use Rattle.sip_states.specs.Tables.{IsGiven, HasState, Settles, Touches, due_of, most_keys, with_key};
 
 use crate::agenda::Agenda;
@@ -28,20 +29,23 @@ pub struct Tables<H: BuildHasher> {
     agenda: Agenda,
     /// The sets that may name a message.
     marks: Marks,
+    /// The sets that a restart of the element may change, those that may name a message among them.
+    moved: Marks,
 }
 
 impl<H: BuildHasher> Model for Tables<H> {
     ghost use Rattle.std.specs.Prelude.{◌≡◌, ◌≤◌, length};
     ghost use Rattle.indexmap.specs.IndexMap.{keys, values, index_map_len};
     ghost use Rattle.sip_states.specs.Tables.{Tabled, most_keys};
-    ghost use Rattle.sip_states.specs.inner.Marks.{AreMarked};
+    ghost use Rattle.sip_states.specs.inner.Marks.{AreMarked, AreMoved};
 
     ghost Value = { Tabled };
 
     ghost view = { λ t. record { times = t.params; keys = keys t.sets; sets = values t.sets; records = t.agenda } };
 
     ghost invariant = { λ t. (index_map_len t.sets ≤ most_keys) × (length t.agenda ≡ index_map_len t.sets)
-        × (length t.marks ≡ index_map_len t.sets) × AreMarked t.marks (values t.sets) };
+        × (length t.marks ≡ index_map_len t.sets) × AreMarked t.marks (values t.sets)
+        × (length t.moved ≡ index_map_len t.sets) × AreMoved t.moved t.marks (values t.sets) };
 }
 
 /// Puts a new key and its set behind the others. On an error nothing changes, and both are dropped.
@@ -96,6 +100,7 @@ fn unmark_silent<H: BuildHasher>(
     requires marked { AreMarked marks.old (values sets.old) }
     ensures long { length marks.new ≡ length marks.old }
     ensures marked { AreMarked marks.new (values sets.old) }
+    ensures fewer { (index : ℕ) → IsMarked marks.new index → IsMarked marks.old index }
     ensures same { sets.new ≡ sets.old }
 {
     let mut numbers = Vec::new(*sets.allocator());
@@ -113,6 +118,32 @@ fn unmark_silent<H: BuildHasher>(
     Ok(())
 }
 
+/// Takes both marks off those sets that are quiet, and gives back what room they do not need.
+fn unmark_quiet<H: BuildHasher>(
+    moved: &mut Marks,
+    marks: &mut Marks,
+    sets: &mut IndexMap<Key, AnySet, H>,
+)
+    requires long { (length moved.old ≡ index_map_len sets.old) × (length marks.old ≡ index_map_len sets.old) }
+    requires marked { AreMarked marks.old (values sets.old) }
+    requires moved { AreMoved moved.old marks.old (values sets.old) }
+    ensures long { (length moved.new ≡ length moved.old) × (length marks.new ≡ length marks.old) }
+    ensures marked { AreMarked marks.new (values sets.old) }
+    ensures moved { AreMoved moved.new marks.new (values sets.old) }
+    ensures same { sets.new ≡ sets.old }
+{
+    for place in (0..moved.marked().len()).rev() {
+        if let Some(index) = moved.marked().get(place).copied() {
+            let index = index as usize;
+            if sets[index].is_quiet() {
+                moved.unmark(index);
+                marks.unmark(index);
+                trim_at(sets, index);
+            }
+        }
+    }
+}
+
 impl<H: BuildHasher> Tables<H> {
     ghost use Rattle.sip_states.specs.TablesLends.{LendsSet};
 
@@ -125,6 +156,7 @@ impl<H: BuildHasher> Tables<H> {
             sets: IndexMap::with_hasher(alloc, hasher),
             agenda: Agenda::new(alloc),
             marks: Marks::new(alloc),
+            moved: Marks::new(alloc),
         }
     }
 
@@ -156,7 +188,13 @@ impl<H: BuildHasher> Tables<H> {
             self.agenda.pop();
             return Err(refused);
         }
+        if let Err(refused) = self.moved.push() {
+            self.marks.pop();
+            self.agenda.pop();
+            return Err(refused);
+        }
         if let Err(refused) = append(&mut self.sets, key, set) {
+            self.moved.pop();
             self.marks.pop();
             self.agenda.pop();
             return Err(refused);
@@ -180,6 +218,7 @@ impl<H: BuildHasher> Tables<H> {
     {
         let index = number as usize - 1;
         self.marks.mark(index);
+        self.moved.mark(index);
         &mut self.sets[index]
     }
 
@@ -226,6 +265,25 @@ impl<H: BuildHasher> Tables<H> {
         }
         keep_ascending(&mut found);
         out.extend_from_slice(&found)
+    }
+
+    /// The numbers of the sets that a restart of the element may change: those that were lent to be changed since the last one, and
+    /// what it left with more than one state.
+    pub fn to_restart(&self) -> Result<Vec<u32>, AllocError>
+        ensures { IfOk result (λ numbers. AreToRestart self.now numbers.items) }
+    {
+        let mut numbers = Vec::new(*self.sets.allocator());
+        for index in self.moved.marked() {
+            numbers.push(*index + 1)?;
+        }
+        Ok(numbers)
+    }
+
+    /// The sets have taken a restart: those that it left quiet are not to take the next one.
+    pub fn restarted(&mut self)
+        ensures { self.new ≡ self.old }
+    {
+        unmark_quiet(&mut self.moved, &mut self.marks, &mut self.sets);
     }
 
     /// The key with this number.

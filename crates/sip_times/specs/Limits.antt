@@ -1,13 +1,13 @@
 use Rattle.std.specs.Prelude.{◌+◌, ◌-◌, ◌≤◌, ℕ, Option, Some, None, ⊤}
 use Rattle.sip_times.specs.Times.{Times}
 
--- the first moment at which a timer that was set at s for d may fire
+-- the first moment at which a timer that was set at s for d may fire: so much before s + d as an element may be early, but not before s
 abbrev pub open_at : Times → ℕ → ℕ → ℕ
-open_at p s d = s + (d - p.tolerance)
+open_at p s d = s + (d - p.early)
 
--- the last moment at which it may; what is due at once has d = 0, so that a deadline is a close too
+-- the last moment at which it may: so much behind s + d as an element may be late; what is due at once has d = 0, so that a deadline is a close too
 abbrev pub close_at : Times → ℕ → ℕ → ℕ
-close_at p s d = s + d + p.tolerance
+close_at p s d = s + d + p.late
 
 -- the window of a timer that was set at s for d
 abbrev pub window_at : Times → ℕ → ℕ → Option (ℕ × Option ℕ)

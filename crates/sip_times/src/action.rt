@@ -1,6 +1,7 @@
-//! What an entry of a log says of its message.
+//! What an entry of a log says was done.
 
-/// What an entry of a log says of its message. A mark has none: it tells that a moment was reached.
+/// What an entry of a log says was done: of a message, or without one. A mark tells that a moment was reached, and a
+/// restart that the element began anew.
 #[derive(Clone, Copy, Debug, PartialEq, Eq)]
 pub enum Action {
     Sent,
@@ -8,4 +9,5 @@ pub enum Action {
     /// A send that the transport refused.
     Failed,
     Mark,
+    Restart,
 }

@@ -1,9 +1,11 @@
-//! The times of an element (RFC 3261 section 17), from when until when its timers may fire, and what an
-//! entry of a log says of its message.
+//! The times of an element (RFC 3261 section 17), from when until when its timers may fire, the rules that it was built
+//! by, and what an entry of a log says was done.
 #![tactic(auto)]
 
 mod action;
 mod params;
+mod rules;
 
 pub use action::Action;
 pub use params::Params;
+pub use rules::Rules;

@@ -1,17 +1,22 @@
 //! The times of an element: its timers T1, T2 and T4, and how far from them it may be.
 ghost use Rattle.std.specs.Prelude.{◌≡◌, ◌≤◌, ◌<◌, ◌^◌, MatchOption, Some};
-ghost use Rattle.sip_times.specs.Times.{Times, AreTimes, last_moment};
+ghost use Rattle.sip_times.specs.declared.rules.Rules.TheVariants.{R6026};
+ghost use Rattle.sip_times.specs.Times.{Times, AreTimes, under, last_moment};
 ghost use Rattle.sip_times.specs.Limits.{open_at, close_at, window_at};
 
+use crate::rules::Rules;
 use std::marker::Model;
 
-/// Timers T1, T2 and T4 of RFC 3261 section 17, and the tolerance of the moments, in milliseconds.
+/// Timers T1, T2 and T4 of RFC 3261 section 17, and the tolerances of the moments, in milliseconds; and the rules that
+/// the element was built by.
 #[derive(Clone, Copy, Debug)]
 pub struct Params {
     t1: u16,
     t2: u16,
     t4: u16,
-    tolerance: u16,
+    early: u16,
+    late: u16,
+    rules: Rules,
 }
 
 impl Model for Params {
@@ -19,35 +24,56 @@ impl Model for Params {
 
     ghost Value = { Times };
 
-    ghost view = { λ p. record { t1 = p.t1; t2 = p.t2; t4 = p.t4; tolerance = p.tolerance } };
+    ghost view = { λ p. record { t1 = p.t1; t2 = p.t2; t4 = p.t4; early = p.early; late = p.late; rules = p.rules } };
 
-    ghost invariant = { λ p. AreTimes (record { t1 = p.t1; t2 = p.t2; t4 = p.t4; tolerance = p.tolerance }) };
+    ghost invariant = { λ p. AreTimes (record { t1 = p.t1; t2 = p.t2; t4 = p.t4; early = p.early; late = p.late; rules = p.rules }) };
 
-    ghost inverse = { λ p. record { t1 = p.t1; t2 = p.t2; t4 = p.t4; tolerance = p.tolerance } };
+    ghost inverse = { λ p. record { t1 = p.t1; t2 = p.t2; t4 = p.t4; early = p.early; late = p.late; rules = p.rules } };
 }
 
 impl Params {
-    /// None where a number is outside its limits: T1 1 to 10,000, T2 and T4 1 to 60,000,
-    /// the tolerance 0 to 10,000.
+    /// Times with one tolerance, early and late, under the rules of RFC 6026. None where a number is outside its limits:
+    /// T1 1 to 10,000, T2 and T4 1 to 60,000, the tolerance 0 to 10,000.
     pub fn new(t1: u64, t2: u64, t4: u64, tolerance: u64) -> Option<Params>
         ensures { MatchOption result
-            (¬ (AreTimes (record { t1 = t1; t2 = t2; t4 = t4; tolerance = tolerance })))
-            (λ p. AreTimes p × (p ≡ record { t1 = t1; t2 = t2; t4 = t4; tolerance = tolerance })) }
+            (¬ (AreTimes (record { t1 = t1; t2 = t2; t4 = t4; early = tolerance; late = tolerance; rules = R6026 })))
+            (λ p. AreTimes p × (p ≡ record { t1 = t1; t2 = t2; t4 = t4; early = tolerance; late = tolerance; rules = R6026 })) }
+    {
+        Params::with_tolerances(t1, t2, t4, tolerance, tolerance)
+    }
+
+    /// Times with two tolerances: how much an element may be early, and how much late; under the rules of RFC 6026. None
+    /// where a number is outside its limits: T1 1 to 10,000, T2 and T4 1 to 60,000, each of the tolerances 0 to 10,000.
+    pub fn with_tolerances(t1: u64, t2: u64, t4: u64, early: u64, late: u64) -> Option<Params>
+        ensures { MatchOption result
+            (¬ (AreTimes (record { t1 = t1; t2 = t2; t4 = t4; early = early; late = late; rules = R6026 })))
+            (λ p. AreTimes p × (p ≡ record { t1 = t1; t2 = t2; t4 = t4; early = early; late = late; rules = R6026 })) }
     {
         let within = (1..=10_000).contains(&t1)
             && (1..=60_000).contains(&t2)
             && (1..=60_000).contains(&t4)
-            && tolerance <= 10_000;
+            && early <= 10_000
+            && late <= 10_000;
         if within {
             Some(Params {
                 t1: t1 as u16,
                 t2: t2 as u16,
                 t4: t4 as u16,
-                tolerance: tolerance as u16,
+                early: early as u16,
+                late: late as u16,
+                rules: Rules::R6026,
             })
         } else {
             None
         }
+    }
+
+    /// The same times under these rules.
+    pub fn with_rules(self, rules: Rules) -> Params
+        ensures value { result ≡ under rules self }
+        ensures within { AreTimes result }
+    {
+        Params { rules, ..self }
     }
 
     /// T1, the estimate of a round trip, in milliseconds.
@@ -74,12 +100,27 @@ impl Params {
         u64::from(self.t4)
     }
 
-    /// How far from its due moment an element may act, in milliseconds.
-    pub fn tolerance(&self) -> u64
-        ensures value { result ≡ self.now.tolerance }
+    /// How far before its due moment an element may act, in milliseconds.
+    pub fn early(&self) -> u64
+        ensures value { result ≡ self.now.early }
         ensures within { AreTimes self.now }
     {
-        u64::from(self.tolerance)
+        u64::from(self.early)
+    }
+
+    /// How far behind its due moment an element may act, in milliseconds.
+    pub fn late(&self) -> u64
+        ensures value { result ≡ self.now.late }
+        ensures within { AreTimes self.now }
+    {
+        u64::from(self.late)
+    }
+
+    /// The rules that the element was built by.
+    pub fn rules(&self) -> Rules
+        ensures { result ≡ self.now.rules }
+    {
+        self.rules
     }
 
     /// The first moment at which a timer that was set then for so long may fire, in milliseconds.
@@ -88,7 +129,7 @@ impl Params {
         requires duration { duration < 2 ^ 50 }
         ensures { result ≡ open_at self.now set duration }
     {
-        set + duration.saturating_sub(self.tolerance())
+        set + duration.saturating_sub(self.early())
     }
 
     /// The last moment at which it may, in milliseconds.
@@ -97,7 +138,7 @@ impl Params {
         requires duration { duration < 2 ^ 50 }
         ensures { result ≡ close_at self.now set duration }
     {
-        set + duration + self.tolerance()
+        set + duration + self.late()
     }
 
     /// From when, and until when, a timer that was set then for so long may fire, in milliseconds.
@@ -115,6 +156,6 @@ impl Params {
         ensures value { result ≡ close_at self.now moment 0 }
         ensures small { result < 2 ^ 50 }
     {
-        moment + self.tolerance()
+        moment + self.late()
     }
 }

@@ -36,7 +36,7 @@ none_of machine t new is none = of_set (λ X M S m s. s.states ≡ []) machine t
 some_of : (machine : MachineKind) (t : Held Times (StateOf machine)) (new : AnySet) → new ≡ set_of machine t → ¬ IsEmpty new → t.states ≢ []
 some_of machine t new is some none = some (subst IsEmpty (sym is) (to_set (λ X M S m s. s.states ≡ []) machine t none))
 
-module _ (texts : Texts) (p : Times) (machine : MachineKind) (events : List MachineEvent) (old new : AnySet) (leads : LeadsOf texts p machine events old) where
+module _ (texts : Texts) (p : Times) (machine : MachineKind) (events : List MachineEvent) (from : ℕ) (old new : AnySet) (leads : LeadsOf texts p machine events from old) where
   -- the rules of the machine, as those of its sets
   own : Rules (PhaseOf machine)
   own = (meaning_of machine).rules p
@@ -45,21 +45,21 @@ module _ (texts : Texts) (p : Times) (machine : MachineKind) (events : List Mach
   low_of : (moment : ℕ) → moment_of old ≤ moment → leads.0.moment ≤ moment
   low_of moment low = subst (λ m. m ≤ moment) (ap moment_of leads.1 ∙ moment_is machine leads.0) low
 
-  module _ (e : NumberedEvent) (low : moment_of old ≤ e.moment) where
+  module _ (e : NumberedEvent) (late : from ≤ e.moment) (low : moment_of old ≤ e.moment) where
     -- no state is left: no run takes the event
-    pub hears_none : SetTakes texts e old new → IsEmpty new → IsStepped (key_rules p machine) events (event_in texts e) (λ es. LeadsOf texts p machine es new) (λ f. StandsOf texts p machine events f new) NoRun
+    pub hears_none : SetTakes texts e old new → IsEmpty new → IsStepped (key_rules p machine) events (event_in texts e) (λ es. LeadsOf texts p machine es e.moment new) (λ f. StandsOf texts p machine events f new) NoRun
     hears_none takes none =
         let n = after_event texts e machine leads.0 old new leads.1 takes in
         let m = meaning_of machine in
         subst (λ r. ¬ RunsUntil r (events ++ event_in texts e ∷ []) e.moment) (rules_are p machine)
-        (heard_none m.names m.in_range m.seen m.rules (lawful_of machine) texts p events leads.0 n.0 leads.2 (event_in texts e) (low_of e.moment low) n.2.states (none_of machine n.0 new n.1 none))
+        (heard_none m.names m.in_range m.seen m.rules (lawful_of machine) texts p events from leads.0 n.0 leads.2 (event_in texts e) late (low_of e.moment low) n.2.states (none_of machine n.0 new n.1 none))
 
     -- some are left: the runs go on
-    pub hears_some : SetTakes texts e old new → ¬ IsEmpty new → IsStepped (key_rules p machine) events (event_in texts e) (λ es. LeadsOf texts p machine es new) (λ f. StandsOf texts p machine events f new) Runs
+    pub hears_some : SetTakes texts e old new → ¬ IsEmpty new → IsStepped (key_rules p machine) events (event_in texts e) (λ es. LeadsOf texts p machine es e.moment new) (λ f. StandsOf texts p machine events f new) Runs
     hears_some takes some =
         let n = after_event texts e machine leads.0 old new leads.1 takes in
         let m = meaning_of machine in
-        let h = heard_some m.names m.in_range m.seen m.rules (lawful_of machine) texts p events leads.0 n.0 leads.2 (event_in texts e) (low_of e.moment low) n.2.states n.2.machine n.2.at
+        let h = heard_some m.names m.in_range m.seen m.rules (lawful_of machine) texts p events from leads.0 n.0 leads.2 (event_in texts e) late (low_of e.moment low) n.2.states n.2.machine n.2.at
         (some_of machine n.0 new n.1 some) n.2.few in (
           subst (λ r. RunsUntil r (events ++ event_in texts e ∷ []) e.moment) (rules_are p machine) h.0,
           subst (λ r. ¬ IsWide (AfterRun r events (event_in texts e))) (rules_are p machine) h.1,
@@ -68,10 +68,10 @@ module _ (texts : Texts) (p : Times) (machine : MachineKind) (events : List Mach
         )
 
     -- too many come out: there is a run, and too many last states
-    pub hears_wide : IsSetTooWide texts e old → IsStepped (key_rules p machine) events (event_in texts e) (λ es. LeadsOf texts p machine es new) (λ f. StandsOf texts p machine events f new) TooWide
+    pub hears_wide : IsSetTooWide texts e old → IsStepped (key_rules p machine) events (event_in texts e) (λ es. LeadsOf texts p machine es e.moment new) (λ f. StandsOf texts p machine events f new) TooWide
     hears_wide wide =
         let m = meaning_of machine in
-        let h = heard_wide m.names m.in_range m.seen m.rules (lawful_of machine) texts p events leads.0 leads.0 leads.2 (event_in texts e) (low_of e.moment low)
+        let h = heard_wide m.names m.in_range m.seen m.rules (lawful_of machine) texts p events from leads.0 leads.0 leads.2 (event_in texts e) late (low_of e.moment low)
         (of_set (λ X M S m s. IsWide (Given m texts s e)) machine leads.0 (subst (IsSetTooWide texts e) leads.1 wide)) in (
           subst (λ r. RunsUntil r (events ++ event_in texts e ∷ []) e.moment) (rules_are p machine) h.0,
           subst (λ r. IsWide (AfterRun r events (event_in texts e))) (rules_are p machine) h.1,

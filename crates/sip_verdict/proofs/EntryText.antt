@@ -1,8 +1,14 @@
 -- The text of an entry.
-use Rattle.std.proofs.Common.{◌≡◌, ◌≢◌, ◌∙◌, ◌<◌, ◌+◌, ◌-◌, ℕ, zero, suc, true, Option, Some, None, MatchOption, List, [], ◌∷◌, ◌++◌, All, AllPairs, length, slice_get, refl, sym, ap, subst, arith, append_assoc}
-use Rattle.std.specs.Prelude.{IsAscii}
+use Rattle.std.proofs.Common.{◌≡◌, ◌≢◌, ◌∙◌, ◌<◌, ◌+◌, ◌-◌, ℕ, zero, suc, Bool, true, false, cond, Option, Some, None, MatchOption, List, [], ◌∷◌, ◌++◌, All, AllPairs, length, slice_get, refl, sym, ap, subst, arith, append_assoc}
+use Rattle.std.specs.Prelude.{IsAscii, fold}
+use Rattle.std.specs.List.{list_any}
+use Rattle.sip_times.specs.declared.action.Action.{Action}
+use Rattle.sip_times.specs.declared.action.Action.TheVariants.{Sent, Received, Failed, Mark, Restart}
+use Rattle.sip_times.specs.declared.rules.Rules.TheVariants.{R6026}
+use Rattle.sip_verdict.specs.Reading.{AreObserved}
+use Rattle.sip_verdict.specs.VerdictOf.{keys_in}
 use Rattle.std.proofs.lemmas.List.{append-nil}
-use Rattle.std.proofs.lemmas.List.Elements.{All-nil, All-cons, All-head, All-tail, Contains-get_or}
+use Rattle.std.proofs.lemmas.List.Elements.{All-nil, All-cons, All-head, All-tail, All-push, Contains-get_or}
 use Rattle.std.proofs.lemmas.Option.{slice_get_within, get_or_from_slice_get}
 use Rattle.sip_key.specs.Key.{KeyParts, same_key}
 use Rattle.sip_key.specs.inner.KeyLaws.{same_key-decides}
@@ -14,15 +20,15 @@ use Rattle.sip_states.specs.AnySet.{IsKnownSet}
 use Rattle.sip_states.specs.Tables.{Tabled}
 use Rattle.sip_listing.specs.Transaction.{transaction_text}
 use Rattle.sip_log.specs.Spelling.{Item}
-use Rattle.sip_verdict.specs.Keyed.{Observation, concerns, events_of}
+use Rattle.sip_verdict.specs.Keyed.{Observation, with_key, concerns, events_of}
 use Rattle.sip_verdict.specs.Verdicts.{IsFirst}
-use Rattle.sip_verdict.specs.MessageReading.{key_machines, message_reading, direction_of, mark_observation, ObservesMessage, has_fault, has_no_cookie, is_heard}
+use Rattle.sip_verdict.specs.MessageReading.{key_machines, message_reading, direction_of, silent_observation, ObservesMessage, has_fault, has_no_cookie, is_heard}
 use Rattle.sip_verdict.specs.Listing.{IsKeyText, AreKeyTexts, IsEntryText}
 use Rattle.sip_verdict.specs.ListingOf.{key_words}
 use Rattle.sip_verdict.specs.inner.Tracking.{IsJudged, IsStanding}
 use Rattle.sip_verdict.specs.inner.TablesTracking.{key_keeping, transactions_of, HaveNumbers}
 use Rattle.sip_verdict.specs.inner.Numbering.{Appends, AppendsEach, IsTextOf}
-use Rattle.sip_verdict.proofs.Keys.{contains-among}
+use Rattle.sip_verdict.proofs.Keys.{contains-among, keys_of-push}
 use Rattle.sip_verdict.proofs.TablesPassing.{All-place, zip-place, keys_are}
 use Rattle.sip_verdict.proofs.TablesTouching.{keys_exact}
 use Rattle.sip_message.proofs.lemmas.says.Reading.{says-reads}
@@ -39,12 +45,47 @@ message_ascii i e d (is_heard s keys says has concerns is) =
     let read = says-reads i.text s says in
     subst (All (λ k. IsAscii k.method)) (sym (ap (λ x. x.keys) is)) (keys_ascii i.text read.0 d keys read.1 (subst (λ x. Concerns x d keys) read.2 concerns))
 
-ways_ascii : (i : Item) (e : Observation KeyParts) (way : Option Direction) → MatchOption way (e ≡ mark_observation i.moment) (λ d. ObservesMessage d i e) → All (λ k. IsAscii k.method) e.keys
-ways_ascii i e None is = subst (All (λ k. IsAscii k.method)) (sym (ap (λ x. x.keys) is)) (All-nil (λ k. IsAscii k.method))
-ways_ascii i e (Some d) observes = message_ascii i e d observes
+silent_ascii : (a : Action) (moment : ℕ) (keys : List KeyParts) → All (λ k. IsAscii k.method) keys → All (λ k. IsAscii k.method) (silent_observation a moment keys).keys
+silent_ascii Sent moment keys ascii = All-nil (λ k. IsAscii k.method)
+silent_ascii Received moment keys ascii = All-nil (λ k. IsAscii k.method)
+silent_ascii Failed moment keys ascii = All-nil (λ k. IsAscii k.method)
+silent_ascii Mark moment keys ascii = All-nil (λ k. IsAscii k.method)
+silent_ascii Restart moment keys ascii = ascii
 
-pub observed_ascii : (before : List (Observation KeyParts)) (i : Item) (e : Observation KeyParts) → message_reading.Observes before i e → All (λ k. IsAscii k.method) e.keys
-observed_ascii before i e observes = ways_ascii i e (direction_of i.action) observes
+ways_ascii : (i : Item) (keys : List KeyParts) (e : Observation KeyParts) (way : Option Direction) → All (λ k. IsAscii k.method) keys → MatchOption way (e ≡ silent_observation i.action i.moment keys) (λ d. ObservesMessage d i e)
+    → All (λ k. IsAscii k.method) e.keys
+ways_ascii i keys e None ascii is = subst (All (λ k. IsAscii k.method)) (sym (ap (λ x. x.keys) is)) (silent_ascii i.action i.moment keys ascii)
+ways_ascii i keys e (Some d) ascii observes = message_ascii i e d observes
+
+-- so have those of an entry behind others whose keys have
+entry_ascii : (before : List (Observation KeyParts)) (i : Item) (e : Observation KeyParts) → All (λ k. IsAscii k.method) (keys_in before) → message_reading.Observes before i e → All (λ k. IsAscii k.method) e.keys
+entry_ascii before i e ascii observes = ways_ascii i (keys_in before) e (direction_of i.action) ascii observes
+
+-- and the keys of entries, one behind another
+more_ascii : (keys more : List KeyParts) → All (λ k. IsAscii k.method) keys → All (λ k. IsAscii k.method) more → All (λ k. IsAscii k.method) (fold (with_key same_key) keys more)
+more_ascii keys [] old new = old
+more_ascii keys (k ∷ more) old new = more_ascii (with_key same_key keys k) more (one (list_any (same_key k) keys)) (All-tail (λ x. IsAscii x.method) k more new)
+  where
+    one : (b : Bool) → All (λ x. IsAscii x.method) (cond b keys (keys ++ k ∷ []))
+    one true = old
+    one false = All-push (λ x. IsAscii x.method) keys k old (All-head (λ x. IsAscii x.method) k more new)
+
+keys_ascii_behind : (before : List (Observation KeyParts)) (items : List Item) (es : List (Observation KeyParts)) → All (λ k. IsAscii k.method) (keys_in before) → AreObserved message_reading before items es
+    → All (λ k. IsAscii k.method) (keys_in (before ++ es))
+keys_ascii_behind before [] [] ascii seen = subst (λ es. All (λ k. IsAscii k.method) (keys_in es)) (sym (append-nil before)) ascii
+keys_ascii_behind before [] (e ∷ es) ascii seen = absurd seen
+keys_ascii_behind before (i ∷ items) [] ascii seen = absurd seen
+keys_ascii_behind before (i ∷ items) (e ∷ es) ascii seen =
+    subst (λ all. All (λ k. IsAscii k.method) (keys_in all)) (append_assoc before (e ∷ []) es)
+    (keys_ascii_behind (before ++ e ∷ []) items es
+    (subst (All (λ k. IsAscii k.method)) (sym (keys_of-push (key_machines any_times) before e)) (more_ascii (keys_in before) e.keys ascii (entry_ascii before i e ascii seen.0))) seen.1)
+  where
+    any_times : Times
+    any_times = record { t1 = 0; t2 = 0; t4 = 0; early = 0; late = 0; rules = R6026 }
+
+pub observed_ascii : (items : List Item) (before : List (Observation KeyParts)) (i : Item) (e : Observation KeyParts) → AreObserved message_reading [] items before → message_reading.Observes before i e
+    → All (λ k. IsAscii k.method) e.keys
+observed_ascii items before i e seen observes = entry_ascii before i e (keys_ascii_behind [] items before (All-nil (λ k. IsAscii k.method)) seen) observes
 
 -- Among keys that differ, the one at a place is the first that is the same.
 first_place : (keys : List KeyParts) → AllPairs (λ a b. a ≢ b) keys → (n : ℕ) (key : KeyParts) → slice_get keys n ≡ Some key → IsFirst (λ k. same_key key k ≡ true) keys (n + 1)
@@ -87,7 +128,7 @@ module _ (number : List ℕ → ℕ) (texts : Texts) (tells : TellsBook number t
           placed = subst (λ ks. IsFirst (λ k. same_key key k ≡ true) ks n) (sym (keys_are t long) ∙ judged.0.keys)
               (subst (IsFirst (λ k. same_key key k ≡ true) t.keys) count (first_place t.keys apart (n - 1) key at));
           lines = lines;
-          states = standing_lines number texts p (machine_of_key key) (events_of (key_machines p) key es) e.event set lines (stands concerned)
+          states = standing_lines number texts p (machine_of_key p.rules key) (events_of (key_machines p) key es) e.event set lines (stands concerned)
               (told_set number texts tells set (All-place (IsKnownSet texts) t.sets (n - 1) set set_at known)) lists;
           whole = refl;
         },

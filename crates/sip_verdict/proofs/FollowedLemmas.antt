@@ -13,7 +13,10 @@ use Rattle.sip_states.proofs.Listed.{Contains-none, Contains-map}
 use Rattle.sip_log.specs.Spelling.{Item}
 use Rattle.sip_verdict.specs.declared.verdict.Verdict.{Verdict}
 use Rattle.sip_verdict.specs.Keyed.{Observation, Machines, keys_of, newest_moment}
-use Rattle.sip_verdict.specs.MessageReading.{key_machines, mark_observation, message_reading, ObservesMessage, direction_of, has_fault, has_no_cookie, is_heard}
+use Rattle.sip_times.specs.declared.action.Action.{Action}
+use Rattle.sip_times.specs.declared.action.Action.TheVariants.{Sent, Received, Failed, Mark, Restart}
+use Rattle.sip_verdict.specs.VerdictOf.{keys_in}
+use Rattle.sip_verdict.specs.MessageReading.{key_machines, silent_observation, message_reading, ObservesMessage, direction_of, has_fault, has_no_cookie, is_heard}
 use Rattle.sip_verdict.specs.Named.{IsNamed, AreMany, WereNamed, key_messages}
 use Rattle.sip_verdict.specs.Judging.{AreFollowed}
 use Rattle.sip_verdict.specs.inner.Sweeping.{AreFollowedOn}
@@ -58,11 +61,11 @@ more_named : {K : Type 0} (m : Machines K) (messages : (key : K) → m.State key
 more_named m messages es e count w = record { front = w.front; rest = w.rest ++ e ∷ []; whole = ap (λ xs. xs ++ e ∷ []) w.whole ∙ append_assoc w.front w.rest (e ∷ []); many = w.many }
 
 -- no message is named before the first entry
-none_named : (p : Times) → AreMany (IsNamed (key_machines p) key_messages []) 0
+none_named : (p : Times) → AreMany (IsNamed (key_machines p) (key_messages p) []) 0
 none_named p = record {
   texts = [];
   distinct = λ i j d lt low. absurd (omega (arith, low));
-  just = λ text. (λ h. absurd (Contains-none text h), λ h. absurd (no_events_silent p 0 (machine_of_key h.key) [] text refl (h.state, h.stands, h.names)));
+  just = λ text. (λ h. absurd (Contains-none text h), λ h. absurd (no_events_silent p 0 (machine_of_key p.rules h.key) [] text refl (h.state, h.stands, h.names)));
   counts = refl;
 }
 
@@ -73,12 +76,20 @@ heard_moment direction i e (has_fault fault has is) = ap (λ x. x.event.moment) 
 heard_moment direction i e (has_no_cookie r reads lacks is) = ap (λ x. x.event.moment) is
 heard_moment direction i e (is_heard r keys reads fine concerns is) = ap (λ x. x.event.moment) is
 
-moment_going : (direction : Option Direction) (i : Item) (e : Observation KeyParts) → MatchOption direction (e ≡ mark_observation i.moment) (λ way. ObservesMessage way i e) → e.event.moment ≡ i.moment
-moment_going None i e seen = ap (λ x. x.event.moment) seen
-moment_going (Some direction) i e seen = heard_moment direction i e seen
+silent_moment : (a : Action) (moment : ℕ) (keys : List KeyParts) → (silent_observation a moment keys).event.moment ≡ moment
+silent_moment Sent moment keys = refl
+silent_moment Received moment keys = refl
+silent_moment Failed moment keys = refl
+silent_moment Mark moment keys = refl
+silent_moment Restart moment keys = refl
+
+moment_going : (direction : Option Direction) (i : Item) (keys : List KeyParts) (e : Observation KeyParts) → MatchOption direction (e ≡ silent_observation i.action i.moment keys) (λ way. ObservesMessage way i e)
+    → e.event.moment ≡ i.moment
+moment_going None i keys e seen = ap (λ x. x.event.moment) seen ∙ silent_moment i.action i.moment keys
+moment_going (Some direction) i keys e seen = heard_moment direction i e seen
 
 pub observed_moment : (es : List (Observation KeyParts)) (i : Item) (e : Observation KeyParts) → message_reading.Observes es i e → newest_moment (es ++ e ∷ []) ≡ i.moment
-observed_moment es i e seen = newest_moment-push es e ∙ moment_going (direction_of i.action) i e seen
+observed_moment es i e seen = newest_moment-push es e ∙ moment_going (direction_of i.action) i (keys_in es) e seen
 
 -- What follows the entries.
 
@@ -87,7 +98,7 @@ pub followed_none : (p : Times) (texts : Texts) (t : Tabled) → texts ≡ [] �
 followed_none p texts t none empty =
     subst (λ b. AreFollowed b t 0 []) (sym none) (subst (λ u. AreFollowed [] u 0 []) (sym empty) (record {
       tracks = tracks_none (key_machines p) (key_keeping [] p);
-      named = now_named (key_machines p) key_messages [] 0 (none_named p);
+      named = now_named (key_machines p) (key_messages p) [] 0 (none_named p);
       few = omega arith;
     }))
 
@@ -98,41 +109,41 @@ followed_keys texts t es long tracks = ap length (sym (firsts-zip t.keys t.sets 
 module _ (old mid : Texts) (t u : Tabled) (times : u.times ≡ t.times) (number : ℕ) (i : Item) where
   -- what was judged of an entry behind those that old and t follow
   abbrev Says : Option Verdict → Type 0
-  Says verdict = (es : List (Observation KeyParts)) → TablesTrack old es t → number ≡ length es + 1
+  Says verdict = (es : List (Observation KeyParts)) → TablesTrack old es t → number ≡ length es + 1 → newest_moment es ≤ i.moment
       → (e : Observation KeyParts) × message_reading.Observes es i e × IsJudged (key_machines t.times) (key_keeping mid t.times) es e (transactions_of u) verdict
 
   tracks_on : (es : List (Observation KeyParts)) (e : Observation KeyParts) → IsJudged (key_machines t.times) (key_keeping mid t.times) es e (transactions_of u) None → TablesTrack mid (es ++ e ∷ []) u
   tracks_on es e judged = subst (λ p. Tracks (key_machines p) (key_keeping mid p) (es ++ e ∷ []) (transactions_of u)) (sym times) judged.0
 
   -- it is not, and few messages are kept
-  pub followed_kept : Says None → (left : ℕ) → length mid ≤ left + left + 64 → (es : List (Observation KeyParts)) → AreFollowed old t left es → number ≡ length es + 1
+  pub followed_kept : Says None → (left : ℕ) → length mid ≤ left + left + 64 → (es : List (Observation KeyParts)) → AreFollowed old t left es → number ≡ length es + 1 → newest_moment es ≤ i.moment
       → (e : Observation KeyParts) × message_reading.Observes es i e × AreFollowedOn mid u left es e None
-  followed_kept says left few es follows counts =
-      let h = says es follows.tracks counts in (
+  followed_kept says left few es follows counts order =
+      let h = says es follows.tracks counts order in (
         h.0,
         h.1,
         record {
           tracks = tracks_on es h.0 h.2;
-          named = subst (λ p. WereNamed (key_machines p) key_messages (es ++ h.0 ∷ []) left) (sym times) (more_named (key_machines t.times) key_messages es h.0 left follows.named);
+          named = subst (λ p. WereNamed (key_machines p) (key_messages p) (es ++ h.0 ∷ []) left) (sym times) (more_named (key_machines t.times) (key_messages t.times) es h.0 left follows.named);
           few = few;
         },
       )
 
   -- it is not, and messages were forgotten
   pub followed_swept : Says None → (texts : Texts) (v : Tabled) → v.times ≡ u.times → ((es : List (Observation KeyParts)) → TablesTrack mid es u → TablesTrack texts es v)
-      → ((es : List (Observation KeyParts)) → TablesTrack mid es u → newest_moment es ≡ i.moment → AreMany (IsNamed (key_machines u.times) key_messages es) (length texts))
-      → (now : ℕ) → now ≡ length texts → (left : ℕ) (es : List (Observation KeyParts)) → AreFollowed old t left es → number ≡ length es + 1
+      → ((es : List (Observation KeyParts)) → TablesTrack mid es u → newest_moment es ≡ i.moment → AreMany (IsNamed (key_machines u.times) (key_messages u.times) es) (length texts))
+      → (now : ℕ) → now ≡ length texts → (left : ℕ) (es : List (Observation KeyParts)) → AreFollowed old t left es → number ≡ length es + 1 → newest_moment es ≤ i.moment
       → (e : Observation KeyParts) × message_reading.Observes es i e × AreFollowedOn texts v now es e None
-  followed_swept says texts v same tracks named now is left es follows counts =
-      let h = says es follows.tracks counts in
+  followed_swept says texts v same tracks named now is left es follows counts order =
+      let h = says es follows.tracks counts order in
       let on = tracks_on es h.0 h.2 in
       let many = named (es ++ h.0 ∷ []) on (observed_moment es i h.0 h.1) in (
         h.0,
         h.1,
         record {
           tracks = tracks (es ++ h.0 ∷ []) on;
-          named = subst (λ n. WereNamed (key_machines v.times) key_messages (es ++ h.0 ∷ []) n) (sym is)
-              (subst (λ p. WereNamed (key_machines p) key_messages (es ++ h.0 ∷ []) (length texts)) (sym same) (now_named (key_machines u.times) key_messages (es ++ h.0 ∷ []) (length texts) many));
+          named = subst (λ n. WereNamed (key_machines v.times) (key_messages v.times) (es ++ h.0 ∷ []) n) (sym is)
+              (subst (λ p. WereNamed (key_machines p) (key_messages p) (es ++ h.0 ∷ []) (length texts)) (sym same) (now_named (key_machines u.times) (key_messages u.times) (es ++ h.0 ∷ []) (length texts) many));
           few = omega (arith, is);
         },
       )
@@ -144,5 +155,6 @@ swept_take old texts t u number moment may passes recorded fewer keys = record {
   passes = passes;
   recorded = recorded;
   numbered = λ n keeps. may.numbered n (fewer n keeps);
+  some = λ n keeps. may.some n (fewer n keeps);
   few = subst (λ ks. length ks + 2 ≤ number + number) (sym keys) may.few;
 }

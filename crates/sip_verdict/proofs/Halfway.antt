@@ -1,5 +1,5 @@
 -- What is known of the transactions when an entry came, and some sets are still to hear its event.
-use Rattle.std.proofs.Common.{◌≡◌, ◌≢◌, ◌≤◌, ◌<◌, ◌+◌, ◌-◌, ◌⊎◌, inl, inr, ℕ, suc, Bool, true, false, Option, Some, None, List, [], ◌∷◌, ◌++◌, All, AllPairs, IsTrue, map, length, position, get_or, slice_get, refl, sym, ap, ◌∙◌, subst, arith}
+use Rattle.std.proofs.Common.{◌≡◌, ◌≢◌, ◌≤◌, ◌<◌, ◌+◌, ◌-◌, ◌⊎◌, ◌||◌, inl, inr, ℕ, suc, Bool, true, false, Option, Some, None, List, [], ◌∷◌, ◌++◌, All, AllPairs, IsTrue, map, length, position, get_or, slice_get, refl, sym, ap, ◌∙◌, subst, arith}
 use Rattle.std.specs.Option.{option_map}
 use Rattle.std.proofs.lemmas.Bool.{false≢true}
 use Rattle.std.proofs.lemmas.List.Elements.{All-head, All-tail}
@@ -21,14 +21,16 @@ use Rattle.sip_verdict.specs.declared.passing.Fate.TheVariants.{Runs, NoRun, Too
 use Rattle.sip_verdict.specs.declared.passing.Hearing.{Hearing}
 use Rattle.sip_verdict.specs.declared.passing.Outcome.{Outcome}
 use Rattle.sip_verdict.specs.declared.passing.Outcome.TheVariants as all
-use Rattle.sip_verdict.specs.Keyed.{Observation, Machines, HasRun, concerns, events_of}
+use Rattle.sip_verdict.specs.Keyed.{Observation, Machines, HasRun, concerns, events_of, newest_moment}
 use Rattle.sip_verdict.specs.Verdicts.{IsFirst, IsTooWide}
 use Rattle.sip_verdict.specs.MessageReading.{key_machines}
 use Rattle.sip_verdict.specs.inner.Stepping.{RunsUntil, IsStepped}
 use Rattle.sip_verdict.specs.inner.Tracking.{Keeping, IsReady, IsStanding, GoesOn, IsPassed, IsOutcome, outcome_of, overdue_outcome, first_of}
-use Rattle.sip_verdict.specs.inner.TablesTracking.{LeadsOf, StandsOf, key_keeping, transactions_of, hearers, is_among, AreTold, MayPass, AreOnRecord, Hears, HearsEach}
+use Rattle.sip_verdict.specs.inner.TablesTracking.{LeadsOf, StandsOf, key_keeping, transactions_of, is_among, concerns_number, AreTold, MayPass, MayHear, AreHearers, AreOnRecord, Hears, HearsEach}
+use Rattle.sip_verdict.specs.inner.Concerned.{each, is_all}
 use Rattle.sip_verdict.proofs.Outcomes.{IsFirstAmong, Says, says_fewer, says_both, both_fine, first_at}
 use Rattle.sip_verdict.proofs.Overdue.{overdue_none, in_time_some}
+use Rattle.sip_verdict.proofs.QuietSets.{leads_later, quiet_stepped}
 use Rattle.sip_verdict.proofs.Stepped.{own_passed, other_passed, run_still}
 use Rattle.sip_verdict.proofs.TablesPassing.{at_place, All-place, All-places, zip-place, place-zip, set-place, keys_are, among_not, among_first, among_rest, first_apart, leaves_keys, leaves_sets, heard_given}
 
@@ -88,7 +90,7 @@ module _ (texts : Texts) (p : Times) (es : List (Observation KeyParts)) (e : Obs
     )
 
   -- one more has heard the event
-  module _ (event : NumberedEvent) (is_event : (n : ℕ) (key : KeyParts) → slice_get keys n ≡ Some key → e.event ≡ event_in texts event) (number : ℕ) (ns : List ℕ) (once : is_among ns number ≡ false) (t u : Tabled) (outcome : Outcome)
+  module _ (event : NumberedEvent) (is_event : (n : ℕ) (key : KeyParts) → slice_get keys n ≡ Some key → e.event ≡ event_in texts event) (number : ℕ) (ns : List ℕ) (once : is_among ns number ≡ false) (late : newest_moment es ≤ event.moment) (t u : Tabled) (outcome : Outcome)
       (h : IsHalfway (number ∷ ns) t outcome) (given : IsGiven t number) (fate : Fate) (own : Hears texts event number t u fate) where
     abbrev place : ℕ
     place = number - 1
@@ -105,9 +107,9 @@ module _ (texts : Texts) (p : Times) (es : List (Observation KeyParts)) (e : Obs
     left : IsPassed m k es e (mine.0, own.after) fate
     left =
         own_passed m k es e (mine.0, own.after) before.0 fate
-        (subst (λ f. IsStepped (key_rules p (machine_of_key mine.0)) (events_of m mine.0 es) f (λ fs. LeadsOf texts p (machine_of_key mine.0) fs own.after)
-        (λ f. StandsOf texts p (machine_of_key mine.0) (events_of m mine.0 es) f own.after) fate) (sym (is_event place mine.0 mine.1))
-        (own.stepped p (machine_of_key mine.0) (events_of m mine.0 es) before.1))
+        (subst (λ f. IsStepped (key_rules p (machine_of_key p.rules mine.0)) (events_of m mine.0 es) f (λ fs. LeadsOf texts p (machine_of_key p.rules mine.0) fs f.moment own.after)
+        (λ f. StandsOf texts p (machine_of_key p.rules mine.0) (events_of m mine.0 es) f own.after) fate) (sym (is_event place mine.0 mine.1))
+        (own.stepped p (machine_of_key p.rules mine.0) (events_of m mine.0 es) (newest_moment es) late before.1))
 
     mine_is : (n : ℕ) (key : KeyParts) → slice_get keys n ≡ Some key → n ≡ place → mine.0 ≡ key
     mine_is n key at same = let both : Some mine.0 ≡ Some key = sym mine.1 ∙ ap (slice_get keys) (sym same) ∙ at in cc
@@ -158,21 +160,24 @@ module _ (texts : Texts) (p : Times) (es : List (Observation KeyParts)) (e : Obs
     }
 
   -- each has heard it
-  pub halfway_each : (event : NumberedEvent) → ((n : ℕ) (key : KeyParts) → slice_get keys n ≡ Some key → e.event ≡ event_in texts event) → (ns : List ℕ) (t u : Tabled) (before after : Outcome) → IsHalfway ns t before → All (IsGiven t) ns
+  pub halfway_each : (event : NumberedEvent) → ((n : ℕ) (key : KeyParts) → slice_get keys n ≡ Some key → e.event ≡ event_in texts event) → newest_moment es ≤ event.moment → (ns : List ℕ) (t u : Tabled) (before after : Outcome) → IsHalfway ns t before → All (IsGiven t) ns
       → AllPairs (λ a b. a ≢ b) ns → HearsEach texts event ns t before u after → IsHalfway [] u after
-  halfway_each event is_event [] t u before after h given apart (same, fine) = subst (λ o. IsHalfway [] u o) (sym fine) (subst (λ x. IsHalfway [] x before) (sym same) h)
-  halfway_each event is_event (n ∷ ns) t u before after h given apart (between, one, first, rest) =
-      halfway_each event is_event ns between u (first_of before one) after
+  halfway_each event is_event late [] t u before after h given apart (same, fine) = subst (λ o. IsHalfway [] u o) (sym fine) (subst (λ x. IsHalfway [] x before) (sym same) h)
+  halfway_each event is_event late (n ∷ ns) t u before after h given apart (between, one, first, rest) =
+      halfway_each event is_event late ns between u (first_of before one) after
       (subst (λ o. IsHalfway ns between (first_of before o)) (sym first.2)
-      (one_more event is_event n ns (first_apart n ns apart) t between before h (All-head (IsGiven t) n ns given) first.0 first.1))
+      (one_more event is_event n ns (first_apart n ns apart) late t between before h (All-head (IsGiven t) n ns given) first.0 first.1))
       (heard_given texts event n t between one first ns (All-tail (IsGiven t) n ns given)) (AllPairs-tail n ns apart) rest
 
 -- no set has heard the event yet
 module _ (texts : Texts) (p : Times) (es : List (Observation KeyParts)) (e : Observation KeyParts) (moment : ℕ) (hearing : Option Hearing) (t : Tabled) (may : MayPass texts t moment)
-    (recorded : AreOnRecord (hearers hearing) t) (told : AreTold texts t.keys moment hearing e) (ready : All (IsReady (key_machines p) (key_keeping texts p) es) (transactions_of t)) where
+    (numbers : List ℕ) (recorded : AreOnRecord numbers t) (told : AreTold texts t.keys moment hearing e) (ready : All (IsReady (key_machines p) (key_keeping texts p) es) (transactions_of t))
+    (newest : newest_moment es ≤ moment) (heard : (number : ℕ) → is_among numbers number ≡ true → concerns_number hearing number ≡ true)
+    (others : (n : ℕ) (key : KeyParts) (s : AnySet) → slice_get t.keys n ≡ Some key → slice_get t.sets n ≡ Some s → is_among numbers (n + 1) ≡ false
+    → (concerns_number hearing (n + 1) ≡ false) ⊎ GoesOn (key_machines p) (key_keeping texts p) es e (key, s)) where
   -- a key, its set and its last moment on record
   module _ (n : ℕ) (key : KeyParts) (s : AnySet) (at : slice_get t.keys n ≡ Some key) (here : slice_get t.sets n ≡ Some s) where
-    leads : LeadsOf texts p (machine_of_key key) (events_of (key_machines p) key es) s
+    leads : LeadsOf texts p (machine_of_key p.rules key) (events_of (key_machines p) key es) (newest_moment es) s
     leads = All-place (IsReady (key_machines p) (key_keeping texts p) es) (transactions_of t) n (key, s) (zip-place t.keys t.sets n key s at here) ready
 
     low : moment_of s ≤ moment
@@ -186,16 +191,20 @@ module _ (texts : Texts) (p : Times) (es : List (Observation KeyParts)) (e : Obs
     late : (r : Option (Option ℕ)) → slice_get t.records n ≡ Some r → is_overdue moment r ≡ true → ¬ HasRun (key_machines p) key (es ++ e ∷ [])
     late None on is = absurd (false≢true is)
     late (Some limit) on is = λ run.
-        overdue_none texts p (machine_of_key key) (events_of (key_machines p) key es) s leads limit (recorded.each n s (Some limit) here on) moment low is
-        (subst (RunsUntil (key_rules p (machine_of_key key)) (events_of (key_machines p) key es)) at_moment (run_still (key_machines p) (key_keeping texts p) es e (key, s) run))
+        overdue_none texts p (machine_of_key p.rules key) (events_of (key_machines p) key es) (newest_moment es) s leads limit (recorded.each n s (Some limit) here on) moment newest low is
+        (subst (RunsUntil (key_rules p (machine_of_key p.rules key)) (events_of (key_machines p) key es)) at_moment (run_still (key_machines p) (key_keeping texts p) es e (key, s) run))
 
     -- and up to it, it goes on
-    in_time : (r : Option (Option ℕ)) → slice_get t.records n ≡ Some r → is_overdue moment r ≡ false → is_among (hearers hearing) (n + 1) ≡ false → GoesOn (key_machines p) (key_keeping texts p) es e (key, s)
+    in_time : (r : Option (Option ℕ)) → slice_get t.records n ≡ Some r → is_overdue moment r ≡ false → is_among numbers (n + 1) ≡ false → GoesOn (key_machines p) (key_keeping texts p) es e (key, s)
     in_time None on is other = absurd (false≢true (sym other ∙ recorded.each n s None here on))
-    in_time (Some limit) on is other =
-        other_passed (key_machines p) (key_keeping texts p) es e (key, s) ((told n key at).concerned p ∙ other)
-        (subst (RunsUntil (key_rules p (machine_of_key key)) (events_of (key_machines p) key es)) (sym at_moment)
-        (in_time_some texts p (machine_of_key key) (events_of (key_machines p) key es) s leads limit (recorded.each n s (Some limit) here on) moment low is)) leads
+    in_time (Some limit) on is other = elim (others n key s at here other) [ inl apart ↦ waits_on apart | inr goes ↦ goes ]
+      where
+        waits_on : concerns_number hearing (n + 1) ≡ false → GoesOn (key_machines p) (key_keeping texts p) es e (key, s)
+        waits_on apart =
+            other_passed (key_machines p) (key_keeping texts p) es e (key, s) ((told n key at).concerned p ∙ apart)
+            (subst (RunsUntil (key_rules p (machine_of_key p.rules key)) (events_of (key_machines p) key es)) (sym at_moment)
+            (in_time_some texts p (machine_of_key p.rules key) (events_of (key_machines p) key es) (newest_moment es) s leads limit (recorded.each n s (Some limit) here on) moment newest low is))
+            (leads_later texts p (machine_of_key p.rules key) (events_of (key_machines p) key es) (newest_moment es) e.event.moment s (omega (arith, newest, at_moment)) leads)
 
   -- each key has a set and a place for its last moment
   set_of_key : (n : ℕ) (key : KeyParts) → slice_get t.keys n ≡ Some key → (s : AnySet) × (slice_get t.sets n ≡ Some s)
@@ -204,16 +213,16 @@ module _ (texts : Texts) (p : Times) (es : List (Observation KeyParts)) (e : Obs
   record_of_key : (n : ℕ) (key : KeyParts) → slice_get t.keys n ≡ Some key → (r : Option (Option ℕ)) × (slice_get t.records n ≡ Some r)
   record_of_key n key at = at_place t.records n (let within = slice_get_within t.keys n key at in let long = recorded.long in omega arith)
 
-  waiting : (n : ℕ) (key : KeyParts) (s : AnySet) → slice_get t.keys n ≡ Some key → slice_get t.sets n ≡ Some s → is_among (hearers hearing) (n + 1) ≡ true
+  waiting : (n : ℕ) (key : KeyParts) (s : AnySet) → slice_get t.keys n ≡ Some key → slice_get t.sets n ≡ Some s → is_among numbers (n + 1) ≡ true
       → (concerns (key_machines p) key e ≡ true) × IsReady (key_machines p) (key_keeping texts p) es (key, s)
-  waiting n key s at here own = ((told n key at).concerned p ∙ own, leads n key s at here)
+  waiting n key s at here own = ((told n key at).concerned p ∙ heard (n + 1) own, leads n key s at here)
 
   -- no key is overdue
   module _ (nothing : (n : ℕ) (r : Option (Option ℕ)) → slice_get t.records n ≡ Some r → is_overdue moment r ≡ false) where
-    goes : (n : ℕ) (key : KeyParts) (s : AnySet) → slice_get t.keys n ≡ Some key → slice_get t.sets n ≡ Some s → is_among (hearers hearing) (n + 1) ≡ false → GoesOn (key_machines p) (key_keeping texts p) es e (key, s)
+    goes : (n : ℕ) (key : KeyParts) (s : AnySet) → slice_get t.keys n ≡ Some key → slice_get t.sets n ≡ Some s → is_among numbers (n + 1) ≡ false → GoesOn (key_machines p) (key_keeping texts p) es e (key, s)
     goes n key s at here other = let (r, on) = record_of_key n key at in in_time n key s at here r on (nothing n r on) other
 
-    none_due : IsHalfway texts p es e t.keys (hearers hearing) t all.Fine
+    none_due : IsHalfway texts p es e t.keys numbers t all.Fine
     none_due = record {
       same = refl;
       says = λ n key at other. (let (s, here) = set_of_key n key at in let g = goes n key s at here other in (g.runs, g.narrow));
@@ -223,7 +232,7 @@ module _ (texts : Texts) (p : Times) (es : List (Observation KeyParts)) (e : Obs
 
   -- this is the first that is
   module _ (i : ℕ) (low : i < length t.records) (late_is : is_overdue moment (get_or t.records i None) ≡ true) (earlier : (n : ℕ) → n < i → is_overdue moment (get_or t.records n None) ≡ false) where
-    first_due : IsHalfway texts p es e t.keys (hearers hearing) t (all.NoRun (i + 1))
+    first_due : IsHalfway texts p es e t.keys numbers t (all.NoRun (i + 1))
     first_due =
         let (key, at) = at_place t.keys i (let long = recorded.long in omega arith) in
         let (s, here) = set_of_key i key at in
@@ -243,10 +252,10 @@ module _ (texts : Texts) (p : Times) (es : List (Observation KeyParts)) (e : Obs
         }
 
   -- the outcome of those that do not hear the event
-  pub halfway_start : IsHalfway texts p es e t.keys (hearers hearing) t (overdue_outcome (due_of t moment))
+  pub halfway_start : IsHalfway texts p es e t.keys numbers t (overdue_outcome (due_of t moment))
   halfway_start = go (position (is_overdue moment) t.records) refl
     where
-      go : (found : Option ℕ) → position (is_overdue moment) t.records ≡ found → IsHalfway texts p es e t.keys (hearers hearing) t (overdue_outcome (option_map (λ i. i + 1) found))
+      go : (found : Option ℕ) → position (is_overdue moment) t.records ≡ found → IsHalfway texts p es e t.keys numbers t (overdue_outcome (option_map (λ i. i + 1) found))
       go None is = none_due (nowhere t.records is)
         where
           nowhere : (rs : List (Option (Option ℕ))) → position (is_overdue moment) rs ≡ None → (n : ℕ) (r : Option (Option ℕ)) → slice_get rs n ≡ Some r → is_overdue moment r ≡ false
@@ -254,15 +263,45 @@ module _ (texts : Texts) (p : Times) (es : List (Observation KeyParts)) (e : Obs
       go (Some i) is = let found = position-Some (is_overdue moment) t.records i None is in first_due i found.0 found.1 found.2
 
   -- the outcome of an entry that concerns none
-  pub mark_outcome : hearers hearing ≡ [] → IsOutcome (key_machines p) (key_keeping texts p) es e (transactions_of t) (overdue_outcome (due_of t moment))
+  pub mark_outcome : numbers ≡ [] → IsOutcome (key_machines p) (key_keeping texts p) es e (transactions_of t) (overdue_outcome (due_of t moment))
   mark_outcome none =
       halfway_all texts p es e t.keys t may.long (overdue_outcome (due_of t moment))
       (subst (λ ns. IsHalfway texts p es e t.keys ns t (overdue_outcome (due_of t moment))) none halfway_start)
 
   -- and of one whose event was heard by each that it concerns
-  pub heard_outcome : (event : NumberedEvent) → ((n : ℕ) (key : KeyParts) → slice_get t.keys n ≡ Some key → e.event ≡ event_in texts event) → All (IsGiven t) (hearers hearing) → AllPairs (λ a b. a ≢ b) (hearers hearing) → (u : Tabled)
-      → length u.sets ≡ length u.keys → (outcome : Outcome) → HearsEach texts event (hearers hearing) t (overdue_outcome (due_of t moment)) u outcome
+  pub heard_outcome : (event : NumberedEvent) → ((n : ℕ) (key : KeyParts) → slice_get t.keys n ≡ Some key → e.event ≡ event_in texts event) → newest_moment es ≤ event.moment → All (IsGiven t) numbers → AllPairs (λ a b. a ≢ b) numbers → (u : Tabled)
+      → length u.sets ≡ length u.keys → (outcome : Outcome) → HearsEach texts event numbers t (overdue_outcome (due_of t moment)) u outcome
       → IsOutcome (key_machines p) (key_keeping texts p) es e (transactions_of u) outcome
-  heard_outcome event is_event given apart u long outcome heard_each =
+  heard_outcome event is_event late given apart u long outcome heard_each =
       halfway_all texts p es e t.keys u long outcome
-      (halfway_each texts p es e t.keys event is_event (hearers hearing) t u (overdue_outcome (due_of t moment)) outcome halfway_start given apart heard_each)
+      (halfway_each texts p es e t.keys event is_event late numbers t u (overdue_outcome (due_of t moment)) outcome halfway_start given apart heard_each)
+
+-- a key whose set does not hear the event is not concerned, or its set is quiet and passes the restart as it is
+pub quiet_others : (texts : Texts) (p : Times) (es : List (Observation KeyParts)) (e : Observation KeyParts) (moment : ℕ) (h : Hearing) (t : Tabled) → MayPass texts t moment → AreTold texts t.keys moment (Some h) e
+    → All (IsReady (key_machines p) (key_keeping texts p) es) (transactions_of t) → newest_moment es ≤ moment → MayHear texts t moment h → (numbers : List ℕ) → AreHearers t h.concerned numbers
+    → (n : ℕ) (key : KeyParts) (s : AnySet) → slice_get t.keys n ≡ Some key → slice_get t.sets n ≡ Some s → is_among numbers (n + 1) ≡ false
+    → (concerns_number (Some h) (n + 1) ≡ false) ⊎ GoesOn (key_machines p) (key_keeping texts p) es e (key, s)
+quiet_others texts p es e moment h t may told ready newest hear numbers hearers n key s at here none = by_all (is_all h.concerned) refl
+  where
+    m : Machines KeyParts
+    m = key_machines p
+
+    k : Keeping KeyParts (KeyParts × AnySet)
+    k = key_keeping texts p
+
+    not_named : is_among (each h.concerned) (n + 1) ≡ false
+    not_named = not_passing (is_among (each h.concerned) (n + 1)) (λ among. false≢true (sym none ∙ hearers.named (n + 1) among))
+
+    goes : is_all h.concerned ≡ true → GoesOn m k es e (key, s)
+    goes all =
+        let leads = All-place (IsReady m k es) (transactions_of t) n (key, s) (zip-place t.keys t.sets n key s at here) ready in
+        let low = All-place (λ x. moment_of x ≤ moment) t.sets n s here may.order in
+        let machine = machine_of_key p.rules key in
+        let events = events_of m key es in
+        let stepped = quiet_stepped texts p machine events (newest_moment es) s leads (hearers.others all n s here none) h.event (hear.restart all) (omega (arith, newest, hear.at)) (omega (arith, low, hear.at)) in
+        own_passed m k es e (key, s) ((told n key at).concerned p ∙ ap (λ b. b || is_among (each h.concerned) (n + 1)) all) Runs
+        (subst (λ f. IsStepped (key_rules p machine) events f (λ fs. LeadsOf texts p machine fs f.moment s) (λ g. StandsOf texts p machine events g s) Runs) (sym (told n key at).event) stepped)
+
+    by_all : (b : Bool) → is_all h.concerned ≡ b → (concerns_number (Some h) (n + 1) ≡ false) ⊎ GoesOn m k es e (key, s)
+    by_all true all = inr (goes all)
+    by_all false some = inl (ap (λ b. b || is_among (each h.concerned) (n + 1)) some ∙ not_named)

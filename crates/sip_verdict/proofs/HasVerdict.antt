@@ -13,7 +13,7 @@ use Rattle.sip_key.specs.declared.role.Direction.TheVariants as way
 use Rattle.sip_key.specs.Key.{KeyParts}
 use Rattle.sip_key.specs.Concerns.{lacks_cookie}
 use Rattle.sip_times.specs.declared.action.Action.{Action}
-use Rattle.sip_times.specs.declared.action.Action.TheVariants.{Sent, Received, Failed, Mark}
+use Rattle.sip_times.specs.declared.action.Action.TheVariants.{Sent, Received, Failed, Mark, Restart}
 use Rattle.sip_machine.specs.Times.{Times}
 use Rattle.sip_log.specs.Spelling.{Item}
 use Rattle.sip_log.specs.Log.{LogEnd, Clean, Stops, Log, Faulty, Readable, IsLogOf}
@@ -25,7 +25,9 @@ use Rattle.sip_verdict.specs.LogReason.{reason_of}
 use Rattle.sip_verdict.specs.Keyed.{Observation, Machines, keys_of, HasRun}
 use Rattle.sip_verdict.specs.Verdicts.{IsFirst, IsTooWide, AllRun, IsFine, IsTrouble}
 use Rattle.sip_verdict.specs.Reading.{EntryReading, Judges, IsVerdictBy}
-use Rattle.sip_verdict.specs.MessageReading.{message_reading, direction_of, mark_observation, ObservesMessage, has_fault, has_no_cookie, is_heard}
+use Rattle.sip_verdict.specs.VerdictOf.{keys_in}
+use Rattle.sip_verdict.specs.MessageReading.{message_reading, direction_of, silent_observation, ObservesMessage, has_fault, has_no_cookie, is_heard}
+use Rattle.sip_verdict.specs.inner.Observing.{mark_observation, restart_observation}
 
 -- it is not false
 abbrev Weakly : Type 0 → Type 0
@@ -119,11 +121,19 @@ observes_message direction item never = reading-or-fault item.text no_reading no
 sees_entry : Sees message_reading
 sees_entry before item = by_action item.action refl
   where
+    keys : List KeyParts
+    keys = keys_in before
+
+    -- this is observed of an entry with which this was done
+    Seen : Observation KeyParts → Action → Type 0
+    Seen e a = MatchOption (direction_of a) (e ≡ silent_observation a item.moment keys) (λ d. ObservesMessage d item e)
+
     by_action : (a : Action) → item.action ≡ a → Weakly ((e : Observation KeyParts) × message_reading.Observes before item e)
-    by_action Sent is never = observes_message way.Sent item (λ seen. never (seen.0, subst (λ a. MatchOption (direction_of a) (seen.0 ≡ mark_observation item.moment) (λ d. ObservesMessage d item seen.0)) (sym is) seen.1))
-    by_action Received is never = observes_message way.Received item (λ seen. never (seen.0, subst (λ a. MatchOption (direction_of a) (seen.0 ≡ mark_observation item.moment) (λ d. ObservesMessage d item seen.0)) (sym is) seen.1))
-    by_action Failed is never = observes_message way.Sent item (λ seen. never (seen.0, subst (λ a. MatchOption (direction_of a) (seen.0 ≡ mark_observation item.moment) (λ d. ObservesMessage d item seen.0)) (sym is) seen.1))
-    by_action Mark is never = never (mark_observation item.moment, subst (λ a. MatchOption (direction_of a) (mark_observation item.moment ≡ mark_observation item.moment) (λ d. ObservesMessage d item (mark_observation item.moment))) (sym is) refl)
+    by_action Sent is never = observes_message way.Sent item (λ seen. never (seen.0, subst (Seen seen.0) (sym is) seen.1))
+    by_action Received is never = observes_message way.Received item (λ seen. never (seen.0, subst (Seen seen.0) (sym is) seen.1))
+    by_action Failed is never = observes_message way.Sent item (λ seen. never (seen.0, subst (Seen seen.0) (sym is) seen.1))
+    by_action Mark is never = never (mark_observation item.moment, subst (Seen (mark_observation item.moment)) (sym is) refl)
+    by_action Restart is never = never (restart_observation item.moment keys, subst (Seen (restart_observation item.moment keys)) (sym is) refl)
 
 -- each input has a verdict
 pub has_verdict : (input : List ℕ) → ¬ ((v : Verdict) → ¬ (IsVerdictBy message_reading input v))

@@ -18,6 +18,7 @@ may_later texts t number moment later low may = record {
   };
   recorded = may.recorded;
   numbered = may.numbered;
+  some = may.some;
   few = may.few;
 }
 

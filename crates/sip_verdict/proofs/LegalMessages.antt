@@ -7,7 +7,7 @@ use Rattle.sip_log.specs.Spelling.{Item}
 use Rattle.sip_verdict.specs.declared.verdict.Verdict.TheVariants.{Legal}
 use Rattle.sip_verdict.specs.Keyed.{Observation}
 use Rattle.sip_verdict.specs.Reading.{AreObserved}
-use Rattle.sip_verdict.specs.MessageReading.{direction_of, mark_observation, message_reading, no_cookie, ObservesMessage, has_fault, has_no_cookie, is_heard}
+use Rattle.sip_verdict.specs.MessageReading.{direction_of, message_reading, no_cookie, ObservesMessage, has_fault, has_no_cookie, is_heard}
 use Rattle.sip_verdict.specs.LegalLog.{IsFormed, IsLegalLog}
 use Rattle.sip_verdict.specs.VerdictOf.{IsVerdictOf}
 use Rattle.sip_verdict.proofs.LegalRuns.{legal_has_runs}
@@ -20,10 +20,10 @@ formed direction item e none (has_no_cookie s says lacks is) = let h : Some no_c
 formed direction item e none (is_heard s keys says fine concerns is) = (s, says, fine)
 
 -- so is the message of an entry, if it has one
-formed_going : (direction : Option Direction) (item : Item) (e : Observation KeyParts) → e.fault ≡ None → MatchOption direction (e ≡ mark_observation item.moment) (λ d. ObservesMessage d item e)
+formed_going : (direction : Option Direction) (item : Item) (silent e : Observation KeyParts) → e.fault ≡ None → MatchOption direction (e ≡ silent) (λ d. ObservesMessage d item e)
     → IfSome direction (λ d. IsFormed d item.text)
-formed_going None item e none seen = tt
-formed_going (Some direction) item e none seen = formed direction item e none seen
+formed_going None item silent e none seen = tt
+formed_going (Some direction) item silent e none seen = formed direction item e none seen
 
 -- and that of each
 all_formed : (before : List (Observation KeyParts)) (items : List Item) (es : List (Observation KeyParts)) → AreObserved message_reading before items es → All (λ e. e.fault ≡ None) es
@@ -32,7 +32,7 @@ all_formed before [] es seen none = All-nil (λ item. IfSome (direction_of item.
 all_formed before (item ∷ items) [] seen none = absurd seen
 all_formed before (item ∷ items) (e ∷ es) seen none =
     All-cons (λ x. IfSome (direction_of x.action) (λ d. IsFormed d x.text)) item items
-    (formed_going (direction_of item.action) item e (All-head (λ x. x.fault ≡ None) e es none) seen.0)
+    (formed_going (direction_of item.action) item _ e (All-head (λ x. x.fault ≡ None) e es none) seen.0)
     (all_formed (before ++ e ∷ []) items es seen.1 (All-tail (λ x. x.fault ≡ None) e es none))
 
 -- a legal log has messages of the grammar, and runs

@@ -2,6 +2,7 @@ pub mod AnyHearing
 pub mod EntryText
 pub mod FewerEntries
 pub mod FollowedLemmas
+pub mod FormatLaws
 pub mod Halfway
 pub mod HasVerdict
 pub mod Hearing
@@ -22,6 +23,7 @@ pub mod OneMachine
 pub mod OneVerdict
 pub mod Outcomes
 pub mod Overdue
+pub mod QuietSets
 pub mod ShowingLemmas
 pub mod Splitting
 pub mod StandingLemmas

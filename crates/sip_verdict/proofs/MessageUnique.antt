@@ -11,7 +11,7 @@ use Rattle.sip_key.specs.Key.{KeyParts}
 use Rattle.sip_key.specs.Concerns.{Concerns, lacks_cookie, own_key, cancelled_key}
 use Rattle.sip_log.specs.Spelling.{Item}
 use Rattle.sip_verdict.specs.Keyed.{Observation}
-use Rattle.sip_verdict.specs.MessageReading.{fault_observation, message_event, ObservesMessage, has_fault, has_no_cookie, is_heard, direction_of, mark_observation, message_reading}
+use Rattle.sip_verdict.specs.MessageReading.{fault_observation, message_event, ObservesMessage, has_fault, has_no_cookie, is_heard, direction_of, message_reading}
 
 -- bytes that have a fault say no message
 fault_says_none : (text : List ℕ) (fault : Fault) (s : Said) → Says text (stops fault) → Says text (gives s) → ⊥
@@ -53,11 +53,11 @@ message_one direction item e f (is_heard s keys says fine concerns is) (is_heard
     is ∙ heard_once item direction s t keys more (one_said item.text s t says says2) concerns concerns2 ∙ sym is2
 
 -- one thing is observed of an entry, with a message that went this way or with none
-going_one : (direction : Option Direction) (item : Item) (e f : Observation KeyParts) → MatchOption direction (e ≡ mark_observation item.moment) (λ d. ObservesMessage d item e)
-    → MatchOption direction (f ≡ mark_observation item.moment) (λ d. ObservesMessage d item f) → e ≡ f
-going_one None item e f a b = a ∙ sym b
-going_one (Some direction) item e f a b = message_one direction item e f a b
+going_one : (direction : Option Direction) (item : Item) (silent e f : Observation KeyParts) → MatchOption direction (e ≡ silent) (λ d. ObservesMessage d item e)
+    → MatchOption direction (f ≡ silent) (λ d. ObservesMessage d item f) → e ≡ f
+going_one None item silent e f a b = a ∙ sym b
+going_one (Some direction) item silent e f a b = message_one direction item e f a b
 
 -- one thing is observed of an entry
 pub observes_one : (es : List (Observation KeyParts)) (item : Item) (e f : Observation KeyParts) → message_reading.Observes es item e → message_reading.Observes es item f → e ≡ f
-observes_one es item e f a b = going_one (direction_of item.action) item e f a b
+observes_one es item e f a b = going_one (direction_of item.action) item _ e f a b

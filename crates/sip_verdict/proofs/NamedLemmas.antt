@@ -46,12 +46,12 @@ RunNames {X} r messages events moment text = (y : X) × RuledRun r events moment
 module _ {X S : Type 0} (names : S → List ℕ) (InRange : S → Type 0) (seen : Texts → S → X) (messages : X → List (List ℕ))
     (named : (texts : Texts) (x : S) → messages (seen texts x) ≡ map (text_of texts) (names x)) (texts : Texts) (r : Rules X) (events : List MachineEvent) where
   -- once a set that leads to the runs has waited until a moment, its states name just what the states of the runs name there
-  pub waited_names : (at moment : ℕ) (old new : List S) → at ≤ moment → Leads names seen texts r events at old
+  pub waited_names : (from at moment : ℕ) (old new : List S) → from ≤ moment → at ≤ moment → Leads names seen texts r events from at old
       → StandFor names InRange seen texts (Wait r (Contains (map (seen texts) old)) at moment) new → (text : List ℕ)
       → RunNames r messages events moment text ↔ IsNumberOf texts (flat_map names new) text
-  waited_names at moment old new low leads stand text = (
+  waited_names from at moment old new late low leads stand text = (
     λ h. let (y, run, has) = h in
-        let (x, among, is) = Contains-from_map (seen texts) new y ((stand.members y).1 ((leads.runs moment y low).1 run)) in
+        let (x, among, is) = Contains-from_map (seen texts) new y ((stand.members y).1 ((leads.runs moment y late low).1 run)) in
         let there : Contains (map (text_of texts) (names x)) text = subst (λ ts. Contains ts text) (named texts x) (subst (λ z. Contains (messages z) text) (sym is) has) in
         let (n, in_names, text_is) = Contains-from_map (text_of texts) (names x) text there in
         (n, Contains-flat_map names new x n among in_names, text_is),
@@ -59,15 +59,15 @@ module _ {X S : Type 0} (names : S → List ℕ) (InRange : S → Type 0) (seen 
         let (x, among, in_names) = Contains-from_flat_map names new n has in
         let y = seen texts x in (
           y,
-          (leads.runs moment y low).0 ((stand.members y).0 (Contains-map (seen texts) new x among)),
+          (leads.runs moment y late low).0 ((stand.members y).0 (Contains-map (seen texts) new x among)),
           subst (λ ts. Contains ts text) (sym (named texts x)) (subst (Contains (map (text_of texts) (names x))) is (Contains-map (text_of texts) (names x) n in_names)),
         ),
   )
 
   -- a set that names nothing leads to runs whose states name nothing, however long they wait
-  pub silent_names : (at moment : ℕ) (old : List S) → IsLawful r → at ≤ moment → Leads names seen texts r events at old → messages r.ended ≡ [] → flat_map names old ≡ [] → (text : List ℕ)
+  pub silent_names : (from at moment : ℕ) (old : List S) → IsLawful r → from ≤ moment → at ≤ moment → Leads names seen texts r events from at old → messages r.ended ≡ [] → flat_map names old ≡ [] → (text : List ℕ)
       → RunNames r messages events moment text → ⊥
-  silent_names at moment old lawful low leads rests silent text (y, run, has) = go ((Wait-cases r lawful (Contains (map (seen texts) old)) at moment y).0 ((leads.runs moment y low).1 run))
+  silent_names from at moment old lawful late low leads rests silent text (y, run, has) = go ((Wait-cases r lawful (Contains (map (seen texts) old)) at moment y).0 ((leads.runs moment y late low).1 run))
     where
       go : StaysFrom r (Contains (map (seen texts) old)) at moment y ⊎ EndsFrom r (Contains (map (seen texts) old)) at moment y → ⊥
       go (inl stays) =

@@ -49,7 +49,7 @@ no_events_silent p moment machine events text none named =
 
 module _ (texts : Texts) (book : IsBook texts) (p : Times) (moment : ℕ) where
   -- one key: its runs name just what its set names
-  module _ (machine : MachineKind) (events : List MachineEvent) (old new : AnySet) (leads : LeadsOf texts p machine events old) (low : moment_of old ≤ moment) (text : List ℕ) where
+  module _ (machine : MachineKind) (events : List MachineEvent) (from : ℕ) (old new : AnySet) (leads : LeadsOf texts p machine events from old) (late : from ≤ moment) (low : moment_of old ≤ moment) (text : List ℕ) where
     abbrev held : Held Times (StateOf machine)
     held = leads.0
 
@@ -66,10 +66,10 @@ module _ (texts : Texts) (book : IsBook texts) (p : Times) (moment : ℕ) where
         let stand = subst (λ q. StandFor m.names m.in_range m.seen texts (Wait (m.rules q) (Contains (map (m.seen texts) held.states)) held.moment moment) t.states) leads.2.machine_is
         (waited.states texts book leads.2.leads.known) in
         subst (λ ns. RunNames r (messages_of machine) events moment text ↔ IsNumberOf texts ns text) (sym (ap numbers_of new_is ∙ numbers_are machine t))
-        (waited_names m.names m.in_range m.seen (messages_of machine) (named_of machine) texts r events held.moment moment held.states t.states not_later leads.2.leads stand text)
+        (waited_names m.names m.in_range m.seen (messages_of machine) (named_of machine) texts r events from held.moment moment held.states t.states late not_later leads.2.leads stand text)
     by_set (inr (same, silent)) = (
       λ run. absurd (let m = meaning_of machine in
-          silent_names m.names m.in_range m.seen (messages_of machine) (named_of machine) texts r events held.moment moment held.states (lawful_of machine p) not_later leads.2.leads
+          silent_names m.names m.in_range m.seen (messages_of machine) (named_of machine) texts r events from held.moment moment held.states (lawful_of machine p) late not_later leads.2.leads
           (ended_silent machine p) (sym (numbers_are machine held) ∙ ap numbers_of (sym leads.1) ∙ silent) text run),
       λ h. absurd (Contains-none h.0 (subst (λ ns. Contains ns h.0) (ap numbers_of same ∙ silent) h.1)),
     )
@@ -85,21 +85,21 @@ module _ (texts : Texts) (book : IsBook texts) (p : Times) (moment : ℕ) where
     exact = same_key-decides
 
     -- the set of a key leads to its runs
-    leads_at : (n : ℕ) (key : KeyParts) (old : AnySet) → slice_get t.keys n ≡ Some key → slice_get t.sets n ≡ Some old → LeadsOf texts p (machine_of_key key) (events_of (key_machines p) key es) old
+    leads_at : (n : ℕ) (key : KeyParts) (old : AnySet) → slice_get t.keys n ≡ Some key → slice_get t.sets n ≡ Some old → LeadsOf texts p (machine_of_key p.rules key) (events_of (key_machines p) key es) (newest_moment es) old
     leads_at n key old at here =
         let ready = subst (λ q. All (IsReady (key_machines q) (key_keeping texts q) es) (transactions_of t)) times tracks.ready in
         All-place (IsReady (key_machines p) (key_keeping texts p) es) (transactions_of t) n (key, old) (zip-place t.keys t.sets n key old at here) ready
 
     at_key : (n : ℕ) (key : KeyParts) (old new : AnySet) → slice_get t.keys n ≡ Some key → slice_get t.sets n ≡ Some old → slice_get u.sets n ≡ Some new → (text : List ℕ)
-        → RunNames (key_rules p (machine_of_key key)) (messages_of (machine_of_key key)) (events_of (key_machines p) key es) moment text ↔ IsNumberOf texts (numbers_of new) text
+        → RunNames (key_rules p (machine_of_key p.rules key)) (messages_of (machine_of_key p.rules key)) (events_of (key_machines p) key es) moment text ↔ IsNumberOf texts (numbers_of new) text
     at_key n key old new at here there text =
-        key_named (machine_of_key key) (events_of (key_machines p) key es) old new (leads_at n key old at here) (All-place (λ set. moment_of set ≤ moment) t.sets n old here order) text
+        key_named (machine_of_key p.rules key) (events_of (key_machines p) key es) (newest_moment es) old new (leads_at n key old at here) (omega (arith, newest)) (All-place (λ set. moment_of set ≤ moment) t.sets n old here order) text
         (advanced n old new here there)
 
     -- what a key names is named by its set
-    from_key : (key : KeyParts) (text : List ℕ) → RunNames (key_rules p (machine_of_key key)) (messages_of (machine_of_key key)) (events_of (key_machines p) key es) moment text
+    from_key : (key : KeyParts) (text : List ℕ) → RunNames (key_rules p (machine_of_key p.rules key)) (messages_of (machine_of_key p.rules key)) (events_of (key_machines p) key es) moment text
         → (b : Bool) → list_any (same_key key) (keys_of (key_machines p) es) ≡ b → IsNumberOf texts (flat_map numbers_of u.sets) text
-    from_key key text named false none = absurd (no_events_silent p moment (machine_of_key key) (events_of (key_machines p) key es) text (new_key (key_machines p) exact key es none) named)
+    from_key key text named false none = absurd (no_events_silent p moment (machine_of_key p.rules key) (events_of (key_machines p) key es) text (new_key (key_machines p) exact key es none) named)
     from_key key text named true some =
         let keys : t.keys ≡ keys_of (key_machines p) es = sym (keys_are t long) ∙ tracks.keys ∙ ap (λ q. keys_of (key_machines q) es) times in
         let (n, low, is) = subst (λ ks. Contains ks key) (sym keys) (among-contains (key_machines p) exact key (keys_of (key_machines p) es) some) in
@@ -109,9 +109,9 @@ module _ (texts : Texts) (book : IsBook texts) (p : Times) (moment : ℕ) where
         let (number, has, text_is) = (at_key n key old new at here there text).0 named in
         (number, Contains-flat_map numbers_of u.sets new number (n, slice_get_within u.sets n new there, get_or_from_slice_get u.sets n new new there) has, text_is)
 
-    pub tables_named : (text : List ℕ) → IsNamed (key_machines p) key_messages es text ↔ IsNumberOf texts (flat_map numbers_of u.sets) text
+    pub tables_named : (text : List ℕ) → IsNamed (key_machines p) (key_messages p) es text ↔ IsNumberOf texts (flat_map numbers_of u.sets) text
     tables_named text = (
-      λ h. from_key h.key text (h.state, subst (λ n. RuledRun (key_rules p (machine_of_key h.key)) (events_of (key_machines p) h.key es) n h.state) newest h.stands, h.names)
+      λ h. from_key h.key text (h.state, subst (λ n. RuledRun (key_rules p (machine_of_key p.rules h.key)) (events_of (key_machines p) h.key es) n h.state) newest h.stands, h.names)
           (list_any (same_key h.key) (keys_of (key_machines p) es)) refl,
       λ h. let (number, has, text_is) = h in
           let (new, (n, low, is), in_set) = Contains-from_flat_map numbers_of u.sets number has in
@@ -119,12 +119,12 @@ module _ (texts : Texts) (book : IsBook texts) (p : Times) (moment : ℕ) where
           let (old, here) = at_place t.sets n (omega (arith, low, as_long)) in
           let (key, at) = at_place t.keys n (omega (arith, low, as_long, long)) in
           let (y, run, names) = (at_key n key old new at here there text).1 (number, in_set, text_is) in
-          record { key = key; state = y; stands = subst (λ n. RuledRun (key_rules p (machine_of_key key)) (events_of (key_machines p) key es) n y) (sym newest) run; names = names },
+          record { key = key; state = y; stands = subst (λ n. RuledRun (key_rules p (machine_of_key p.rules key)) (events_of (key_machines p) key es) n y) (sym newest) run; names = names },
     )
 
     -- so there are just as many as messages that are kept
     pub many_named : (numbers : List ℕ) → AllPairs (λ a b. a < b) numbers → ((n : ℕ) → Contains numbers n ↔ Contains (flat_map numbers_of u.sets) n) → All (Keeps texts) numbers
-        → AreMany (IsNamed (key_machines p) key_messages es) (length (only numbers texts))
+        → AreMany (IsNamed (key_machines p) (key_messages p) es) (length (only numbers texts))
     many_named numbers up same kept = record {
       texts = map (text_of texts) numbers;
       distinct = λ i j d lt low alike.

@@ -10,7 +10,8 @@ use Rattle.sip_log.specs.Spelling.{Item}
 use Rattle.sip_verdict.specs.declared.verdict.Verdict.{Verdict}
 use Rattle.sip_verdict.specs.Listing.{has_message, entry_from, first_entry}
 use Rattle.sip_verdict.specs.MessageReading.{ConcernsNone}
-use Rattle.sip_verdict.specs.inner.Numbering.{AreNumbered, StaysNumbered}
+use Rattle.sip_verdict.specs.inner.Numbering.{AreNumbered, StaysNumbered, Appends, AppendsEach, IsTextOf}
+use Rattle.sip_states.specs.Tables.{Tabled}
 use Rattle.sip_verdict.proofs.ObservingLemmas.{none_alike}
 
 -- the entry has a message with these bytes
@@ -113,3 +114,15 @@ numbered_heard i number name old new says some keeps is below book (inr more) it
 pub unless_trouble : (P : Type 0) (verdict : Option Verdict) → P → IfNone verdict P
 unless_trouble P None p = p
 unless_trouble P (Some v) p = tt
+
+-- Texts of transactions.
+
+-- one more was appended
+pub appends_more : (t : Tabled) (ns : List ℕ) (n : ℕ) (old mid new : List ℕ) → AppendsEach t ns old mid → Appends t n mid new → AppendsEach t (ns ++ n ∷ []) old new
+appends_more t [] n old mid new same one = (new, subst (λ x. Appends t n x new) same one, refl)
+appends_more t (m ∷ ns) n old mid new (between, first, rest) one = (between, first, appends_more t ns n between mid new rest one)
+
+-- the text of some transactions
+pub text_of_some : (t : Tabled) (ns : List ℕ) (text : List ℕ) → ns ≢ [] → AppendsEach t ns [] text → IsTextOf t ns text
+text_of_some t [] text some appends = absurd (some refl)
+text_of_some t (n ∷ ns) text some appends = appends

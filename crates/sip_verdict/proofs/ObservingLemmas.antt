@@ -17,33 +17,82 @@ use Rattle.sip_key.specs.Key.{KeyParts}
 use Rattle.sip_key.specs.Branch.{cookie_branch}
 use Rattle.sip_key.specs.Concerns.{Concerns, is_sent, lacks_cookie}
 use Rattle.sip_times.specs.declared.action.Action.{Action}
-use Rattle.sip_times.specs.declared.action.Action.TheVariants.{Sent, Received, Failed, Mark}
+use Rattle.sip_times.specs.declared.action.Action.TheVariants.{Sent, Received, Failed, Mark, Restart}
 use Rattle.sip_machine.specs.Message.{kind_of}
 use Rattle.sip_machine.specs.NumberedEvent.{NumberedEvent}
 use Rattle.sip_machine.specs.Texts.{Texts, Keeps, text_of}
 use Rattle.sip_machine.specs.MachineEvent.{event_in, FitsBook}
 use Rattle.sip_machine.specs.Times.{last_moment}
+use Rattle.sip_log.specs.declared.entry.Entry.{Entry}
+use Rattle.sip_log.specs.Told.{item}
 use Rattle.sip_log.specs.Spelling.{Item}
 use Rattle.sip_verdict.specs.declared.concerned.Concerned.{Concerned}
 use Rattle.sip_verdict.specs.declared.concerned.Concerned.TheVariants as concerned
 use Rattle.sip_verdict.specs.Keyed.{Observation}
 use Rattle.sip_verdict.specs.Listing.{has_message}
-use Rattle.sip_verdict.specs.MessageReading.{direction_of, mark_observation, fault_observation, no_cookie, message_event, ObservesMessage, has_fault, has_no_cookie, is_heard, message_reading, ConcernsNone}
-use Rattle.sip_verdict.specs.inner.Concerned.{each}
+use Rattle.sip_verdict.specs.MessageReading.{direction_of, silent_observation, fault_observation, no_cookie, message_event, ObservesMessage, has_fault, has_no_cookie, is_heard, message_reading, ConcernsNone}
+use Rattle.sip_verdict.specs.VerdictOf.{keys_in}
+use Rattle.sip_verdict.specs.inner.Concerned.{each, is_all}
+use Rattle.sip_verdict.specs.inner.Observing.{IsObserved, IsHeard, IsKept, silent_told}
 use Rattle.sip_verdict.proofs.MessageUnique.{observes_one}
 
 -- what is observed of a message that went this way is observed of its entry
 pub observes : (before : List (Observation KeyParts)) (item : Item) (e : Observation KeyParts) (direction : Direction) → direction_of item.action ≡ Some direction → ObservesMessage direction item e
     → message_reading.Observes before item e
-observes before item e direction goes seen = subst (λ d. MatchOption d (e ≡ mark_observation item.moment) (λ way. ObservesMessage way item e)) (sym goes) seen
+observes before item e direction goes seen = subst (λ d. MatchOption d (e ≡ silent_observation item.action item.moment (keys_in before)) (λ way. ObservesMessage way item e)) (sym goes) seen
 
--- what is observed of a mark
-pub observes_mark : (before : List (Observation KeyParts)) (item : Item) → direction_of item.action ≡ None → message_reading.Observes before item (mark_observation item.moment)
-observes_mark before item stays = subst (λ d. MatchOption d (mark_observation item.moment ≡ mark_observation item.moment) (λ way. ObservesMessage way item (mark_observation item.moment))) (sym stays) refl
+-- what is observed of an entry without a message
+pub observes_silent : (before : List (Observation KeyParts)) (item : Item) → direction_of item.action ≡ None → message_reading.Observes before item (silent_observation item.action item.moment (keys_in before))
+observes_silent before item stays =
+    let e = silent_observation item.action item.moment (keys_in before) in
+    subst (λ d. MatchOption d (e ≡ silent_observation item.action item.moment (keys_in before)) (λ way. ObservesMessage way item e)) (sym stays) refl
 
--- an entry whose message went some way is no mark
+-- it is that of a mark, or of a restart; so it is told
+pub silent_observed : (texts : Texts) (es : List (Observation KeyParts)) (item : Item) → direction_of item.action ≡ None
+    → IsObserved texts es item (silent_told item.action) (silent_observation item.action item.moment (keys_in es))
+silent_observed texts es item stays = go item.action stays
+  where
+    go : (a : Action) → direction_of a ≡ None → IsObserved texts es item (silent_told a) (silent_observation a item.moment (keys_in es))
+    go Sent stays = cc
+    go Received stays = cc
+    go Failed stays = cc
+    go Mark stays = (refl, refl, refl)
+    go Restart stays = refl
+
+pub silent_heard : (texts : Texts) (moment : ℕ) (a : Action) → IsHeard texts moment (silent_told a)
+silent_heard texts moment Sent = tt
+silent_heard texts moment Received = tt
+silent_heard texts moment Failed = tt
+silent_heard texts moment Mark = tt
+silent_heard texts moment Restart = tt
+
+-- before the first entry, it concerns no key
+silent_none : (item : Item) → direction_of item.action ≡ None → ConcernsNone item
+silent_none item stays = (silent_observation item.action item.moment [], observes_silent [] item stays, go item.action)
+  where
+    go : (a : Action) → (silent_observation a item.moment []).keys ≡ []
+    go Sent = refl
+    go Received = refl
+    go Failed = refl
+    go Mark = refl
+    go Restart = refl
+
+pub silent_kept : (old new : Texts) (entry : Entry) → direction_of entry.action ≡ None → new ≡ old → IsKept old new entry (silent_told entry.action)
+silent_kept old new entry stays same = go entry.action refl
+  where
+    go : (a : Action) → entry.action ≡ a → IsKept old new entry (silent_told a)
+    go Sent is = same
+    go Received is = same
+    go Failed is = same
+    go Mark is = same
+    go Restart is = (same, silent_none (item entry) stays)
+
+-- an entry whose message went some way is no mark, and no restart
 pub going : (action : Action) (direction : Direction) → direction_of action ≡ Some direction → action ≡ Mark → ⊥
 going action direction goes mark = let e : None ≡ Some direction = sym (ap direction_of mark) ∙ goes in cc
+
+pub going_on : (action : Action) (direction : Direction) → direction_of action ≡ Some direction → action ≡ Restart → ⊥
+going_on action direction goes restart = let e : None ≡ Some direction = sym (ap direction_of restart) ∙ goes in cc
 
 -- it has a message
 pub going_says : (action : Action) (direction : Direction) → direction_of action ≡ Some direction → has_message action ≡ true
@@ -51,6 +100,7 @@ going_says Sent direction goes = refl
 going_says Received direction goes = refl
 going_says Failed direction goes = refl
 going_says Mark direction goes = cc
+going_says Restart direction goes = cc
 
 -- a fault of its bytes
 pub observes_fault : (item : Item) (direction : Direction) (text : List ℕ) (fault : Fault) → text ≡ item.text → FaultOf text (Some fault) → ObservesMessage direction item (fault_observation item fault)
@@ -87,7 +137,7 @@ observes_heard item direction text r texts event number keys same reads has conc
 -- the event fits the book that keeps its message
 pub event_fits : (item : Item) (r : message.Reading) (texts : Texts) (event : NumberedEvent) (number : ℕ) → event ≡ event_of item r number → Keeps texts number → item.moment ≤ last_moment
     → FitsBook texts event × (event.moment ≡ item.moment)
-event_fits item r texts event number is keeps limit = (subst (FitsBook texts) (sym is) (record { keeps = keeps; limit = limit }), ap (λ e. e.moment) is)
+event_fits item r texts event number is keeps limit = (subst (FitsBook texts) (sym is) (record { keeps = λ _. keeps; limit = limit }), ap (λ e. e.moment) is)
 
 -- it is kept under its number
 pub event_kept : (item : Item) (r : message.Reading) (texts : Texts) (event : NumberedEvent) (number : ℕ) (bytes : List ℕ) → event ≡ event_of item r number → Keeps texts number → text_of texts number ≡ bytes
@@ -139,13 +189,14 @@ went Sent says = (way.Sent, refl)
 went Received says = (way.Received, refl)
 went Failed says = (way.Sent, refl)
 went Mark says = absurd (false≢true says)
+went Restart says = absurd (false≢true says)
 
 -- entries whose messages have the same bytes concern no key alike
 pub none_alike : (i j : Item) → i.text ≡ j.text → has_message i.action ≡ true → has_message j.action ≡ true → ConcernsNone i → ConcernsNone j
 none_alike i j same i_says j_says (e, seen, none) =
     let (way, i_goes) = went i.action i_says in
     let (direction, j_goes) = went j.action j_says in
-    let (f, f_seen, f_none) = other_way way direction i j e same (subst (λ d. MatchOption d (e ≡ mark_observation i.moment) (λ way. ObservesMessage way i e)) i_goes seen) none in
+    let (f, f_seen, f_none) = other_way way direction i j e same (subst (λ d. MatchOption d (e ≡ silent_observation i.action i.moment []) (λ way. ObservesMessage way i e)) i_goes seen) none in
     (f, observes [] j f direction j_goes f_seen, f_none)
 
 -- an entry of which some key is observed concerns one
@@ -153,7 +204,8 @@ pub concerns_some : (i : Item) (keys : List KeyParts) (e : Observation KeyParts)
 concerns_some i keys e seen are some (f, f_seen, none) = some (sym are ∙ ap (λ o. o.keys) (observes_one [] i e f seen f_seen) ∙ none)
 
 -- those that are some are keys
-pub each_some : {T : Type 0} (c : Concerned T) → c ≢ concerned.None → each c ≢ []
-each_some concerned.None some none = some refl
-each_some (concerned.Own own) some none = cc
-each_some (concerned.OwnAndCancelled own cancelled) some none = cc
+pub each_some : {T : Type 0} (c : Concerned T) → is_all c ≡ false → c ≢ concerned.None → each c ≢ []
+each_some concerned.None named some none = some refl
+each_some (concerned.Own own) named some none = cc
+each_some (concerned.OwnAndCancelled own cancelled) named some none = cc
+each_some concerned.All named some none = absurd (false≢true (sym named))

@@ -11,12 +11,12 @@ use Rattle.sip_log.proofs.Logs.{log_is_one}
 use Rattle.sip_verdict.proofs.Unique.{fine_no_trouble, trouble_is_one}
 
 -- an input has one log with a header
-one_log : (input : List ℕ) (p q : Times) (xs ys : List Item) (end fin : LogEnd) → IsLog input p xs end → IsLog input q ys fin → (p ≡ q) × (xs ≡ ys) × (end ≡ fin)
+pub one_log : (input : List ℕ) (p q : Times) (xs ys : List Item) (end fin : LogEnd) → IsLog input p xs end → IsLog input q ys fin → (p ≡ q) × (xs ≡ ys) × (end ≡ fin)
 one_log input p q xs ys end fin a b = let e = log_is_one input (Readable p xs end) (Readable q ys fin) a b in (cc, cc, cc)
 
 -- a log has no header or holds entries
-not_both : (input : List ℕ) (p : Times) (items : List Item) (end : LogEnd) → NoHeader input → IsLog input p items end → ⊥
-not_both input p items end none is = none p _ is.times is.spelled
+pub not_both : (input : List ℕ) (p : Times) (items : List Item) (end : LogEnd) → NoHeader input → IsLog input p items end → ⊥
+not_both input p items end none is = none is.format p _ is.header
 
 module _ {K : Type 0} (r : EntryReading K) (one : (es : List (Observation K)) (item : Item) (e f : Observation K) → r.Observes es item e → r.Observes es item f → e ≡ f) where
   -- entries have one verdict

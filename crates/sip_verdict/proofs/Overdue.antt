@@ -25,8 +25,8 @@ run_before r events e n (y, run) =
     let given = (After-run r events e wait.start).0 wait.begins in
     (given.before, given.among)
 
-module _ (texts : Texts) (p : Times) (machine : MachineKind) (events : List MachineEvent) (set : AnySet) (leads : LeadsOf texts p machine events set) (limit : Option ℕ) (agenda : IsAgendaOf limit set)
-    (moment : ℕ) (low : moment_of set ≤ moment) where
+module _ (texts : Texts) (p : Times) (machine : MachineKind) (events : List MachineEvent) (from : ℕ) (set : AnySet) (leads : LeadsOf texts p machine events from set) (limit : Option ℕ) (agenda : IsAgendaOf limit set)
+    (moment : ℕ) (late : from ≤ moment) (low : moment_of set ≤ moment) where
   -- a wait from the states of the set lasts until then just where that is within the limit
   waits : IsAgenda ((meaning_of machine).rules p) (Contains (map ((meaning_of machine).seen texts) leads.0.states)) leads.0.moment limit
   waits =
@@ -40,17 +40,17 @@ module _ (texts : Texts) (p : Times) (machine : MachineKind) (events : List Mach
   runs_within : RunsUntil (key_rules p machine) events moment ↔ IsWithin moment limit
   runs_within =
       subst (λ r. RunsUntil r events moment ↔ IsWithin moment limit) (rules_are p machine) (
-        λ run. (waits moment not_later).0 (run.0, (leads.2.leads.runs moment run.0 not_later).1 run.1),
-        λ within. let wait = (waits moment not_later).1 within in (wait.0, (leads.2.leads.runs moment wait.0 not_later).0 wait.1),
+        λ run. (waits moment not_later).0 (run.0, (leads.2.leads.runs moment run.0 late not_later).1 run.1),
+        λ within. let wait = (waits moment not_later).1 within in (wait.0, (leads.2.leads.runs moment wait.0 late not_later).0 wait.1),
       )
 
   -- none stands behind the last moment
   pub overdue_none : is_overdue moment (Some limit) ≡ true → ¬ RunsUntil (key_rules p machine) events moment
-  overdue_none late run = go limit late (runs_within.0 run)
+  overdue_none past run = go limit past (runs_within.0 run)
     where
       go : (l : Option ℕ) → is_overdue moment (Some l) ≡ true → IsWithin moment l → ⊥
-      go None late within = false≢true late
-      go (Some last) late within = omega (arith, ltb-true last moment late, within)
+      go None past within = false≢true past
+      go (Some last) past within = omega (arith, ltb-true last moment past, within)
 
   -- and one does up to it
   pub in_time_some : is_overdue moment (Some limit) ≡ false → RunsUntil (key_rules p machine) events moment

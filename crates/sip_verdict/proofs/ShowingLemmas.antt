@@ -1,10 +1,9 @@
 -- What is shown of the entries that were read, one after another.
-use Rattle.std.proofs.Common.{◌≡◌, ◌≢◌, inr, ℕ, ◌+◌, Result, Ok, Err, IfOk, OnOk, Option, Some, None, IfSome, List, [], ◌∷◌, ◌++◌, length, refl, sym, ap, ◌∙◌, subst, append_assoc, arith}
+use Rattle.std.proofs.Common.{◌≡◌, true, inr, ℕ, ◌+◌, Result, Ok, Err, IfOk, OnOk, Option, Some, None, IfSome, List, [], ◌∷◌, ◌++◌, length, refl, sym, ap, ◌∙◌, subst, append_assoc, arith}
 use Rattle.std.proofs.lemmas.List.{append-nil}
 use Rattle.std.specs.Io.KnownBytes.{Appends}
 use Rattle.std.proofs.KnownBytes.{Appends-nil, Appends-trans}
 use Rattle.sip_machine.specs.Times.{Times}
-use Rattle.sip_times.specs.declared.action.Action.TheVariants.{Mark}
 use Rattle.sip_log.specs.declared.entry.Entry.{Entry}
 use Rattle.sip_log.specs.declared.log_error.LogError.{LogError}
 use Rattle.sip_log.specs.Spelling.{line_feed, Item}
@@ -19,6 +18,7 @@ use Rattle.sip_message.specs.Faults.{FaultOf}
 use Rattle.sip_verdict.specs.declared.shown.Shown.{Shown}
 use Rattle.sip_verdict.specs.declared.shown.Shown.TheVariants.{End, Malformed, LogFault as FaultOfLog}
 use Rattle.sip_verdict.specs.LogReason.{reason_of}
+use Rattle.sip_verdict.specs.Listing.{has_message}
 use Rattle.sip_verdict.specs.Showing.{IsCanonOf, shown_entry, AreShown, last_text, EndsAs, IsShownOf}
 
 -- one more entry is shown
@@ -134,7 +134,7 @@ module _ (start : Option (List ℕ)) (now : log.ReaderState) (old w : Option (Li
     }
 
     -- the next entry's message has a fault
-    pub showed_fault : (w2 : Option (List ℕ)) (fault : Fault) → e.action ≢ Mark → FaultOf e.bytes.items (Some fault) → Appends w w2 (last_text (Malformed e.number fault) ++ line_feed ∷ []) → Answers start old w2 (Malformed e.number fault)
+    pub showed_fault : (w2 : Option (List ℕ)) (fault : Fault) → has_message e.action ≡ true → FaultOf e.bytes.items (Some fault) → Appends w w2 (last_text (Malformed e.number fault) ++ line_feed ∷ []) → Answers start old w2 (Malformed e.number fault)
     showed_fault w2 fault some is last =
         let counted = Nexts-counted start s.items now new e nexts in
         let whole = Stands-log start (s.items ++ item e ∷ []) new counted.on (Stands-gives start s.items now new e s.stands nexts) in

@@ -28,11 +28,11 @@ module _ {K T : Type 0} (m : Machines K) (k : Keeping K T) (es : List (Observati
     own : events_of m (k.key t) (es ++ e ∷ []) ≡ events_of m (k.key t) es ++ e.event ∷ []
     own = events_of-concerned m (k.key t) es e concerned
 
-    pub own_passed : (fate : Fate) → IsStepped (m.rules (k.key t)) (events_of m (k.key t) es) e.event (k.Leads t) (k.Stands t (events_of m (k.key t) es)) fate → IsPassed m k es e t fate
+    pub own_passed : (fate : Fate) → IsStepped (m.rules (k.key t)) (events_of m (k.key t) es) e.event (λ fs. k.Leads t fs e.event.moment) (k.Stands t (events_of m (k.key t) es)) fate → IsPassed m k es e t fate
     own_passed Runs h = record {
       runs = runs_key _ own h.0;
       narrow = λ wide. h.1 wide.wide;
-      ready = subst (k.Leads t) (sym own) h.2;
+      ready = subst (k.Leads t (events_of m (k.key t) (es ++ e ∷ []))) (sym (newest_moment-push es e)) (subst (λ fs. k.Leads t fs e.event.moment) (sym own) h.2);
       stands = λ concerned. h.3;
     }
     own_passed NoRun h = λ run. h (key_runs _ own run)
@@ -43,11 +43,11 @@ module _ {K T : Type 0} (m : Machines K) (k : Keeping K T) (es : List (Observati
     other : events_of m (k.key t) (es ++ e ∷ []) ≡ events_of m (k.key t) es
     other = events_of-other m (k.key t) es e unconcerned
 
-    pub other_passed : RunsUntil (m.rules (k.key t)) (events_of m (k.key t) es) e.event.moment → k.Leads t (events_of m (k.key t) es) → GoesOn m k es e t
+    pub other_passed : RunsUntil (m.rules (k.key t)) (events_of m (k.key t) es) e.event.moment → k.Leads t (events_of m (k.key t) es) e.event.moment → GoesOn m k es e t
     other_passed run leads = record {
       runs = runs_key _ other run;
       narrow = λ wide. absurd (false≢true (sym unconcerned ∙ wide.concerned));
-      ready = subst (k.Leads t) (sym other) leads;
+      ready = subst (k.Leads t (events_of m (k.key t) (es ++ e ∷ []))) (sym (newest_moment-push es e)) (subst (λ fs. k.Leads t fs e.event.moment) (sym other) leads);
       stands = λ concerned. absurd (false≢true (sym unconcerned ∙ concerned));
     }
 

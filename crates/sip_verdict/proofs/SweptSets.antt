@@ -26,41 +26,41 @@ use Rattle.sip_states.proofs.ByMachine.{some_machine, lawful_of, moment_is, numb
 use Rattle.sip_verdict.proofs.NamedLemmas.{Contains-flat_map}
 
 -- once a set that leads has waited, it leads
-pub waited_leads : {X S : Type 0} (names : S → List ℕ) (InRange : S → Type 0) (seen : Texts → S → X) (texts : Texts) (r : Rules X) → IsLawful r → (events : List MachineEvent) (at moment : ℕ) (old new : List S) → at ≤ moment
-    → Leads names seen texts r events at old → StandFor names InRange seen texts (Wait r (Contains (map (seen texts) old)) at moment) new → Leads names seen texts r events moment new
-waited_leads names InRange seen texts r lawful events at moment old new low leads stand = record {
+pub waited_leads : {X S : Type 0} (names : S → List ℕ) (InRange : S → Type 0) (seen : Texts → S → X) (texts : Texts) (r : Rules X) → IsLawful r → (events : List MachineEvent) (from at moment : ℕ) (old new : List S) → at ≤ moment
+    → Leads names seen texts r events from at old → StandFor names InRange seen texts (Wait r (Contains (map (seen texts) old)) at moment) new → Leads names seen texts r events from moment new
+waited_leads names InRange seen texts r lawful events from at moment old new low leads stand = record {
   known = stand.known;
-  runs = λ n x later.
+  runs = λ n x late later.
       iff_trans (Wait-iff r (Contains (map (seen texts) new)) (Wait r (Contains (map (seen texts) old)) at moment) stand.members moment n x)
-      (iff_trans (Wait-twice r lawful (Contains (map (seen texts) old)) at moment n low later x) (leads.runs n x (omega (arith, low, later))));
+      (iff_trans (Wait-twice r lawful (Contains (map (seen texts) old)) at moment n low later x) (leads.runs n x late (omega (arith, low, later))));
 }
 
 -- and beside a book that keeps what it names
 pub kept_leads : {X S : Type 0} (names : S → List ℕ) (seen : Texts → S → X) → ((a b : Texts) (x : S) → ((n : ℕ) → Contains (names x) n → text_of a n ≡ text_of b n) → seen a x ≡ seen b x)
-    → (texts : Texts) (numbers : List ℕ) → IsBook texts → AllPairs (λ a b. a < b) numbers → All (Keeps texts) numbers → (r : Rules X) (events : List MachineEvent) (moment : ℕ) (states : List S)
-    → ((n : ℕ) → Contains (flat_map names states) n → Contains numbers n) → Leads names seen texts r events moment states → Leads names seen (only numbers texts) r events moment states
-kept_leads names seen by_names texts numbers book up kept r events moment states within leads =
-    Leads-book names seen by_names texts (only numbers texts) r events moment states
+    → (texts : Texts) (numbers : List ℕ) → IsBook texts → AllPairs (λ a b. a < b) numbers → All (Keeps texts) numbers → (r : Rules X) (events : List MachineEvent) (from moment : ℕ) (states : List S)
+    → ((n : ℕ) → Contains (flat_map names states) n → Contains numbers n) → Leads names seen texts r events from moment states → Leads names seen (only numbers texts) r events from moment states
+kept_leads names seen by_names texts numbers book up kept r events from moment states within leads =
+    Leads-book names seen by_names texts (only numbers texts) r events from moment states
     (λ k d low n has.
     (let among : Contains numbers n = within n (Contains-flat_map names states (get_or states k d) n (Contains-get_or states k d low) has) in
     (only-Keeps texts numbers book up kept n among, sym (text_of-only texts numbers book up kept n among)))) leads
 
-module _ (texts : Texts) (numbers : List ℕ) (book : IsBook texts) (up : AllPairs (λ a b. a < b) numbers) (kept : All (Keeps texts) numbers) (p : Times) (machine : MachineKind) (events : List MachineEvent) where
+module _ (texts : Texts) (numbers : List ℕ) (book : IsBook texts) (up : AllPairs (λ a b. a < b) numbers) (kept : All (Keeps texts) numbers) (p : Times) (machine : MachineKind) (events : List MachineEvent) (from : ℕ) where
   -- the set of a key, of the tables
   pub swept_leads : (moment : ℕ) (old new : AnySet) → moment_of old ≤ moment → IsAdvanced moment old new → ((n : ℕ) → Contains (numbers_of new) n → Contains numbers n)
-      → LeadsOf texts p machine events old → LeadsOf (only numbers texts) p machine events new
+      → LeadsOf texts p machine events from old → LeadsOf (only numbers texts) p machine events from new
   swept_leads moment old new low (inl waits) within (s, is, leads) =
       let m = meaning_of machine in
       let (t, new_is, waited) = of_sets (λ X M S m s u. HasWaited m moment s u) machine s new (subst (λ o. SetWaits moment o new) is waits) in
       let not_later : s.moment ≤ moment = subst (λ n. n ≤ moment) (ap moment_of is ∙ moment_is machine s) low in
       let stand = subst (λ q. StandFor m.names m.in_range m.seen texts (Wait (m.rules q) (Contains (map (m.seen texts) s.states)) s.moment moment) t.states) leads.machine_is (waited.states texts book leads.leads.known) in
-      let leads_on = waited_leads m.names m.in_range m.seen texts (m.rules p) (lawful_of machine p) events s.moment moment s.states t.states not_later leads.leads stand in
-      let here = subst (λ n. Leads m.names m.seen texts (m.rules p) events n t.states) (sym waited.at) leads_on in (
+      let leads_on = waited_leads m.names m.in_range m.seen texts (m.rules p) (lawful_of machine p) events from s.moment moment s.states t.states not_later leads.leads stand in
+      let here = subst (λ n. Leads m.names m.seen texts (m.rules p) events from n t.states) (sym waited.at) leads_on in (
         t,
         new_is,
         record {
           machine_is = waited.machine ∙ leads.machine_is;
-          leads = kept_leads m.names m.seen (seen_by_names_of machine) texts numbers book up kept (m.rules p) events t.moment t.states
+          leads = kept_leads m.names m.seen (seen_by_names_of machine) texts numbers book up kept (m.rules p) events from t.moment t.states
               (λ n has. within n (subst (λ ns. Contains ns n) (sym (ap numbers_of new_is ∙ numbers_are machine t)) has)) here;
         },
       )
@@ -70,7 +70,7 @@ module _ (texts : Texts) (numbers : List ℕ) (book : IsBook texts) (up : AllPai
         same ∙ is,
         record {
           machine_is = leads.machine_is;
-          leads = kept_leads m.names m.seen (seen_by_names_of machine) texts numbers book up kept (m.rules p) events s.moment s.states
+          leads = kept_leads m.names m.seen (seen_by_names_of machine) texts numbers book up kept (m.rules p) events from s.moment s.states
               (λ n has. within n (subst (λ ns. Contains ns n) (sym (ap numbers_of (same ∙ is) ∙ numbers_are machine s)) has)) leads.leads;
         },
       )

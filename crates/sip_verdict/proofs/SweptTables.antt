@@ -15,7 +15,7 @@ use Rattle.sip_states.specs.Sweep.{numbers_of, IsAdvanced, AdvancesAll, AppendsN
 use Rattle.sip_states.specs.Tables.{Tabled}
 use Rattle.sip_states.specs.declared.any_set.AnySet.{AnySet}
 use Rattle.sip_states.proofs.Listed.{Contains-none}
-use Rattle.sip_verdict.specs.Keyed.{Observation, events_of}
+use Rattle.sip_verdict.specs.Keyed.{Observation, events_of, newest_moment}
 use Rattle.sip_verdict.specs.MessageReading.{key_machines}
 use Rattle.sip_verdict.specs.inner.Tracking.{IsReady, Tracks}
 use Rattle.sip_verdict.specs.inner.TablesTracking.{key_keeping, transactions_of, TablesTrack, MayPass, IsOnRecord, AllAreOnRecord}
@@ -105,7 +105,7 @@ module _ (texts : Texts) (book : IsBook texts) (t u : Tabled) (moment : ℕ) (ad
               let (old, was) = before n x.1 there.1 in
               let key_at : slice_get t.keys n ≡ Some x.0 = ap (λ ks. slice_get ks n) (sym advances.keys) ∙ there.0 in
               let leads = All-place (IsReady (key_machines p) (key_keeping texts p) es) (transactions_of t) n (x.0, old) (zip-place t.keys t.sets n x.0 old key_at was) tracks.ready in
-              swept_leads texts numbers book up kept p (machine_of_key x.0) (events_of (key_machines p) x.0 es) moment old x.1 (All-place (λ set. moment_of set ≤ moment) t.sets n old was may.order)
+              swept_leads texts numbers book up kept p (machine_of_key p.rules x.0) (events_of (key_machines p) x.0 es) (newest_moment es) moment old x.1 (All-place (λ set. moment_of set ≤ moment) t.sets n old was may.order)
               (advances.each n old x.1 was there.1) (within n x.1 there.1) leads);
           good = tracks.good;
         })

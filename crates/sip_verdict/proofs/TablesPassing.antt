@@ -1,7 +1,8 @@
 -- The sets of the tables hear the event of an entry, one after another.
-use Rattle.std.proofs.Common.{◌≡◌, ◌≢◌, ◌<◌, ◌+◌, ◌-◌, ◌⊎◌, ◌||◌, inl, inr, ℕ, zero, suc, Bool, true, false, nat_eq, Option, Some, None, List, [], ◌∷◌, All, AllPairs, map, length, set, slice_get, refl, sym, ap, ◌∙◌, subst, arith}
+use Rattle.std.proofs.Common.{◌≡◌, ◌≢◌, ◌<◌, ◌+◌, ◌-◌, ◌⊎◌, ◌||◌, inl, inr, ℕ, zero, suc, Bool, true, false, nat_eq, Option, Some, None, List, [], ◌∷◌, ◌++◌, All, AllPairs, Contains, map, length, set, slice_get, refl, sym, ap, ◌∙◌, subst, arith}
 use Rattle.std.specs.List.{zip}
 use Rattle.std.specs.Cmp.{unsigned_Decides}
+use Rattle.std.proofs.lemmas.Bool.{false≢true}
 use Rattle.std.proofs.lemmas.List.{length-set}
 use Rattle.std.proofs.lemmas.List.Elements.{All-head, All-tail, All-weaker}
 use Rattle.std.proofs.lemmas.List.Folds.{list_any_none}
@@ -17,7 +18,12 @@ use Rattle.sip_verdict.specs.declared.passing.Fate.TheVariants.{Runs, NoRun, Too
 use Rattle.sip_verdict.specs.declared.passing.Outcome.{Outcome}
 use Rattle.sip_verdict.specs.declared.passing.Outcome.TheVariants as all
 use Rattle.sip_verdict.specs.inner.Tracking.{outcome_of, first_of}
-use Rattle.sip_verdict.specs.inner.TablesTracking.{transactions_of, is_among, IsOnRecord, AreOnRecord, AllAreOnRecord, AreOnRecordIf, Leaves, Hears, HearsOne, HearsEach}
+use Rattle.sip_verdict.specs.inner.TablesTracking.{transactions_of, is_among, IsOnRecord, AreOnRecord, AllAreOnRecord, AreOnRecordIf, Leaves, Hears, HearsOne, HearsEach, AreHearers}
+use Rattle.sip_states.specs.Restarting.{AreToRestart}
+use Rattle.sip_states.proofs.Listed.{Contains-none, Contains-cons}
+use Rattle.sip_verdict.specs.declared.concerned.Concerned.{Concerned}
+use Rattle.sip_verdict.specs.declared.concerned.Concerned.TheVariants as concerned
+use Rattle.sip_verdict.specs.inner.Concerned.{each, is_all}
 use Rattle.sip_verdict.proofs.Outcomes.{both_fine}
 
 -- a list has an element at each place
@@ -180,3 +186,48 @@ on_record_if (all.TooWide number) t h = tt
 
 pub heard_recorded : (texts : Texts) (event : NumberedEvent) (ns : List ℕ) (t u : Tabled) (before after : Outcome) → All (IsGiven t) ns → AreOnRecord ns t → HearsEach texts event ns t before u after → AreOnRecordIf after u
 heard_recorded texts event ns t u before after given old h = on_record_if after u (heard_records texts event ns t u before after given old h)
+
+-- Which sets hear an event.
+
+-- each last moment is on record, but those of sets that are still to hear it, also where more are to
+pub recorded_more : (few more : List ℕ) (t : Tabled) → ((n : ℕ) → is_among few n ≡ true → is_among more n ≡ true) → AreOnRecord few t → AreOnRecord more t
+recorded_more few more t among recorded = record { long = recorded.long; each = λ n set r at here. one n set r (recorded.each n set r at here) }
+  where
+    one : (n : ℕ) (set : AnySet) (r : Option (Option ℕ)) → IsOnRecord few (n + 1) set r → IsOnRecord more (n + 1) set r
+    one n set None h = among (n + 1) h
+    one n set (Some limit) h = h
+
+-- those that an event names, where it names them one by one
+pub named_hearers : (t : Tabled) (c : Concerned ℕ) → is_all c ≡ false → All (IsGiven t) (each c) → AllPairs (λ a b. a ≢ b) (each c) → AreHearers t c (each c)
+named_hearers t c some given apart = record {
+  given = given;
+  apart = apart;
+  named = λ n among. among;
+  heard = λ n among. ap (λ b. b || is_among (each c) n) some ∙ among;
+  others = λ all. absurd (false≢true (sym some ∙ all));
+}
+
+-- a number that is one of some is among them
+pub is_among-of : (ns : List ℕ) (n : ℕ) → Contains ns n → is_among ns n ≡ true
+is_among-of [] n has = absurd (Contains-none n has)
+is_among-of (m ∷ ns) n has = elim (Contains-cons m ns n has) [ inl same ↦ among_first n m ns (sym same) | inr rest ↦ among_rest n m ns (is_among-of ns n rest) ]
+
+-- those that a restart may change
+pub all_hearers : (t : Tabled) (numbers : List ℕ) → AreToRestart t numbers → AreHearers t concerned.All numbers
+all_hearers t numbers are = record {
+  given = are.given;
+  apart = are.apart;
+  named = λ n among. absurd (false≢true among);
+  heard = λ n among. refl;
+  others = λ all n set at none. are.others n set at (λ has. false≢true (sym none ∙ is_among-of numbers (n + 1) has));
+}
+
+-- One after another.
+
+-- one more has heard the event
+pub hears_more : (texts : Texts) (event : NumberedEvent) (ns : List ℕ) (n : ℕ) (t u v : Tabled) (before mid one : Outcome) → HearsEach texts event ns t before u mid → HearsOne texts event n u v one
+    → HearsEach texts event (ns ++ n ∷ []) t before v (first_of mid one)
+hears_more texts event [] n t u v before mid one (same, fine) last =
+    (v, one, subst (λ x. HearsOne texts event n x v one) same last, (refl, ap (λ o. first_of o one) fine))
+hears_more texts event (m ∷ ns) n t u v before mid one (between, first, hears, rest) last =
+    (between, first, hears, hears_more texts event ns n between u v (first_of before first) mid one rest last)

@@ -16,14 +16,14 @@ use Rattle.sip_states.specs.AnySet.{moment_of, IsKnownSet, start_of}
 use Rattle.sip_states.specs.Tables.{Tabled, Touches, with_key}
 use Rattle.sip_states.specs.declared.any_set.AnySet.{AnySet}
 use Rattle.sip_verdict.specs.declared.passing.Hearing.{Hearing}
-use Rattle.sip_verdict.specs.Keyed.{Observation}
+use Rattle.sip_verdict.specs.Keyed.{Observation, newest_moment}
 use Rattle.sip_verdict.specs.Keyed as keyed
 use Rattle.sip_verdict.specs.MessageReading.{key_machines}
 use Rattle.sip_verdict.specs.inner.Tracking.{IsTouched}
 use Rattle.sip_states.specs.AnySet.{meaning_of}
 use Rattle.sip_verdict.specs.inner.TablesTracking.{LeadsOf, key_keeping, transactions_of, AreTold, TouchesEach, HaveNumbers, is_among, MayPass, IsOnRecord, AreOnRecord}
-use Rattle.sip_verdict.specs.inner.Concerned.{each}
-use Rattle.sip_verdict.proofs.Keys.{IsExact}
+use Rattle.sip_verdict.specs.inner.Concerned.{each, is_all}
+use Rattle.sip_verdict.proofs.Keys.{IsExact, contains-among}
 use Rattle.sip_verdict.proofs.Leading.{Leads-start}
 use Rattle.sip_states.proofs.ByMachine.{first_of, first_is_of, first_knows, moment_is, to_set}
 use Rattle.sip_verdict.proofs.TablesPassing.{keys_are, among_first, among_rest}
@@ -60,12 +60,12 @@ touches_few (k ∷ ks) (n ∷ ns) old new (between, one, rest) =
 -- a set starts at moment 0, and names no message
 start_at : (p : Times) (key : KeyParts) → moment_of (start_of p key) ≡ 0
 start_at p key =
-    let machine = machine_of_key key in
+    let machine = machine_of_key p.rules key in
     ap moment_of (start_is p machine) ∙ moment_is machine (record { machine = p; moment = 0; states = first_of machine ∷ [] })
 
 start_known : (texts : Texts) (p : Times) (key : KeyParts) → IsKnownSet texts (start_of p key)
 start_known texts p key =
-    let machine = machine_of_key key in
+    let machine = machine_of_key p.rules key in
     subst (IsKnownSet texts) (sym (start_is p machine))
     (to_set (λ X M S m s. IsKnown m texts s) machine (record { machine = p; moment = 0; states = first_of machine ∷ [] })
     (known_one machine))
@@ -131,13 +131,13 @@ keys_exact p a b = same_key-decides a b
 
 module _ (texts : Texts) (p : Times) where
   -- a new key's set leads to the runs over no event
-  starts : (key : KeyParts) → LeadsOf texts p (machine_of_key key) [] (start_of p key)
-  starts key =
-      let machine = machine_of_key key in
+  starts : (key : KeyParts) (from : ℕ) → LeadsOf texts p (machine_of_key p.rules key) [] from (start_of p key)
+  starts key from =
+      let machine = machine_of_key p.rules key in
       let m = meaning_of machine in (
         record { machine = p; moment = 0; states = first_of machine ∷ [] },
         start_is p machine,
-        record { machine_is = refl; leads = Leads-start m.names m.seen texts (m.rules p) (first_of machine) (first_is_of machine texts p) (first_knows machine texts) },
+        record { machine_is = refl; leads = Leads-start m.names m.seen texts (m.rules p) (first_of machine) (first_is_of machine texts p) (first_knows machine texts) from },
       )
 
   -- the transactions of a key that is looked up
@@ -164,7 +164,7 @@ module _ (texts : Texts) (p : Times) where
   kept_each es keys (k ∷ ks) (n ∷ ns) old new times long (between, one, rest) kept =
       kept_each es (keyed.with_key same_key keys k) ks ns between new (touched_elim (λ t. t.times ≡ p) (λ t key same. same) k n old between times one)
       (touched_elim (λ t. length t.sets ≡ length t.keys) long_more k n old between long one) rest
-      (kept_touched (key_machines p) (key_keeping texts p) es (keys_exact p) (k, start_of p k) (starts k) keys (transactions_of old) (transactions_of between) kept (touched k n old between times long one))
+      (kept_touched (key_machines p) (key_keeping texts p) es (keys_exact p) (k, start_of p k) (starts k (newest_moment es)) keys (transactions_of old) (transactions_of between) kept (touched k n old between times long one))
 
 -- an element of a list stays where it is
 slice_get-more : {A : Type 0} (xs ys : List A) (n : ℕ) (x : A) → slice_get xs n ≡ Some x → slice_get (xs ++ ys) n ≡ Some x
@@ -231,6 +231,17 @@ pub told_unheard : (texts : Texts) (keys : List KeyParts) (moment : ℕ) (e : Ob
 told_unheard texts keys moment e at none n k there = record { at = at; event = tt; concerned = λ p. ap (list_any (same_key k)) none }
 
 -- an event is told to the keys that it concerns
-pub told_event : (texts : Texts) (keys : List KeyParts) (moment : ℕ) (h : Hearing) (e : Observation KeyParts) → AllPairs (λ a b. a ≢ b) keys → HaveNumbers keys (each h.concerned) e.keys → e.event.moment ≡ moment
+pub told_event : (texts : Texts) (keys : List KeyParts) (moment : ℕ) (h : Hearing) (e : Observation KeyParts) → AllPairs (λ a b. a ≢ b) keys → is_all h.concerned ≡ false → HaveNumbers keys (each h.concerned) e.keys → e.event.moment ≡ moment
     → e.event ≡ event_in texts h.event → AreTold texts keys moment (Some h) e
-told_event texts keys moment h e apart numbers at event n k there = record { at = at; event = event; concerned = λ p. same_numbers keys apart (each h.concerned) e.keys numbers n k there }
+told_event texts keys moment h e apart some numbers at event n k there =
+    record { at = at; event = event; concerned = λ p. same_numbers keys apart (each h.concerned) e.keys numbers n k there ∙ sym (ap (λ b. b || is_among (each h.concerned) (n + 1)) some) }
+
+-- a restart is told to all
+pub told_restart : (texts : Texts) (keys : List KeyParts) (moment : ℕ) (h : Hearing) (e : Observation KeyParts) → is_all h.concerned ≡ true → e.keys ≡ keys → e.event.moment ≡ moment → e.event ≡ event_in texts h.event
+    → AreTold texts keys moment (Some h) e
+told_restart texts keys moment h e all same at event n k there = record {
+  at = at;
+  event = event;
+  concerned = λ p. contains-among (key_machines p) (keys_exact p) k e.keys (subst (λ ks. Contains ks k) (sym same) (n, slice_get_within keys n k there, get_or_from_slice_get keys n k k there))
+      ∙ sym (ap (λ b. b || is_among (each h.concerned) (n + 1)) all);
+}

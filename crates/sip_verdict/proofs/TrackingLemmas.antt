@@ -3,9 +3,9 @@ use Rattle.std.proofs.Common.{◌≡◌, inl, inr, ℕ, ◌+◌, false, None, Li
 use Rattle.std.specs.Prelude.{fold}
 use Rattle.std.specs.List.{list_any}
 use Rattle.std.proofs.lemmas.List.{map-append}
-use Rattle.std.proofs.lemmas.List.Elements.{All-nil, All-map, All-weaker, All-push}
+use Rattle.std.proofs.lemmas.List.Elements.{All-nil, All-map, All-weaker, All-push, All-head, All-tail, Contains-get_or}
 use Rattle.sip_verdict.specs.declared.verdict.Verdict.TheVariants.{Breach, Undecided}
-use Rattle.sip_verdict.specs.Keyed.{Observation, Machines, with_key, keys_of, HasRun}
+use Rattle.sip_verdict.specs.Keyed.{Observation, Machines, with_key, keys_of, newest_moment, HasRun}
 use Rattle.sip_verdict.specs.Verdicts.{IsFirst, IsTooWide, IsGood, IsTrouble}
 use Rattle.sip_verdict.specs.inner.Tracking.{Keeping, IsReady, IsStanding, Tracks, TracksBefore, GoesOn, IsTouched}
 use Rattle.sip_verdict.proofs.Keys.{IsExact, cond_true, cond_false, keys_of-push, new_key, contains-among, not_among, among-with_key}
@@ -23,7 +23,7 @@ module _ {K T : Type 0} (m : Machines K) (k : Keeping K T) (es : List (Observati
   kept_tracked ts s = record { keys = s.keys; among = λ key none. none; ready = s.ready }
 
   -- and those with one key more, which was touched
-  module _ (exact : IsExact m) (fresh : T) (starts : k.Leads fresh []) (keys : List K) (old new : List T) (kept : AreKept m k es keys old) where
+  module _ (exact : IsExact m) (fresh : T) (starts : k.Leads fresh [] (newest_moment es)) (keys : List K) (old new : List T) (kept : AreKept m k es keys old) where
     pub kept_touched : IsTouched k fresh old new → AreKept m k es (with_key m.same keys (k.key fresh)) new
     kept_touched (inl h) = record {
       keys = ap (map k.key) h.0 ∙ kept.keys ∙ sym known;
@@ -38,7 +38,7 @@ module _ {K T : Type 0} (m : Machines K) (k : Keeping K T) (es : List (Observati
       keys = ap (map k.key) h.1 ∙ map-append k.key old (fresh ∷ []) ∙ ap (λ ks. ks ++ k.key fresh ∷ []) kept.keys ∙ sym unknown;
       among = λ key more. kept.among key (among-with_key m exact key keys (k.key fresh) more).0;
       ready = subst (All (IsReady m k es)) (sym h.1)
-          (All-push (IsReady m k es) old fresh kept.ready (subst (k.Leads fresh) (sym (new_key m exact (k.key fresh) es (kept.among (k.key fresh) none))) starts));
+          (All-push (IsReady m k es) old fresh kept.ready (subst (λ fs. k.Leads fresh fs (newest_moment es)) (sym (new_key m exact (k.key fresh) es (kept.among (k.key fresh) none))) starts));
     }
       where
         none : list_any (m.same (k.key fresh)) keys ≡ false
@@ -60,6 +60,21 @@ module _ {K T : Type 0} (m : Machines K) (k : Keeping K T) where
       ready = s.ready;
       good = s.good;
     }
+
+    -- so does one that concerns the keys of the entries
+    pub before_all : IsExact m → (ts : List T) → e.keys ≡ keys_of m es → Tracks m k es ts → TracksBefore m k es e ts
+    before_all exact ts all s = record {
+      keys = s.keys ∙ sym (keys_of-push m es e ∙ ap (fold (with_key m.same) (keys_of m es)) all ∙ known (keys_of m es) (λ n d low. Contains-get_or (keys_of m es) n d low));
+      ready = s.ready;
+      good = s.good;
+    }
+      where
+        known : (more : List K) → All (Contains (keys_of m es)) more → fold (with_key m.same) (keys_of m es) more ≡ keys_of m es
+        known [] among = refl
+        known (key ∷ more) among =
+            ap (λ ks. fold (with_key m.same) ks more)
+            (cond_true (list_any (m.same key) (keys_of m es)) (keys_of m es) (keys_of m es ++ key ∷ []) (contains-among m exact key (keys_of m es) (All-head (Contains (keys_of m es)) key more among)))
+            ∙ known more (All-tail (Contains (keys_of m es)) key more among)
 
     -- the transactions of the entry's keys, which were touched
     pub before_touched : (ts : List T) → AreKept m k es (fold (with_key m.same) (keys_of m es) e.keys) ts → IsGood m es → TracksBefore m k es e ts

@@ -1,5 +1,5 @@
 -- The verdict of an input by one recursion for SIP messages is that by any reading's, for theirs.
-use Rattle.std.proofs.Common.{◌≡◌, ◌↔◌, ◌⊎◌, inl, inr, ◌+◌, ℕ, Some, None, List, [], ◌∷◌, ◌++◌, length, All, refl}
+use Rattle.std.proofs.Common.{◌↔◌, inl, inr, ℕ, List, [], ◌∷◌, ◌++◌}
 use Rattle.std.proofs.lemmas.List.Elements.{All-weaker}
 use Rattle.sip_key.specs.Key.{KeyParts}
 use Rattle.sip_machine.specs.Times.{Times}
@@ -14,7 +14,7 @@ use Rattle.sip_states.specs.Runs.{AfterRun}
 use Rattle.sip_states.specs.Stands.{StandsBehind}
 use Rattle.sip_states.proofs.StandsLemmas.{stands-runs, behind-after}
 use Rattle.sip_verdict.specs.Keyed.{Observation, HasRun, newest_moment}
-use Rattle.sip_verdict.specs.Verdicts.{IsFirst, IsTooWide, IsFine, IsTrouble}
+use Rattle.sip_verdict.specs.Verdicts.{IsFirst, IsTooWide, IsTrouble}
 use Rattle.sip_verdict.specs.Reading.{Judges, IsVerdictBy}
 use Rattle.sip_verdict.specs.MessageReading.{key_machines, message_reading}
 use Rattle.sip_verdict.specs.VerdictOf.{events_for, RunsOver, IsWideAt, IsFirstKey, HasTrouble, IsVerdictBehind, IsVerdictOf}
@@ -31,19 +31,19 @@ key-first P Q go come keys n (before, key, rest, whole, holds, earlier, counts) 
 -- a key has a run, in the words of the standard and by the rules of its machine
 run-over : (p : Times) (es : List (Observation KeyParts)) (key : KeyParts) → HasRun (key_machines p) key es → RunsOver p es key
 run-over p es key (y, run) =
-    let machine = machine_of_key key in
+    let machine = machine_of_key p.rules key in
     (y, (stands-runs (transaction_of machine).figure (coded_holds machine).is_figure p (events_for key es) (newest_moment es) y).1 run)
 
 over-run : (p : Times) (es : List (Observation KeyParts)) (key : KeyParts) → RunsOver p es key → HasRun (key_machines p) key es
 over-run p es key (y, stands) =
-    let machine = machine_of_key key in
+    let machine = machine_of_key p.rules key in
     (y, (stands-runs (transaction_of machine).figure (coded_holds machine).is_figure p (events_for key es) (newest_moment es) y).0 stands)
 
 module _ (p : Times) (front : List (Observation KeyParts)) (e : Observation KeyParts) where
   -- what stands behind the entry
-  behind : (key : KeyParts) (y : Owing (transaction_of (machine_of_key key)).Phase) →
-      StandsBehind (transaction_of (machine_of_key key)).figure p (events_for key front) e.event y ↔ AfterRun (key_rules p (machine_of_key key)) (events_for key front) e.event y
-  behind key y = let machine = machine_of_key key in behind-after (transaction_of machine).figure (coded_holds machine).is_figure p (events_for key front) e.event y
+  behind : (key : KeyParts) (y : Owing (transaction_of (machine_of_key p.rules key)).Phase) →
+      StandsBehind (transaction_of (machine_of_key p.rules key)).figure p (events_for key front) e.event y ↔ AfterRun (key_rules p (machine_of_key p.rules key)) (events_for key front) e.event y
+  behind key y = let machine = machine_of_key p.rules key in behind-after (transaction_of machine).figure (coded_holds machine).is_figure p (events_for key front) e.event y
 
   -- a key that is too wide
   wide-at : (key : KeyParts) → IsTooWide (key_machines p) front e key → IsWideAt p front e key
@@ -53,14 +53,14 @@ module _ (p : Times) (front : List (Observation KeyParts)) (e : Observation KeyP
       is.wide.many,
       is.wide.distinct,
       is.wide.wide,
-      All-weaker (AfterRun (key_rules p (machine_of_key key)) (events_for key front) e.event) (StandsBehind (transaction_of (machine_of_key key)).figure p (events_for key front) e.event)
+      All-weaker (AfterRun (key_rules p (machine_of_key p.rules key)) (events_for key front) e.event) (StandsBehind (transaction_of (machine_of_key p.rules key)).figure p (events_for key front) e.event)
           (λ y after. (behind key y).1 after) is.wide.many is.wide.each,
     ),
   )
 
   at-wide : (key : KeyParts) → IsWideAt p front e key → IsTooWide (key_machines p) front e key
   at-wide key (concerned, (many, distinct, wide, each)) =
-      let after = All-weaker (StandsBehind (transaction_of (machine_of_key key)).figure p (events_for key front) e.event) (AfterRun (key_rules p (machine_of_key key)) (events_for key front) e.event)
+      let after = All-weaker (StandsBehind (transaction_of (machine_of_key p.rules key)).figure p (events_for key front) e.event) (AfterRun (key_rules p (machine_of_key p.rules key)) (events_for key front) e.event)
       (λ y stands. (behind key y).0 stands) many each in
       record { concerned = concerned; wide = record { many = many; distinct = distinct; wide = wide; each = after } }
 

@@ -18,7 +18,7 @@ use Rattle.sip_verdict.specs.declared.verdict.Verdict.TheVariants.{Legal, Malfor
 use Rattle.sip_verdict.specs.declared.listing.Listing.{Listing}
 use Rattle.sip_verdict.specs.declared.listing.Listing.TheVariants.{Text, Stopped, NoEntry}
 use Rattle.sip_verdict.specs.LogReason.{reason_of}
-use Rattle.sip_verdict.specs.Keyed.{Observation, Machines, keys_of}
+use Rattle.sip_verdict.specs.Keyed.{Observation, Machines, keys_of, newest_moment}
 use Rattle.sip_verdict.specs.Verdicts.{IsTrouble}
 use Rattle.sip_verdict.specs.VerdictOf.{IsVerdictOf}
 use Rattle.sip_verdict.specs.Listing.{first_entry, trouble_of}
@@ -28,7 +28,8 @@ use Rattle.sip_verdict.specs.inner.Tracking.{Tracks, IsJudged}
 use Rattle.sip_verdict.specs.inner.TablesTracking.{key_keeping, transactions_of, TablesTrack}
 use Rattle.sip_verdict.specs.inner.Numbering.{AreNumbered, StaysNumbered, IsListedEntry}
 use Rattle.sip_verdict.specs.inner.Walking.{HasRead, Walks, WalksOn, IsBehind, listed_behind}
-use Rattle.sip_verdict.specs.Reading.{IsVerdictBy}
+use Rattle.sip_verdict.specs.Reading.{IsVerdictBy, AreObserved}
+use Rattle.sip_verdict.proofs.FollowedLemmas.{observed_moment}
 use Rattle.sip_verdict.proofs.JudgingLemmas.{observed-push, judged_ends, judged_trouble}
 use Rattle.sip_verdict.proofs.VerdictLemmas.{verdict-by}
 use Rattle.sip_verdict.proofs.JudgeLemmas.{verdict_of}
@@ -48,6 +49,7 @@ walks_start start now p texts t none empty read = subst (Walks start now texts) 
     read = read;
   };
   numbered = numbered_start texts none;
+  newest = omega arith;
 })
 
 -- trouble behind so many entries is that of the next
@@ -107,18 +109,21 @@ module _ (start : Option (List ℕ)) (now : log.ReaderState) (texts : Texts) (t 
       verdict_of start (FaultOfLog (count + 1) reason) (judged_ends message_reading t.times _ start now j j.follows.good (Stops fault) (FaultOfLog (count + 1) reason)
       (ap (λ c. FaultOfLog (c + 1) reason) (counts ∙ judged_count) ∙ ap (FaultOfLog (length j.es + 1)) is) logs)
 
-  module _ (count : ℕ) (counts : count ≡ now.count) (e : Entry) (next : e.number ≡ now.count + 1) (new : log.ReaderState) (read : HasRead start t.times (walks.judged.items ++ item e ∷ []) new) where
+  module _ (count : ℕ) (counts : count ≡ now.count) (e : Entry) (next : e.number ≡ now.count + 1) (order : now.last ≤ e.moment) (new : log.ReaderState) (read : HasRead start t.times (walks.judged.items ++ item e ∷ []) new) where
     number_is : e.number ≡ length walks.judged.es + 1
     number_is = next ∙ ap (λ n. n + 1) judged_count
 
+    in_order : newest_moment walks.judged.es ≤ e.moment
+    in_order = (let newest = walks.newest in omega (arith, newest, order))
+
     -- the next entry was judged
     pub walks_on : (texts2 : Texts) (u : Tabled) (verdict : Option Verdict)
-        → ((es : List (Observation KeyParts)) → TablesTrack texts es t → e.number ≡ length es + 1
+        → ((es : List (Observation KeyParts)) → TablesTrack texts es t → e.number ≡ length es + 1 → newest_moment es ≤ e.moment
         → (seen : Observation KeyParts) × message_reading.Observes es (item e) seen × IsJudged (key_machines t.times) (key_keeping texts2 t.times) es seen (transactions_of u) verdict)
-        → IfNone verdict (StaysNumbered (item e) e.number texts texts2) → u.times ≡ t.times → WalksOn start count new texts2 u verdict
-    walks_on texts2 u None says numbered times =
+        → IfNone verdict (StaysNumbered (item e) e.number texts texts2) → u.times ≡ t.times → new.last ≡ e.moment → WalksOn start count new texts2 u verdict
+    walks_on texts2 u None says numbered times last =
         let j = walks.judged in
-        let h = says j.es j.follows number_is in
+        let h = says j.es j.follows number_is in_order in
         record {
           judged = record {
             items = j.items ++ item e ∷ [];
@@ -129,28 +134,30 @@ module _ (start : Option (List ℕ)) (now : log.ReaderState) (texts : Texts) (t 
             read = subst (λ p. HasRead start p (j.items ++ item e ∷ []) new) (sym times) read;
           };
           numbered = numbered j.items walks.numbered (number_is ∙ ap (λ n. n + 1) (sym j.long));
+          newest = omega (arith, observed_moment j.es (item e) h.0 h.1, last);
         }
-    walks_on texts2 u (Some v) says numbered times =
+    walks_on texts2 u (Some v) says numbered times last =
         let j = walks.judged in
-        let h = says j.es j.follows number_is in
+        let h = says j.es j.follows number_is in_order in
         (verdict_of start v (judged_trouble message_reading t.times _ start now j j.follows.good (item e) new read h.0 h.1 v h.2), behind_trouble (key_machines t.times) j.es h.0 v count (counts ∙ judged_count) h.2)
 
     -- what is listed of it
     pub walks_listed : (listing : Listing)
-        → ((es : List (Observation KeyParts)) (items more : List Item) → TablesTrack texts es t → AreNumbered items texts → length items ≡ length es → e.number ≡ length es + 1
+        → ((es : List (Observation KeyParts)) (items more : List Item) → TablesTrack texts es t → AreNumbered items texts → AreObserved message_reading [] items es → length items ≡ length es → e.number ≡ length es + 1
+        → newest_moment es ≤ e.moment
         → (seen : Observation KeyParts) × message_reading.Observes es (item e) seen
         × IsListedEntry (key_machines t.times) (key_words t.times) (first_entry ((items ++ item e ∷ []) ++ more)) es seen listing)
         → IfSome start (λ input. IsListingOf input (count + 1) listing)
-    walks_listed NoEntry says = absurd (says walks.judged.es walks.judged.items [] walks.judged.follows walks.numbered walks.judged.long number_is).2
+    walks_listed NoEntry says = absurd (says walks.judged.es walks.judged.items [] walks.judged.follows walks.numbered walks.judged.observed walks.judged.long number_is in_order).2
     walks_listed (Stopped v) says =
         let j = walks.judged in
-        let h = says j.es j.items [] j.follows walks.numbered j.long number_is in
+        let h = says j.es j.items [] j.follows walks.numbered j.observed j.long number_is in_order in
         IfSome-map start (λ input. IsVerdictBy message_reading input v) (λ input. IsListingOf input (count + 1) (Stopped v)) (λ input verdict. (verdict, trouble_low (key_machines t.times) j.es h.0 v count (counts ∙ judged_count) h.2))
         (judged_trouble message_reading t.times _ start now j j.follows.good (item e) new read h.0 h.1 v h.2)
     walks_listed (Text text) says =
         let j = walks.judged in
         IfSome-map start (λ input. (more : List Item) × (end : LogEnd) × IsLog input t.times ((j.items ++ item e ∷ []) ++ more) end) (λ input. IsListingOf input (count + 1) (Text text)) (λ input l.
-        let h = says j.es j.items l.0 j.follows walks.numbered j.long number_is in
+        let h = says j.es j.items l.0 j.follows walks.numbered j.observed j.long number_is in_order in
         record {
           times = t.times;
           front = j.es;

@@ -30,7 +30,7 @@ pub record Judging : Type 0 where
 -- messages and sets follow these entries, none of which is in trouble; so many messages were named after one of them, and few more are kept
 pub record AreFollowed (texts : Texts) (t : Tabled) (left : ℕ) (es : List (Observation KeyParts)) : Type 0 where
   pub tracks : TablesTrack texts es t
-  pub named : WereNamed (key_machines t.times) key_messages es left
+  pub named : WereNamed (key_machines t.times) (key_messages t.times) es left
   pub few : length texts ≤ left + left + 64
 
 -- the judge stands for these entries

@@ -1,7 +1,7 @@
 -- The states of the transactions that an entry of a log concerns.
 use Rattle.std.specs.Prelude.{◌≡◌, ◌≤◌, ◌<◌, ◌+◌, ◌⊎◌, ◌&&◌, ℕ, Bool, true, false, Option, Some, None, IsSomeAnd, List, [], ◌∷◌, ◌++◌, if◌then◌else◌, length, codes, bytes_eq, string_bytes}
 use Rattle.sip_times.specs.declared.action.Action.{Action}
-use Rattle.sip_times.specs.declared.action.Action.TheVariants.{Sent, Received, Failed, Mark}
+use Rattle.sip_times.specs.declared.action.Action.TheVariants.{Sent, Received, Failed, Mark, Restart}
 use Rattle.sip_machine.specs.Times.{Times}
 use Rattle.sip_states.specs.Runs.{AfterRun}
 use Rattle.sip_log.specs.Spelling.{Item}
@@ -21,6 +21,7 @@ has_message Sent = true
 has_message Received = true
 has_message Failed = true
 has_message Mark = false
+has_message Restart = false
 
 -- the number, counted on from this one, of the first entry whose message has these bytes; 0 if there is none
 abbrev pub entry_from : ℕ → List Item → List ℕ → ℕ

@@ -10,7 +10,7 @@ use Rattle.sip_verdict.specs.Listing.{Words, IsListingBy}
 
 -- keys are told by their role and method, and states by their machine, RFC 3261 section 17
 abbrev pub key_words : (p : Times) → Words KeyParts (key_machines p)
-key_words p = record { transaction = transaction_text; state = λ key number x. state_text (machine_of_key key) number x }
+key_words p = record { transaction = transaction_text; state = λ key number x. state_text (machine_of_key p.rules key) number x }
 
 -- the listing of an entry of an input
 abbrev pub IsListingOf : List ℕ → ℕ → Listing → Type 0

@@ -1,5 +1,5 @@
 -- How a log of SIP messages is read: which of them have a fault, and which transactions the others concern.
-use Rattle.std.specs.Prelude.{◌≡◌, ℕ, true, false, Option, None, Some, MatchOption, List, []}
+use Rattle.std.specs.Prelude.{◌≡◌, ℕ, true, false, Option, None, Some, MatchOption, List, [], fold, flat_map}
 use Rattle.sip_message.specs.declared.fault.Fault.{Fault}
 use Rattle.sip_message.specs.declared.fault.Unit.TheVariants.{Head}
 use Rattle.sip_message.specs.declared.fault.Reason.TheVariants.{NoCookie}
@@ -11,7 +11,7 @@ use Rattle.sip_key.specs.declared.role.Direction.TheVariants as way
 use Rattle.sip_key.specs.Key.{KeyParts, same_key}
 use Rattle.sip_key.specs.Concerns.{Concerns, lacks_cookie}
 use Rattle.sip_times.specs.declared.action.Action.{Action}
-use Rattle.sip_times.specs.declared.action.Action.TheVariants.{Sent, Received, Failed, Mark}
+use Rattle.sip_times.specs.declared.action.Action.TheVariants.{Sent, Received, Failed, Mark, Restart}
 use Rattle.sip_machine.specs.declared.event.Kind.TheVariants.{Request}
 use Rattle.sip_machine.specs.declared.event.Method.TheVariants.{Other}
 use Rattle.sip_machine.specs.Message.{kind_of}
@@ -19,23 +19,25 @@ use Rattle.sip_machine.specs.Times.{Times}
 use Rattle.sip_machine.specs.MachineEvent.{MachineEvent}
 use Rattle.sip_states.specs.KeyMachine.{machine_of_key, PhaseOf, key_rules}
 use Rattle.sip_log.specs.Spelling.{Item}
-use Rattle.sip_verdict.specs.Keyed.{Observation, Machines}
+use Rattle.sip_verdict.specs.Keyed.{Observation, Machines, with_key}
 use Rattle.sip_verdict.specs.Reading.{EntryReading}
 
 -- keys are equal by their parts, and each has the machine of its role and method, RFC 3261 section 17
 abbrev pub key_machines : Times → Machines KeyParts
-key_machines p = record { same = same_key; State = λ key. PhaseOf (machine_of_key key); rules = λ key. key_rules p (machine_of_key key) }
+key_machines p = record { same = same_key; State = λ key. PhaseOf (machine_of_key p.rules key); rules = λ key. key_rules p (machine_of_key p.rules key) }
 
--- which way the message of an entry went: one whose send was refused was on its way out, and a mark has none
+-- which way the message of an entry went: one whose send was refused was on its way out; a mark has none, nor has a restart
 abbrev pub direction_of : Action → Option Direction
 direction_of Sent = Some way.Sent
 direction_of Received = Some way.Received
 direction_of Failed = Some way.Sent
 direction_of Mark = None
+direction_of Restart = None
 
--- a mark tells its moment and concerns no key
-abbrev pub mark_observation : ℕ → Observation KeyParts
-mark_observation moment = record { fault = None; event = record { moment = moment; action = Mark; text = []; kind = Request Other; reliable = false }; keys = [] }
+-- what is observed of an entry without a message: a mark concerns no key, and a restart of the element each of those before it
+abbrev pub silent_observation : Action → ℕ → List KeyParts → Observation KeyParts
+silent_observation Restart moment keys = record { fault = None; event = record { moment = moment; action = Restart; text = []; kind = Request Other; reliable = false }; keys = keys }
+silent_observation action moment keys = record { fault = None; event = record { moment = moment; action = Mark; text = []; kind = Request Other; reliable = false }; keys = [] }
 
 -- nothing but its moment is seen of an entry whose message has a fault
 abbrev pub fault_observation : Item → Fault → Observation KeyParts
@@ -60,11 +62,13 @@ pub data ObservesMessage (direction : Direction) (item : Item) (e : Observation 
   is_heard : (s : Said) (keys : List KeyParts) → Says item.text (gives s) → lacks_cookie s direction ≡ false → Concerns s direction keys
       → e ≡ record { fault = None; event = message_event item s; keys = keys } → ObservesMessage direction item e
 
--- how a log of messages is read: an entry without a message is a mark; what is observed of an entry does not depend on those before it
+-- how a log of messages is read: those before an entry have a part only in what is observed of a restart
 abbrev pub message_reading : EntryReading KeyParts
 message_reading = record {
   machines = key_machines;
-  Observes = λ before item e. MatchOption (direction_of item.action) (e ≡ mark_observation item.moment) (λ direction. ObservesMessage direction item e);
+  Observes = λ before item e. MatchOption (direction_of item.action)
+      (e ≡ silent_observation item.action item.moment (fold (with_key same_key) [] (flat_map (λ f. f.keys) before)))
+      (λ direction. ObservesMessage direction item e);
 }
 
 -- the entry concerns no key

@@ -1,6 +1,7 @@
 -- Which messages of a log are still needed: those that a state of a transaction names.
 use Rattle.std.specs.Prelude.{◌≡◌, ◌≢◌, ◌≤◌, ◌↔◌, ◌+◌, ℕ, List, ◌++◌, AllPairs, Contains, length, map}
 use Rattle.sip_key.specs.Key.{KeyParts}
+use Rattle.sip_machine.specs.Times.{Times}
 use Rattle.sip_machine.specs.Told.{messages_told}
 use Rattle.sip_states.specs.Runs.{RuledRun}
 use Rattle.sip_states.specs.KeyMachine.{MachineKind, PhaseOf, machine_of_key, coded_of}
@@ -11,8 +12,8 @@ abbrev pub messages_of : (machine : MachineKind) → PhaseOf machine → List (L
 messages_of machine x = messages_told ((coded_of machine).told x.phase) ++ map (λ owed. owed.message) x.owes
 
 -- the same for the machine of each key
-abbrev pub key_messages : (key : KeyParts) → PhaseOf (machine_of_key key) → List (List ℕ)
-key_messages key x = messages_of (machine_of_key key) x
+abbrev pub key_messages : (p : Times) (key : KeyParts) → PhaseOf (machine_of_key p.rules key) → List (List ℕ)
+key_messages p key x = messages_of (machine_of_key p.rules key) x
 
 -- a state in which a run of some key over the entries can stand at the newest names the message
 pub record IsNamed {K : Type 0} (m : Machines K) (messages : (key : K) → m.State key → List (List ℕ)) (es : List (Observation K)) (text : List ℕ) : Type 0 where

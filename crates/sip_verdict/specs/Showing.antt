@@ -1,7 +1,7 @@
-use Rattle.std.specs.Prelude.{◌≡◌, ◌≢◌, ◌+◌, ◌⊎◌, ◌++◌, [], ◌∷◌, ℕ, List, Some, length, codes, decimal}
+use Rattle.std.specs.Prelude.{◌≡◌, ◌+◌, ◌⊎◌, ◌++◌, [], ◌∷◌, ℕ, true, List, Some, length, codes, decimal}
 use Rattle.sip_machine.specs.Times.{Times}
 use Rattle.sip_times.specs.declared.action.Action.{Action}
-use Rattle.sip_times.specs.declared.action.Action.TheVariants.{Sent, Received, Failed, Mark}
+use Rattle.sip_times.specs.declared.action.Action.TheVariants.{Sent, Received, Failed, Mark, Restart}
 use Rattle.sip_log.specs.Spelling.{line_feed, space, Item, entry_text}
 use Rattle.sip_log.specs.Log.{LogEnd, Clean, Stops, Faulty, Readable, IsLogOf}
 use Rattle.sip_message.specs.declared.fault.Fault.{Fault}
@@ -13,6 +13,7 @@ use Rattle.sip_verdict.specs.declared.verdict.Verdict.TheVariants as verdicts
 use Rattle.sip_verdict.specs.declared.shown.Shown.{Shown}
 use Rattle.sip_verdict.specs.declared.shown.Shown.TheVariants.{End, Malformed, LogFault}
 use Rattle.sip_verdict.specs.LogReason.{reason_of}
+use Rattle.sip_verdict.specs.Listing.{has_message}
 use Rattle.sip_verdict.specs.Rendering.{rendered}
 
 -- What is shown of an input: its entries, one after another, each with its message in the canonical form.
@@ -21,12 +22,13 @@ use Rattle.sip_verdict.specs.Rendering.{rendered}
 abbrev pub IsCanon : List ℕ → List ℕ → Type 0
 IsCanon bytes text = (m : Message) × Spells bytes m × (text ≡ canon m)
 
--- what stands for an entry's message: its canonical form, and nothing for a mark
+-- what stands for an entry's message: its canonical form, and nothing where it has none
 abbrev pub IsCanonOf : Action → List ℕ → List ℕ → Type 0
 IsCanonOf Sent bytes text = IsCanon bytes text
 IsCanonOf Received bytes text = IsCanon bytes text
 IsCanonOf Failed bytes text = IsCanon bytes text
 IsCanonOf Mark bytes text = text ≡ []
+IsCanonOf Restart bytes text = text ≡ []
 
 -- an entry with this number: the number, SP, and its spelling with the canonical form in place of its message
 abbrev pub shown_entry : ℕ → Item → List ℕ → List ℕ
@@ -46,7 +48,7 @@ last_text (LogFault entry reason) = rendered (verdicts.LogFault entry reason)
 
 -- how it ends behind so many entries: with the fault of the next one's message, or with the log
 abbrev pub EndsAs : ℕ → List Item → LogEnd → Shown → Type 0
-EndsAs count (e ∷ rest) end shown = (fault : Fault) × (e.action ≢ Mark) × FaultOf e.text (Some fault) × (shown ≡ Malformed (count + 1) fault)
+EndsAs count (e ∷ rest) end shown = (fault : Fault) × (has_message e.action ≡ true) × FaultOf e.text (Some fault) × (shown ≡ Malformed (count + 1) fault)
 EndsAs count [] Clean shown = shown ≡ End count
 EndsAs count [] (Stops fault) shown = shown ≡ LogFault (count + 1) (reason_of fault)
 

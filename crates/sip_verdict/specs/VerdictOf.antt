@@ -15,15 +15,16 @@ use Rattle.sip_verdict.specs.declared.verdict.Verdict.TheVariants.{Legal, Malfor
 use Rattle.sip_verdict.specs.declared.log_reason.LogReason.TheVariants.{Header}
 use Rattle.sip_verdict.specs.LogReason.{reason_of}
 use Rattle.sip_verdict.specs.Keyed.{Observation}
-use Rattle.sip_verdict.specs.MessageReading.{direction_of, mark_observation, ObservesMessage}
-
--- what is observed of an entry: of one without a message that it is a mark; what stood before it has no part in it
-abbrev pub Sees : Item → Observation KeyParts → Type 0
-Sees item e = MatchOption (direction_of item.action) (e ≡ mark_observation item.moment) (λ direction. ObservesMessage direction item e)
+use Rattle.sip_verdict.specs.MessageReading.{direction_of, silent_observation, ObservesMessage}
 
 -- the keys of the entries, in the order of their first appearance
 abbrev pub keys_in : List (Observation KeyParts) → List KeyParts
 keys_in es = fold (λ keys key. if list_any (same_key key) keys then keys else keys ++ key ∷ []) [] (flat_map (λ e. e.keys) es)
+
+-- what is observed of an entry behind these; where it has no message, it is a mark or a restart, which concerns the keys of all of them
+abbrev pub Sees : List (Observation KeyParts) → Item → Observation KeyParts → Type 0
+Sees es item e =
+    MatchOption (direction_of item.action) (e ≡ silent_observation item.action item.moment (keys_in es)) (λ direction. ObservesMessage direction item e)
 
 -- the events of the entries that concern the key, in order
 abbrev pub events_for : KeyParts → List (Observation KeyParts) → List MachineEvent
@@ -32,13 +33,13 @@ events_for key es = map (λ e. e.event) (filter (λ e. list_any (same_key key) e
 -- the key has a run over the entries, by the machine of its role and method (RFC 3261 section 17), which waits until the newest
 abbrev pub RunsOver : Times → List (Observation KeyParts) → KeyParts → Type 0
 RunsOver p es key =
-    let key_machine = transaction_of (machine_of_key key) in
+    let key_machine = transaction_of (machine_of_key p.rules key) in
     (y : Owing key_machine.Phase) × Stands key_machine.figure p (events_for key es) (fold (λ moment e. e.event.moment) 0 es) y
 
 -- the entry behind these concerns the key, and its runs that end with the entry's step can stand in more than 1,024 states
 abbrev pub IsWideAt : Times → List (Observation KeyParts) → Observation KeyParts → KeyParts → Type 0
 IsWideAt p front e key =
-    let key_machine = transaction_of (machine_of_key key) in
+    let key_machine = transaction_of (machine_of_key p.rules key) in
     (list_any (same_key key) e.keys ≡ true)
     × ((many : List (Owing key_machine.Phase)) × AllPairs (λ x y. x ≢ y) many × (1024 < length many)
     × All (StandsBehind key_machine.figure p (events_for key front) e.event) many)
@@ -65,7 +66,7 @@ abbrev pub IsVerdictBehind : Times → List (Observation KeyParts) → List Item
 IsVerdictBehind p es [] Clean v = v ≡ Legal (length es) (length (keys_in es))
 IsVerdictBehind p es [] (Stops fault) v = v ≡ LogFault (length es + 1) (reason_of fault)
 IsVerdictBehind p es (item ∷ items) end v =
-    (e : Observation KeyParts) × Sees item e
+    (e : Observation KeyParts) × Sees es item e
     × (HasTrouble p es e v
     ⊎ ((e.fault ≡ None) × All (RunsOver p (es ++ e ∷ [])) (keys_in (es ++ e ∷ [])) × All (λ key. ¬ (IsWideAt p es e key)) (keys_in (es ++ e ∷ []))
     × IsVerdictBehind p (es ++ e ∷ []) items end v))

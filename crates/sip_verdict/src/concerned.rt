@@ -9,4 +9,6 @@ pub(crate) enum Concerned<T> {
     Own(T),
     /// That of its message, and the one that this message cancels.
     OwnAndCancelled(T, T),
+    /// All that there are: the entry is a restart of the element.
+    All,
 }

@@ -8,6 +8,10 @@ ghost use Rattle.sip_verdict.specs.Keyed.{Observation, HasRun};
 ghost use Rattle.sip_verdict.specs.MessageReading.{key_machines, message_reading};
 ghost use Rattle.sip_verdict.specs.Reading.{IsVerdictBy};
 ghost use Rattle.sip_key.specs.Key.{KeyParts};
+ghost use Rattle.sip_log.specs.declared.format.Format.{Format};
+ghost use Rattle.sip_log.specs.declared.format.Format.TheVariants.{One, Two};
+ghost use Rattle.sip_log.specs.Spelling.{Item, Header};
+ghost use Rattle.sip_log.specs.Log.{Clean, Readable, IsLogOf};
 ghost use Rattle.sip_machine.specs.Times.{Times};
 
 use crate::verdict::Verdict;
@@ -25,6 +29,18 @@ pub fn an_input_has_a_verdict()
 /// The verdict of an input is that by the reading of messages.
 pub fn a_verdict_is_that_by_the_reading_of_messages()
     ensures { (input : List ℕ) (verdict : VerdictValue) → IsVerdictOf input verdict ↔ IsVerdictBy message_reading input verdict }
+{}
+
+/// A log of format 1 that is read to its end has, behind a header of format 2 with the same times, the same verdict.
+pub fn a_log_of_format_1_has_its_verdict_in_format_2(_verdict: &Verdict)
+    ensures { (input other : List ℕ) (p : Times) (behind : List ℕ) (items : List Item) → Header One p input behind → Header Two p other behind
+        → IsLogOf input (Readable p items Clean) → IsVerdictOf input _verdict.now ↔ IsVerdictOf other _verdict.now }
+{}
+
+/// And one that is read to its end has the same verdict with the line `rules 6026` and without it: its two headers say the same.
+pub fn a_line_of_rules_6026_changes_no_verdict(_verdict: &Verdict)
+    ensures { (format : Format) (input other : List ℕ) (p : Times) (behind : List ℕ) (items : List Item) → Header format p input behind
+        → Header format p other behind → IsLogOf input (Readable p items Clean) → IsVerdictOf input _verdict.now ↔ IsVerdictOf other _verdict.now }
 {}
 
 /// A legal log is read whole, has so many entries and transactions, each message is of the grammar, and each transaction has

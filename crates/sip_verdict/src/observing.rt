@@ -7,7 +7,7 @@ ghost use Rattle.sip_message.specs.SaidOf.{said_of};
 ghost use Rattle.sip_log.specs.Told.{item};
 ghost use Rattle.sip_verdict.specs.Keyed.{Observation};
 ghost use Rattle.sip_verdict.specs.MessageReading.{direction_of, message_reading};
-ghost use Rattle.sip_verdict.specs.inner.Observing.{AreKeysOf, IsObserved, IsKept, IsHeard};
+ghost use Rattle.sip_verdict.specs.inner.Observing.{AreKeysOf, IsObserved, IsKept, IsHeard, silent_told};
 
 use crate::concerned::Concerned;
 use sip_key::{Direction, Key, KeyError, cancelled_key, key_of};
@@ -23,6 +23,8 @@ pub(crate) enum Told {
     Unheard,
     /// The message has this fault.
     Fault(Fault),
+    /// A restart of the element, which concerns every transaction so far.
+    Restart,
     /// The event of a message that is kept in the book, and the keys of the transactions that it concerns, one at least.
     Heard {
         event: Event,
@@ -36,14 +38,14 @@ const NO_COOKIE: Fault = Fault {
     reason: Reason::NoCookie,
 };
 
-/// Which way the message of an entry went. A mark has none.
+/// Which way the message of an entry went. A mark has none, nor has a restart.
 fn direction_of(action: Action) -> Option<Direction>
     ensures { result ≡ direction_of action }
 {
     match action {
         Action::Sent | Action::Failed => Some(Direction::Sent),
         Action::Received => Some(Direction::Received),
-        Action::Mark => None,
+        Action::Mark | Action::Restart => None,
     }
 }
 
@@ -65,18 +67,28 @@ fn keys_of(
     })
 }
 
+/// What an entry without a message says.
+fn told_without_message(action: Action) -> Told
+    ensures { result ≡ silent_told action }
+{
+    match action {
+        Action::Restart => Told::Restart,
+        Action::Sent | Action::Received | Action::Failed | Action::Mark => Told::Unheard,
+    }
+}
+
 /// Reads the message of an entry, and keeps it in the book if it concerns a transaction. The book is as before on an error.
 pub(crate) fn observe(alloc: Global, book: &mut Book, entry: &Entry) -> Result<Told, AllocError>
     requires limit { entry.now.moment ≤ last_moment }
     requires numbered { (n : ℕ) → Keeps book.old n → n < entry.now.number }
     ensures observed { IfOk result (λ told. (es : List (Observation KeyParts)) → (e : Observation KeyParts) × message_reading.Observes es (item entry.now) e
-        × IsObserved book.new (item entry.now) told e) }
+        × IsObserved book.new es (item entry.now) told e) }
     ensures heard { IfOk result (IsHeard book.new entry.now.moment) }
     ensures kept { IfOk result (IsKept book.old book.new entry.now) }
     ensures err { OnErr result (book.new ≡ book.old) }
 {
     let Some(direction) = direction_of(entry.action) else {
-        return Ok(Told::Unheard);
+        return Ok(told_without_message(entry.action));
     };
     let message = match Message::read(alloc, entry.bytes.as_slice()) {
         Ok(message) => message,

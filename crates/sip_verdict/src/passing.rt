@@ -7,12 +7,12 @@ ghost use Rattle.sip_machine.specs.MachineEvent.{MachineEvent, event_in, FitsBoo
 ghost use Rattle.sip_states.specs.KeyMachine.{MachineKind, key_rules};
 ghost use Rattle.sip_states.specs.AnySet.{moment_of, IsEmpty, IsKnownSet};
 ghost use Rattle.sip_states.specs.Tables.{IsGiven, due_of};
-ghost use Rattle.sip_verdict.specs.Keyed.{Observation};
+ghost use Rattle.sip_verdict.specs.Keyed.{Observation, newest_moment};
 ghost use Rattle.sip_verdict.specs.MessageReading.{key_machines};
 ghost use Rattle.sip_verdict.specs.inner.Concerned.{each};
 ghost use Rattle.sip_verdict.specs.inner.Stepping.{IsStepped};
 ghost use Rattle.sip_verdict.specs.inner.Tracking.{IsReady, IsOutcome, overdue_outcome, first_of};
-ghost use Rattle.sip_verdict.specs.inner.TablesTracking.{LeadsOf, StandsOf, key_keeping, transactions_of, hearers, AreTold, MayPass, MayHear, AreOnRecord, AreOnRecordIf, HearsOne, HearsEach};
+ghost use Rattle.sip_verdict.specs.inner.TablesTracking.{LeadsOf, StandsOf, key_keeping, transactions_of, hearers, AreTold, MayPass, MayHear, AreHearers, AreOnRecord, AreOnRecordIf, HearsOne, HearsEach};
 
 use crate::concerned::Concerned;
 use sip_machine::{Book, Event};
@@ -65,8 +65,8 @@ fn hear(set: &mut AnySet, book: &Book, event: &Event) -> Result<Fate, AllocError
     ensures order { OnOk result (moment_of set.new ≤ event.now.moment) }
     ensures known { OnOk result (IsKnownSet book.now set.new) }
     ensures some { IfOk result (λ fate. fate ≡ Fate.Runs → ¬ IsEmpty set.new) }
-    ensures stepped { IfOk result (λ fate. (p : Times) (machine : MachineKind) (events : List MachineEvent) → LeadsOf book.now p machine events set.old
-        → IsStepped (key_rules p machine) events (event_in book.now event.now) (λ es. LeadsOf book.now p machine es set.new) (λ e. StandsOf book.now p machine events e set.new) fate) }
+    ensures stepped { IfOk result (λ fate. (p : Times) (machine : MachineKind) (events : List MachineEvent) (from : ℕ) → from ≤ event.now.moment → LeadsOf book.now p machine events from set.old
+        → IsStepped (key_rules p machine) events (event_in book.now event.now) (λ es. LeadsOf book.now p machine es event.now.moment set.new) (λ e. StandsOf book.now p machine events e set.new) fate) }
 {
     match set.take(book, event) {
         Ok(()) if set.is_empty() => Ok(Fate::NoRun),
@@ -101,6 +101,49 @@ fn hear_one<H: BuildHasher>(
     }
 }
 
+/// Lets the transactions with these numbers hear the event, and adds what is left of them to what is left of others.
+fn hear_all<H: BuildHasher>(
+    tables: &mut Tables<H>,
+    book: &Book,
+    numbers: &[u32],
+    event: &Event,
+    others: Outcome,
+) -> Result<Outcome, AllocError>
+    requires given { All (IsGiven tables.old) numbers.now }
+    requires fits { FitsBook book.now event.now }
+    requires may { MayPass book.now tables.old event.now.moment }
+    ensures times { OnOk result (tables.new.times ≡ tables.old.times) }
+    ensures keys { OnOk result (tables.new.keys ≡ tables.old.keys) }
+    ensures may { OnOk result (MayPass book.now tables.new event.now.moment) }
+    ensures heard { IfOk result (HearsEach book.now event.now numbers.now tables.old others tables.new) }
+{
+    let mut outcome = others;
+    for number in numbers {
+        outcome = outcome.first(hear_one(tables, book, *number, event)?);
+    }
+    Ok(outcome)
+}
+
+/// Lets every transaction pass a restart of the element. Those that are quiet do not change, and are not visited.
+fn restart<H: BuildHasher>(
+    tables: &mut Tables<H>,
+    book: &Book,
+    event: &Event,
+    others: Outcome,
+) -> Result<Outcome, AllocError>
+    requires fits { FitsBook book.now event.now }
+    requires may { MayPass book.now tables.old event.now.moment }
+    ensures times { OnOk result (tables.new.times ≡ tables.old.times) }
+    ensures keys { OnOk result (tables.new.keys ≡ tables.old.keys) }
+    ensures heard { IfOk result (λ outcome. MayPass book.now tables.new event.now.moment
+        × ((numbers : List ℕ) × AreHearers tables.old Concerned.All numbers × HearsEach book.now event.now numbers tables.old others tables.new outcome)) }
+{
+    let numbers = tables.to_restart()?;
+    let outcome = hear_all(tables, book, numbers.as_slice(), event, others)?;
+    tables.restarted();
+    Ok(outcome)
+}
+
 /// Lets each transaction that the event concerns hear it, and adds what is left of them to what is left of others.
 fn hear_each<H: BuildHasher>(
     tables: &mut Tables<H>,
@@ -108,13 +151,12 @@ fn hear_each<H: BuildHasher>(
     hearing: &Hearing,
     others: Outcome,
 ) -> Result<Outcome, AllocError>
-    requires given { All (IsGiven tables.old) (each hearing.now.concerned) }
-    requires fits { FitsBook book.now hearing.now.event }
+    requires hear { MayHear book.now tables.old hearing.now.event.moment hearing.now }
     requires may { MayPass book.now tables.old hearing.now.event.moment }
     ensures times { OnOk result (tables.new.times ≡ tables.old.times) }
     ensures keys { OnOk result (tables.new.keys ≡ tables.old.keys) }
     ensures heard { IfOk result (λ outcome. MayPass book.now tables.new hearing.now.event.moment
-        × HearsEach book.now hearing.now.event (each hearing.now.concerned) tables.old others tables.new outcome) }
+        × ((numbers : List ℕ) × AreHearers tables.old hearing.now.concerned numbers × HearsEach book.now hearing.now.event numbers tables.old others tables.new outcome)) }
 {
     let event = &hearing.event;
     match hearing.concerned {
@@ -124,6 +166,7 @@ fn hear_each<H: BuildHasher>(
             let others = others.first(hear_one(tables, book, own, event)?);
             Ok(others.first(hear_one(tables, book, cancelled, event)?))
         }
+        Concerned::All => restart(tables, book, event, others),
     }
 }
 
@@ -152,7 +195,7 @@ pub(crate) fn pass_all<H: BuildHasher>(
     ensures may { OnOk result (MayPass book.now tables.new moment) }
     ensures recorded { IfOk result (λ outcome. AreOnRecordIf outcome tables.new) }
     ensures outcome { IfOk result (λ outcome. (p : Times) (es : List (Observation KeyParts)) (e : Observation KeyParts)
-        → AreTold book.now tables.old.keys moment (option_copied hearing.entry) e
+        → newest_moment es ≤ moment → AreTold book.now tables.old.keys moment (option_copied hearing.entry) e
         → All (IsReady (key_machines p) (key_keeping book.now p) es) (transactions_of tables.old)
         → IsOutcome (key_machines p) (key_keeping book.now p) es e (transactions_of tables.new) outcome) }
 {

@@ -79,14 +79,14 @@ fn show_entry<W: Sink>(
     Ok(None)
 }
 
-/// What stands for an entry's message: its canonical form, and nothing for a mark.
+/// What stands for an entry's message: its canonical form, and nothing where it has none.
 fn form_of(alloc: Global, action: Action, bytes: &[u8]) -> Result<Vec<u8>, ReadError>
     ensures form { IfOk result (λ form. IsCanonOf action bytes.now form.items) }
     ensures fault { IfErr result (HasNoForm action bytes.now) }
 {
     match action {
         Action::Sent | Action::Received | Action::Failed => canonical(alloc, bytes),
-        Action::Mark => Ok(Vec::new(alloc)),
+        Action::Mark | Action::Restart => Ok(Vec::new(alloc)),
     }
 }
 

@@ -12,8 +12,9 @@ ghost use Rattle.sip_verdict.specs.Keyed.{Observation, newest_moment};
 ghost use Rattle.sip_verdict.specs.Named.{AreMany, IsNamed, key_messages};
 ghost use Rattle.sip_verdict.specs.MessageReading.{key_machines, message_reading, ConcernsNone};
 ghost use Rattle.sip_verdict.specs.Listing.{first_entry};
+ghost use Rattle.sip_verdict.specs.Reading.{AreObserved};
 ghost use Rattle.sip_verdict.specs.ListingOf.{key_words};
-ghost use Rattle.sip_verdict.specs.inner.Concerned.{each};
+ghost use Rattle.sip_verdict.specs.inner.Concerned.{each, is_all, listed, up_to};
 ghost use Rattle.sip_verdict.specs.inner.Numbering.{AreNumbered, StaysNumbered, IsListedEntry, Appends, IsTextOf};
 ghost use Rattle.sip_verdict.specs.inner.Tracking.{IsJudged};
 ghost use Rattle.sip_verdict.specs.inner.TablesTracking.{key_keeping, transactions_of, TablesTrack, TablesTrackBefore, AreTold, TouchesEach, HaveNumbers, hearers, MayPass, MayHear, AreOnRecord, AllAreOnRecord, MayTake};
@@ -26,7 +27,7 @@ use crate::verdict::Verdict;
 use sip_key::Key;
 use sip_listing::push_transaction;
 use sip_log::Entry;
-use sip_machine::{Book, Params};
+use sip_machine::{Book, Event, Params};
 use sip_states::Tables;
 use std::alloc::{AllocError, Global};
 use std::hash::BuildHasher;
@@ -52,10 +53,12 @@ fn touch_each<H: BuildHasher>(
     keys: Concerned<Key>,
 ) -> Result<Concerned<u32>, AllocError>
     requires { length tables.old.keys + 2 ≤ most_keys }
-    ensures { IfOk result (λ numbers. TouchesEach (each keys) (each numbers) tables.old tables.new) }
+    ensures touched { IfOk result (λ numbers. TouchesEach (each keys) (each numbers) tables.old tables.new) }
+    ensures same { IfOk result (λ numbers. is_all numbers ≡ is_all keys) }
 {
     Ok(match keys {
         Concerned::None => Concerned::None,
+        Concerned::All => Concerned::All,
         Concerned::Own(own) => Concerned::Own(tables.touch(own)?),
         Concerned::OwnAndCancelled(own, cancelled) => {
             let own = tables.touch(own)?;
@@ -103,7 +106,7 @@ impl<H: BuildHasher> Standing<H> {
         ensures fewer { OnOk result (All (Contains self.old.book) self.new.book) }
         ensures tracks { OnOk result ((es : List (Observation KeyParts)) → TablesTrack self.old.book es self.old.tables → TablesTrack self.new.book es self.new.tables) }
         ensures named { OnOk result ((es : List (Observation KeyParts)) → TablesTrack self.old.book es self.old.tables → newest_moment es ≡ moment
-            → AreMany (IsNamed (key_machines self.old.tables.times) key_messages es) (length self.new.book)) }
+            → AreMany (IsNamed (key_machines self.old.tables.times) (key_messages self.old.tables.times) es) (length self.new.book)) }
     {
         self.book.known();
         self.tables.advance_all(moment)?;
@@ -128,7 +131,7 @@ impl<H: BuildHasher> Standing<H> {
         ensures book { OnOk result (self.new.book ≡ self.old.book) }
         ensures may { OnOk result (MayPass self.new.book self.new.tables moment) }
         ensures recorded { IfOk result (λ verdict. IfNone verdict (AllAreOnRecord self.new.tables)) }
-        ensures judged { IfOk result (λ verdict. (es : List (Observation KeyParts)) (e : Observation KeyParts) → e.fault ≡ None
+        ensures judged { IfOk result (λ verdict. (es : List (Observation KeyParts)) (e : Observation KeyParts) → e.fault ≡ None → newest_moment es ≤ moment
             → AreTold self.old.book self.old.tables.keys moment (option_copied hearing.entry) e
             → TablesTrackBefore self.old.book es e self.old.tables → number ≡ length es + 1
             → IsJudged (key_machines self.old.tables.times) (key_keeping self.new.book self.old.tables.times) es e (transactions_of self.new.tables) verdict) }
@@ -161,7 +164,7 @@ impl<H: BuildHasher> Standing<H> {
         ensures numbered { IfOk result (λ verdict. IfNone verdict (StaysNumbered (item entry.now) entry.now.number self.old.book self.new.book)) }
         ensures keyless { OnOk result (ConcernsNone (item entry.now) → self.new.book ≡ self.old.book) }
         ensures judged { IfOk result (λ verdict. (es : List (Observation KeyParts)) → TablesTrack self.old.book es self.old.tables
-            → entry.now.number ≡ length es + 1
+            → entry.now.number ≡ length es + 1 → newest_moment es ≤ entry.now.moment
             → (e : Observation KeyParts) × message_reading.Observes es (item entry.now) e
             × IsJudged (key_machines self.old.tables.times) (key_keeping self.new.book self.old.tables.times) es e (transactions_of self.new.tables) verdict) }
     {
@@ -174,7 +177,8 @@ impl<H: BuildHasher> Standing<H> {
         requires count { entry.now.number ≤ most_entries }
         requires may { MayTake self.old.book self.old.tables entry.now.number entry.now.moment }
         ensures listed { IfOk result (λ listing. (es : List (Observation KeyParts)) (items more : List Item) → TablesTrack self.old.book es self.old.tables
-            → AreNumbered items self.old.book → length items ≡ length es → entry.now.number ≡ length es + 1
+            → AreNumbered items self.old.book → AreObserved message_reading [] items es → length items ≡ length es → entry.now.number ≡ length es + 1
+            → newest_moment es ≤ entry.now.moment
             → (e : Observation KeyParts) × message_reading.Observes es (item entry.now) e
             × IsListedEntry (key_machines self.old.tables.times) (key_words self.old.tables.times) (first_entry ((items ++ item entry.now ∷ []) ++ more)) es e listing) }
     {
@@ -196,10 +200,10 @@ impl<H: BuildHasher> Standing<H> {
         ensures given { IfOk result (λ taken. All (IsGiven self.new.tables) (each taken.concerned)) }
         ensures keyless { OnOk result (ConcernsNone (item entry.now) → self.new.book ≡ self.old.book) }
         ensures judged { IfOk result (λ taken. (es : List (Observation KeyParts)) → TablesTrack self.old.book es self.old.tables
-            → entry.now.number ≡ length es + 1
+            → entry.now.number ≡ length es + 1 → newest_moment es ≤ entry.now.moment
             → (e : Observation KeyParts) × message_reading.Observes es (item entry.now) e
             × IsJudged (key_machines self.old.tables.times) (key_keeping self.new.book self.old.tables.times) es e (transactions_of self.new.tables) taken.verdict
-            × HaveNumbers self.new.tables.keys (each taken.concerned) e.keys) }
+            × HaveNumbers self.new.tables.keys (listed (length self.new.tables.keys) taken.concerned) e.keys) }
     {
         let told = observe(alloc, &mut self.book, entry)?;
         self.book.known();
@@ -218,6 +222,14 @@ impl<H: BuildHasher> Standing<H> {
                 }),
                 concerned: Concerned::None,
             }),
+            Told::Restart => {
+                self.tables.known();
+                let event = Event::restart(entry.moment);
+                let concerned = Concerned::All;
+                let hearing = Hearing { event, concerned };
+                let verdict = self.pass(entry.number, entry.moment, Some(&hearing))?;
+                Ok(Taken { verdict, concerned })
+            }
             Told::Heard { event, concerned } => {
                 let concerned = touch_each(&mut self.tables, concerned)?;
                 self.tables.known();
@@ -231,7 +243,7 @@ impl<H: BuildHasher> Standing<H> {
     /// The transactions with these numbers, or that there is none.
     fn text(&self, alloc: Global, numbers: Concerned<u32>) -> Result<String, AllocError>
         requires { All (IsGiven self.now.tables) (each numbers) }
-        ensures text { IfOk result (λ text. IsTextOf self.now.tables (each numbers) (string_bytes text)) }
+        ensures text { IfOk result (λ text. IsTextOf self.now.tables (listed (length self.now.tables.keys) numbers) (string_bytes text)) }
         ensures apart { OnOk result (AllPairs (λ a b. a ≢ b) self.now.tables.keys) }
     {
         self.tables.known();
@@ -243,6 +255,23 @@ impl<H: BuildHasher> Standing<H> {
                 self.push_one(alloc, &mut text, own)?;
                 self.push_one(alloc, &mut text, cancelled)?;
             }
+            Concerned::All => return self.text_of_all(alloc),
+        }
+        Ok(text)
+    }
+
+    /// All transactions in the order of their numbers, or that there is none.
+    fn text_of_all(&self, alloc: Global) -> Result<String, AllocError>
+        ensures { IfOk result (λ text. IsTextOf self.now.tables (up_to (length self.now.tables.keys)) (string_bytes text)) }
+    {
+        let mut text = String::new(alloc);
+        let count = self.tables.len();
+        if count == 0 {
+            text.push_str("no transaction\n")?;
+            return Ok(text);
+        }
+        for number in 1..=count {
+            self.push_one(alloc, &mut text, number)?;
         }
         Ok(text)
     }

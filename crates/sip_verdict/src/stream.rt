@@ -140,7 +140,7 @@ impl<H: BuildHasher + Drop> Judge<H> {
     /// How many messages it keeps.
     pub fn kept(&self) -> usize
         ensures kept { result ≡ length self.now.texts }
-        ensures few { (es : List (Observation KeyParts)) → StandsFor self.now es → AreFew (key_machines self.now.tables.times) key_messages es result }
+        ensures few { (es : List (Observation KeyParts)) → StandsFor self.now es → AreFew (key_machines self.now.tables.times) (key_messages self.now.tables.times) es result }
     {
         self.standing.kept()
     }

@@ -4,7 +4,7 @@ ghost use Rattle.sip_key.specs.Key.{KeyParts};
 ghost use Rattle.sip_machine.specs.Times.{last_moment};
 ghost use Rattle.sip_log.specs.Log.{most_entries};
 ghost use Rattle.sip_log.specs.Told.{item};
-ghost use Rattle.sip_verdict.specs.Keyed.{Observation};
+ghost use Rattle.sip_verdict.specs.Keyed.{Observation, newest_moment};
 ghost use Rattle.sip_verdict.specs.MessageReading.{message_reading, ConcernsNone};
 ghost use Rattle.sip_verdict.specs.Judging.{AreFollowed};
 ghost use Rattle.sip_verdict.specs.inner.Sweeping.{AreFollowedOn};
@@ -36,7 +36,7 @@ pub(crate) fn judge_next<H: BuildHasher>(
     ensures left { left.new ≤ most_entries + 1 }
     ensures keyless { OnOk result (ConcernsNone (item entry.now) → All (Contains standing.old.book) standing.new.book) }
     ensures judged { IfOk result (λ verdict. (es : List (Observation KeyParts)) → AreFollowed standing.old.book standing.old.tables left.old es
-        → entry.now.number ≡ length es + 1
+        → entry.now.number ≡ length es + 1 → newest_moment es ≤ entry.now.moment
         → (e : Observation KeyParts) × message_reading.Observes es (item entry.now) e
         × AreFollowedOn standing.new.book standing.new.tables left.new es e verdict) }
 {

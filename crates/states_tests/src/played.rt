@@ -103,7 +103,7 @@ pub(crate) fn take(
     ensures known { OnOk result (All (Knows (owing_names invite_server_names) book.now) set.new.states) }
 {
     let (moment, action, number) = entry;
-    if moment > 9_999_999_999_999 || action == Action::Mark {
+    if moment > 9_999_999_999_999 || matches!(action, Action::Mark | Action::Restart) {
         return Err("not an entry".into());
     }
     let Some(bytes) = book.bytes(number) else {

@@ -3,7 +3,7 @@ ghost use Rattle.std.specs.Prelude.{◌≡◌, ◌<◌, ◌+◌, length};
 ghost use Rattle.sip_states.specs.Tables.{IsGiven};
 
 use crate::keys::touch;
-use sip_machine::Params;
+use sip_machine::{Params, Rules};
 use sip_states::{AnySet, Tables};
 use std::alloc::Global;
 use std::hash::{BuildHasher, BuildHasherDefault, FoldHasher, Hasher};
@@ -39,18 +39,21 @@ impl BuildHasher for AllZero {
     }
 }
 
-/// The number of the key, and whether its set is of its machine.
+/// The number of the key, and whether its set is of its machine, by the rules of RFC 3261 if those are asked for.
 fn number_of<H: BuildHasher + Drop>(
     alloc: Global,
     tables: &mut Tables<H>,
+    rules: Rules,
     number: u32,
 ) -> Result<(u32, bool), Fail> {
     let given = touch(alloc, tables, number)??;
     let is_own = match tables.set(given) {
-        AnySet::InviteClient(_) => number % 4 == 0,
+        AnySet::InviteClient(_) => number % 4 == 0 && rules == Rules::R6026,
         AnySet::PlainClient(_) => number % 4 == 1,
-        AnySet::InviteServer(_) => number % 4 == 2,
+        AnySet::InviteServer(_) => number % 4 == 2 && rules == Rules::R6026,
         AnySet::PlainServer(_) => number % 4 == 3,
+        AnySet::InviteClient3261(_) => number % 4 == 0 && rules == Rules::R3261,
+        AnySet::InviteServer3261(_) => number % 4 == 2 && rules == Rules::R3261,
     };
     Ok((given, is_own))
 }
@@ -59,26 +62,28 @@ fn number_of<H: BuildHasher + Drop>(
 fn is_numbered<H: BuildHasher + Drop>(
     alloc: Global,
     tables: &mut Tables<H>,
+    rules: Rules,
     number: u32,
     count: u32,
 ) -> Result<bool, Fail> {
-    Ok(number_of(alloc, tables, number)? == (number, true) && tables.len() == count)
+    Ok(number_of(alloc, tables, rules, number)? == (number, true) && tables.len() == count)
 }
 
 /// 200 keys have numbers from 1 on, and each has its own when it comes again.
 fn numbers_200_keys<H: BuildHasher + Drop>(
     rt: &(impl Abort + AllocGlobal),
     tables: &mut Tables<H>,
+    rules: Rules,
 ) -> Result<(), Fail> {
     for number in 1..201 {
         assert!(rt;
-            is_numbered(rt.alloc(), tables, number, number)?,
+            is_numbered(rt.alloc(), tables, rules, number, number)?,
             "key {number}"
         );
     }
     for number in 1..201 {
         assert!(rt;
-            is_numbered(rt.alloc(), tables, number, 200)?,
+            is_numbered(rt.alloc(), tables, rules, number, 200)?,
             "key {number} again"
         );
     }
@@ -86,18 +91,31 @@ fn numbers_200_keys<H: BuildHasher + Drop>(
 }
 
 /// Empty tables with a hasher.
-fn tables_with<H: BuildHasher + Drop>(alloc: Global, hasher: H) -> Result<Tables<H>, Fail> {
+fn tables_with<H: BuildHasher + Drop>(
+    alloc: Global,
+    rules: Rules,
+    hasher: H,
+) -> Result<Tables<H>, Fail> {
     let params = Params::new(500, 4_000, 5_000, 50).ok_or("refused")?;
-    Ok(Tables::new(alloc, params, hasher))
+    Ok(Tables::new(alloc, params.with_rules(rules), hasher))
 }
 
 #[test]
 fn numbers_keys_by_a_hash(rt: HostRuntime) -> Result<(), Fail> {
     let hasher = BuildHasherDefault::<FoldHasher>::new();
-    numbers_200_keys(&rt, &mut tables_with(rt.alloc(), hasher)?)
+    let rules = Rules::R6026;
+    numbers_200_keys(&rt, &mut tables_with(rt.alloc(), rules, hasher)?, rules)
 }
 
 #[test]
 fn numbers_keys_that_hash_alike(rt: HostRuntime) -> Result<(), Fail> {
-    numbers_200_keys(&rt, &mut tables_with(rt.alloc(), AllZero)?)
+    let rules = Rules::R6026;
+    numbers_200_keys(&rt, &mut tables_with(rt.alloc(), rules, AllZero)?, rules)
+}
+
+#[test]
+fn keys_have_the_machines_of_their_rules(rt: HostRuntime) -> Result<(), Fail> {
+    let hasher = BuildHasherDefault::<FoldHasher>::new();
+    let rules = Rules::R3261;
+    numbers_200_keys(&rt, &mut tables_with(rt.alloc(), rules, hasher)?, rules)
 }

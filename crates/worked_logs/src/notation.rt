@@ -5,7 +5,8 @@
 //! an INVITE. `R 2..41 INVITE` stands at each moment from 2 to 41, and `R 10*31 INVITE` 31 times at 10. `M 6000` is a mark. Further words
 //! change the message: `#2` is the end of its branch, `branch=abc` the whole branch, `/TCP` the transport, `@b.example.com` the sent-by, `-CSeq` leaves that line out,
 //! `length=5` is its Content-Length and `SIP/1.0` its version. A word of the table of messages is that message, in which a word `a=>b`
-//! puts b in the place of the first a. In front of all there may be the tolerance, as `tolerance 10000:`.
+//! puts b in the place of the first a. `Z 100` is a restart. In front of all there may be the tolerance, as `tolerance 10000:`, or for a log of
+//! format 2 both, as `early 0 late 100:`; and behind them the rules, as `rules 3261:`.
 use std::alloc::{AllocError, Global};
 use std::fmt::Write;
 use std::test::Fail;
@@ -158,7 +159,7 @@ fn message_of<'a, 'b>(
     Ok(text)
 }
 
-/// Appends an entry. A mark has no message.
+/// Appends an entry. A mark and a restart have no message.
 fn push_entry(
     log: &mut String,
     letter: &str,
@@ -204,7 +205,7 @@ pub fn push(
         let (Some(letter), Some(moments)) = (words.next(), words.next()) else {
             continue;
         };
-        if letter == "M" {
+        if letter == "M" || letter == "Z" {
             push_entries(log, letter, moments, "")?;
         } else {
             let message = message_of(alloc, entry, messages)?;
@@ -214,7 +215,7 @@ pub fn push(
     Ok(())
 }
 
-/// The first two lines of a log: the times that RFC 3261 table 4 gives, and a tolerance in milliseconds.
+/// The first two lines of a log of format 1: the times that RFC 3261 table 4 gives, and a tolerance in milliseconds.
 pub fn header(alloc: Global, tolerance: &str) -> Result<String, AllocError> {
     let mut log = String::with_capacity(alloc, 16_384)?;
     write!(
@@ -224,13 +225,36 @@ pub fn header(alloc: Global, tolerance: &str) -> Result<String, AllocError> {
     Ok(log)
 }
 
+/// The first two lines of a log of format 2, with the words of both tolerances.
+fn header_2(alloc: Global, tolerances: &str) -> Result<String, AllocError> {
+    let mut log = String::with_capacity(alloc, 16_384)?;
+    write!(log, "sip-trace 2\nt1 500 t2 4000 t4 5000 {tolerances}\n")?;
+    Ok(log)
+}
+
+/// The header that the words in front of a notation say.
+fn header_of(alloc: Global, front: &str) -> Result<String, AllocError> {
+    let (tolerances, rules) = match front.split_once("rules ") {
+        Some((tolerances, rules)) => (tolerances.trim_end(), Some(rules)),
+        None => (front, None),
+    };
+    let mut log = if tolerances.starts_with("early ") {
+        header_2(alloc, tolerances)?
+    } else if let Some(tolerance) = tolerances.strip_prefix("tolerance ") {
+        header(alloc, tolerance)?
+    } else {
+        header(alloc, "50")?
+    };
+    if let Some(rules) = rules {
+        write!(log, "rules {rules}\n")?;
+    }
+    Ok(log)
+}
+
 /// The log of a notation with messages by name.
 pub fn log_with(alloc: Global, notation: &str, messages: Messages<'_>) -> Result<String, Fail> {
-    let (tolerance, entries) = match notation.split_once(": ") {
-        Some((front, entries)) => (front.trim_start_matches("tolerance "), entries),
-        None => ("50", notation),
-    };
-    let mut log = header(alloc, tolerance)?;
+    let (front, entries) = notation.split_once(": ").unwrap_or(("", notation));
+    let mut log = header_of(alloc, front)?;
     push(alloc, &mut log, entries, messages)?;
     Ok(log)
 }

@@ -1,51 +1,15 @@
-use Rattle.std.specs.Prelude.{◌≡◌, ◌⊎◌, ◌++◌, ℕ, List, [], ◌∷◌, codes}
-use Rattle.sip_times.specs.Times.{Times, AreTimes}
+use Rattle.std.specs.Prelude.{◌≡◌, ◌≢◌, ◌⊎◌, ◌++◌, ℕ, List, [], ◌∷◌, codes}
+use Rattle.sip_times.specs.Times.{Times, AreTimes, under}
+use Rattle.sip_times.specs.declared.rules.Rules.{Rules}
+use Rattle.sip_times.specs.declared.rules.Rules.TheVariants.{R6026}
+use Rattle.sip_log.specs.declared.format.Format.{Format}
+use Rattle.sip_log.specs.declared.format.Format.TheVariants.{One, Two}
 use Rattle.sip_log.specs.LogFault as faults
-use Rattle.sip_log.specs.Spelling.{line_feed, space}
+use Rattle.sip_log.specs.Spelling.{line_feed, space, RulesLine}
 use Rattle.sip_log.specs.Next.{Next, gives, stops}
 use Rattle.sip_log.specs.inner.Number.{IsNumber}
 
--- The first two lines of a log.
-
--- line 2: t1 N t2 N t4 N tolerance N
-pub record TimesLine (line : List ℕ) (p : Times) : Type 0 where
-  pub t1 : List ℕ
-  pub t2 : List ℕ
-  pub t4 : List ℕ
-  pub tolerance : List ℕ
-  pub t1_is : IsNumber t1 p.t1
-  pub t2_is : IsNumber t2 p.t2
-  pub t4_is : IsNumber t4 p.t4
-  pub tolerance_is : IsNumber tolerance p.tolerance
-  pub whole : line ≡ codes "t1 " ++ t1 ++ codes " t2 " ++ t2 ++ codes " t4 " ++ t4 ++ codes " tolerance " ++ tolerance
-
--- line 2 at the front, with times within their limits
-pub record TimesFront (rest : List ℕ) (p : Times) (behind : List ℕ) : Type 0 where
-  pub line : List ℕ
-  pub times : TimesLine line p
-  pub within : AreTimes p
-  pub whole : rest ≡ line ++ line_feed ∷ behind
-
--- an input begins with the header of these times: sip-trace 1, LF, line 2, LF
-pub record Header (input : List ℕ) (p : Times) (behind : List ℕ) : Type 0 where
-  pub rest : List ℕ
-  pub title : input ≡ codes "sip-trace 1" ++ line_feed ∷ rest
-  pub times : TimesFront rest p behind
-
--- no header stands at the front of an input
-abbrev pub NoFront : List ℕ → Type 0
-NoFront input = (p : Times) (behind : List ℕ) → ¬ (Header input p behind)
-
--- what comes first in an input: its header, and else the reason is Header
-abbrev pub HeaderComes : List ℕ → Next Times → Type 0
-HeaderComes input next =
-    ((p : Times) × (behind : List ℕ) × Header input p behind × (next ≡ gives p behind)) ⊎ (NoFront input × (next ≡ stops faults.Header))
-
--- what comes behind line 1: line 2, and else the reason is Header
-abbrev pub ComesSecond : List ℕ → Next Times → Type 0
-ComesSecond rest next =
-    ((p : Times) × (behind : List ℕ) × TimesFront rest p behind × (next ≡ gives p behind))
-    ⊎ (((p : Times) (behind : List ℕ) → ¬ (TimesFront rest p behind)) × (next ≡ stops faults.Header))
+-- The lines of a header, one after another.
 
 -- nothing, or a blank and more
 abbrev pub Parted : List ℕ → Type 0
@@ -57,3 +21,47 @@ pub record NumberAfter (word text : List ℕ) (n : ℕ) (behind : List ℕ) : Ty
   pub number_is : IsNumber number n
   pub parted : Parted behind
   pub whole : text ≡ word ++ (number ++ behind)
+
+-- the end of line 2: tolerance N, or in format 2 early N late N
+abbrev pub Tolerances : Format → List ℕ → ℕ → ℕ → Type 0
+Tolerances One text early late = NumberAfter (codes " tolerance ") text late [] × (early ≡ late)
+Tolerances Two text early late = (rest : List ℕ) × NumberAfter (codes " early ") text early rest × NumberAfter (codes " late ") rest late []
+
+-- line 2: t1 N t2 N t4 N, and the tolerances; the rules are those of RFC 6026 until a line says others
+pub record TimesLine (format : Format) (line : List ℕ) (p : Times) : Type 0 where
+  pub rest1 : List ℕ
+  pub rest2 : List ℕ
+  pub rest3 : List ℕ
+  pub t1_is : NumberAfter (codes "t1 ") line p.t1 rest1
+  pub t2_is : NumberAfter (codes " t2 ") rest1 p.t2 rest2
+  pub t4_is : NumberAfter (codes " t4 ") rest2 p.t4 rest3
+  pub tolerances : Tolerances format rest3 p.early p.late
+  pub rules : p.rules ≡ R6026
+
+-- line 2 at the front, with times within their limits
+pub record TimesFront (format : Format) (rest : List ℕ) (p : Times) (behind : List ℕ) : Type 0 where
+  pub line : List ℕ
+  pub times : TimesLine format line p
+  pub within : AreTimes p
+  pub whole : rest ≡ line ++ line_feed ∷ behind
+
+-- line 1
+abbrev pub title_text : Format → List ℕ
+title_text One = codes "sip-trace 1\n"
+title_text Two = codes "sip-trace 2\n"
+
+-- what comes behind line 2: the rules, and the rest behind them
+abbrev pub ComesThird : Format → Times → List ℕ → Next (Format × Times) → Type 0
+ComesThird format p rest next = (rules : Rules) × (behind : List ℕ) × RulesLine rules rest behind × (next ≡ gives (format, under rules p) behind)
+
+-- what comes behind line 1: line 2, and else the reason is Header
+abbrev pub ComesSecond : Format → List ℕ → Next (Format × Times) → Type 0
+ComesSecond format rest next =
+    ((p : Times) × (behind : List ℕ) × TimesFront format rest p behind × ComesThird format p behind next)
+    ⊎ (((p : Times) (behind : List ℕ) → ¬ (TimesFront format rest p behind)) × (next ≡ stops faults.Header))
+
+-- what comes first in an input: line 1, and else the reason is Header
+abbrev pub HeaderComes : List ℕ → Next (Format × Times) → Type 0
+HeaderComes input next =
+    ((format : Format) × (rest : List ℕ) × (input ≡ title_text format ++ rest) × ComesSecond format rest next)
+    ⊎ (((format : Format) (rest : List ℕ) → input ≢ title_text format ++ rest) × (next ≡ stops faults.Header))

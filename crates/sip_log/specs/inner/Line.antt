@@ -1,18 +1,19 @@
-use Rattle.std.specs.Prelude.{◌≡◌, ◌≢◌, ◌≤◌, ◌++◌, ℕ, List, ◌∷◌}
+use Rattle.std.specs.Prelude.{◌≡◌, ◌≤◌, ◌++◌, ℕ, List, ◌∷◌}
 use Rattle.sip_times.specs.declared.action.Action.{Action}
-use Rattle.sip_times.specs.declared.action.Action.TheVariants.{Mark}
 use Rattle.sip_times.specs.Times.{last_moment}
 use Rattle.sip_log.specs.declared.line.Head.{Head as CodeHead}
 use Rattle.sip_log.specs.declared.line.Head.TheVariants as code
-use Rattle.sip_log.specs.Spelling.{space, letter}
+use Rattle.sip_log.specs.declared.format.Format.{Format}
+use Rattle.sip_log.specs.Spelling.{space, letter, HasMessage}
+use Rattle.sip_log.specs.Log.{IsOf}
 use Rattle.sip_log.specs.inner.Number.{IsNumber, cut}
 
 -- The line at which an entry begins.
 
--- what an entry's line tells: of a message what was done with it, its moment and its length, of a mark its moment
+-- what an entry's line tells: of a message what was done with it, its moment and its length; of an entry without one what was done, and its moment
 pub data Head : Type 0 where
   message : Action → ℕ → ℕ → Head
-  mark : ℕ → Head
+  plain : Action → ℕ → Head
 
 -- the numbers of a message's line: its moment, SP, its length
 pub record Numbers (text : List ℕ) (moment len : ℕ) : Type 0 where
@@ -22,21 +23,22 @@ pub record Numbers (text : List ℕ) (moment len : ℕ) : Type 0 where
   pub len_is : IsNumber len_text len
   pub whole : text ≡ moment_text ++ space ∷ len_text
 
--- an entry's line: S, R or F, SP, moment, SP, length; or M, SP, moment
-abbrev pub HeadLine : List ℕ → Head → Type 0
-HeadLine line (message action moment len) =
-    (text : List ℕ) × (action ≢ Mark) × Numbers text moment len × (line ≡ letter action ∷ space ∷ text)
-HeadLine line (mark moment) = (text : List ℕ) × IsNumber text moment × (line ≡ letter Mark ∷ space ∷ text)
+-- an entry's line: S, R or F, SP, moment, SP, length; or M, in format 2 also Z, SP, moment
+abbrev pub HeadLine : Format → List ℕ → Head → Type 0
+HeadLine format line (message action moment len) =
+    (text : List ℕ) × HasMessage action × Numbers text moment len × (line ≡ letter action ∷ space ∷ text)
+HeadLine format line (plain action moment) =
+    (text : List ℕ) × ¬ (HasMessage action) × IsOf format action × IsNumber text moment × (line ≡ letter action ∷ space ∷ text)
 
 -- the moment of an entry
 abbrev pub moment_of : Head → ℕ
 moment_of (message action moment len) = moment
-moment_of (mark moment) = moment
+moment_of (plain action moment) = moment
 
 -- moments are at most 9,999,999,999,999, and a message has 1 to 65,535 bytes
 abbrev pub KeepsLimits : Head → Type 0
 KeepsLimits (message action moment len) = (moment ≤ last_moment) × (1 ≤ len) × (len ≤ 65535)
-KeepsLimits (mark moment) = moment ≤ last_moment
+KeepsLimits (plain action moment) = moment ≤ last_moment
 
 -- the most bytes of an entry's line with its LF
 abbrev pub longest_line : ℕ
@@ -45,9 +47,9 @@ longest_line = 32
 -- what the code keeps of a line: its numbers as it keeps them
 abbrev pub cut_head : Head → CodeHead
 cut_head (message action moment len) = code.Message action (cut moment) (cut len)
-cut_head (mark moment) = code.Mark (cut moment)
+cut_head (plain action moment) = code.Plain action (cut moment)
 
 -- what the code's numbers tell, read as they stand
 abbrev pub head_of : CodeHead → Head
 head_of (code.Message action moment len) = message action moment len
-head_of (code.Mark moment) = mark moment
+head_of (code.Plain action moment) = plain action moment

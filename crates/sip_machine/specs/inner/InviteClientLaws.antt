@@ -1,4 +1,4 @@
-use Rattle.std.specs.Prelude.{◌≡◌, ◌≤◌, ◌*◌, ℕ, Bool, true, false, None, Some, [], ◌++◌, All, Contains, map, if◌then◌else◌}
+use Rattle.std.specs.Prelude.{◌≡◌, ◌≢◌, ◌⊎◌, ◌≤◌, ◌*◌, ℕ, Bool, true, false, None, Some, [], ◌++◌, All, Contains, map, if◌then◌else◌}
 use Rattle.std.proofs.Common.{refl, ap, inl, inr, arith}
 use Rattle.std.proofs.lemmas.Bool.Decides.{nat_tests}
 use Rattle.std.proofs.lemmas.List.Elements.{All-nil}
@@ -13,10 +13,11 @@ use Rattle.sip_machine.specs.Limits.{open_at, close_at, window_at}
 use Rattle.sip_machine.specs.Texts.{Texts, IsBook, text_of}
 use Rattle.sip_machine.specs.MachineEvent.{MachineEvent}
 use Rattle.sip_machine.specs.Rules.{Knows}
-use Rattle.sip_machine.specs.Figure.{IsFigure, After, closes_of}
-use Rattle.sip_machine.specs.InviteClient.{InviteClientPhase, Idle, Calling, Proceeding, Completed, Receives, Sends, closes, timer_window, invite_client, invite_client_seen, invite_client_names, invite_client_coded, invite_client_told}
+use Rattle.sip_machine.specs.Figure.{IsFigure, After, drops, closes_of}
+use Rattle.sip_machine.specs.InviteClient.{InviteClientPhase, Idle, Ended, Calling, Proceeding, Accepted, Completed, Receives, Sends, closes, timer_window, invite_client, invite_client_seen, invite_client_names, invite_client_coded, invite_client_told}
 use Rattle.sip_machine.specs.Told.{messages_told}
 use Rattle.sip_machine.specs.inner.Coded.{IsCoded}
+use Rattle.sip_machine.specs.inner.FigureLaws.{keeps_them}
 use Rattle.sip_machine.specs.inner.MessageLaws.{option_exact, message_apart}
 use Rattle.sip_machine.specs.inner.WaitingLaws.{waiting_exact, waiting_apart, waiting_by_names, timer_starts, repeat_starts, patience_lasts}
 
@@ -71,7 +72,7 @@ invite_client_closes_same a b p code.Idle = refl
 invite_client_closes_same a b p x = refl
 
 -- timer D, where it has to fire, is not past as it starts
-timer_d_starts : (p : Times) (reliable : Bool) (t : ℕ) → All (λ m. t ≤ m) (closes_of (if reliable then window_at p t 0 else Some (open_at p t 32000, None)) ++ [])
+pub timer_d_starts : (p : Times) (reliable : Bool) (t : ℕ) → All (λ m. t ≤ m) (closes_of (if reliable then window_at p t 0 else Some (open_at p t 32000, None)) ++ [])
 timer_d_starts p true t = timer_starts p t 0
 timer_d_starts p false t = All-nil (λ m. t ≤ m)
 
@@ -97,6 +98,20 @@ sent p (Proceeding reliable request None) (Request Cancel) e y running h = rw h 
 sent p x (Request Cancel) e y running h = rw h running
 sent p x k e y running h = absurd h
 
+-- a row that is sent does not drop the debts
+leaves : (p : Times) (x : InviteClientPhase) (k : Kind) (e : MachineEvent) (y : After InviteClientPhase) → Sends p x k e y → (y.1 ≡ drops) ⊎ ⊥ → y.0 ≢ x
+leaves p Idle (Request Invite) e y h (inl drop) = absurd (keeps_them h drop)
+leaves p Idle (Request Ack) e y h (inl drop) = absurd (keeps_them h drop)
+leaves p Idle (Request Cancel) e y h (inl drop) = absurd (keeps_them h drop)
+leaves p (Calling w) (Request Invite) e y h (inl drop) = absurd (keeps_them h.1 drop)
+leaves p (Proceeding reliable request None) (Request Cancel) e y h (inl drop) = absurd (keeps_them h drop)
+leaves p (Proceeding reliable request (Some first)) (Request Cancel) e y h (inl drop) = absurd (keeps_them h drop)
+leaves p (Accepted set) (Request Cancel) e y h (inl drop) = absurd (keeps_them h drop)
+leaves p (Completed reliable request set) (Request Cancel) e y h (inl drop) = absurd (keeps_them h drop)
+leaves p Ended (Request Cancel) e y h (inl drop) = absurd (keeps_them h drop)
+leaves p x k e y h (inl drop) = absurd h
+leaves p x k e y h (inr stays) = absurd stays
+
 pub invite_client_is_figure : IsFigure invite_client
 invite_client_is_figure =
     record {
@@ -106,6 +121,8 @@ invite_client_is_figure =
       ended_stays = λ p. refl;
       received_waits = received;
       sent_waits = sent;
+      sent_leaves = leaves;
+      stays_unpaid = λ x k e message stays. absurd stays;
     }
 
 -- what a phase names is what its words tell

@@ -1,4 +1,4 @@
-use Rattle.std.specs.Prelude.{◌≡◌, ◌≤◌, ◌*◌, ℕ, true, All, Contains, map, min, if◌then◌else◌}
+use Rattle.std.specs.Prelude.{◌≡◌, ◌≢◌, ◌⊎◌, ◌≤◌, ◌*◌, ℕ, true, All, Contains, map, min, if◌then◌else◌}
 use Rattle.std.proofs.Common.{refl, ap, inl, inr, arith}
 use Rattle.std.proofs.lemmas.Bool.Decides.{nat_tests}
 use Rattle.sip_machine.specs.declared.event.Kind.{Kind}
@@ -11,10 +11,11 @@ use Rattle.sip_machine.specs.Limits.{close_at}
 use Rattle.sip_machine.specs.Texts.{Texts, IsBook, text_of}
 use Rattle.sip_machine.specs.MachineEvent.{MachineEvent}
 use Rattle.sip_machine.specs.Rules.{Knows}
-use Rattle.sip_machine.specs.Figure.{IsFigure, After}
+use Rattle.sip_machine.specs.Figure.{IsFigure, After, drops}
 use Rattle.sip_machine.specs.PlainClient.{PlainClientPhase, Idle, Trying, Proceeding, Receives, Sends, closes, timer_window, plain_client, plain_client_seen, plain_client_names, plain_client_coded, plain_client_told}
 use Rattle.sip_machine.specs.Told.{messages_told}
 use Rattle.sip_machine.specs.inner.Coded.{IsCoded}
+use Rattle.sip_machine.specs.inner.FigureLaws.{keeps_them}
 use Rattle.sip_machine.specs.inner.WaitingLaws.{waiting_exact, waiting_apart, waiting_by_names, timer_starts, repeat_starts, patience_lasts}
 
 -- Laws of the non-INVITE client's phases.
@@ -74,6 +75,14 @@ sent p (Proceeding w) (Request method) e y running h =
     rw h.1 (repeat_starts p e.moment (close_at p w.start (64 * p.t1)) p.t2 w.reliable (patience_lasts p w e.moment (64 * p.t1) running))
 sent p x k e y running h = absurd h
 
+-- a row that is sent does not drop the debts
+leaves : (p : Times) (x : PlainClientPhase) (k : Kind) (e : MachineEvent) (y : After PlainClientPhase) → Sends p x k e y → (y.1 ≡ drops) ⊎ ⊥ → y.0 ≢ x
+leaves p Idle (Request method) e y h (inl drop) = absurd (keeps_them h drop)
+leaves p (Trying w) (Request method) e y h (inl drop) = absurd (keeps_them h.1 drop)
+leaves p (Proceeding w) (Request method) e y h (inl drop) = absurd (keeps_them h.1 drop)
+leaves p x k e y h (inl drop) = absurd h
+leaves p x k e y h (inr stays) = absurd stays
+
 pub plain_client_is_figure : IsFigure plain_client
 plain_client_is_figure =
     record {
@@ -83,6 +92,8 @@ plain_client_is_figure =
       ended_stays = λ p. refl;
       received_waits = received;
       sent_waits = sent;
+      sent_leaves = leaves;
+      stays_unpaid = λ x k e message stays. absurd stays;
     }
 
 -- what a phase names is what its words tell

@@ -1,7 +1,6 @@
-use Rattle.std.specs.Prelude.{◌≡◌, ◌≢◌, ◌<◌, ◌+◌, ◌-◌, ℕ, Option, None, Some, List, All, filter, flat_map, get_or, length, map, remove, replicate}
+use Rattle.std.specs.Prelude.{◌≡◌, ◌≢◌, ◌<◌, ◌+◌, ◌-◌, ℕ, List, All, filter, flat_map, get_or, length, map, replicate}
 use Rattle.sip_machine.specs.declared.outbox.Debt.{Debt}
 use Rattle.sip_machine.specs.declared.outbox.Run.{Run}
-use Rattle.sip_machine.specs.Debts.{IsWithoutFirst}
 
 -- The debts of the code in runs of equal ones.
 
@@ -30,8 +29,3 @@ pub record EndsWith (runs : List Run) (debt : Debt) : Type 0 where
 -- the deadlines of runs of debts that have to be paid
 abbrev pub run_deadlines : List Run → List ℕ
 run_deadlines runs = map (λ run. run.debt.deadline) (filter (λ run. run.debt.must) runs)
-
--- the index of the first debt of which P holds, none if it holds of none
-abbrev pub FindsFirst : (Debt → Type 0) → List Debt → Option ℕ → Type 0
-FindsFirst P debts None = All (λ debt. ¬ (P debt)) debts
-FindsFirst P debts (Some i) = (i < length debts) × IsWithoutFirst P debts (remove debts i)

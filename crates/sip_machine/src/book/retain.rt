@@ -1,5 +1,5 @@
 //! What forgets messages: places move, and messages go.
-ghost use Rattle.std.specs.Prelude.{◌≡◌, ◌<◌, ◌≤◌, length, take, IsTrue, All, AllPairs, Contains};
+ghost use Rattle.std.specs.Prelude.{◌≡◌, ◌<◌, ◌≤◌, length, take, All, AllPairs};
 ghost use Rattle.std.specs.List.{filter_map};
 ghost use Rattle.sip_machine.specs.inner.Retain.{number_at, moved, merged};
 ghost use Rattle.sip_machine.specs.inner.Order.{texts_of, places_of, most_places, IsLed};
@@ -26,13 +26,6 @@ fn moved(kept: &[Kept], place: Place, numbers: &[u32]) -> Option<Place>
         Ok(position) => Some(Place { position, ..place }),
         Err(_) => None,
     }
-}
-
-/// Whether the number is one of these, which rise.
-pub(super) fn is_among(numbers: &[u32], number: u32) -> bool
-    ensures { IsTrue result → Contains numbers.now number }
-{
-    numbers.binary_search(&number).is_ok()
 }
 
 /// Moves the places of the messages with these numbers, and forgets the others.

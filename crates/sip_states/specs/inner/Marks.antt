@@ -1,5 +1,6 @@
 use Rattle.std.specs.Prelude.{◌≡◌, ◌<◌, ◌≤◌, ℕ, Bool, true, false, Some, List, [], map, length, nat_lt, get_or, set, slice_get}
 use Rattle.sip_states.specs.declared.any_set.AnySet.{AnySet}
+use Rattle.sip_states.specs.AnySet.{IsQuietSet}
 use Rattle.sip_states.specs.Sweep.{numbers_of}
 
 -- Which indices are marked: they stand first in a list of all of them, and each knows its place there.
@@ -26,6 +27,15 @@ exchanged_places order places p q = set (set places (get_or order p 0) q) (get_o
 abbrev pub IsMarked : List Bool → ℕ → Type 0
 IsMarked marks index = slice_get marks index ≡ Some true
 
+-- P holds of each set whose index is not marked
+abbrev pub ElseHolds : (AnySet → Type 0) → List Bool → List AnySet → Type 0
+ElseHolds P marks sets = (index : ℕ) (set : AnySet) → slice_get sets index ≡ Some set → slice_get marks index ≡ Some false → P set
+
 -- sets whose indices are not marked name no message
 abbrev pub AreMarked : List Bool → List AnySet → Type 0
-AreMarked marks sets = (index : ℕ) (set : AnySet) → slice_get sets index ≡ Some set → slice_get marks index ≡ Some false → numbers_of set ≡ []
+AreMarked marks sets = ElseHolds (λ set. numbers_of set ≡ []) marks sets
+
+-- and those whose indices are not marked are quiet; what is marked as one that may name a message is marked here too
+pub record AreMoved (moved marks : List Bool) (sets : List AnySet) : Type 0 where
+  pub quiet : ElseHolds IsQuietSet moved sets
+  pub within : (index : ℕ) → IsMarked marks index → IsMarked moved index

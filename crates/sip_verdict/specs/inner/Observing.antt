@@ -1,4 +1,4 @@
-use Rattle.std.specs.Prelude.{◌≡◌, ◌≢◌, ◌⊎◌, ◌++◌, ◌∷◌, [], ℕ, true, false, None, AllPairs, Result, Ok, Err, ⊤}
+use Rattle.std.specs.Prelude.{◌≡◌, ◌≢◌, ◌⊎◌, ◌++◌, ◌∷◌, [], ℕ, true, false, List, None, AllPairs, Result, Ok, Err, ⊤}
 use Rattle.sip_machine.specs.Texts.{Texts, Keeps, text_of}
 use Rattle.sip_machine.specs.MachineEvent.{event_in, FitsBook}
 use Rattle.sip_message.specs.Says.{Said}
@@ -10,38 +10,58 @@ use Rattle.sip_key.specs.declared.concern.KeyError.TheVariants as error
 use Rattle.sip_log.specs.declared.entry.Entry.{Entry}
 use Rattle.sip_log.specs.Spelling.{Item}
 use Rattle.sip_log.specs.Told.{item}
+use Rattle.sip_times.specs.declared.action.Action.{Action}
+use Rattle.sip_times.specs.declared.action.Action.TheVariants as action
 use Rattle.sip_verdict.specs.declared.concerned.Concerned.{Concerned}
 use Rattle.sip_verdict.specs.declared.observing.Told.{Told}
-use Rattle.sip_verdict.specs.declared.observing.Told.TheVariants.{Unheard, Fault, Heard}
+use Rattle.sip_verdict.specs.declared.observing.Told.TheVariants.{Unheard, Fault, Restart, Heard}
 use Rattle.sip_verdict.specs.Keyed.{Observation}
+use Rattle.sip_verdict.specs.VerdictOf.{keys_in}
 use Rattle.sip_verdict.specs.Listing.{has_message}
-use Rattle.sip_verdict.specs.MessageReading.{fault_observation, ConcernsNone}
-use Rattle.sip_verdict.specs.inner.Concerned.{each}
+use Rattle.sip_verdict.specs.MessageReading.{fault_observation, silent_observation, ConcernsNone}
+use Rattle.sip_verdict.specs.inner.Concerned.{each, is_all}
 
 -- What the judge is told of an entry.
 
--- the keys of the transactions that a message concerns, which differ, or that it lacks the cookie; of memory nothing is said
+-- the keys of the transactions that a message concerns, which differ and are told one by one, or that it lacks the cookie; of memory nothing is said
 abbrev pub AreKeysOf : Said → Direction → Result (Concerned KeyParts) KeyError → Type 0
-AreKeysOf s direction (Ok concerned) = (lacks_cookie s direction ≡ false) × Concerns s direction (each concerned) × AllPairs (λ a b. a ≢ b) (each concerned)
+AreKeysOf s direction (Ok concerned) = (lacks_cookie s direction ≡ false) × Concerns s direction (each concerned) × AllPairs (λ a b. a ≢ b) (each concerned) × (is_all concerned ≡ false)
 AreKeysOf s direction (Err error.NoCookie) = lacks_cookie s direction ≡ true
 AreKeysOf s direction (Err error.Memory) = ⊤
 
--- what is observed of an entry of which this is told, beside the texts of a book: of one that is not heard, its moment
-abbrev pub IsObserved : Texts → Item → Told → Observation KeyParts → Type 0
-IsObserved texts i Unheard e = (e.fault ≡ None) × (e.event.moment ≡ i.moment) × (e.keys ≡ [])
-IsObserved texts i (Fault fault) e = e ≡ fault_observation i fault
-IsObserved texts i (Heard event concerned) e = e ≡ record { fault = None; event = event_in texts event; keys = each concerned }
+-- a mark tells its moment and concerns no key
+abbrev pub mark_observation : ℕ → Observation KeyParts
+mark_observation moment = silent_observation action.Mark moment []
+
+-- a restart concerns each of these keys
+abbrev pub restart_observation : ℕ → List KeyParts → Observation KeyParts
+restart_observation moment keys = silent_observation action.Restart moment keys
+
+-- what is told of an entry without a message
+abbrev pub silent_told : Action → Told
+silent_told action.Restart = Restart
+silent_told a = Unheard
+
+-- what is observed of an entry behind others of which this is told, beside the texts of a book: of one that is not heard, its moment
+abbrev pub IsObserved : Texts → List (Observation KeyParts) → Item → Told → Observation KeyParts → Type 0
+IsObserved texts es i Unheard e = (e.fault ≡ None) × (e.event.moment ≡ i.moment) × (e.keys ≡ [])
+IsObserved texts es i (Fault fault) e = e ≡ fault_observation i fault
+IsObserved texts es i Restart e = e ≡ restart_observation i.moment (keys_in es)
+IsObserved texts es i (Heard event concerned) e = e ≡ record { fault = None; event = event_in texts event; keys = each concerned }
 
 -- an event that is told is of this moment, the book keeps its message, and its keys differ
 abbrev pub IsHeard : Texts → ℕ → Told → Type 0
 IsHeard texts moment Unheard = ⊤
 IsHeard texts moment (Fault fault) = ⊤
-IsHeard texts moment (Heard event concerned) = FitsBook texts event × (event.moment ≡ moment) × AllPairs (λ a b. a ≢ b) (each concerned)
+IsHeard texts moment Restart = ⊤
+IsHeard texts moment (Heard event concerned) =
+    FitsBook texts event × (event.moment ≡ moment) × AllPairs (λ a b. a ≢ b) (each concerned) × (is_all concerned ≡ false)
 
 -- the book keeps the entry's message if it is heard, which concerns some key, under the event's number, and nothing else is kept or lost
 abbrev pub IsKept : Texts → Texts → Entry → Told → Type 0
 IsKept old new entry Unheard = new ≡ old
 IsKept old new entry (Fault fault) = new ≡ old
+IsKept old new entry Restart = (new ≡ old) × ConcernsNone (item entry)
 IsKept old new entry (Heard event concerned) =
     (has_message entry.action ≡ true) × ¬ ConcernsNone (item entry) × Keeps new event.number × (text_of new event.number ≡ entry.bytes.items)
     × ((new ≡ old) ⊎ (new ≡ old ++ (entry.number, entry.bytes.items) ∷ []))

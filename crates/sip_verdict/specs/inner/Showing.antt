@@ -1,7 +1,6 @@
-use Rattle.std.specs.Prelude.{◌≡◌, ◌≢◌, ℕ, Bool, true, List, Option, Some, None, Result, Ok, Err, ⊤}
+use Rattle.std.specs.Prelude.{◌≡◌, ℕ, Bool, true, List, Option, Some, None, Result, Ok, Err, ⊤}
 use Rattle.std.specs.Io.KnownBytes.{Appends}
 use Rattle.sip_times.specs.declared.action.Action.{Action}
-use Rattle.sip_times.specs.declared.action.Action.TheVariants.{Mark}
 use Rattle.sip_log.specs.Spelling.{Item}
 use Rattle.sip_message.specs.declared.fault.Fault.{Fault}
 use Rattle.sip_message.specs.declared.fault.ReadError.{ReadError}
@@ -11,6 +10,7 @@ use Rattle.sip_verdict.specs.declared.judge_error.JudgeError.{JudgeError}
 use Rattle.sip_verdict.specs.declared.judge_error.JudgeError.TheVariants as judging
 use Rattle.sip_verdict.specs.declared.show_error.ShowError.{ShowError}
 use Rattle.sip_verdict.specs.declared.show_error.ShowError.TheVariants.{Read, Write, Memory}
+use Rattle.sip_verdict.specs.Listing.{has_message}
 use Rattle.sip_verdict.specs.Showing.{IsCanonOf, shown_entry}
 
 -- How a log is shown, piece by piece.
@@ -25,14 +25,14 @@ abbrev pub IsFaulty : List ℕ → ReadError → Type 0
 IsFaulty bytes (message.Fault fault) = FaultOf bytes (Some fault)
 IsFaulty bytes message.Memory = ⊤
 
--- and why an entry has none: a mark always has one
+-- and why an entry has none: one without a message always has one
 abbrev pub HasNoForm : Action → List ℕ → ReadError → Type 0
-HasNoForm action bytes error = (action ≢ Mark) × IsFaulty bytes error
+HasNoForm action bytes error = (has_message action ≡ true) × IsFaulty bytes error
 
 -- an entry was written as it is shown; or its message has a fault, and nothing was written
 abbrev pub ShowsEntry : ℕ → Item → Option (List ℕ) → Option (List ℕ) → Bool → Bool → Result (Option Fault) ShowError → Type 0
 ShowsEntry number e old new before after (Ok None) = (form : List ℕ) × IsCanonOf e.action e.text form × Appends old new (shown_entry number e form) × (after ≡ before)
-ShowsEntry number e old new before after (Ok (Some fault)) = (e.action ≢ Mark) × FaultOf e.text (Some fault) × (new ≡ old) × (after ≡ before)
+ShowsEntry number e old new before after (Ok (Some fault)) = (has_message e.action ≡ true) × FaultOf e.text (Some fault) × (new ≡ old) × (after ≡ before)
 ShowsEntry number e old new before after (Err Read) = ⊥
 ShowsEntry number e old new before after (Err Write) = after ≡ true
 ShowsEntry number e old new before after (Err Memory) = ⊤

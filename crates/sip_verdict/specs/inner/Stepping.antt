@@ -10,10 +10,10 @@ use Rattle.sip_verdict.specs.inner.Leads.{Leads}
 
 -- What an event leaves of the runs of one machine.
 
--- a set of this machine leads to where the runs over the events stand
-pub record LeadsTo {M X S : Type 0} (names : S → List ℕ) (seen : Texts → S → X) (rules : M → Rules X) (texts : Texts) (machine : M) (set : Held M S) (events : List MachineEvent) : Type 0 where
+-- a set of this machine leads, from a moment on, to where the runs over the events stand
+pub record LeadsTo {M X S : Type 0} (names : S → List ℕ) (seen : Texts → S → X) (rules : M → Rules X) (texts : Texts) (machine : M) (set : Held M S) (events : List MachineEvent) (from : ℕ) : Type 0 where
   pub machine_is : set.machine ≡ machine
-  pub leads : Leads names seen texts (rules machine) events set.moment set.states
+  pub leads : Leads names seen texts (rules machine) events from set.moment set.states
 
 -- there is a run over the events that stands at the moment
 abbrev pub RunsUntil : {X : Type 0} → Rules X → List MachineEvent → ℕ → Type 0

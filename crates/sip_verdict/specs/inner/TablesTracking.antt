@@ -1,4 +1,4 @@
-use Rattle.std.specs.Prelude.{◌≡◌, ◌≢◌, ◌≤◌, ◌<◌, ◌+◌, ◌-◌, [], ◌∷◌, ℕ, nat_eq, Bool, true, Option, Some, None, List, All, AllPairs, IfSome, length, slice_get, ⊤}
+use Rattle.std.specs.Prelude.{◌≡◌, ◌≢◌, ◌||◌, ◌≤◌, ◌<◌, ◌+◌, ◌-◌, [], ◌∷◌, ℕ, nat_eq, Bool, true, false, Option, Some, None, List, All, AllPairs, IfSome, length, slice_get, ⊤}
 use Rattle.std.specs.List.{zip, list_any}
 use Rattle.sip_key.specs.Key.{KeyParts}
 use Rattle.sip_machine.specs.Times.{Times}
@@ -10,9 +10,11 @@ use Rattle.sip_states.specs.Runs.{AfterRun}
 use Rattle.sip_states.specs.Held.{Held}
 use Rattle.sip_states.specs.KeyMachine.{MachineKind, key_rules, machine_of_key, StateOf, set_of}
 use Rattle.sip_states.specs.Meaning.{Meaning}
-use Rattle.sip_states.specs.AnySet.{meaning_of, moment_of, IsKnownSet, IsAgendaOf}
+use Rattle.sip_states.specs.AnySet.{meaning_of, moment_of, IsKnownSet, IsQuietSet, IsAgendaOf}
 use Rattle.sip_states.specs.Tables.{Tabled, IsGiven, Touches, with_set, with_record}
 use Rattle.sip_states.specs.declared.any_set.AnySet.{AnySet}
+use Rattle.sip_times.specs.declared.action.Action.TheVariants.{Restart}
+use Rattle.sip_verdict.specs.declared.concerned.Concerned.{Concerned}
 use Rattle.sip_verdict.specs.declared.passing.Hearing.{Hearing}
 use Rattle.sip_verdict.specs.declared.passing.Fate.{Fate}
 use Rattle.sip_verdict.specs.declared.passing.Fate.TheVariants.{Runs, NoRun, TooWide}
@@ -22,17 +24,17 @@ use Rattle.sip_verdict.specs.Keyed.{Observation, concerns}
 use Rattle.sip_verdict.specs.MessageReading.{key_machines}
 use Rattle.sip_verdict.specs.inner.Stepping.{LeadsTo, IsStepped}
 use Rattle.sip_verdict.specs.inner.Tracking.{Keeping, Tracks, TracksBefore, outcome_of, first_of}
-use Rattle.sip_verdict.specs.inner.Concerned.{each}
+use Rattle.sip_verdict.specs.inner.Concerned.{each, is_all}
 
 -- What is kept of the transactions of a log: the set of each key, by the machine of the key.
 
--- a set leads, with these times, to where the runs over the events stand
-abbrev pub LeadsBy : {X S : Type 0} → Meaning X Times S → Texts → Times → List MachineEvent → Held Times S → Type 0
-LeadsBy m texts p events s = LeadsTo m.names m.seen m.rules texts p s events
+-- a set leads, with these times and from a moment on, to where the runs over the events stand
+abbrev pub LeadsBy : {X S : Type 0} → Meaning X Times S → Texts → Times → List MachineEvent → ℕ → Held Times S → Type 0
+LeadsBy m texts p events from s = LeadsTo m.names m.seen m.rules texts p s events from
 
 -- the set is one of this machine, and leads to them
-abbrev pub LeadsOf : Texts → Times → MachineKind → List MachineEvent → AnySet → Type 0
-LeadsOf texts p machine events set = (s : Held Times (StateOf machine)) × (set ≡ set_of machine s) × LeadsBy (meaning_of machine) texts p events s
+abbrev pub LeadsOf : Texts → Times → MachineKind → List MachineEvent → ℕ → AnySet → Type 0
+LeadsOf texts p machine events from set = (s : Held Times (StateOf machine)) × (set ≡ set_of machine s) × LeadsBy (meaning_of machine) texts p events from s
 
 -- the set is one of this machine, and its states are just the last states of the runs over the events and one more
 abbrev pub StandsOf : Texts → Times → MachineKind → List MachineEvent → MachineEvent → AnySet → Type 0
@@ -41,7 +43,7 @@ StandsOf texts p machine events e set = (s : Held Times (StateOf machine)) × (s
 
 -- each key has a set of its machine
 abbrev pub key_keeping : Texts → Times → Keeping KeyParts (KeyParts × AnySet)
-key_keeping texts p = record { key = λ t. t.0; Leads = λ t events. LeadsOf texts p (machine_of_key t.0) events t.1; Stands = λ t events e. StandsOf texts p (machine_of_key t.0) events e t.1 }
+key_keeping texts p = record { key = λ t. t.0; Leads = λ t events from. LeadsOf texts p (machine_of_key p.rules t.0) events from t.1; Stands = λ t events e. StandsOf texts p (machine_of_key p.rules t.0) events e t.1 }
 
 -- the keys of tables, each with its set
 abbrev pub transactions_of : Tabled → List (KeyParts × AnySet)
@@ -55,7 +57,7 @@ TablesTrack texts es t = Tracks (key_machines t.times) (key_keeping texts t.time
 abbrev pub TablesTrackBefore : Texts → List (Observation KeyParts) → Observation KeyParts → Tabled → Type 0
 TablesTrackBefore texts es e t = TracksBefore (key_machines t.times) (key_keeping texts t.times) es e (transactions_of t)
 
--- the numbers of the transactions that hear an event, if there is one
+-- the numbers of the transactions that an event names one by one, if there is one
 abbrev pub hearers : Option Hearing → List ℕ
 hearers None = []
 hearers (Some h) = each h.concerned
@@ -64,11 +66,16 @@ hearers (Some h) = each h.concerned
 abbrev pub is_among : List ℕ → ℕ → Bool
 is_among numbers number = list_any (nat_eq number) numbers
 
+-- whether an event concerns the transaction with this number
+abbrev pub concerns_number : Option Hearing → ℕ → Bool
+concerns_number None number = false
+concerns_number (Some h) number = is_all h.concerned || is_among (each h.concerned) number
+
 -- what is observed of an entry of this moment, as far as the key with this number goes: it hears the event, or waits
 pub record IsTold (texts : Texts) (moment : ℕ) (hearing : Option Hearing) (number : ℕ) (key : KeyParts) (e : Observation KeyParts) : Type 0 where
   pub at : e.event.moment ≡ moment
   pub event : IfSome hearing (λ h. e.event ≡ event_in texts h.event)
-  pub concerned : (p : Times) → concerns (key_machines p) key e ≡ is_among (hearers hearing) number
+  pub concerned : (p : Times) → concerns (key_machines p) key e ≡ concerns_number hearing number
 
 -- the entry tells this to each of the keys
 abbrev pub AreTold : Texts → List KeyParts → ℕ → Option Hearing → Observation KeyParts → Type 0
@@ -94,12 +101,21 @@ pub record MayPass (texts : Texts) (t : Tabled) (moment : ℕ) : Type 0 where
   pub known : All (IsKnownSet texts) t.sets
   pub long : length t.sets ≡ length t.keys
 
--- an event of this moment may be heard: the book keeps its message, and its numbers were given and differ
+-- an event of this moment may be heard: it fits the book, its numbers were given and differ, and one that concerns all is a restart
 pub record MayHear (texts : Texts) (t : Tabled) (moment : ℕ) (h : Hearing) : Type 0 where
   pub fits : FitsBook texts h.event
   pub at : h.event.moment ≡ moment
   pub given : All (IsGiven t) (each h.concerned)
   pub apart : AllPairs (λ a b. a ≢ b) (each h.concerned)
+  pub restart : is_all h.concerned ≡ true → h.event.action ≡ Restart
+
+-- these transactions hear an event, each once; it leaves every other one that it concerns as it is
+pub record AreHearers (t : Tabled) (concerned : Concerned ℕ) (numbers : List ℕ) : Type 0 where
+  pub given : All (IsGiven t) numbers
+  pub apart : AllPairs (λ a b. a ≢ b) numbers
+  pub named : (number : ℕ) → is_among (each concerned) number ≡ true → is_among numbers number ≡ true
+  pub heard : (number : ℕ) → is_among numbers number ≡ true → (is_all concerned || is_among (each concerned) number) ≡ true
+  pub others : is_all concerned ≡ true → (n : ℕ) (set : AnySet) → slice_get t.sets n ≡ Some set → is_among numbers (n + 1) ≡ false → IsQuietSet set
 
 -- what is on record of the set with this number: until when a wait in it can last; or nothing, if it is among those that are still to hear an event
 abbrev pub IsOnRecord : List ℕ → ℕ → AnySet → Option (Option ℕ) → Type 0
@@ -133,8 +149,8 @@ pub record Hears (texts : Texts) (e : NumberedEvent) (number : ℕ) (old new : T
   pub after : AnySet
   pub was : slice_get old.sets (number - 1) ≡ Some before
   pub leaves : Leaves number after fate old new
-  pub stepped : (p : Times) (machine : MachineKind) (events : List MachineEvent) → LeadsOf texts p machine events before
-      → IsStepped (key_rules p machine) events (event_in texts e) (λ es. LeadsOf texts p machine es after) (λ f. StandsOf texts p machine events f after) fate
+  pub stepped : (p : Times) (machine : MachineKind) (events : List MachineEvent) (from : ℕ) → from ≤ e.moment → LeadsOf texts p machine events from before
+      → IsStepped (key_rules p machine) events (event_in texts e) (λ es. LeadsOf texts p machine es e.moment after) (λ f. StandsOf texts p machine events f after) fate
 
 -- the same, with the outcome
 abbrev pub HearsOne : Texts → NumberedEvent → ℕ → Tabled → Tabled → Outcome → Type 0
@@ -151,4 +167,5 @@ pub record MayTake (texts : Texts) (t : Tabled) (number moment : ℕ) : Type 0 w
   pub passes : MayPass texts t moment
   pub recorded : AllAreOnRecord t
   pub numbered : (n : ℕ) → Keeps texts n → n < number
+  pub some : (n : ℕ) → Keeps texts n → 0 < n
   pub few : length t.keys + 2 ≤ number + number

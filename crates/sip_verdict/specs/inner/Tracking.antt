@@ -5,20 +5,20 @@ use Rattle.sip_verdict.specs.declared.passing.Fate.{Fate}
 use Rattle.sip_verdict.specs.declared.passing.Fate.TheVariants.{Runs, NoRun, TooWide}
 use Rattle.sip_verdict.specs.declared.passing.Outcome.{Outcome}
 use Rattle.sip_verdict.specs.declared.passing.Outcome.TheVariants as all
-use Rattle.sip_verdict.specs.Keyed.{Observation, Machines, concerns, keys_of, events_of, HasRun}
+use Rattle.sip_verdict.specs.Keyed.{Observation, Machines, concerns, keys_of, events_of, newest_moment, HasRun}
 use Rattle.sip_verdict.specs.Verdicts.{IsFirst, IsTooWide, IsGood, IsTrouble}
 
 -- How what is kept of transactions follows the entries of a log, for any keys, machines and sets.
 
--- the key of what is kept, whether it leads to where the runs of its key over the events stand, and whether it is just where those stand that end with one more
+-- the key of what is kept, whether it leads, from a moment on, to where the runs of its key over the events stand, and whether it is just where those stand that end with one more
 pub record Keeping (K T : Type 0) : Type 1 where
   pub key : T → K
-  pub Leads : T → List MachineEvent → Type 0
+  pub Leads : T → List MachineEvent → ℕ → Type 0
   pub Stands : T → List MachineEvent → MachineEvent → Type 0
 
--- it leads to the runs of its key over the entries
+-- it leads to the runs of its key over the entries, from the newest on
 abbrev pub IsReady : {K T : Type 0} → Machines K → Keeping K T → List (Observation K) → T → Type 0
-IsReady m k es t = k.Leads t (events_of m (k.key t) es)
+IsReady m k es t = k.Leads t (events_of m (k.key t) es) (newest_moment es)
 
 -- if the entry after these concerns its key, it is just where the runs stand that end with that entry
 abbrev pub IsStanding : {K T : Type 0} → Machines K → Keeping K T → List (Observation K) → Observation K → T → Type 0

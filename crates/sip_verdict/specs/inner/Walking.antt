@@ -18,7 +18,7 @@ use Rattle.sip_verdict.specs.declared.verdict.Verdict.TheVariants.{Legal, Malfor
 use Rattle.sip_verdict.specs.declared.listing.Listing.{Listing}
 use Rattle.sip_verdict.specs.declared.listing.Listing.TheVariants.{Stopped, NoEntry}
 use Rattle.sip_verdict.specs.LogReason.{reason_of}
-use Rattle.sip_verdict.specs.Keyed.{Observation}
+use Rattle.sip_verdict.specs.Keyed.{Observation, newest_moment}
 use Rattle.sip_verdict.specs.Reading.{EntryReading, AreObserved}
 use Rattle.sip_verdict.specs.VerdictOf.{IsVerdictOf}
 use Rattle.sip_verdict.specs.MessageReading.{message_reading}
@@ -56,10 +56,11 @@ pub record Judged {K : Type 0} (r : EntryReading K) (times : Times) (Follows : L
   pub long : length items ≡ length es
   pub read : HasRead start times items now
 
--- book and tables follow the entries that were read of the input, and the book numbers their messages
+-- book and tables follow the entries that were read of the input, and the book numbers their messages; none of them is later than the place
 pub record Walks (start : Option (List ℕ)) (now : log.ReaderState) (texts : Texts) (t : Tabled) : Type 0 where
   pub judged : Judged message_reading t.times (λ (es : List (Observation KeyParts)). TablesTrack texts es t) start now
   pub numbered : AreNumbered judged.items texts
+  pub newest : newest_moment judged.es ≤ now.last
 
 -- so many entries were read up to this place, and the next one may come
 pub record MayStep (count : ℕ) (place : Place) (texts : Texts) (t : Tabled) : Type 0 where

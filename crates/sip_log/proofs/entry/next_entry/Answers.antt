@@ -13,8 +13,8 @@ returns-in-Ok-clause-says g c =
     let held = items c.hold.new.self in
     let some : 1 ≤ length held = omega (arith, hold.some c.if-not-branch.false) in
     let few : c.args.count < most_entries = omega arith in
-    Says-step hold.reads (EntryComes c.args.count c.args.last) held _ _ (LineComes c.args.last) entry_next (Ok c.in-Ok.entry)
-    (λ ys next left at. ComesNext-entry c.args.count c.args.last held ys next some few at)
+    Says-step hold.reads (EntryComes c.args.format c.args.count c.args.last) held _ _ (LineComes c.args.format c.args.last) entry_next (Ok c.in-Ok.entry)
+    (λ ys next left at. ComesNext-entry c.args.format c.args.count c.args.last held ys next some few at)
     c.in-Ok.ensures.says
 
 pub returns-in-Err-clause-says : goal.returns-in-Err-clause-says
@@ -23,6 +23,6 @@ returns-in-Err-clause-says g c =
     let held = items c.hold.new.self in
     let some : 1 ≤ length held = omega (arith, hold.some c.if-not-branch.false) in
     let few : c.args.count < most_entries = omega arith in
-    Says-step hold.reads (EntryComes c.args.count c.args.last) held None _ (LineComes c.args.last) entry_next (Err c.in-Err.error)
-    (λ ys next left at. ComesNext-entry c.args.count c.args.last held ys next some few at)
+    Says-step hold.reads (EntryComes c.args.format c.args.count c.args.last) held None _ (LineComes c.args.format c.args.last) entry_next (Err c.in-Err.error)
+    (λ ys next left at. ComesNext-entry c.args.format c.args.count c.args.last held ys next some few at)
     c.in-Err.ensures.says

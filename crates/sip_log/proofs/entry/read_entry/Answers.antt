@@ -14,8 +14,8 @@ returns-then-as_slice-lt-LONGEST_LINE-clause-says g c =
     let held = items c.line_len.new.self in
     let none = rw c.in_default.is at line.first in
     let few : length held < 32 = omega (arith, c.if-as_slice-lt-LONGEST_LINE.true, ap length c.as_slice.ensures.value) in
-    Says-fault line.reads (LineComes c.args.last) faults.Truncated
-    (λ ys left. AtLine-truncated c.args.last held ys none few
+    Says-fault line.reads (LineComes c.args.format c.args.last) faults.Truncated
+    (λ ys left. AtLine-truncated c.args.format c.args.last held ys none few
     (elim (line.none c.in_default.is) as (λ _. ys ≡ []) [ inl many ↦ absurd (omega arith) | inr end ↦ none_left _ ys left end ]))
 
 pub returns-in_default-clause-says : goal.returns-in_default-clause-says
@@ -23,16 +23,16 @@ returns-in_default-clause-says g c =
     let line = c.in_ok-len.ensures in
     let held = items c.line_len.new.self in
     let many : 32 ≤ length held = omega (arith, c.if-as_slice-lt-LONGEST_LINE.false, ap length c.as_slice.ensures.value) in
-    Says-fault line.reads (LineComes c.args.last) faults.EntryLine
-    (λ ys left. AtLine-long c.args.last held ys (rw c.in_default.is at line.first) many)
+    Says-fault line.reads (LineComes c.args.format c.args.last) faults.EntryLine
+    (λ ys left. AtLine-long c.args.format c.args.last held ys (rw c.in_default.is at line.first) many)
 
 pub returns-in_default-read_head-clause-says : goal.returns-in_default-read_head-clause-says
 returns-in_default-read_head-clause-says g c =
     let line = c.in_ok-len.ensures in
     let held = items c.line_len.new.self in
     let within = rw c.in-Some.is at line.within in
-    Says-fault line.reads (LineComes c.args.last) faults.EntryLine
-    (λ ys left. AtLine-other c.args.last held ys c.in-Some.len within.1 (rw c.in-Some.is at line.first)
+    Says-fault line.reads (LineComes c.args.format c.args.last) faults.EntryLine
+    (λ ys left. AtLine-other c.args.format c.args.last held ys c.in-Some.len within.1 (rw c.in-Some.is at line.first)
     (rw c.as_slice-2.ensures.value at c.in_default-read_head.ensures))
 
 pub returns-clause-says : goal.returns-clause-says
@@ -41,6 +41,6 @@ returns-clause-says g c =
     let held = items c.line_len.new.self in
     let within = rw c.in-Some.is at line.within in
     let head = rw c.as_slice-2.ensures.value at c.in-Some-read_head.ensures in
-    Says-step line.reads (LineComes c.args.last) (drop (c.in-Some.len + 1) held) _ _ (HeadComes c.args.last head.0) entry_next c.after_line.result
-    (λ ys next left behind. AtLine-head c.args.last held ys c.in-Some.len within.1 (rw c.in-Some.is at line.first) head.0 next head.1 behind)
+    Says-step line.reads (LineComes c.args.format c.args.last) (drop (c.in-Some.len + 1) held) _ _ (HeadComes c.args.last head.0) entry_next c.after_line.result
+    (λ ys next left behind. AtLine-head c.args.format c.args.last held ys c.in-Some.len within.1 (rw c.in-Some.is at line.first) head.0 next head.1 behind)
     (rw (← c.consume.ensures) (c.after_line.ensures.says head.0 head.2))

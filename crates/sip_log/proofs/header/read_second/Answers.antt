@@ -1,9 +1,9 @@
 use Rattle.std.proofs.Common.{◌+◌, inl, inr, drop}
 use Rattle.sip_log.specs.LogFault as faults
-use Rattle.sip_log.specs.inner.Header.{ComesSecond}
+use Rattle.sip_log.specs.inner.Header.{ComesSecond, ComesThird}
 use Rattle.sip_log.specs.Next.{gives}
 use Rattle.sip_log.specs.inner.Window.{items}
-use Rattle.sip_log.proofs.SaysLemmas.{Says-value, Says-fault}
+use Rattle.sip_log.proofs.SaysLemmas.{Says-step, Says-fault}
 use Rattle.sip_log.proofs.ToldLemmas.{none_left}
 use Rattle.sip_log.proofs.HeaderLemmas.{ComesSecond-none, ComesSecond-other, ComesSecond-times}
 use Rattle.sip_log.proofs.header.read_second.Goals as goal
@@ -12,16 +12,16 @@ pub returns-in_default : goal.returns-in_default
 returns-in_default g c =
     let line = c.in_ok-len.ensures in
     let held = items c.line_len.new.self in
-    Says-fault line.reads ComesSecond faults.Header
-    (λ ys left. ComesSecond-none held ys (rw c.in_default.is at line.first)
+    Says-fault line.reads (ComesSecond c.args.format) faults.Header
+    (λ ys left. ComesSecond-none c.args.format held ys (rw c.in_default.is at line.first)
     (elim (line.none c.in_default.is) [ inl many ↦ inl many | inr end ↦ inr (none_left _ ys left end) ]))
 
 pub returns-in_default-read_times : goal.returns-in_default-read_times
 returns-in_default-read_times g c =
     let line = c.in_ok-len.ensures in
     let held = items c.line_len.new.self in
-    Says-fault line.reads ComesSecond faults.Header
-    (λ ys left. ComesSecond-other held ys c.in-Some.len (rw c.in-Some.is at line.first)
+    Says-fault line.reads (ComesSecond c.args.format) faults.Header
+    (λ ys left. ComesSecond-other c.args.format held ys c.in-Some.len (rw c.in-Some.is at line.first)
     (rw c.as_slice.ensures.value at c.in_default-read_times.ensures))
 
 pub returns : goal.returns
@@ -29,6 +29,6 @@ returns g c =
     let line = c.in_ok-len.ensures in
     let held = items c.line_len.new.self in
     let times = rw c.as_slice.ensures.value at c.in-Some-read_times.ensures in
-    rw c.consume.ensures
-    (Says-value line.reads ComesSecond (drop (c.in-Some.len + 1) held) (gives c.in-Some-read_times.times)
-    (λ ys left. ComesSecond-times held ys c.in-Some.len (rw c.in-Some.is at line.first) _ times.0 times.1))
+    Says-step line.reads (ComesSecond c.args.format) (drop (c.in-Some.len + 1) held) _ _ (ComesThird c.args.format c.in-Some-read_times.times) gives c.read_third.result
+    (λ ys next left third. ComesSecond-times c.args.format held ys c.in-Some.len (rw c.in-Some.is at line.first) _ next times.0 times.1 third)
+    (rw (← c.consume.ensures) c.read_third.ensures)

@@ -5,4 +5,4 @@ use Rattle.sip_log.proofs.Logs.{next-one}
 use Rattle.sip_log.proofs.laws.an_entry_is_read_as_it_was_written.Goals as goal
 
 pub returns : goal.returns
-returns c = λ count last e behind next few order entry is. next-one count last (entry_text e ++ behind) next (gives e behind) is (refl, few, order, entry)
+returns c = λ format count last e behind next few order entry is. next-one format count last (entry_text e ++ behind) next (gives e behind) is (refl, few, order, entry)

@@ -1,32 +1,44 @@
-use Rattle.std.proofs.Common.{◌≡◌, get_or, ap, arith}
+use Rattle.std.proofs.Common.{◌≡◌, get_or, refl, sym, arith}
+use mathlib.Core.Bool.{true≢false}
 use Rattle.std.proofs.lemmas.List.{take_rest}
 use Rattle.sip_log.specs.Spelling.{space}
-use Rattle.sip_log.specs.inner.Line.{message, mark}
-use Rattle.sip_log.specs.declared.line.Head.TheVariants as code
-use Rattle.sip_log.proofs.LineLemmas.{HeadLine-mark, HeadLine-message, HeadLine-none}
+use Rattle.sip_log.specs.inner.Line.{message, plain}
+use Rattle.sip_log.proofs.LineLemmas.{HeadLine-plain, HeadLine-message, HeadLine-unlettered, HeadLine-no_numbers, HeadLine-no_number}
 use Rattle.sip_log.proofs.line.read_head.Goals as goal
 
-pub returns-then-byte-eq77 : goal.returns-then-byte-eq77
-returns-then-byte-eq77 c =
+pub returns-in_err-action : goal.returns-in_err-action
+returns-in_err-action c = rw c.from_residual.ensures (HeadLine-unlettered c.args.format c.args.line.now c.in_err-action.ensures)
+
+pub returns-in_err-moment : goal.returns-in_err-moment
+returns-in_err-moment c =
     let line = c.args.line.now in
+    rw c.from_residual-in_err-moment.ensures
+    (HeadLine-no_numbers c.args.format line c.in_ok-action.action (c.if-has_message.ensures.0 refl) c.in_ok-action.ensures.1 (rw (take_rest line 2) at c.in_err-moment.ensures))
+
+pub returns-then-has_message : goal.returns-then-has_message
+returns-then-has_message c =
+    let line = c.args.line.now in
+    let action = c.in_ok-action.action in
     let blank : get_or line 1 0 ≡ space = omega arith in
-    let is = rw (take_rest line 2) at c.in_ok-moment.ensures in
-    (mark is.0, HeadLine-mark line is.0 c.in-32.len_at_least c.if-byte-eq77.true blank is.1, ap code.Mark is.2)
+    let is = rw (take_rest line 2) at c.in_ok-moment.ensures in (
+      message action is.0 is.1,
+      HeadLine-message c.args.format line action is.0 is.1 (c.if-has_message.ensures.0 refl) c.in-32.len_at_least c.in_ok-action.ensures.1 blank is.2,
+      cc,
+    )
 
 pub returns-in_err-moment-2 : goal.returns-in_err-moment-2
 returns-in_err-moment-2 c =
     let line = c.args.line.now in
     rw c.from_residual-in_err-moment-2.ensures
-    (HeadLine-none line (λ same. absurd (omega arith)) (rw (take_rest line 2) at c.in_err-moment-2.ensures))
+    (HeadLine-no_number c.args.format line c.in_ok-action.action (λ has. true≢false (sym (c.if-has_message.ensures.1 has))) c.in_ok-action.ensures.1 (rw (take_rest line 2) at c.in_err-moment-2.ensures))
 
 pub returns : goal.returns
 returns c =
     let line = c.args.line.now in
     let action = c.in_ok-action.action in
     let blank : get_or line 1 0 ≡ space = omega arith in
-    let is = rw (take_rest line 2) at c.in_ok-moment-2.ensures in
-    let by = c.in_ok-action.ensures in (
-      message action is.0 is.1,
-      HeadLine-message line action is.0 is.1 by.0 c.in-32.len_at_least by.1 blank is.2,
+    let is = rw (take_rest line 2) at c.in_ok-moment-2.ensures in (
+      plain action is.0,
+      HeadLine-plain c.args.format line action is.0 (λ has. true≢false (sym (c.if-has_message.ensures.1 has))) c.in_ok-action.ensures.0 c.in-32.len_at_least c.in_ok-action.ensures.1 blank is.1,
       cc,
     )

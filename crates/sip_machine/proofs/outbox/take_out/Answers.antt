@@ -24,4 +24,4 @@ returns-clause-summary c =
     let whole : debts_of runs ≡ before ++ c.index.result.now.debt ∷ after = with_first runs at none c.requires.within some ∙ ap (λ d. before ++ d ∷ after) debt in
     let left = ap debts_of c.deref.ensures.value ∙ c.take_one.ensures.debts ∙ without-first runs at none c.requires.within some in
     let summarized = subst (λ debts. Summarizes debts c.args.summary.now) whole c.requires.summary in
-    subst (λ debts. Summarizes debts c.without.result) (ap debts_of c.deref.ensures.value) (c.without.ensures before after summarized left)
+    subst (λ debts. Summarizes debts c.without.result) (ap debts_of c.deref.ensures.value) (c.without.ensures.summary before after summarized left)

@@ -1,4 +1,4 @@
-use Rattle.std.proofs.Common.{◌≡◌, ◌∙◌, [], true, false, ap, length, arith}
+use Rattle.std.proofs.Common.{◌≡◌, ◌∙◌, [], true, false, ap, subst, length, arith}
 use Rattle.std.proofs.lemmas.Grind.{common_steps}
 use Rattle.std.proofs.lemmas.Option.{slice_get_within}
 use Rattle.std.proofs.lemmas.List.{length-set, nil_from_length}
@@ -7,7 +7,7 @@ use Rattle.sip_states.specs.Sweep.{numbers_of}
 use Rattle.sip_states.specs.inner.Marks.{IsMarked}
 use Rattle.sip_states.proofs.ByMachine.{numbers_appended}
 use Rattle.sip_states.proofs.NamesLemmas.{names_nothing}
-use Rattle.sip_states.proofs.AdvanceLemmas.{item_among, unmarked}
+use Rattle.sip_states.proofs.AdvanceLemmas.{item_among, unmarked, not_unmarked}
 use Rattle.sip_states.proofs.tables.unmark_silent.Goals as goal
 
 pub index-requires : goal.index-requires
@@ -36,6 +36,7 @@ loop-place-preserved-then-is_empty g c =
     (numbers_appended set c.clear.new.self.items c.names.new.out.items c.in_ok-names.ensures) in
     record {
       long = ap length c.unmark.ensures ∙ length-set marks index false ∙ c.loop-place.invariant.long;
-      marked = rw c.unmark.ensures (unmarked marks (values c.args.sets.now) index set c.loop-place.invariant.marked (rw c.loop-place.invariant.same at c.index.ensures) silent);
+      marked = rw c.unmark.ensures (unmarked (λ s. numbers_of s ≡ []) marks (values c.args.sets.now) index set c.loop-place.invariant.marked (rw c.loop-place.invariant.same at c.index.ensures) silent);
+      fewer = λ n mark. c.loop-place.invariant.fewer n (not_unmarked marks index n (subst (λ ms. IsMarked ms n) c.unmark.ensures mark));
       same = c.trim_at.ensures ∙ c.loop-place.invariant.same;
     }

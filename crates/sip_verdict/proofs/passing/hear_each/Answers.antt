@@ -1,7 +1,56 @@
-use Rattle.std.proofs.Common.{arith}
-use Rattle.sip_verdict.proofs.TablesPassing.{given_still}
+use Rattle.std.proofs.Common.{◌∙◌, refl, sym, ap, subst, arith}
+use Rattle.sip_verdict.specs.inner.Tracking.{first_of}
+use Rattle.sip_verdict.specs.inner.Concerned.{each, is_all}
+use Rattle.sip_verdict.specs.inner.TablesTracking.{HearsEach}
+use Rattle.sip_verdict.proofs.TablesPassing.{given_still, named_hearers}
 use Rattle.sip_verdict.proofs.passing.hear_each.Goals as goal
 
 pub hear_one-requires-in-OwnAndCancelled-2-clause-given : goal.hear_one-requires-in-OwnAndCancelled-2-clause-given
 hear_one-requires-in-OwnAndCancelled-2-clause-given g c =
-    given_still c.in-OwnAndCancelled.cancelled c.args.tables.now c.hear_one-in-OwnAndCancelled.new.tables c.in_ok-hear_one-in-OwnAndCancelled.ensures.keys ((rw c.in-OwnAndCancelled.is at c.requires.given) 1 0 (omega arith))
+    given_still c.in-OwnAndCancelled.cancelled c.args.tables.now c.hear_one-in-OwnAndCancelled.new.tables c.in_ok-hear_one-in-OwnAndCancelled.ensures.keys ((rw c.in-OwnAndCancelled.is at c.requires.hear.given) 1 0 (omega arith))
+
+pub returns-in-None-clause-heard : goal.returns-in-None-clause-heard
+returns-in-None-clause-heard g c =
+    let t = c.args.tables.now in
+    let h = c.args.hearing.now in
+    let hear = c.requires.hear in (
+      c.requires.may,
+      (
+        each h.concerned,
+        named_hearers t h.concerned (ap is_all c.in-None.is) hear.given hear.apart,
+        subst (λ x. HearsEach c.args.book.now h.event (each x) t c.args.others t c.args.others) (sym c.in-None.is) (refl, refl),
+      ),
+    )
+
+pub returns-in_ok-hear_one-in-Own-clause-heard : goal.returns-in_ok-hear_one-in-Own-clause-heard
+returns-in_ok-hear_one-in-Own-clause-heard g c =
+    let t = c.args.tables.now in
+    let u = c.hear_one.new.tables in
+    let h = c.args.hearing.now in
+    let hear = c.requires.hear in
+    let heard = c.in_ok-hear_one-in-Own.ensures in (
+      heard.may,
+      (
+        each h.concerned,
+        named_hearers t h.concerned (ap is_all c.in-Own.is) hear.given hear.apart,
+        subst (λ x. HearsEach c.args.book.now h.event (each x) t c.args.others u c.first.result) (sym c.in-Own.is) (u, c.in_ok-hear_one-in-Own.field-0, heard.heard, (refl, c.first.ensures)),
+      ),
+    )
+
+pub returns-in_ok-hear_one-in-OwnAndCancelled-2-clause-heard : goal.returns-in_ok-hear_one-in-OwnAndCancelled-2-clause-heard
+returns-in_ok-hear_one-in-OwnAndCancelled-2-clause-heard g c =
+    let t = c.args.tables.now in
+    let mid = c.hear_one-in-OwnAndCancelled.new.tables in
+    let u = c.hear_one-in-OwnAndCancelled-2.new.tables in
+    let h = c.args.hearing.now in
+    let hear = c.requires.hear in
+    let own = c.in_ok-hear_one-in-OwnAndCancelled in
+    let cancelled = c.in_ok-hear_one-in-OwnAndCancelled-2 in (
+      cancelled.ensures.may,
+      (
+        each h.concerned,
+        named_hearers t h.concerned (ap is_all c.in-OwnAndCancelled.is) hear.given hear.apart,
+        subst (λ x. HearsEach c.args.book.now h.event (each x) t c.args.others u c.first-in-OwnAndCancelled.result) (sym c.in-OwnAndCancelled.is)
+            (mid, own.field-0, own.ensures.heard, (u, cancelled.field-0, cancelled.ensures.heard, (refl, c.first-in-OwnAndCancelled.ensures ∙ ap (λ o. first_of o cancelled.field-0) c.first-others.ensures))),
+      ),
+    )

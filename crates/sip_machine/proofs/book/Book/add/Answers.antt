@@ -18,7 +18,7 @@ invariant_of-self-in-Err c =
     (index_of runs c.in-Err.gap) c.hash-hash.ensures (c.self.invariant.0, c.self.invariant.1.order) (rw c.self.view_is c.requires) gap grows in (
       grown.0,
       record { order = grown.1; led = c.put.ensures.led; short = c.put.ensures.short },
-      subst (λ ts. AreTos ts c.self.inside.tos.items) (sym grows.0) (AreTos-grow (texts_of kept) c.args.entry c.args.bytes.now c.self.inside.tos.items c.self.invariant.2),
+      subst (λ ts. AreTos ts c.self.inside.tos) (sym grows.0) (AreTos-grow (texts_of kept) c.args.entry c.args.bytes.now c.self.inside.tos c.self.invariant.2),
     ))
     (λ same.
     (rw same.0 c.self.invariant.0, record { order = rw (same.0, same.1) c.self.invariant.1.order; led = c.put.ensures.led; short = c.put.ensures.short }, rw same.0 c.self.invariant.2))

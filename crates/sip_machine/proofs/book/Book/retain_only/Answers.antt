@@ -1,8 +1,7 @@
-use Rattle.std.proofs.Common.{◌∙◌, sym, ap, subst, All, Contains, rules}
+use Rattle.std.proofs.Common.{◌∙◌, sym, ap, subst, All}
 use Rattle.sip_machine.specs.Texts.{IsBook, Keeps}
 use Rattle.sip_machine.specs.Retained.{only}
 use Rattle.sip_machine.specs.inner.Order.{texts_of, places_of, IsOrder}
-use Rattle.std.proofs.lemmas.Fn.{All-from_retain}
 use Rattle.sip_machine.specs.inner.Tos.{AreTos}
 use Rattle.sip_machine.proofs.ToLemmas.{AreTos-only}
 use Rattle.sip_machine.proofs.RetainLemmas.{merged_is, IsBook-only, IsOrder-only}
@@ -23,8 +22,7 @@ invariant_of-self c =
         led = c.move_all.ensures.led;
         short = c.move_all.ensures.short;
       },
-      subst (λ ts. AreTos ts c.retain.new.self.items) (sym is) (AreTos-only texts numbers book c.requires.rising kept c.self.inside.tos.items c.retain.new.self.items c.retain.ensures.filtered.0
-          c.self.invariant.2 c.retain.ensures.filtered.4 (All-from_retain _ (λ to. Contains numbers to.number) _ (λ x b f' k. search rules) _ _ c.retain.ensures.filtered)),
+      subst (λ ts. AreTos ts c.retain.new.self) (sym is) (AreTos-only texts numbers book c.requires.rising kept c.self.inside.tos c.retain.new.self c.self.invariant.2 c.retain.ensures),
     )
 
 pub returns : goal.returns

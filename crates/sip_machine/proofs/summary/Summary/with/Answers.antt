@@ -1,33 +1,21 @@
-use Rattle.std.proofs.Common.{◌+◌, ◌*◌, ◌%◌, ◌^◌, ◌≤◌, ◌++◌, replicate, ap₂, ◌∙◌, ap, sym, subst, arith}
+use Rattle.std.proofs.Common.{◌+◌, ◌*◌, ◌%◌, ◌^◌, ◌++◌, replicate, ap₂, ◌∙◌, ap, sym, subst}
 use Rattle.sip_machine.proofs.FingerprintLemmas.{fingerprint-more}
 use Rattle.sip_machine.specs.inner.Summaries.{RisesTo}
 use Rattle.sip_machine.proofs.RisesLemmas.{RisesTo-more}
-use Rattle.sip_machine.proofs.SummaryLemmas.{count-more, due-must, due-may, fresh-must, fresh-may}
+use Rattle.sip_machine.proofs.SummaryLemmas.{count-more, due-more, fresh-more, numbers-more, climbs-more}
 use Rattle.sip_machine.proofs.summary.Summary.with.Goals as goal
 
-pub returns-then-run-clause-debts : goal.returns-then-run-clause-debts
-returns-then-run-clause-debts c debts is =
+pub returns-clause-summary : goal.returns-clause-summary
+returns-clause-summary c debts is =
+    let self = c.args.self.now in
     let n = c.args.run.count in
     let d = c.args.run.debt in
     record {
-      count = c.in_ok-count.ensures.1 ∙ ap (λ m. m + n) is.count ∙ sym (count-more debts n d);
-      due = due-must debts n d c.args.self.now.due c.earlier.result c.if-run.true c.requires.filled is.due c.earlier.ensures;
+      count = ap (λ m. m + n) is.count ∙ sym (count-more debts n d);
+      due = due-more debts n d self.due c.due_with.result c.requires.filled is.due c.due_with.ensures;
       fingerprint = ap₂ (λ a p. (a + (n * p) % 2 ^ 64) % 2 ^ 64) is.fingerprint c.print_of.ensures ∙ fingerprint-more debts n d;
-      fresh = fresh-must debts n c.args.self.now.fresh d c.if-run.true is.fresh;
-      latest = subst (λ latest. RisesTo latest (debts ++ replicate n d)) (sym c.risen-latest.ensures) (RisesTo-more debts n d c.args.self.now.latest is.latest);
-    }
-
-pub returns-clause-debts : goal.returns-clause-debts
-returns-clause-debts c debts is =
-    let n = c.args.run.count in
-    let d = c.args.run.debt in
-    let least = c.min.ensures in
-    let up_to : c.min.result ≤ c.args.self.now.fresh = omega (arith, least) in
-    let low : c.min.result ≤ d.deadline = omega (arith, least) in
-    record {
-      count = c.in_ok-count.ensures.1 ∙ ap (λ m. m + n) is.count ∙ sym (count-more debts n d);
-      due = due-may debts n d c.args.self.now.due c.if-run.false is.due;
-      fingerprint = ap₂ (λ a p. (a + (n * p) % 2 ^ 64) % 2 ^ 64) is.fingerprint c.print_of.ensures ∙ fingerprint-more debts n d;
-      fresh = fresh-may debts n c.min.result c.args.self.now.fresh d up_to low is.fresh;
-      latest = subst (λ latest. RisesTo latest (debts ++ replicate n d)) (sym c.risen-latest.ensures) (RisesTo-more debts n d c.args.self.now.latest is.latest);
+      fresh = fresh-more debts n self.fresh c.fresh_with.result d is.fresh c.fresh_with.ensures;
+      latest = subst (λ latest. RisesTo latest (debts ++ replicate n d)) (sym c.risen.ensures) (RisesTo-more debts n d self.latest is.latest);
+      numbers = rw (c.min.ensures, c.max.ensures) (numbers-more debts n self.lowest self.highest d is.numbers);
+      climbs = climbs-more debts n self.lowest self.highest d self.climbs c.is_above.result is.numbers is.climbs c.is_above.ensures;
     }

@@ -3,10 +3,11 @@ use Rattle.std.specs.Map.{values_of}
 use Rattle.std.proofs.lemmas.List.{length-append, map-append}
 use Rattle.std.proofs.lemmas.Map.Entries.{length-values_of, length-keys_of}
 use Rattle.indexmap.specs.IndexMap.{keys, values, index_map_len}
+use Rattle.sip_states.specs.AnySet.{IsQuietSet}
 use Rattle.sip_states.specs.Sweep.{numbers_of}
 use Rattle.sip_states.specs.Tables.{Tabled, most_keys}
-use Rattle.sip_states.specs.inner.Marks.{AreMarked}
-use Rattle.sip_states.proofs.AdvanceLemmas.{marked_push, start_names}
+use Rattle.sip_states.specs.inner.Marks.{AreMarked, AreMoved}
+use Rattle.sip_states.proofs.AdvanceLemmas.{marked_push, within_push, start_names, start_quiet}
 use Rattle.sip_states.proofs.tables.Tables.add.Goals as goal
 
 pub append-requires : goal.append-requires
@@ -26,5 +27,11 @@ invariant_of-self-2 g c =
     let behind : values c.append.new.sets ≡ values sets ++ set ∷ [] = ap values_of entries ∙ map-append (λ e. e.1) sets.entries ((c.args.key, set) ∷ []) in
     let silent : numbers_of set ≡ [] = subst (λ s. numbers_of s ≡ []) (sym c.in_ok-set.ensures) (start_names c.self.inside.params c.args.key) in
     let marked : AreMarked c.push-2.new.self (values c.append.new.sets)
-    = rw (c.in_default.ensures.ok, behind) (marked_push c.self.inside.marks (values sets) set (inv.2 ∙ sym (length-values_of sets.entries)) inv.3 silent) in
-    (omega (arith, size, room, many), omega (arith, size, agenda, inv.1), omega (arith, size, marks, inv.2), marked)
+    = rw (c.in_default.ensures.ok, behind) (marked_push (λ s. numbers_of s ≡ []) c.self.inside.marks (values sets) set (inv.2 ∙ sym (length-values_of sets.entries)) inv.3 silent) in
+    let moved : length c.push-3.new.self ≡ length c.self.inside.moved + 1 = ap length c.in_default-push.ensures.ok ∙ length-append c.self.inside.moved (false ∷ []) in
+    let still : IsQuietSet set = subst IsQuietSet (sym c.in_ok-set.ensures) (start_quiet c.self.inside.params c.args.key) in
+    let moves : AreMoved c.push-3.new.self c.push-2.new.self (values c.append.new.sets) = rw (c.in_default.ensures.ok, c.in_default-push.ensures.ok, behind) (record {
+      quiet = marked_push IsQuietSet c.self.inside.moved (values sets) set (inv.4 ∙ sym (length-values_of sets.entries)) inv.5.quiet still;
+      within = within_push c.self.inside.marks c.self.inside.moved (inv.2 ∙ sym inv.4) inv.5.within;
+    }) in
+    (omega (arith, size, room, many), omega (arith, size, agenda, inv.1), omega (arith, size, marks, inv.2), marked, omega (arith, size, moved, inv.4), moves)

@@ -1,7 +1,9 @@
-use Rattle.std.proofs.Common.{◌≤◌, ◌∙◌, inl, refl, sym, subst, get_or, true, arith}
+use Rattle.std.proofs.Common.{◌≡◌, ◌≤◌, ◌∙◌, [], inl, refl, sym, subst, get_or, true, arith}
 use Rattle.std.proofs.lemmas.Option.{slice_get_within}
 use Rattle.std.proofs.lemmas.Map.Entries.{length-values_of}
 use Rattle.indexmap.specs.IndexMap.{values}
+use Rattle.sip_states.specs.AnySet.{IsQuietSet}
+use Rattle.sip_states.specs.Sweep.{numbers_of}
 use Rattle.sip_states.specs.Tables.{most_keys}
 use Rattle.sip_states.specs.inner.Marks.{IsMarked}
 use Rattle.sip_states.proofs.AdvanceLemmas.{place_among, marked_advance, some_advance, marked_still, always_ok, always_err}
@@ -24,7 +26,31 @@ invariant_of-self g c =
       subst (λ n. n ≤ most_keys) (sym size) inv.0,
       inv.1 ∙ sym size,
       inv.2 ∙ sym size,
-      marked_still c.args.moment some.0 c.self.inside.marks (values c.self.inside.sets) (values c.advance_each.new.sets) inv.3 (λ n has. (c.marked.ensures.members n).0 (some.1 n has)) some.2,
+      marked_still (λ s. numbers_of s ≡ []) c.args.moment some.0 c.self.inside.marks (values c.self.inside.sets) (values c.advance_each.new.sets) inv.3 (λ n has. (c.marked.ensures.members n).0 (some.1 n has)) some.2,
+      inv.4 ∙ sym size,
+      record {
+        quiet = marked_still IsQuietSet c.args.moment some.0 c.self.inside.moved (values c.self.inside.sets) (values c.advance_each.new.sets) inv.5.quiet
+            (λ n has. inv.5.within n ((c.marked.ensures.members n).0 (some.1 n has))) some.2;
+        within = inv.5.within;
+      },
+    )
+
+-- what is marked of the sets behind the sweep
+pub invariant_of-self-2 : goal.invariant_of-self-2
+invariant_of-self-2 g c =
+    let inv = c.self.invariant in
+    let size = c.in_ok-advance_each.ensures.size in
+    let up = c.in_ok-advance_each.ensures.ok in (
+      rw c.unmark_silent.ensures.same (subst (λ n. n ≤ most_keys) (sym size) inv.0),
+      rw c.unmark_silent.ensures.same (inv.1 ∙ sym size),
+      rw c.unmark_silent.ensures.same (c.unmark_silent.ensures.long ∙ inv.2 ∙ sym size),
+      rw c.unmark_silent.ensures.same c.unmark_silent.ensures.marked,
+      rw c.unmark_silent.ensures.same (inv.4 ∙ sym size),
+      rw c.unmark_silent.ensures.same (record {
+        quiet = marked_still IsQuietSet c.args.moment c.marked.result.now c.self.inside.moved (values c.self.inside.sets) (values c.advance_each.new.sets) inv.5.quiet
+            (λ n has. inv.5.within n ((c.marked.ensures.members n).0 has)) up;
+        within = λ n mark. inv.5.within n (c.unmark_silent.ensures.fewer n mark);
+      }),
     )
 
 pub returns-in_err-advance_each-clause-err : goal.returns-in_err-advance_each-clause-err
@@ -40,7 +66,7 @@ returns-in_err-advance_each-clause-err g c =
 
 pub unmark_silent-requires-clause-marked : goal.unmark_silent-requires-clause-marked
 unmark_silent-requires-clause-marked g c =
-    marked_still c.args.moment c.marked.result.now c.self.inside.marks (values c.self.inside.sets) (values c.advance_each.new.sets) c.self.invariant.3 (λ n has. (c.marked.ensures.members n).0 has) c.in_ok-advance_each.ensures.ok
+    marked_still (λ s. numbers_of s ≡ []) c.args.moment c.marked.result.now c.self.inside.marks (values c.self.inside.sets) (values c.advance_each.new.sets) c.self.invariant.3 (λ n has. (c.marked.ensures.members n).0 has) c.in_ok-advance_each.ensures.ok
 
 pub returns-clause-ok : goal.returns-clause-ok
 returns-clause-ok g c =

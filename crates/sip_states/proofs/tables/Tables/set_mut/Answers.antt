@@ -1,10 +1,12 @@
-use Rattle.std.proofs.Common.{◌-◌, ◌∙◌, refl, slice_set, true}
+use Rattle.std.proofs.Common.{◌≡◌, ◌-◌, ◌∙◌, [], refl, sym, slice_set, true}
 use Rattle.std.proofs.lemmas.List.{length-set}
 use Rattle.indexmap.specs.IndexMap.{values, with_value_at}
 use Rattle.indexmap.proofs.CallerLemmas.{keys-with_value_at, index_map_len-with_value_at}
-use Rattle.sip_states.specs.inner.Marks.{AreMarked}
+use Rattle.sip_states.specs.AnySet.{IsQuietSet}
+use Rattle.sip_states.specs.Sweep.{numbers_of}
+use Rattle.sip_states.specs.inner.Marks.{AreMarked, AreMoved}
 use Rattle.sip_states.proofs.TablesLemmas.{values_of-set_value_at}
-use Rattle.sip_states.proofs.AdvanceLemmas.{marked_set}
+use Rattle.sip_states.proofs.AdvanceLemmas.{marked_set, within_set}
 use Rattle.sip_states.proofs.tables.Tables.set_mut.Goals as goal
 
 pub invariant_of-self-lent : goal.invariant_of-self-lent
@@ -12,10 +14,16 @@ invariant_of-self-lent g c w =
     let inv = c.self.invariant in
     let sets = c.self.inside.sets in
     let marks = c.self.inside.marks in
+    let moved = c.self.inside.moved in
     let index = c.args.number - 1 in
     let marked : AreMarked (slice_set marks index true) (values (with_value_at sets index w))
-    = rw (values_of-set_value_at sets.entries index w) (marked_set marks (values sets) index w inv.3) in
-    rw (index_map_len-with_value_at sets index w, c.mark.ensures) (inv.0, inv.1, length-set marks index true ∙ inv.2, marked)
+    = rw (values_of-set_value_at sets.entries index w) (marked_set (λ s. numbers_of s ≡ []) marks (values sets) index w inv.3) in
+    let moves : AreMoved (slice_set moved index true) (slice_set marks index true) (values (with_value_at sets index w)) = rw (values_of-set_value_at sets.entries index w) (record {
+      quiet = marked_set IsQuietSet moved (values sets) index w inv.5.quiet;
+      within = within_set marks moved index true (inv.2 ∙ sym inv.4) inv.5.within;
+    }) in
+    rw (index_map_len-with_value_at sets index w, c.mark.ensures, c.mark-2.ensures)
+    (inv.0, inv.1, length-set marks index true ∙ inv.2, marked, length-set moved index true ∙ inv.4, moves)
 
 pub returns : goal.returns
 returns g c = (

@@ -1,19 +1,19 @@
-use Rattle.std.proofs.Common.{[], ◌∷◌, ◌++◌, ◌+◌, sym, ◌∙◌, ap, string_bytes}
+use Rattle.std.proofs.Common.{[], ◌∷◌, ◌++◌, ◌+◌, sym, ◌∙◌, ap, length, string_bytes}
 use Rattle.sip_log.specs.Told.{item}
 use Rattle.sip_verdict.specs.Listing.{first_entry}
-use Rattle.sip_verdict.specs.inner.Concerned.{each}
+use Rattle.sip_verdict.specs.inner.Concerned.{listed}
 use Rattle.sip_verdict.proofs.NumberingLemmas.{stay_numbered}
 use Rattle.sip_verdict.proofs.EntryText.{observed_ascii, entry_text}
 use Rattle.sip_verdict.proofs.standing.Standing.list.Goals as goal
 
 pub returns-in_ok-text-in-None : goal.returns-in_ok-text-in-None
 returns-in_ok-text-in-None g c = record {
-  listed = λ es items more tracks numbered long counts.
+  listed = λ es items more tracks numbered observed long counts order.
       let s = c.args.self.now in
       let new = c.take.new.self in
       let e = c.args.entry.now in
       let taken = c.in_ok-taken in
-      let seen = taken.ensures.judged es tracks counts in
+      let seen = taken.ensures.judged es tracks counts order in
       let may = rw c.in-None.is at taken.ensures.may in
       let grown = (rw c.in-None.is at taken.ensures.numbered) items numbered (counts ∙ ap (λ n. n + 1) (sym long)) in
       let judged = rw c.in-None.is at seen.2 in (
@@ -22,7 +22,7 @@ returns-in_ok-text-in-None g c = record {
         (
           judged.0.good,
           entry_text (first_entry ((items ++ item e ∷ []) ++ more)) new.book (stay_numbered (items ++ item e ∷ []) more new.book grown) s.tables.times es seen.0 new.tables may.passes.known may.passes.long c.in_ok-text-in-None.ensures.apart judged
-              (each taken.taken.concerned) (string_bytes c.in_ok-text-in-None.field-0) (observed_ascii es (item e) seen.0 seen.1) seen.3 c.in_ok-text-in-None.ensures.text,
+              (listed (length new.tables.keys) taken.taken.concerned) (string_bytes c.in_ok-text-in-None.field-0) (observed_ascii items es (item e) seen.0 observed seen.1) seen.3 c.in_ok-text-in-None.ensures.text,
         ),
       );
 }

@@ -1,4 +1,4 @@
-use Rattle.std.proofs.Common.{◌+◌, ◌∙◌, All, Contains, refl, sym, ap, subst}
+use Rattle.std.proofs.Common.{◌+◌, ◌∙◌, All, Contains, refl, sym, ap, subst, arith}
 use Rattle.sip_verdict.specs.Judging.{Judging, AreFollowed, MayComeNext}
 use Rattle.sip_verdict.proofs.JudgeLemmas.{may_take_next, stands_on}
 use Rattle.sip_verdict.proofs.SweptBook.{same_within}
@@ -16,14 +16,23 @@ pub returns-in-Ok-None-clause-judged : goal.returns-in-Ok-None-clause-judged
 returns-in-Ok-None-clause-judged g c es stands =
     let e = c.args.entry.now in
     let is = c.self.view_is in
-    let next = (c.requires (ap (λ j. j.stage) (sym is) ∙ c.in-Open.is)).next in
+    let comes = c.requires (ap (λ j. j.stage) (sym is) ∙ c.in-Open.is) in
+    let next = comes.next in
     let new = c.judge_next.new in
     let now : Judging = record { number = e.number; moment = e.moment; texts = new.standing.book; tables = new.standing.tables; left = new.left; stage = c.self.inside.stage } in
     stands_on c.args.self.now now e next refl refl c.in-Open.is es stands
-    ((rw c.in-Ok-None.field-0-is at c.in-Ok-None.ensures.judged) es (subst (λ j. AreFollowed j.texts j.tables j.left es) (sym is) stands.follows) (next ∙ ap (λ n. n + 1) stands.number))
+    ((rw c.in-Ok-None.field-0-is at c.in-Ok-None.ensures.judged) es (subst (λ j. AreFollowed j.texts j.tables j.left es) (sym is) stands.follows) (next ∙ ap (λ n. n + 1) stands.number) (omega (arith, comes.order, stands.moment)))
 
 pub returns-in-Ok-None-clause-keyless : goal.returns-in-Ok-None-clause-keyless
 returns-in-Ok-None-clause-keyless g c none = subst (λ j. All (Contains j.texts) c.judge_next.new.standing.book) c.self.view_is (c.in-Ok-None.ensures.keyless none)
+
+pub returns-in-Ok-Some-clause-judged : goal.returns-in-Ok-Some-clause-judged
+returns-in-Ok-Some-clause-judged g c es stands =
+    let is = c.self.view_is in
+    let comes = c.requires (ap (λ j. j.stage) (sym is) ∙ c.in-Open.is) in
+    let h = (rw c.in-Ok-Some.field-0-is at c.in-Ok-Some.ensures.judged) es (subst (λ j. AreFollowed j.texts j.tables j.left es) (sym is) stands.follows) (comes.next ∙ ap (λ n. n + 1) stands.number)
+    (omega (arith, comes.order, stands.moment)) in
+    (h.0, h.1, h.2)
 
 pub returns-in-Ok-Some-clause-keyless : goal.returns-in-Ok-Some-clause-keyless
 returns-in-Ok-Some-clause-keyless g c none = subst (λ j. All (Contains j.texts) c.judge_next.new.standing.book) c.self.view_is (c.in-Ok-Some.ensures.keyless none)

@@ -22,7 +22,7 @@ returns-in_ok-list-in-Entry-clause-listing g c start walks =
     let s = c.args.self.now.standing in
     let old : log.ReaderState = beside_source c.args.self.now.progress (g.R.Source.left c.args.reader.now) (g.R.Source.has_failed c.args.reader.now) in
     let new : log.ReaderState = beside_source c.read_next.new.progress (g.R.Source.left c.read_next.new.reader) (g.R.Source.has_failed c.read_next.new.reader) in
-    walks_listed start old s.book s.tables walks c.args.self.now.count c.requires.counts c.in-Entry.entry (rw c.in-Entry.is at c.in_ok-entry.ensures.moves).1.number_is new
+    walks_listed start old s.book s.tables walks c.args.self.now.count c.requires.counts c.in-Entry.entry (rw c.in-Entry.is at c.in_ok-entry.ensures.moves).1.number_is (rw c.in-Entry.is at c.in_ok-entry.ensures.moves).1.order new
     ((rw c.in-Entry.is at c.in_ok-entry.ensures.gives) start s.tables.times walks.judged.items walks.judged.read) c.in_ok-list-in-Entry.field-0 c.in_ok-list-in-Entry.ensures.listed
 
 pub returns-in-End-clause-listing : goal.returns-in-End-clause-listing

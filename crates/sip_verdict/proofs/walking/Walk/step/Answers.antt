@@ -22,9 +22,9 @@ returns-in_ok-entry-in-Entry-clause-walks g c start walks =
     let old : log.ReaderState = beside_source c.args.self.now.progress (g.R.Source.left c.args.reader.now) (g.R.Source.has_failed c.args.reader.now) in
     let new : log.ReaderState = beside_source c.read_next.new.progress (g.R.Source.left c.read_next.new.reader) (g.R.Source.has_failed c.read_next.new.reader) in
     let judged = c.in_ok-entry-in-Entry.ensures in
-    walks_on start old s.book s.tables walks c.args.self.now.count c.requires.counts c.in-Entry.entry (rw c.in-Entry.is at c.in_ok-entry.ensures.moves).1.number_is new
+    walks_on start old s.book s.tables walks c.args.self.now.count c.requires.counts c.in-Entry.entry (rw c.in-Entry.is at c.in_ok-entry.ensures.moves).1.number_is (rw c.in-Entry.is at c.in_ok-entry.ensures.moves).1.order new
     ((rw c.in-Entry.is at c.in_ok-entry.ensures.gives) start s.tables.times walks.judged.items walks.judged.read) c.entry.new.self.book c.entry.new.self.tables c.in_ok-entry-in-Entry.field-0
-    judged.judged judged.numbered judged.times
+    judged.judged judged.numbered judged.times (rw c.in-Entry.is at c.in_ok-entry.ensures.moves).3
 
 pub returns-in-End-clause-walks : goal.returns-in-End-clause-walks
 returns-in-End-clause-walks g c start walks =

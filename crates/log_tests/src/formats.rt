@@ -1,0 +1,329 @@
+//! Rows of format 2, of its restarts and two tolerances, and of the rules in both formats.
+use crate::devices::{Pieces, Room};
+use crate::tests::{HEADER, Row, first_other, read, read_cut};
+use sip_log::{
+    FromRead, LogError, LogReader, Sink, ToWrite, WriteError, read_entries, write_entry,
+    write_header, write_header_2,
+};
+use sip_times::{Action, Params, Rules};
+use std::alloc::{AllocError, Global};
+use std::test::Fail;
+
+const HEADER_2: &[u8] = b"sip-trace 2\nt1 500 t2 4000 t4 5000 early 50 late 60\n";
+
+/// What a header tells: T1, T2, T4, early, late and the rules.
+type Told = (u64, u64, u64, u64, u64, Rules);
+
+/// What the header of a log tells, where it has a header and no fault behind it.
+fn told(alloc: Global, bytes: &[u8]) -> Option<Told> {
+    let mut reader = LogReader::new(alloc, Pieces::single(bytes));
+    let _entry = reader.next().ok()?;
+    let params = reader.params()?;
+    Some((
+        params.t1(),
+        params.t2(),
+        params.t4(),
+        params.early(),
+        params.late(),
+        params.rules(),
+    ))
+}
+
+#[test]
+fn restarts_in_any_pieces(rt: HostRuntime) -> Result<(), Fail> {
+    let rows: [Row; 8] = [
+        (b"", 0, None),
+        (b"Z 100\n", 1, None),
+        (b"S 0 5\nhello\nZ 100\nM 5000\n", 3, None),
+        (b"Z 9999999999999\nZ 9999999999999\n", 2, None),
+        (b"Z 10000000000000\n", 0, Some(LogError::Limit)),
+        (b"M 5\nZ 4\n", 1, Some(LogError::Order)),
+        (b"Z 0", 0, Some(LogError::Truncated)),
+        (b"z 0\n", 0, Some(LogError::EntryLine)),
+    ];
+    assert_eq!(rt; first_other(rt.alloc(), HEADER_2, &rows)?, None);
+    Ok(())
+}
+
+#[test]
+fn lines_that_are_no_restart_in_any_pieces(rt: HostRuntime) -> Result<(), Fail> {
+    let rows: [Row; 4] = [
+        (b"Z 0 5\nhello\n", 0, Some(LogError::EntryLine)),
+        (b"Z 00\n", 0, Some(LogError::EntryLine)),
+        (b"Z  0\n", 0, Some(LogError::EntryLine)),
+        (b"Z\n", 0, Some(LogError::EntryLine)),
+    ];
+    assert_eq!(rt; first_other(rt.alloc(), HEADER_2, &rows)?, None);
+    Ok(())
+}
+
+/// Format 1 has no restarts.
+#[test]
+fn format_1_has_no_restarts(rt: HostRuntime) -> Result<(), Fail> {
+    let rows: [Row; 3] = [
+        (b"Z 100\n", 0, Some(LogError::EntryLine)),
+        (b"M 1\nZ 100\n", 1, Some(LogError::EntryLine)),
+        (b"rules 3261\nZ 100\n", 0, Some(LogError::EntryLine)),
+    ];
+    assert_eq!(rt; first_other(rt.alloc(), HEADER, &rows)?, None);
+    Ok(())
+}
+
+/// Rows of the line of rules, which are the same behind both headers.
+const RULES: [Row; 11] = [
+    (b"rules 3261\n", 0, None),
+    (b"rules 6026\n", 0, None),
+    (b"rules 3261\nM 0\n", 1, None),
+    (b"rules 6026\nM 0\n", 1, None),
+    (b"rules 9999\n", 0, Some(LogError::EntryLine)),
+    (b"rules 3261", 0, Some(LogError::Truncated)),
+    (b"rules 3261\r\n", 0, Some(LogError::EntryLine)),
+    (b"rules 3261 \n", 0, Some(LogError::EntryLine)),
+    (b"rules 3261\nrules 3261\n", 0, Some(LogError::EntryLine)),
+    (b"M 0\nrules 6026\n", 1, Some(LogError::EntryLine)),
+    (b"r", 0, Some(LogError::Truncated)),
+];
+
+#[test]
+fn rules_in_any_pieces(rt: HostRuntime) -> Result<(), Fail> {
+    assert_eq!(rt; first_other(rt.alloc(), HEADER, &RULES)?, None);
+    assert_eq!(rt; first_other(rt.alloc(), HEADER_2, &RULES)?, None);
+    Ok(())
+}
+
+#[test]
+fn headers_of_format_2_in_any_pieces(rt: HostRuntime) -> Result<(), Fail> {
+    let rows: [Row; 10] = [
+        (
+            b"sip-trace 2\nt1 10000 t2 60000 t4 60000 early 10000 late 10000\n",
+            0,
+            None,
+        ),
+        (b"sip-trace 2\nt1 1 t2 1 t4 1 early 0 late 0\n", 0, None),
+        (
+            b"sip-trace 2\nt1 500 t2 4000 t4 5000 tolerance 50\n",
+            0,
+            Some(LogError::Header),
+        ),
+        (
+            b"sip-trace 1\nt1 500 t2 4000 t4 5000 early 50 late 50\n",
+            0,
+            Some(LogError::Header),
+        ),
+        (
+            b"sip-trace 2\nt1 500 t2 4000 t4 5000 early 50\n",
+            0,
+            Some(LogError::Header),
+        ),
+        (
+            b"sip-trace 2\nt1 500 t2 4000 t4 5000 late 50 early 50\n",
+            0,
+            Some(LogError::Header),
+        ),
+        (
+            b"sip-trace 2\nt1 500 t2 4000 t4 5000 early 10001 late 0\n",
+            0,
+            Some(LogError::Header),
+        ),
+        (
+            b"sip-trace 2\nt1 500 t2 4000 t4 5000 early 0 late 10001\n",
+            0,
+            Some(LogError::Header),
+        ),
+        (
+            b"sip-trace 3\nt1 500 t2 4000 t4 5000 early 50 late 50\n",
+            0,
+            Some(LogError::Header),
+        ),
+        (
+            b"sip-trace 2\nt1 500 t2 4000 t4 5000 early 50 late 60",
+            0,
+            Some(LogError::Header),
+        ),
+    ];
+    assert_eq!(rt; first_other(rt.alloc(), b"", &rows)?, None);
+    Ok(())
+}
+
+#[test]
+fn what_a_header_tells(rt: HostRuntime) -> Result<(), Fail> {
+    let rows: [(&[u8], Told); 6] = [
+        (HEADER, (500, 4_000, 5_000, 50, 50, Rules::R6026)),
+        (HEADER_2, (500, 4_000, 5_000, 50, 60, Rules::R6026)),
+        (
+            b"sip-trace 1\nt1 1 t2 2 t4 3 tolerance 4\nrules 3261\n",
+            (1, 2, 3, 4, 4, Rules::R3261),
+        ),
+        (
+            b"sip-trace 1\nt1 1 t2 2 t4 3 tolerance 4\nrules 6026\nM 0\n",
+            (1, 2, 3, 4, 4, Rules::R6026),
+        ),
+        (
+            b"sip-trace 2\nt1 1 t2 2 t4 3 early 0 late 100\nrules 3261\nZ 0\n",
+            (1, 2, 3, 0, 100, Rules::R3261),
+        ),
+        (
+            b"sip-trace 2\nt1 1 t2 2 t4 3 early 100 late 0\nrules 6026\n",
+            (1, 2, 3, 100, 0, Rules::R6026),
+        ),
+    ];
+    for (bytes, want) in rows {
+        assert_eq!(rt; told(rt.alloc(), bytes), Some(want));
+    }
+    Ok(())
+}
+
+/// A restart has its moment, and no message.
+#[test]
+fn what_a_restart_tells(rt: HostRuntime) -> Result<(), Fail> {
+    let mut bytes = Vec::from_slice(rt.alloc(), HEADER_2)?;
+    bytes.extend_from_slice(b"M 7\nZ 100\n")?;
+    let entries = read_entries(rt.alloc(), &mut FromRead::new(bytes.as_slice()));
+    let entries = entries.ok().ok_or("not read")?;
+    let entry = entries.get(1).ok_or("no entry")?;
+    assert_eq!(rt; (entry.number, entry.moment), (2, 100));
+    assert_eq!(rt; entry.action, Action::Restart);
+    assert!(rt; entry.bytes.is_empty());
+    Ok(())
+}
+
+/// Writes a header of format 2 and three entries.
+fn write<W: Sink>(writer: &mut W, params: &Params) -> Result<(), WriteError> {
+    write_header_2(writer, params)?;
+    write_entry(writer, Action::Sent, 0, b"hello")?;
+    write_entry(writer, Action::Restart, 7, b"plays no part")?;
+    write_entry(writer, Action::Mark, 9, b"")
+}
+
+const WRITTEN: &[u8] =
+    b"sip-trace 2\nt1 500 t2 4000 t4 5000 early 0 late 100\nrules 3261\nS 0 5\nhello\nZ 7\nM 9\n";
+
+fn times(early: u64, late: u64, rules: Rules) -> Option<Params> {
+    Some(Params::with_tolerances(500, 4_000, 5_000, early, late)?.with_rules(rules))
+}
+
+#[test]
+fn what_is_written_in_format_2(rt: HostRuntime) -> Result<(), Fail> {
+    let params = times(0, 100, Rules::R3261).ok_or("refused")?;
+    let mut text = Vec::new(rt.alloc());
+    let mut sink = ToWrite::new(&mut text);
+    assert_eq!(rt; write(&mut sink, &params), Ok(()));
+    assert!(rt; text.as_slice() == WRITTEN);
+    assert_eq!(rt; read_cut(rt.alloc(), WRITTEN), Some((3, None)));
+    Ok(())
+}
+
+/// Writes a header alone, by format 1 or 2.
+fn header_of(alloc: Global, format: u8, params: &Params) -> Result<Option<Vec<u8>>, AllocError> {
+    let mut text = Vec::new(alloc);
+    let mut sink = ToWrite::new(&mut text);
+    let written = if format == 1 {
+        write_header(&mut sink, params)
+    } else {
+        write_header_2(&mut sink, params)
+    };
+    match written {
+        Ok(()) => Ok(Some(text)),
+        Err(WriteError::Io) => Err(AllocError),
+        Err(WriteError::Limit) => Ok(None),
+    }
+}
+
+/// The line of rules is written for RFC 3261 alone; format 1 has no two tolerances.
+#[test]
+fn headers_that_are_written(rt: HostRuntime) -> Result<(), Fail> {
+    let rows: [(u8, u64, u64, Rules, Option<&[u8]>); 6] = [
+        (1, 50, 50, Rules::R6026, Some(HEADER)),
+        (
+            1,
+            50,
+            50,
+            Rules::R3261,
+            Some(b"sip-trace 1\nt1 500 t2 4000 t4 5000 tolerance 50\nrules 3261\n"),
+        ),
+        (1, 50, 60, Rules::R6026, None),
+        (1, 60, 50, Rules::R3261, None),
+        (2, 50, 60, Rules::R6026, Some(HEADER_2)),
+        (
+            2,
+            50,
+            50,
+            Rules::R3261,
+            Some(b"sip-trace 2\nt1 500 t2 4000 t4 5000 early 50 late 50\nrules 3261\n"),
+        ),
+    ];
+    for (format, early, late, rules, want) in rows {
+        let params = times(early, late, rules).ok_or("refused")?;
+        let text = header_of(rt.alloc(), format, &params)?;
+        let text = text.as_ref().map(|text| text.as_slice());
+        assert!(rt; text == want, "{format} {early} {late} {rules:?}");
+    }
+    Ok(())
+}
+
+/// Nothing is written of a header that has two tolerances in format 1, nor of a restart behind the last moment.
+#[test]
+fn what_is_not_written(rt: HostRuntime) -> Result<(), Fail> {
+    let params = times(50, 51, Rules::R6026).ok_or("refused")?;
+    let mut room = Room::of(1_000);
+    assert_eq!(rt; write_header(&mut room, &params), Err(WriteError::Limit));
+    assert_eq!(rt;
+        write_entry(&mut room, Action::Restart, 10_000_000_000_000, b""),
+        Err(WriteError::Limit)
+    );
+    assert_eq!(rt; room.taken(), 0);
+    assert_eq!(rt;
+        write_entry(&mut room, Action::Restart, 9_999_999_999_999, b"x"),
+        Ok(())
+    );
+    Ok(())
+}
+
+/// A source that fails at its nth call: what came before is told, then `Io`, and then `Failed`.
+#[test]
+fn a_source_that_fails(rt: HostRuntime) -> Result<(), Fail> {
+    // The last call finds the end.
+    for calls in 0..=WRITTEN.len() {
+        let whole = match calls {
+            0..=74 => 0,
+            75..=78 => 1,
+            79..=82 => 2,
+            _ => 3,
+        };
+        assert_eq!(rt;
+            read(rt.alloc(), Pieces::failing(WRITTEN, calls)),
+            Some((whole, Some(LogError::Io))),
+            "after {calls}"
+        );
+    }
+    assert_eq!(rt;
+        read(rt.alloc(), Pieces::failing(WRITTEN, WRITTEN.len() + 1)),
+        Some((3, None))
+    );
+    Ok(())
+}
+
+/// A sink that fails at its nth call.
+#[test]
+fn a_sink_that_fails(rt: HostRuntime) -> Result<(), Fail> {
+    let params = times(0, 100, Rules::R3261).ok_or("refused")?;
+    let mut room = Room::of(1_000);
+    assert_eq!(rt; write(&mut room, &params), Ok(()));
+    for calls in 0..room.taken() {
+        let mut room = Room::of(calls);
+        assert_eq!(rt;
+            write(&mut room, &params),
+            Err(WriteError::Io),
+            "after {calls}"
+        );
+        assert!(rt; room.has_failed());
+    }
+    Ok(())
+}
+
+/// With any growth refused, the log is read whole, or want of memory is told.
+#[test]
+fn reads_or_tells_want_of_memory(rt: HostRuntime) {
+    let answer = read(rt.alloc(), FromRead::new(WRITTEN));
+    assert!(rt; matches!(answer, Some((3, None)) | Some((_, Some(LogError::Memory)))));
+}

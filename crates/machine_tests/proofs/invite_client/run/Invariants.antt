@@ -1,8 +1,0 @@
-use Rattle.std.specs.Prelude.{All}
-use Rattle.sip_machine.specs.Owing.{owing_names, OwingInRange}
-use Rattle.sip_machine.specs.InviteClient.{invite_client_names, InviteClientInRange}
-use Rattle.sip_machine.specs.Rules.{Knows}
-use Rattle.machine_tests.proofs.invite_client.run.Given as goal
-
-abbrev pub invariant-loop-moment : goal.invariant-loop-moment
-invariant-loop-moment l = All (Knows (owing_names invite_client_names) l.book) l.states.items × All (OwingInRange InviteClientInRange) l.states.items

@@ -1,0 +1,481 @@
+//! The INVITE machines of RFC 3261 without its correction, and restarts, with moments worked out by hand for T1 500, T2 4000, T4 5000 and 50 either way.
+
+use crate::messages::{Numbered, Start, book_of};
+use crate::runs::{Entry, run};
+use sip_machine::{
+    Action, InviteClient, InviteClient3261, InviteClientPhase, InviteServer, InviteServer3261,
+    InviteServer3261Phase, InviteServerPhase, Machine, Owing, Params, Phase, Run, Waiting,
+};
+use std::alloc::Global;
+use std::process::Abort;
+use std::test::Fail;
+
+const INVITE: u32 = 1;
+
+const RINGING: u32 = 2;
+
+const BUSY: u32 = 3;
+
+const OK: u32 = 4;
+
+const ACK: u32 = 5;
+
+/// A restart has no message.
+const NONE: u32 = 0;
+
+/// Each message by its number.
+const MESSAGES: [Numbered; 5] = [
+    (INVITE, Start::Request("INVITE"), None),
+    (RINGING, Start::Response(180), Some(2)),
+    (BUSY, Start::Response(486), Some(2)),
+    (OK, Start::Response(200), Some(2)),
+    (ACK, Start::Request("ACK"), Some(2)),
+];
+
+fn params() -> Result<Params, Fail> {
+    let params = Params::new(500, 4_000, 5_000, 50).ok_or("refused")?;
+    Ok(params)
+}
+
+/// The states of the machine after the entries, of all steps.
+fn states_after<M: Machine>(
+    alloc: Global,
+    machine: &M,
+    entries: &[Entry],
+) -> Result<Vec<M::State>, Fail> {
+    let book = book_of(alloc, &MESSAGES, "INVITE", "UDP")?;
+    run(alloc, machine, &book, entries)
+}
+
+/// A debt that is wanted: its message, its deadline, and whether it must be sent.
+type Owed = (u32, u64, bool);
+
+const MUST: bool = true;
+
+const MAY: bool = false;
+
+/// A state that is wanted: its phase, and what it owes.
+type Want<P> = (P, &'static [Owed]);
+
+fn are_owed(runs: &[Run], wants: &[Owed]) -> bool {
+    runs.len() == wants.len()
+        && runs.iter().zip(wants).all(|(run, want)| {
+            run.count == 1
+                && run.debt.message == want.0
+                && run.debt.deadline == want.1
+                && run.debt.must == want.2
+        })
+}
+
+fn are_wanted<P: Phase>(states: &[Owing<P>], wants: &[Want<P>]) -> bool {
+    states.len() == wants.len()
+        && states.iter().zip(wants).all(|(state, want)| state.phase == want.0
+            && are_owed(state.owes.runs(), want.1))
+}
+
+type Server = (&'static [Entry], &'static [Want<InviteServer3261Phase>]);
+
+type Client = (&'static [Entry], &'static [Want<InviteClientPhase>]);
+
+const IDLE: InviteServer3261Phase = InviteServer3261Phase::In {
+    phase: InviteServerPhase::Idle,
+    again: false,
+};
+
+const PASSED: InviteServer3261Phase = InviteServer3261Phase::Passed;
+
+const INVITED: InviteServer3261Phase = InviteServer3261Phase::In {
+    phase: InviteServerPhase::Proceeding {
+        reliable: false,
+        set: 0,
+        last: None,
+    },
+    again: false,
+};
+
+const INVITED_AGAIN: InviteServer3261Phase = InviteServer3261Phase::In {
+    phase: InviteServerPhase::Proceeding {
+        reliable: false,
+        set: 500,
+        last: None,
+    },
+    again: true,
+};
+
+const RINGS_AGAIN: InviteServer3261Phase = InviteServer3261Phase::In {
+    phase: InviteServerPhase::Proceeding {
+        reliable: false,
+        set: 500,
+        last: Some(RINGING),
+    },
+    again: true,
+};
+
+const BUSY_AGAIN: InviteServer3261Phase = InviteServer3261Phase::In {
+    phase: InviteServerPhase::Completed {
+        reliable: false,
+        final_message: BUSY,
+        set: 510,
+        repeat: 510,
+        interval: 500,
+    },
+    again: true,
+};
+
+const CONFIRMED_AGAIN: InviteServer3261Phase = InviteServer3261Phase::In {
+    phase: InviteServerPhase::Confirmed {
+        reliable: false,
+        set: 600,
+    },
+    again: true,
+};
+
+const BUSY_ONCE: InviteServer3261Phase = InviteServer3261Phase::In {
+    phase: InviteServerPhase::Completed {
+        reliable: false,
+        final_message: BUSY,
+        set: 10,
+        repeat: 10,
+        interval: 500,
+    },
+    again: false,
+};
+
+const INVITE_CAME: Entry = (0, Action::Received, INVITE);
+
+const INVITE_CAME_AGAIN: Entry = (500, Action::Received, INVITE);
+
+const OK_WENT: Entry = (0, Action::Sent, OK);
+
+static A_2XX_IS_THE_LAST_OF_A_SERVER: &[Server] = &[
+    (&[], &[(IDLE, &[])]),
+    (&[INVITE_CAME], &[(INVITED, &[])]),
+    (&[INVITE_CAME, OK_WENT], &[(PASSED, &[])]),
+    (&[INVITE_CAME, (0, Action::Failed, OK)], &[(PASSED, &[])]),
+    (
+        &[INVITE_CAME, OK_WENT, (900_000, Action::Sent, OK)],
+        &[(PASSED, &[])],
+    ),
+    (&[INVITE_CAME, OK_WENT, (600, Action::Sent, BUSY)], &[]),
+    (&[INVITE_CAME, OK_WENT, (600, Action::Sent, RINGING)], &[]),
+    (
+        &[INVITE_CAME, OK_WENT, (600, Action::Received, ACK)],
+        &[(PASSED, &[])],
+    ),
+    // what is owed is gone with the 2xx
+    (
+        &[
+            INVITE_CAME,
+            (5, Action::Sent, RINGING),
+            (10, Action::Received, INVITE),
+            (20, Action::Sent, OK),
+        ],
+        &[(PASSED, &[])],
+    ),
+    (
+        &[
+            INVITE_CAME,
+            (5, Action::Sent, RINGING),
+            (10, Action::Received, INVITE),
+            (20, Action::Sent, OK),
+            (60, Action::Sent, RINGING),
+        ],
+        &[],
+    ),
+];
+
+static AN_INVITE_COMES_AGAIN_BEHIND_A_2XX: &[Server] = &[
+    (
+        &[INVITE_CAME, OK_WENT, INVITE_CAME_AGAIN],
+        &[(INVITED_AGAIN, &[])],
+    ),
+    (
+        &[
+            INVITE_CAME,
+            OK_WENT,
+            INVITE_CAME_AGAIN,
+            (510, Action::Sent, RINGING),
+        ],
+        &[(RINGS_AGAIN, &[])],
+    ),
+    (
+        &[
+            INVITE_CAME,
+            OK_WENT,
+            INVITE_CAME_AGAIN,
+            (750, Action::Sent, RINGING),
+        ],
+        &[(RINGS_AGAIN, &[])],
+    ),
+    (
+        &[
+            INVITE_CAME,
+            OK_WENT,
+            INVITE_CAME_AGAIN,
+            (751, Action::Sent, RINGING),
+        ],
+        &[],
+    ),
+    // the 2xx of the transaction, or the user's again
+    (
+        &[
+            INVITE_CAME,
+            OK_WENT,
+            INVITE_CAME_AGAIN,
+            (510, Action::Sent, OK),
+        ],
+        &[(PASSED, &[]), (INVITED_AGAIN, &[])],
+    ),
+    (
+        &[
+            INVITE_CAME,
+            OK_WENT,
+            INVITE_CAME_AGAIN,
+            (510, Action::Sent, BUSY),
+        ],
+        &[(BUSY_AGAIN, &[])],
+    ),
+    (
+        &[
+            INVITE_CAME,
+            OK_WENT,
+            INVITE_CAME_AGAIN,
+            (510, Action::Sent, BUSY),
+            (520, Action::Sent, OK),
+        ],
+        &[(BUSY_AGAIN, &[])],
+    ),
+    (
+        &[
+            INVITE_CAME,
+            OK_WENT,
+            INVITE_CAME_AGAIN,
+            (510, Action::Sent, BUSY),
+            (520, Action::Received, INVITE),
+        ],
+        &[(BUSY_AGAIN, &[(BUSY, 570, MAY)])],
+    ),
+    (
+        &[
+            INVITE_CAME,
+            OK_WENT,
+            INVITE_CAME_AGAIN,
+            (510, Action::Sent, BUSY),
+            (600, Action::Received, ACK),
+            (700, Action::Sent, OK),
+        ],
+        &[(CONFIRMED_AGAIN, &[])],
+    ),
+    // where it did not, a 2xx behind another final response is none of its rows
+    (
+        &[INVITE_CAME, (10, Action::Sent, BUSY)],
+        &[(BUSY_ONCE, &[])],
+    ),
+    (
+        &[
+            INVITE_CAME,
+            (10, Action::Sent, BUSY),
+            (20, Action::Sent, OK),
+        ],
+        &[],
+    ),
+];
+
+static A_SERVER_STARTS_ANEW: &[Server] = &[
+    (&[(100, Action::Restart, NONE)], &[(IDLE, &[])]),
+    (&[INVITE_CAME, (100, Action::Restart, NONE)], &[(IDLE, &[])]),
+    (&[INVITE_CAME, (251, Action::Restart, NONE)], &[]),
+    (
+        &[INVITE_CAME, OK_WENT, (100, Action::Restart, NONE)],
+        &[(IDLE, &[])],
+    ),
+    (
+        &[
+            INVITE_CAME,
+            (5, Action::Sent, RINGING),
+            (10, Action::Received, INVITE),
+            (60, Action::Restart, NONE),
+        ],
+        &[(IDLE, &[])],
+    ),
+    (
+        &[
+            INVITE_CAME,
+            (5, Action::Sent, RINGING),
+            (10, Action::Received, INVITE),
+            (61, Action::Restart, NONE),
+        ],
+        &[],
+    ),
+];
+
+const CALLS: InviteClientPhase = InviteClientPhase::Calling(Waiting {
+    reliable: false,
+    request: INVITE,
+    start: 0,
+    set: 0,
+    interval: 500,
+});
+
+const PROCEEDS: InviteClientPhase = InviteClientPhase::Proceeding {
+    reliable: false,
+    request: INVITE,
+    cancel: None,
+};
+
+const IS_BUSY: InviteClientPhase = InviteClientPhase::Completed {
+    reliable: false,
+    request: INVITE,
+    set: 100,
+};
+
+const ENDED: InviteClientPhase = InviteClientPhase::Ended;
+
+const INVITE_WENT: Entry = (0, Action::Sent, INVITE);
+
+static A_2XX_ENDS_A_CLIENT: &[Client] = &[
+    (&[INVITE_WENT], &[(CALLS, &[])]),
+    (&[INVITE_WENT, (100, Action::Received, OK)], &[(ENDED, &[])]),
+    (
+        &[INVITE_WENT, (100, Action::Received, RINGING)],
+        &[(PROCEEDS, &[])],
+    ),
+    (
+        &[
+            INVITE_WENT,
+            (50, Action::Received, RINGING),
+            (100, Action::Received, OK),
+        ],
+        &[(ENDED, &[])],
+    ),
+    (
+        &[INVITE_WENT, (100, Action::Received, BUSY)],
+        &[(IS_BUSY, &[(BUSY, 150, MUST)])],
+    ),
+    (
+        &[
+            INVITE_WENT,
+            (100, Action::Received, BUSY),
+            (120, Action::Received, OK),
+        ],
+        &[(IS_BUSY, &[(BUSY, 150, MUST)])],
+    ),
+    (
+        &[
+            INVITE_WENT,
+            (100, Action::Received, OK),
+            (900_000, Action::Received, OK),
+        ],
+        &[(ENDED, &[])],
+    ),
+];
+
+static A_CLIENT_STARTS_ANEW: &[Client] = &[
+    (
+        &[(100, Action::Restart, NONE)],
+        &[(InviteClientPhase::Idle, &[])],
+    ),
+    (
+        &[INVITE_WENT, (100, Action::Restart, NONE)],
+        &[(ENDED, &[])],
+    ),
+    (
+        &[INVITE_WENT, (550, Action::Restart, NONE)],
+        &[(ENDED, &[])],
+    ),
+    (&[INVITE_WENT, (551, Action::Restart, NONE)], &[]),
+    // the ACK that is owed is gone
+    (
+        &[
+            INVITE_WENT,
+            (100, Action::Received, BUSY),
+            (150, Action::Restart, NONE),
+        ],
+        &[(ENDED, &[])],
+    ),
+    (
+        &[
+            INVITE_WENT,
+            (100, Action::Received, BUSY),
+            (151, Action::Restart, NONE),
+        ],
+        &[],
+    ),
+    (
+        &[
+            INVITE_WENT,
+            (100, Action::Restart, NONE),
+            (200, Action::Sent, INVITE),
+        ],
+        &[],
+    ),
+];
+
+fn all_serve(rt: &(impl Abort + AllocGlobal), rows: &[Server]) -> Result<(), Fail> {
+    let server = InviteServer3261::new(params()?);
+    for &(entries, wants) in rows {
+        let states = states_after(rt.alloc(), &server, entries)?;
+        assert!(rt; are_wanted(&states, wants), "{entries:?} {states:?}");
+    }
+    Ok(())
+}
+
+fn all_call(rt: &(impl Abort + AllocGlobal), rows: &[Client]) -> Result<(), Fail> {
+    let client = InviteClient3261::new(params()?);
+    for &(entries, wants) in rows {
+        let states = states_after(rt.alloc(), &client, entries)?;
+        assert!(rt; are_wanted(&states, wants), "{entries:?} {states:?}");
+    }
+    Ok(())
+}
+
+#[test]
+fn a_2xx_is_the_last_of_a_server(rt: HostRuntime) -> Result<(), Fail> {
+    all_serve(&rt, A_2XX_IS_THE_LAST_OF_A_SERVER)
+}
+
+#[test]
+fn an_invite_comes_again_behind_a_2xx(rt: HostRuntime) -> Result<(), Fail> {
+    all_serve(&rt, AN_INVITE_COMES_AGAIN_BEHIND_A_2XX)
+}
+
+#[test]
+fn a_server_starts_anew(rt: HostRuntime) -> Result<(), Fail> {
+    all_serve(&rt, A_SERVER_STARTS_ANEW)
+}
+
+#[test]
+fn a_2xx_ends_a_client(rt: HostRuntime) -> Result<(), Fail> {
+    all_call(&rt, A_2XX_ENDS_A_CLIENT)
+}
+
+#[test]
+fn a_client_starts_anew(rt: HostRuntime) -> Result<(), Fail> {
+    all_call(&rt, A_CLIENT_STARTS_ANEW)
+}
+
+/// Where the rules of RFC 6026 lead after the same entries.
+#[test]
+fn by_rfc_6026_an_invite_behind_a_2xx_changes_nothing(rt: HostRuntime) -> Result<(), Fail> {
+    let server = InviteServer::new(params()?);
+    let states = states_after(
+        rt.alloc(),
+        &server,
+        &[INVITE_CAME, OK_WENT, INVITE_CAME_AGAIN],
+    )?;
+    assert!(rt;
+        are_wanted(&states, &[(InviteServerPhase::Accepted { set: 0 }, &[])]),
+        "{states:?}"
+    );
+    let client = InviteClient::new(params()?);
+    let states = states_after(
+        rt.alloc(),
+        &client,
+        &[INVITE_WENT, (100, Action::Received, OK)],
+    )?;
+    assert!(rt;
+        are_wanted(&states, &[(InviteClientPhase::Accepted { set: 100 }, &[])]),
+        "{states:?}"
+    );
+    Ok(())
+}

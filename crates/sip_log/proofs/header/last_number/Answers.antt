@@ -1,0 +1,21 @@
+use Rattle.std.proofs.Common.{◌≡◌, [], ap, length, subst, sym}
+use Rattle.std.proofs.lemmas.Bool.{eqb-true, eqb-false}
+use Rattle.std.proofs.lemmas.List.{nil_from_length}
+use Rattle.sip_log.specs.inner.Header.{NumberAfter}
+use Rattle.sip_log.proofs.HeaderLemmas.{NumberAfter-one}
+use Rattle.sip_log.proofs.header.last_number.Goals as goal
+
+pub returns-in_err-value : goal.returns-in_err-value
+returns-in_err-value c = rw c.from_residual.ensures (λ n is. c.in_err-value.ensures n [] is)
+
+pub returns-then-not-is_empty : goal.returns-then-not-is_empty
+returns-then-not-is_empty c = λ n is.
+    let value = c.in_ok-value.ensures in
+    let none : [] ≡ c.in_ok-value.rest.now = (NumberAfter-one c.args.word.now c.args.text.now n value.0 [] c.in_ok-value.rest.now is value.1).1 in
+    eqb-false _ 0 (sym c.if-not-is_empty.ensures) (ap length (sym none))
+
+pub returns : goal.returns
+returns c =
+    let value = c.in_ok-value.ensures in
+    let none : c.in_ok-value.rest.now ≡ [] = nil_from_length _ (eqb-true _ 0 (sym c.if-not-is_empty.ensures)) in
+    (value.0, subst (NumberAfter c.args.word.now c.args.text.now value.0) none value.1, value.2)

@@ -1,0 +1,62 @@
+use Rattle.std.proofs.Common.{length, get_or, drop, ap, ◌∙◌, arith}
+use Rattle.std.proofs.lemmas.List.{length-append}
+use Rattle.sip_times.specs.Times.{under}
+use Rattle.sip_log.specs.inner.Header.{ComesThird}
+use Rattle.sip_log.specs.Next.{gives}
+use Rattle.sip_log.specs.inner.Window.{items}
+use Rattle.sip_log.proofs.SaysLemmas.{Says-value}
+use Rattle.sip_log.proofs.ToldLemmas.{none_left, Reads-then}
+use Rattle.sip_log.proofs.HeaderLemmas.{ComesThird-end, ComesThird-other, ComesThird-unruled, ComesThird-rules}
+use Rattle.sip_log.proofs.header.read_third.Goals as goal
+
+pub returns-then-not-branch : goal.returns-then-not-branch
+returns-then-not-branch g c =
+    let p = c.args.times in
+    let hold = c.in_ok-hold.ensures in
+    let held = items c.hold.new.self in
+    let end = hold.none c.if-not-branch.true in
+    Says-value hold.reads (ComesThird c.args.format p) held (gives (c.args.format, p))
+    (λ ys left.
+    let none = none_left _ ys left end.1 in
+    ComesThird-end c.args.format p c.requires _ (omega (arith, length-append held ys, ap length none, end.0)))
+
+pub returns-then-as_slice-ne114 : goal.returns-then-as_slice-ne114
+returns-then-as_slice-ne114 g c =
+    let p = c.args.times in
+    let hold = c.in_ok-hold.ensures in
+    let held = items c.hold.new.self in
+    Says-value hold.reads (ComesThird c.args.format p) held (gives (c.args.format, p))
+    (λ ys left.
+    ComesThird-other c.args.format p c.requires held ys (hold.some c.if-not-branch.false)
+    (λ is. c.if-as_slice-ne114.true (ap (λ (t : _). get_or t 0 0) c.as_slice.ensures.value ∙ is)))
+
+pub returns-then-not-branch-2 : goal.returns-then-not-branch-2
+returns-then-not-branch-2 g c =
+    let p = c.args.times in
+    let hold = c.in_ok-hold-2.ensures in
+    let held = items c.hold-2.new.self in
+    let end = hold.none c.if-not-branch-2.true in
+    Says-value (Reads-then c.in_ok-hold.ensures.reads hold.reads) (ComesThird c.args.format p) held (gives (c.args.format, p))
+    (λ ys left.
+    let none = none_left _ ys left end.1 in
+    ComesThird-end c.args.format p c.requires _ (omega (arith, length-append held ys, ap length none, end.0)))
+
+pub returns-in_default : goal.returns-in_default
+returns-in_default g c =
+    let p = c.args.times in
+    let hold = c.in_ok-hold-2.ensures in
+    let held = items c.hold-2.new.self in
+    Says-value (Reads-then c.in_ok-hold.ensures.reads hold.reads) (ComesThird c.args.format p) held (gives (c.args.format, p))
+    (λ ys left.
+    ComesThird-unruled c.args.format p c.requires held ys (hold.some c.if-not-branch-2.false) (rw c.as_slice-2.ensures.value at c.in_default.ensures))
+
+pub returns : goal.returns
+returns g c =
+    let p = c.args.times in
+    let hold = c.in_ok-hold-2.ensures in
+    let held = items c.hold-2.new.self in
+    let rules = c.in-Some.rules in
+    rw c.consume.ensures
+    (rw c.with_rules.ensures.value
+    (Says-value (Reads-then c.in_ok-hold.ensures.reads hold.reads) (ComesThird c.args.format p) (drop 11 held) (gives (c.args.format, under rules p))
+    (λ ys left. ComesThird-rules c.args.format p held ys rules (rw c.as_slice-2.ensures.value at c.in-Some.ensures))))

@@ -1,0 +1,12 @@
+use Rattle.std.proofs.Common.{refl}
+use Rattle.sip_log.proofs.Logs.{rules-of-one, restarts-of-one}
+use Rattle.sip_log.proofs.laws.a_log_of_format_1_is_as_it_was.Goals as goal
+
+pub returns-clause-tolerance : goal.returns-clause-tolerance
+returns-clause-tolerance c = λ input p behind is. is.one refl
+
+pub returns-clause-rules : goal.returns-clause-rules
+returns-clause-rules c = rules-of-one
+
+pub returns-clause-restarts : goal.returns-clause-restarts
+returns-clause-restarts c = restarts-of-one

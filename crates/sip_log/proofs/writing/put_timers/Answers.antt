@@ -1,0 +1,7 @@
+use Rattle.sip_log.proofs.PutsLemmas.{timers-put}
+use Rattle.sip_log.proofs.writing.put_timers.Goals as goal
+
+pub returns : goal.returns
+returns g c =
+    timers-put _ _ _ _ _ _ _ _ c.args.params.now c.put_named-3.result (rw c.t1.ensures.value at c.in_ok-put_named.ensures)
+    (rw c.t2.ensures.value at c.in_ok-put_named-2.ensures) (rw c.t4.ensures.value at c.put_named-3.ensures)

@@ -1,0 +1,25 @@
+use Rattle.std.proofs.Common.{sym, subst, ◌∙◌, true≢false}
+use Rattle.sip_machine.specs.MachineEvent.{event_in}
+use Rattle.sip_machine.specs.Message.{IsSuccess}
+use Rattle.sip_machine.specs.Owing.{turn_seen, turn_names, TurnInRange}
+use Rattle.sip_machine.specs.InviteServer3261.{Sends, invite_server_3261_seen, invite_server_3261_names, InviteServer3261InRange}
+use Rattle.sip_machine.specs.inner.Single.{AnswersOne}
+use Rattle.sip_machine.proofs.Rows3261.{sent-within}
+use Rattle.sip_machine.proofs.invite_server_3261.InviteServer3261Phases.sends.Goals as goal
+
+pub returns-then-is_success : goal.returns-then-is_success
+returns-then-is_success c =
+    let texts = c.args.book.now in
+    let e = event_in texts c.args.event.now in
+    subst (λ k. AnswersOne (turn_names invite_server_3261_names) (TurnInRange InviteServer3261InRange) (turn_seen invite_server_3261_seen) texts
+    (Sends c.args.self.now (invite_server_3261_seen texts c.args.phase.now) k e) c.succeeds.result) c.in-Response.ensures
+    (c.succeeds.ensures c.args.self.now texts c.in-Response.code e (c.is_success.ensures.0 c.if-is_success.true))
+
+pub returns-in_ok-sent-in-In : goal.returns-in_ok-sent-in-In
+returns-in_ok-sent-in-In c =
+    let texts = c.args.book.now in
+    let e = c.args.event.now in
+    let other : ¬ (IsSuccess c.in-Response.code) = λ success. true≢false (sym (c.is_success.ensures.1 success) ∙ c.if-is_success.false) in
+    rw (c.in-In.is, c.within.ensures)
+    (sent-within c.args.self.now texts c.in-In.phase c.in-In.again c.in-Response.code e.kind (event_in texts e) c.in_ok-sent-in-In.sent c.in-Response.ensures other
+    (rw c.self.view_is at c.in_ok-sent-in-In.ensures))

@@ -1,0 +1,10 @@
+use Rattle.std.proofs.Common.{◌<◌, Some}
+use Rattle.sip_machine.proofs.PayableLemmas.{lower}
+use Rattle.sip_machine.proofs.ToLemmas.{below_last}
+use Rattle.sip_machine.proofs.tos.Tos.are_below.Goals as goal
+
+pub returns-in-Some : goal.returns-in-Some
+returns-in-Some c lt =
+    let low : c.in-Some.last.now.number < c.args.number = lower c.in-Some.last.now.number c.args.number lt in
+    let is = rw (c.in-Some.is, c.deref.ensures.value) at c.last.ensures.value in
+    rw (← c.self.view_is) (below_last c.self.inside.list.items c.args.number (Some c.in-Some.last.now) c.self.invariant.0 is low)

@@ -1,0 +1,7 @@
+use Rattle.std.proofs.Common.{take}
+use Rattle.sip_machine.specs.inner.Tos.{AreOwned}
+use Rattle.sip_machine.proofs.tos.note_each.Given as goal
+
+-- those so far are told
+abbrev pub invariant-loop-at : goal.invariant-loop-at
+invariant-loop-at l = AreOwned l.owners (take l.at l.list)

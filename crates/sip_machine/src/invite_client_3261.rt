@@ -1,0 +1,177 @@
+//! The INVITE client transaction of RFC 3261 section 17.1.1, without the accepted state of RFC 6026.
+ghost use Rattle.std.specs.Prelude.{◌≡◌, ◌↔◌, IsTrue};
+ghost use Rattle.sip_machine.specs.Texts.{Texts};
+ghost use Rattle.sip_machine.specs.InviteClient.{invite_client_seen};
+ghost use Rattle.sip_machine.specs.inner.InviteClient3261Laws.{IsEndedBy};
+
+use crate::book::Book;
+use crate::event::{Event, Kind, is_success};
+use crate::invite_client::{InviteClient, InviteClientPhase};
+use crate::owes::Owes;
+use crate::phases::{Change, Phases, Turn};
+use crate::told::Told;
+use sip_times::Params;
+use std::alloc::{AllocError, Global};
+use std::marker::Model;
+
+/// The INVITE client transaction of an element that was built before RFC 6026: a 2xx ends it. Its phases are those of
+/// `InviteClient`, of which it never enters accepted.
+#[derive(Clone, Copy, Debug)]
+pub struct InviteClient3261 {
+    corrected: InviteClient,
+}
+
+impl Model for InviteClient3261 {
+    ghost use Rattle.sip_machine.specs.Times.{Times};
+
+    ghost Value = { Times };
+
+    ghost view = { λ m. m.corrected };
+
+    ghost inverse = { λ p. record { corrected = p } };
+}
+
+impl InviteClient3261 {
+    pub fn new(params: Params) -> InviteClient3261
+        ensures { result ≡ params }
+    {
+        InviteClient3261 {
+            corrected: InviteClient::new(params),
+        }
+    }
+}
+
+impl Phases for InviteClient3261 {
+    ghost use Rattle.std.specs.Prelude.{refl, []};
+    ghost use Rattle.sip_machine.specs.declared.invite_client.InviteClientPhase.TheVariants.{Idle, Ended};
+    ghost use Rattle.sip_machine.specs.InviteClient.{InviteClientPhase as Seen, invite_client_told, invite_client_seen, invite_client_names, InviteClientInRange};
+    ghost use Rattle.sip_machine.specs.InviteClient3261.{invite_client_3261};
+    ghost use Rattle.sip_machine.specs.inner.InviteClientLaws.{invite_client_window_same, invite_client_closes_same, invite_client_exact, invite_client_apart, invite_client_by_names};
+    ghost use Rattle.sip_machine.specs.inner.InviteClient3261Laws.{invite_client_3261_is_figure};
+
+    type Phase = InviteClientPhase;
+
+    ghost Seen = { Seen };
+
+    ghost figure = { invite_client_3261 };
+
+    ghost times = { λ p. p };
+
+    ghost seen = { invite_client_seen };
+
+    ghost names = { invite_client_names };
+
+    ghost in_range = { InviteClientInRange };
+
+    ghost told = { invite_client_told };
+
+    ghost idle = { λ p. Idle };
+
+    ghost ended = { λ p. Ended };
+
+    fn params(&self) -> &Params {
+        self.corrected.params()
+    }
+
+    fn idle(&self) -> InviteClientPhase {
+        InviteClientPhase::Idle
+    }
+
+    fn ended(&self) -> InviteClientPhase {
+        InviteClientPhase::Ended
+    }
+
+    fn receives(
+        &self,
+        alloc: Global,
+        book: &Book,
+        phase: &InviteClientPhase,
+        event: &Event,
+    ) -> Result<Option<Turn<InviteClientPhase>>, AllocError> {
+        if is_ended_by(phase, event.kind()) {
+            return Ok(Some(Turn {
+                phase: InviteClientPhase::Ended,
+                change: Change::Drops,
+            }));
+        }
+        self.corrected.receives(alloc, book, phase, event)
+    }
+
+    fn sends(
+        &self,
+        alloc: Global,
+        book: &Book,
+        phase: &InviteClientPhase,
+        event: &Event,
+    ) -> Result<Option<Turn<InviteClientPhase>>, AllocError> {
+        self.corrected.sends(alloc, book, phase, event)
+    }
+
+    fn paid(
+        &self,
+        alloc: Global,
+        book: &Book,
+        phase: &InviteClientPhase,
+        event: &Event,
+        owes: &Owes<InviteClientPhase>,
+    ) -> Result<Option<usize>, AllocError> {
+        self.corrected.paid(alloc, book, phase, event, owes)
+    }
+
+    fn stays(&self, phase: &InviteClientPhase, kind: Kind) -> bool {
+        self.corrected.stays(phase, kind)
+    }
+
+    fn ends_refused(&self, phase: &InviteClientPhase, kind: Kind) -> bool {
+        self.corrected.ends_refused(phase, kind)
+    }
+
+    fn timer_window(&self, phase: &InviteClientPhase) -> Option<(u64, Option<u64>)> {
+        self.corrected.timer_window(phase)
+    }
+
+    fn closes(&self, phase: &InviteClientPhase) -> Option<u64> {
+        self.corrected.closes(phase)
+    }
+
+    fn message(&self, phase: &InviteClientPhase) -> Option<u32> {
+        self.corrected.message(phase)
+    }
+
+    fn told(alloc: Global, phase: &InviteClientPhase) -> Result<Told, AllocError> {
+        InviteClient::told(alloc, phase)
+    }
+
+    ghost lawful = { invite_client_3261_is_figure };
+
+    ghost idle_stands = { λ p texts. refl };
+
+    ghost ended_stands = { λ p texts. refl };
+
+    ghost idle_fits = { λ p. (refl, tt) };
+
+    ghost ended_fits = { λ p. (refl, tt) };
+
+    ghost window_stands = { invite_client_window_same };
+
+    ghost closes_stand = { invite_client_closes_same };
+
+    ghost exact = { invite_client_exact };
+
+    ghost apart = { invite_client_apart };
+
+    ghost by_names = { invite_client_by_names };
+}
+
+/// Whether the phase waits for a final response, and the message is a 2xx.
+fn is_ended_by(phase: &InviteClientPhase, kind: Kind) -> bool
+    ensures { (texts : Texts) → IsTrue result ↔ IsEndedBy (invite_client_seen texts phase.now) kind }
+{
+    let Kind::Response(code) = kind else {
+        return false;
+    };
+    match *phase {
+        InviteClientPhase::Calling(_) | InviteClientPhase::Proceeding { .. } => is_success(code),
+        _ => false,
+    }
+}

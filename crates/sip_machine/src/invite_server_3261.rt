@@ -1,0 +1,321 @@
+//! The INVITE server transaction of RFC 3261 section 17.2.1, without the accepted state of RFC 6026.
+ghost use Rattle.std.specs.Prelude.{◌≡◌, ◌≤◌, ◌↔◌, ℕ, IsTrue, false};
+ghost use Rattle.std.specs.Option.{option_map};
+ghost use Rattle.sip_machine.specs.declared.event.Kind.TheVariants.{Response};
+ghost use Rattle.sip_machine.specs.declared.invite_server.InviteServerPhase.TheVariants.{Idle};
+ghost use Rattle.sip_machine.specs.declared.invite_server_3261.InviteServer3261Phase.TheVariants.{In};
+ghost use Rattle.sip_machine.specs.Times.{Times, last_moment};
+ghost use Rattle.sip_machine.specs.Texts.{Texts};
+ghost use Rattle.sip_machine.specs.MachineEvent.{MachineEvent, event_in};
+ghost use Rattle.sip_machine.specs.Message.{IsSuccess};
+ghost use Rattle.sip_machine.specs.InviteServer.{invite_server_seen};
+ghost use Rattle.sip_machine.specs.Owing.{turn_seen, turn_names, TurnInRange};
+ghost use Rattle.sip_machine.specs.InviteServer3261.{Passed, Receives, Sends, remembers, invite_server_3261_seen, invite_server_3261_names, InviteServer3261InRange};
+ghost use Rattle.sip_machine.specs.inner.InviteServer3261Laws.{turn_within};
+ghost use Rattle.sip_machine.specs.inner.Single.{AnswersOne};
+
+use crate::book::Book;
+use crate::debts::BoxedDebts;
+use crate::event::{Event, Kind, Method, is_success};
+use crate::invite_server::{InviteServer, InviteServerPhase};
+use crate::owes::Owes;
+use crate::owing::Owing;
+use crate::paying::first_equal;
+use crate::phases::{Change, Phase, Phases, Turn};
+use crate::told::{Field, Told};
+use sip_times::Params;
+use std::alloc::{AllocError, Global};
+use std::marker::Model;
+
+/// A phase of the INVITE server transaction of an element that was built before RFC 6026.
+#[derive(Clone, Copy, Debug, PartialEq, Eq, PartialOrd, Ord)]
+pub enum InviteServer3261Phase {
+    /// A 2xx was sent: it is the user's, which sends it again, and the INVITE may come again.
+    Passed,
+    In {
+        /// Never accepted.
+        phase: InviteServerPhase,
+        /// Whether the INVITE came again behind a 2xx.
+        again: bool,
+    },
+}
+
+impl Phase for InviteServer3261Phase {
+    type Debts = BoxedDebts;
+}
+
+/// A state of the transaction: its phase, and the responses that it owes.
+pub type InviteServer3261State = Owing<InviteServer3261Phase>;
+
+/// The INVITE server transaction of an element that was built before RFC 6026: a 2xx is the last that it does.
+#[derive(Clone, Copy, Debug)]
+pub struct InviteServer3261 {
+    corrected: InviteServer,
+}
+
+impl Model for InviteServer3261 {
+    ghost use Rattle.sip_machine.specs.Times.{Times};
+
+    ghost Value = { Times };
+
+    ghost view = { λ m. m.corrected };
+
+    ghost inverse = { λ p. record { corrected = p } };
+}
+
+impl InviteServer3261 {
+    pub fn new(params: Params) -> InviteServer3261
+        ensures { result ≡ params }
+    {
+        InviteServer3261 {
+            corrected: InviteServer::new(params),
+        }
+    }
+}
+
+impl Phases for InviteServer3261 {
+    ghost use Rattle.std.specs.Prelude.{refl, [], false};
+    ghost use Rattle.sip_machine.specs.declared.invite_server.InviteServerPhase.TheVariants.{Idle};
+    ghost use Rattle.sip_machine.specs.declared.invite_server_3261.InviteServer3261Phase.TheVariants.{In};
+    ghost use Rattle.sip_machine.specs.InviteServer3261.{InviteServer3261Phase as Seen, invite_server_3261, invite_server_3261_told, invite_server_3261_seen, invite_server_3261_names, InviteServer3261InRange};
+    ghost use Rattle.sip_machine.specs.inner.InviteServer3261Laws.{invite_server_3261_is_figure, invite_server_3261_window_same, invite_server_3261_closes_same, invite_server_3261_exact, invite_server_3261_apart, invite_server_3261_by_names};
+
+    type Phase = InviteServer3261Phase;
+
+    ghost Seen = { Seen };
+
+    ghost figure = { invite_server_3261 };
+
+    ghost times = { λ p. p };
+
+    ghost seen = { invite_server_3261_seen };
+
+    ghost names = { invite_server_3261_names };
+
+    ghost in_range = { InviteServer3261InRange };
+
+    ghost told = { invite_server_3261_told };
+
+    ghost idle = { λ p. In Idle false };
+
+    ghost ended = { λ p. In Idle false };
+
+    fn params(&self) -> &Params {
+        self.corrected.params()
+    }
+
+    fn idle(&self) -> InviteServer3261Phase {
+        idle()
+    }
+
+    fn ended(&self) -> InviteServer3261Phase {
+        idle()
+    }
+
+    fn receives(
+        &self,
+        alloc: Global,
+        book: &Book,
+        phase: &InviteServer3261Phase,
+        event: &Event,
+    ) -> Result<Option<Turn<InviteServer3261Phase>>, AllocError> {
+        match *phase {
+            InviteServer3261Phase::Passed => Ok(invited_again(event)),
+            InviteServer3261Phase::In { phase, again } => {
+                let received = self.corrected.receives(alloc, book, &phase, event)?;
+                Ok(within(received, again))
+            }
+        }
+    }
+
+    fn sends(
+        &self,
+        alloc: Global,
+        book: &Book,
+        phase: &InviteServer3261Phase,
+        event: &Event,
+    ) -> Result<Option<Turn<InviteServer3261Phase>>, AllocError> {
+        let Kind::Response(code) = event.kind() else {
+            return Ok(None);
+        };
+        if is_success(code) {
+            return Ok(succeeds(phase));
+        }
+        match *phase {
+            InviteServer3261Phase::Passed => Ok(None),
+            InviteServer3261Phase::In { phase, again } => {
+                let sent = self.corrected.sends(alloc, book, &phase, event)?;
+                Ok(within(sent, again))
+            }
+        }
+    }
+
+    fn paid(
+        &self,
+        _alloc: Global,
+        book: &Book,
+        _phase: &InviteServer3261Phase,
+        event: &Event,
+        owes: &Owes<InviteServer3261Phase>,
+    ) -> Result<Option<usize>, AllocError> {
+        match event.kind() {
+            Kind::Request(_) => Ok(None),
+            Kind::Response(code) => {
+                if is_success(code) {
+                    return Ok(None);
+                }
+                Ok(first_equal(book, event, owes))
+            }
+        }
+    }
+
+    fn stays(&self, phase: &InviteServer3261Phase, kind: Kind) -> bool {
+        let Kind::Response(code) = kind else {
+            return false;
+        };
+        match *phase {
+            InviteServer3261Phase::Passed => false,
+            InviteServer3261Phase::In { phase, again } => {
+                again && remembers(&phase) && is_success(code)
+            }
+        }
+    }
+
+    fn ends_refused(&self, _phase: &InviteServer3261Phase, _kind: Kind) -> bool {
+        false
+    }
+
+    fn timer_window(&self, phase: &InviteServer3261Phase) -> Option<(u64, Option<u64>)> {
+        match *phase {
+            InviteServer3261Phase::Passed => None,
+            InviteServer3261Phase::In { phase, .. } => self.corrected.timer_window(&phase),
+        }
+    }
+
+    fn closes(&self, phase: &InviteServer3261Phase) -> Option<u64> {
+        match *phase {
+            InviteServer3261Phase::Passed => None,
+            InviteServer3261Phase::In { phase, .. } => self.corrected.closes(&phase),
+        }
+    }
+
+    fn message(&self, phase: &InviteServer3261Phase) -> Option<u32> {
+        match *phase {
+            InviteServer3261Phase::Passed => None,
+            InviteServer3261Phase::In { phase, .. } => self.corrected.message(&phase),
+        }
+    }
+
+    fn told(alloc: Global, phase: &InviteServer3261Phase) -> Result<Told, AllocError> {
+        match *phase {
+            InviteServer3261Phase::Passed => Told::new(alloc, "passed", &[]),
+            InviteServer3261Phase::In { phase, again } => {
+                let mut told = InviteServer::told(alloc, &phase)?;
+                if remembers(&phase) {
+                    told.fields.push(Field::Flag("again", again))?;
+                }
+                Ok(told)
+            }
+        }
+    }
+
+    ghost lawful = { invite_server_3261_is_figure };
+
+    ghost idle_stands = { λ p texts. refl };
+
+    ghost ended_stands = { λ p texts. refl };
+
+    ghost idle_fits = { λ p. (refl, tt) };
+
+    ghost ended_fits = { λ p. (refl, tt) };
+
+    ghost window_stands = { invite_server_3261_window_same };
+
+    ghost closes_stand = { invite_server_3261_closes_same };
+
+    ghost exact = { invite_server_3261_exact };
+
+    ghost apart = { invite_server_3261_apart };
+
+    ghost by_names = { invite_server_3261_by_names };
+}
+
+/// The phase before the INVITE, which is the one after the end too.
+fn idle() -> InviteServer3261Phase
+    ensures { result ≡ In Idle false }
+{
+    InviteServer3261Phase::In {
+        phase: InviteServerPhase::Idle,
+        again: false,
+    }
+}
+
+/// Where a received message leads behind a 2xx: the INVITE begins the transaction anew.
+fn invited_again(event: &Event) -> Option<Turn<InviteServer3261Phase>>
+    requires { event.now.moment ≤ last_moment }
+    ensures { (p : Times) (texts : Texts) → AnswersOne (turn_names invite_server_3261_names) (TurnInRange InviteServer3261InRange) (turn_seen invite_server_3261_seen) texts
+        (Receives p Passed event.now.kind (event_in texts event.now)) result }
+{
+    let Kind::Request(Method::Invite) = event.kind() else {
+        return None;
+    };
+    Some(Turn {
+        phase: InviteServer3261Phase::In {
+            phase: InviteServerPhase::Proceeding {
+                reliable: event.reliable(),
+                set: event.moment(),
+                last: None,
+            },
+            again: true,
+        },
+        change: Change::Keeps,
+    })
+}
+
+/// Where a 2xx that is sent leads: behind one, or as the final response.
+fn succeeds(phase: &InviteServer3261Phase) -> Option<Turn<InviteServer3261Phase>>
+    ensures { (p : Times) (texts : Texts) (code : ℕ) (e : MachineEvent) → IsSuccess code →
+        AnswersOne (turn_names invite_server_3261_names) (TurnInRange InviteServer3261InRange) (turn_seen invite_server_3261_seen) texts
+        (Sends p (invite_server_3261_seen texts phase.now) (Response code) e) result }
+{
+    let change = match *phase {
+        InviteServer3261Phase::Passed => Change::Keeps,
+        InviteServer3261Phase::In {
+            phase: InviteServerPhase::Proceeding { .. },
+            ..
+        } => Change::Drops,
+        InviteServer3261Phase::In { .. } => return None,
+    };
+    Some(Turn {
+        phase: InviteServer3261Phase::Passed,
+        change,
+    })
+}
+
+/// Where a row of `InviteServer` leads.
+fn within(turn: Option<Turn<InviteServerPhase>>, again: bool) -> Option<Turn<InviteServer3261Phase>>
+    ensures { result ≡ option_map (turn_within again) turn }
+{
+    match turn {
+        Some(turn) => Some(Turn {
+            phase: InviteServer3261Phase::In {
+                phase: turn.phase,
+                again,
+            },
+            change: turn.change,
+        }),
+        None => None,
+    }
+}
+
+/// Whether it matters in the phase that the INVITE came again.
+fn remembers(phase: &InviteServerPhase) -> bool
+    ensures { (texts : Texts) → result ≡ remembers (invite_server_seen texts phase.now) }
+{
+    match *phase {
+        InviteServerPhase::Proceeding { .. }
+        | InviteServerPhase::Completed { .. }
+        | InviteServerPhase::Confirmed { .. } => true,
+        InviteServerPhase::Idle | InviteServerPhase::Accepted { .. } => false,
+    }
+}

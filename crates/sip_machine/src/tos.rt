@@ -1,0 +1,218 @@
+//! The Tos of messages for which an ACK may come, by the numbers of the messages and by themselves.
+ghost use Rattle.std.specs.Prelude.{◌≡◌, ◌<◌, ◌≤◌, ◌++◌, ◌∷◌, [], ℕ, IfSome, OnOk, OnErr, IsTrue, All, AllPairs, Contains, length, map, take};
+ghost use Rattle.std.specs.List.{HoldsAt};
+ghost use Rattle.sip_machine.specs.declared.tos.To.{To};
+ghost use Rattle.sip_machine.specs.inner.Order.{hash_of};
+ghost use Rattle.sip_machine.specs.inner.Tos.{AreOwned, IsHolder, MayOwn, count_between, owner_with};
+
+use crate::hashed::Hashed;
+use std::alloc::{AllocError, Global};
+use std::collections::HashMap;
+use std::marker::Model;
+
+/// The To of the message with this number, without its blanks.
+#[derive(Debug, Drop)]
+pub(crate) struct To {
+    number: u32,
+    text: Hashed,
+}
+
+/// Whose the Tos of a hash are.
+#[derive(Clone, Copy, Debug)]
+enum Owner {
+    /// Those of this message alone.
+    Only(u32),
+    /// Those of several messages.
+    Several,
+}
+
+/// Which of some messages has a To.
+#[derive(Clone, Copy, Debug)]
+pub(crate) enum Holder {
+    One(u32),
+    Nobody,
+    /// It takes a look at each of them to tell.
+    Unknown,
+}
+
+/// Tos, that of a message with a lower number first. Beside them stands for each hash of a To whose it is, so that the only
+/// message with a To is found without a look at the others. Contracts see the list.
+#[derive(Debug, Drop)]
+pub(crate) struct Tos {
+    list: Vec<To>,
+    owners: HashMap<u64, Owner>,
+}
+
+impl Model for Tos {
+    ghost use Rattle.std.specs.Prelude.{◌<◌, List, AllPairs};
+    ghost use Rattle.sip_machine.specs.declared.tos.To.{To};
+    ghost use Rattle.sip_machine.specs.inner.Tos.{AreOwned};
+
+    ghost Value = { List To };
+
+    ghost view = { λ t. t.list.items };
+
+    ghost invariant = { λ t. AllPairs (λ a b. a.number < b.number) t.list.items × AreOwned t.owners t.list.items };
+}
+
+impl Tos {
+    pub(crate) fn new(alloc: Global) -> Tos
+        ensures { result ≡ [] }
+    {
+        Tos {
+            list: Vec::new(alloc),
+            owners: HashMap::new(alloc),
+        }
+    }
+
+    /// The To of the message with this number: at `near`, or wherever a search finds it. It is left behind it, so that
+    /// messages that are asked for in the order of their numbers cost a step each.
+    pub(crate) fn get(&self, number: u32, near: &mut usize) -> Option<&Hashed>
+        ensures { IfSome result (λ text. Contains self.now (record { number = number; text = text.now })) }
+    {
+        let at = place_of(&self.list, number, *near)?;
+        *near = at + 1;
+        Some(&self.list[at].text)
+    }
+
+    /// Whether the number is above those of all messages that have their Tos here.
+    pub(crate) fn are_below(&self, number: u32) -> bool
+        ensures { IsTrue result → All (λ to. to.number < number) self.now }
+    {
+        match self.list.last() {
+            Some(last) => last.number < number,
+            None => true,
+        }
+    }
+
+    /// Puts the To of a message behind the others. On an error they are as before.
+    pub(crate) fn push(&mut self, number: u32, text: Hashed) -> Result<(), AllocError>
+        requires { All (λ to. to.number < number) self.old }
+        ensures ok { OnOk result (self.new ≡ self.old ++ (record { number = number; text = text }) ∷ []) }
+        ensures err { OnErr result (self.new ≡ self.old) }
+    {
+        note(&mut self.owners, text.hash(), number)?;
+        self.list.push(To { number, text })?;
+        Ok(())
+    }
+
+    /// Keeps those of the messages with these numbers, which rise. It takes no memory: where some went, there is room for
+    /// those that are left.
+    pub(crate) fn retain(&mut self, numbers: &[u32])
+        ensures { All (λ to. Contains self.old to × Contains numbers.now to.number) self.new }
+    {
+        forget(&mut self.owners, &self.list, numbers);
+        self.list.retain(|to| is_among(numbers, to.number));
+        note_all(&mut self.owners, &mut self.list);
+    }
+
+    /// Which message has this To.
+    pub(crate) fn holder(&self, text: &Hashed) -> Holder
+        ensures { IsHolder self.now text.now result }
+    {
+        let hash = text.hash();
+        match self.owners.get(&hash).copied() {
+            Some(Owner::Only(number)) => self.held_by(number, text),
+            Some(Owner::Several) => Holder::Unknown,
+            None => Holder::Nobody,
+        }
+    }
+
+    /// The same, where no message but the one with this number can have it.
+    fn held_by(&self, number: u32, text: &Hashed) -> Holder
+        requires { All (λ to. to.text ≡ text.now → to.number ≡ number) self.now }
+        ensures { IsHolder self.now text.now result }
+    {
+        let Some(at) = place_of(&self.list, number, self.list.len()) else {
+            return Holder::Unknown;
+        };
+        if self.list[at].text.is(text) {
+            Holder::One(number)
+        } else {
+            Holder::Nobody
+        }
+    }
+
+    /// How many of them are of messages with numbers from `low` up to `high`.
+    pub(crate) fn between(&self, low: u32, high: u32) -> usize
+        ensures count { result ≡ count_between low high (map (λ to. to.number) self.now) }
+        ensures rising { AllPairs (λ a b. a.number < b.number) self.now }
+    {
+        let from = self.list.partition_point(|to| to.number < low);
+        let to = self.list.partition_point(|to| to.number <= high);
+        to.saturating_sub(from)
+    }
+}
+
+/// Where the To of the message with this number stands: here, or where a search finds it.
+fn place_of(list: &[To], number: u32, here: usize) -> Option<usize>
+    ensures within { IfSome result (λ at. at < length list.now) }
+    ensures number { IfSome result (λ at. HoldsAt (λ to. to.number ≡ number) list.now at) }
+{
+    if here < list.len() && list[here].number == number {
+        return Some(here);
+    }
+    match list.binary_search_by_key(&number, |to| to.number) {
+        Ok(at) => Some(at),
+        Err(_) => None,
+    }
+}
+
+/// Whether the number is one of these, which rise.
+fn is_among(numbers: &[u32], number: u32) -> bool
+    ensures { IsTrue result → Contains numbers.now number }
+{
+    numbers.binary_search(&number).is_ok()
+}
+
+/// Tells that a To of this hash is that of the message with this number, too.
+fn note(owners: &mut HashMap<u64, Owner>, hash: u64, number: u32) -> Result<(), AllocError>
+    ensures ok { OnOk result (MayOwn owners.new hash number) }
+    ensures others { (h n : ℕ) → MayOwn owners.old h n → MayOwn owners.new h n }
+{
+    let owner = owner_with(owners.get(&hash).copied(), number);
+    owners.insert(hash, owner)?;
+    Ok(())
+}
+
+/// Whose the Tos of a hash are with that of this message.
+fn owner_with(owner: Option<Owner>, number: u32) -> Owner
+    ensures { result ≡ owner_with owner number }
+{
+    match owner {
+        Some(Owner::Only(other)) if other != number => Owner::Several,
+        Some(Owner::Several) => Owner::Several,
+        _ => Owner::Only(number),
+    }
+}
+
+/// Tells of a To of each message but those with these numbers no more whose it is.
+fn forget(owners: &mut HashMap<u64, Owner>, list: &[To], numbers: &[u32]) {
+    for to in list {
+        if !is_among(numbers, to.number) {
+            owners.remove(&to.text.hash());
+        }
+    }
+}
+
+/// Tells whose the Tos are. Those go for which there is no memory.
+fn note_all(owners: &mut HashMap<u64, Owner>, list: &mut Vec<To>)
+    ensures kept { (n : ℕ) × (list.new.items ≡ take n list.old.items) }
+    ensures owned { AreOwned owners.new list.new.items }
+{
+    let told = note_each(owners, list);
+    list.truncate(told);
+}
+
+/// Tells whose the Tos are, until there is no memory, and how many are told then.
+fn note_each(owners: &mut HashMap<u64, Owner>, list: &[To]) -> usize
+    ensures { AreOwned owners.new (take result list.now) }
+{
+    for at in 0..list.len() {
+        let to = &list[at];
+        if note(owners, to.text.hash(), to.number).is_err() {
+            return at;
+        }
+    }
+    list.len()
+}

@@ -1,0 +1,6 @@
+use Rattle.sip_states.specs.KeyMachine.{transaction_of}
+use Rattle.sip_states.proofs.QuietLemmas.{restarts_once}
+use Rattle.sip_states.proofs.laws.a_second_restart_changes_nothing.Goals as goal
+
+pub returns : goal.returns
+returns c = λ machine x y z first second. restarts_once (transaction_of machine).figure x y z first second

@@ -1,0 +1,31 @@
+use Rattle.std.proofs.Common.{◌+◌, ◌∙◌, map, get_or, sym, ap, true, subst, arith}
+use Rattle.std.proofs.lemmas.List.{take_all}
+use Rattle.std.proofs.lemmas.Option.{slice_get_within}
+use Rattle.std.proofs.lemmas.Map.Entries.{length-values_of, length-keys_of}
+use Rattle.indexmap.specs.IndexMap.{keys, values}
+use Rattle.sip_states.specs.Tables.{Tabled}
+use Rattle.sip_states.specs.Restarting.{AreToRestart}
+use Rattle.sip_states.specs.inner.Marks.{IsMarked}
+use Rattle.sip_states.proofs.AdvanceLemmas.{place_among, restart_numbers}
+use Rattle.sip_states.proofs.tables.Tables.to_restart.Goals as goal
+
+pub overflow_add-index : goal.overflow_add-index
+overflow_add-index g c =
+    let moved = c.self.inside.moved in
+    let items = c.marked-index-items.result.now in
+    let index = get_or items c.loop-index.index-index 0 in
+    let mark : IsMarked moved index = (c.marked-index-items.ensures.members index).0 (place_among items c.loop-index.index-index 0 (omega arith)) in
+    let within = slice_get_within moved index true mark in
+    omega (arith, within, c.self.invariant.4, c.self.invariant.0)
+
+pub returns : goal.returns
+returns g c =
+    let sets = c.self.inside.sets in
+    let items = c.marked-index-items.result.now in
+    let all = take_all c.loop-index.index-index items (omega arith) in
+    let numbers = c.loop-index.invariant ∙ ap (map (λ index. index + 1)) all in
+    let inv = c.self.invariant in
+    let t : Tabled = record { times = c.self.inside.params; keys = keys sets; sets = values sets; records = c.self.inside.agenda } in
+    subst (λ u. AreToRestart u c.loop-index.numbers.items) c.self.view_is
+    (restart_numbers t c.self.inside.moved items c.loop-index.numbers.items numbers (inv.4 ∙ sym (length-keys_of sets.entries)) (length-values_of sets.entries ∙ sym (length-keys_of sets.entries))
+    inv.5.quiet c.marked-index-items.ensures.members c.marked-index-items.ensures.once)

@@ -1,0 +1,14 @@
+use Rattle.std.proofs.Common.{◌≡◌, length}
+use Rattle.indexmap.specs.IndexMap.{values}
+use Rattle.sip_states.specs.inner.Marks.{AreMarked, AreMoved}
+use Rattle.sip_states.proofs.tables.unmark_quiet.Given as goal
+
+abbrev pub invariant-loop-place : goal.invariant-loop-place
+invariant-loop-place g l =
+    record {
+      long : length l.moved ≡ length l.initial.moved;
+      as_long : length l.marks ≡ length l.initial.marks;
+      marked : AreMarked l.marks (values l.initial.sets);
+      moves : AreMoved l.moved l.marks (values l.initial.sets);
+      same : l.sets ≡ l.initial.sets;
+    }

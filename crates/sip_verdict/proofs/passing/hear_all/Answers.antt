@@ -1,0 +1,28 @@
+use Rattle.std.proofs.Common.{◌+◌, ◌∙◌, take, get_or, sym, subst, arith}
+use Rattle.std.proofs.lemmas.List.{take_more}
+use Rattle.sip_verdict.specs.inner.Tracking.{first_of}
+use Rattle.sip_verdict.specs.inner.TablesTracking.{HearsEach}
+use Rattle.sip_verdict.proofs.TablesPassing.{given_still, hears_more}
+use Rattle.sip_verdict.proofs.passing.hear_all.Goals as goal
+
+pub hear_one-requires-clause-given : goal.hear_one-requires-clause-given
+hear_one-requires-clause-given g c =
+    let numbers = c.args.numbers.now in
+    let i = c.loop-number.number-index in
+    given_still (get_or numbers i 0) c.args.tables.now c.loop-number.tables c.loop-number.invariant.keys_are (c.requires.given i 0 (omega arith))
+
+pub loop-number-preserved : goal.loop-number-preserved
+loop-number-preserved g c =
+    let numbers = c.args.numbers.now in
+    let event = c.args.event.now in
+    let i = c.loop-number.number-index in
+    let heard = c.in_ok-hear_one.ensures in
+    let old = c.loop-number.invariant in
+    record {
+      times_are = heard.times ∙ old.times_are;
+      keys_are = heard.keys ∙ old.keys_are;
+      may = heard.may;
+      heard = subst (λ o. HearsEach c.args.book.now event (take (i + 1) numbers) c.args.tables.now c.args.others c.hear_one.new.tables o) (sym c.first-outcome.ensures)
+          (subst (λ ns. HearsEach c.args.book.now event ns c.args.tables.now c.args.others c.hear_one.new.tables (first_of c.loop-number.outcome c.in_ok-hear_one.field-0)) (sym (take_more numbers i 0 (omega arith)))
+          (hears_more c.args.book.now event (take i numbers) (get_or numbers i 0) c.args.tables.now c.loop-number.tables c.hear_one.new.tables c.args.others c.loop-number.outcome c.in_ok-hear_one.field-0 old.heard heard.heard));
+    }

@@ -1,0 +1,12 @@
+use Rattle.std.proofs.Common.{◌≡◌, take}
+use Rattle.sip_verdict.specs.inner.TablesTracking.{MayPass, HearsEach}
+use Rattle.sip_verdict.proofs.passing.hear_all.Given as goal
+
+abbrev pub invariant-loop-number : goal.invariant-loop-number
+invariant-loop-number g l =
+    record {
+      times_are : l.tables.times ≡ l.initial.tables.times;
+      keys_are : l.tables.keys ≡ l.initial.tables.keys;
+      may : MayPass l.book l.tables l.event.moment;
+      heard : HearsEach l.book l.event (take l.number-index l.numbers) l.initial.tables l.fn.others l.tables l.outcome;
+    }

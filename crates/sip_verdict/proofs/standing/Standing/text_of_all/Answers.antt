@@ -1,0 +1,46 @@
+use Rattle.std.proofs.Common.{◌≡◌, ◌≢◌, ◌∙◌, List, ◌<◌, ◌-◌, ◌+◌, ◌++◌, ℕ, zero, suc, [], ◌∷◌, sym, ap, subst, arith, length, string_bytes}
+use Rattle.std.proofs.lemmas.List.{length-append}
+use Rattle.sip_verdict.specs.inner.Concerned.{up_to}
+use Rattle.sip_verdict.specs.inner.Numbering.{AppendsEach, IsTextOf}
+use Rattle.sip_verdict.proofs.NumberingLemmas.{appends_more, text_of_some}
+use Rattle.sip_verdict.proofs.standing.Standing.text_of_all.Goals.{else-loop-number-test, then-loop-number-test+in_ok-push_one+else-number-count}
+use Rattle.sip_verdict.proofs.standing.Standing.text_of_all.Goals as goal
+
+-- the numbers up to one are those before it and itself
+up_to-more : (n : ℕ) → 0 < n → up_to n ≡ up_to (n - 1) ++ n ∷ []
+up_to-more zero low = absurd (omega arith)
+up_to-more (suc n) low = let before : n ≡ suc n - 1 = omega arith in ap (λ k. up_to k ++ suc n ∷ []) before
+
+up_to-some : (n : ℕ) → 0 < n → up_to n ≢ []
+up_to-some zero low none = omega arith
+up_to-some (suc n) low none = omega (arith, ap length none, length-append (up_to n) (suc n ∷ []))
+
+pub loop-number-preserved : goal.loop-number-preserved
+loop-number-preserved g c =
+    let t = c.args.self.now.tables in
+    let n = c.loop-number.number in
+    let old = string_bytes c.new-text.result in
+    let new = string_bytes c.push_one.new.text in
+    let same : n ≡ n + 1 - 1 = omega arith in
+    subst (λ ns. AppendsEach t ns old new) (sym (up_to-more n (omega arith)) ∙ ap up_to same)
+    (appends_more t (up_to (n - 1)) n old (string_bytes c.loop-number.text) new c.loop-number.invariant c.in_ok-push_one.ensures)
+
+pub returns : goal.returns
+returns g c =
+    let t = c.args.self.now.tables in
+    let n = c.loop-number.number in
+    let fresh = c.new-text.ensures.bytes in
+    let counted = c.len-count.ensures in
+    let is_text : (text : List ℕ) → AppendsEach t (up_to (length t.keys)) (string_bytes c.new-text.result) text → IsTextOf t (up_to (length t.keys)) text =
+    λ text each. text_of_some t (up_to (length t.keys)) text (up_to-some (length t.keys) (omega arith)) (subst (λ old. AppendsEach t (up_to (length t.keys)) old text) fresh each) in
+    elim c.loop-number-test.branch [
+      | else-loop-number-test w ↦
+          let last : n - 1 ≡ length t.keys = omega arith in
+          rw w.text-is (is_text (string_bytes c.loop-number.text)
+          (subst (λ k. AppendsEach t (up_to k) (string_bytes c.new-text.result) (string_bytes c.loop-number.text)) last c.loop-number.invariant))
+      | then-loop-number-test+in_ok-push_one+else-number-count w ↦
+          let last : n ≡ length t.keys = omega arith in
+          let new = string_bytes w.push_one.new.text in
+          rw w.text-is (is_text new (subst (λ ns. AppendsEach t ns (string_bytes c.new-text.result) new) (sym (up_to-more n (omega arith)) ∙ ap up_to last)
+          (appends_more t (up_to (n - 1)) n (string_bytes c.new-text.result) (string_bytes c.loop-number.text) new c.loop-number.invariant w.in_ok-push_one.ensures)))
+    ]

@@ -1,7 +1,7 @@
 use Rattle.std.proofs.Common.{IsTrue}
 use Rattle.sip_machine.specs.Texts.{Keeps}
 use Rattle.sip_machine.specs.inner.Acks.{HasTo}
-use Rattle.sip_machine.specs.inner.Outbox.{is_payable}
+use Rattle.sip_ledger.specs.Debts.{is_payable}
 use Rattle.sip_machine.specs.inner.OwesLaws.{All-names}
 use Rattle.sip_machine.proofs.HolderLemmas.{FindsFirst-same, pays-held}
 use Rattle.sip_machine.proofs.RunsLemmas.{each-All}

@@ -14,3 +14,7 @@ pub mod BesideLemmas
 pub mod ToLemmas
 pub mod RetainLemmas
 pub mod HolderLemmas
+pub mod DueLemmas
+pub mod RunsLemmas
+pub mod PoolLemmas
+pub mod FirstLemmas

@@ -1,5 +1,5 @@
 //! What each of many states owes: a ledger, where any of them owes something.
-ghost use Rattle.std.specs.Prelude.{◌≡◌, ◌↔◌, ◌<◌, ◌++◌, ◌∷◌, [], List, IsTrue, IfOk, OnOk, OnErr, All, length, set, map, filter, take};
+ghost use Rattle.std.specs.Prelude.{◌≡◌, ◌↔◌, ◌<◌, ◌++◌, ◌∷◌, [], List, IsTrue, IfOk, OnOk, OnErr, None, All, length, set, map, filter, take};
 ghost use Rattle.std.specs.List.{list_any};
 ghost use Rattle.sip_ledger.specs.Debts.{counts_at, softened_debt, is_payable, debt_deadlines};
 ghost use Rattle.sip_ledger.specs.Ledgers.{rows_of};
@@ -34,7 +34,7 @@ impl Model for Dues {
 
     ghost view = { λ d. rows_in d.rows (option_map (λ boxed. boxed.value) d.ledger) };
 
-    ghost invariant = { λ d. AreDues d.rows (option_map (λ boxed. boxed.value) d.ledger) d.lowest d.highest };
+    ghost invariant = { λ d. AreDues (rows_in d.rows (option_map (λ boxed. boxed.value) d.ledger)) d.rows d.lowest d.highest };
 }
 
 impl Dues {
@@ -106,11 +106,7 @@ impl Dues {
     {
         match &mut self.ledger {
             Some(ledger) => ledger.gain(row, debt)?,
-            None => {
-                let mut ledger = blank(alloc, self.rows)?;
-                ledger.gain(row, debt)?;
-                self.ledger = Some(Box::new(alloc, ledger)?);
-            }
+            None => self.ledger = Some(opened(alloc, self.rows, row, debt)?),
         }
         self.lowest = self.lowest.min(debt.message);
         self.highest = self.highest.max(debt.message);
@@ -265,6 +261,21 @@ impl Dues {
             ledger.tidy();
         }
     }
+}
+
+/// A ledger of so many rows, of which this one owes a debt and no other owes anything.
+fn opened(
+    alloc: Global,
+    rows: usize,
+    row: usize,
+    debt: Debt,
+) -> Result<Box<Ledger>, AllocError>
+    requires { row < rows }
+    ensures { IfOk result (λ boxed. rows_of boxed.value ≡ set (rows_in rows None) row (owed_in (rows_in rows None) row ++ debt ∷ [])) }
+{
+    let mut ledger = blank(alloc, rows)?;
+    ledger.gain(row, debt)?;
+    Ok(Box::new(alloc, ledger)?)
 }
 
 /// A ledger of so many rows, which owe nothing.

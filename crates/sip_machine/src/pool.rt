@@ -1,5 +1,5 @@
 //! The states in which a transaction may stand: their phases, and what they owe.
-ghost use Rattle.std.specs.Prelude.{◌≡◌, ◌↔◌, ◌<◌, ◌≤◌, ◌++◌, ◌∷◌, [], ℕ, IsTrue, IfOk, OnOk, OnErr, All, AllPairs, ContainsKey, length, set, take, option_to_list, get_or, nat_eq};
+ghost use Rattle.std.specs.Prelude.{◌≡◌, ◌≢◌, ◌↔◌, ◌<◌, ◌≤◌, ◌++◌, ◌∷◌, [], ℕ, IsTrue, IfOk, OnOk, OnErr, All, AllPairs, None, length, set, take, option_to_list, get_or};
 ghost use Rattle.std.specs.List.{Any, HoldsAt};
 ghost use Rattle.std.specs.Option.{option_map};
 ghost use Rattle.sip_ledger.specs.Runs.{AreRuns};

@@ -1,0 +1,1 @@
+-- The first of each kind.

@@ -1,5 +1,6 @@
-use Rattle.std.specs.Prelude.{◌≡◌, ◌≤◌, ◌↔◌, ℕ, IsTrue, Option, None, Some, List, ◌∷◌, All, get_or}
-use Rattle.std.proofs.Common.{arith}
+use Rattle.std.specs.Prelude.{◌≡◌, ◌≢◌, ◌≤◌, ◌↔◌, ℕ, IsTrue, Option, None, Some, List, [], ◌∷◌, All, get_or}
+use Rattle.std.proofs.Common.{refl, arith, subst}
+use Rattle.std.proofs.lemmas.List.Elements.{All-head}
 use Rattle.std.proofs.lemmas.Bool.Decides.{nat_tests}
 use Rattle.sip_ledger.specs.declared.debt.Debt.{Debt}
 use Rattle.sip_machine.specs.declared.tos.Holder.{Holder}
@@ -40,3 +41,13 @@ owed_to texts to debts low high (One n) kept between holds = λ k d within.
 owed_to texts to debts low high Nobody kept between holds = λ k d within.
     holds (get_or debts k d).message (All-names (Keeps texts) debts kept k d within) (between k d within).0 (between k d within).1
 owed_to texts to debts low high Unknown kept between holds = tt
+
+-- where all that is owed is one message, and something is, the book has it
+pub only-kept : (texts : Texts) (debts : List Debt) (n : ℕ) → debts ≢ [] → AreBetween n n debts → All (Keeps texts) (owes_names debts) → Keeps texts n
+only-kept texts [] n some between kept = absurd (some refl)
+only-kept texts (debt ∷ debts) n some between kept =
+    let here = All-head (λ (d : Debt). (n ≤ d.message) × (d.message ≤ n)) debt debts between in
+    let low = here.0 in
+    let high = here.1 in
+    let same : debt.message ≡ n = omega (arith, low, high) in
+    subst (Keeps texts) same (All-head (Keeps texts) debt.message (owes_names debts) kept)

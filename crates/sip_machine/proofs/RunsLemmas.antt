@@ -1,5 +1,5 @@
 use Prim.Native.Nat.{suc, zero}
-use Rattle.std.specs.Prelude.{◌≡◌, ◌<◌, ◌≤◌, ℕ, Bool, true, IsTrue, List, [], ◌∷◌, ◌++◌, All, get_or, length, replicate, take}
+use Rattle.std.specs.Prelude.{◌≡◌, ◌<◌, ◌≤◌, ℕ, Bool, true, false, IsTrue, List, [], ◌∷◌, ◌++◌, All, get_or, length, replicate, take}
 use Rattle.std.proofs.Common.{refl, sym, ap, subst, arith, cond}
 use Rattle.std.proofs.lemmas.Bool.Decides.{nat_tests}
 use Rattle.std.proofs.lemmas.List.Elements.{All-nil, All-head, All-tail, All-append, All-cons, All-replicate}
@@ -16,6 +16,9 @@ use Rattle.sip_machine.specs.inner.Paying.{paid_by}
 use Rattle.sip_machine.proofs.DueLemmas.{unpaid-front, without-behind}
 
 -- Debts in runs of equal ones.
+
+abbrev pub no_run : Run
+no_run = record { debt = record { message = 0; deadline = 0; must = false }; count = 0 }
 
 -- what holds of the debt of each run holds of each debt
 pub All-each : (P : Debt → Type 0) (runs : List Run) → All (λ run. P run.debt) runs → All P (debts_in runs)

@@ -3,12 +3,13 @@ use Rattle.std.specs.Prelude.{◌≡◌, ◌<◌, ◌≤◌, ◌+◌, ◌||◌, 
 use Rattle.std.specs.Bool.{OnTrue, OnFalse}
 use Rattle.std.specs.List.{list_any}
 use Rattle.std.proofs.Common.{inl, inr, refl, sym, ◌∙◌, ap, ap₂, subst, arith, cond, true≢false, length-set}
-use Rattle.std.proofs.lemmas.List.Elements.{All-nil, All-cons, All-head, All-tail, All-push, All-set, All-get_or, All-weaker}
+use Rattle.std.proofs.lemmas.List.Elements.{All-nil, All-cons, All-head, All-tail, All-push, All-set, All-get_or, All-weaker, filter-append}
 use Rattle.std.proofs.lemmas.Bool.{cases_lt}
+use Rattle.std.proofs.lemmas.Bool.Decides.{nat_tests}
 use Rattle.std.proofs.Math.Seq.{get_or-append_seam}
-use Rattle.std.proofs.lemmas.List.{get_or_append_left, get_or_default, set-get_or}
+use Rattle.std.proofs.lemmas.List.{get_or_append_left, get_or_default, get_or-set_same, set-get_or}
 use Rattle.sip_ledger.specs.declared.debt.Debt.{Debt}
-use Rattle.sip_ledger.specs.Debts.{is_payable, IsWithoutFirst as LedgerWithoutFirst}
+use Rattle.sip_ledger.specs.Debts.{counts_at, is_payable, IsWithoutFirst as LedgerWithoutFirst}
 use Rattle.sip_ledger.specs.Ledgers.{Table, rows_of, row_of}
 use Rattle.sip_ledger.specs.Prints.{print_of}
 use Rattle.sip_machine.specs.Debts.{IsWithoutFirst}
@@ -161,6 +162,22 @@ AreDues-gain rows count low high row debt low_row dues =
     AreDues-set rows count (min low m) (max high m) row (owed_in rows row ++ debt ∷ []) (record { long = dues.long; between = wider })
     (All-push (λ (d : Debt). (min low m ≤ d.message) × (d.message ≤ max high m)) (owed_in rows row) debt
     (All-get_or (AreBetween (min low m) (max high m)) rows row [] low_row wider) (omega arith, omega arith))
+
+-- a row that changes twice
+pub set-again : (rows : List (List Debt)) (row : ℕ) (debts : List Debt) (f : List Debt → List Debt) → row < length rows →
+    set (set rows row debts) row (f (owed_in (set rows row debts) row)) ≡ set rows row (f debts)
+set-again rows row debts f low = ap (λ x. set (set rows row debts) row (f x)) (get_or-set_same rows row debts [] low) ∙ set-twice rows row debts (f debts)
+  where
+    set-twice : (rows : List (List Debt)) (row : ℕ) (x y : List Debt) → set (set rows row x) row y ≡ set rows row y
+    set-twice [] row x y = refl
+    set-twice (r ∷ rows) zero x y = refl
+    set-twice (r ∷ rows) (suc row) x y = ap (λ rs. r ∷ rs) (set-twice rows row x y)
+
+-- what is new counts at its own moment
+pub counted-gain : (t : ℕ) (owes : List Debt) (debt : Debt) → t ≤ debt.deadline → filter (counts_at t) (owes ++ debt ∷ []) ≡ filter (counts_at t) owes ++ debt ∷ []
+counted-gain t owes debt now =
+    let counts : counts_at t debt ≡ true = grind (arith, nat_tests) in
+    filter-append (counts_at t) owes (debt ∷ []) ∙ ap (λ b. filter (counts_at t) owes ++ cond b (debt ∷ []) []) counts
 
 -- Of their prints.
 

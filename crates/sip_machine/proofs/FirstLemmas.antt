@@ -1,1 +1,167 @@
--- The first of each kind.
+use Prim.Native.Nat.{suc, zero}
+use Rattle.std.specs.Prelude.{◌≡◌, ◌≢◌, ◌<◌, ◌≤◌, ◌+◌, ℕ, IsTrue, Bool, true, false, List, [], ◌∷◌, ◌++◌, All, AllPairs, bit_xor, get_or, length, map, set, take}
+use Rattle.std.specs.List.{Any}
+use Rattle.std.proofs.Common.{inl, inr, refl, sym, ◌∙◌, ap, ap₂, subst, arith, length-set, true≢false}
+use Rattle.std.proofs.lemmas.Bool.{cases_lt}
+use Rattle.std.proofs.lemmas.List.{get_or_append_left, get_or_default, get_or-set_same, get_or-set_other, map-append, take_all, take_more, take-set-le}
+use Rattle.std.proofs.Math.Seq.{get_or-append_seam}
+use Rattle.std.proofs.lemmas.List.Elements.{All-nil, All-push, All-get_or, All-weaker}
+use Rattle.std.proofs.lemmas.List.Quantifiers.{Any-push, all_pairs_push}
+use Rattle.sip_ledger.specs.declared.debt.Debt.{Debt}
+use Rattle.sip_machine.specs.Owes.{owed_in}
+use Rattle.sip_machine.specs.Owing.{CodeOwing}
+use Rattle.sip_machine.specs.Pools.{AreFirstOnes, picked}
+use Rattle.sip_machine.specs.Prints.{ArePrints}
+use Rattle.sip_machine.specs.inner.Pools.{beside, hash_by}
+use Rattle.sip_machine.proofs.PoolLemmas.{beside-length, state-at}
+
+-- The first of each kind among the elements of a list.
+
+module _ {X : Type 0} (xs : List X) where
+  -- one of the rows has what row k has
+  abbrev pub IsAmong : List ℕ → ℕ → Type 0
+  IsAmong rows k = (x : X) → Any (λ row. get_or xs row x ≡ get_or xs k x) rows
+
+  -- none has
+  abbrev pub IsNew : List ℕ → ℕ → Type 0
+  IsNew rows k = (x : X) → All (λ row. get_or xs row x ≢ get_or xs k x) rows
+
+  -- where one has, not none has
+  pub among-new : (rows : List ℕ) (k : ℕ) (x : X) → Any (λ row. get_or xs row x ≡ get_or xs k x) rows → All (λ row. get_or xs row x ≢ get_or xs k x) rows → ⊥
+  among-new rows k x (i, row, low, is, same) new = new i row low (ap (λ r. get_or xs r x) is ∙ same)
+
+  pub Any-here : (rows : List ℕ) (i d k : ℕ) (x : X) → i < length rows → get_or xs (get_or rows i d) x ≡ get_or xs k x → Any (λ row. get_or xs row x ≡ get_or xs k x) rows
+  Any-here rows i d k x low same = (i, get_or rows i d, low, get_or_default rows i (get_or rows i d) d low, same)
+
+  Any-more : (P : ℕ → Type 0) (rows : List ℕ) (row : ℕ) → Any P rows → Any P (rows ++ row ∷ [])
+  Any-more P rows row (i, r, low, is, holds) = (i, r, low-more rows row i low, get_or_append_left rows (row ∷ []) r i low ∙ is, holds)
+    where
+      low-more : (rows : List ℕ) (row i : ℕ) → i < length rows → i < length (rows ++ row ∷ [])
+      low-more [] row i low = absurd (omega (arith, low))
+      low-more (r ∷ rows) row zero low = omega arith
+      low-more (r ∷ rows) row (suc i) low = let more = low-more rows row i (omega (arith, low)) in omega (arith, more)
+
+  -- none so far
+  pub first-start : (from : ℕ) → AreFirstOnes xs from from []
+  first-start from = record {
+    within = All-nil (λ row. (from ≤ row) × (row < from));
+    rising = λ i j d low high. absurd (omega (arith, high));
+    each = λ k x low high. absurd (omega (arith, low, high));
+    apart = λ x i j d low high. absurd (omega (arith, high));
+  }
+
+  -- one more, which no other is
+  pub first-more : (from at : ℕ) (rows : List ℕ) → from ≤ at → AreFirstOnes xs from at rows → IsNew rows at → AreFirstOnes xs from (at + 1) (rows ++ at ∷ [])
+  first-more from at rows low first new = record {
+    within = All-push (λ row. (from ≤ row) × (row < at + 1)) rows at
+        (All-weaker (λ row. (from ≤ row) × (row < at)) (λ row. (from ≤ row) × (row < at + 1)) (λ row is. let b = is.1 in (is.0, omega (arith, b))) rows first.within)
+        (low, omega arith);
+    rising = all_pairs_push (λ a b. a < b) rows at first.rising (λ k d low. (first.within k d low).1);
+    each = λ k x low_k high_k. elim (cases_lt k at) [
+      | inl before ↦ Any-more (λ row. get_or xs row x ≡ get_or xs k x) rows at (first.each k x low_k before)
+      | inr behind ↦
+          let here : at ≡ k = omega (arith, behind, high_k) in
+          Any-push (λ row. get_or xs row x ≡ get_or xs k x) rows at (ap (λ r. get_or xs r x) here)
+    ];
+    apart = λ x. all_pairs_push (λ a b. get_or xs a x ≢ get_or xs b x) rows at (first.apart x) (λ k d low. new x k d low);
+  }
+
+  -- one more that is the same as one before it
+  pub first-again : (from at : ℕ) (rows : List ℕ) → AreFirstOnes xs from at rows → IsAmong rows at → AreFirstOnes xs from (at + 1) rows
+  first-again from at rows first among = record {
+    within = All-weaker (λ row. (from ≤ row) × (row < at)) (λ row. (from ≤ row) × (row < at + 1)) (λ row is. let b = is.1 in (is.0, omega (arith, b))) rows first.within;
+    rising = first.rising;
+    each = λ k x low_k high_k. elim (cases_lt k at) [
+      | inl before ↦ first.each k x low_k before
+      | inr behind ↦ let here : at ≡ k = omega (arith, behind, high_k) in subst (λ r. Any (λ row. get_or xs row x ≡ get_or xs r x) rows) here (among x)
+    ];
+    apart = first.apart;
+  }
+
+  -- the rows found so far are within the list
+  pub first-within : (from at : ℕ) (rows : List ℕ) → at ≤ length xs → AreFirstOnes xs from at rows → All (λ row. row < length xs) rows
+  first-within from at rows le first = All-weaker (λ row. (from ≤ row) × (row < at)) (λ row. row < length xs) (λ row is. let b = is.1 in omega (arith, b, le)) rows first.within
+
+-- rows that rise are not before their place
+pub rising-above : (rows : List ℕ) (k : ℕ) → AllPairs (λ a b. a < b) rows → k < length rows → k ≤ get_or rows k 0
+rising-above rows zero rising low = omega arith
+rising-above rows (suc k) rising low =
+    let before = rising-above rows k rising (omega (arith, low)) in
+    let next = rising k (suc k) 0 (omega arith) low in
+    omega (arith, before, next)
+
+-- Elements that are brought to the front.
+
+-- those at the first of the rows stand in front, and the others where they stood
+pub record IsPicking {X : Type 0} (xs ys : List X) (rows : List ℕ) (to : ℕ) : Type 0 where
+  pub long : length ys ≡ length xs
+  pub front : (x : X) → take to ys ≡ picked xs x (take to rows)
+  pub rest : (k : ℕ) (x : X) → to ≤ k → get_or ys k x ≡ get_or xs k x
+
+module _ {X : Type 0} (xs : List X) (rows : List ℕ) where
+  pub picking-start : IsPicking xs xs rows 0
+  picking-start = record { long = refl; front = λ x. refl; rest = λ k x low. refl }
+
+  -- one more
+  pub picking-more : (ys zs : List X) (to row : ℕ) (x : X) → IsPicking xs ys rows to → to < length rows → to < length xs → row ≡ get_or rows to 0 → to ≤ row →
+      length zs ≡ length ys → take to zs ≡ take to ys → ((d : X) → get_or zs to d ≡ get_or ys row d) → ((k : ℕ) (d : X) → to < k → get_or zs k d ≡ get_or ys k d) →
+      IsPicking xs zs rows (to + 1)
+  picking-more ys zs to row x picking low within is le long front here rest = record {
+    long = long ∙ picking.long;
+    front = λ d.
+        let room : to < length zs = omega (arith, within, long, picking) in
+        take_more zs to d room ∙ ap₂ (λ ws w. ws ++ w ∷ []) (front ∙ picking.front d) (here d ∙ picking.rest row d le ∙ ap (λ r. get_or xs r d) is)
+        ∙ sym (map-append (λ r. get_or xs r d) (take to rows) (get_or rows to 0 ∷ [])) ∙ ap (map (λ r. get_or xs r d)) (sym (take_more rows to 0 low));
+    rest = λ k d le_k. rest k d (omega (arith, le_k)) ∙ picking.rest k d (omega (arith, le_k));
+  }
+
+  -- all of them
+  pub picking-all : (ys : List X) (to : ℕ) (x : X) → IsPicking xs ys rows to → length rows ≤ to → take to ys ≡ picked xs x rows
+  picking-all ys to x picking all = picking.front x ∙ ap (picked xs x) (take_all to rows all)
+
+-- Of prints.
+
+-- each print so far is mixed with the hash of its phase
+pub record AreMixed {S : Type 0} (input : S → List (List ℕ)) (phases : List S) (old new : List ℕ) (at : ℕ) : Type 0 where
+  pub long : length new ≡ length old
+  pub mixed : (k : ℕ) (p : S) → k < at → k < length phases → get_or new k 0 ≡ bit_xor (get_or old k 0) (hash_by (input (get_or phases k p)))
+  pub rest : (k : ℕ) → at ≤ k → get_or new k 0 ≡ get_or old k 0
+
+module _ {S : Type 0} (input : S → List (List ℕ)) (phases : List S) (old : List ℕ) where
+  pub mixed-start : AreMixed input phases old old 0
+  mixed-start = record { long = refl; mixed = λ k p low within. absurd (omega (arith, low)); rest = λ k low. refl }
+
+  pub mixed-more : (new : List ℕ) (at print : ℕ) (p : S) → at < length old → AreMixed input phases old new at → p ≡ get_or phases at p → print ≡ bit_xor (get_or new at 0) (hash_by (input p)) →
+      AreMixed input phases old (set new at print) (at + 1)
+  mixed-more new at print p low mixing is_p is = record {
+    long = length-set new at print ∙ mixing.long;
+    mixed = λ k q high within. elim (cases_lt k at) [
+      | inl before ↦ get_or-set_other new at k print 0 (λ same. omega (arith, before, same)) ∙ mixing.mixed k q before within
+      | inr behind ↦
+          let here : at ≡ k = omega (arith, behind, high) in
+          let room : at < length new = omega (arith, low, mixing) in
+          let phase : p ≡ get_or phases k q = is_p ∙ ap (λ n. get_or phases n p) here ∙ get_or_default phases k p q within in
+          ap (λ n. get_or (set new at print) n 0) (sym here) ∙ get_or-set_same new at print 0 room ∙ is
+          ∙ ap₂ (λ n h. bit_xor n (hash_by (input h))) (mixing.rest at (omega arith) ∙ ap (λ n. get_or old n 0) here) phase
+    ];
+    rest = λ k le. get_or-set_other new at k print 0 (λ same. omega (arith, le, same)) ∙ mixing.rest k (omega (arith, le));
+  }
+
+  -- all of them
+  pub mixed-all : (rows : List (List Debt)) (xs : List (CodeOwing S)) (new : List ℕ) (at : ℕ) → beside phases rows ≡ xs → length rows ≡ length phases → ArePrints rows old →
+      AreMixed input phases old new at → length phases ≤ at → ArePrints xs new
+  mixed-all rows xs new at is long prints mixing all =
+      let size : length xs ≡ length phases = ap length (sym is) ∙ beside-length phases rows in
+      record {
+        long = mixing.long ∙ prints.long ∙ long ∙ sym size;
+        same = λ i k x low_i low_k e.
+            let p = x.phase in
+            let alike = sym (state-at phases rows xs i p x is low_i) ∙ e ∙ state-at phases rows xs k p x is low_k in
+            let phase : get_or phases i p ≡ get_or phases k p = ap (λ y. y.phase) alike in
+            let owes : owed_in rows i ≡ owed_in rows k = ap (λ y. y.owes) alike in
+            let in_i : i < length rows = omega (arith, low_i, size, long) in
+            let in_k : k < length rows = omega (arith, low_k, size, long) in
+            mixing.mixed i p (omega (arith, low_i, size, all)) (omega (arith, low_i, size))
+            ∙ ap₂ (λ n q. bit_xor n (hash_by (input q))) (prints.same i k [] in_i in_k owes) phase
+            ∙ sym (mixing.mixed k p (omega (arith, low_k, size, all)) (omega (arith, low_k, size)));
+      }

@@ -1,9 +1,13 @@
 use Prim.Native.Nat.{suc, zero}
-use Rattle.std.specs.Prelude.{◌≡◌, ◌<◌, ◌≤◌, ℕ, List, [], ◌∷◌, ◌++◌, get_or, length, set, take}
-use Rattle.std.proofs.Common.{refl, sym, ◌∙◌, ap, ap₂, arith, length-append}
+use Rattle.std.specs.Prelude.{◌≡◌, ◌<◌, ◌≤◌, ◌+◌, ℕ, List, [], ◌∷◌, ◌++◌, get_or, length, set, take}
+use Rattle.std.proofs.Common.{Result, Ok, Err, OnErr, is_err, true≢false, refl, sym, ◌∙◌, ap, ap₂, subst, arith, length-append}
+use Rattle.std.proofs.Math.Seq.{get_or-append_seam, take-append_seam}
 use Rattle.sip_ledger.specs.declared.debt.Debt.{Debt}
 use Rattle.sip_machine.specs.Owes.{owed_in}
 use Rattle.sip_machine.specs.Owing.{CodeOwing, state_in}
+use Rattle.sip_machine.specs.declared.effects.Rest.{Rest}
+use Rattle.sip_machine.specs.declared.effects.Rest.TheVariants.{Stays, Pays}
+use Rattle.sip_machine.specs.inner.Effects.{rested_debts, rests_at}
 use Rattle.sip_machine.specs.inner.Pools.{beside}
 
 -- Phases with what is owed beside them.
@@ -60,3 +64,59 @@ module _ {S : Type 0} where
   beside-owes (phase ∷ phases) (r ∷ rows) zero p row long low = refl
   beside-owes (phase ∷ phases) (r ∷ rows) (suc k) p row long low =
       ap (λ xs. record { phase = phase; owes = r } ∷ xs) (beside-owes phases rows k p row (omega (arith, long)) (omega (arith, low)))
+
+  -- an index of a state is one of a phase, and of a row
+  pub in-phases : (phases : List S) (rows : List (List Debt)) (xs : List (CodeOwing S)) (k : ℕ) → beside phases rows ≡ xs → k < length xs → k < length phases
+  in-phases phases rows xs k is low = subst (λ n. k < n) (ap length (sym is) ∙ beside-length phases rows) low
+
+  pub in-rows : (phases : List S) (rows : List (List Debt)) (xs : List (CodeOwing S)) (k : ℕ) → beside phases rows ≡ xs → length rows ≡ length phases → k < length xs → k < length rows
+  in-rows phases rows xs k is long low = subst (λ n. k < n) (sym long) (in-phases phases rows xs k is low)
+
+  -- the state there
+  pub state-at : (phases : List S) (rows : List (List Debt)) (xs : List (CodeOwing S)) (k : ℕ) (p : S) (x : CodeOwing S) → beside phases rows ≡ xs → k < length xs →
+      get_or xs k x ≡ state_in (get_or phases k p) rows k
+  state-at phases rows xs k p x is low = ap (λ ys. get_or ys k x) (sym is) ∙ beside-at phases rows k p x (in-phases phases rows xs k is low)
+
+  -- states with the same phase and the same debts are the same
+  pub same-state : (x y : CodeOwing S) → x.phase ≡ y.phase → x.owes ≡ y.owes → x ≡ y
+  same-state x y phase owes = let e : record { phase = x.phase; owes = x.owes } ≡ y = rw (phase, owes) in e
+
+-- what is owed at rest
+pub rests-owes : {S : Type 0} (t : ℕ) (rest : Rest) (x : CodeOwing S) → record { phase = x.phase; owes = rested_debts t rest x.owes } ≡ rests_at t rest x
+rests-owes t Stays x = refl
+rests-owes t (Pays message) x = refl
+
+-- what holds on an error
+pub on_err : {T E : Type 0} (r : Result T E) (P : Type 0) → is_err r ≡ true → OnErr r P → P
+on_err (Ok x) P is err = absurd (true≢false (sym is))
+on_err (Err e) P is err = err
+
+-- Lists that grow at their end.
+
+module _ {X : Type 0} where
+  -- an element
+  pub some-at : (xs : List X) (k : ℕ) → k < length xs → X
+  some-at [] k low = absurd (omega (arith, low))
+  some-at (x ∷ xs) zero low = x
+  some-at (x ∷ xs) (suc k) low = some-at xs k (omega (arith, low))
+
+  pub in-longer : (old added new : List X) (k : ℕ) → new ≡ old ++ added → k < length old → k < length new
+  in-longer old added new k is low =
+      let long : length new ≡ length old + length added = ap length is ∙ length-append old added in omega (arith, long, low)
+
+  pub last-in : (old new : List X) (x : X) (last : ℕ) → new ≡ old ++ x ∷ [] → last ≡ length old → last < length new
+  last-in old new x last is at = let long : length new ≡ length old + 1 = ap length is ∙ length-append old (x ∷ []) in omega (arith, long, at)
+
+  set-end : (old : List X) (x y : X) → set (old ++ x ∷ []) (length old) y ≡ old ++ y ∷ []
+  set-end [] x y = refl
+  set-end (z ∷ old) x y = ap (λ xs. z ∷ xs) (set-end old x y)
+
+  -- a copy at the end changes
+  pub set-last : (old more new : List X) (x d : X) (last : ℕ) (f : X → X) → more ≡ old ++ x ∷ [] → last ≡ length old → new ≡ set more last (f (get_or more last d)) → new ≡ old ++ f x ∷ []
+  set-last old more new x d last f is at changed =
+      let here : get_or more last d ≡ x = ap₂ (λ xs k. get_or xs k d) is at ∙ get_or-append_seam old x [] d in
+      changed ∙ ap (λ y. set more last (f y)) here ∙ ap₂ (λ xs k. set xs k (f x)) is at ∙ set-end old x (f x)
+
+  -- and goes again
+  pub take-old : (old added new : List X) (n : ℕ) → new ≡ old ++ added → n ≡ length old → take n new ≡ old
+  take-old old added new n is at = ap₂ take at is ∙ take-append_seam old added

@@ -8,7 +8,7 @@ ghost use Rattle.sip_machine.specs.Owing.{CodeOwing, at_rest};
 ghost use Rattle.sip_machine.specs.Pools.{AreFirstOnes, picked};
 ghost use Rattle.sip_machine.specs.Prints.{ArePrints};
 ghost use Rattle.sip_machine.specs.inner.Effects.{led_by, rests_at, given_by};
-ghost use Rattle.sip_machine.specs.inner.Pools.{hash_by};
+ghost use Rattle.sip_machine.specs.inner.Pools.{IsMarked, hash_by};
 
 use crate::dues::Dues;
 use crate::effects::{Effect, Rest, come_to_rest, lead};
@@ -157,6 +157,7 @@ impl<P: Phase> Pool<P> {
 
     /// The indices of the states from one on, which rise: where some are the same, that of the first of them.
     pub fn first_ones(&self, from: usize) -> Result<Vec<usize>, AllocError>
+        requires { from ≤ length self.now }
         ensures { IfOk result (λ rows. AreFirstOnes self.now from (length self.now) rows.items) }
     {
         if self.len().saturating_sub(from) <= FEW {
@@ -168,6 +169,7 @@ impl<P: Phase> Pool<P> {
 
     /// The same, by a look at each other one.
     fn first_of_few(&self, from: usize) -> Result<Vec<usize>, AllocError>
+        requires { from ≤ length self.now }
         ensures { IfOk result (λ rows. AreFirstOnes self.now from (length self.now) rows.items) }
     {
         let mut rows = Vec::new(*self.phases.allocator());
@@ -181,6 +183,7 @@ impl<P: Phase> Pool<P> {
 
     /// The same, by a look at those of the same print.
     fn first_of_many(&self, from: usize) -> Result<Vec<usize>, AllocError>
+        requires { from ≤ length self.now }
         ensures { IfOk result (λ rows. AreFirstOnes self.now from (length self.now) rows.items) }
     {
         let alloc = *self.phases.allocator();
@@ -189,8 +192,8 @@ impl<P: Phase> Pool<P> {
         let mut rows = Vec::new(alloc);
         for at in from..self.len() {
             let print = prints[at];
-            if !self.is_repeat(printed.get(&print).copied(), &rows, at) {
-                printed.insert(print, rows.len())?;
+            if !self.is_repeat(guess_of(&printed, print), &rows, at) {
+                mark(&mut printed, print, rows.len())?;
                 rows.push(at)?;
             }
         }
@@ -348,6 +351,22 @@ impl<P: Phase> Pool<P> {
         self.come_to_rest(moment, last, rest);
         Ok(())
     }
+}
+
+/// Where the first state of the print stands among those that were found, if there is one.
+fn guess_of(printed: &HashMap<u64, usize>, print: u64) -> Option<usize>
+    ensures { result ≡ None → ¬ IsMarked printed.now print }
+{
+    printed.get(&print).copied()
+}
+
+/// Tells where a state of the print stands among those that were found.
+fn mark(printed: &mut HashMap<u64, usize>, print: u64, at: usize) -> Result<(), AllocError>
+    ensures ok { OnOk result (IsMarked printed.new print) }
+    ensures others { (other : ℕ) → IsMarked printed.old other → IsMarked printed.new other }
+{
+    printed.insert(print, at)?;
+    Ok(())
 }
 
 /// The hash of a phase.

@@ -1,4 +1,7 @@
-use Rattle.std.specs.Prelude.{◌≡◌, ℕ, List, [], ◌∷◌, bit_xor, fold}
+use Rattle.std.specs.Prelude.{ℕ, IsSome, List, [], ◌∷◌, fold, nat_eq}
+use Rattle.std.specs.HashMap.{get, HashMap}
+use Rattle.std.specs.declared.hash.FoldHasher.{FoldHasher}
+use Rattle.std.specs.declared.hash.BuildHasherDefault.{BuildHasherDefault}
 use Rattle.std.specs.Hash.FoldHasher.{initial, write, finish}
 use Rattle.sip_ledger.specs.declared.debt.Debt.{Debt}
 use Rattle.sip_machine.specs.Owing.{CodeOwing}
@@ -14,3 +17,7 @@ beside (phase ∷ phases) (row ∷ rows) = record { phase = phase; owes = row } 
 -- the hash of a value that makes these writes
 abbrev pub hash_by : List (List ℕ) → ℕ
 hash_by input = finish (fold write initial input)
+
+-- a state of this print was found
+abbrev pub IsMarked : HashMap ℕ ℕ (BuildHasherDefault FoldHasher) → ℕ → Type 0
+IsMarked printed print = IsSome (get nat_eq printed print)

@@ -103,10 +103,10 @@ module _ {X : Type 0} (xs : List X) (rows : List ℕ) where
   picking-start = record { long = refl; front = λ x. refl; rest = λ k x low. refl }
 
   -- one more
-  pub picking-more : (ys zs : List X) (to row : ℕ) (x : X) → IsPicking xs ys rows to → to < length rows → to < length xs → row ≡ get_or rows to 0 → to ≤ row →
+  pub picking-more : (ys zs : List X) (to row : ℕ) → IsPicking xs ys rows to → to < length rows → to < length xs → row ≡ get_or rows to 0 → to ≤ row →
       length zs ≡ length ys → take to zs ≡ take to ys → ((d : X) → get_or zs to d ≡ get_or ys row d) → ((k : ℕ) (d : X) → to < k → get_or zs k d ≡ get_or ys k d) →
       IsPicking xs zs rows (to + 1)
-  picking-more ys zs to row x picking low within is le long front here rest = record {
+  picking-more ys zs to row picking low within is le long front here rest = record {
     long = long ∙ picking.long;
     front = λ d.
         let room : to < length zs = omega (arith, within, long, picking) in

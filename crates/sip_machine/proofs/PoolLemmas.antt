@@ -77,6 +77,10 @@ module _ {S : Type 0} where
       get_or xs k x ≡ state_in (get_or phases k p) rows k
   state-at phases rows xs k p x is low = ap (λ ys. get_or ys k x) (sym is) ∙ beside-at phases rows k p x (in-phases phases rows xs k is low)
 
+  pub state-here : (phases : List S) (rows : List (List Debt)) (xs : List (CodeOwing S)) (k : ℕ) (p : S) (x : CodeOwing S) → beside phases rows ≡ xs → k < length xs →
+      p ≡ get_or phases k p → state_in p rows k ≡ get_or xs k x
+  state-here phases rows xs k p x is low is_p = ap (λ q. state_in q rows k) is_p ∙ sym (state-at phases rows xs k p x is low)
+
   -- states with the same phase and the same debts are the same
   pub same-state : (x y : CodeOwing S) → x.phase ≡ y.phase → x.owes ≡ y.owes → x ≡ y
   same-state x y phase owes = let e : record { phase = x.phase; owes = x.owes } ≡ y = rw (phase, owes) in e
@@ -106,6 +110,12 @@ module _ {X : Type 0} where
 
   pub last-in : (old new : List X) (x : X) (last : ℕ) → new ≡ old ++ x ∷ [] → last ≡ length old → last < length new
   last-in old new x last is at = let long : length new ≡ length old + 1 = ap length is ∙ length-append old (x ∷ []) in omega (arith, long, at)
+
+  -- the only element
+  pub alone-set : (xs : List X) (x : X) → length xs ≡ 1 → set xs 0 x ≡ x ∷ []
+  alone-set [] x one = absurd (omega (arith, one))
+  alone-set (y ∷ []) x one = refl
+  alone-set (y ∷ z ∷ xs) x one = absurd (omega (arith, one))
 
   set-end : (old : List X) (x y : X) → set (old ++ x ∷ []) (length old) y ≡ old ++ y ∷ []
   set-end [] x y = refl

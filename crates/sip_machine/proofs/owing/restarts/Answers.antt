@@ -1,8 +1,8 @@
-use Rattle.std.specs.Prelude.{◌≡◌}
+use Rattle.std.specs.Prelude.{◌≡◌, [], ◌∷◌}
 use Rattle.std.proofs.Common.{sym, ap, ◌∙◌, true≢false}
 use Rattle.std.proofs.lemmas.List.Elements.{All-nil}
 use Rattle.sip_machine.specs.Texts.{Keeps}
-use Rattle.sip_machine.specs.Owing.{CodeOwing}
+use Rattle.sip_machine.specs.Owing.{state_in}
 use Rattle.sip_machine.proofs.OwingSteps.{restarted-idle, restarted-ended}
 use Rattle.sip_machine.proofs.owing.restarts.Goals as goal
 
@@ -12,7 +12,7 @@ returns-then-eq g c =
     let m = g.M.Phases in
     let machine = c.args.machine.now in
     let texts = c.args.book.now in
-    let state : CodeOwing g.M.Phase = record { phase = c.args.phase.now; owes = owes } in
+    let state = state_in c.args.phase.now (owes ∷ []) 0 in
     let idle = m.idle machine in
     let equal = rw c.idle.ensures at c.if-eq.ensures in
     let same : state.phase ≡ idle = g.met.M.Phase.Phase.exact state.phase idle (sym equal) in
@@ -27,7 +27,7 @@ returns g c =
     let m = g.M.Phases in
     let machine = c.args.machine.now in
     let texts = c.args.book.now in
-    let state : CodeOwing g.M.Phase = record { phase = c.args.phase.now; owes = owes } in
+    let state = state_in c.args.phase.now (owes ∷ []) 0 in
     let idle = m.idle machine in
     let fits = g.met.M.Phases.idle_fits machine in
     let known = c.requires in

@@ -30,4 +30,4 @@ returns-clause-gives g c =
     let stays = rw c.kind.ensures at c.stays.ensures texts in
     rw c.paying.ensures
     (rested-pays m.figure (m.times c.args.machine.now) m.seen m.names m.in_range texts (event_in texts c.args.event.now) (state_in c.args.phase.now c.args.dues.now c.args.row)
-    (λ holds. true≢false (sym (stays.1 holds) ∙ c.if-stays.false)) c.in_ok-paid.paid c.in_ok-paid.ensures c.requires.known c.requires.in_range)
+    (λ holds. true≢false (sym (stays.1 holds) ∙ c.if-stays.false)) c.in_ok-paid.paid c.in_ok-paid.ensures.finds c.requires.known c.requires.in_range)

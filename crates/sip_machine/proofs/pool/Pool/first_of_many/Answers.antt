@@ -1,5 +1,6 @@
 use Rattle.std.specs.Prelude.{◌≡◌, ◌<◌, ◌≤◌, All, get_or, length}
 use Rattle.std.proofs.Common.{◌∙◌, sym, subst, arith, true≢false}
+use Rattle.std.proofs.lemmas.List.{get_or_default}
 use Rattle.std.proofs.lemmas.List.Elements.{All-push, All-weaker}
 use Rattle.sip_machine.specs.inner.Pools.{IsMarked}
 use Rattle.sip_machine.proofs.FirstLemmas.{first-more, first-again, first-within, Any-here}
@@ -16,7 +17,9 @@ is_repeat-requires-clause-guess g c = rw c.deref.ensures.value (λ x none k d lo
     let within : at < length xs = omega arith in
     let low_row : row < length xs = first-within xs c.args.from at rows (omega (arith, within)) c.loop-at.invariant.0 k d low in
     let print : get_or prints row 0 ≡ get_or prints at 0 = c.in_ok-prints.ensures.same row at x low_row within same in
-    c.guess_of.ensures none (subst (IsMarked c.loop-at.printed) (print ∙ sym c.index-print.ensures) (c.loop-at.invariant.1 k d low)))
+    let long = c.in_ok-prints.ensures.long in
+    let low_at : at < length prints = omega (arith, within, long) in
+    c.guess_of.ensures none (subst (IsMarked c.loop-at.printed) (print ∙ get_or_default prints at 0 c.index-print.result.now low_at ∙ sym c.index-print.ensures) (c.loop-at.invariant.1 k d low)))
 
 pub loop-at-preserved : goal.loop-at-preserved
 loop-at-preserved g c =
@@ -29,7 +32,11 @@ loop-at-preserved g c =
     let repeats = rw c.deref.ensures.value at c.is_repeat.ensures in
     elim c.if-not-is_repeat.branch [
       | then-not-is_repeat+in_ok-mark+in_ok-push w ↦
-          let here : IsMarked w.mark.new.printed (get_or prints at 0) = subst (IsMarked w.mark.new.printed) c.index-print.ensures w.in_ok-mark.ensures.ok in
+          let within : at < length xs = omega arith in
+          let long = c.in_ok-prints.ensures.long in
+          let low_at : at < length prints = omega (arith, within, long) in
+          let here : IsMarked w.mark.new.printed (get_or prints at 0) =
+          subst (IsMarked w.mark.new.printed) (c.index-print.ensures ∙ get_or_default prints at c.index-print.result.now 0 low_at) w.in_ok-mark.ensures.ok in
           rw (w.rows-is, w.printed-is, w.in_ok-push.ensures.items)
           (
             first-more xs c.args.from at rows c.loop-at.auto.at first

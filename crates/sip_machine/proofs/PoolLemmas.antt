@@ -1,6 +1,7 @@
 use Prim.Native.Nat.{suc, zero}
-use Rattle.std.specs.Prelude.{◌≡◌, ◌<◌, ◌≤◌, ◌+◌, ℕ, true, List, [], ◌∷◌, ◌++◌, get_or, length, set, take}
+use Rattle.std.specs.Prelude.{◌≡◌, ◌==◌, ◌↔◌, ◌<◌, ◌≤◌, ◌+◌, ℕ, IsTrue, true, List, [], ◌∷◌, ◌++◌, get_or, length, set, take}
 use Rattle.std.proofs.Common.{Result, Ok, Err, OnErr, is_err, true≢false, refl, sym, ◌∙◌, ap, ap₂, subst, arith, length-append}
+use Rattle.std.proofs.lemmas.Bool.Decides.{nat_tests}
 use Rattle.std.proofs.Math.Seq.{get_or-append_seam, take-append_seam}
 use Rattle.sip_ledger.specs.declared.debt.Debt.{Debt}
 use Rattle.sip_machine.specs.Owes.{owed_in}
@@ -94,6 +95,11 @@ rests-owes t (Pays message) x = refl
 pub on_err : {T E : Type 0} (r : Result T E) (P : Type 0) → is_err r ≡ true → OnErr r P → P
 on_err (Ok x) P is err = absurd (true≢false (sym is))
 on_err (Err e) P is err = err
+
+-- whether there are none
+pub empty-length : {X : Type 0} (xs : List X) (n : ℕ) → n ≡ length xs → IsTrue (n == 0) ↔ (xs ≡ [])
+empty-length [] n is = (λ _. refl, λ _. grind (arith, nat_tests))
+empty-length (x ∷ xs) n is = (λ none. let low : n ≡ 0 = grind (arith, nat_tests) in absurd (omega (arith, low, is)), λ none. cc)
 
 -- Lists that grow at their end.
 

@@ -16,6 +16,15 @@ returns-clause-advances g c =
     let push = advances_push g.M.Machine.in_range (g.M.Machine.end_window m) (g.M.Machine.until m) ended stays c.args.from c.args.to xs ys c.requires.distinct c.requires.in_range in
     let ends = c.some_can_end.ensures in
     elim c.if-some_can_end.branch [
-      | then-some_can_end+then-not-has_at_rest+in_ok-push w ↦ ?
-      | else-some_can_end w ↦ ?
+      | then-some_can_end+then-not-has_at_rest+in_ok-push w ↦
+          let there = rw w.ended.ensures at w.has_at_rest.ensures in
+          push (g.met.M.Machine.ended_fits m).1 (ends.0 w.if-some_can_end.true) (λ member. true≢false (sym (there.1 member) ∙ w.if-not-has_at_rest.true))
+          (rw (w.pool-is, w.in_ok-push.ensures.ok, w.ended-then-not-has_at_rest.ensures) at c.keep_waiting.ensures)
+      | else-some_can_end w ↦
+          stay
+          (λ some. elim w.else-some_can_end.branch [
+            | else-some_can_end-via-then-some_can_end+else-not-has_at_rest w' ↦ (rw w'.ended.ensures at w'.has_at_rest.ensures).0 w'.if-not-has_at_rest.false
+            | else-some_can_end-via-else-some_can_end w' ↦ absurd (true≢false (sym (ends.1 some) ∙ w'.if-some_can_end.false))
+          ])
+          (rw w.pool-is at c.keep_waiting.ensures)
     ]

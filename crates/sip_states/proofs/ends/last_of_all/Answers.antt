@@ -8,12 +8,12 @@ pub last_of-requires-clause-in_range : goal.last_of-requires-clause-in_range
 last_of-requires-clause-in_range g c = λ d. All-get_or g.M.Machine.in_range c.args.pool.now c.loop-at.at d (omega arith) c.requires.in_range
 
 pub returns-in_err-last_of : goal.returns-in_err-last_of
-returns-in_err-last_of g c = λ m low.
+returns-in_err-last_of g c = rw c.from_residual.ensures (λ m low.
     let xs = c.args.pool.now in
     let i = c.loop-at.at in
     let d = g.M.Machine.ended c.args.machine.now in
     let inside : i < length xs = omega arith in
-    (λ _. tt, λ _. (i, get_or xs i d, inside, get_or_default xs i (get_or xs i d) d inside, (c.in_err-last_of.ensures d m low).1 tt))
+    (λ _. tt, λ _. (i, get_or xs i d, inside, get_or_default xs i (get_or xs i d) d inside, (c.in_err-last_of.ensures d m low).1 tt)))
 
 pub loop-at-preserved : goal.loop-at-preserved
 loop-at-preserved g c =

@@ -1,6 +1,6 @@
 use Prim.Native.Nat.{suc, zero}
-use Rattle.std.proofs.Common.{◌≡◌, ◌≢◌, ◌↔◌, ◌≤◌, ◌<◌, ◌⊎◌, inl, inr, ℕ, Option, List, [], ◌∷◌, ◌++◌, All, AllPairs, Contains, ap, arith, refl, length, length-append, map, get_or, subst, sym, take, ◌∙◌, ◌+◌}
-use Rattle.std.proofs.Math.Seq.{take-append_seam}
+use Rattle.std.proofs.Common.{◌≡◌, ◌≢◌, ◌↔◌, ◌≤◌, ◌<◌, ◌⊎◌, inl, inr, ℕ, Option, List, [], ◌∷◌, ◌++◌, All, AllPairs, Contains, ap, ap₂, arith, drop, refl, length, length-append, map, get_or, subst, sym, take, ◌∙◌, ◌+◌}
+use Rattle.std.proofs.Math.Seq.{drop-append_seam, get_or-append_seam, take-append_seam}
 use Rattle.std.proofs.lemmas.List.{get_or-take, get_or_append_left, length-take-le, map-append}
 use Rattle.std.proofs.lemmas.List.Elements.{All-get_or, All-nil, All-append, All-contains, Contains-get_or, Contains-append_left, Contains-append_right, Contains-append_cases, Contains-push, Contains-push_cases}
 use Rattle.sip_machine.specs.Texts.{Texts, IsBook}
@@ -195,6 +195,16 @@ module _ {S : Type 0} where
       let size : length (take count old) ≡ count = length-take-le count old le in
       let here : get_or new at d ≡ get_or (take count old) at d = ap (λ ys. get_or ys at d) is ∙ get_or_append_left old found d at (omega (arith, le, low)) ∙ sym (get_or-take count old at d low) in
       subst P (sym here) (All-get_or P (take count old) at d (omega (arith, size, low)) all)
+
+  -- what stands behind them
+  pub found-behind : (old found new : List S) (n : ℕ) → new ≡ old ++ found → n ≡ length old → drop n new ≡ found
+  found-behind old found new n is at = ap₂ drop at is ∙ drop-append_seam old found
+
+  -- the first one behind them
+  pub next-there : (old mid new found : List S) (x d : S) (n : ℕ) → mid ≡ old ++ x ∷ [] → new ≡ mid ++ found → n ≡ length old → get_or new n d ≡ x
+  next-there old mid new found x d n mid_is new_is at =
+      let size : length mid ≡ length old + 1 = ap length mid_is ∙ length-append old (x ∷ []) in
+      ap (λ ys. get_or ys n d) new_is ∙ get_or_append_left mid found d n (omega (arith, at, size)) ∙ ap₂ (λ ys k. get_or ys k d) mid_is at ∙ get_or-append_seam old x [] d
 
   -- behind the states and more that stand as before, the states do too
   pub before-more : (old mid new added : List S) → mid ≡ old ++ added → take (length mid) new ≡ mid → take (length old) new ≡ old

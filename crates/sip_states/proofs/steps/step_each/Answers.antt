@@ -2,7 +2,7 @@ use Rattle.std.proofs.Common.{◌≡◌, ◌<◌, ◌∙◌, ◌++◌, ap, appen
 use Rattle.std.proofs.lemmas.List.{get_or-take, get_or_append_left, length-take-le, take_more}
 use Rattle.std.proofs.lemmas.List.Elements.{All-get_or}
 use Rattle.sip_machine.specs.MachineEvent.{event_in}
-use Rattle.sip_machine.specs.Rules.{Knows}
+use Rattle.sip_machine.specs.Rules.{Knows, StandFor}
 use Rattle.sip_machine.proofs.PoolLemmas.{in-longer, take-old}
 use Rattle.sip_states.proofs.Advancing.{within_told}
 use Rattle.sip_states.proofs.Stepping.{gives_none, gives_more, gives_same, first-state}
@@ -55,7 +55,8 @@ loop-at-preserved g c =
     (c.until.ensures d ∙ ap (g.M.Machine.until m) here ∙ sym (g.met.M.Machine.until_stands m texts state)) c.is_within.ensures in
     elim c.if-is_within.branch [
       | then-is_within+in_ok-successors w ↦
-          let (added, new_is, stands) = rw here at w.in_ok-successors.ensures.ok d in
+          let (added, new_is, gives) = w.in_ok-successors.ensures.ok d in
+          let stands = subst (λ s. StandFor g.M.Machine.names g.M.Machine.in_range g.M.Machine.seen texts (r.Take (g.M.Machine.seen texts s) e) added) here gives in
           rw (w.pool-is, take_more xs i d low)
           (
             found ++ added,
@@ -72,7 +73,10 @@ loop-at-preserved g c =
     ]
 
 pub returns-clause-gives : goal.returns-clause-gives
-returns-clause-gives g c = ?
+returns-clause-gives g c =
+    let (found, is, covers) = c.loop-at.invariant in
+    let size = length-take-le c.args.count c.args.pool.now c.requires.count in
+    (found, is, rw (take_all c.loop-at.at (take c.args.count c.args.pool.now) (omega (arith, size))) at covers)
 
 pub returns-clause-before : goal.returns-clause-before
 returns-clause-before g c =

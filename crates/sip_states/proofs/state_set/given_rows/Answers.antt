@@ -1,4 +1,4 @@
-use Rattle.std.proofs.Common.{◌≡◌, ◌<◌, arith, length}
+use Rattle.std.proofs.Common.{◌≡◌, ◌<◌, arith, get_or, length}
 use Rattle.std.proofs.lemmas.List.{get_or-map, length-map}
 use Rattle.sip_machine.specs.MachineEvent.{event_in}
 use Rattle.sip_machine.specs.Owing.{CodeOwing}
@@ -40,7 +40,7 @@ returns-then-len-gt-WIDEST-clause-too_many g c = λ _.
     let x = g.M.Machine.ended c.args.machine.now in
     let rows = c.in_ok-rows.rows.items in
     let states = picked c.find_given.new.pool x rows in
-    let size : length states ≡ length rows = length-map _ rows in
+    let size : length states ≡ length rows = length-map rows (λ row. get_or c.find_given.new.pool row x) in
     let len = c.len.ensures in
     let ok = c.in_ok-rows.rows.ok.0 in
     let many : widest < length states = omega (arith, size, len, ok) in

@@ -10,8 +10,6 @@ mod invite_server;
 #[cfg(test)]
 mod messages;
 #[cfg(test)]
-mod outbox;
-#[cfg(test)]
 mod plain_client;
 #[cfg(test)]
 mod plain_server;

@@ -65,9 +65,10 @@ pub(crate) fn find_given<M: Machine>(
         return Ok(count);
     }
     pool.push(machine.ended())?;
+    let first = pool.len();
     step_each(machine, book, pool, count, event)?;
     machine.successors(book, pool, count, event)?;
-    Ok(count + 1)
+    Ok(first)
 }
 
 /// Puts behind the states those that the event gives from the first ones, as many, that can wait until its moment. On an error

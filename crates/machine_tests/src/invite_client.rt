@@ -5,7 +5,9 @@ ghost use Rattle.sip_machine.specs.InviteClient.{InviteClientInRange};
 
 use crate::messages::{Numbered, Start, book_of};
 use crate::runs::{Entry, State, run, states_of};
-use sip_machine::{Action, Debt, InviteClient, InviteClientPhase, Machine, Params, Pool, Run};
+use sip_machine::{
+    Action, Debt, InviteClient, InviteClientPhase, Machine, Params, Pool, Run,
+};
 use std::alloc::Global;
 use std::process::Abort;
 use std::test::Fail;
@@ -71,7 +73,7 @@ fn is_wanted(state: &State<InviteClientPhase>, want: Want) -> bool {
         ) => *request == INVITE && *cancel == first,
         (InviteClientPhase::Accepted { set }, Want::Accepted(moment)) => *set == moment,
         (InviteClientPhase::Completed { request, set, .. }, Want::Completed(moment, debt)) =>
-            *request == INVITE && *set == moment && is_owed(state.owes.as_slice(), debt),
+            *request == INVITE && *set == moment && is_owed(&state.owes, debt),
         _ => false,
     }
 }
@@ -111,7 +113,7 @@ fn states_after(
     transport: &str,
     entries: &[Entry],
 ) -> Result<Pool<InviteClientPhase>, Fail>
-    ensures { IfOk result (λ states. All (OwingInRange InviteClientInRange) states) }
+    ensures { IfOk result (All (OwingInRange InviteClientInRange)) }
 {
     let book = book_of(alloc, &MESSAGES, "INVITE", transport)?;
     run(alloc, client, &book, entries)
@@ -122,11 +124,8 @@ type Row = (&'static [Entry], Want);
 
 /// Where the entries lead.
 fn leads(alloc: Global, transport: &str, entries: &[Entry], want: Want) -> Result<bool, Fail> {
-    let states = states_of(
-        alloc,
-        &states_after(alloc, &client(500)?, transport, entries)?,
-    )?;
-    Ok(are_wanted(&states, want))
+    let pool = states_after(alloc, &client(500)?, transport, entries)?;
+    Ok(are_wanted(&states_of(alloc, &pool)?, want))
 }
 
 /// That the entries of each row lead to its state.
@@ -412,13 +411,6 @@ fn over_a_reliable_transport(rt: HostRuntime) -> Result<(), Fail> {
 /// When the state may end, and its last moment.
 type Ends = (Option<(u64, Option<u64>)>, Option<u64>);
 
-fn ends_of(client: &InviteClient, pool: &Pool<InviteClientPhase>) -> Ends
-    requires alone { length pool.now ≡ 1 }
-    requires in_range { All (OwingInRange InviteClientInRange) pool.now }
-{
-    (client.end_window(pool, 0), client.until(pool, 0))
-}
-
 /// The ends of the only state after the entries.
 fn ends_after(alloc: Global, t1: u64, transport: &str, entries: &[Entry]) -> Result<Ends, Fail> {
     let client = client(t1)?;
@@ -426,7 +418,7 @@ fn ends_after(alloc: Global, t1: u64, transport: &str, entries: &[Entry]) -> Res
     if pool.len() != 1 {
         return Err("not one state".into());
     }
-    Ok(ends_of(&client, &pool))
+    Ok((client.end_window(&pool, 0), client.until(&pool, 0)))
 }
 
 /// A base time T1, a transport, entries, and the ends of the only state after them.

@@ -79,12 +79,9 @@ fn is_wanted(state: &State<InviteServerPhase>, want: Want) -> bool {
                 last,
             },
             Want::Proceeding(moment, number, debts),
-        ) => !*reliable
-            && *set == moment
-            && *last == number
-            && are_owed(state.owes.as_slice(), debts),
+        ) => !*reliable && *set == moment && *last == number && are_owed(&state.owes, debts),
         (InviteServerPhase::Accepted { set }, Want::Accepted(moment, debts)) => {
-            *set == moment && are_owed(state.owes.as_slice(), debts)
+            *set == moment && are_owed(&state.owes, debts)
         }
         (
             InviteServerPhase::Completed {
@@ -101,10 +98,10 @@ fn is_wanted(state: &State<InviteServerPhase>, want: Want) -> bool {
                 && *set == moment
                 && *repeat == again
                 && *interval == length
-                && are_owed(state.owes.as_slice(), debts)
+                && are_owed(&state.owes, debts)
         }
         (InviteServerPhase::Confirmed { reliable, set }, Want::Confirmed(moment, debts)) =>
-            !*reliable && *set == moment && are_owed(state.owes.as_slice(), debts),
+            !*reliable && *set == moment && are_owed(&state.owes, debts),
         _ => false,
     }
 }
@@ -124,7 +121,7 @@ fn server() -> Result<InviteServer, Fail> {
 
 /// The states after the entries, of all steps.
 fn states_after(alloc: Global, entries: &[Entry]) -> Result<Pool<InviteServerPhase>, Fail>
-    ensures { IfOk result (λ states. All (OwingInRange InviteServerInRange) states) }
+    ensures { IfOk result (All (OwingInRange InviteServerInRange)) }
 {
     let book = book_of(alloc, &MESSAGES, "INVITE", "UDP")?;
     run(alloc, &server()?, &book, entries)
@@ -132,8 +129,8 @@ fn states_after(alloc: Global, entries: &[Entry]) -> Result<Pool<InviteServerPha
 
 /// Where the entries lead.
 fn leads(alloc: Global, entries: &[Entry], wants: &[Want]) -> Result<bool, Fail> {
-    let states = states_of(alloc, &states_after(alloc, entries)?)?;
-    Ok(are_wanted(&states, wants))
+    let pool = states_after(alloc, entries)?;
+    Ok(are_wanted(&states_of(alloc, &pool)?, wants))
 }
 
 /// Entries, and where they lead.
@@ -502,14 +499,16 @@ fn after_the_ack(rt: HostRuntime) -> Result<(), Fail> {
 }
 
 /// When the state may end, and its last moment.
-fn ends_of(
-    server: &InviteServer,
-    pool: &Pool<InviteServerPhase>,
-) -> (Option<(u64, Option<u64>)>, Option<u64>)
-    requires alone { length pool.now ≡ 1 }
-    requires in_range { All (OwingInRange InviteServerInRange) pool.now }
+type Ends = (Option<(u64, Option<u64>)>, Option<u64>);
+
+/// The ends of the only state.
+fn ends_of(server: &InviteServer, pool: &Pool<InviteServerPhase>) -> Result<Ends, Fail>
+    requires { All (OwingInRange InviteServerInRange) pool.now }
 {
-    (server.end_window(pool, 0), server.until(pool, 0))
+    if pool.len() != 1 {
+        return Err("not one state".into());
+    }
+    Ok((server.end_window(pool, 0), server.until(pool, 0)))
 }
 
 /// Entries, and the ends of the only state after them.
@@ -560,16 +559,9 @@ static ENDS: &[EndsRow] = &[
 ];
 
 /// The ends of the only state after the entries.
-fn ends_after(
-    alloc: Global,
-    server: &InviteServer,
-    entries: &[Entry],
-) -> Result<(Option<(u64, Option<u64>)>, Option<u64>), Fail> {
+fn ends_after(alloc: Global, server: &InviteServer, entries: &[Entry]) -> Result<Ends, Fail> {
     let pool = states_after(alloc, entries)?;
-    if pool.len() != 1 {
-        return Err("not one state".into());
-    }
-    Ok(ends_of(server, &pool))
+    ends_of(server, &pool)
 }
 
 #[test]
@@ -596,12 +588,12 @@ fn ends_over_tcp(rt: HostRuntime) -> Result<(), Fail> {
         repeat: 700,
         interval: 500,
     })?;
-    assert!(rt; ends_of(&server, &completed) == (Some((32_650, Some(32_750))), Some(32_750)));
+    assert!(rt; ends_of(&server, &completed)? == (Some((32_650, Some(32_750))), Some(32_750)));
     let mut confirmed = Pool::new(rt.alloc());
     confirmed.push(InviteServerPhase::Confirmed {
         reliable: true,
         set: 700,
     })?;
-    assert!(rt; ends_of(&server, &confirmed) == (Some((700, Some(750))), Some(750)));
+    assert!(rt; ends_of(&server, &confirmed)? == (Some((700, Some(750))), Some(750)));
     Ok(())
 }

@@ -14,6 +14,8 @@ mod plain_client;
 #[cfg(test)]
 mod plain_server;
 #[cfg(test)]
+mod pool;
+#[cfg(test)]
 mod rules_3261;
 #[cfg(test)]
 mod runs;

@@ -5,7 +5,7 @@ ghost use Rattle.sip_machine.specs.PlainClient.{PlainClientInRange};
 use crate::messages::{Numbered, Start, book_of};
 use crate::runs::{Entry, run};
 use sip_machine::{Action, Machine, Params, PlainClient, PlainClientPhase, Pool, Waiting};
-use std::alloc::{AllocError, Global};
+use std::alloc::Global;
 use std::process::Abort;
 use std::test::Fail;
 
@@ -45,11 +45,10 @@ fn client() -> Result<PlainClient, Fail> {
 fn phase_after(alloc: Global, entries: &[Entry]) -> Result<Option<PlainClientPhase>, Fail> {
     let book = book_of(alloc, &MESSAGES, "OPTIONS", "UDP")?;
     let pool = run(alloc, &client()?, &book, entries)?;
-    if pool.len() == 1 {
-        Ok(Some(pool.phase(0)))
-    } else {
-        Ok(None)
+    if pool.len() != 1 {
+        return Ok(None);
     }
+    Ok(Some(pool.phase(0)))
 }
 
 /// A state that is wanted, of the request of moment 0 over an unreliable transport.
@@ -213,12 +212,12 @@ fn final_responses_and_failures(rt: HostRuntime) -> Result<(), Fail> {
     all_lead(&rt, FINAL_RESPONSES_AND_FAILURES)
 }
 
-/// When the state may end, and its last moment.
+/// When a state of the phase that owes nothing may end, and its last moment.
 fn ends_of(
     alloc: Global,
     client: &PlainClient,
     phase: PlainClientPhase,
-) -> Result<(Option<(u64, Option<u64>)>, Option<u64>), AllocError>
+) -> Result<(Option<(u64, Option<u64>)>, Option<u64>), Fail>
     requires { PlainClientInRange phase }
 {
     let mut pool = Pool::new(alloc);
@@ -228,26 +227,25 @@ fn ends_of(
 
 #[test]
 fn ends(rt: HostRuntime) -> Result<(), Fail> {
+    let alloc = rt.alloc();
     let client = client()?;
-    assert!(rt; ends_of(rt.alloc(), &client, PlainClientPhase::Idle)? == (None, None));
+    assert!(rt; ends_of(alloc, &client, PlainClientPhase::Idle)? == (None, None));
     // Timer E fires by 550, timer F from 31950 to 32050.
     let timer_f = Some((31_950, Some(32_050)));
     let trying = PlainClientPhase::Trying(waiting(0, 500));
-    assert!(rt; ends_of(rt.alloc(), &client, trying)? == (timer_f, Some(550)));
+    assert!(rt; ends_of(alloc, &client, trying)? == (timer_f, Some(550)));
     let proceeding = PlainClientPhase::Proceeding(waiting(31_500, 4_000));
-    assert!(rt; ends_of(rt.alloc(), &client, proceeding)? == (timer_f, Some(32_050)));
+    assert!(rt; ends_of(alloc, &client, proceeding)? == (timer_f, Some(32_050)));
     let completed = PlainClientPhase::Completed {
         reliable: false,
         set: 700,
     };
-    assert!(rt;
-        ends_of(rt.alloc(), &client, completed)? == (Some((5_650, Some(5_750))), Some(5_750))
-    );
+    assert!(rt; ends_of(alloc, &client, completed)? == (Some((5_650, Some(5_750))), Some(5_750)));
     let completed = PlainClientPhase::Completed {
         reliable: true,
         set: 700,
     };
-    assert!(rt; ends_of(rt.alloc(), &client, completed)? == (Some((700, Some(750))), Some(750)));
-    assert!(rt; ends_of(rt.alloc(), &client, client.ended())? == (None, None));
+    assert!(rt; ends_of(alloc, &client, completed)? == (Some((700, Some(750))), Some(750)));
+    assert!(rt; ends_of(alloc, &client, client.ended())? == (None, None));
     Ok(())
 }

@@ -63,7 +63,7 @@ fn is_wanted(state: &State<PlainServerPhase>, want: Want) -> bool {
         (PlainServerPhase::Idle, Want::Idle) => true,
         (PlainServerPhase::Trying { reliable }, Want::Trying) => !*reliable,
         (PlainServerPhase::Proceeding { reliable, last }, Want::Proceeding(number, debts)) =>
-            !*reliable && *last == number && are_owed(state.owes.as_slice(), debts),
+            !*reliable && *last == number && are_owed(&state.owes, debts),
         (
             PlainServerPhase::Completed {
                 reliable,
@@ -74,7 +74,7 @@ fn is_wanted(state: &State<PlainServerPhase>, want: Want) -> bool {
         ) => !*reliable
             && *final_message == number
             && *set == moment
-            && are_owed(state.owes.as_slice(), debts),
+            && are_owed(&state.owes, debts),
         _ => false,
     }
 }
@@ -94,7 +94,7 @@ fn server() -> Result<PlainServer, Fail> {
 
 /// The states after the entries, of all steps.
 fn states_after(alloc: Global, entries: &[Entry]) -> Result<Pool<PlainServerPhase>, Fail>
-    ensures { IfOk result (λ states. All (OwingInRange PlainServerInRange) states) }
+    ensures { IfOk result (All (OwingInRange PlainServerInRange)) }
 {
     let book = book_of(alloc, &MESSAGES, "OPTIONS", "UDP")?;
     run(alloc, &server()?, &book, entries)
@@ -102,8 +102,8 @@ fn states_after(alloc: Global, entries: &[Entry]) -> Result<Pool<PlainServerPhas
 
 /// Where the entries lead.
 fn leads(alloc: Global, entries: &[Entry], wants: &[Want]) -> Result<bool, Fail> {
-    let states = states_of(alloc, &states_after(alloc, entries)?)?;
-    Ok(are_wanted(&states, wants))
+    let pool = states_after(alloc, entries)?;
+    Ok(are_wanted(&states_of(alloc, &pool)?, wants))
 }
 
 /// Entries, and where they lead.
@@ -361,7 +361,7 @@ fn are_turns(runs: &[Run], want: Turns) -> bool {
 fn proceeds(state: &State<PlainServerPhase>, (number, turns): (u32, Turns)) -> bool {
     match &state.phase {
         PlainServerPhase::Proceeding { last, .. } => {
-            *last == number && are_turns(state.owes.as_slice(), turns)
+            *last == number && are_turns(&state.owes, turns)
         }
         _ => false,
     }
@@ -437,14 +437,16 @@ fn equal_debts_stand_in_runs(rt: HostRuntime) -> Result<(), Fail> {
 }
 
 /// When the state may end, and its last moment.
-fn ends_of(
-    server: &PlainServer,
-    pool: &Pool<PlainServerPhase>,
-) -> (Option<(u64, Option<u64>)>, Option<u64>)
-    requires alone { length pool.now ≡ 1 }
-    requires in_range { All (OwingInRange PlainServerInRange) pool.now }
+type Ends = (Option<(u64, Option<u64>)>, Option<u64>);
+
+/// The ends of the only state.
+fn ends_of(server: &PlainServer, pool: &Pool<PlainServerPhase>) -> Result<Ends, Fail>
+    requires { All (OwingInRange PlainServerInRange) pool.now }
 {
-    (server.end_window(pool, 0), server.until(pool, 0))
+    if pool.len() != 1 {
+        return Err("not one state".into());
+    }
+    Ok((server.end_window(pool, 0), server.until(pool, 0)))
 }
 
 /// Entries, and the ends of the only state after them.
@@ -486,16 +488,9 @@ static ENDS: &[EndsRow] = &[
 ];
 
 /// The ends of the only state after the entries.
-fn ends_after(
-    alloc: Global,
-    server: &PlainServer,
-    entries: &[Entry],
-) -> Result<(Option<(u64, Option<u64>)>, Option<u64>), Fail> {
+fn ends_after(alloc: Global, server: &PlainServer, entries: &[Entry]) -> Result<Ends, Fail> {
     let pool = states_after(alloc, entries)?;
-    if pool.len() != 1 {
-        return Err("not one state".into());
-    }
-    Ok(ends_of(server, &pool))
+    ends_of(server, &pool)
 }
 
 #[test]
@@ -513,6 +508,6 @@ fn ends(rt: HostRuntime) -> Result<(), Fail> {
         final_message: FINAL,
         set: 700,
     })?;
-    assert!(rt; ends_of(&server, &over_tcp) == (Some((700, Some(750))), Some(750)));
+    assert!(rt; ends_of(&server, &over_tcp)? == (Some((700, Some(750))), Some(750)));
     Ok(())
 }

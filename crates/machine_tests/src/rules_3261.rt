@@ -44,7 +44,8 @@ fn states_after<M: Machine>(
     entries: &[Entry],
 ) -> Result<Vec<State<M::Phase>>, Fail> {
     let book = book_of(alloc, &MESSAGES, "INVITE", "UDP")?;
-    Ok(states_of(alloc, &run(alloc, machine, &book, entries)?)?)
+    let pool = run(alloc, machine, &book, entries)?;
+    states_of(alloc, &pool)
 }
 
 /// A debt that is wanted: its message, its deadline, and whether it must be sent.
@@ -70,7 +71,7 @@ fn are_owed(runs: &[Run], wants: &[Owed]) -> bool {
 fn are_wanted<P: Phase>(states: &[State<P>], wants: &[Want<P>]) -> bool {
     states.len() == wants.len()
         && states.iter().zip(wants).all(|(state, want)| state.phase == want.0
-            && are_owed(state.owes.as_slice(), want.1))
+            && are_owed(&state.owes, want.1))
 }
 
 type Server = (&'static [Entry], &'static [Want<InviteServer3261Phase>]);

@@ -1,34 +1,32 @@
 //! Runs of a machine over entries: of all steps, and of one state that steps in its own place.
-ghost use Rattle.std.specs.Prelude.{◌≡◌, All, IfOk, OnOk, length};
+ghost use Rattle.std.specs.Prelude.{◌<◌, All, AllPairs, IfOk, OnOk};
 ghost use Rattle.sip_machine.specs.MachineEvent.{FitsBook};
 ghost use Rattle.sip_machine.specs.Rules.{Knows};
 
 use crate::messages::event_of;
 use sip_machine::{Action, Book, Event, Machine, Phase, Pool, Run};
-use std::alloc::{AllocError, Global};
+use std::alloc::Global;
 use std::test::Fail;
 
 /// An entry: its moment, what was done, and the number of its message.
 pub(crate) type Entry = (u64, Action, u32);
 
 /// A state of a pool: its phase, and what it owes.
-#[derive(Debug, PartialEq, Drop)]
-pub(crate) struct State<P: Phase> {
+#[derive(Debug, Drop)]
+pub(crate) struct State<P> {
     pub phase: P,
     pub owes: Vec<Run>,
 }
 
-/// The states of the pool, in their order.
-pub(crate) fn states_of<P: Phase>(
-    alloc: Global,
-    pool: &Pool<P>,
-) -> Result<Vec<State<P>>, AllocError> {
+/// The states of a pool.
+pub(crate) fn states_of<P: Phase>(alloc: Global, pool: &Pool<P>) -> Result<Vec<State<P>>, Fail> {
     let mut states = Vec::new(alloc);
     for at in 0..pool.len() {
-        states.push(State {
+        let state = State {
             phase: pool.phase(at),
             owes: pool.runs(alloc, at)?,
-        })?;
+        };
+        states.push(state)?;
     }
     Ok(states)
 }
@@ -40,18 +38,18 @@ pub(crate) fn run<M: Machine>(
     book: &Book,
     entries: &[Entry],
 ) -> Result<Pool<M::Phase>, Fail>
-    ensures { IfOk result (λ pool. All M.in_range pool) }
+    ensures { IfOk result (All M.in_range) }
 {
     let mut pool = Pool::new(alloc);
     pool.push(machine.first())?;
     let mut is_alone = true;
     for &(moment, action, number) in entries {
         let event = event_of(alloc, book, moment, action, number)?;
-        step(machine, book, &mut pool, &event)?;
+        step(alloc, machine, book, &mut pool, &event)?;
         is_alone = is_alone && pool.len() == 1;
     }
     let alone = run_alone(alloc, machine, book, entries)?;
-    if !agree(alloc, &pool, is_alone, alone)? {
+    if !agree(alloc, &pool, is_alone, &alone)? {
         return Err("in its own place it steps otherwise".into());
     }
     Ok(pool)
@@ -62,23 +60,32 @@ fn agree<P: Phase>(
     alloc: Global,
     pool: &Pool<P>,
     is_alone: bool,
-    alone: Option<Pool<P>>,
-) -> Result<bool, AllocError> {
+    alone: &Option<Pool<P>>,
+) -> Result<bool, Fail> {
     match alone {
         Some(alone) => {
-            Ok(is_alone && pool.len() == 1 && states_of(alloc, pool)? == states_of(alloc, &alone)?)
+            let same = are_same(&states_of(alloc, pool)?, &states_of(alloc, alone)?);
+            Ok(is_alone && pool.len() == 1 && same)
         }
         None => Ok(!is_alone),
     }
 }
 
-/// Lets each state take the event.
-fn step<M: Machine>(
+/// Whether the states are the same, one by one.
+pub(crate) fn are_same<P: Phase>(states: &[State<P>], others: &[State<P>]) -> bool {
+    states.len() == others.len()
+        && states.iter().zip(others).all(|(state, other)| state.phase == other.phase
+            && state.owes.as_slice() == other.owes.as_slice())
+}
+
+/// Puts the states that the event gives in the place of those that take it.
+pub(crate) fn step<M: Machine>(
+    alloc: Global,
     machine: &M,
     book: &Book,
     pool: &mut Pool<M::Phase>,
     event: &Event,
-) -> Result<(), AllocError>
+) -> Result<(), Fail>
     requires fits { FitsBook book.now event.now }
     requires known { All (Knows M.names book.now) pool.old }
     requires in_range { All M.in_range pool.old }
@@ -89,9 +96,21 @@ fn step<M: Machine>(
     for at in 0..count {
         machine.successors(book, pool, at, event)?;
     }
-    let rows = pool.first_ones(count)?;
-    pool.keep(&rows);
+    let given = indices(alloc, count, pool.len())?;
+    pool.keep(&given);
     Ok(())
+}
+
+/// The numbers from one on and before another.
+fn indices(alloc: Global, from: usize, to: usize) -> Result<Vec<usize>, Fail>
+    ensures within { IfOk result (λ rows. All (λ row. row < to) rows.items) }
+    ensures rising { IfOk result (λ rows. AllPairs (λ a b. a < b) rows.items) }
+{
+    let mut rows = Vec::new(alloc);
+    for row in from..to {
+        rows.push(row)?;
+    }
+    Ok(rows)
 }
 
 /// The state that steps in its own place, None where an entry gives none or two.

@@ -1,23 +1,24 @@
-use Rattle.std.specs.Prelude.{[], length}
-use Rattle.std.proofs.Common.{ap, arith}
-use Rattle.std.proofs.lemmas.List.Elements.{All-cons, All-get_or, All-nil}
+use Rattle.std.specs.Prelude.{[], refl}
 use Rattle.std.proofs.lemmas.Bool.{OnTrue_at}
+use Rattle.std.proofs.lemmas.List.Elements.{All-nil, All-push}
 use Rattle.sip_machine.specs.Texts.{Keeps}
 use Rattle.sip_machine.specs.Rules.{Knows}
 use Rattle.machine_tests.proofs.runs.run_alone.Goals as goal
 
 pub loop-moment-init : goal.loop-moment-init
-loop-moment-init g c = ?
-
-pub step-requires-clause-known : goal.step-requires-clause-known
-step-requires-clause-known g c = λ d.
-    let one = c.loop-moment.invariant.2 in All-get_or (Knows g.M.Machine.names c.args.book.now) c.loop-moment.pool 0 d (omega (arith, one)) c.loop-moment.invariant.0
-
-pub step-requires-clause-in_range : goal.step-requires-clause-in_range
-step-requires-clause-in_range g c = λ d.
-    let one = c.loop-moment.invariant.2 in All-get_or g.M.Machine.in_range c.loop-moment.pool 0 d (omega (arith, one)) c.loop-moment.invariant.1
+loop-moment-init g c =
+    let first = g.M.Machine.first c.args.machine.now in
+    let fits = g.met.M.Machine.first_fits c.args.machine.now in
+    rw (c.in_ok-push.ensures.ok, c.new-pool.ensures)
+    (record {
+      alone = refl;
+      known = rw c.first.ensures (All-push (Knows g.M.Machine.names c.args.book.now) [] first (All-nil (Knows g.M.Machine.names c.args.book.now)) (rw fits.0 (All-nil (Keeps c.args.book.now))));
+      in_range = rw c.first.ensures (All-push g.M.Machine.in_range [] first (All-nil g.M.Machine.in_range) fits.1);
+    })
 
 pub loop-moment-preserved : goal.loop-moment-preserved
 loop-moment-preserved g c =
-    let stands = OnTrue_at c.if-not-branch.false (c.in_ok-step.ensures.one (g.M.Machine.ended c.args.machine.now)) in
-    (stands.known, stands.in_range, OnTrue_at c.if-not-branch.false c.in_ok-step.ensures.alone)
+    let first = g.M.Machine.first c.args.machine.now in
+    let told = c.if-not-branch.false in
+    let one = OnTrue_at told (c.in_ok-step.ensures.one first) in
+    record { alone = OnTrue_at told c.in_ok-step.ensures.alone; known = one.known; in_range = one.in_range }

@@ -3,4 +3,9 @@ use Rattle.sip_machine.specs.Rules.{Knows}
 use Rattle.machine_tests.proofs.runs.run_alone.Given as goal
 
 abbrev pub invariant-loop-moment : goal.invariant-loop-moment
-invariant-loop-moment g l = All (Knows g.M.Machine.names l.book) l.pool × All g.M.Machine.in_range l.pool × (length l.pool ≡ 1)
+invariant-loop-moment g l =
+    record {
+      alone : length l.pool ≡ 1;
+      known : All (Knows g.M.Machine.names l.book) l.pool;
+      in_range : All g.M.Machine.in_range l.pool;
+    }

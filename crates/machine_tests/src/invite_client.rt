@@ -5,9 +5,7 @@ ghost use Rattle.sip_machine.specs.InviteClient.{InviteClientInRange};
 
 use crate::messages::{Numbered, Start, book_of};
 use crate::runs::{Entry, State, run, states_of};
-use sip_machine::{
-    Action, Debt, InviteClient, InviteClientPhase, Machine, Params, Pool, Run,
-};
+use sip_machine::{Action, Debt, InviteClient, InviteClientPhase, Machine, Params, Pool, Run};
 use std::alloc::Global;
 use std::process::Abort;
 use std::test::Fail;

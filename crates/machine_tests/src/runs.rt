@@ -102,7 +102,7 @@ pub(crate) fn step<M: Machine>(
 }
 
 /// The numbers from one on and before another.
-fn indices(alloc: Global, from: usize, to: usize) -> Result<Vec<usize>, Fail>
+pub(crate) fn indices(alloc: Global, from: usize, to: usize) -> Result<Vec<usize>, Fail>
     ensures within { IfOk result (λ rows. All (λ row. row < to) rows.items) }
     ensures rising { IfOk result (λ rows. AllPairs (λ a b. a < b) rows.items) }
 {

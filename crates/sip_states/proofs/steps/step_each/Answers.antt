@@ -57,15 +57,13 @@ loop-at-preserved g c =
       | then-is_within+in_ok-successors w ↦
           let (added, new_is, gives) = w.in_ok-successors.ensures.ok d in
           let stands = subst (λ s. StandFor g.M.Machine.names g.M.Machine.in_range g.M.Machine.seen texts (r.Take (g.M.Machine.seen texts s) e) added) here gives in
-          rw (w.pool-is, take_more xs i d low)
-          (
+          rw (w.pool-is, take_more xs i d low) (
             found ++ added,
             new_is ∙ ap (λ ys. ys ++ added) is ∙ append_assoc old found added,
             gives_more g.M.Machine.names g.M.Machine.in_range g.M.Machine.seen texts r e (take i xs) state found added (found ++ added) (waits.0 w.if-is_within.true) covers stands refl,
           )
       | else-is_within w ↦
-          rw (w.pool-is, take_more xs i d low)
-          (
+          rw (w.pool-is, take_more xs i d low) (
             found,
             is,
             gives_same g.M.Machine.names g.M.Machine.in_range g.M.Machine.seen texts r e (take i xs) state found (λ can. true≢false (sym (waits.1 can) ∙ w.if-is_within.false)) covers,

@@ -37,8 +37,7 @@ loop-at-preserved g c =
           let low_at : at < length prints = omega (arith, within, long) in
           let here : IsMarked w.mark.new.printed (get_or prints at 0) =
           subst (IsMarked w.mark.new.printed) (c.index-print.ensures ∙ get_or_default prints at c.index-print.result.now 0 low_at) w.in_ok-mark.ensures.ok in
-          rw (w.rows-is, w.printed-is, w.in_ok-push.ensures.items)
-          (
+          rw (w.rows-is, w.printed-is, w.in_ok-push.ensures.items) (
             first-more xs c.args.from at rows c.loop-at.auto.at first
                 (λ x i d low same. true≢false (sym ((repeats x).1 (Any-here xs rows i d at x low same)) ∙ w.if-not-is_repeat.true)),
             All-push (λ row. IsMarked w.mark.new.printed (get_or prints row 0)) rows at

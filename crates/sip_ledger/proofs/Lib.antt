@@ -1,0 +1,10 @@
+pub mod BitsLemmas
+pub mod ListedLemmas
+pub mod RowLemmas
+pub mod TableLemmas
+pub mod LedgerLemmas
+pub mod RunLemmas
+pub mod WordsLemmas
+pub mod MemoLemmas
+pub mod WordLemmas
+pub mod WordRowLemmas

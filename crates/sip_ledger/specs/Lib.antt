@@ -1,0 +1,7 @@
+pub mod Bits
+pub mod Debts
+pub mod Rows
+pub mod Runs
+pub mod Ledgers
+pub mod Prints
+pub mod inner

@@ -1,0 +1,4 @@
+pub mod Ends
+pub mod Memos
+pub mod Places
+pub mod Tables

@@ -3,13 +3,16 @@
 
 mod bits;
 mod debt;
-mod ledger;
+mod index;
+mod indexes;
+mod long_row;
 mod memo;
 mod row;
+mod rows;
 mod run;
 mod table;
 mod words;
 
 pub use crate::debt::Debt;
-pub use crate::ledger::Ledger;
+pub use crate::rows::Rows;
 pub use crate::run::Run;

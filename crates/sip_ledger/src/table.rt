@@ -6,7 +6,7 @@ ghost use Rattle.sip_ledger.specs.Debts.{IsWithoutFirst, counts_at, is_any_payab
 ghost use Rattle.sip_ledger.specs.declared.debt.Debt.{Debt};
 ghost use Rattle.sip_ledger.specs.declared.debt.Entry.{Entry};
 ghost use Rattle.sip_ledger.specs.Rows.{debt_of};
-ghost use Rattle.sip_ledger.specs.Ledgers.{part, row_at};
+ghost use Rattle.sip_ledger.specs.Grids.{part, row_at};
 ghost use Rattle.sip_ledger.specs.Prints.{mixed};
 ghost use Rattle.sip_ledger.specs.Runs.{AreRuns};
 ghost use Rattle.sip_ledger.specs.inner.Places.{AreRising, IsBit, IsFirst, NonePasses, AsksNoMust, IsGainedAt};

@@ -1,3 +1,4 @@
+pub mod LongLemmas
 pub mod IndexLemmas
 pub mod BitsLemmas
 pub mod ListedLemmas

@@ -1,5 +1,5 @@
 //! Many debts of one row.
-ghost use Rattle.std.specs.Prelude.{◌≡◌, ◌↔◌, ◌<◌, ◌≤◌, ◌-◌, ◌^◌, ◌++◌, ◌∷◌, [], ℕ, None, true, false, IsTrue, IfSome, IfNone, IfOk, OnOk, OnErr, All, length, filter, map, nat_le};
+ghost use Rattle.std.specs.Prelude.{◌≡◌, ◌↔◌, ◌<◌, ◌≤◌, ◌-◌, ◌^◌, ◌++◌, ◌∷◌, [], ℕ, Bool, None, true, false, IsTrue, IfSome, IfNone, IfOk, OnOk, OnErr, All, length, filter, map, nat_le};
 ghost use Rattle.std.specs.Bool.{OnTrue, OnFalse};
 ghost use Rattle.std.specs.BTreeMap.{IsOrdered, is_at};
 ghost use Rattle.std.specs.List.{list_any};
@@ -9,7 +9,7 @@ ghost use Rattle.sip_ledger.specs.Debts.{IsSpan, IsWithoutFirst, counts_at, soft
 ghost use Rattle.sip_ledger.specs.Runs.{AreRuns};
 ghost use Rattle.sip_ledger.specs.declared.debt.Debt.{Debt};
 ghost use Rattle.sip_ledger.specs.inner.Indexes.{holds};
-ghost use Rattle.sip_ledger.specs.inner.Longs.{FindsNumber, IsFirstPast, IsIndexed, NonePast, debt_at, is_due, least_of, passes, softened_all};
+ghost use Rattle.sip_ledger.specs.inner.Longs.{FindsNumber, IsFirstNumber, IsFirstPast, IsFound, IsIndexed, NonePast, debt_at, is_due, least_of, passes, softened_all};
 
 use crate::debt::Debt;
 use crate::index::Index;
@@ -73,17 +73,19 @@ impl LongRow {
             return Err(AllocError);
         }
         self.indexes.put(number, debt)?;
-        if self.debts.insert(number, debt).is_err() {
+        let Ok(_) = self.debts.insert(number, debt) else {
             self.indexes.take(number, debt);
             return Err(AllocError);
-        }
+        };
         self.next += 1;
         Ok(())
     }
 
     /// Takes the debt with the number out, if there is one.
     fn take_out(&mut self, number: u64)
-        ensures { self.new ≡ remove_entry (is_at (nat_cmp number)) self.old }
+        ensures entries { self.new ≡ remove_entry (is_at (nat_cmp number)) self.old }
+        ensures taken { (test : Debt → Bool) → IsFirstNumber test self.old number →
+            IsWithoutFirst (λ debt. IsTrue (test debt)) (values_of self.old) (values_of self.new) }
     {
         if let Some(debt) = self.debts.remove(&number) {
             self.indexes.take(number, debt);
@@ -134,7 +136,7 @@ impl LongRow {
 
     /// The number of the first debt that a send of the message at the moment pays.
     fn first_payable(&self, message: u32, moment: u64) -> Option<u64>
-        ensures { FindsNumber (is_payable message moment) self.now result }
+        ensures { IsFound (is_payable message moment) self.now result }
     {
         let mut from = 0;
         while let Some(number) = self.indexes.messages.next(u64::from(message), from) {
@@ -148,7 +150,7 @@ impl LongRow {
 
     /// The same of a send of one of these messages.
     fn first_of_any(&self, numbers: &[u32], moment: u64) -> Option<u64>
-        ensures { FindsNumber (is_any_payable numbers.now moment) self.now result }
+        ensures { IsFound (is_any_payable numbers.now moment) self.now result }
     {
         let mut first = None;
         for message in numbers {

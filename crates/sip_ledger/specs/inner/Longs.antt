@@ -1,6 +1,7 @@
-use Rattle.std.specs.Prelude.{◌≡◌, ◌==◌, ◌&&◌, ◌<◌, ◌≤◌, ℕ, Bool, true, false, cond, Option, Some, None, List, map, min, ◌-◌, ◌^◌}
+use Rattle.std.specs.Prelude.{◌≡◌, ◌==◌, ◌&&◌, ◌<◌, ◌≤◌, ℕ, Bool, true, false, cond, Option, Some, None, List, map, min, ◌-◌, ◌^◌, All, IsTrue, IfNone, is_some}
 use Rattle.std.specs.List.Sorted.{IsStrictlySortedBy}
-use Rattle.std.specs.Map.{keys_of, lookup}
+use Rattle.std.specs.Map.{keys_of, values_of, lookup}
+use Rattle.std.specs.List.{list_any}
 use Rattle.std.specs.Ordering.{nat_cmp}
 use Rattle.std.specs.BTreeMap.{is_at}
 use Rattle.sip_ledger.specs.declared.debt.Debt.{Debt}
@@ -28,6 +29,12 @@ pub record IsFirstNumber (test : Debt → Bool) (debts : List (ℕ × Debt)) (nu
 abbrev pub FindsNumber : (Debt → Bool) → List (ℕ × Debt) → Option ℕ → Type 0
 FindsNumber test debts None = (n : ℕ) → passes test (debt_at debts n) ≡ false
 FindsNumber test debts (Some number) = IsFirstNumber test debts number
+
+-- a debt that was found, or none, and what that says of all of them
+pub record IsFound (test : Debt → Bool) (debts : List (ℕ × Debt)) (found : Option ℕ) : Type 0 where
+  pub finds : FindsNumber test debts found
+  pub none : IfNone found (All (λ debt. ¬ (IsTrue (test debt))) (values_of debts))
+  pub any : is_some found ≡ list_any test (values_of debts)
 
 -- the key of a debt: its message, its deadline, and its deadline if it must be sent
 abbrev pub is_named : ℕ → Debt → Bool

@@ -1,0 +1,314 @@
+-- Debts whose numbers rise.
+use Rattle.std.proofs.Common.{◌≡◌, ℕ, ◌+◌, ◌-◌, ◌*◌, ◌<◌, ◌≤◌, ◌==◌, ◌&&◌, ◌||◌, Bool, true, false, cond, List, [], ◌∷◌, ◌++◌, length, map, filter, get_or, take, refl, sym, ap, ap₂, ◌∙◌, subst, arith}
+use mathlib.Core.Bool.{true≢false}
+use Rattle.std.specs.Prelude.{All, IsTrue, Option, None, Some, IfNone, is_some, min, nat_le}
+use Rattle.std.specs.List.{list_any, fold}
+use Rattle.std.specs.List.Sorted.{IsStrictlySortedBy}
+use Rattle.std.specs.Map.{keys_of, values_of, lookup, remove_entry}
+use Rattle.std.specs.Ordering.{is_eq, match_ordering, nat_cmp}
+use Rattle.std.specs.declared.cmp.Ordering.TheVariants.{Less, Greater}
+use Rattle.std.specs.BTreeMap.{is_at, insert_entry}
+use Rattle.std.proofs.Math.Logic.{◌⊎◌, inl, inr, ⊎_elim}
+use Rattle.std.proofs.Math.Bool.{and-false, or-false}
+use Rattle.std.proofs.lemmas.Bool.{cases_lt, or_left, or_right}
+use Rattle.std.proofs.lemmas.Bool.Decides.{nat_tests}
+use Rattle.std.proofs.lemmas.Grind.{common_steps}
+use Rattle.std.proofs.lemmas.List.{map-append, take_more}
+use Rattle.std.proofs.lemmas.List.Folds.{list_any-append}
+use Rattle.std.proofs.lemmas.List.Elements.{All-nil, All-cons, All-head, All-tail, All-weaker}
+use Rattle.std.proofs.lemmas.Map.Keys.{sorted_tail}
+use Rattle.std.proofs.lemmas.Map.Views.{All-after_first}
+use Rattle.sip_ledger.specs.declared.debt.Debt.{Debt}
+use Rattle.sip_ledger.specs.Debts.{IsWithoutFirst, counts_at, softened_debt, is_any_payable, is_payable, debt_deadlines, earliest}
+use Rattle.sip_ledger.specs.inner.Indexes.{holds, IsNextUnder}
+use Rattle.sip_ledger.specs.inner.Longs.{debt_at, passes, IsFirstNumber, IsFound, IsIndexed, FindsNumber, least_of, is_named, is_timed, is_due, softened_all}
+
+
+
+
+at-itself : (n : ℕ) → is_eq (nat_cmp n n) ≡ true
+at-itself n = grind (arith, nat_tests)
+
+at-apart : (n k : ℕ) → is_eq (nat_cmp n k) ≡ false → (n ≡ k → ⊥)
+at-apart n k h e = grind (arith, nat_tests)
+
+at-same : (n k : ℕ) → is_eq (nat_cmp n k) ≡ true → n ≡ k
+at-same n k h = grind (arith, nat_tests)
+
+apart-below : (n k : ℕ) → n < k → is_eq (nat_cmp n k) ≡ false
+apart-below n k h = grind (arith, nat_tests)
+
+-- the first of debts has its number
+head-at : (e : ℕ × Debt) (es : List (ℕ × Debt)) → debt_at (e ∷ es) e.0 ≡ Some e.1
+head-at e es = ap (λ b. cond b (Some e.1) (debt_at es e.0)) (at-itself e.0)
+
+tail-at : (e : ℕ × Debt) (es : List (ℕ × Debt)) (n : ℕ) → is_eq (nat_cmp n e.0) ≡ false → debt_at (e ∷ es) n ≡ debt_at es n
+tail-at e es n apart = ap (λ b. cond b (Some e.1) (debt_at es n)) apart
+
+-- a debt behind all others stands at the end
+pub put-last : (es : List (ℕ × Debt)) (n : ℕ) (d : Debt) → ((q : ℕ) → n ≤ q → debt_at es q ≡ None) → insert_entry nat_cmp es n d ≡ es ++ (n, d) ∷ []
+put-last [] n d none = refl
+put-last (e ∷ es) n d none =
+    let below : e.0 < n = above e.0 n (λ within. some-none e.1 (sym (head-at e es) ∙ none e.0 within)) in
+    let greater : nat_cmp n e.0 ≡ Greater = grind (arith, nat_tests) in
+    ap (λ o. match_ordering o ((n, d) ∷ e ∷ es) ((e.0, d) ∷ es) (e ∷ insert_entry nat_cmp es n d)) greater
+    ∙ ap (λ l. e ∷ l) (put-last es n d (λ q within. sym (tail-at e es q (above-apart q e.0 n below within)) ∙ none q within))
+  where
+    some-none : (x : Debt) → Some x ≡ None → ⊥
+    some-none x h = cc
+    above : (a b : ℕ) → (b ≤ a → ⊥) → a < b
+    above a b never = omega (arith, never)
+    above-apart : (q k m : ℕ) → k < m → m ≤ q → is_eq (nat_cmp q k) ≡ false
+    above-apart q k m low high = grind (arith, nat_tests)
+
+some-none : {X : Type 0} (d : Debt) → Some d ≡ None → X
+some-none d h = cc
+
+above : (a b : ℕ) → (b ≤ a → ⊥) → a < b
+above a b never = omega (arith, never)
+
+keys-above : (e : ℕ × Debt) (es : List (ℕ × Debt)) → IsStrictlySortedBy nat_cmp (keys_of (e ∷ es)) → All (λ k. e.0 < k) (keys_of es)
+keys-above e es sorted = All-weaker (λ k. nat_cmp e.0 k ≡ Less) (λ k. e.0 < k) (less-below e.0) (keys_of es) (All-after_first nat_cmp e.0 (keys_of es) sorted)
+  where
+    less-below : (n k : ℕ) → nat_cmp n k ≡ Less → n < k
+    less-below n k h = grind (arith, nat_tests)
+
+behind-none : (es : List (ℕ × Debt)) (q : ℕ) → All (λ k. q < k) (keys_of es) → debt_at es q ≡ None
+behind-none [] q behind = refl
+behind-none (e ∷ es) q behind =
+    tail-at e es q (apart-below q e.0 (All-head (λ k. q < k) e.0 (keys_of es) behind)) ∙ behind-none es q (All-tail (λ k. q < k) e.0 (keys_of es) behind)
+
+found-above : (es : List (ℕ × Debt)) (q n : ℕ) (d : Debt) → All (λ k. q < k) (keys_of es) → debt_at es n ≡ Some d → q < n
+found-above es q n d behind found =
+    above q n (λ within. some-none d (sym found ∙ behind-none es n (All-weaker (λ k. q < k) (λ k. n < k) (λ k more. omega (arith, more, within)) (keys_of es) behind)))
+
+-- a debt behind the head is found in all
+found-behind : (e : ℕ × Debt) (es : List (ℕ × Debt)) (n : ℕ) (d : Debt) → IsStrictlySortedBy nat_cmp (keys_of (e ∷ es)) → debt_at es n ≡ Some d → debt_at (e ∷ es) n ≡ Some d
+found-behind e es n d sorted found = tail-at e es n (above-apart n e.0 (found-above es e.0 n d (keys-above e es sorted) found)) ∙ found
+  where
+    above-apart : (a b : ℕ) → b < a → is_eq (nat_cmp a b) ≡ false
+    above-apart a b h = grind (arith, nat_tests)
+
+-- what holds of each debt by its number holds of all
+pub each-all : (P : Debt → Type 0) (es : List (ℕ × Debt)) → IsStrictlySortedBy nat_cmp (keys_of es) → ((n : ℕ) (d : Debt) → debt_at es n ≡ Some d → P d) → All P (values_of es)
+each-all P [] sorted each = All-nil P
+each-all P (e ∷ es) sorted each =
+    All-cons P e.1 (values_of es) (each e.0 e.1 (head-at e es))
+    (each-all P es (sorted_tail nat_cmp e.0 (keys_of es) sorted) (λ n d found. each n d (found-behind e es n d sorted found)))
+
+pub unpaid-all : (test : Debt → Bool) (es : List (ℕ × Debt)) → IsStrictlySortedBy nat_cmp (keys_of es) → FindsNumber test es None → All (λ d. ¬ (IsTrue (test d))) (values_of es)
+unpaid-all test es sorted none =
+    each-all (λ d. ¬ (IsTrue (test d))) es sorted (λ n d found pays. true≢false (sym pays ∙ ap (passes test) (sym found) ∙ none n))
+
+none-any : (test : Debt → Bool) (ds : List Debt) → All (λ d. test d ≡ false) ds → list_any test ds ≡ false
+none-any test [] none = refl
+none-any test (d ∷ ds) none =
+    let here = All-head (λ x. test x ≡ false) d ds none in
+    let rest = none-any test ds (All-tail (λ x. test x ≡ false) d ds none) in
+    cc
+
+some-any : (test : Debt → Bool) (es : List (ℕ × Debt)) (n : ℕ) → passes test (debt_at es n) ≡ true → list_any test (values_of es) ≡ true
+some-any test [] n is = absurd (true≢false (sym is))
+some-any test (e ∷ es) n is = by (some-any test es n) (is_eq (nat_cmp n e.0)) refl
+  where
+    by : (passes test (debt_at es n) ≡ true → list_any test (values_of es) ≡ true) → (b : Bool) → is_eq (nat_cmp n e.0) ≡ b → test e.1 || list_any test (values_of es) ≡ true
+    by rest true same = or_left (test e.1) (list_any test (values_of es)) (sym (ap (λ b. passes test (cond b (Some e.1) (debt_at es n))) same) ∙ is)
+    by rest false apart = or_right (test e.1) (list_any test (values_of es)) (rest (sym (ap (λ b. passes test (cond b (Some e.1) (debt_at es n))) apart) ∙ is))
+
+-- whether a debt passes the test
+pub found-any : (test : Debt → Bool) (es : List (ℕ × Debt)) (r : Option ℕ) → IsStrictlySortedBy nat_cmp (keys_of es) → FindsNumber test es r → is_some r ≡ list_any test (values_of es)
+found-any test es None sorted none =
+    sym (none-any test (values_of es) (each-all (λ d. test d ≡ false) es sorted (λ n d found. ap (passes test) (sym found) ∙ none n)))
+found-any test es (Some n) sorted first = sym (some-any test es n first.is)
+
+passed-above : (test : Debt → Bool) (es : List (ℕ × Debt)) (q n : ℕ) → All (λ k. q < k) (keys_of es) → passes test (debt_at es n) ≡ true → q < n
+passed-above test es q n behind is = by (debt_at es n) refl
+  where
+    by : (o : Option Debt) → debt_at es n ≡ o → q < n
+    by None none = absurd (true≢false (sym is ∙ ap (passes test) none))
+    by (Some d) found = found-above es q n d behind found
+
+shadowed : (test : Debt → Bool) (e : ℕ × Debt) (es : List (ℕ × Debt)) (m : ℕ) → IsStrictlySortedBy nat_cmp (keys_of (e ∷ es)) → passes test (debt_at (e ∷ es) m) ≡ false →
+    passes test (debt_at es m) ≡ false
+shadowed test e es m sorted none = by (debt_at es m) refl
+  where
+    by : (o : Option Debt) → debt_at es m ≡ o → passes test (debt_at es m) ≡ false
+    by None is = ap (passes test) is
+    by (Some d) found = ap (passes test) (found ∙ sym (found-behind e es m d sorted found)) ∙ none
+
+-- the first debt that passes the test is taken out
+more-without : (P : Debt → Type 0) (x : Debt) (xs ys : List Debt) → ¬ (P x) → IsWithoutFirst P xs ys → IsWithoutFirst P (x ∷ xs) (x ∷ ys)
+more-without P x xs ys here w = record {
+  before = x ∷ w.before;
+  first = w.first;
+  after = w.after;
+  whole = ap (λ l. x ∷ l) w.whole;
+  holds = w.holds;
+  none_before = All-cons (λ y. ¬ (P y)) x w.before here w.none_before;
+  rest = ap (λ l. x ∷ l) w.rest;
+}
+
+pub taken-first : (test : Debt → Bool) (es : List (ℕ × Debt)) (n : ℕ) → IsStrictlySortedBy nat_cmp (keys_of es) → IsFirstNumber test es n →
+    IsWithoutFirst (λ d. IsTrue (test d)) (values_of es) (values_of (remove_entry (is_at (nat_cmp n)) es))
+taken-first test [] n sorted first = absurd (true≢false (sym first.is))
+taken-first test (e ∷ es) n sorted first = by (taken-first test es n (sorted_tail nat_cmp e.0 (keys_of es) sorted)) (is_eq (nat_cmp n e.0)) refl
+  where
+    by : (IsFirstNumber test es n → IsWithoutFirst (λ d. IsTrue (test d)) (values_of es) (values_of (remove_entry (is_at (nat_cmp n)) es))) → (b : Bool) → is_eq (nat_cmp n e.0) ≡ b → IsWithoutFirst (λ d. IsTrue (test d)) (e.1 ∷ values_of es) (values_of (cond (is_eq (nat_cmp n e.0)) es (e ∷ remove_entry (is_at (nat_cmp n)) es)))
+    by rest true same = subst (λ b. IsWithoutFirst (λ d. IsTrue (test d)) (e.1 ∷ values_of es) (values_of (cond b es (e ∷ remove_entry (is_at (nat_cmp n)) es)))) (sym same)
+      (record {
+        before = [];
+        first = e.1;
+        after = values_of es;
+        whole = refl;
+        holds = sym (ap (λ b. passes test (cond b (Some e.1) (debt_at es n))) same) ∙ first.is;
+        none_before = All-nil (λ d. ¬ (IsTrue (test d)));
+        rest = refl;
+      })
+    by rest false apart =
+      let is : passes test (debt_at es n) ≡ true = sym (ap (passes test) (tail-at e es n apart)) ∙ first.is in
+      let below : e.0 < n = passed-above test es e.0 n (keys-above e es sorted) is in
+      let here : ¬ (IsTrue (test e.1)) = λ pays. true≢false (sym pays ∙ ap (passes test) (sym (head-at e es)) ∙ first.before e.0 below) in
+      subst (λ b. IsWithoutFirst (λ d. IsTrue (test d)) (e.1 ∷ values_of es) (values_of (cond b es (e ∷ remove_entry (is_at (nat_cmp n)) es)))) (sym apart)
+      (more-without (λ d. IsTrue (test d)) e.1 (values_of es) (values_of (remove_entry (is_at (nat_cmp n)) es)) here
+      (rest (record { is = is; before = λ m low. shadowed test e es m sorted (first.before m low) })))
+
+pub taken-out : (es v left : List (ℕ × Debt)) (n : ℕ) (test : Debt → Bool) → IsStrictlySortedBy nat_cmp (keys_of es) → es ≡ v → left ≡ remove_entry (is_at (nat_cmp n)) es → IsFirstNumber test v n →
+    IsWithoutFirst (λ d. IsTrue (test d)) (values_of v) (values_of left)
+taken-out es v left n test sorted same removal first =
+    subst (λ l. IsWithoutFirst (λ d. IsTrue (test d)) (values_of v) (values_of l)) (sym removal)
+    (subst (λ l. IsWithoutFirst (λ d. IsTrue (test d)) (values_of l) (values_of (remove_entry (is_at (nat_cmp n)) es))) same
+    (taken-first test es n sorted (subst (λ l. IsFirstNumber test l n) (sym same) first)))
+
+-- a search for the first payable debt of a message
+payable-both : (m t : ℕ) (o : Option Debt) → passes (is_payable m t) o ≡ (passes (is_named m) o && passes (λ d. nat_le t d.deadline) o)
+payable-both m t None = refl
+payable-both m t (Some d) = refl
+
+unnamed-unpayable : (m t : ℕ) (o : Option Debt) → passes (is_named m) o ≡ false → passes (is_payable m t) o ≡ false
+unnamed-unpayable m t o h = payable-both m t o ∙ ap (λ b. b && passes (λ d. nat_le t d.deadline) o) h
+
+pub payable-before : (es : List (ℕ × Debt)) (pairs : List (ℕ × ℕ)) (m t from number : ℕ) → IsIndexed is_named es pairs →
+    ((n : ℕ) → n < from → passes (is_payable m t) (debt_at es n) ≡ false) → ((n : ℕ) → from ≤ n → n < number → holds pairs m n ≡ false) →
+    (n : ℕ) → n < number → passes (is_payable m t) (debt_at es n) ≡ false
+payable-before es pairs m t from number indexed before none n low =
+    ⊎_elim (λ first. before n first) (λ after. unnamed-unpayable m t (debt_at es n) (sym (indexed.each m n) ∙ none n after low)) (cases_lt n from)
+
+pub payable-found : (es : List (ℕ × Debt)) (pairs : List (ℕ × ℕ)) (m t from number : ℕ) → IsStrictlySortedBy nat_cmp (keys_of es) → IsIndexed is_named es pairs →
+    ((n : ℕ) → n < from → passes (is_payable m t) (debt_at es n) ≡ false) → IsNextUnder pairs m from number →
+    passes (λ d. nat_le t d.deadline) (debt_at es number) ≡ true → IsFound (is_payable m t) es (Some number)
+payable-found es pairs m t from number sorted indexed before next counts =
+    let first : IsFirstNumber (is_payable m t) es number = record {
+      is = payable-both m t (debt_at es number) ∙ ap₂ (λ a b. a && b) (sym (indexed.each m number) ∙ next.is) counts;
+      before = payable-before es pairs m t from number indexed before next.none_before;
+    } in
+    record { finds = first; none = tt; any = found-any (is_payable m t) es (Some number) sorted first }
+
+pub payable-further : (es : List (ℕ × Debt)) (pairs : List (ℕ × ℕ)) (m t from number : ℕ) → IsIndexed is_named es pairs →
+    ((n : ℕ) → n < from → passes (is_payable m t) (debt_at es n) ≡ false) → IsNextUnder pairs m from number →
+    passes (λ d. nat_le t d.deadline) (debt_at es number) ≡ false → (n : ℕ) → n < number + 1 → passes (is_payable m t) (debt_at es n) ≡ false
+payable-further es pairs m t from number indexed before next late n low =
+    ⊎_elim (λ first. payable-before es pairs m t from number indexed before next.none_before n first)
+    (λ last. let same : n ≡ number = omega (arith, last, low) in
+    subst (λ k. passes (is_payable m t) (debt_at es k) ≡ false) (sym same)
+    (payable-both m t (debt_at es number) ∙ ap (λ b. passes (is_named m) (debt_at es number) && b) late ∙ and-false (passes (is_named m) (debt_at es number)))) (cases_lt n number)
+
+pub payable-none : (es : List (ℕ × Debt)) (pairs : List (ℕ × ℕ)) (m t from : ℕ) → IsStrictlySortedBy nat_cmp (keys_of es) → IsIndexed is_named es pairs →
+    ((n : ℕ) → n < from → passes (is_payable m t) (debt_at es n) ≡ false) → ((n : ℕ) → from ≤ n → holds pairs m n ≡ false) → IsFound (is_payable m t) es None
+payable-none es pairs m t from sorted indexed before none =
+    let all : FindsNumber (is_payable m t) es None = λ n. payable-before es pairs m t from (n + 1) indexed before (λ k after low. none k after) n (omega arith) in
+    record { finds = all; none = unpaid-all (is_payable m t) es sorted all; any = found-any (is_payable m t) es None sorted all }
+
+-- the first debt that passes one of two tests
+either : (A B C : Debt → Bool) → ((d : Debt) → C d ≡ (A d || B d)) → (o : Option Debt) → passes C o ≡ (passes A o || passes B o)
+either A B C same None = refl
+either A B C same (Some d) = same d
+
+neither : (A B C : Debt → Bool) → ((d : Debt) → C d ≡ (A d || B d)) → (o : Option Debt) → passes A o ≡ false → passes B o ≡ false → passes C o ≡ false
+neither A B C same o no_a no_b = either A B C same o ∙ ap₂ (λ a b. a || b) no_a no_b
+
+first-of_two : (A B C : Debt → Bool) (es : List (ℕ × Debt)) (a b : ℕ) → ((d : Debt) → C d ≡ (A d || B d)) → IsFirstNumber A es a → IsFirstNumber B es b → IsFirstNumber C es (min a b)
+first-of_two A B C es a b same one two = by (cases_lt a b)
+  where
+    by : (a < b) ⊎ (b ≤ a) → IsFirstNumber C es (min a b)
+    by (inl less) = let is_a : a ≡ min a b = omega (arith, less) in subst (λ n. IsFirstNumber C es n) is_a (record {
+      is = either A B C same (debt_at es a) ∙ or_left (passes A (debt_at es a)) (passes B (debt_at es a)) one.is;
+      before = λ n low. neither A B C same (debt_at es n) (one.before n low) (two.before n (omega (arith, low, less)));
+    })
+    by (inr more) = let is_b : b ≡ min a b = omega (arith, more) in subst (λ n. IsFirstNumber C es n) is_b (record {
+      is = either A B C same (debt_at es b) ∙ or_right (passes A (debt_at es b)) (passes B (debt_at es b)) two.is;
+      before = λ n low. neither A B C same (debt_at es n) (one.before n (omega (arith, low, more))) (two.before n low);
+    })
+
+least-found : (A B C : Debt → Bool) (es : List (ℕ × Debt)) (a b : Option ℕ) → ((d : Debt) → C d ≡ (A d || B d)) → FindsNumber A es a → FindsNumber B es b → FindsNumber C es (least_of a b)
+least-found A B C es None None same one two = λ n. neither A B C same (debt_at es n) (one n) (two n)
+least-found A B C es None (Some b) same one two = record {
+  is = either A B C same (debt_at es b) ∙ or_right (passes A (debt_at es b)) (passes B (debt_at es b)) two.is;
+  before = λ n low. neither A B C same (debt_at es n) (one n) (two.before n low);
+}
+least-found A B C es (Some a) None same one two = record {
+  is = either A B C same (debt_at es a) ∙ or_left (passes A (debt_at es a)) (passes B (debt_at es a)) one.is;
+  before = λ n low. neither A B C same (debt_at es n) (one.before n low) (two n);
+}
+least-found A B C es (Some a) (Some b) same one two = first-of_two A B C es a b same one two
+
+all-neither : (A B C : Debt → Bool) (ds : List Debt) → ((d : Debt) → C d ≡ (A d || B d)) → All (λ d. ¬ (IsTrue (A d))) ds → All (λ d. ¬ (IsTrue (B d))) ds → All (λ d. ¬ (IsTrue (C d))) ds
+all-neither A B C [] same no_a no_b = All-nil (λ d. ¬ (IsTrue (C d)))
+all-neither A B C (d ∷ ds) same no_a no_b =
+    let not_a = All-head (λ x. ¬ (IsTrue (A x))) d ds no_a in
+    let not_b = All-head (λ x. ¬ (IsTrue (B x))) d ds no_b in
+    All-cons (λ x. ¬ (IsTrue (C x))) d ds (not_or (A d) (B d) (C d) (same d) not_a not_b)
+    (all-neither A B C ds same (All-tail (λ x. ¬ (IsTrue (A x))) d ds no_a) (All-tail (λ x. ¬ (IsTrue (B x))) d ds no_b))
+  where
+    not_or : (a b c : Bool) → c ≡ (a || b) → ¬ (a ≡ true) → ¬ (b ≡ true) → ¬ (c ≡ true)
+    not_or true b c same not_a not_b is = not_a refl
+    not_or false b c same not_a not_b is = not_b (sym same ∙ is)
+
+any-either : (A B C : Debt → Bool) (ds : List Debt) → ((d : Debt) → C d ≡ (A d || B d)) → list_any C ds ≡ (list_any A ds || list_any B ds)
+any-either A B C [] same = refl
+any-either A B C (d ∷ ds) same = ap₂ (λ x y. x || y) (same d) (any-either A B C ds same) ∙ turned (A d) (B d) (list_any A ds) (list_any B ds)
+  where
+    turned : (a b x y : Bool) → ((a || b) || (x || y)) ≡ ((a || x) || (b || y))
+    turned true b x y = refl
+    turned false true true y = refl
+    turned false true false y = refl
+    turned false false x y = refl
+
+some-either : (a b : Option ℕ) → is_some (least_of a b) ≡ (is_some a || is_some b)
+some-either None None = refl
+some-either None (Some b) = refl
+some-either (Some a) None = refl
+some-either (Some a) (Some b) = refl
+
+pub found-either : (A B C : Debt → Bool) (es : List (ℕ × Debt)) (a b : Option ℕ) → ((d : Debt) → C d ≡ (A d || B d)) → IsFound A es a → IsFound B es b → IsFound C es (least_of a b)
+found-either A B C es a b same one two = record {
+  finds = least-found A B C es a b same one.finds two.finds;
+  none = none a b one.none two.none;
+  any = some-either a b ∙ ap₂ (λ x y. x || y) one.any two.any ∙ sym (any-either A B C (values_of es) same);
+}
+  where
+    none : (a b : Option ℕ) → IfNone a (All (λ d. ¬ (IsTrue (A d))) (values_of es)) → IfNone b (All (λ d. ¬ (IsTrue (B d))) (values_of es)) →
+      IfNone (least_of a b) (All (λ d. ¬ (IsTrue (C d))) (values_of es))
+    none None None no_a no_b = all-neither A B C (values_of es) same no_a no_b
+    none None (Some b) no_a no_b = tt
+    none (Some a) None no_a no_b = tt
+    none (Some a) (Some b) no_a no_b = tt
+
+-- no message pays nothing
+pub found-nothing : (t : ℕ) (es : List (ℕ × Debt)) → IsFound (is_any_payable [] t) es None
+found-nothing t es = record { finds = λ n. none (debt_at es n); none = all (values_of es); any = sym (any (values_of es)) }
+  where
+    none : (o : Option Debt) → passes (is_any_payable [] t) o ≡ false
+    none None = refl
+    none (Some d) = refl
+    all : (ds : List Debt) → All (λ d. ¬ (IsTrue (is_any_payable [] t d))) ds
+    all [] = All-nil (λ d. ¬ (IsTrue (is_any_payable [] t d)))
+    all (d ∷ ds) = All-cons (λ x. ¬ (IsTrue (is_any_payable [] t x))) d ds (λ is. true≢false (sym is)) (all ds)
+    any : (ds : List Debt) → list_any (is_any_payable [] t) ds ≡ false
+    any [] = refl
+    any (d ∷ ds) = any ds
+
+pub one-more_message : (xs : List ℕ) (i t : ℕ) (x : ℕ) (d : Debt) → i < length xs → is_any_payable (take (i + 1) xs) t d ≡ (is_any_payable (take i xs) t d || is_payable (get_or xs i x) t d)
+one-more_message xs i t x d within =
+    ap (λ l. is_any_payable l t d) (take_more xs i x within)
+    ∙ list_any-append (λ m. is_payable m t d) (take i xs) (get_or xs i x ∷ [])
+    ∙ ap (λ b. is_any_payable (take i xs) t d || b) (or-false (is_payable (get_or xs i x) t d))

@@ -4,7 +4,8 @@ use mathlib.Core.Bool.{true≢false}
 use Rattle.std.specs.Prelude.{All, IsTrue, Option, None, Some, IfNone, is_some, min, nat_le}
 use Rattle.std.specs.List.{list_any, fold}
 use Rattle.std.specs.List.Sorted.{IsStrictlySortedBy}
-use Rattle.std.specs.Map.{keys_of, values_of, lookup, remove_entry}
+use Rattle.std.specs.Map.{keys_of, values_of, lookup, remove_entry, set_value}
+use Rattle.std.specs.Option.{option_map}
 use Rattle.std.specs.Ordering.{is_eq, match_ordering, nat_cmp}
 use Rattle.std.specs.declared.cmp.Ordering.TheVariants.{Less, Greater}
 use Rattle.std.specs.BTreeMap.{is_at, insert_entry}
@@ -19,9 +20,10 @@ use Rattle.std.proofs.lemmas.List.Elements.{All-nil, All-cons, All-head, All-tai
 use Rattle.std.proofs.lemmas.Map.Keys.{sorted_tail}
 use Rattle.std.proofs.lemmas.Map.Views.{All-after_first}
 use Rattle.sip_ledger.specs.declared.debt.Debt.{Debt}
-use Rattle.sip_ledger.specs.Debts.{IsWithoutFirst, counts_at, softened_debt, is_any_payable, is_payable, debt_deadlines, earliest}
-use Rattle.sip_ledger.specs.inner.Indexes.{holds, IsNextUnder}
-use Rattle.sip_ledger.specs.inner.Longs.{debt_at, passes, IsFirstNumber, IsFound, IsIndexed, FindsNumber, least_of, is_named, is_timed, is_due, softened_all}
+use Rattle.sip_ledger.specs.declared.indexes.Indexes.{Indexes}
+use Rattle.sip_ledger.specs.Debts.{IsSpan, IsWithoutFirst, counts_at, softened_debt, is_any_payable, is_payable, debt_deadlines, earliest}
+use Rattle.sip_ledger.specs.inner.Indexes.{holds, IsFrom, IsFirstFrom, IsLastPair, IsNextUnder, NoneFrom}
+use Rattle.sip_ledger.specs.inner.Longs.{debt_at, passes, IsFirstNumber, IsFound, IsIndexed, FindsNumber, IsLong, least_of, is_named, is_timed, is_due, softened_all}
 
 
 
@@ -312,3 +314,170 @@ one-more_message xs i t x d within =
     ap (λ l. is_any_payable l t d) (take_more xs i x within)
     ∙ list_any-append (λ m. is_payable m t d) (take i xs) (get_or xs i x ∷ [])
     ∙ ap (λ b. is_any_payable (take i xs) t d || b) (or-false (is_payable (get_or xs i x) t d))
+
+-- the least and the greatest message
+if-none : {X : Type 0} (P : Type 0) (o : Option X) → P → IfNone o P
+if-none P None p = p
+if-none P (Some x) p = tt
+
+nothing-left : (ds : List Debt) → All (λ _. ⊥) ds → ds ≡ []
+nothing-left [] none = refl
+nothing-left (d ∷ ds) none = absurd (All-head (λ _. ⊥) d ds none)
+
+named-itself : (d : Debt) → passes (is_named d.message) (Some d) ≡ true
+named-itself d = grind (arith, nat_tests)
+
+pub no-debts : {X : Type 0} (es : List (ℕ × Debt)) (pairs : List (ℕ × ℕ)) (o : Option X) → IsStrictlySortedBy nat_cmp (keys_of es) → IsIndexed is_named es pairs →
+    NoneFrom pairs 0 0 → IfNone o (values_of es ≡ [])
+no-debts es pairs o sorted indexed none =
+    if-none (values_of es ≡ []) o (nothing-left (values_of es) (each-all (λ _. ⊥) es sorted
+    (λ n d found. true≢false (sym (indexed.each d.message n ∙ ap (passes (is_named d.message)) found ∙ named-itself d) ∙ none d.message n (record { keys = omega arith; numbers = λ same. omega arith })))))
+
+named-is : (key : ℕ) (d : Debt) → passes (is_named key) (Some d) ≡ true → key ≡ d.message
+named-is key d is = grind (arith, nat_tests)
+
+pub span-is : (es : List (ℕ × Debt)) (pairs : List (ℕ × ℕ)) (low high : ℕ × ℕ) (d e : Debt) → IsStrictlySortedBy nat_cmp (keys_of es) → IsIndexed is_named es pairs →
+    IsFirstFrom pairs 0 0 low → IsLastPair pairs high → debt_at es low.1 ≡ Some d → debt_at es high.1 ≡ Some e → IsSpan (values_of es) d.message e.message
+span-is es pairs low high d e sorted indexed first last at_low at_high =
+    let is_low : low.0 ≡ d.message = named-is low.0 d (sym (indexed.each low.0 low.1 ∙ ap (passes (is_named low.0)) at_low) ∙ first.is) in
+    let is_high : high.0 ≡ e.message = named-is high.0 e (sym (indexed.each high.0 high.1 ∙ ap (passes (is_named high.0)) at_high) ∙ last.is) in
+    record {
+      least = some-any (is_named d.message) es low.1 (ap (passes (is_named d.message)) at_low ∙ named-itself d);
+      greatest = some-any (is_named e.message) es high.1 (ap (passes (is_named e.message)) at_high ∙ named-itself e);
+      between = each-all (λ x. (d.message ≤ x.message) × (x.message ≤ e.message)) es sorted (λ n x found.
+        let held : holds pairs x.message n ≡ true = indexed.each x.message n ∙ ap (passes (is_named x.message)) found ∙ named-itself x in
+        let from : IsFrom 0 0 x.message n = record { keys = omega arith; numbers = λ same. omega arith } in
+        let after = (first.first x.message n held from).keys in
+        let before = last.last x.message n held in
+        (omega (arith, is_low, after), omega (arith, is_high, before)));
+    }
+
+-- the least deadline of what must be sent
+due-itself : (d : Debt) → d.must ≡ true → passes (is_due d.deadline) (Some d) ≡ true
+due-itself d must = grind (arith, nat_tests)
+
+due-must : (key : ℕ) (d : Debt) → passes (is_due key) (Some d) ≡ true → (d.must ≡ true) × (key ≡ d.deadline)
+due-must key d is = (grind (arith, nat_tests), grind (arith, nat_tests))
+
+deadlines-any : (t : ℕ) (ds : List Debt) → list_any (λ x. x == t) (debt_deadlines ds) ≡ list_any (is_due t) ds
+deadlines-any t [] = refl
+deadlines-any t (d ∷ ds) = by (deadlines-any t ds) d.must refl
+  where
+    by : list_any (λ x. x == t) (debt_deadlines ds) ≡ list_any (is_due t) ds → (b : Bool) → d.must ≡ b →
+      list_any (λ x. x == t) (map (λ (x : Debt). x.deadline) (cond d.must (d ∷ filter (λ (x : Debt). x.must) ds) (filter (λ (x : Debt). x.must) ds))) ≡ ((d.must && d.deadline == t) || list_any (is_due t) ds)
+    by rest true is = subst (λ b. list_any (λ x. x == t) (map (λ (x : Debt). x.deadline) (cond b (d ∷ filter (λ (x : Debt). x.must) ds) (filter (λ (x : Debt). x.must) ds))) ≡ ((b && d.deadline == t) || list_any (is_due t) ds)) (sym is)
+      (ap (λ x. d.deadline == t || x) rest)
+    by rest false is = subst (λ b. list_any (λ x. x == t) (map (λ (x : Debt). x.deadline) (cond b (d ∷ filter (λ (x : Debt). x.must) ds) (filter (λ (x : Debt). x.must) ds))) ≡ ((b && d.deadline == t) || list_any (is_due t) ds)) (sym is)
+      rest
+
+deadlines-all : (P : ℕ → Type 0) (ds : List Debt) → All (λ d. d.must ≡ true → P d.deadline) ds → All P (debt_deadlines ds)
+deadlines-all P [] each = All-nil P
+deadlines-all P (d ∷ ds) each = by (deadlines-all P ds (All-tail (λ x. x.must ≡ true → P x.deadline) d ds each)) d.must refl
+  where
+    by : All P (debt_deadlines ds) → (b : Bool) → d.must ≡ b → All P (map (λ (x : Debt). x.deadline) (cond d.must (d ∷ filter (λ (x : Debt). x.must) ds) (filter (λ (x : Debt). x.must) ds)))
+    by rest true is = subst (λ b. All P (map (λ (x : Debt). x.deadline) (cond b (d ∷ filter (λ (x : Debt). x.must) ds) (filter (λ (x : Debt). x.must) ds)))) (sym is)
+      (All-cons P d.deadline (debt_deadlines ds) (All-head (λ x. x.must ≡ true → P x.deadline) d ds each is) rest)
+    by rest false is = subst (λ b. All P (map (λ (x : Debt). x.deadline) (cond b (d ∷ filter (λ (x : Debt). x.must) ds) (filter (λ (x : Debt). x.must) ds)))) (sym is) rest
+
+fold-least : (t a : ℕ) (xs : List ℕ) → t ≤ a → All (λ x. t ≤ x) xs → (a == t || list_any (λ x. x == t) xs) ≡ true → fold min a xs ≡ t
+fold-least t a [] above all is = grind (arith, nat_tests)
+fold-least t a (x ∷ xs) above all is =
+    let here = All-head (λ y. t ≤ y) x xs all in
+    fold-least t (min a x) xs (omega (arith, here)) (All-tail (λ y. t ≤ y) x xs all) (shifted a x t (list_any (λ y. y == t) xs) above here is)
+  where
+    shifted : (a x t : ℕ) (b : Bool) → t ≤ a → t ≤ x → (a == t || (x == t || b)) ≡ true → (min a x == t || b) ≡ true
+    shifted a x t b above here is = grind (arith, nat_tests)
+
+least-is : (t : ℕ) (xs : List ℕ) → All (λ x. t ≤ x) xs → list_any (λ x. x == t) xs ≡ true → Some t ≡ earliest xs
+least-is t [] all is = absurd (true≢false (sym is))
+least-is t (x ∷ xs) all is = ap Some (sym (fold-least t x xs (All-head (λ y. t ≤ y) x xs all) (All-tail (λ y. t ≤ y) x xs all) is))
+
+pub earliest-is : (es : List (ℕ × Debt)) (pairs : List (ℕ × ℕ)) (p : ℕ × ℕ) → IsStrictlySortedBy nat_cmp (keys_of es) → IsIndexed is_due es pairs → IsFirstFrom pairs 0 0 p →
+    Some p.0 ≡ earliest (debt_deadlines (values_of es))
+earliest-is es pairs p sorted indexed first =
+    least-is p.0 (debt_deadlines (values_of es))
+    (deadlines-all (λ x. p.0 ≤ x) (values_of es) (each-all (λ d. d.must ≡ true → p.0 ≤ d.deadline) es sorted (λ n d found must.
+    (first.first d.deadline n (indexed.each d.deadline n ∙ ap (passes (is_due d.deadline)) found ∙ due-itself d must) (record { keys = omega arith; numbers = λ same. omega arith })).keys)))
+    (deadlines-any p.0 (values_of es) ∙ some-any (is_due p.0) es p.1 (sym (indexed.each p.0 p.1) ∙ first.is))
+
+none-earliest : (xs : List ℕ) → All (λ _. ⊥) xs → None ≡ earliest xs
+none-earliest [] none = refl
+none-earliest (x ∷ xs) none = absurd (All-head (λ _. ⊥) x xs none)
+
+pub no-earliest : (es : List (ℕ × Debt)) (pairs : List (ℕ × ℕ)) → IsStrictlySortedBy nat_cmp (keys_of es) → IsIndexed is_due es pairs → NoneFrom pairs 0 0 →
+    None ≡ earliest (debt_deadlines (values_of es))
+no-earliest es pairs sorted indexed none =
+    none-earliest (debt_deadlines (values_of es)) (deadlines-all (λ _. ⊥) (values_of es) (each-all (λ d. d.must ≡ true → ⊥) es sorted (λ n d found must.
+    true≢false (sym (indexed.each d.deadline n ∙ ap (passes (is_due d.deadline)) found ∙ due-itself d must) ∙ none d.deadline n (record { keys = omega arith; numbers = λ same. omega arith })))))
+
+-- debts that must not be sent any more
+some-is : (d e : Debt) → Some d ≡ Some e → d ≡ e
+some-is d e h = cc
+
+pub soften-set : (es : List (ℕ × Debt)) (n : ℕ) (d : Debt) → debt_at es n ≡ Some d → softened_all (set_value (is_at (nat_cmp n)) es (softened_debt d)) ≡ softened_all es
+soften-set [] n d found = refl
+soften-set (e ∷ es) n d found = by (soften-set es n d) (is_eq (nat_cmp n e.0)) refl
+  where
+    by : (debt_at es n ≡ Some d → softened_all (set_value (is_at (nat_cmp n)) es (softened_debt d)) ≡ softened_all es) → (b : Bool) → is_eq (nat_cmp n e.0) ≡ b →
+      softened_all (cond (is_eq (nat_cmp n e.0)) ((e.0, softened_debt d) ∷ es) (e ∷ set_value (is_at (nat_cmp n)) es (softened_debt d))) ≡ softened_all (e ∷ es)
+    by rest true same =
+      let is : e.1 ≡ d = some-is e.1 d (sym (ap (λ b. cond b (Some e.1) (debt_at es n)) same) ∙ found) in
+      ap (λ b. softened_all (cond b ((e.0, softened_debt d) ∷ es) (e ∷ set_value (is_at (nat_cmp n)) es (softened_debt d)))) same
+      ∙ ap (λ x. (e.0, softened_debt x) ∷ softened_all es) (sym is)
+    by rest false apart =
+      ap (λ b. softened_all (cond b ((e.0, softened_debt d) ∷ es) (e ∷ set_value (is_at (nat_cmp n)) es (softened_debt d)))) apart
+      ∙ ap (λ l. (e.0, softened_debt e.1) ∷ l) (rest (sym (ap (λ b. cond b (Some e.1) (debt_at es n)) apart) ∙ found))
+
+soft-already : (d : Debt) → d.must ≡ false → softened_debt d ≡ d
+soft-already d free = ap {B = Debt} (λ b. record { message = d.message; deadline = d.deadline; must = b }) (sym free)
+
+softened-none : (es : List (ℕ × Debt)) → IsStrictlySortedBy nat_cmp (keys_of es) → ((n : ℕ) (d : Debt) → debt_at es n ≡ Some d → d.must ≡ false) → softened_all es ≡ es
+softened-none [] sorted free = refl
+softened-none (e ∷ es) sorted free =
+    ap (λ d. (e.0, d) ∷ softened_all es) (soft-already e.1 (free e.0 e.1 (head-at e es)))
+    ∙ ap (λ l. e ∷ l) (softened-none es (sorted_tail nat_cmp e.0 (keys_of es) sorted) (λ n d found. free n d (found-behind e es n d sorted found)))
+
+pub softened-keys : (es : List (ℕ × Debt)) → keys_of (softened_all es) ≡ keys_of es
+softened-keys [] = refl
+softened-keys (e ∷ es) = ap (λ l. e.0 ∷ l) (softened-keys es)
+
+pub softened-values : (es : List (ℕ × Debt)) → values_of (softened_all es) ≡ map softened_debt (values_of es)
+softened-values [] = refl
+softened-values (e ∷ es) = ap (λ l. softened_debt e.1 ∷ l) (softened-values es)
+
+softened-at : (es : List (ℕ × Debt)) (n : ℕ) → debt_at (softened_all es) n ≡ option_map softened_debt (debt_at es n)
+softened-at [] n = refl
+softened-at (e ∷ es) n = by (softened-at es n) (is_eq (nat_cmp n e.0))
+  where
+    by : debt_at (softened_all es) n ≡ option_map softened_debt (debt_at es n) → (b : Bool) →
+      cond b (Some (softened_debt e.1)) (debt_at (softened_all es) n) ≡ option_map softened_debt (cond b (Some e.1) (debt_at es n))
+    by rest true = refl
+    by rest false = rest
+
+-- none is due, so all are softened
+pub soft-all : (es ds : List (ℕ × Debt)) (pairs : List (ℕ × ℕ)) → IsStrictlySortedBy nat_cmp (keys_of ds) → softened_all es ≡ softened_all ds → IsIndexed is_due es pairs →
+    ((k n : ℕ) → holds pairs k n ≡ false) → es ≡ softened_all ds
+soft-all es ds pairs sorted same indexed none =
+    let keys : keys_of ds ≡ keys_of es = sym (softened-keys ds) ∙ ap keys_of (sym same) ∙ softened-keys es in
+    sym (softened-none es (subst (IsStrictlySortedBy nat_cmp) keys sorted) (λ n d found. not_due d (sym (indexed.each d.deadline n ∙ ap (passes (is_due d.deadline)) found) ∙ none d.deadline n)))
+    ∙ same
+  where
+    not_due : (d : Debt) → passes (is_due d.deadline) (Some d) ≡ false → d.must ≡ false
+    not_due d no_due = grind (arith, nat_tests)
+
+soft-same : (test : ℕ → Debt → Bool) (key : ℕ) (o : Option Debt) → ((d : Debt) → test key (softened_debt d) ≡ test key d) → passes (test key) (option_map softened_debt o) ≡ passes (test key) o
+soft-same test key None same = refl
+soft-same test key (Some d) same = same d
+
+pub soft-long : (next : ℕ) (es : List (ℕ × Debt)) (i : Indexes) (due : List (ℕ × ℕ)) → IsLong next es i → IsIndexed is_due (softened_all es) due →
+    IsLong next (softened_all es) (record { messages = i.messages; moments = i.moments; due = due })
+soft-long next es i due long indexed = record {
+  ordered = subst (IsStrictlySortedBy nat_cmp) (sym (softened-keys es)) long.ordered;
+  fits = long.fits;
+  below = λ n after. softened-at es n ∙ ap (option_map softened_debt) (long.below n after);
+  indexed = record {
+    messages = record { each = λ k n. long.indexed.messages.each k n ∙ sym (ap (passes (is_named k)) (softened-at es n) ∙ soft-same is_named k (debt_at es n) (λ d. refl)) };
+    moments = record { each = λ k n. long.indexed.moments.each k n ∙ sym (ap (passes (is_timed k)) (softened-at es n) ∙ soft-same is_timed k (debt_at es n) (λ d. refl)) };
+    due = indexed;
+  };
+}

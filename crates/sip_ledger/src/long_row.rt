@@ -1,9 +1,11 @@
 //! Many debts of one row.
-ghost use Rattle.std.specs.Prelude.{◌≡◌, ◌↔◌, ◌<◌, ◌≤◌, ◌-◌, ◌^◌, ◌++◌, ◌∷◌, [], ℕ, Bool, None, true, false, IsTrue, IfSome, IfNone, IfOk, OnOk, OnErr, All, length, filter, map, nat_le};
+ghost use Rattle.std.specs.Prelude.{◌≡◌, ◌==◌, ◌↔◌, ◌<◌, ◌≤◌, ◌-◌, ◌^◌, ◌++◌, ◌∷◌, [], ℕ, Bool, cond, None, true, false, IsTrue, IfSome, IfNone, IfOk, OnOk, OnErr, All, length, filter, map, nat_le};
 ghost use Rattle.std.specs.Bool.{OnTrue, OnFalse};
-ghost use Rattle.std.specs.BTreeMap.{IsOrdered, is_at};
+ghost use Rattle.std.specs.BTreeMap.{is_at};
+ghost use Rattle.std.specs.Option.{option_map};
 ghost use Rattle.std.specs.List.{list_any};
-ghost use Rattle.std.specs.Map.{values_of, remove_entry};
+ghost use Rattle.std.specs.List.Sorted.{IsStrictlySortedBy};
+ghost use Rattle.std.specs.Map.{keys_of, values_of, remove_entry};
 ghost use Rattle.std.specs.Ordering.{nat_cmp};
 ghost use Rattle.sip_ledger.specs.Debts.{IsSpan, IsWithoutFirst, counts_at, softened_debt, is_payable, is_any_payable, debt_deadlines, earliest};
 ghost use Rattle.sip_ledger.specs.Runs.{AreRuns};
@@ -292,13 +294,22 @@ fn earlier(one: Option<u64>, other: Option<u64>) -> Option<u64>
 
 /// None of the debts has to be sent any more.
 fn soften_all(debts: &mut BTreeMap<u64, Debt>, due: &mut Index)
-    requires { IsIndexed is_due debts.old.entries due.old }
+    requires ordered { IsStrictlySortedBy nat_cmp (keys_of debts.old.entries) }
+    requires due { IsIndexed is_due debts.old.entries due.old }
     ensures debts { debts.new.entries ≡ softened_all debts.old.entries }
     ensures due { IsIndexed is_due debts.new.entries due.new }
 {
     while let Some((_, number)) = due.pop_first() {
-        if let Some(debt) = debts.get_mut(&number) {
-            debt.must = false;
-        }
+        soften_one(debts, number);
+    }
+}
+
+/// The debt with the number has not to be sent any more.
+fn soften_one(debts: &mut BTreeMap<u64, Debt>, number: u64)
+    ensures one { (n : ℕ) → debt_at debts.new.entries n ≡ cond (n == number) (option_map softened_debt (debt_at debts.old.entries n)) (debt_at debts.old.entries n) }
+    ensures all { softened_all debts.new.entries ≡ softened_all debts.old.entries }
+{
+    if let Some(debt) = debts.get_mut(&number) {
+        debt.must = false;
     }
 }

@@ -11,7 +11,7 @@ use Rattle.std.specs.declared.cmp.Ordering.TheVariants.{Less, Greater}
 use Rattle.std.specs.BTreeMap.{is_at, insert_entry}
 use Rattle.std.proofs.Math.Logic.{◌⊎◌, inl, inr, ⊎_elim}
 use Rattle.std.proofs.Math.Bool.{and-false, or-false}
-use Rattle.std.proofs.lemmas.Bool.{cases_lt, or_left, or_right}
+use Rattle.std.proofs.lemmas.Bool.{cases_lt, eq-eqb, ne_eqb, or_left, or_right}
 use Rattle.std.proofs.lemmas.Bool.Decides.{nat_tests}
 use Rattle.std.proofs.lemmas.Grind.{common_steps}
 use Rattle.std.proofs.lemmas.List.{map-append, take_more}
@@ -23,7 +23,7 @@ use Rattle.sip_ledger.specs.declared.debt.Debt.{Debt}
 use Rattle.sip_ledger.specs.declared.indexes.Indexes.{Indexes}
 use Rattle.sip_ledger.specs.Debts.{IsSpan, IsWithoutFirst, counts_at, softened_debt, is_any_payable, is_payable, debt_deadlines, earliest}
 use Rattle.sip_ledger.specs.inner.Indexes.{holds, IsFrom, IsFirstFrom, IsLastPair, IsNextUnder, NoneFrom}
-use Rattle.sip_ledger.specs.inner.Longs.{debt_at, passes, IsFirstNumber, IsFound, IsIndexed, FindsNumber, IsLong, least_of, is_named, is_timed, is_due, softened_all}
+use Rattle.sip_ledger.specs.inner.Longs.{debt_at, passes, IsFirstNumber, IsFirstPast, IsFound, IsIndexed, IsWithoutNumber, NonePast, FindsNumber, IsLong, least_of, is_named, is_timed, is_due, softened_all}
 
 
 
@@ -481,3 +481,98 @@ soft-long next es i due long indexed = record {
     due = indexed;
   };
 }
+
+-- what expires, from the first deadline on: what does not count any more stands from here on
+pub record IsExpiring (t : ℕ) (old now : List (ℕ × Debt)) (deadline from : ℕ) : Type 0 where
+  pub same : filter (counts_at t) (values_of now) ≡ filter (counts_at t) (values_of old)
+  pub rest : (n : ℕ) (d : Debt) → debt_at now n ≡ Some d → counts_at t d ≡ false → IsFrom deadline from d.deadline n
+
+pub expiring-first : (t : ℕ) (es : List (ℕ × Debt)) → IsExpiring t es es 0 0
+expiring-first t es = record { same = refl; rest = λ n d found past. record { keys = omega arith; numbers = λ same. omega arith } }
+
+past-kept : (t : ℕ) (es : List (ℕ × Debt)) (n : ℕ) (d : Debt) → debt_at es n ≡ Some d → counts_at t d ≡ false →
+    filter (counts_at t) (values_of (remove_entry (is_at (nat_cmp n)) es)) ≡ filter (counts_at t) (values_of es)
+past-kept t [] n d found past = refl
+past-kept t (e ∷ es) n d found past = by (past-kept t es n d) (is_eq (nat_cmp n e.0)) refl
+  where
+    by : (debt_at es n ≡ Some d → counts_at t d ≡ false → filter (counts_at t) (values_of (remove_entry (is_at (nat_cmp n)) es)) ≡ filter (counts_at t) (values_of es)) → (b : Bool) → is_eq (nat_cmp n e.0) ≡ b →
+      filter (counts_at t) (values_of (cond (is_eq (nat_cmp n e.0)) es (e ∷ remove_entry (is_at (nat_cmp n)) es))) ≡ cond (counts_at t e.1) (e.1 ∷ filter (counts_at t) (values_of es)) (filter (counts_at t) (values_of es))
+    by rest true same =
+      let is : e.1 ≡ d = some-is e.1 d (sym (ap (λ b. cond b (Some e.1) (debt_at es n)) same) ∙ found) in
+      ap (λ b. filter (counts_at t) (values_of (cond b es (e ∷ remove_entry (is_at (nat_cmp n)) es)))) same
+      ∙ sym (ap (λ b. cond b (e.1 ∷ filter (counts_at t) (values_of es)) (filter (counts_at t) (values_of es))) (ap (counts_at t) is ∙ past))
+    by rest false apart =
+      ap (λ b. filter (counts_at t) (values_of (cond b es (e ∷ remove_entry (is_at (nat_cmp n)) es)))) apart
+      ∙ ap (λ l. cond (counts_at t e.1) (e.1 ∷ l) l) (rest (sym (ap (λ b. cond b (Some e.1) (debt_at es n)) apart) ∙ found) past)
+
+timed-itself : (d : Debt) → passes (is_timed d.deadline) (Some d) ≡ true
+timed-itself d = grind (arith, nat_tests)
+
+timed-is : (key : ℕ) (d : Debt) → passes (is_timed key) (Some d) ≡ true → key ≡ d.deadline
+timed-is key d is = grind (arith, nat_tests)
+
+further : (v : List (ℕ × Debt)) (t deadline from : ℕ) (p : ℕ × ℕ) (n : ℕ) (d : Debt) → IsFirstPast v t deadline from p → IsFrom deadline from d.deadline n → debt_at v n ≡ Some d → (n ≡ p.1 → ⊥) →
+    IsFrom p.0 (p.1 + 1) d.deadline n
+further v t deadline from p n d first after found apart =
+    let later = first.first d.deadline n (ap (passes (is_timed d.deadline)) found ∙ timed-itself d) after in
+    record { keys = later.keys; numbers = λ same. let low = later.numbers same in omega (arith, low, apart) }
+
+past-debt : (v : List (ℕ × Debt)) (t deadline from : ℕ) (p : ℕ × ℕ) (d : Debt) → IsFirstPast v t deadline from p → debt_at v p.1 ≡ Some d → d.must ≡ false → counts_at t d ≡ false
+past-debt v t deadline from p d first found free =
+    let is : p.0 ≡ d.deadline = timed-is p.0 d (sym (ap (passes (is_timed p.0)) found) ∙ first.is) in
+    not_counting t d free (omega (arith, is, first.below))
+  where
+    not_counting : (t : ℕ) (d : Debt) → d.must ≡ false → d.deadline < t → counts_at t d ≡ false
+    not_counting t d free low = grind (arith, nat_tests)
+
+must-counts : (t : ℕ) (d : Debt) → d.must ≡ true → counts_at t d ≡ true
+must-counts t d must = grind (arith, nat_tests)
+
+pub expiring-further : (t : ℕ) (old v w : List (ℕ × Debt)) (deadline from : ℕ) (p : ℕ × ℕ) → IsExpiring t old v deadline from → IsFirstPast v t deadline from p →
+    (passes (λ d. d.must) (debt_at v p.1) ≡ true → w ≡ v) → (passes (λ d. d.must) (debt_at v p.1) ≡ false → IsWithoutNumber p.1 v w) → IsExpiring t old w p.0 (p.1 + 1)
+expiring-further t old v w deadline from p was first due free = by (debt_at v p.1) refl
+  where
+    by : (o : Option Debt) → debt_at v p.1 ≡ o → IsExpiring t old w p.0 (p.1 + 1)
+    by None none = absurd (true≢false (sym first.is ∙ ap (passes (is_timed p.0)) none))
+    by (Some x) is = must x.must refl
+      where
+        must : (b : Bool) → x.must ≡ b → IsExpiring t old w p.0 (p.1 + 1)
+        must true yes_must =
+          subst (λ l. IsExpiring t old l p.0 (p.1 + 1)) (sym (due (ap (passes (λ d. d.must)) is ∙ yes_must)))
+          (record {
+            same = was.same;
+            rest = λ n d found past. further v t deadline from p n d first (was.rest n d found past) found (λ same.
+              true≢false (sym (must-counts t d (ap (λ y. y.must) (some-is d x (sym found ∙ ap (debt_at v) same ∙ is)) ∙ yes_must)) ∙ past));
+          })
+        must false not_must =
+          let gone : IsWithoutNumber p.1 v w = free (ap (passes (λ d. d.must)) is ∙ not_must) in
+          record {
+            same = ap (λ l. filter (counts_at t) (values_of l)) gone.entries ∙ past-kept t v p.1 x is (past-debt v t deadline from p x first is not_must) ∙ was.same;
+            rest = λ n d found past.
+              let apart : n ≡ p.1 → ⊥ = λ same. some-none d (sym found ∙ gone.at n ∙ ap (λ b. cond b None (debt_at v n)) (eq-eqb n p.1 same)) in
+              let before : debt_at v n ≡ Some d = sym (ap (λ b. cond b None (debt_at v n)) (ne_eqb n p.1 apart)) ∙ sym (gone.at n) ∙ found in
+              further v t deadline from p n d first (was.rest n d before past) before apart;
+          }
+
+late-counts : (t : ℕ) (d : Debt) → t ≤ d.deadline → counts_at t d ≡ true
+late-counts t d late = by d.must refl
+  where
+    by : (b : Bool) → d.must ≡ b → counts_at t d ≡ true
+    by b is = grind (arith, nat_tests)
+
+all-kept : (t : ℕ) (ds : List Debt) → All (λ d. counts_at t d ≡ true) ds → filter (counts_at t) ds ≡ ds
+all-kept t [] count = refl
+all-kept t (d ∷ ds) count =
+    ap (λ b. cond b (d ∷ filter (counts_at t) ds) (filter (counts_at t) ds)) (All-head (λ x. counts_at t x ≡ true) d ds count)
+    ∙ ap (λ l. d ∷ l) (all-kept t ds (All-tail (λ x. counts_at t x ≡ true) d ds count))
+
+pub expired-all : (t : ℕ) (old v : List (ℕ × Debt)) (deadline from : ℕ) → IsExpiring t old v deadline from → IsStrictlySortedBy nat_cmp (keys_of v) → NonePast v t deadline from →
+    values_of v ≡ filter (counts_at t) (values_of old)
+expired-all t old v deadline from was sorted none =
+    sym (all-kept t (values_of v) (each-all (λ d. counts_at t d ≡ true) v sorted (λ n d found. by n d found (counts_at t d) refl))) ∙ was.same
+  where
+    by : (n : ℕ) (d : Debt) → debt_at v n ≡ Some d → (b : Bool) → counts_at t d ≡ b → counts_at t d ≡ true
+    by n d found true counts = counts
+    by n d found false past =
+      let late : t ≤ d.deadline = none d.deadline n (ap (passes (is_timed d.deadline)) found ∙ timed-itself d) (was.rest n d found past) in
+      absurd (true≢false (sym (late-counts t d late) ∙ past))

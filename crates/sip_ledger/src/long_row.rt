@@ -1,17 +1,16 @@
 //! Many debts of one row.
 ghost use Rattle.std.specs.Prelude.{◌≡◌, ◌==◌, ◌↔◌, ◌<◌, ◌≤◌, ◌-◌, ◌^◌, ◌++◌, ◌∷◌, [], ℕ, Bool, cond, None, true, false, IsTrue, IfSome, IfNone, IfOk, OnOk, OnErr, All, length, filter, map, nat_le};
 ghost use Rattle.std.specs.Bool.{OnTrue, OnFalse};
-ghost use Rattle.std.specs.BTreeMap.{is_at};
 ghost use Rattle.std.specs.Option.{option_map};
 ghost use Rattle.std.specs.List.{list_any};
 ghost use Rattle.std.specs.List.Sorted.{IsStrictlySortedBy};
-ghost use Rattle.std.specs.Map.{keys_of, values_of, remove_entry};
+ghost use Rattle.std.specs.Map.{keys_of, values_of};
 ghost use Rattle.std.specs.Ordering.{nat_cmp};
 ghost use Rattle.sip_ledger.specs.Debts.{IsSpan, IsWithoutFirst, counts_at, softened_debt, is_payable, is_any_payable, debt_deadlines, earliest};
 ghost use Rattle.sip_ledger.specs.Runs.{AreRuns};
 ghost use Rattle.sip_ledger.specs.declared.debt.Debt.{Debt};
 ghost use Rattle.sip_ledger.specs.inner.Indexes.{holds};
-ghost use Rattle.sip_ledger.specs.inner.Longs.{FindsNumber, IsFirstNumber, IsFirstPast, IsFound, IsIndexed, NonePast, debt_at, is_due, least_of, passes, softened_all};
+ghost use Rattle.sip_ledger.specs.inner.Longs.{FindsNumber, IsFirstNumber, IsFirstPast, IsFound, IsIndexed, IsWithoutNumber, NonePast, debt_at, is_due, least_of, passes, softened_all};
 
 use crate::debt::Debt;
 use crate::index::Index;
@@ -85,7 +84,7 @@ impl LongRow {
 
     /// Takes the debt with the number out, if there is one.
     fn take_out(&mut self, number: u64)
-        ensures entries { self.new ≡ remove_entry (is_at (nat_cmp number)) self.old }
+        ensures gone { IsWithoutNumber number self.old self.new }
         ensures taken { (test : Debt → Bool) → IsFirstNumber test self.old number →
             IsWithoutFirst (λ debt. IsTrue (test debt)) (values_of self.old) (values_of self.new) }
     {
@@ -188,6 +187,7 @@ impl LongRow {
     fn first_past(&self, moment: u64, deadline: u64, from: u64) -> Option<(u64, u64)>
         ensures found { IfSome result (IsFirstPast self.now moment deadline from) }
         ensures none { IfNone result (NonePast self.now moment deadline from) }
+        ensures ordered { IsStrictlySortedBy nat_cmp (keys_of self.now) }
     {
         match self.indexes.moments.first_from(deadline, from) {
             Some(past) if past.0 < moment => Some(past),
@@ -198,7 +198,7 @@ impl LongRow {
     /// Takes the debt with the number out, unless it must be sent.
     fn drop_unless_due(&mut self, number: u64)
         ensures due { passes (λ debt. debt.must) (debt_at self.old number) ≡ true → self.new ≡ self.old }
-        ensures free { passes (λ debt. debt.must) (debt_at self.old number) ≡ false → self.new ≡ remove_entry (is_at (nat_cmp number)) self.old }
+        ensures free { passes (λ debt. debt.must) (debt_at self.old number) ≡ false → IsWithoutNumber number self.old self.new }
     {
         if !self.is_due(number) {
             self.take_out(number);

@@ -1,6 +1,6 @@
 use Rattle.std.specs.Prelude.{◌≡◌, ◌==◌, ◌&&◌, ◌<◌, ◌≤◌, ℕ, Bool, true, false, cond, Option, Some, None, List, map, min, ◌-◌, ◌^◌, All, IsTrue, IfNone, is_some}
 use Rattle.std.specs.List.Sorted.{IsStrictlySortedBy}
-use Rattle.std.specs.Map.{keys_of, values_of, lookup}
+use Rattle.std.specs.Map.{keys_of, values_of, lookup, remove_entry}
 use Rattle.std.specs.List.{list_any}
 use Rattle.std.specs.Ordering.{nat_cmp}
 use Rattle.std.specs.BTreeMap.{is_at}
@@ -35,6 +35,11 @@ pub record IsFound (test : Debt → Bool) (debts : List (ℕ × Debt)) (found : 
   pub finds : FindsNumber test debts found
   pub none : IfNone found (All (λ debt. ¬ (IsTrue (test debt))) (values_of debts))
   pub any : is_some found ≡ list_any test (values_of debts)
+
+-- the debt with the number is gone, if there was one
+pub record IsWithoutNumber (number : ℕ) (old new : List (ℕ × Debt)) : Type 0 where
+  pub entries : new ≡ remove_entry (is_at (nat_cmp number)) old
+  pub at : (n : ℕ) → debt_at new n ≡ cond (n == number) None (debt_at old n)
 
 -- the key of a debt: its message, its deadline, and its deadline if it must be sent
 abbrev pub is_named : ℕ → Debt → Bool

@@ -1,3 +1,4 @@
+pub mod SpanLemmas
 pub mod LongLemmas
 pub mod IndexLemmas
 pub mod BitsLemmas

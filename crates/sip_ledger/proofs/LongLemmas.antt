@@ -19,6 +19,7 @@ use Rattle.std.proofs.lemmas.List.Folds.{list_any-append}
 use Rattle.std.proofs.lemmas.List.Elements.{All-nil, All-cons, All-head, All-tail, All-weaker}
 use Rattle.std.proofs.lemmas.Map.Keys.{sorted_tail}
 use Rattle.std.proofs.lemmas.Map.Views.{All-after_first}
+use Rattle.sip_ledger.proofs.SpanLemmas.{if-none}
 use Rattle.sip_ledger.specs.declared.debt.Debt.{Debt}
 use Rattle.sip_ledger.specs.declared.indexes.Indexes.{Indexes}
 use Rattle.sip_ledger.specs.Debts.{IsSpan, IsWithoutFirst, counts_at, softened_debt, is_any_payable, is_payable, debt_deadlines, earliest}
@@ -316,10 +317,6 @@ one-more_message xs i t x d within =
     ∙ ap (λ b. is_any_payable (take i xs) t d || b) (or-false (is_payable (get_or xs i x) t d))
 
 -- the least and the greatest message
-if-none : {X : Type 0} (P : Type 0) (o : Option X) → P → IfNone o P
-if-none P None p = p
-if-none P (Some x) p = tt
-
 nothing-left : (ds : List Debt) → All (λ _. ⊥) ds → ds ≡ []
 nothing-left [] none = refl
 nothing-left (d ∷ ds) none = absurd (All-head (λ _. ⊥) d ds none)

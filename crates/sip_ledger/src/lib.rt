@@ -5,6 +5,7 @@ mod bits;
 mod debt;
 mod index;
 mod indexes;
+mod ledger;
 mod long_row;
 mod memo;
 mod row;
@@ -14,5 +15,5 @@ mod table;
 mod words;
 
 pub use crate::debt::Debt;
-pub use crate::rows::Rows;
+pub use crate::ledger::Ledger;
 pub use crate::run::Run;

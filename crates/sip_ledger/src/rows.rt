@@ -2,7 +2,7 @@
 ghost use Rattle.std.specs.Prelude.{◌≡◌, ◌↔◌, ◌<◌, ◌++◌, ◌∷◌, [], ℕ, List, IsTrue, OnOk, OnErr, IfOk, IfSome, IfNone, is_some, None, Bool, All, true, length, set, map, filter, take, drop};
 ghost use Rattle.std.specs.Bool.{OnTrue, OnFalse};
 ghost use Rattle.std.specs.List.{list_any};
-ghost use Rattle.sip_ledger.specs.Debts.{IsWithoutFirst, counts_at, softened_debt, is_payable, is_any_payable, debt_deadlines, earliest};
+ghost use Rattle.sip_ledger.specs.Debts.{IsSpan, IsWithoutFirst, counts_at, softened_debt, is_payable, is_any_payable, debt_deadlines, earliest};
 ghost use Rattle.sip_ledger.specs.declared.debt.Debt.{Debt};
 ghost use Rattle.sip_ledger.specs.Bits.{has};
 ghost use Rattle.sip_ledger.specs.Grids.{part, grid_rows, grid_row};
@@ -24,7 +24,7 @@ use std::marker::Model;
 /// and one for each that it must send. Rows have their words one behind another; where no row ever owed anything there are none.
 /// What is asked of all rows at one moment is answered for all entries once, while one word has them.
 #[derive(Debug, Drop)]
-pub struct Rows {
+pub(crate) struct Rows {
     entries: Vec<Entry>,
     width: usize,
     rows: usize,
@@ -184,7 +184,7 @@ impl Rows {
             self.rises = rises;
             return Ok(());
         }
-        let alloc = *self.entries.allocator();
+        let alloc = self.allocator();
         self.entries.reserve(1)?;
         let owed = words::widened(alloc, &self.owed, self.width, self.rows)?;
         let must = words::widened(alloc, &self.must, self.width, self.rows)?;
@@ -417,6 +417,45 @@ impl Rows {
         ensures { OnOk result (numbers.new.items ≡ numbers.old.items ++ map (λ debt. debt.message) (grid_row self.now row)) }
     {
         table::names(&self.entries, &self.owed, self.width, row, numbers)
+    }
+
+    /// The least and the greatest number of a message that the row owes.
+    pub(crate) fn span(&self, row: usize) -> Option<(u32, u32)>
+        requires { row < length (grid_rows self.now) }
+        ensures some { IfSome result (λ span. IsSpan (grid_row self.now row) span.0 span.1) }
+        ensures none { IfNone result (grid_row self.now row ≡ []) }
+    {
+        table::span(&self.entries, &self.owed, self.width, row)
+    }
+
+    /// What the row owes.
+    pub(crate) fn debts(&self, row: usize) -> Result<Vec<Debt>, AllocError>
+        requires { row < length (grid_rows self.now) }
+        ensures { IfOk result (λ debts. debts.items ≡ grid_row self.now row) }
+    {
+        table::debts(
+            self.allocator(),
+            &self.entries,
+            &self.owed,
+            &self.must,
+            self.width,
+            row,
+        )
+    }
+
+    /// The allocator.
+    pub(crate) fn allocator(&self) -> Global {
+        *self.entries.allocator()
+    }
+
+    /// Whether there is one row alone, and one more entry would take a word more, which is not the first.
+    pub(crate) fn is_crowded(&self) -> bool
+        ensures { result ≡ true → length (grid_rows self.now) ≡ 1 }
+    {
+        if self.rows != 1 {
+            return false;
+        }
+        self.width > 0 && self.entries.len() >= 64 * self.width
     }
 
     /// What the row owes, with equal neighbours in one.

@@ -1,4 +1,5 @@
 //! What many rows owe.
+#![tactic(auto, unfolding(crate::specs::Ledgers::rows_of))]
 ghost use Rattle.std.specs.Prelude.{◌≡◌, ◌↔◌, ◌<◌, ◌++◌, ◌∷◌, [], ℕ, List, IsTrue, OnOk, OnErr, IfOk, IfSome, IfNone, All, length, set, map, filter, take, drop};
 ghost use Rattle.std.specs.Bool.{OnTrue, OnFalse};
 ghost use Rattle.std.specs.List.{list_any};
@@ -257,6 +258,7 @@ impl Ledger {
     }
 
     /// A number for what the row owes: rows that owe the same have the same, and others hardly ever.
+    #[tactic(auto, unfolding(crate::specs::Ledgers::rows_of, crate::specs::Prints::print_of))]
     pub fn print(&self, row: usize) -> u64
         requires { row < length (rows_of self.now) }
         ensures is { result ≡ print_of self.now row }

@@ -1,7 +1,7 @@
 -- Pairs of a key and a number, and their order.
 use Rattle.std.proofs.Common.{◌≡◌, ◌==◌, ◌&&◌, ◌<◌, ◌≤◌, ℕ, Bool, true, false, ◌↔◌, List, [], ◌∷◌, length, cond, refl, sym, ap, ◌∙◌, arith, Bor}
 use Rattle.std.specs.Ordering.{is_eq, is_gt, is_lt, nat_cmp, ordering_then}
-use Rattle.std.specs.BTreeSet.{BTreeSet, IsKeyRangeOf, IsUpperBound, Updates, contains}
+use Rattle.std.specs.BTreeSet.{BTreeSet, IsKeyRangeOf, IsLowerBound, IsUpperBound, Updates, contains}
 use Rattle.std.specs.Prelude.{IsTrue, Option, None, Some, IfSome, IfNone, IsSome}
 use Rattle.std.specs.Option.{option_copied}
 use mathlib.Core.Bool.{true≢false}
@@ -43,6 +43,16 @@ unfolding holds
 last-pair s None member greatest = tt
 last-pair s (Some p) member greatest = record { is = member; last = λ k n held. not_lt-keys p.now.0 p.now.1 k n (greatest (k, n) held) }
 
+pub first-pair : (s : BTreeSet (ℕ × ℕ)) (o : Option (Bor (ℕ × ℕ))) → IfSome o (λ p. IsTrue (contains pair_cmp s p.now)) → IfSome o (λ p. IsLowerBound pair_cmp s p.now) →
+    IfSome (option_copied o) (IsFirstFrom s.keys 0 0)
+unfolding holds
+first-pair s None member least = tt
+first-pair s (Some p) member least = record {
+  is = member;
+  after = record { keys = omega arith; numbers = λ same. omega arith };
+  first = λ k n held after. from-not_gt p.now.0 p.now.1 k n (least (k, n) held);
+}
+
 holds-empty : (pairs : List (ℕ × ℕ)) → length pairs ≡ 0 → (k n : ℕ) → holds pairs k n ≡ false
 unfolding holds
 holds-empty [] none k n = refl
@@ -54,6 +64,13 @@ no-last pairs None variant = holds-empty pairs (none (length pairs) (λ more. tr
     none : (n : ℕ) → ¬ (0 < n) → n ≡ 0
     none n never = omega (arith, never)
 no-last pairs (Some p) variant = tt
+
+pub no-first : {X : Type 0} (pairs : List (ℕ × ℕ)) (o : Option X) → IsSome o ↔ (0 < length pairs) → IfNone o (NoneFrom pairs 0 0)
+no-first {X = X} pairs o variant = by o (no-last pairs o variant)
+  where
+    by : (o : Option X) → IfNone o ((k n : ℕ) → holds pairs k n ≡ false) → IfNone o (NoneFrom pairs 0 0)
+    by None none = λ k n after. none k n
+    by (Some x) none = tt
 
 pub copied-none : (P : Type 0) (o : Option (Bor (ℕ × ℕ))) → IfNone o P → IfNone (option_copied o) P
 copied-none P None h = h

@@ -2,6 +2,7 @@
 use Rattle.std.proofs.Common.{◌≡◌, ℕ, ◌+◌, ◌-◌, ◌*◌, ◌<◌, ◌≤◌, ◌==◌, ◌&&◌, ◌||◌, Bool, true, false, cond, List, [], ◌∷◌, ◌++◌, length, map, filter, get_or, take, refl, sym, ap, ap₂, ◌∙◌, subst, arith}
 use mathlib.Core.Bool.{true≢false}
 use Rattle.std.specs.Prelude.{All, IsTrue, Option, None, Some, IfNone, is_some, min, nat_le}
+use Rattle.std.specs.Bool.{OnTrue}
 use Rattle.std.specs.List.{list_any, fold}
 use Rattle.std.specs.List.Sorted.{IsStrictlySortedBy}
 use Rattle.std.specs.Map.{keys_of, values_of, lookup, remove_entry, set_value}
@@ -573,3 +574,24 @@ expired-all t old v deadline from was sorted none =
     by n d found false past =
       let late : t ≤ d.deadline = none d.deadline n (ap (passes (is_timed d.deadline)) found ∙ timed-itself d) (was.rest n d found past) in
       absurd (true≢false (sym (late-counts t d late) ∙ past))
+
+-- where no deadline is past, none of the debts is
+pub fresh-all : (t : ℕ) (es : List (ℕ × Debt)) (pairs : List (ℕ × ℕ)) (p : ℕ × ℕ) → IsStrictlySortedBy nat_cmp (keys_of es) → IsIndexed is_timed es pairs → IsFirstFrom pairs 0 0 p → t ≤ p.0 →
+    filter (counts_at t) (values_of es) ≡ values_of es
+fresh-all t es pairs p sorted indexed first fresh =
+    all-kept t (values_of es) (each-all (λ d. counts_at t d ≡ true) es sorted (λ n d found.
+    let after = (first.first d.deadline n (indexed.each d.deadline n ∙ ap (passes (is_timed d.deadline)) found ∙ timed-itself d) (record { keys = omega arith; numbers = λ same. omega arith })).keys in
+    late-counts t d (omega (arith, fresh, after))))
+
+pub fresh-none : (t : ℕ) (es : List (ℕ × Debt)) (pairs : List (ℕ × ℕ)) → IsStrictlySortedBy nat_cmp (keys_of es) → IsIndexed is_timed es pairs → NoneFrom pairs 0 0 →
+    filter (counts_at t) (values_of es) ≡ values_of es
+fresh-none t es pairs sorted indexed none =
+    all-kept t (values_of es) (each-all (λ d. counts_at t d ≡ true) es sorted (λ n d found.
+    absurd (true≢false (sym (indexed.each d.deadline n ∙ ap (passes (is_timed d.deadline)) found ∙ timed-itself d) ∙ none d.deadline n (record { keys = omega arith; numbers = λ same. omega arith })))))
+
+pub on-true : (P : Type 0) (b : Bool) → (b ≡ true → P) → OnTrue b P
+on-true P true here = here refl
+on-true P false here = tt
+
+pub below-or_same : (a b : ℕ) → nat_le a b ≡ true → a ≤ b
+below-or_same a b h = grind (arith, nat_tests)

@@ -75,6 +75,14 @@ impl Index {
         }
     }
 
+    /// The first pair.
+    pub(crate) fn first(&self) -> Option<(u64, u64)>
+        ensures found { IfSome result (IsFirstFrom self.now 0 0) }
+        ensures none { IfNone result (NoneFrom self.now 0 0) }
+    {
+        self.pairs.first().copied()
+    }
+
     /// The last pair.
     pub(crate) fn last(&self) -> Option<(u64, u64)>
         ensures found { IfSome result (IsLastPair self.now) }

@@ -57,6 +57,8 @@ impl Indexes {
     {
         self.messages.take(u64::from(debt.message), number);
         self.moments.take(debt.deadline, number);
-        self.due.take(debt.deadline, number);
+        if debt.must {
+            self.due.take(debt.deadline, number);
+        }
     }
 }

@@ -60,7 +60,7 @@ impl Ledger {
     pub fn is_empty(&self) -> bool
         ensures { IsTrue result ↔ (rows_of self.now ≡ []) }
     {
-        self.rows.len() == 0
+        self.rows.is_empty()
     }
 
     /// Puts a row that owes nothing behind the others. On an error all is as before.

@@ -174,12 +174,25 @@ impl LongRow {
     pub(crate) fn expire(&mut self, moment: u64)
         ensures { values_of self.new ≡ filter (counts_at moment) (values_of self.old) }
     {
+        if self.is_fresh(moment) {
+            return;
+        }
         let mut deadline = 0;
         let mut from = 0;
         while let Some(past) = self.first_past(moment, deadline, from) {
             self.drop_unless_due(past.1);
             deadline = past.0;
             from = past.1 + 1;
+        }
+    }
+
+    /// Whether no deadline is below the moment.
+    fn is_fresh(&self, moment: u64) -> bool
+        ensures { OnTrue result (filter (counts_at moment) (values_of self.now) ≡ values_of self.now) }
+    {
+        match self.indexes.moments.first() {
+            Some((deadline, _)) => moment <= deadline,
+            None => true,
         }
     }
 
@@ -226,7 +239,7 @@ impl LongRow {
     pub(crate) fn earliest_must(&self) -> Option<u64>
         ensures { result ≡ earliest (debt_deadlines (values_of self.now)) }
     {
-        match self.indexes.due.first_from(0, 0) {
+        match self.indexes.due.first() {
             Some((deadline, _)) => Some(deadline),
             None => None,
         }
@@ -244,7 +257,7 @@ impl LongRow {
         ensures some { IfSome result (λ span. IsSpan (values_of self.now) span.0 span.1) }
         ensures none { IfNone result (values_of self.now ≡ []) }
     {
-        let (_, least) = self.indexes.messages.first_from(0, 0)?;
+        let (_, least) = self.indexes.messages.first()?;
         let (_, greatest) = self.indexes.messages.last()?;
         let least = self.debts.get(&least)?;
         let greatest = self.debts.get(&greatest)?;

@@ -13,7 +13,7 @@ ghost use Rattle.sip_ledger.specs.declared.debt.Entry.{Entry};
 
 use crate::bits::{clear, end, has, next, set};
 use crate::debt::{Debt, Entry};
-use crate::run::{Run, append};
+use crate::run::{Run, runs_of};
 use std::alloc::{AllocError, Global};
 
 /// A bit, and where the gap before it begins.
@@ -365,19 +365,8 @@ pub(crate) fn runs(
     requires fits { 64 * length owed.now < 2 ^ 64 }
     ensures { IfOk result (λ runs. AreRuns (row_debts entries.now owed.now must.now) runs.items) }
 {
-    let mut runs = Vec::new(alloc);
-    let mut from = 0;
-    while let Some(at) = next(owed, from) {
-        let entry = entries[at];
-        let debt = Debt {
-            message: entry.message,
-            deadline: entry.deadline,
-            must: has(must, at),
-        };
-        append(&mut runs, debt)?;
-        from = at + 1;
-    }
-    Ok(runs)
+    let owed = debts(alloc, entries, owed, must)?;
+    runs_of(alloc, &owed)
 }
 
 /// What is owed.

@@ -17,7 +17,7 @@ pub struct Run {
 }
 
 /// Puts a debt behind the others, into the last run if that is of its equals.
-pub(crate) fn append(runs: &mut Vec<Run>, debt: Debt) -> Result<(), AllocError>
+fn append(runs: &mut Vec<Run>, debt: Debt) -> Result<(), AllocError>
     requires { length (debts_in runs.old.items) < 2 ^ 64 - 1 }
     ensures { (debts : List Debt) → AreRuns debts runs.old.items → OnOk result (AreRuns (debts ++ debt ∷ []) runs.new.items) }
 {

@@ -1,6 +1,6 @@
 -- Pairs of a key and a number, and their order.
-use Rattle.std.proofs.Common.{◌≡◌, ◌==◌, ◌&&◌, ◌<◌, ◌≤◌, ℕ, Bool, true, false, ◌↔◌, List, [], ◌∷◌, length, cond, refl, sym, ap, ◌∙◌, arith, Bor}
-use Rattle.std.specs.Ordering.{is_eq, is_gt, is_lt, nat_cmp, ordering_then}
+use Rattle.std.proofs.Common.{◌≡◌, ◌==◌, ◌&&◌, ◌<◌, ◌≤◌, ℕ, Bool, false, ◌↔◌, List, [], ◌∷◌, length, cond, refl, sym, ap, ◌∙◌, arith, Bor}
+use Rattle.std.specs.Ordering.{is_eq, is_gt, is_lt}
 use Rattle.std.specs.BTreeSet.{BTreeSet, IsKeyRangeOf, IsLowerBound, IsUpperBound, Updates, contains}
 use Rattle.std.specs.Prelude.{IsTrue, Option, None, Some, IfSome, IfNone, IsSome}
 use Rattle.std.specs.Option.{option_copied}

@@ -1,11 +1,11 @@
 -- Debts whose numbers rise.
-use Rattle.std.proofs.Common.{◌≡◌, ℕ, ◌+◌, ◌-◌, ◌*◌, ◌<◌, ◌≤◌, ◌==◌, ◌&&◌, ◌||◌, Bool, true, false, cond, List, [], ◌∷◌, ◌++◌, length, map, filter, get_or, take, refl, sym, ap, ap₂, ◌∙◌, subst, arith}
+use Rattle.std.proofs.Common.{◌≡◌, ℕ, ◌+◌, ◌<◌, ◌≤◌, ◌==◌, ◌&&◌, ◌||◌, Bool, true, false, cond, List, [], ◌∷◌, ◌++◌, length, map, filter, get_or, take, refl, sym, ap, ap₂, ◌∙◌, subst, arith}
 use mathlib.Core.Bool.{true≢false}
 use Rattle.std.specs.Prelude.{All, IsTrue, Option, None, Some, IfNone, is_some, min, nat_le}
 use Rattle.std.specs.Bool.{OnTrue}
 use Rattle.std.specs.List.{list_any, fold}
 use Rattle.std.specs.List.Sorted.{IsStrictlySortedBy}
-use Rattle.std.specs.Map.{keys_of, values_of, lookup, remove_entry, set_value}
+use Rattle.std.specs.Map.{keys_of, values_of, remove_entry, set_value}
 use Rattle.std.specs.Option.{option_map}
 use Rattle.std.specs.Ordering.{is_eq, match_ordering, nat_cmp}
 use Rattle.std.specs.declared.cmp.Ordering.TheVariants.{Less, Greater}
@@ -14,8 +14,7 @@ use Rattle.std.proofs.Math.Logic.{◌⊎◌, inl, inr, ⊎_elim}
 use Rattle.std.proofs.Math.Bool.{and-false, or-false}
 use Rattle.std.proofs.lemmas.Bool.{cases_lt, eq-eqb, ne_eqb, or_left, or_right}
 use Rattle.std.proofs.lemmas.Bool.Decides.{nat_tests}
-use Rattle.std.proofs.lemmas.Grind.{common_steps}
-use Rattle.std.proofs.lemmas.List.{map-append, take_more}
+use Rattle.std.proofs.lemmas.List.{take_more}
 use Rattle.std.proofs.lemmas.List.Folds.{list_any-append}
 use Rattle.std.proofs.lemmas.List.Elements.{All-nil, All-cons, All-head, All-tail, All-weaker}
 use Rattle.std.proofs.lemmas.Map.Keys.{sorted_tail}
@@ -26,9 +25,6 @@ use Rattle.sip_ledger.specs.declared.indexes.Indexes.{Indexes}
 use Rattle.sip_ledger.specs.Debts.{IsSpan, IsWithoutFirst, counts_at, softened_debt, is_any_payable, is_payable, debt_deadlines, earliest}
 use Rattle.sip_ledger.specs.inner.Indexes.{holds, IsFrom, IsFirstFrom, IsLastPair, IsNextUnder, NoneFrom}
 use Rattle.sip_ledger.specs.inner.Longs.{debt_at, passes, IsFirstNumber, IsFirstPast, IsFound, IsIndexed, IsWithoutNumber, NonePast, FindsNumber, IsLong, least_of, is_named, is_timed, is_due, softened_all}
-
-
-
 
 at-itself : (n : ℕ) → is_eq (nat_cmp n n) ≡ true
 at-itself n = grind (arith, nat_tests)
@@ -60,8 +56,10 @@ put-last (e ∷ es) n d none =
   where
     some-none : (x : Debt) → Some x ≡ None → ⊥
     some-none x h = cc
+
     above : (a b : ℕ) → (b ≤ a → ⊥) → a < b
     above a b never = omega (arith, never)
+
     above-apart : (q k m : ℕ) → k < m → m ≤ q → is_eq (nat_cmp q k) ≡ false
     above-apart q k m low high = grind (arith, nat_tests)
 
@@ -159,22 +157,22 @@ taken-first test (e ∷ es) n sorted first = by (taken-first test es n (sorted_t
   where
     by : (IsFirstNumber test es n → IsWithoutFirst (λ d. IsTrue (test d)) (values_of es) (values_of (remove_entry (is_at (nat_cmp n)) es))) → (b : Bool) → is_eq (nat_cmp n e.0) ≡ b → IsWithoutFirst (λ d. IsTrue (test d)) (e.1 ∷ values_of es) (values_of (cond (is_eq (nat_cmp n e.0)) es (e ∷ remove_entry (is_at (nat_cmp n)) es)))
     by rest true same = subst (λ b. IsWithoutFirst (λ d. IsTrue (test d)) (e.1 ∷ values_of es) (values_of (cond b es (e ∷ remove_entry (is_at (nat_cmp n)) es)))) (sym same)
-      (record {
-        before = [];
-        first = e.1;
-        after = values_of es;
-        whole = refl;
-        holds = sym (ap (λ b. passes test (cond b (Some e.1) (debt_at es n))) same) ∙ first.is;
-        none_before = All-nil (λ d. ¬ (IsTrue (test d)));
-        rest = refl;
-      })
+        (record {
+          before = [];
+          first = e.1;
+          after = values_of es;
+          whole = refl;
+          holds = sym (ap (λ b. passes test (cond b (Some e.1) (debt_at es n))) same) ∙ first.is;
+          none_before = All-nil (λ d. ¬ (IsTrue (test d)));
+          rest = refl;
+        })
     by rest false apart =
-      let is : passes test (debt_at es n) ≡ true = sym (ap (passes test) (tail-at e es n apart)) ∙ first.is in
-      let below : e.0 < n = passed-above test es e.0 n (keys-above e es sorted) is in
-      let here : ¬ (IsTrue (test e.1)) = λ pays. true≢false (sym pays ∙ ap (passes test) (sym (head-at e es)) ∙ first.before e.0 below) in
-      subst (λ b. IsWithoutFirst (λ d. IsTrue (test d)) (e.1 ∷ values_of es) (values_of (cond b es (e ∷ remove_entry (is_at (nat_cmp n)) es)))) (sym apart)
-      (more-without (λ d. IsTrue (test d)) e.1 (values_of es) (values_of (remove_entry (is_at (nat_cmp n)) es)) here
-      (rest (record { is = is; before = λ m low. shadowed test e es m sorted (first.before m low) })))
+        let is : passes test (debt_at es n) ≡ true = sym (ap (passes test) (tail-at e es n apart)) ∙ first.is in
+        let below : e.0 < n = passed-above test es e.0 n (keys-above e es sorted) is in
+        let here : ¬ (IsTrue (test e.1)) = λ pays. true≢false (sym pays ∙ ap (passes test) (sym (head-at e es)) ∙ first.before e.0 below) in
+        subst (λ b. IsWithoutFirst (λ d. IsTrue (test d)) (e.1 ∷ values_of es) (values_of (cond b es (e ∷ remove_entry (is_at (nat_cmp n)) es)))) (sym apart)
+        (more-without (λ d. IsTrue (test d)) e.1 (values_of es) (values_of (remove_entry (is_at (nat_cmp n)) es)) here
+        (rest (record { is = is; before = λ m low. shadowed test e es m sorted (first.before m low) })))
 
 pub taken-out : (es v left : List (ℕ × Debt)) (n : ℕ) (test : Debt → Bool) → IsStrictlySortedBy nat_cmp (keys_of es) → es ≡ v → left ≡ remove_entry (is_at (nat_cmp n)) es → IsFirstNumber test v n →
     IsWithoutFirst (λ d. IsTrue (test d)) (values_of v) (values_of left)
@@ -291,7 +289,7 @@ found-either A B C es a b same one two = record {
 }
   where
     none : (a b : Option ℕ) → IfNone a (All (λ d. ¬ (IsTrue (A d))) (values_of es)) → IfNone b (All (λ d. ¬ (IsTrue (B d))) (values_of es)) →
-      IfNone (least_of a b) (All (λ d. ¬ (IsTrue (C d))) (values_of es))
+        IfNone (least_of a b) (All (λ d. ¬ (IsTrue (C d))) (values_of es))
     none None None no_a no_b = all-neither A B C (values_of es) same no_a no_b
     none None (Some b) no_a no_b = tt
     none (Some a) None no_a no_b = tt
@@ -304,9 +302,11 @@ found-nothing t es = record { finds = λ n. none (debt_at es n); none = all (val
     none : (o : Option Debt) → passes (is_any_payable [] t) o ≡ false
     none None = refl
     none (Some d) = refl
+
     all : (ds : List Debt) → All (λ d. ¬ (IsTrue (is_any_payable [] t d))) ds
     all [] = All-nil (λ d. ¬ (IsTrue (is_any_payable [] t d)))
     all (d ∷ ds) = All-cons (λ x. ¬ (IsTrue (is_any_payable [] t x))) d ds (λ is. true≢false (sym is)) (all ds)
+
     any : (ds : List Debt) → list_any (is_any_payable [] t) ds ≡ false
     any [] = refl
     any (d ∷ ds) = any ds
@@ -343,11 +343,11 @@ span-is es pairs low high d e sorted indexed first last at_low at_high =
       least = some-any (is_named d.message) es low.1 (ap (passes (is_named d.message)) at_low ∙ named-itself d);
       greatest = some-any (is_named e.message) es high.1 (ap (passes (is_named e.message)) at_high ∙ named-itself e);
       between = each-all (λ x. (d.message ≤ x.message) × (x.message ≤ e.message)) es sorted (λ n x found.
-        let held : holds pairs x.message n ≡ true = indexed.each x.message n ∙ ap (passes (is_named x.message)) found ∙ named-itself x in
-        let from : IsFrom 0 0 x.message n = record { keys = omega arith; numbers = λ same. omega arith } in
-        let after = (first.first x.message n held from).keys in
-        let before = last.last x.message n held in
-        (omega (arith, is_low, after), omega (arith, is_high, before)));
+          let held : holds pairs x.message n ≡ true = indexed.each x.message n ∙ ap (passes (is_named x.message)) found ∙ named-itself x in
+          let from : IsFrom 0 0 x.message n = record { keys = omega arith; numbers = λ same. omega arith } in
+          let after = (first.first x.message n held from).keys in
+          let before = last.last x.message n held in
+          (omega (arith, is_low, after), omega (arith, is_high, before)));
     }
 
 -- the least deadline of what must be sent
@@ -362,11 +362,11 @@ deadlines-any t [] = refl
 deadlines-any t (d ∷ ds) = by (deadlines-any t ds) d.must refl
   where
     by : list_any (λ x. x == t) (debt_deadlines ds) ≡ list_any (is_due t) ds → (b : Bool) → d.must ≡ b →
-      list_any (λ x. x == t) (map (λ (x : Debt). x.deadline) (cond d.must (d ∷ filter (λ (x : Debt). x.must) ds) (filter (λ (x : Debt). x.must) ds))) ≡ ((d.must && d.deadline == t) || list_any (is_due t) ds)
+        list_any (λ x. x == t) (map (λ (x : Debt). x.deadline) (cond d.must (d ∷ filter (λ (x : Debt). x.must) ds) (filter (λ (x : Debt). x.must) ds))) ≡ ((d.must && d.deadline == t) || list_any (is_due t) ds)
     by rest true is = subst (λ b. list_any (λ x. x == t) (map (λ (x : Debt). x.deadline) (cond b (d ∷ filter (λ (x : Debt). x.must) ds) (filter (λ (x : Debt). x.must) ds))) ≡ ((b && d.deadline == t) || list_any (is_due t) ds)) (sym is)
-      (ap (λ x. d.deadline == t || x) rest)
+        (ap (λ x. d.deadline == t || x) rest)
     by rest false is = subst (λ b. list_any (λ x. x == t) (map (λ (x : Debt). x.deadline) (cond b (d ∷ filter (λ (x : Debt). x.must) ds) (filter (λ (x : Debt). x.must) ds))) ≡ ((b && d.deadline == t) || list_any (is_due t) ds)) (sym is)
-      rest
+        rest
 
 deadlines-all : (P : ℕ → Type 0) (ds : List Debt) → All (λ d. d.must ≡ true → P d.deadline) ds → All P (debt_deadlines ds)
 deadlines-all P [] each = All-nil P
@@ -374,7 +374,7 @@ deadlines-all P (d ∷ ds) each = by (deadlines-all P ds (All-tail (λ x. x.must
   where
     by : All P (debt_deadlines ds) → (b : Bool) → d.must ≡ b → All P (map (λ (x : Debt). x.deadline) (cond d.must (d ∷ filter (λ (x : Debt). x.must) ds) (filter (λ (x : Debt). x.must) ds)))
     by rest true is = subst (λ b. All P (map (λ (x : Debt). x.deadline) (cond b (d ∷ filter (λ (x : Debt). x.must) ds) (filter (λ (x : Debt). x.must) ds)))) (sym is)
-      (All-cons P d.deadline (debt_deadlines ds) (All-head (λ x. x.must ≡ true → P x.deadline) d ds each is) rest)
+        (All-cons P d.deadline (debt_deadlines ds) (All-head (λ x. x.must ≡ true → P x.deadline) d ds each is) rest)
     by rest false is = subst (λ b. All P (map (λ (x : Debt). x.deadline) (cond b (d ∷ filter (λ (x : Debt). x.must) ds) (filter (λ (x : Debt). x.must) ds)))) (sym is) rest
 
 fold-least : (t a : ℕ) (xs : List ℕ) → t ≤ a → All (λ x. t ≤ x) xs → (a == t || list_any (λ x. x == t) xs) ≡ true → fold min a xs ≡ t
@@ -417,14 +417,14 @@ soften-set [] n d found = refl
 soften-set (e ∷ es) n d found = by (soften-set es n d) (is_eq (nat_cmp n e.0)) refl
   where
     by : (debt_at es n ≡ Some d → softened_all (set_value (is_at (nat_cmp n)) es (softened_debt d)) ≡ softened_all es) → (b : Bool) → is_eq (nat_cmp n e.0) ≡ b →
-      softened_all (cond (is_eq (nat_cmp n e.0)) ((e.0, softened_debt d) ∷ es) (e ∷ set_value (is_at (nat_cmp n)) es (softened_debt d))) ≡ softened_all (e ∷ es)
+        softened_all (cond (is_eq (nat_cmp n e.0)) ((e.0, softened_debt d) ∷ es) (e ∷ set_value (is_at (nat_cmp n)) es (softened_debt d))) ≡ softened_all (e ∷ es)
     by rest true same =
-      let is : e.1 ≡ d = some-is e.1 d (sym (ap (λ b. cond b (Some e.1) (debt_at es n)) same) ∙ found) in
-      ap (λ b. softened_all (cond b ((e.0, softened_debt d) ∷ es) (e ∷ set_value (is_at (nat_cmp n)) es (softened_debt d)))) same
-      ∙ ap (λ x. (e.0, softened_debt x) ∷ softened_all es) (sym is)
+        let is : e.1 ≡ d = some-is e.1 d (sym (ap (λ b. cond b (Some e.1) (debt_at es n)) same) ∙ found) in
+        ap (λ b. softened_all (cond b ((e.0, softened_debt d) ∷ es) (e ∷ set_value (is_at (nat_cmp n)) es (softened_debt d)))) same
+        ∙ ap (λ x. (e.0, softened_debt x) ∷ softened_all es) (sym is)
     by rest false apart =
-      ap (λ b. softened_all (cond b ((e.0, softened_debt d) ∷ es) (e ∷ set_value (is_at (nat_cmp n)) es (softened_debt d)))) apart
-      ∙ ap (λ l. (e.0, softened_debt e.1) ∷ l) (rest (sym (ap (λ b. cond b (Some e.1) (debt_at es n)) apart) ∙ found))
+        ap (λ b. softened_all (cond b ((e.0, softened_debt d) ∷ es) (e ∷ set_value (is_at (nat_cmp n)) es (softened_debt d)))) apart
+        ∙ ap (λ l. (e.0, softened_debt e.1) ∷ l) (rest (sym (ap (λ b. cond b (Some e.1) (debt_at es n)) apart) ∙ found))
 
 soft-already : (d : Debt) → d.must ≡ false → softened_debt d ≡ d
 soft-already d free = ap {B = Debt} (λ b. record { message = d.message; deadline = d.deadline; must = b }) (sym free)
@@ -448,7 +448,7 @@ softened-at [] n = refl
 softened-at (e ∷ es) n = by (softened-at es n) (is_eq (nat_cmp n e.0))
   where
     by : debt_at (softened_all es) n ≡ option_map softened_debt (debt_at es n) → (b : Bool) →
-      cond b (Some (softened_debt e.1)) (debt_at (softened_all es) n) ≡ option_map softened_debt (cond b (Some e.1) (debt_at es n))
+        cond b (Some (softened_debt e.1)) (debt_at (softened_all es) n) ≡ option_map softened_debt (cond b (Some e.1) (debt_at es n))
     by rest true = refl
     by rest false = rest
 
@@ -494,14 +494,14 @@ past-kept t [] n d found past = refl
 past-kept t (e ∷ es) n d found past = by (past-kept t es n d) (is_eq (nat_cmp n e.0)) refl
   where
     by : (debt_at es n ≡ Some d → counts_at t d ≡ false → filter (counts_at t) (values_of (remove_entry (is_at (nat_cmp n)) es)) ≡ filter (counts_at t) (values_of es)) → (b : Bool) → is_eq (nat_cmp n e.0) ≡ b →
-      filter (counts_at t) (values_of (cond (is_eq (nat_cmp n e.0)) es (e ∷ remove_entry (is_at (nat_cmp n)) es))) ≡ cond (counts_at t e.1) (e.1 ∷ filter (counts_at t) (values_of es)) (filter (counts_at t) (values_of es))
+        filter (counts_at t) (values_of (cond (is_eq (nat_cmp n e.0)) es (e ∷ remove_entry (is_at (nat_cmp n)) es))) ≡ cond (counts_at t e.1) (e.1 ∷ filter (counts_at t) (values_of es)) (filter (counts_at t) (values_of es))
     by rest true same =
-      let is : e.1 ≡ d = some-is e.1 d (sym (ap (λ b. cond b (Some e.1) (debt_at es n)) same) ∙ found) in
-      ap (λ b. filter (counts_at t) (values_of (cond b es (e ∷ remove_entry (is_at (nat_cmp n)) es)))) same
-      ∙ sym (ap (λ b. cond b (e.1 ∷ filter (counts_at t) (values_of es)) (filter (counts_at t) (values_of es))) (ap (counts_at t) is ∙ past))
+        let is : e.1 ≡ d = some-is e.1 d (sym (ap (λ b. cond b (Some e.1) (debt_at es n)) same) ∙ found) in
+        ap (λ b. filter (counts_at t) (values_of (cond b es (e ∷ remove_entry (is_at (nat_cmp n)) es)))) same
+        ∙ sym (ap (λ b. cond b (e.1 ∷ filter (counts_at t) (values_of es)) (filter (counts_at t) (values_of es))) (ap (counts_at t) is ∙ past))
     by rest false apart =
-      ap (λ b. filter (counts_at t) (values_of (cond b es (e ∷ remove_entry (is_at (nat_cmp n)) es)))) apart
-      ∙ ap (λ l. cond (counts_at t e.1) (e.1 ∷ l) l) (rest (sym (ap (λ b. cond b (Some e.1) (debt_at es n)) apart) ∙ found) past)
+        ap (λ b. filter (counts_at t) (values_of (cond b es (e ∷ remove_entry (is_at (nat_cmp n)) es)))) apart
+        ∙ ap (λ l. cond (counts_at t e.1) (e.1 ∷ l) l) (rest (sym (ap (λ b. cond b (Some e.1) (debt_at es n)) apart) ∙ found) past)
 
 timed-itself : (d : Debt) → passes (is_timed d.deadline) (Some d) ≡ true
 timed-itself d = grind (arith, nat_tests)
@@ -536,21 +536,21 @@ expiring-further t old v w deadline from p was first due free = by (debt_at v p.
       where
         must : (b : Bool) → x.must ≡ b → IsExpiring t old w p.0 (p.1 + 1)
         must true yes_must =
-          subst (λ l. IsExpiring t old l p.0 (p.1 + 1)) (sym (due (ap (passes (λ d. d.must)) is ∙ yes_must)))
-          (record {
-            same = was.same;
-            rest = λ n d found past. further v t deadline from p n d first (was.rest n d found past) found (λ same.
-              true≢false (sym (must-counts t d (ap (λ y. y.must) (some-is d x (sym found ∙ ap (debt_at v) same ∙ is)) ∙ yes_must)) ∙ past));
-          })
+            subst (λ l. IsExpiring t old l p.0 (p.1 + 1)) (sym (due (ap (passes (λ d. d.must)) is ∙ yes_must)))
+            (record {
+              same = was.same;
+              rest = λ n d found past. further v t deadline from p n d first (was.rest n d found past) found (λ same.
+                  true≢false (sym (must-counts t d (ap (λ y. y.must) (some-is d x (sym found ∙ ap (debt_at v) same ∙ is)) ∙ yes_must)) ∙ past));
+            })
         must false not_must =
-          let gone : IsWithoutNumber p.1 v w = free (ap (passes (λ d. d.must)) is ∙ not_must) in
-          record {
-            same = ap (λ l. filter (counts_at t) (values_of l)) gone.entries ∙ past-kept t v p.1 x is (past-debt v t deadline from p x first is not_must) ∙ was.same;
-            rest = λ n d found past.
-              let apart : n ≡ p.1 → ⊥ = λ same. some-none d (sym found ∙ gone.at n ∙ ap (λ b. cond b None (debt_at v n)) (eq-eqb n p.1 same)) in
-              let before : debt_at v n ≡ Some d = sym (ap (λ b. cond b None (debt_at v n)) (ne_eqb n p.1 apart)) ∙ sym (gone.at n) ∙ found in
-              further v t deadline from p n d first (was.rest n d before past) before apart;
-          }
+            let gone : IsWithoutNumber p.1 v w = free (ap (passes (λ d. d.must)) is ∙ not_must) in
+            record {
+              same = ap (λ l. filter (counts_at t) (values_of l)) gone.entries ∙ past-kept t v p.1 x is (past-debt v t deadline from p x first is not_must) ∙ was.same;
+              rest = λ n d found past.
+                  let apart : n ≡ p.1 → ⊥ = λ same. some-none d (sym found ∙ gone.at n ∙ ap (λ b. cond b None (debt_at v n)) (eq-eqb n p.1 same)) in
+                  let before : debt_at v n ≡ Some d = sym (ap (λ b. cond b None (debt_at v n)) (ne_eqb n p.1 apart)) ∙ sym (gone.at n) ∙ found in
+                  further v t deadline from p n d first (was.rest n d before past) before apart;
+            }
 
 late-counts : (t : ℕ) (d : Debt) → t ≤ d.deadline → counts_at t d ≡ true
 late-counts t d late = by d.must refl
@@ -572,8 +572,8 @@ expired-all t old v deadline from was sorted none =
     by : (n : ℕ) (d : Debt) → debt_at v n ≡ Some d → (b : Bool) → counts_at t d ≡ b → counts_at t d ≡ true
     by n d found true counts = counts
     by n d found false past =
-      let late : t ≤ d.deadline = none d.deadline n (ap (passes (is_timed d.deadline)) found ∙ timed-itself d) (was.rest n d found past) in
-      absurd (true≢false (sym (late-counts t d late) ∙ past))
+        let late : t ≤ d.deadline = none d.deadline n (ap (passes (is_timed d.deadline)) found ∙ timed-itself d) (was.rest n d found past) in
+        absurd (true≢false (sym (late-counts t d late) ∙ past))
 
 -- where no deadline is past, none of the debts is
 pub fresh-all : (t : ℕ) (es : List (ℕ × Debt)) (pairs : List (ℕ × ℕ)) (p : ℕ × ℕ) → IsStrictlySortedBy nat_cmp (keys_of es) → IsIndexed is_timed es pairs → IsFirstFrom pairs 0 0 p → t ≤ p.0 →

@@ -1,6 +1,6 @@
 -- The least and the greatest message of debts.
-use Rattle.std.proofs.Common.{◌≡◌, ◌⊎◌, inl, inr, ℕ, ◌<◌, ◌≤◌, ◌==◌, Bool, true, false, ◌||◌, min, max, List, [], ◌∷◌, ◌++◌, map, refl, sym, ap, ◌∙◌, subst, arith}
-use Rattle.std.specs.Prelude.{All, IsTrue, Option, None, Some, IfSome, IfNone}
+use Rattle.std.proofs.Common.{◌≡◌, ◌⊎◌, inl, inr, ℕ, ◌<◌, ◌≤◌, ◌==◌, true, ◌||◌, min, max, List, [], ◌∷◌, ◌++◌, map, refl, sym, ap, ◌∙◌, subst, arith}
+use Rattle.std.specs.Prelude.{All, Option, None, Some, IfSome, IfNone}
 use Rattle.std.specs.List.{list_any}
 use Rattle.std.proofs.lemmas.Bool.{cases_lt, eq-eqb, or_left, or_right}
 use Rattle.std.proofs.lemmas.List.Elements.{All-nil, All-cons, All-head, All-tail, All-push, All-weaker}
@@ -33,14 +33,15 @@ span-more ds d low high span = record {
   least = least (cases_lt low d.message);
   greatest = greatest (cases_lt high d.message);
   between = All-push (λ (x : Debt). (min low d.message ≤ x.message) × (x.message ≤ max high d.message)) ds d
-    (All-weaker (λ (x : Debt). (low ≤ x.message) × (x.message ≤ high)) (λ (x : Debt). (min low d.message ≤ x.message) × (x.message ≤ max high d.message))
-    (λ x in_span. (omega (arith, in_span.0), omega (arith, in_span.1))) ds span.between)
-    (omega arith, omega arith);
+      (All-weaker (λ (x : Debt). (low ≤ x.message) × (x.message ≤ high)) (λ (x : Debt). (min low d.message ≤ x.message) × (x.message ≤ max high d.message))
+      (λ x in_span. (omega (arith, in_span.0), omega (arith, in_span.1))) ds span.between)
+      (omega arith, omega arith);
 }
   where
     least : (low < d.message) ⊎ (d.message ≤ low) → list_any (λ (x : Debt). x.message == min low d.message) (ds ++ d ∷ []) ≡ true
     least (inl less) = more-any ds d low (min low d.message) span.least (omega (arith, less))
     least (inr more) = last-any ds d (min low d.message) (omega (arith, more))
+
     greatest : (high < d.message) ⊎ (d.message ≤ high) → list_any (λ (x : Debt). x.message == max high d.message) (ds ++ d ∷ []) ≡ true
     greatest (inl less) = last-any ds d (max high d.message) (omega (arith, less))
     greatest (inr more) = more-any ds d high (max high d.message) span.greatest (omega (arith, more))

@@ -294,12 +294,7 @@ pub(crate) fn debts(
 }
 
 /// The least and the greatest number of a message that the row owes.
-pub(crate) fn span(
-    entries: &[Entry],
-    owed: &[u64],
-    width: usize,
-    row: usize,
-) -> Option<(u32, u32)>
+pub(crate) fn span(entries: &[Entry], owed: &[u64], width: usize, row: usize) -> Option<(u32, u32)>
     requires inside { IsInside width row owed.now }
     requires within { (k : ℕ) → has (part width row owed.now) k ≡ true → k < length entries.now }
     requires fits { 64 * width < 2 ^ 64 }

@@ -1,6 +1,5 @@
-use Rattle.std.proofs.Common.{false, arith, take, get_or, sym, subst}
-use Rattle.std.proofs.lemmas.List.{take_more, get_or_default}
-use Rattle.std.proofs.lemmas.Grind.{common_steps}
+use Rattle.std.proofs.Common.{false, take, sym, subst}
+use Rattle.std.proofs.lemmas.List.{take_more}
 use Rattle.sip_ledger.specs.Runs.{AreRuns}
 use Rattle.sip_ledger.specs.declared.debt.Debt.{Debt}
 use Rattle.sip_ledger.proofs.run.runs_of.Goals as goal

@@ -1,4 +1,4 @@
-use Rattle.std.proofs.Common.{◌≡◌, ℕ, false, sym, subst}
+use Rattle.std.proofs.Common.{◌≡◌, ℕ, false, subst}
 use Rattle.std.specs.Prelude.{IfSome, IfNone}
 use Rattle.std.specs.Option.{option_copied}
 use Rattle.sip_ledger.specs.inner.Indexes.{holds, IsLastPair}

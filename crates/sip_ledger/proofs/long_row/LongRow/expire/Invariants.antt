@@ -1,4 +1,4 @@
-use Rattle.std.proofs.Common.{ℕ, ◌+◌, ◌-◌, ◌*◌, ◌^◌}
+use Rattle.std.proofs.Common.{◌+◌, ◌-◌, ◌*◌, ◌^◌}
 use Rattle.sip_ledger.proofs.LongLemmas.{IsExpiring}
 use Rattle.sip_ledger.proofs.long_row.LongRow.expire.Given as goal
 

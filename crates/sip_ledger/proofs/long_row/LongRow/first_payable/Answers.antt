@@ -1,8 +1,6 @@
-use Rattle.std.proofs.Common.{◌≡◌, ℕ, List, Some, None, true, false, sym, ◌∙◌, subst}
+use Rattle.std.proofs.Common.{◌≡◌, Some, None, true, false, sym, ◌∙◌, subst}
 use Rattle.std.specs.Prelude.{nat_le}
-use Rattle.sip_ledger.specs.declared.debt.Debt.{Debt}
 use Rattle.sip_ledger.specs.Debts.{is_payable}
-use Rattle.sip_ledger.specs.inner.Indexes.{IsNextUnder}
 use Rattle.sip_ledger.specs.inner.Longs.{IsFound, debt_at, passes}
 use Rattle.sip_ledger.proofs.LongLemmas.{payable-found, payable-further, payable-none}
 use Rattle.sip_ledger.proofs.long_row.LongRow.first_payable.Goals as goal

@@ -171,3 +171,23 @@ fn a_long_row_is_told_after_a_refused_growth(rt: HostRuntime) -> Result<(), Fail
     assert_eq!(rt; runs.len(), 70);
     Ok(refused?)
 }
+
+/// Little is left of a long row, which stands over a list of entries again where there is memory.
+#[test]
+fn a_long_row_is_tidied_after_a_refused_growth(rt: HostRuntime) -> Result<(), Fail> {
+    let mut ledger = Ledger::new(rt.alloc());
+    let mut twin = Ledger::new(rt.alloc());
+    push_again(&rt, &mut ledger, &mut twin)?;
+    for number in 0..70 {
+        gain_again(&rt, &mut ledger, &mut twin, 0, must(number % 5, 10))?;
+    }
+    for number in 0..60 {
+        assert!(rt; 0 < ledger.len());
+        assert!(rt; 0 < twin.len());
+        assert!(rt; ledger.pay(0, number % 5, 10));
+        assert!(rt; twin.pay(0, number % 5, 10));
+    }
+    ledger.tidy();
+    alike(&rt, &ledger, &twin)?;
+    gain_again(&rt, &mut ledger, &mut twin, 0, must(9, 10))
+}

@@ -305,20 +305,27 @@ impl Ledger {
         }
     }
 
-    /// Lets entries that no row owes go, where they fill half of the words or more, from the first one on.
+    /// Lets entries that no row owes go, where they fill half of the words or more, from the first one on. A long row that owes
+    /// little any more stands over a list of entries again, if there is memory.
     pub fn tidy(&mut self)
         ensures { rows_of self.new ≡ rows_of self.old }
     {
-        match &self.long {
-            Some(long) => {
-                if long.owes_nothing() {
-                    self.long = None;
-                }
-            }
-            None => self.rows.tidy(),
+        let Some(long) = &self.long else {
+            self.rows.tidy();
+            return;
+        };
+        if long.len() > LITTLE {
+            return;
+        }
+        if let Ok(short) = shortened(self.rows.allocator(), long) {
+            self.rows = short;
+            self.long = None;
         }
     }
 }
+
+/// A row that owes no more than so many debts is not long.
+const LITTLE: usize = 16;
 
 /// What the only row owes, and one debt more, as a long row.
 fn lengthened(rows: &Rows, debt: Debt) -> Result<Box<LongRow>, AllocError>

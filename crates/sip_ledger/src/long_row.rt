@@ -245,6 +245,13 @@ impl LongRow {
         }
     }
 
+    /// How many debts there are.
+    pub(crate) fn len(&self) -> usize
+        ensures { result ≡ length self.now }
+    {
+        self.debts.len()
+    }
+
     /// Whether nothing is owed.
     pub(crate) fn owes_nothing(&self) -> bool
         ensures { IsTrue result ↔ (values_of self.now ≡ []) }

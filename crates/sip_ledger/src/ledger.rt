@@ -69,6 +69,18 @@ impl Ledger {
         ensures ok { OnOk result (rows_of self.new ≡ rows_of self.old ++ [] ∷ []) }
         ensures err { OnErr result (self.new ≡ self.old) }
     {
+        if self.long.is_none() {
+            return self.rows.push();
+        }
+        self.push_behind_long()
+    }
+
+    /// The same where there may be a long row.
+    #[inline(never)]
+    fn push_behind_long(&mut self) -> Result<(), AllocError>
+        ensures ok { OnOk result (rows_of self.new ≡ rows_of self.old ++ [] ∷ []) }
+        ensures err { OnErr result (self.new ≡ self.old) }
+    {
         let Some(long) = &self.long else {
             return self.rows.push();
         };
@@ -81,6 +93,19 @@ impl Ledger {
 
     /// Puts a row that owes what this one does behind the others. On an error all is as before.
     pub fn push_copy(&mut self, row: usize) -> Result<(), AllocError>
+        requires { row < length (rows_of self.old) }
+        ensures ok { OnOk result (rows_of self.new ≡ rows_of self.old ++ row_of self.old row ∷ []) }
+        ensures err { OnErr result (self.new ≡ self.old) }
+    {
+        if self.long.is_none() {
+            return self.rows.push_copy(row);
+        }
+        self.push_copy_of_long(row)
+    }
+
+    /// The same where the row may be a long one.
+    #[inline(never)]
+    fn push_copy_of_long(&mut self, row: usize) -> Result<(), AllocError>
         requires { row < length (rows_of self.old) }
         ensures ok { OnOk result (rows_of self.new ≡ rows_of self.old ++ row_of self.old row ∷ []) }
         ensures err { OnErr result (self.new ≡ self.old) }
@@ -128,6 +153,19 @@ impl Ledger {
 
     /// Lets the row owe one more debt, behind its others. On an error all is as before.
     pub fn gain(&mut self, row: usize, debt: Debt) -> Result<(), AllocError>
+        requires { row < length (rows_of self.old) }
+        ensures ok { OnOk result (rows_of self.new ≡ set (rows_of self.old) row (row_of self.old row ++ debt ∷ [])) }
+        ensures err { OnErr result (self.new ≡ self.old) }
+    {
+        if self.long.is_none() && !self.rows.is_crowded() {
+            return self.rows.gain(row, debt);
+        }
+        self.gain_much(row, debt)
+    }
+
+    /// The same where the row may be a long one, or become one.
+    #[inline(never)]
+    fn gain_much(&mut self, row: usize, debt: Debt) -> Result<(), AllocError>
         requires { row < length (rows_of self.old) }
         ensures ok { OnOk result (rows_of self.new ≡ set (rows_of self.old) row (row_of self.old row ++ debt ∷ [])) }
         ensures err { OnErr result (self.new ≡ self.old) }
@@ -328,6 +366,7 @@ impl Ledger {
 const LITTLE: usize = 16;
 
 /// What the only row owes, and one debt more, as a long row.
+#[inline(never)]
 fn lengthened(rows: &Rows, debt: Debt) -> Result<Box<LongRow>, AllocError>
     requires { length (grid_rows rows.now) ≡ 1 }
     ensures { IfOk result (λ long. values_of long.value ≡ grid_row rows.now 0 ++ debt ∷ []) }
@@ -339,6 +378,7 @@ fn lengthened(rows: &Rows, debt: Debt) -> Result<Box<LongRow>, AllocError>
 }
 
 /// One row that owes what the long row does.
+#[inline(never)]
 fn shortened(alloc: Global, long: &LongRow) -> Result<Rows, AllocError>
     ensures { IfOk result (λ rows. grid_rows rows ≡ values_of long.now ∷ []) }
 {

@@ -54,6 +54,7 @@ impl LongRow {
     }
 
     /// These debts are owed.
+    #[inline(never)]
     pub(crate) fn of(alloc: Global, debts: &[Debt]) -> Result<LongRow, AllocError>
         ensures { IfOk result (λ row. values_of row ≡ debts.now) }
     {
@@ -65,6 +66,7 @@ impl LongRow {
     }
 
     /// One more debt is owed, behind the others. On an error all is as before.
+    #[inline(never)]
     pub(crate) fn gain(&mut self, debt: Debt) -> Result<(), AllocError>
         ensures ok { OnOk result (values_of self.new ≡ values_of self.old ++ debt ∷ []) }
         ensures err { OnErr result (self.new ≡ self.old) }
@@ -94,6 +96,7 @@ impl LongRow {
     }
 
     /// Takes out the first debt that a send of the message at the moment pays, and tells whether there was one.
+    #[inline(never)]
     pub(crate) fn pay(&mut self, message: u32, moment: u64) -> bool
         ensures paid { OnTrue result (IsWithoutFirst (λ debt. IsTrue (is_payable message moment debt)) (values_of self.old) (values_of self.new)) }
         ensures unpaid { OnFalse result ((self.new ≡ self.old) × All (λ debt. ¬ (IsTrue (is_payable message moment debt))) (values_of self.old)) }
@@ -108,6 +111,7 @@ impl LongRow {
     }
 
     /// The same of a send of one of these messages.
+    #[inline(never)]
     pub(crate) fn pay_any(&mut self, numbers: &[u32], moment: u64) -> bool
         ensures paid { OnTrue result (IsWithoutFirst (λ debt. IsTrue (is_any_payable numbers.now moment debt)) (values_of self.old) (values_of self.new)) }
         ensures unpaid { OnFalse result ((self.new ≡ self.old) × All (λ debt. ¬ (IsTrue (is_any_payable numbers.now moment debt))) (values_of self.old)) }
@@ -122,6 +126,7 @@ impl LongRow {
     }
 
     /// Whether there is a debt that a send of the message at the moment pays.
+    #[inline(never)]
     pub(crate) fn can_pay(&self, message: u32, moment: u64) -> bool
         ensures { result ≡ list_any (is_payable message moment) (values_of self.now) }
     {
@@ -129,6 +134,7 @@ impl LongRow {
     }
 
     /// Whether there is a debt that a send of one of these messages at the moment pays.
+    #[inline(never)]
     pub(crate) fn can_pay_any(&self, numbers: &[u32], moment: u64) -> bool
         ensures { result ≡ list_any (is_any_payable numbers.now moment) (values_of self.now) }
     {
@@ -171,6 +177,7 @@ impl LongRow {
     }
 
     /// Drops what may be sent and whose deadline is below the moment.
+    #[inline(never)]
     pub(crate) fn expire(&mut self, moment: u64)
         ensures { values_of self.new ≡ filter (counts_at moment) (values_of self.old) }
     {
@@ -229,6 +236,7 @@ impl LongRow {
     }
 
     /// Nothing has to be sent any more.
+    #[inline(never)]
     pub(crate) fn soften(&mut self)
         ensures { values_of self.new ≡ map softened_debt (values_of self.old) }
     {
@@ -236,6 +244,7 @@ impl LongRow {
     }
 
     /// The least deadline of what must be sent.
+    #[inline(never)]
     pub(crate) fn earliest_must(&self) -> Option<u64>
         ensures { result ≡ earliest (debt_deadlines (values_of self.now)) }
     {
@@ -253,6 +262,7 @@ impl LongRow {
     }
 
     /// Whether nothing is owed.
+    #[inline(never)]
     pub(crate) fn owes_nothing(&self) -> bool
         ensures { IsTrue result ↔ (values_of self.now ≡ []) }
     {
@@ -260,6 +270,7 @@ impl LongRow {
     }
 
     /// The least and the greatest number of a message that is owed.
+    #[inline(never)]
     pub(crate) fn span(&self) -> Option<(u32, u32)>
         ensures some { IfSome result (λ span. IsSpan (values_of self.now) span.0 span.1) }
         ensures none { IfNone result (values_of self.now ≡ []) }
@@ -272,6 +283,7 @@ impl LongRow {
     }
 
     /// What is owed.
+    #[inline(never)]
     pub(crate) fn debts(&self, alloc: Global) -> Result<Vec<Debt>, AllocError>
         ensures { IfOk result (λ debts. debts.items ≡ values_of self.now) }
     {
@@ -283,6 +295,7 @@ impl LongRow {
     }
 
     /// Puts the number of each message that is owed behind the others, once for each debt.
+    #[inline(never)]
     pub(crate) fn names(&self, numbers: &mut Vec<u32>) -> Result<(), AllocError>
         ensures { OnOk result (numbers.new.items ≡ numbers.old.items ++ map (λ debt. debt.message) (values_of self.now)) }
     {
@@ -293,6 +306,7 @@ impl LongRow {
     }
 
     /// What is owed, with equal neighbours in one.
+    #[inline(never)]
     pub(crate) fn runs(&self, alloc: Global) -> Result<Vec<Run>, AllocError>
         ensures { IfOk result (λ runs. AreRuns (values_of self.now) runs.items) }
     {

@@ -102,6 +102,7 @@ fn a_long_row_expires_and_softens(rt: HostRuntime) -> Result<(), Fail> {
     owes(&rt, &mut ledger, 0, &list)?;
     assert!(rt; 0 < ledger.len());
     assert!(rt; ledger.pay_any(0, &[1, 3], 30));
+    assert!(rt; list.len() > 20);
     list.remove(20);
     owes(&rt, &mut ledger, 0, &list)?;
     assert!(rt; 0 < ledger.len());
@@ -142,10 +143,10 @@ fn a_long_row_is_copied_and_dropped(rt: HostRuntime) -> Result<(), Fail> {
     lists[1].retain(|debt| debt.message != 3);
     agree(&rt, &mut ledger, &lists)?;
     ledger.drop_first(1);
+    assert!(rt; !lists.is_empty());
     lists.remove(0);
     agree(&rt, &mut ledger, &lists)?;
-    let again = of_one(&rt, &debts(&rt, &ledger, 0)?)?;
-    let mut ledger = again;
+    let mut ledger = of_one(&rt, &debts(&rt, &ledger, 0)?)?;
     ledger.push()?;
     lists.push(Vec::new(rt.alloc()))?;
     agree(&rt, &mut ledger, &lists)

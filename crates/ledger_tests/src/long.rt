@@ -131,6 +131,7 @@ fn a_long_row_is_copied_and_dropped(rt: HostRuntime) -> Result<(), Fail> {
     let mut ledger = of_one(&rt, &list)?;
     assert!(rt; 0 < ledger.len());
     ledger.copy(0, 0);
+    assert!(rt; 0 < ledger.len());
     assert!(rt; ledger.same(0, 0));
     assert!(rt; 0 < ledger.len());
     ledger.push_copy(0)?;
@@ -143,7 +144,7 @@ fn a_long_row_is_copied_and_dropped(rt: HostRuntime) -> Result<(), Fail> {
     lists[1].retain(|debt| debt.message != 3);
     agree(&rt, &mut ledger, &lists)?;
     ledger.drop_first(1);
-    assert!(rt; !lists.is_empty());
+    assert!(rt; 0 < lists.len());
     lists.remove(0);
     agree(&rt, &mut ledger, &lists)?;
     let mut ledger = of_one(&rt, &debts(&rt, &ledger, 0)?)?;

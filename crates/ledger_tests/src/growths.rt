@@ -118,3 +118,76 @@ fn rows_are_told_after_a_refused_growth(rt: HostRuntime) -> Result<(), Fail> {
     assert_eq!(rt; runs.len(), 9);
     Ok(refused?)
 }
+
+/// One row, which comes to owe more than one word has bits for, and a copy of it.
+#[test]
+fn a_long_row_goes_on_after_a_refused_growth(rt: HostRuntime) -> Result<(), Fail> {
+    let mut ledger = Ledger::new(rt.alloc());
+    let mut twin = Ledger::new(rt.alloc());
+    push_again(&rt, &mut ledger, &mut twin)?;
+    for number in 0..70 {
+        gain_again(&rt, &mut ledger, &mut twin, 0, must(number % 5, 10))?;
+    }
+    copy_again(&rt, &mut ledger, &mut twin, 0)
+}
+
+/// A row is pushed behind a long one.
+#[test]
+fn a_row_comes_after_a_long_one_after_a_refused_growth(rt: HostRuntime) -> Result<(), Fail> {
+    let mut ledger = Ledger::new(rt.alloc());
+    let mut twin = Ledger::new(rt.alloc());
+    push_again(&rt, &mut ledger, &mut twin)?;
+    for number in 0..66 {
+        gain_again(&rt, &mut ledger, &mut twin, 0, must(number, 10))?;
+    }
+    push_again(&rt, &mut ledger, &mut twin)
+}
+
+/// What a long row owes is told at a second call where memory was refused.
+#[test]
+fn a_long_row_is_told_after_a_refused_growth(rt: HostRuntime) -> Result<(), Fail> {
+    let mut ledger = Ledger::new(rt.alloc());
+    ledger.push()?;
+    for number in 0..70 {
+        assert!(rt; 0 < ledger.len());
+        ledger.gain(0, must(number, 10))?;
+    }
+    assert!(rt; 0 < ledger.len());
+    let mut numbers = Vec::new(rt.alloc());
+    let told = ledger.names(0, &mut numbers);
+    if told.is_err() {
+        numbers.clear();
+        ledger.names(0, &mut numbers)?;
+    }
+    assert_eq!(rt; numbers.len(), 70);
+    let mut refused = told;
+    let runs = match ledger.runs(rt.alloc(), 0) {
+        Ok(runs) => runs,
+        Err(error) => {
+            refused = Err(error);
+            ledger.runs(rt.alloc(), 0)?
+        }
+    };
+    assert_eq!(rt; runs.len(), 70);
+    Ok(refused?)
+}
+
+/// Little is left of a long row, which stands over a list of entries again where there is memory.
+#[test]
+fn a_long_row_is_tidied_after_a_refused_growth(rt: HostRuntime) -> Result<(), Fail> {
+    let mut ledger = Ledger::new(rt.alloc());
+    let mut twin = Ledger::new(rt.alloc());
+    push_again(&rt, &mut ledger, &mut twin)?;
+    for number in 0..70 {
+        gain_again(&rt, &mut ledger, &mut twin, 0, must(number % 5, 10))?;
+    }
+    for number in 0..60 {
+        assert!(rt; 0 < ledger.len());
+        assert!(rt; 0 < twin.len());
+        assert!(rt; ledger.pay(0, number % 5, 10));
+        assert!(rt; twin.pay(0, number % 5, 10));
+    }
+    ledger.tidy();
+    alike(&rt, &ledger, &twin)?;
+    gain_again(&rt, &mut ledger, &mut twin, 0, must(9, 10))
+}

@@ -6,6 +6,8 @@ mod growths;
 #[cfg(test)]
 mod lists;
 #[cfg(test)]
+mod long;
+#[cfg(test)]
 mod played;
 #[cfg(test)]
 mod rows;

@@ -46,6 +46,18 @@ fn earliest_must(list: &[Debt]) -> Option<u64> {
     least
 }
 
+/// The least and the greatest message.
+fn span(list: &[Debt]) -> Option<(u32, u32)> {
+    let mut ends = None;
+    for debt in list {
+        ends = match ends {
+            None => Some((debt.message, debt.message)),
+            Some((low, high)) => Some((debt.message.min(low), debt.message.max(high))),
+        };
+    }
+    ends
+}
+
 fn can_pay(list: &[Debt], message: u32, moment: u64) -> bool {
     list.iter()
         .any(|debt| debt.message == message && moment <= debt.deadline)
@@ -66,6 +78,8 @@ pub(crate) fn owes(
         ledger.earliest_must(row) == earliest_must(list),
         "{row}: {list:?}"
     );
+    assert!(rt; row < ledger.len());
+    assert!(rt; ledger.span(row) == span(list), "{row}: {list:?}");
     for message in 0..4 {
         assert!(rt; row < ledger.len());
         let can = ledger.can_pay(row, message, 20);

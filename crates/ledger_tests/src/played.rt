@@ -162,3 +162,30 @@ fn rows_owe_what_plain_lists_have(rt: HostRuntime) -> Result<(), Fail> {
     }
     Ok(())
 }
+
+/// So many steps of one row from this number on, which comes to owe much, and is copied now and then.
+fn play_alone(rt: &(impl Abort + AllocGlobal), seed: u64, steps: u64) -> Result<(), Fail> {
+    let mut chance = Chance(seed);
+    let mut ledger = Ledger::new(rt.alloc());
+    let mut list: Vec<Debt> = Vec::new(rt.alloc());
+    ledger.push()?;
+    for _ in 0..steps {
+        step(rt, &mut chance, &mut ledger, &mut list, 0)?;
+        if chance.below(50) == 0 {
+            assert!(rt; 0 < ledger.len());
+            ledger.push_copy(0)?;
+            assert!(rt; 1 < ledger.len());
+            assert!(rt; ledger.same(0, 1));
+            ledger.drop_first(1);
+        }
+    }
+    owes(rt, &mut ledger, 0, &list)
+}
+
+#[test]
+fn a_long_row_owes_what_a_plain_list_has(rt: HostRuntime) -> Result<(), Fail> {
+    for seed in 0..20 {
+        play_alone(&rt, seed, 600)?;
+    }
+    Ok(())
+}

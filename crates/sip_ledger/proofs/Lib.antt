@@ -1,8 +1,11 @@
+pub mod SpanLemmas
+pub mod LongLemmas
+pub mod IndexLemmas
 pub mod BitsLemmas
 pub mod ListedLemmas
 pub mod RowLemmas
 pub mod TableLemmas
-pub mod LedgerLemmas
+pub mod GridLemmas
 pub mod RunLemmas
 pub mod WordsLemmas
 pub mod MemoLemmas

@@ -8,7 +8,7 @@ use borrow.Rule.Slice.PartMut.{put_mid, post_of, same_len_mid}
 use Rattle.sip_ledger.specs.declared.debt.Entry.{Entry}
 use Rattle.sip_ledger.specs.Bits.{has}
 use Rattle.sip_ledger.specs.Rows.{IsRow}
-use Rattle.sip_ledger.specs.Ledgers.{Table, table_of, part, IsLedger}
+use Rattle.sip_ledger.specs.Grids.{Grid, grid_of, part, IsGrid}
 use Rattle.sip_ledger.specs.inner.Tables.{IsInside, IsTableRow, ChangesRow, ChangesTable, IsWidened}
 
 -- a row begins behind those before it
@@ -96,7 +96,7 @@ pub same-row : (width row : ℕ) (words : List ℕ) → ChangesRow width row wor
 same-row width row words = record { long = refl; others = λ k other. refl }
 
 -- a row of a ledger is one of its table
-pub table-row : (t : Table) (row : ℕ) → length t.entries < 2 ^ 63 → IsLedger t → row < t.rows → IsTableRow t.entries t.width row t.owed t.must
+pub table-row : (t : Grid) (row : ℕ) → length t.entries < 2 ^ 63 → IsGrid t → row < t.rows → IsTableRow t.entries t.width row t.owed t.must
 table-row t row small ledger inside = record {
   owed_inside = row-inside t.rows t.width row t.owed ledger.owed_long inside;
   must_inside = row-inside t.rows t.width row t.must ledger.must_long inside;
@@ -106,10 +106,10 @@ table-row t row small ledger inside = record {
 }
 
 -- a table of other words
-abbrev pub with_words : Table → List ℕ → List ℕ → Table
-with_words t owed must = table_of t.entries t.width t.rows owed must
+abbrev pub with_words : Grid → List ℕ → List ℕ → Grid
+with_words t owed must = grid_of t.entries t.width t.rows owed must
 
-pub table-ledger : (t : Table) (row : ℕ) (owed' must' : List ℕ) → IsLedger t → ChangesTable t.entries t.width row t.owed t.must owed' must' → IsLedger (with_words t owed' must')
+pub table-ledger : (t : Grid) (row : ℕ) (owed' must' : List ℕ) → IsGrid t → ChangesTable t.entries t.width row t.owed t.must owed' must' → IsGrid (with_words t owed' must')
 table-ledger t row owed' must' ledger changes = record {
   owed_long = changes.owed_changes.long ∙ ledger.owed_long;
   must_long = changes.must_changes.long ∙ ledger.must_long;

@@ -15,7 +15,7 @@ use Rattle.sip_ledger.specs.declared.debt.Entry.{Entry}
 use Rattle.sip_ledger.specs.Bits.{has, NoneFrom}
 use Rattle.sip_ledger.specs.Debts.{counts_at}
 use Rattle.sip_ledger.specs.Rows.{debts_from}
-use Rattle.sip_ledger.specs.Ledgers.{part}
+use Rattle.sip_ledger.specs.Grids.{part}
 use Rattle.sip_ledger.specs.inner.Memos.{asked_of, IsMask}
 use Rattle.sip_ledger.specs.inner.Places.{AreRising, IsFirst, IsFirstIn, NonePasses}
 use Rattle.sip_ledger.specs.declared.row.Place.{Place}

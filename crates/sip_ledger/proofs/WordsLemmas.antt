@@ -7,7 +7,7 @@ use Rattle.std.proofs.lemmas.List.{append_assoc, length-append, length-drop, len
 use Rattle.std.proofs.lemmas.Slice.{drop-put_mid}
 use borrow.Rule.Slice.PartMut.{put_mid}
 use lib.Seq.{paste}
-use Rattle.sip_ledger.specs.Ledgers.{part}
+use Rattle.sip_ledger.specs.Grids.{part}
 use Rattle.sip_ledger.specs.inner.Tables.{IsNarrowed}
 use Rattle.sip_ledger.proofs.TableLemmas.{row-inside, written, part-of_more, part-of_last, part-take}
 

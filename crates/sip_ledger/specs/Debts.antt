@@ -1,4 +1,4 @@
-use Rattle.std.specs.Prelude.{◌≡◌, ◌==◌, ◌&&◌, ◌||◌, ℕ, Bool, false, Option, List, ◌∷◌, ◌++◌, All, filter, map, min, nat_le}
+use Rattle.std.specs.Prelude.{◌≡◌, ◌≤◌, ◌==◌, ◌&&◌, ◌||◌, IsTrue, ℕ, Bool, false, Option, List, ◌∷◌, ◌++◌, All, filter, map, min, nat_le}
 use Rattle.std.specs.List.{list_any, reduce}
 use Rattle.sip_ledger.specs.declared.debt.Debt.{Debt}
 
@@ -37,3 +37,9 @@ debt_deadlines debts = map (λ debt. debt.deadline) (filter (λ debt. debt.must)
 -- the least of these moments, none if there is none
 abbrev pub earliest : List ℕ → Option ℕ
 earliest moments = reduce min moments
+
+-- the least and the greatest number of a message that is owed
+pub record IsSpan (debts : List Debt) (low high : ℕ) : Type 0 where
+  pub least : IsTrue (list_any (λ debt. debt.message == low) debts)
+  pub greatest : IsTrue (list_any (λ debt. debt.message == high) debts)
+  pub between : All (λ debt. (low ≤ debt.message) × (debt.message ≤ high)) debts

@@ -1,43 +1,26 @@
-use Rattle.std.specs.Prelude.{◌≡◌, ◌<◌, ◌≤◌, ◌+◌, ◌*◌, ℕ, List, [], length, map, take, drop, get_or}
-use Rattle.std.specs.List.{range_with_len}
+use Rattle.std.specs.Prelude.{ℕ, List, [], ◌∷◌, Option, None, Some, get_or}
+use Rattle.std.specs.Map.{values_of}
 use Rattle.sip_ledger.specs.declared.debt.Debt.{Debt}
-use Rattle.sip_ledger.specs.declared.debt.Entry.{Entry}
-use Rattle.sip_ledger.specs.Bits.{has}
-use Rattle.sip_ledger.specs.Rows.{row_debts, IsRow}
+use Rattle.sip_ledger.specs.Grids.{Grid, grid_rows}
 
--- A list of entries with rows over it, whose words stand one row behind another.
+-- What many rows owe.
 
--- the entries, how many words a row has, how many rows there are, and their words
+-- a grid; or, where there is one row alone and it owes many debts, these in their order, each with its number
 pub record Table : Type 0 where
-  pub entries : List Entry
-  pub width : ℕ
-  pub rows : ℕ
-  pub owed : List ℕ
-  pub must : List ℕ
+  pub grid : Grid
+  pub long : Option (List (ℕ × Debt))
 
-abbrev pub table_of : List Entry → ℕ → ℕ → List ℕ → List ℕ → Table
-table_of entries width rows owed must = record { entries = entries; width = width; rows = rows; owed = owed; must = must }
+abbrev pub table_of : Grid → Option (List (ℕ × Debt)) → Table
+table_of grid long = record { grid = grid; long = long }
 
--- the words of row k, where each has so many
-abbrev pub part : ℕ → ℕ → List ℕ → List ℕ
-part width k words = take width (drop (k * width) words)
-
--- what row k owes
-abbrev pub row_at : List Entry → ℕ → List ℕ → List ℕ → ℕ → List Debt
-row_at entries width owed must k = row_debts entries (part width k owed) (part width k must)
+abbrev pub rows_by : Grid → Option (List (ℕ × Debt)) → List (List Debt)
+rows_by grid None = grid_rows grid
+rows_by grid (Some debts) = values_of debts ∷ []
 
 -- what each row owes
 unfoldable pub rows_of : Table → List (List Debt)
-rows_of table = map (row_at table.entries table.width table.owed table.must) (range_with_len 0 table.rows)
+rows_of table = rows_by table.grid table.long
 
 -- what one of the rows owes
 abbrev pub row_of : Table → ℕ → List Debt
 row_of table row = get_or (rows_of table) row []
-
--- each row has words enough for the entries, and hardly more
-pub record IsLedger (table : Table) : Type 0 where
-  pub owed_long : length table.owed ≡ table.rows * table.width
-  pub must_long : length table.must ≡ table.rows * table.width
-  pub wide : length table.entries ≤ 64 * table.width
-  pub narrow : 64 * table.width ≤ length table.entries + 64
-  pub each : (k : ℕ) → k < table.rows → IsRow table.entries (has (part table.width k table.owed)) (has (part table.width k table.must))

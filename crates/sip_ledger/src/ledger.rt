@@ -1,49 +1,42 @@
 //! What many rows owe.
-ghost use Rattle.std.specs.Prelude.{◌≡◌, ◌↔◌, ◌<◌, ◌++◌, ◌∷◌, [], ℕ, List, IsTrue, OnOk, OnErr, IfOk, IfSome, IfNone, is_some, None, Bool, All, true, length, set, map, filter, take, drop};
+#![tactic(auto, unfolding(crate::specs::Ledgers::rows_of))]
+
+ghost use Rattle.std.specs.Prelude.{◌≡◌, ◌↔◌, ◌<◌, ◌++◌, ◌∷◌, [], ℕ, List, IsTrue, OnOk, OnErr, IfOk, IfSome, IfNone, All, length, set, map, filter, take, drop};
 ghost use Rattle.std.specs.Bool.{OnTrue, OnFalse};
 ghost use Rattle.std.specs.List.{list_any};
-ghost use Rattle.sip_ledger.specs.Debts.{IsWithoutFirst, counts_at, softened_debt, is_payable, is_any_payable, debt_deadlines, earliest};
-ghost use Rattle.sip_ledger.specs.declared.debt.Debt.{Debt};
-ghost use Rattle.sip_ledger.specs.Bits.{has};
-ghost use Rattle.sip_ledger.specs.Ledgers.{part, rows_of, row_of};
+ghost use Rattle.sip_ledger.specs.Debts.{IsSpan, IsWithoutFirst, counts_at, softened_debt, is_payable, is_any_payable, debt_deadlines, earliest};
+ghost use Rattle.sip_ledger.specs.Grids.{grid_rows, grid_row};
+ghost use Rattle.sip_ledger.specs.Ledgers.{rows_of, row_of};
+ghost use Rattle.std.specs.Map.{values_of};
 ghost use Rattle.sip_ledger.specs.Prints.{print_of};
 ghost use Rattle.sip_ledger.specs.Runs.{AreRuns};
-ghost use Rattle.sip_ledger.specs.inner.Memos.{asked_of, IsMask};
-ghost use Rattle.sip_ledger.specs.inner.Places.{AreRising, AsksNoMust, IsBit, IsFirst, NonePasses};
-ghost use Rattle.sip_ledger.specs.inner.Tables.{IsGrown, IsPlace};
 
-use crate::debt::{Debt, Entry};
-use crate::memo::{Memo, Question};
-use crate::row::{self, Place};
+use crate::debt::Debt;
+use crate::long_row::LongRow;
+use crate::rows::Rows;
 use crate::run::Run;
-use crate::{table, words};
 use std::alloc::{AllocError, Global};
 use std::marker::Model;
 
-/// What each of many rows owes, oldest first: one list of entries for all, and for each row a bit for each entry that it owes
-/// and one for each that it must send. Rows have their words one behind another; where no row ever owed anything there are none.
-/// What is asked of all rows at one moment is answered for all entries once, while one word has them.
+/// What each of many rows owes, oldest first. Rows stand over one list of entries; but where there is one row alone and it comes
+/// to owe more than a word has bits for, it is a long row.
 #[derive(Debug, Drop)]
 pub struct Ledger {
-    entries: Vec<Entry>,
-    width: usize,
-    rows: usize,
-    owed: Vec<u64>,
-    must: Vec<u64>,
-    rises: bool,
-    payable: Memo,
-    past: Memo,
+    rows: Rows,
+    long: Option<Box<LongRow>>,
 }
 
 impl Model for Ledger {
+    ghost use Rattle.std.specs.Prelude.{◌≡◌, [], ◌∷◌, IfSome};
+    ghost use Rattle.std.specs.Option.{option_map};
+    ghost use Rattle.sip_ledger.specs.Grids.{grid_rows};
     ghost use Rattle.sip_ledger.specs.Ledgers.{Table, table_of};
-    ghost use Rattle.sip_ledger.specs.inner.Memos.{IsKept};
 
     ghost Value = { Table };
 
-    ghost view = { λ l. table_of l.entries.items l.width l.rows l.owed.items l.must.items };
+    ghost view = { λ l. table_of l.rows (option_map (λ boxed. boxed.value) l.long) };
 
-    ghost invariant = { λ l. IsKept (table_of l.entries.items l.width l.rows l.owed.items l.must.items) l.rises l.payable l.past };
+    ghost invariant = { λ l. IfSome l.long (λ _. grid_rows l.rows ≡ [] ∷ []) };
 }
 
 impl Ledger {
@@ -52,14 +45,8 @@ impl Ledger {
         ensures { rows_of result ≡ [] }
     {
         Ledger {
-            entries: Vec::new(alloc),
-            width: 0,
-            rows: 0,
-            owed: Vec::new(alloc),
-            must: Vec::new(alloc),
-            rises: true,
-            payable: Memo::none(),
-            past: Memo::none(),
+            rows: Rows::new(alloc),
+            long: None,
         }
     }
 
@@ -67,14 +54,14 @@ impl Ledger {
     pub fn len(&self) -> usize
         ensures { result ≡ length (rows_of self.now) }
     {
-        self.rows
+        self.rows.len()
     }
 
     /// Whether there are no rows.
     pub fn is_empty(&self) -> bool
         ensures { IsTrue result ↔ (rows_of self.now ≡ []) }
     {
-        self.rows == 0
+        self.rows.is_empty()
     }
 
     /// Puts a row that owes nothing behind the others. On an error all is as before.
@@ -82,11 +69,25 @@ impl Ledger {
         ensures ok { OnOk result (rows_of self.new ≡ rows_of self.old ++ [] ∷ []) }
         ensures err { OnErr result (self.new ≡ self.old) }
     {
-        if self.rows == usize::MAX {
-            return Err(AllocError);
+        if self.long.is_none() {
+            return self.rows.push();
         }
-        words::put_row(&mut self.owed, &mut self.must, self.width)?;
-        self.rows += 1;
+        self.push_behind_long()
+    }
+
+    /// The same where there may be a long row.
+    #[inline(never)]
+    fn push_behind_long(&mut self) -> Result<(), AllocError>
+        ensures ok { OnOk result (rows_of self.new ≡ rows_of self.old ++ [] ∷ []) }
+        ensures err { OnErr result (self.new ≡ self.old) }
+    {
+        let Some(long) = &self.long else {
+            return self.rows.push();
+        };
+        let mut rows = shortened(self.rows.allocator(), long)?;
+        rows.push()?;
+        self.rows = rows;
+        self.long = None;
         Ok(())
     }
 
@@ -96,11 +97,26 @@ impl Ledger {
         ensures ok { OnOk result (rows_of self.new ≡ rows_of self.old ++ row_of self.old row ∷ []) }
         ensures err { OnErr result (self.new ≡ self.old) }
     {
-        if self.rows == usize::MAX {
-            return Err(AllocError);
+        if self.long.is_none() {
+            return self.rows.push_copy(row);
         }
-        words::copy_row(&mut self.owed, &mut self.must, self.width, row)?;
-        self.rows += 1;
+        self.push_copy_of_long(row)
+    }
+
+    /// The same where the row may be a long one.
+    #[inline(never)]
+    fn push_copy_of_long(&mut self, row: usize) -> Result<(), AllocError>
+        requires { row < length (rows_of self.old) }
+        ensures ok { OnOk result (rows_of self.new ≡ rows_of self.old ++ row_of self.old row ∷ []) }
+        ensures err { OnErr result (self.new ≡ self.old) }
+    {
+        let Some(long) = &self.long else {
+            return self.rows.push_copy(row);
+        };
+        let mut rows = shortened(self.rows.allocator(), long)?;
+        rows.push_copy(row)?;
+        self.rows = rows;
+        self.long = None;
         Ok(())
     }
 
@@ -108,23 +124,20 @@ impl Ledger {
     pub fn truncate(&mut self, rows: usize)
         ensures { rows_of self.new ≡ take rows (rows_of self.old) }
     {
-        if rows < self.rows {
-            let kept = rows * self.width;
-            self.owed.truncate(kept);
-            self.must.truncate(kept);
-            self.rows = rows;
+        if rows == 0 {
+            self.long = None;
         }
+        self.rows.truncate(rows);
     }
 
     /// Drops the first rows.
     pub fn drop_first(&mut self, rows: usize)
         ensures { rows_of self.new ≡ drop rows (rows_of self.old) }
     {
-        let dropped = rows.min(self.rows);
-        let first = dropped * self.width;
-        words::drop_first(&mut self.owed, first);
-        words::drop_first(&mut self.must, first);
-        self.rows -= dropped;
+        if rows > 0 {
+            self.long = None;
+        }
+        self.rows.drop_first(rows);
     }
 
     /// Lets the row owe what another one does, and nothing else.
@@ -133,8 +146,9 @@ impl Ledger {
         requires to { to < length (rows_of self.old) }
         ensures { rows_of self.new ≡ set (rows_of self.old) to (row_of self.old from) }
     {
-        table::copy(&mut self.owed, self.width, from, to);
-        table::copy(&mut self.must, self.width, from, to);
+        if self.long.is_none() {
+            self.rows.copy(from, to);
+        }
     }
 
     /// Lets the row owe one more debt, behind its others. On an error all is as before.
@@ -143,56 +157,29 @@ impl Ledger {
         ensures ok { OnOk result (rows_of self.new ≡ set (rows_of self.old) row (row_of self.old row ++ debt ∷ [])) }
         ensures err { OnErr result (self.new ≡ self.old) }
     {
-        let entry = Entry {
-            message: debt.message,
-            deadline: debt.deadline,
-        };
-        let at = self.place(row, entry)?;
-        table::gain(
-            &mut self.owed,
-            &mut self.must,
-            self.width,
-            row,
-            at,
-            debt.must,
-        );
-        Ok(())
+        if self.long.is_none() && !self.rows.is_crowded() {
+            return self.rows.gain(row, debt);
+        }
+        self.gain_much(row, debt)
     }
 
-    /// Where the row gains a debt of this entry: the index of one that is there now. On an error all is as before.
-    fn place(&mut self, row: usize, entry: Entry) -> Result<usize, AllocError>
+    /// The same where the row may be a long one, or become one.
+    #[inline(never)]
+    fn gain_much(&mut self, row: usize, debt: Debt) -> Result<(), AllocError>
         requires { row < length (rows_of self.old) }
-        ensures ok { IfOk result (IsPlace row entry self.old self.new) }
+        ensures ok { OnOk result (rows_of self.new ≡ set (rows_of self.old) row (row_of self.old row ++ debt ∷ [])) }
         ensures err { OnErr result (self.new ≡ self.old) }
     {
-        let at = table::gained_at(&self.entries, &self.owed, self.width, row, entry);
-        if at < self.entries.len() {
-            return Ok(at);
+        if let Some(long) = &mut self.long {
+            return long.gain(debt);
         }
-        self.grow(entry)?;
-        Ok(at)
-    }
-
-    /// Puts an entry behind the others, which no row owes. On an error all is as before.
-    fn grow(&mut self, entry: Entry) -> Result<(), AllocError>
-        ensures ok { OnOk result (IsGrown entry self.old self.new) }
-        ensures err { OnErr result (self.new ≡ self.old) }
-    {
-        let rises = rise(&self.entries, self.rises, entry);
-        if self.entries.len() < 64 * self.width {
-            self.entries.push(entry)?;
-            self.rises = rises;
-            return Ok(());
+        if !self.rows.is_crowded() {
+            return self.rows.gain(row, debt);
         }
-        let alloc = *self.entries.allocator();
-        self.entries.reserve(1)?;
-        let owed = words::widened(alloc, &self.owed, self.width, self.rows)?;
-        let must = words::widened(alloc, &self.must, self.width, self.rows)?;
-        self.entries.push_reserved(entry);
-        self.owed = owed;
-        self.must = must;
-        self.width += 1;
-        self.rises = rises;
+        let long = lengthened(&self.rows, debt)?;
+        self.rows.clear(0);
+        self.rows.tidy();
+        self.long = Some(long);
         Ok(())
     }
 
@@ -203,12 +190,9 @@ impl Ledger {
         ensures unpaid { OnFalse result ((rows_of self.new ≡ rows_of self.old) × All (λ debt. ¬ (IsTrue (is_payable message moment debt))) (row_of self.old row)) }
         ensures others { rows_of self.new ≡ set (rows_of self.old) row (row_of self.new row) }
     {
-        match self.first_payable(row, message, moment) {
-            Some(place) => {
-                self.take_out(row, place);
-                true
-            }
-            None => false,
+        match &mut self.long {
+            Some(long) => long.pay(message, moment),
+            None => self.rows.pay(row, message, moment),
         }
     }
 
@@ -219,12 +203,9 @@ impl Ledger {
         ensures unpaid { OnFalse result ((rows_of self.new ≡ rows_of self.old) × All (λ debt. ¬ (IsTrue (is_any_payable numbers.now moment debt))) (row_of self.old row)) }
         ensures others { rows_of self.new ≡ set (rows_of self.old) row (row_of self.new row) }
     {
-        match self.first_of_any(row, numbers, moment) {
-            Some(place) => {
-                self.take_out(row, place);
-                true
-            }
-            None => false,
+        match &mut self.long {
+            Some(long) => long.pay_any(numbers, moment),
+            None => self.rows.pay_any(row, numbers, moment),
         }
     }
 
@@ -234,7 +215,10 @@ impl Ledger {
         ensures same { self.new ≡ self.old }
         ensures can { result ≡ list_any (is_payable message moment) (row_of self.old row) }
     {
-        self.first_payable(row, message, moment).is_some()
+        match &self.long {
+            Some(long) => long.can_pay(message, moment),
+            None => self.rows.can_pay(row, message, moment),
+        }
     }
 
     /// Whether the row has a debt that a send of one of these messages at the moment pays.
@@ -242,86 +226,10 @@ impl Ledger {
         requires { row < length (rows_of self.now) }
         ensures { result ≡ list_any (is_any_payable numbers.now moment) (row_of self.now row) }
     {
-        self.first_of_any(row, numbers, moment).is_some()
-    }
-
-    /// The first bit of the row whose debt a send of the message at the moment pays.
-    fn first_payable(&mut self, row: usize, message: u32, moment: u64) -> Option<Place>
-        requires { row < length (rows_of self.old) }
-        ensures same { self.new ≡ self.old }
-        ensures found { IfSome result (IsFirst (is_payable message moment) self.old.entries (has (part self.old.width row self.old.owed))) }
-        ensures none { IfNone result (NonePasses (is_payable message moment) self.old.entries (has (part self.old.width row self.old.owed))) }
-        ensures any { is_some result ≡ list_any (is_payable message moment) (row_of self.old row) }
-    {
-        if self.width == 1 {
-            let bits = self.payable_bits(message, moment);
-            row::first_in(self.owed[row], bits)
-        } else {
-            self.first_of_any(row, &[message], moment)
+        match &self.long {
+            Some(long) => long.can_pay_any(numbers, moment),
+            None => self.rows.can_pay_any(row, numbers, moment),
         }
-    }
-
-    /// The same of a send of one of these messages.
-    fn first_of_any(&self, row: usize, numbers: &[u32], moment: u64) -> Option<Place>
-        requires { row < length (rows_of self.now) }
-        ensures found { IfSome result (IsFirst (is_any_payable numbers.now moment) self.now.entries (has (part self.now.width row self.now.owed))) }
-        ensures none { IfNone result (NonePasses (is_any_payable numbers.now moment) self.now.entries (has (part self.now.width row self.now.owed))) }
-        ensures any { is_some result ≡ list_any (is_any_payable numbers.now moment) (row_of self.now row) }
-    {
-        table::first_payable(&self.entries, &self.owed, self.width, row, numbers, moment)
-    }
-
-    /// Takes the debt at the place out of the row.
-    fn take_out(&mut self, row: usize, place: Place)
-        requires row { row < length (rows_of self.old) }
-        requires bit { IsBit (has (part self.old.width row self.old.owed)) place }
-        ensures others { rows_of self.new ≡ set (rows_of self.old) row (row_of self.new row) }
-        ensures taken { (test : Debt → Bool) → AsksNoMust test → IsFirst test self.old.entries (has (part self.old.width row self.old.owed)) place →
-            IsWithoutFirst (λ debt. IsTrue (test debt)) (row_of self.old row) (row_of self.new row) }
-    {
-        table::take_out(
-            &self.entries,
-            self.rises,
-            &mut self.owed,
-            &mut self.must,
-            self.width,
-            row,
-            place,
-        );
-    }
-
-    /// Which entries a send of the message at the moment pays, where one word has all of them.
-    fn payable_bits(&mut self, message: u32, moment: u64) -> u64
-        requires { self.old.width ≡ 1 }
-        ensures same { self.new ≡ self.old }
-        ensures bits { IsMask (is_payable message moment) self.old.entries (length self.old.entries) result }
-    {
-        let question = Question {
-            message: Some(message),
-            moment,
-        };
-        if self.payable.has(question, self.entries.len()) {
-            return self.payable.bits;
-        }
-        self.payable = self.payable.asked(&self.entries, question);
-        self.payable.bits
-    }
-
-    /// Which entries are past at the moment, where one word has all of them.
-    fn past_bits(&mut self, moment: u64) -> u64
-        requires { self.old.width ≡ 1 }
-        ensures same { self.new ≡ self.old }
-        ensures bits { IsMask (asked_of None moment) self.old.entries (length self.old.entries) result }
-    {
-        let question = Question {
-            message: None,
-            moment,
-        };
-        if self.past.has(question, self.entries.len()) {
-            return self.past.bits;
-        }
-        self.past = self.past.asked(&self.entries, question);
-        self.past.bits
     }
 
     /// Drops what the row may send and whose deadline is below the moment.
@@ -329,31 +237,10 @@ impl Ledger {
         requires { row < length (rows_of self.old) }
         ensures { rows_of self.new ≡ set (rows_of self.old) row (filter (counts_at moment) (row_of self.old row)) }
     {
-        if self.is_fresh(row, moment) {
-            return;
+        match &mut self.long {
+            Some(long) => long.expire(moment),
+            None => self.rows.expire(row, moment),
         }
-        table::expire(
-            &self.entries,
-            self.rises,
-            &mut self.owed,
-            &mut self.must,
-            self.width,
-            row,
-            moment,
-        );
-    }
-
-    /// Whether it is plain that nothing of the row expires.
-    fn is_fresh(&mut self, row: usize, moment: u64) -> bool
-        requires { row < length (rows_of self.old) }
-        ensures same { self.new ≡ self.old }
-        ensures fresh { OnTrue result (filter (counts_at moment) (row_of self.old row) ≡ row_of self.old row) }
-    {
-        if self.width == 1 {
-            let bits = self.past_bits(moment);
-            return row::keeps_past(self.owed[row], self.must[row], bits);
-        }
-        self.rises && table::is_fresh(&self.entries, &self.owed, self.width, row, moment)
     }
 
     /// Of what the row owes, nothing has to be sent any more.
@@ -361,7 +248,10 @@ impl Ledger {
         requires { row < length (rows_of self.old) }
         ensures { rows_of self.new ≡ set (rows_of self.old) row (map softened_debt (row_of self.old row)) }
     {
-        table::clear(&mut self.must, self.width, row);
+        match &mut self.long {
+            Some(long) => long.soften(),
+            None => self.rows.soften(row),
+        }
     }
 
     /// The row owes nothing any more.
@@ -369,8 +259,10 @@ impl Ledger {
         requires { row < length (rows_of self.old) }
         ensures { rows_of self.new ≡ set (rows_of self.old) row [] }
     {
-        table::clear(&mut self.owed, self.width, row);
-        table::clear(&mut self.must, self.width, row);
+        match &self.long {
+            Some(_) => self.long = None,
+            None => self.rows.clear(row),
+        }
     }
 
     /// The least deadline of what the row must send.
@@ -378,10 +270,10 @@ impl Ledger {
         requires { row < length (rows_of self.now) }
         ensures { result ≡ earliest (debt_deadlines (row_of self.now row)) }
     {
-        if self.rises {
-            return table::first_must(&self.entries, &self.must, self.width, row);
+        match &self.long {
+            Some(long) => long.earliest_must(),
+            None => self.rows.earliest_must(row),
         }
-        table::earliest_must(&self.entries, &self.must, self.width, row)
     }
 
     /// Whether the row owes nothing.
@@ -389,26 +281,44 @@ impl Ledger {
         requires { row < length (rows_of self.now) }
         ensures { IsTrue result ↔ (row_of self.now row ≡ []) }
     {
-        table::owes_nothing(&self.owed, self.width, row)
+        match &self.long {
+            Some(long) => long.owes_nothing(),
+            None => self.rows.owes_nothing(row),
+        }
     }
+
     /// Whether two rows owe the same.
     pub fn same(&self, row: usize, other: usize) -> bool
         requires row { row < length (rows_of self.now) }
         requires other { other < length (rows_of self.now) }
         ensures { IsTrue result ↔ (row_of self.now row ≡ row_of self.now other) }
     {
-        table::same(&self.owed, self.width, row, other)
-            && table::same(&self.must, self.width, row, other)
+        self.long.is_some() || self.rows.same(row, other)
     }
 
     /// A number for what the row owes: rows that owe the same have the same, and others hardly ever.
+    #[tactic(auto, unfolding(crate::specs::Ledgers::rows_of, crate::specs::Prints::print_of))]
     pub fn print(&self, row: usize) -> u64
         requires { row < length (rows_of self.now) }
         ensures is { result ≡ print_of self.now row }
         ensures same { (other : ℕ) → other < length (rows_of self.now) → row_of self.now other ≡ row_of self.now row → print_of self.now other ≡ result }
     {
-        let owed = table::print(0, &self.owed, self.width, row);
-        table::print(owed, &self.must, self.width, row)
+        match &self.long {
+            Some(_) => 0,
+            None => self.rows.print(row),
+        }
+    }
+
+    /// The least and the greatest number of a message that the row owes.
+    pub fn span(&self, row: usize) -> Option<(u32, u32)>
+        requires { row < length (rows_of self.now) }
+        ensures some { IfSome result (λ span. IsSpan (row_of self.now row) span.0 span.1) }
+        ensures none { IfNone result (row_of self.now row ≡ []) }
+    {
+        match &self.long {
+            Some(long) => long.span(),
+            None => self.rows.span(row),
+        }
     }
 
     /// Puts the number of each message that the row owes behind the others, once for each debt.
@@ -416,7 +326,10 @@ impl Ledger {
         requires { row < length (rows_of self.now) }
         ensures { OnOk result (numbers.new.items ≡ numbers.old.items ++ map (λ debt. debt.message) (row_of self.now row)) }
     {
-        table::names(&self.entries, &self.owed, self.width, row, numbers)
+        match &self.long {
+            Some(long) => long.names(numbers),
+            None => self.rows.names(row, numbers),
+        }
     }
 
     /// What the row owes, with equal neighbours in one.
@@ -424,39 +337,56 @@ impl Ledger {
         requires { row < length (rows_of self.now) }
         ensures { IfOk result (λ runs. AreRuns (row_of self.now row) runs.items) }
     {
-        table::runs(
-            alloc,
-            &self.entries,
-            &self.owed,
-            &self.must,
-            self.width,
-            row,
-        )
+        match &self.long {
+            Some(long) => long.runs(alloc),
+            None => self.rows.runs(alloc, row),
+        }
     }
 
-    /// Lets entries that no row owes go, where they fill half of the words or more, from the first one on.
+    /// Lets entries that no row owes go, where they fill half of the words or more, from the first one on. A long row that owes
+    /// little any more stands over a list of entries again, if there is memory.
     pub fn tidy(&mut self)
         ensures { rows_of self.new ≡ rows_of self.old }
     {
-        let dropped = words::empty_front(&self.owed, self.width, self.rows);
-        if dropped == 0 || dropped < self.width / 2 {
+        let Some(long) = &self.long else {
+            self.rows.tidy();
+            return;
+        };
+        if long.len() > LITTLE {
             return;
         }
-        words::narrow(&mut self.owed, self.width, self.rows, dropped);
-        words::narrow(&mut self.must, self.width, self.rows, dropped);
-        let past = self.entries.len().min(64 * dropped);
-        words::drop_first(&mut self.entries, past);
-        self.width -= dropped;
-        self.payable = Memo::none();
-        self.past = Memo::none();
+        if let Ok(short) = shortened(self.rows.allocator(), long) {
+            self.rows = short;
+            self.long = None;
+        }
     }
 }
 
-/// Whether deadlines never fall, with one entry more.
-fn rise(entries: &[Entry], rises: bool, entry: Entry) -> bool
-    requires { rises ≡ true → AreRising entries.now }
-    ensures { result ≡ true → AreRising (entries.now ++ entry ∷ []) }
+/// A row that owes no more than so many debts is not long.
+const LITTLE: usize = 16;
+
+/// What the only row owes, and one debt more, as a long row.
+#[inline(never)]
+fn lengthened(rows: &Rows, debt: Debt) -> Result<Box<LongRow>, AllocError>
+    requires { length (grid_rows rows.now) ≡ 1 }
+    ensures { IfOk result (λ long. values_of long.value ≡ grid_row rows.now 0 ++ debt ∷ []) }
 {
-    let count = entries.len();
-    count == 0 || (rises && entries[count - 1].deadline <= entry.deadline)
+    let debts = rows.debts(0)?;
+    let mut long = LongRow::of(rows.allocator(), &debts)?;
+    long.gain(debt)?;
+    Ok(Box::new(rows.allocator(), long)?)
+}
+
+/// One row that owes what the long row does.
+#[inline(never)]
+fn shortened(alloc: Global, long: &LongRow) -> Result<Rows, AllocError>
+    ensures { IfOk result (λ rows. grid_rows rows ≡ values_of long.now ∷ []) }
+{
+    let debts = long.debts(alloc)?;
+    let mut rows = Rows::new(alloc);
+    rows.push()?;
+    for debt in &debts {
+        rows.gain(0, *debt)?;
+    }
+    Ok(rows)
 }

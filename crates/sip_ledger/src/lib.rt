@@ -3,9 +3,13 @@
 
 mod bits;
 mod debt;
+mod index;
+mod indexes;
 mod ledger;
+mod long_row;
 mod memo;
 mod row;
+mod rows;
 mod run;
 mod table;
 mod words;

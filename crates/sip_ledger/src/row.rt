@@ -3,7 +3,7 @@ ghost use Rattle.std.specs.Prelude.{◌≡◌, ◌≢◌, ◌↔◌, ℕ, ◌+�
 ghost use Rattle.std.specs.Bool.{OnTrue};
 ghost use Rattle.sip_masks.specs.Bits.{test};
 ghost use Rattle.sip_ledger.specs.Bits.{has};
-ghost use Rattle.sip_ledger.specs.Debts.{IsWithoutFirst, counts_at, is_any_payable, debt_deadlines, earliest};
+ghost use Rattle.sip_ledger.specs.Debts.{IsSpan, IsWithoutFirst, counts_at, is_any_payable, debt_deadlines, earliest};
 ghost use Rattle.sip_ledger.specs.Rows.{debt_of, row_debts, IsRow, IsGap};
 ghost use Rattle.sip_ledger.specs.inner.Places.{AreRising, IsBit, IsFirst, IsFirstIn, NonePasses, AsksNoMust, IsOpenRow, IsMoved, IsGainedAt, IsExpired};
 ghost use Rattle.sip_ledger.specs.Runs.{AreRuns};
@@ -13,7 +13,7 @@ ghost use Rattle.sip_ledger.specs.declared.debt.Entry.{Entry};
 
 use crate::bits::{clear, end, has, next, set};
 use crate::debt::{Debt, Entry};
-use crate::run::{Run, append};
+use crate::run::{Run, runs_of};
 use std::alloc::{AllocError, Global};
 
 /// A bit, and where the gap before it begins.
@@ -365,17 +365,51 @@ pub(crate) fn runs(
     requires fits { 64 * length owed.now < 2 ^ 64 }
     ensures { IfOk result (λ runs. AreRuns (row_debts entries.now owed.now must.now) runs.items) }
 {
-    let mut runs = Vec::new(alloc);
+    let owed = debts(alloc, entries, owed, must)?;
+    runs_of(alloc, &owed)
+}
+
+/// What is owed.
+pub(crate) fn debts(
+    alloc: Global,
+    entries: &[Entry],
+    owed: &[u64],
+    must: &[u64],
+) -> Result<Vec<Debt>, AllocError>
+    requires within { (k : ℕ) → has owed.now k ≡ true → k < length entries.now }
+    requires fits { 64 * length owed.now < 2 ^ 64 }
+    ensures { IfOk result (λ debts. debts.items ≡ row_debts entries.now owed.now must.now) }
+{
+    let mut debts = Vec::new(alloc);
     let mut from = 0;
     while let Some(at) = next(owed, from) {
         let entry = entries[at];
-        let debt = Debt {
+        debts.push(Debt {
             message: entry.message,
             deadline: entry.deadline,
             must: has(must, at),
-        };
-        append(&mut runs, debt)?;
+        })?;
         from = at + 1;
     }
-    Ok(runs)
+    Ok(debts)
+}
+
+/// The least and the greatest number of a message that is owed.
+pub(crate) fn span(entries: &[Entry], owed: &[u64]) -> Option<(u32, u32)>
+    requires within { (k : ℕ) → has owed.now k ≡ true → k < length entries.now }
+    requires fits { 64 * length owed.now < 2 ^ 64 }
+    ensures some { IfSome result (λ span. (must : List ℕ) → IsSpan (row_debts entries.now owed.now must) span.0 span.1) }
+    ensures none { IfNone result ((must : List ℕ) → row_debts entries.now owed.now must ≡ []) }
+{
+    let first = next(owed, 0)?;
+    let mut low = entries[first].message;
+    let mut high = low;
+    let mut from = first + 1;
+    while let Some(at) = next(owed, from) {
+        let message = entries[at].message;
+        low = low.min(message);
+        high = high.max(message);
+        from = at + 1;
+    }
+    Some((low, high))
 }

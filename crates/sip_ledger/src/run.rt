@@ -1,11 +1,11 @@
 //! Debts in runs of equal ones.
-ghost use Rattle.std.specs.Prelude.{◌≡◌, ◌↔◌, ◌++◌, ◌∷◌, [], ◌<◌, ◌-◌, ◌^◌, List, IsTrue, OnOk, length};
+ghost use Rattle.std.specs.Prelude.{◌≡◌, ◌↔◌, ◌++◌, ◌∷◌, [], ◌<◌, ◌-◌, ◌^◌, List, IsTrue, IfOk, OnOk, length};
 ghost use Rattle.sip_ledger.specs.Runs.{debts_in, AreRuns};
 ghost use Rattle.sip_ledger.specs.declared.debt.Debt.{Debt};
 ghost use Rattle.sip_ledger.specs.inner.Ends.{EndsWith};
 
 use crate::debt::Debt;
-use std::alloc::AllocError;
+use std::alloc::{AllocError, Global};
 
 /// Equal debts, one behind another.
 #[derive(Clone, Copy, Debug, PartialEq, Eq)]
@@ -17,7 +17,7 @@ pub struct Run {
 }
 
 /// Puts a debt behind the others, into the last run if that is of its equals.
-pub(crate) fn append(runs: &mut Vec<Run>, debt: Debt) -> Result<(), AllocError>
+fn append(runs: &mut Vec<Run>, debt: Debt) -> Result<(), AllocError>
     requires { length (debts_in runs.old.items) < 2 ^ 64 - 1 }
     ensures { (debts : List Debt) → AreRuns debts runs.old.items → OnOk result (AreRuns (debts ++ debt ∷ []) runs.new.items) }
 {
@@ -28,6 +28,18 @@ pub(crate) fn append(runs: &mut Vec<Run>, debt: Debt) -> Result<(), AllocError>
     }
     runs.push(Run { debt, count: 1 })?;
     Ok(())
+}
+
+/// These debts, with equal neighbours in one.
+pub(crate) fn runs_of(alloc: Global, debts: &[Debt]) -> Result<Vec<Run>, AllocError>
+    requires { length debts.now < 2 ^ 64 - 1 }
+    ensures { IfOk result (λ runs. AreRuns debts.now runs.items) }
+{
+    let mut runs = Vec::new(alloc);
+    for debt in debts {
+        append(&mut runs, *debt)?;
+    }
+    Ok(runs)
 }
 
 /// Whether the last run is of this debt.

@@ -2,17 +2,17 @@
 ghost use Rattle.std.specs.Prelude.{◌≡◌, ◌↔◌, ◌<◌, ◌≤◌, ◌+◌, ◌*◌, ◌^◌, ◌++◌, ◌∷◌, [], ℕ, Bool, List, IsTrue, IfSome, IfNone, IfOk, OnOk, true, false, length, filter, fold, map};
 ghost use Rattle.std.specs.Bool.{OnTrue};
 ghost use Rattle.sip_ledger.specs.Bits.{has};
-ghost use Rattle.sip_ledger.specs.Debts.{IsWithoutFirst, counts_at, is_any_payable, debt_deadlines, earliest};
+ghost use Rattle.sip_ledger.specs.Debts.{IsSpan, IsWithoutFirst, counts_at, is_any_payable, debt_deadlines, earliest};
 ghost use Rattle.sip_ledger.specs.declared.debt.Debt.{Debt};
 ghost use Rattle.sip_ledger.specs.declared.debt.Entry.{Entry};
 ghost use Rattle.sip_ledger.specs.Rows.{debt_of};
-ghost use Rattle.sip_ledger.specs.Ledgers.{part, row_at};
+ghost use Rattle.sip_ledger.specs.Grids.{part, row_at};
 ghost use Rattle.sip_ledger.specs.Prints.{mixed};
 ghost use Rattle.sip_ledger.specs.Runs.{AreRuns};
 ghost use Rattle.sip_ledger.specs.inner.Places.{AreRising, IsBit, IsFirst, NonePasses, AsksNoMust, IsGainedAt};
 ghost use Rattle.sip_ledger.specs.inner.Tables.{AreWords, IsInside, IsTableRow, ChangesRow, ChangesTable};
 
-use crate::debt::Entry;
+use crate::debt::{Debt, Entry};
 use crate::row::{self, Place};
 use crate::run::Run;
 use crate::{bits, words};
@@ -274,4 +274,34 @@ pub(crate) fn runs(
     let start = row * width;
     let end = start + width;
     row::runs(alloc, entries, &owed[start..end], &must[start..end])
+}
+
+/// What the row owes.
+pub(crate) fn debts(
+    alloc: Global,
+    entries: &[Entry],
+    owed: &[u64],
+    must: &[u64],
+    width: usize,
+    row: usize,
+) -> Result<Vec<Debt>, AllocError>
+    requires { IsTableRow entries.now width row owed.now must.now }
+    ensures { IfOk result (λ debts. debts.items ≡ row_at entries.now width owed.now must.now row) }
+{
+    let start = row * width;
+    let end = start + width;
+    row::debts(alloc, entries, &owed[start..end], &must[start..end])
+}
+
+/// The least and the greatest number of a message that the row owes.
+pub(crate) fn span(entries: &[Entry], owed: &[u64], width: usize, row: usize) -> Option<(u32, u32)>
+    requires inside { IsInside width row owed.now }
+    requires within { (k : ℕ) → has (part width row owed.now) k ≡ true → k < length entries.now }
+    requires fits { 64 * width < 2 ^ 64 }
+    ensures some { IfSome result (λ span. (must : List ℕ) → IsSpan (row_at entries.now width owed.now must row) span.0 span.1) }
+    ensures none { IfNone result ((must : List ℕ) → row_at entries.now width owed.now must row ≡ []) }
+{
+    let start = row * width;
+    let end = start + width;
+    row::span(entries, &owed[start..end])
 }

@@ -1,6 +1,6 @@
 //! The words of all rows, one row behind another.
 ghost use Rattle.std.specs.Prelude.{◌≡◌, ◌<◌, ◌≤◌, ◌*◌, ◌++◌, ℕ, OnOk, OnErr, IfOk, length, drop, fold, get_or, replicate};
-ghost use Rattle.sip_ledger.specs.Ledgers.{part};
+ghost use Rattle.sip_ledger.specs.Grids.{part};
 ghost use Rattle.sip_ledger.specs.Prints.{mixed};
 ghost use Rattle.sip_ledger.specs.inner.Tables.{IsInside, IsWidened, IsNarrowed, IsEmptyFront};
 

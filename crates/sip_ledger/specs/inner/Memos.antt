@@ -6,7 +6,7 @@ use Rattle.sip_ledger.specs.declared.memo.Question.{Question}
 use Rattle.sip_ledger.specs.declared.memo.Memo.{Memo}
 use Rattle.sip_ledger.specs.Debts.{is_payable}
 use Rattle.sip_ledger.specs.Rows.{debt_of}
-use Rattle.sip_ledger.specs.Ledgers.{Table, IsLedger}
+use Rattle.sip_ledger.specs.Grids.{Grid, IsGrid}
 use Rattle.sip_ledger.specs.inner.Places.{AreRising}
 
 -- What is kept of entries from row to row.
@@ -30,8 +30,8 @@ abbrev pub IsMemo : List Entry → Memo → Type 0
 IsMemo entries memo = IsMask (asked memo.question) entries memo.looked memo.bits
 
 -- a ledger, and what is kept beside it: whether its deadlines never fall, and two memos
-pub record IsKept (table : Table) (rising : Bool) (paid over : Memo) : Type 0 where
-  pub ledger : IsLedger table
+pub record IsKept (table : Grid) (rising : Bool) (paid over : Memo) : Type 0 where
+  pub ledger : IsGrid table
   pub rises : rising ≡ true → AreRising table.entries
   pub payable : IsMemo table.entries paid
   pub past : IsMemo table.entries over

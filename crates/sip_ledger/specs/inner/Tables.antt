@@ -2,7 +2,7 @@ use Rattle.std.specs.Prelude.{◌≡◌, ◌≢◌, ◌<◌, ◌≤◌, ◌+◌,
 use Rattle.sip_ledger.specs.declared.debt.Entry.{Entry}
 use Rattle.sip_ledger.specs.Bits.{has}
 use Rattle.sip_ledger.specs.Rows.{IsRow}
-use Rattle.sip_ledger.specs.Ledgers.{Table, part, rows_of}
+use Rattle.sip_ledger.specs.Grids.{Grid, part, grid_rows}
 use Rattle.sip_ledger.specs.inner.Places.{IsGainedAt}
 
 -- Rows of words, one behind another.
@@ -49,14 +49,14 @@ abbrev pub IsEmptyFront : ℕ → ℕ → ℕ → List ℕ → Type 0
 IsEmptyFront width rows front words = (row n : ℕ) → row < rows → n < front → get_or (part width row words) n 0 ≡ 0
 
 -- an entry more behind the others, over which the rows have the bits that they had
-pub record IsGrown (entry : Entry) (old new : Table) : Type 0 where
+pub record IsGrown (entry : Entry) (old new : Grid) : Type 0 where
   pub entries : new.entries ≡ old.entries ++ entry ∷ []
   pub rows : new.rows ≡ old.rows
   pub owed : (row : ℕ) → row < old.rows → (k : ℕ) → has (part new.width row new.owed) k ≡ has (part old.width row old.owed) k
   pub must : (row : ℕ) → row < old.rows → (k : ℕ) → has (part new.width row new.must) k ≡ has (part old.width row old.must) k
 
 -- where the row gains a debt of the entry, at an entry that is there, while the rows owe what they did
-pub record IsPlace (row : ℕ) (entry : Entry) (old new : Table) (at : ℕ) : Type 0 where
+pub record IsPlace (row : ℕ) (entry : Entry) (old new : Grid) (at : ℕ) : Type 0 where
   pub inside : at < length new.entries
   pub is : IsGainedAt new.entries (has (part new.width row new.owed)) entry at
-  pub debts : rows_of new ≡ rows_of old
+  pub debts : grid_rows new ≡ grid_rows old

@@ -2,7 +2,7 @@ use Rattle.std.proofs.Common.{◌≡◌, ℕ, ◌<◌, true, length, subst, sym}
 use Rattle.sip_ledger.specs.Bits.{has}
 use Rattle.sip_ledger.specs.Debts.{debt_deadlines, earliest}
 use Rattle.sip_ledger.specs.Rows.{IsRow, row_debts}
-use Rattle.sip_ledger.specs.Ledgers.{part}
+use Rattle.sip_ledger.specs.Grids.{part}
 use Rattle.sip_ledger.proofs.TableLemmas.{span-is}
 use Rattle.sip_ledger.proofs.table.first_must.Goals as goal
 

@@ -1,7 +1,7 @@
 use Rattle.std.proofs.Common.{◌≡◌, ◌∷◌, [], ◌++◌, false, subst, sym, ◌∙◌}
 use Rattle.sip_ledger.specs.Bits.{has}
 use Rattle.sip_ledger.specs.Rows.{debt_of, row_debts, IsRow}
-use Rattle.sip_ledger.specs.Ledgers.{part}
+use Rattle.sip_ledger.specs.Grids.{part}
 use Rattle.sip_ledger.specs.inner.Places.{IsGainedAt}
 use Rattle.sip_ledger.proofs.RowLemmas.{gains}
 use Rattle.sip_ledger.proofs.TableLemmas.{span, span-is, length-span, in-place, table-changes}

@@ -3,7 +3,7 @@ use Rattle.std.specs.Prelude.{OnOk}
 use Rattle.sip_ledger.specs.declared.debt.Debt.{Debt}
 use Rattle.sip_ledger.specs.Bits.{has}
 use Rattle.sip_ledger.specs.Rows.{row_debts}
-use Rattle.sip_ledger.specs.Ledgers.{part}
+use Rattle.sip_ledger.specs.Grids.{part}
 use Rattle.sip_ledger.proofs.TableLemmas.{span-is}
 use Rattle.sip_ledger.proofs.table.names.Goals as goal
 

@@ -2,7 +2,7 @@ use Rattle.std.proofs.Common.{◌≡◌, subst}
 use Rattle.std.specs.Prelude.{IsTrue, ◌↔◌}
 use Rattle.std.proofs.lemmas.Bool.Decides.{Decides-eqb}
 use Rattle.std.proofs.lemmas.Slice.Eq.{slice_eq-Decides}
-use Rattle.sip_ledger.specs.Ledgers.{part}
+use Rattle.sip_ledger.specs.Grids.{part}
 use Rattle.sip_ledger.proofs.TableLemmas.{span, span-is}
 use Rattle.sip_ledger.proofs.table.same.Goals as goal
 

@@ -1,5 +1,5 @@
 use Prim.Native.Nat.{suc, zero}
-use Rattle.std.specs.Prelude.{◌≡◌, ◌≢◌, ◌<◌, ◌≤◌, ◌+◌, ℕ, IsTrue, Bool, true, false, List, [], ◌∷◌, ◌++◌, All, AllPairs, bit_xor, get_or, length, map, set, take}
+use Rattle.std.specs.Prelude.{◌≡◌, ◌≢◌, ◌<◌, ◌≤◌, ◌+◌, ◌-◌, ℕ, IsTrue, Bool, true, false, List, [], ◌∷◌, ◌++◌, All, AllPairs, bit_xor, get_or, length, map, set, take}
 use Rattle.std.specs.List.{Any}
 use Rattle.std.proofs.Common.{inl, inr, refl, sym, ◌∙◌, ap, ap₂, subst, arith, length-set, true≢false}
 use Rattle.std.proofs.lemmas.Bool.{cases_lt}
@@ -122,17 +122,17 @@ module _ {X : Type 0} (xs : List X) (rows : List ℕ) where
 -- Of prints.
 
 -- each print so far is mixed with the hash of its phase
-pub record AreMixed {S : Type 0} (input : S → List (List ℕ)) (phases : List S) (old new : List ℕ) (at : ℕ) : Type 0 where
+pub record AreMixed {S : Type 0} (input : S → List (List ℕ)) (phases : List S) (from : ℕ) (old new : List ℕ) (at : ℕ) : Type 0 where
   pub long : length new ≡ length old
-  pub mixed : (k : ℕ) (p : S) → k < at → k < length phases → get_or new k 0 ≡ bit_xor (get_or old k 0) (hash_by (input (get_or phases k p)))
+  pub mixed : (k : ℕ) (p : S) → k < at → from + k < length phases → get_or new k 0 ≡ bit_xor (get_or old k 0) (hash_by (input (get_or phases (from + k) p)))
   pub rest : (k : ℕ) → at ≤ k → get_or new k 0 ≡ get_or old k 0
 
-module _ {S : Type 0} (input : S → List (List ℕ)) (phases : List S) (old : List ℕ) where
-  pub mixed-start : AreMixed input phases old old 0
+module _ {S : Type 0} (input : S → List (List ℕ)) (phases : List S) (from : ℕ) (old : List ℕ) where
+  pub mixed-start : AreMixed input phases from old old 0
   mixed-start = record { long = refl; mixed = λ k p low within. absurd (omega (arith, low)); rest = λ k low. refl }
 
-  pub mixed-more : (new : List ℕ) (at print : ℕ) (p : S) → at < length old → AreMixed input phases old new at → p ≡ get_or phases at p → print ≡ bit_xor (get_or new at 0) (hash_by (input p)) →
-      AreMixed input phases old (set new at print) (at + 1)
+  pub mixed-more : (new : List ℕ) (at print : ℕ) (p : S) → at < length old → AreMixed input phases from old new at → p ≡ get_or phases (from + at) p → print ≡ bit_xor (get_or new at 0) (hash_by (input p)) →
+      AreMixed input phases from old (set new at print) (at + 1)
   mixed-more new at print p low mixing is_p is = record {
     long = length-set new at print ∙ mixing.long;
     mixed = λ k q high within. elim (cases_lt k at) [
@@ -140,7 +140,7 @@ module _ {S : Type 0} (input : S → List (List ℕ)) (phases : List S) (old : L
       | inr behind ↦
           let here : at ≡ k = omega (arith, behind, high) in
           let room : at < length new = omega (arith, low, mixing) in
-          let phase : p ≡ get_or phases k q = is_p ∙ ap (λ n. get_or phases n p) here ∙ get_or_default phases k p q within in
+          let phase : p ≡ get_or phases (from + k) q = is_p ∙ ap (λ n. get_or phases (from + n) p) here ∙ get_or_default phases (from + k) p q within in
           ap (λ n. get_or (set new at print) n 0) (sym here) ∙ get_or-set_same new at print 0 room ∙ is
           ∙ ap₂ (λ n h. bit_xor n (hash_by (input h))) (mixing.rest at (omega arith) ∙ ap (λ n. get_or old n 0) here) phase
     ];
@@ -148,20 +148,25 @@ module _ {S : Type 0} (input : S → List (List ℕ)) (phases : List S) (old : L
   }
 
   -- all of them
-  pub mixed-all : (rows : List (List Debt)) (xs : List (CodeOwing S)) (new : List ℕ) (at : ℕ) → beside phases rows ≡ xs → length rows ≡ length phases → ArePrints rows old →
-      AreMixed input phases old new at → length phases ≤ at → ArePrints xs new
+  pub mixed-all : (rows : List (List Debt)) (xs : List (CodeOwing S)) (new : List ℕ) (at : ℕ) → beside phases rows ≡ xs → length rows ≡ length phases → ArePrints rows from old →
+      AreMixed input phases from old new at → length phases ≤ from + at → ArePrints xs from new
   mixed-all rows xs new at is long prints mixing all =
       let size : length xs ≡ length phases = ap length (sym is) ∙ beside-length phases rows in
+      let count = prints.long in
+      let even = mixing.long in
       record {
-        long = mixing.long ∙ prints.long ∙ long ∙ sym size;
-        same = λ i k x low_i low_k e.
+        long = omega (arith, size, long, count, even);
+        same = λ i k x above_i low_i above_k low_k e.
             let p = x.phase in
             let alike = sym (state-at phases rows xs i p x is low_i) ∙ e ∙ state-at phases rows xs k p x is low_k in
             let phase : get_or phases i p ≡ get_or phases k p = ap (λ y. y.phase) alike in
             let owes : owed_in rows i ≡ owed_in rows k = ap (λ y. y.owes) alike in
             let in_i : i < length rows = omega (arith, low_i, size, long) in
             let in_k : k < length rows = omega (arith, low_k, size, long) in
-            mixing.mixed i p (omega (arith, low_i, size, all)) (omega (arith, low_i, size))
-            ∙ ap₂ (λ n q. bit_xor n (hash_by (input q))) (prints.same i k [] in_i in_k owes) phase
-            ∙ sym (mixing.mixed k p (omega (arith, low_k, size, all)) (omega (arith, low_k, size)));
+            let there_i : from + (i - from) ≡ i = omega (arith, above_i) in
+            let there_k : from + (k - from) ≡ k = omega (arith, above_k) in
+            mixing.mixed (i - from) p (omega (arith, above_i, low_i, size, all)) (omega (arith, above_i, low_i, size))
+            ∙ ap₂ (λ n q. bit_xor n (hash_by (input q))) (prints.same i k [] above_i in_i above_k in_k owes)
+                (ap (λ n. get_or phases n p) there_i ∙ phase ∙ ap (λ n. get_or phases n p) (sym there_k))
+            ∙ sym (mixing.mixed (k - from) p (omega (arith, above_k, low_k, size, all)) (omega (arith, above_k, low_k, size)));
       }

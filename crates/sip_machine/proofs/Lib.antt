@@ -18,3 +18,4 @@ pub mod DueLemmas
 pub mod RunsLemmas
 pub mod PoolLemmas
 pub mod FirstLemmas
+pub mod SlotsLemmas

@@ -1,5 +1,5 @@
 //! What each of many states owes: a ledger, where any of them owes something.
-ghost use Rattle.std.specs.Prelude.{◌≡◌, ◌↔◌, ◌<◌, ◌++◌, ◌∷◌, [], List, IsTrue, IfOk, OnOk, OnErr, None, All, length, set, map, filter, take};
+ghost use Rattle.std.specs.Prelude.{◌≡◌, ◌↔◌, ◌<◌, ◌≤◌, ◌++◌, ◌∷◌, [], List, IsTrue, IfOk, OnOk, OnErr, None, All, length, set, map, filter, take};
 ghost use Rattle.std.specs.List.{list_any};
 ghost use Rattle.sip_ledger.specs.Debts.{counts_at, softened_debt, is_payable, debt_deadlines};
 ghost use Rattle.sip_ledger.specs.Ledgers.{rows_of};
@@ -199,13 +199,14 @@ impl Dues {
         }
     }
 
-    /// A number for what each row owes: rows that owe the same have the same, and others hardly ever.
-    pub(crate) fn prints(&self, alloc: Global) -> Result<Vec<u64>, AllocError>
-        ensures { IfOk result (λ prints. ArePrints self.now prints.items) }
+    /// A number for what each row from one on owes: rows that owe the same have the same, and others hardly ever.
+    pub(crate) fn prints(&self, alloc: Global, from: usize) -> Result<Vec<u64>, AllocError>
+        requires { from ≤ length self.now }
+        ensures { IfOk result (λ prints. ArePrints self.now from prints.items) }
     {
         match &self.ledger {
-            Some(ledger) => prints_of(alloc, ledger),
-            None => zeros(alloc, self.rows),
+            Some(ledger) => prints_of(alloc, ledger, from),
+            None => zeros(alloc, self.rows, from),
         }
     }
 
@@ -301,22 +302,24 @@ fn is_blank(ledger: &Ledger) -> bool
     true
 }
 
-/// The print of each row.
-fn prints_of(alloc: Global, ledger: &Ledger) -> Result<Vec<u64>, AllocError>
-    ensures { IfOk result (λ prints. ArePrints (rows_of ledger.now) prints.items) }
+/// The print of each row from one on.
+fn prints_of(alloc: Global, ledger: &Ledger, from: usize) -> Result<Vec<u64>, AllocError>
+    requires { from ≤ length (rows_of ledger.now) }
+    ensures { IfOk result (λ prints. ArePrints (rows_of ledger.now) from prints.items) }
 {
-    let mut prints = Vec::with_capacity(alloc, ledger.len())?;
-    for row in 0..ledger.len() {
+    let mut prints = Vec::with_capacity(alloc, ledger.len() - from)?;
+    for row in from..ledger.len() {
         prints.push(ledger.print(row))?;
     }
     Ok(prints)
 }
 
-/// The same print for each of so many rows that owe nothing.
-fn zeros(alloc: Global, rows: usize) -> Result<Vec<u64>, AllocError>
-    ensures { IfOk result (λ prints. ArePrints (rows_in rows None) prints.items) }
+/// The same print for each of so many rows from one on that owe nothing.
+fn zeros(alloc: Global, rows: usize, from: usize) -> Result<Vec<u64>, AllocError>
+    requires { from ≤ rows }
+    ensures { IfOk result (λ prints. ArePrints (rows_in rows None) from prints.items) }
 {
-    let mut prints = Vec::with_capacity(alloc, rows)?;
-    prints.resize(rows, 0)?;
+    let mut prints = Vec::with_capacity(alloc, rows - from)?;
+    prints.resize(rows - from, 0)?;
     Ok(prints)
 }

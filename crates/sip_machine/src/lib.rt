@@ -21,6 +21,7 @@ mod plain_server;
 mod pool;
 mod provisional;
 mod retransmits;
+mod slots;
 mod timers;
 mod told;
 mod tos;

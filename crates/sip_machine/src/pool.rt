@@ -8,15 +8,15 @@ ghost use Rattle.sip_machine.specs.Owing.{CodeOwing, at_rest};
 ghost use Rattle.sip_machine.specs.Pools.{AreFirstOnes, picked};
 ghost use Rattle.sip_machine.specs.Prints.{ArePrints};
 ghost use Rattle.sip_machine.specs.inner.Effects.{led_by, rests_at, given_by};
-ghost use Rattle.sip_machine.specs.inner.Pools.{IsMarked, hash_by};
+ghost use Rattle.sip_machine.specs.inner.Pools.{hash_by};
 
 use crate::dues::Dues;
 use crate::effects::{Effect, Rest, come_to_rest, lead};
 use crate::phases::{Phase, Turn};
+use crate::slots::Slots;
 use sip_ledger::Run;
 use sip_times::Params;
 use std::alloc::{AllocError, Global};
-use std::collections::HashMap;
 use std::hash::{FoldHasher, Hasher};
 use std::marker::Model;
 
@@ -187,32 +187,36 @@ impl<P: Phase> Pool<P> {
         ensures { IfOk result (λ rows. AreFirstOnes self.now from (length self.now) rows.items) }
     {
         let alloc = *self.phases.allocator();
-        let prints = self.prints()?;
-        let mut printed = HashMap::new(alloc);
-        let mut rows = Vec::new(alloc);
+        let prints = self.prints(from)?;
+        let mut slots = Slots::with_room(alloc, prints.len())?;
+        let mut rows = Vec::with_capacity(alloc, prints.len())?;
         for at in from..self.len() {
-            let print = prints[at];
-            if !self.is_repeat(guess_of(&printed, print), &rows, at) {
-                mark(&mut printed, print, rows.len())?;
+            let print = prints[at - from];
+            if !self.is_repeat(&slots, print, &rows, at) {
+                slots.push(print)?;
                 rows.push(at)?;
             }
         }
         Ok(rows)
     }
 
-    /// Whether a state at one of the indices is the same as this one, where there is a guess which of them it is if there is one.
-    fn is_repeat(&self, guess: Option<usize>, rows: &[usize], at: usize) -> bool
+    /// Whether a state at one of the indices, whose prints these are, is the same as this one, which has this print.
+    fn is_repeat(&self, slots: &Slots, print: u64, rows: &[usize], at: usize) -> bool
         requires at { at < length self.now }
         requires within { All (λ row. row < length self.now) rows.now }
-        requires guess { (x : CodeOwing P) → guess ≡ None → All (λ row. get_or self.now row x ≢ get_or self.now at x) rows.now }
+        requires long { length slots.now.prints ≡ length rows.now }
+        requires prints { (k : ℕ) (x : CodeOwing P) → k < length rows.now → get_or self.now (get_or rows.now k 0) x ≡ get_or self.now at x →
+            get_or slots.now.prints k 0 ≡ print }
         ensures { (x : CodeOwing P) → IsTrue result ↔ Any (λ row. get_or self.now row x ≡ get_or self.now at x) rows.now }
     {
-        match guess {
-            None => false,
-            Some(guess) => {
-                (guess < rows.len() && self.is_same(rows[guess], at)) || self.is_among(rows, at)
+        let mut next = slots.last(print);
+        while let Some(found) = next {
+            if self.is_same(rows[found], at) {
+                return true;
             }
+            next = slots.before(found);
         }
+        false
     }
 
     /// Whether a state at one of the indices is the same as this one.
@@ -229,13 +233,14 @@ impl<P: Phase> Pool<P> {
         false
     }
 
-    /// A number for each state: equal ones have the same, and others hardly ever.
-    fn prints(&self) -> Result<Vec<u64>, AllocError>
-        ensures { IfOk result (λ prints. ArePrints self.now prints.items) }
+    /// A number for each state from one on: equal ones have the same, and others hardly ever.
+    fn prints(&self, from: usize) -> Result<Vec<u64>, AllocError>
+        requires { from ≤ length self.now }
+        ensures { IfOk result (λ prints. ArePrints self.now from prints.items) }
     {
-        let mut prints = self.dues.prints(*self.phases.allocator())?;
+        let mut prints = self.dues.prints(*self.phases.allocator(), from)?;
         for at in 0..prints.len() {
-            prints[at] ^= hash_of(&self.phases[at]);
+            prints[at] ^= hash_of(&self.phases[from + at]);
         }
         Ok(prints)
     }
@@ -351,22 +356,6 @@ impl<P: Phase> Pool<P> {
         self.come_to_rest(moment, last, rest);
         Ok(())
     }
-}
-
-/// Where the first state of the print stands among those that were found, if there is one.
-fn guess_of(printed: &HashMap<u64, usize>, print: u64) -> Option<usize>
-    ensures { result ≡ None → ¬ IsMarked printed.now print }
-{
-    printed.get(&print).copied()
-}
-
-/// Tells where a state of the print stands among those that were found.
-fn mark(printed: &mut HashMap<u64, usize>, print: u64, at: usize) -> Result<(), AllocError>
-    ensures ok { OnOk result (IsMarked printed.new print) }
-    ensures others { (other : ℕ) → IsMarked printed.old other → IsMarked printed.new other }
-{
-    printed.insert(print, at)?;
-    Ok(())
 }
 
 /// The hash of a phase.

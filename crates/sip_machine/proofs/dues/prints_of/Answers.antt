@@ -10,10 +10,10 @@ loop-row-preserved c =
     let prints = c.loop-row.prints.items in
     let more = length-append prints (c.print.result ∷ []) in
     let long = c.loop-row.invariant.0 in
-    (ap length c.in_ok-push.ensures.items ∙ omega (arith, more, long), rw c.in_ok-push.ensures.items (ArePrinted-more c.args.ledger.now prints row c.print.result c.loop-row.invariant.0 c.print.ensures.is c.print.ensures.same c.loop-row.invariant.1))
+    (let size = ap length c.in_ok-push.ensures.items in omega (arith, size, more, long), rw c.in_ok-push.ensures.items (ArePrinted-more c.args.ledger.now c.args.from prints row c.print.result c.loop-row.invariant.0 c.print.ensures.is c.print.ensures.same c.loop-row.invariant.1))
 
 pub returns : goal.returns
 returns c =
     let rows = rows_of c.args.ledger.now in
     let all : c.loop-row.row ≡ length rows = omega arith in
-    prints-all c.args.ledger.now c.loop-row.prints.items c.loop-row.row c.loop-row.invariant.0 all c.loop-row.invariant.1
+    prints-all c.args.ledger.now c.args.from c.loop-row.prints.items c.loop-row.row c.loop-row.invariant.0 all c.loop-row.invariant.1

@@ -114,7 +114,7 @@ pub trait Machine: Drop {
         ensures ok { HoldsAt (λ x. OnOk result (AppendsAll (names x) out.old.items out.new.items)) pool.now at }
         ensures err { OnErr result (out.new.items ≡ out.old.items) };
 
-    /// The first and the ended state stay for ever, and an event gives states that can wait at its moment.
+    /// The first and the ended state stay for ever, and an event leads from and to states that can wait at its moment.
     ghost lawful: { (m : Self) → IsLawful (rules m) };
 
     /// The first state stands for that of the rules.

@@ -5,7 +5,7 @@ use Rattle.std.proofs.lemmas.List.{get_or-take, get_or_append_left, length-take-
 use Rattle.std.proofs.lemmas.List.Elements.{All-get_or, All-nil, All-append, All-contains, Contains-get_or, Contains-append_left, Contains-append_right, Contains-append_cases, Contains-push, Contains-push_cases}
 use Rattle.sip_machine.specs.Texts.{Texts, IsBook}
 use Rattle.sip_machine.specs.MachineEvent.{MachineEvent}
-use Rattle.sip_machine.specs.Rules.{Rules, Waits, Knows, StandFor}
+use Rattle.sip_machine.specs.Rules.{Rules, IsLawful, Knows, StandFor}
 use Rattle.sip_states.specs.inner.Ways.{SomeCanEnd, Covers, GivesFrom, GivesAfter}
 use Rattle.sip_states.proofs.Listed.{Contains-none, Contains-here, Contains-single, Contains-map, Contains-from_map}
 use Rattle.sip_states.proofs.Waiting.{Wait-stay, Wait-end, Wait-cases}
@@ -54,12 +54,12 @@ module _ {X S : Type 0} (names : S → List ℕ) (InRange : S → Type 0) (seen 
     gives_still xs s y g =
         record { before = g.before; among = (rw map-append (Contains-append_left (map (seen texts) xs) (seen texts s ∷ []) g.before g.among.0), g.among.1); takes = g.takes }
 
-    -- one more state that can wait gives what its step gives
-    gives_push : (xs : List S) (s : S) → Waits r (seen texts s) e.moment → (y : X) → (GivesFrom seen texts r xs e y ⊎ r.Take (seen texts s) e y) ↔ GivesFrom seen texts r (xs ++ s ∷ []) e y
-    gives_push xs s waits y = (
+    -- one more state gives what its step gives
+    gives_push : IsLawful r → (xs : List S) (s : S) (y : X) → (GivesFrom seen texts r xs e y ⊎ r.Take (seen texts s) e y) ↔ GivesFrom seen texts r (xs ++ s ∷ []) e y
+    gives_push lawful xs s y = (
       λ h. elim h [
         | inl g ↦ gives_still xs s y g
-        | inr takes ↦ record { before = seen texts s; among = (rw map-append (Contains-push (map (seen texts) xs) (seen texts s)), waits); takes = takes }
+        | inr takes ↦ record { before = seen texts s; among = (rw map-append (Contains-push (map (seen texts) xs) (seen texts s)), lawful.timely (seen texts s) e y takes); takes = takes }
       ],
       λ g. elim (seen_push xs s g.before g.among.0) [
         | inl old ↦ inl (record { before = g.before; among = (old, g.among.1); takes = g.takes })
@@ -68,24 +68,11 @@ module _ {X S : Type 0} (names : S → List ℕ) (InRange : S → Type 0) (seen 
     )
 
     -- so its successors come to those found
-    pub gives_more : (xs : List S) (s : S) (found added new : List S) → Waits r (seen texts s) e.moment → Covers names InRange seen texts (GivesFrom seen texts r xs e) found →
+    pub gives_more : IsLawful r → (xs : List S) (s : S) (found added new : List S) → Covers names InRange seen texts (GivesFrom seen texts r xs e) found →
         StandFor names InRange seen texts (r.Take (seen texts s) e) added → new ≡ found ++ added → Covers names InRange seen texts (GivesFrom seen texts r (xs ++ s ∷ []) e) new
-    gives_more xs s found added new waits c stands is =
-        Covers-iff (λ y. GivesFrom seen texts r xs e y ⊎ r.Take (seen texts s) e y) (GivesFrom seen texts r (xs ++ s ∷ []) e) (gives_push xs s waits) new
+    gives_more lawful xs s found added new c stands is =
+        Covers-iff (λ y. GivesFrom seen texts r xs e y ⊎ r.Take (seen texts s) e y) (GivesFrom seen texts r (xs ++ s ∷ []) e) (gives_push lawful xs s) new
         (Covers-append (GivesFrom seen texts r xs e) (r.Take (seen texts s) e) found added new c stands is)
-
-    -- one that cannot gives none
-    pub gives_same : (xs : List S) (s : S) (found : List S) → (Waits r (seen texts s) e.moment → ⊥) → Covers names InRange seen texts (GivesFrom seen texts r xs e) found →
-        Covers names InRange seen texts (GivesFrom seen texts r (xs ++ s ∷ []) e) found
-    gives_same xs s found over c =
-        Covers-iff (GivesFrom seen texts r xs e) (GivesFrom seen texts r (xs ++ s ∷ []) e)
-        (λ y. (
-          gives_still xs s y,
-          λ g. elim (seen_push xs s g.before g.among.0) [
-            | inl old ↦ record { before = g.before; among = (old, g.among.1); takes = g.takes }
-            | inr same ↦ absurd (over (rw same g.among.1))
-          ],
-        )) found c
 
 module _ {X S : Type 0} (names : S → List ℕ) (InRange : S → Type 0) (seen : Texts → S → X) (r : Rules X) (ended : S) (window : S → Option (ℕ × Option ℕ)) (until : S → Option ℕ)
     (follows : Follows names seen r ended window until) (texts : Texts) (xs : List S) (h : ℕ) (e : MachineEvent) (low : h ≤ e.moment) where
@@ -131,14 +118,14 @@ module _ {X S : Type 0} (names : S → List ℕ) (InRange : S → Type 0) (seen 
       )) new
       (Covers-append names InRange seen texts (GivesFrom seen texts r xs e) (r.Take (seen texts ended) e) found added new c stands is)
 
-  -- the only state, where it can wait and cannot end before, gives what its step gives
-  pub gives_alone : (s : S) → xs ≡ s ∷ [] → Waits r (seen texts s) e.moment → (SomeCanEnd window until h e.moment xs → ⊥) → (new : List S) →
+  -- the only state, where it cannot end before, gives what its step gives
+  pub gives_alone : (s : S) → xs ≡ s ∷ [] → (SomeCanEnd window until h e.moment xs → ⊥) → (new : List S) →
       StandFor names InRange seen texts (r.Take (seen texts s) e) new → StandFor names InRange seen texts (GivesAfter seen texts r xs h e) new
-  gives_alone s is waits none new stands =
+  gives_alone s is none new stands =
       let here : map (seen texts) xs ≡ seen texts s ∷ [] = ap (map (seen texts)) is in
       let same : (y : X) → r.Take (seen texts s) e y ↔ GivesAfter seen texts r xs h e y =
       λ y. (
-        λ takes. stayed_gives y (record { before = seen texts s; among = (rw here (Contains-here (seen texts s) []), waits); takes = takes }),
+        λ takes. stayed_gives y (record { before = seen texts s; among = (rw here (Contains-here (seen texts s) []), follows.lawful.timely (seen texts s) e y takes); takes = takes }),
         λ g. elim (after_gives y g) [
           | inl from ↦
               let only = (Contains-single (seen texts s) from.before).0 (rw here at from.among.0) in

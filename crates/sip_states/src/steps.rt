@@ -6,13 +6,12 @@ ghost use Rattle.sip_machine.specs.Owing.{CodeOwing};
 ghost use Rattle.sip_machine.specs.Rules.{Knows, StandFor};
 ghost use Rattle.sip_states.specs.inner.Ways.{Covers, GivesAfter, GivesFrom};
 
-use crate::ends::{is_within, some_can_end};
+use crate::ends::some_can_end;
 use sip_machine::{Book, Event, Machine, Pool};
 use std::alloc::AllocError;
 
 /// Lets the only state take the event where it stands, after standing in it at `from`, and tells whether it did: not where
-/// there are others, where it may end before or cannot wait so long, or where it gives not just one. Then, and on an error,
-/// all is as before.
+/// there are others, where it may end before, or where it gives not just one. Then, and on an error, all is as before.
 pub(crate) fn step_alone<M: Machine>(
     machine: &M,
     book: &Book,
@@ -30,11 +29,7 @@ pub(crate) fn step_alone<M: Machine>(
     ensures other { IfOk result (λ stepped. OnFalse stepped (pool.new ≡ pool.old)) }
     ensures err { OnErr result (pool.new ≡ pool.old) }
 {
-    let to = event.moment();
-    if pool.len() != 1
-        || !is_within(to, machine.until(pool, 0))
-        || some_can_end(machine, pool, from, to)
-    {
+    if pool.len() != 1 || some_can_end(machine, pool, from, event.moment()) {
         return Ok(false);
     }
     machine.step(book, pool, event)
@@ -71,8 +66,8 @@ pub(crate) fn find_given<M: Machine>(
     Ok(first)
 }
 
-/// Puts behind the states those that the event gives from the first ones, as many, that can wait until its moment. On an error
-/// some may have been put behind the others.
+/// Puts behind the states those that the event gives from the first ones, as many: none from one that cannot wait until its
+/// moment. On an error some may have been put behind the others.
 fn step_each<M: Machine>(
     machine: &M,
     book: &Book,
@@ -88,11 +83,8 @@ fn step_each<M: Machine>(
         × Covers M.names M.in_range M.seen book.now (GivesFrom M.seen book.now (M.rules machine.now) (take count pool.old) (event_in book.now event.now)) found) }
     ensures before { take (length pool.old) pool.new ≡ pool.old }
 {
-    let to = event.moment();
     for at in 0..count {
-        if is_within(to, machine.until(pool, at)) {
-            machine.successors(book, pool, at, event)?;
-        }
+        machine.successors(book, pool, at, event)?;
     }
     Ok(())
 }

@@ -4,7 +4,6 @@ use Rattle.std.proofs.lemmas.List.Elements.{All-get_or}
 use Rattle.std.proofs.lemmas.Result.{IfOk-weaker}
 use Rattle.sip_machine.specs.MachineEvent.{event_in}
 use Rattle.sip_machine.specs.Rules.{Knows, Waits}
-use Rattle.sip_states.proofs.Advancing.{within_told}
 use Rattle.sip_states.proofs.Following.{Follows}
 use Rattle.sip_states.proofs.Stepping.{gives_alone, only}
 use Rattle.sip_states.proofs.steps.step_alone.Goals as goal
@@ -14,9 +13,6 @@ step-requires-clause-known g c = λ d. All-get_or (Knows g.M.Machine.names c.arg
 
 pub step-requires-clause-in_range : goal.step-requires-clause-in_range
 step-requires-clause-in_range g c = λ d. All-get_or g.M.Machine.in_range c.args.pool.now 0 d (omega arith) c.requires.in_range
-
-pub until-requires-clause-in_range : goal.until-requires-clause-in_range
-until-requires-clause-in_range g c = λ d. All-get_or g.M.Machine.in_range c.args.pool.now 0 d (omega arith) c.requires.in_range
 
 pub returns-clause-gives : goal.returns-clause-gives
 returns-clause-gives g c =
@@ -28,9 +24,7 @@ returns-clause-gives g c =
     let s = get_or xs 0 (g.M.Machine.ended m) in
     let one : length xs ≡ 1 = omega arith in
     let is = only xs (g.M.Machine.ended m) one in
-    let waits : Waits r (g.M.Machine.seen texts s) e.moment = (within_told c.moment-to.result e.moment c.until.result (r.until (g.M.Machine.seen texts s)) c.is_within.result c.moment-to.ensures
-    (c.until.ensures (g.M.Machine.ended m) ∙ sym (g.met.M.Machine.until_stands m texts s)) c.is_within.ensures).0 c.if-not-is_within.false in
-    let ends = rw c.moment-to.ensures at c.some_can_end.ensures in
+    let ends = rw c.moment.ensures at c.some_can_end.ensures in
     let follows : Follows g.M.Machine.names g.M.Machine.seen r (g.M.Machine.ended m) (g.M.Machine.end_window m) (g.M.Machine.until m) =
     record { lawful = g.met.M.Machine.lawful m; ended_is = g.met.M.Machine.ended_stands m; ended_names = (g.met.M.Machine.ended_fits m).0; window_is = g.met.M.Machine.window_stands m; until_is = g.met.M.Machine.until_stands m; apart = g.met.M.Machine.apart } in
     IfOk-weaker c.step.result _ _
@@ -38,5 +32,5 @@ returns-clause-gives g c =
     OnTrue_from stepped _
     (λ told.
     gives_alone g.M.Machine.names g.M.Machine.in_range g.M.Machine.seen r (g.M.Machine.ended m) (g.M.Machine.end_window m) (g.M.Machine.until m) follows texts xs c.args.from e
-    c.requires.order s is waits (λ some. true≢false (sym (ends.1 some) ∙ c.if-some_can_end.false)) c.step.new.pool (OnTrue_at told gives)))
+    c.requires.order s is (λ some. true≢false (sym (ends.1 some) ∙ c.if-some_can_end.false)) c.step.new.pool (OnTrue_at told gives)))
     (c.step.ensures.one (g.M.Machine.ended m))

@@ -4,23 +4,21 @@ use Rattle.std.proofs.lemmas.List.Elements.{All-get_or}
 use Rattle.sip_machine.specs.MachineEvent.{event_in}
 use Rattle.sip_machine.specs.Rules.{Knows, StandFor}
 use Rattle.sip_machine.proofs.PoolLemmas.{in-longer, take-old}
-use Rattle.sip_states.proofs.Advancing.{within_told}
-use Rattle.sip_states.proofs.Stepping.{gives_none, gives_more, gives_same, first-state}
+use Rattle.sip_states.proofs.Stepping.{gives_none, gives_more, first-state}
 use Rattle.sip_states.proofs.steps.step_each.Goals as goal
-use Rattle.sip_states.proofs.steps.step_each.Goals.{then-is_within+in_ok-successors, else-is_within}
 
 pub loop-at-init : goal.loop-at-init
 loop-at-init g c = (_, sym (append-nil c.args.pool.now), gives_none g.M.Machine.names g.M.Machine.in_range g.M.Machine.seen c.args.book.now (g.M.Machine.rules c.args.machine.now) (event_in c.args.book.now c.args.event.now))
 
-pub until-requires-clause-at : goal.until-requires-clause-at
-until-requires-clause-at g c =
+pub successors-requires-clause-at : goal.successors-requires-clause-at
+successors-requires-clause-at g c =
     let (found, is, covers) = c.loop-at.invariant in
     let count = c.requires.count in
     let low = c.loop-at-test.true in
     in-longer c.args.pool.now found c.loop-at.pool c.loop-at.at is (omega (arith, count, low))
 
-pub until-requires-clause-in_range : goal.until-requires-clause-in_range
-until-requires-clause-in_range g c = λ d.
+pub successors-requires-clause-in_range : goal.successors-requires-clause-in_range
+successors-requires-clause-in_range g c = λ d.
     let (found, is, covers) = c.loop-at.invariant in
     first-state g.M.Machine.in_range c.args.pool.now found c.loop-at.pool c.args.count c.loop-at.at d is c.requires.count c.loop-at-test.true c.requires.in_range
 
@@ -51,26 +49,14 @@ loop-at-preserved g c =
     let low : i < length xs = omega (arith, size, below) in
     let state = get_or xs i d in
     let here : get_or c.loop-at.pool i d ≡ state = ap (λ ys. get_or ys i d) is ∙ get_or_append_left old found d i (omega (arith, count, below)) ∙ sym (get_or-take c.args.count old i d below) in
-    let waits = within_told c.moment-to.result e.moment c.until.result (r.until (g.M.Machine.seen texts state)) c.is_within.result c.moment-to.ensures
-    (c.until.ensures d ∙ ap (g.M.Machine.until m) here ∙ sym (g.met.M.Machine.until_stands m texts state)) c.is_within.ensures in
-    elim c.if-is_within.branch [
-      | then-is_within+in_ok-successors w ↦
-          let (added, new_is, gives) = w.in_ok-successors.ensures.ok d in
-          let stands = subst (λ s. StandFor g.M.Machine.names g.M.Machine.in_range g.M.Machine.seen texts (r.Take (g.M.Machine.seen texts s) e) added) here gives in
-          rw (w.pool-is, take_more xs i d low)
-          (
-            found ++ added,
-            new_is ∙ ap (λ ys. ys ++ added) is ∙ append_assoc old found added,
-            gives_more g.M.Machine.names g.M.Machine.in_range g.M.Machine.seen texts r e (take i xs) state found added (found ++ added) (waits.0 w.if-is_within.true) covers stands refl,
-          )
-      | else-is_within w ↦
-          rw (w.pool-is, take_more xs i d low)
-          (
-            found,
-            is,
-            gives_same g.M.Machine.names g.M.Machine.in_range g.M.Machine.seen texts r e (take i xs) state found (λ can. true≢false (sym (waits.1 can) ∙ w.if-is_within.false)) covers,
-          )
-    ]
+    let (added, new_is, gives) = c.in_ok-successors.ensures.ok d in
+    let stands = subst (λ s. StandFor g.M.Machine.names g.M.Machine.in_range g.M.Machine.seen texts (r.Take (g.M.Machine.seen texts s) e) added) here gives in
+    rw (take_more xs i d low)
+    (
+      found ++ added,
+      new_is ∙ ap (λ ys. ys ++ added) is ∙ append_assoc old found added,
+      gives_more g.M.Machine.names g.M.Machine.in_range g.M.Machine.seen texts r e (g.met.M.Machine.lawful m) (take i xs) state found added (found ++ added) covers stands refl,
+    )
 
 pub returns-clause-gives : goal.returns-clause-gives
 returns-clause-gives g c =

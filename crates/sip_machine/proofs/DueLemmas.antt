@@ -1,5 +1,5 @@
 use Prim.Native.Nat.{suc, zero}
-use Rattle.std.specs.Prelude.{◌≡◌, ◌<◌, ◌≤◌, ◌+◌, ◌-◌, ◌||◌, ℕ, Bool, true, false, IsTrue, None, List, [], ◌∷◌, ◌++◌, All, filter, get_or, length, map, max, min, replicate, set, take}
+use Rattle.std.specs.Prelude.{◌≡◌, ◌<◌, ◌≤◌, ◌+◌, ◌-◌, ◌||◌, ℕ, Bool, true, false, IsTrue, None, List, [], ◌∷◌, ◌++◌, All, drop, filter, get_or, length, map, max, min, replicate, set, take}
 use Rattle.std.specs.Bool.{OnTrue, OnFalse}
 use Rattle.std.specs.List.{list_any}
 use Rattle.std.proofs.Common.{inl, inr, refl, sym, ◌∙◌, ap, ap₂, subst, arith, cond, true≢false, length-set}
@@ -145,6 +145,12 @@ take-none zero (suc n) = let e : min 0 (suc n) ≡ 0 = omega arith in ap (λ k. 
 take-none (suc count) zero = let e : min (suc count) 0 ≡ 0 = omega arith in ap (λ k. rows_in k None) e
 take-none (suc count) (suc n) =
     let e : min (suc count) (suc n) ≡ suc (min count n) = omega arith in ap (λ k. rows_in k None) e ∙ ap (λ rows. [] ∷ rows) (take-none count n)
+
+-- rows that owe nothing, without the first
+pub drop-none : (count n : ℕ) → n ≤ count → rows_in (count - n) None ≡ drop n (rows_in count None)
+drop-none count zero le = let e : count - 0 ≡ count = omega arith in ap (λ k. rows_in k None) e
+drop-none zero (suc n) le = absurd (omega (arith, le))
+drop-none (suc count) (suc n) le = let e : suc count - suc n ≡ count - n = omega arith in ap (λ k. rows_in k None) e ∙ drop-none count n (omega (arith, le))
 
 -- wider numbers
 pub between-wider : (low high message : ℕ) (rows : List (List Debt)) → All (AreBetween low high) rows → All (AreBetween (min low message) (max high message)) rows

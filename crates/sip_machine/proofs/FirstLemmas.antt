@@ -1,9 +1,9 @@
 use Prim.Native.Nat.{suc, zero}
-use Rattle.std.specs.Prelude.{◌≡◌, ◌≢◌, ◌<◌, ◌≤◌, ◌+◌, ◌-◌, ℕ, IsTrue, Bool, true, false, List, [], ◌∷◌, ◌++◌, All, AllPairs, bit_xor, get_or, length, map, set, take}
+use Rattle.std.specs.Prelude.{◌≡◌, ◌≢◌, ◌<◌, ◌≤◌, ◌+◌, ◌-◌, ℕ, IsTrue, Bool, true, false, List, [], ◌∷◌, ◌++◌, All, AllPairs, bit_xor, drop, get_or, length, map, set, take}
 use Rattle.std.specs.List.{Any}
 use Rattle.std.proofs.Common.{inl, inr, refl, sym, ◌∙◌, ap, ap₂, subst, arith, length-set, true≢false}
 use Rattle.std.proofs.lemmas.Bool.{cases_lt}
-use Rattle.std.proofs.lemmas.List.{get_or_append_left, get_or_default, get_or-set_same, get_or-set_other, map-append, take_all, take_more, take-set-le}
+use Rattle.std.proofs.lemmas.List.{get_or_append_left, get_or_default, get_or-set_same, get_or-set_other, get_or-drop, get_or-map, get_or-take, length-drop, length-map, length-take-le, map-append, same_lists, take_all, take_more, take-set-le}
 use Rattle.std.proofs.Math.Seq.{get_or-append_seam}
 use Rattle.std.proofs.lemmas.List.Elements.{All-nil, All-push, All-get_or, All-weaker}
 use Rattle.std.proofs.lemmas.List.Quantifiers.{Any-push, all_pairs_push}
@@ -12,7 +12,7 @@ use Rattle.sip_machine.specs.Owes.{owed_in}
 use Rattle.sip_machine.specs.Owing.{CodeOwing}
 use Rattle.sip_machine.specs.Pools.{AreFirstOnes, picked}
 use Rattle.sip_machine.specs.Prints.{ArePrints}
-use Rattle.sip_machine.specs.inner.Pools.{beside, hash_by}
+use Rattle.sip_machine.specs.inner.Pools.{IsRun, beside, hash_by}
 use Rattle.sip_machine.proofs.PoolLemmas.{beside-length, state-at}
 
 -- The first of each kind among the elements of a list.
@@ -89,6 +89,49 @@ rising-above rows (suc k) rising low =
     let before = rising-above rows k rising (omega (arith, low)) in
     let next = rising k (suc k) 0 (omega arith) low in
     omega (arith, before, next)
+
+-- they rise by one at least
+pub rising-apart : (rows : List ℕ) (i k : ℕ) → AllPairs (λ a b. a < b) rows → i + k < length rows → get_or rows i 0 + k ≤ get_or rows (i + k) 0
+rising-apart rows i zero rising low = let here : i + 0 ≡ i = omega arith in rw here (omega arith)
+rising-apart rows i (suc k) rising low =
+    let next : i + suc k ≡ suc (i + k) = omega arith in
+    let before = rising-apart rows i k rising (omega (arith, low)) in
+    let above = rising (i + k) (suc (i + k)) 0 (omega arith) (omega (arith, low)) in
+    rw next (omega (arith, before, above))
+
+-- so where the last is no further from the first than their number says, each is the one behind the index before it
+pub run-of : (rows : List ℕ) → AllPairs (λ a b. a < b) rows → 0 < length rows → get_or rows (length rows - 1) 0 - get_or rows 0 0 < length rows → IsRun (get_or rows 0 0) rows
+run-of rows rising some near =
+    record {
+      some = some;
+      each = λ k low.
+          let rest = length rows - 1 - k in
+          let end : k + rest ≡ length rows - 1 = omega (arith, low) in
+          let up = rising-apart rows 0 k rising (omega (arith, low)) in
+          let on = rising-apart rows k rest rising (omega (arith, low, end)) in
+          let last : get_or rows (k + rest) 0 ≡ get_or rows (length rows - 1) 0 = ap (λ n. get_or rows n 0) end in
+          let here : get_or rows (0 + k) 0 ≡ get_or rows k 0 = let e : 0 + k ≡ k = omega arith in ap (λ n. get_or rows n 0) e in
+          omega (arith, up, on, last, here, near, low, end);
+    }
+
+-- and such ones are a part of the list
+pub run-picked : {X : Type 0} (xs : List X) (rows : List ℕ) (first : ℕ) (x : X) → IsRun first rows → All (λ row. row < length xs) rows →
+    take (length rows) (drop first xs) ≡ picked xs x rows
+run-picked xs rows first x run within =
+    let some = run.some in
+    let last = within (length rows - 1) 0 (omega (arith, some)) in
+    let end = run.each (length rows - 1) (omega (arith, some)) in
+    let behind = length-drop first xs in
+    let room : length rows ≤ length (drop first xs) = omega (arith, some, last, end, behind) in
+    let size : length (take (length rows) (drop first xs)) ≡ length rows = length-take-le (length rows) (drop first xs) room in
+    let count : length (picked xs x rows) ≡ length rows = length-map rows (λ row. get_or xs row x) in
+    same_lists (take (length rows) (drop first xs)) (picked xs x rows) (size ∙ sym count)
+      (λ k d low.
+          let inside : k < length rows = omega (arith, low, size) in
+          let is = run.each k inside in
+          let row_low = within k 0 inside in
+          get_or-take (length rows) (drop first xs) k d inside ∙ get_or-drop first xs k d ∙ ap (λ n. get_or xs n d) (sym is)
+          ∙ get_or_default xs (get_or rows k 0) d x row_low ∙ sym (get_or-map (λ row. get_or xs row x) rows k 0 d inside))
 
 -- Elements that are brought to the front.
 

@@ -1,5 +1,5 @@
 use Prim.Native.Nat.{suc, zero}
-use Rattle.std.specs.Prelude.{◌≡◌, ◌==◌, ◌↔◌, ◌<◌, ◌≤◌, ◌+◌, ℕ, IsTrue, true, List, [], ◌∷◌, ◌++◌, get_or, length, set, take}
+use Rattle.std.specs.Prelude.{◌≡◌, ◌==◌, ◌↔◌, ◌<◌, ◌≤◌, ◌+◌, ℕ, IsTrue, true, List, [], ◌∷◌, ◌++◌, drop, get_or, length, set, take}
 use Rattle.std.proofs.Common.{Result, Ok, Err, OnErr, is_err, true≢false, refl, sym, ◌∙◌, ap, ap₂, subst, arith, length-append}
 use Rattle.std.proofs.lemmas.Bool.Decides.{nat_tests}
 use Rattle.std.proofs.Math.Seq.{get_or-append_seam, take-append_seam}
@@ -47,6 +47,15 @@ module _ {S : Type 0} where
   beside-take (p ∷ phases) [] n long = absurd (omega (arith, long))
   beside-take (p ∷ phases) (r ∷ rows) zero long = refl
   beside-take (p ∷ phases) (r ∷ rows) (suc n) long = ap (λ xs. record { phase = p; owes = r } ∷ xs) (beside-take phases rows n (omega (arith, long)))
+
+  -- without the first ones
+  pub beside-drop : (phases : List S) (rows : List (List Debt)) (n : ℕ) → length rows ≡ length phases → beside (drop n phases) (drop n rows) ≡ drop n (beside phases rows)
+  beside-drop [] [] zero long = refl
+  beside-drop [] [] (suc n) long = refl
+  beside-drop [] (r ∷ rows) n long = absurd (omega (arith, long))
+  beside-drop (p ∷ phases) [] n long = absurd (omega (arith, long))
+  beside-drop (p ∷ phases) (r ∷ rows) zero long = refl
+  beside-drop (p ∷ phases) (r ∷ rows) (suc n) long = beside-drop phases rows n (omega (arith, long))
 
   -- one of them changes
   pub beside-set : (phases : List S) (rows : List (List Debt)) (k : ℕ) (phase : S) (row : List Debt) → length rows ≡ length phases →

@@ -1,5 +1,5 @@
 //! What each of many states owes: a ledger, where any of them owes something.
-ghost use Rattle.std.specs.Prelude.{◌≡◌, ◌↔◌, ◌<◌, ◌≤◌, ◌++◌, ◌∷◌, [], List, IsTrue, IfOk, OnOk, OnErr, None, All, length, set, map, filter, take};
+ghost use Rattle.std.specs.Prelude.{◌≡◌, ◌↔◌, ◌<◌, ◌≤◌, ◌++◌, ◌∷◌, [], List, IsTrue, IfOk, OnOk, OnErr, None, All, length, set, map, filter, take, drop};
 ghost use Rattle.std.specs.List.{list_any};
 ghost use Rattle.sip_ledger.specs.Debts.{counts_at, softened_debt, is_payable, debt_deadlines};
 ghost use Rattle.sip_ledger.specs.Ledgers.{rows_of};
@@ -85,6 +85,17 @@ impl Dues {
             ledger.truncate(rows);
         }
         self.rows = self.rows.min(rows);
+    }
+
+    /// Drops the first rows.
+    pub(crate) fn drop_first(&mut self, rows: usize)
+        requires { rows ≤ length self.old }
+        ensures { self.new ≡ drop rows self.old }
+    {
+        if let Some(ledger) = &mut self.ledger {
+            ledger.drop_first(rows);
+        }
+        self.rows -= rows;
     }
 
     /// Lets the row owe what another one does, and nothing else.

@@ -1,5 +1,5 @@
 //! The states in which a transaction may stand: their phases, and what they owe.
-ghost use Rattle.std.specs.Prelude.{◌≡◌, ◌≢◌, ◌↔◌, ◌<◌, ◌≤◌, ◌++◌, ◌∷◌, [], ℕ, IsTrue, IfOk, OnOk, OnErr, All, AllPairs, None, length, set, take, option_to_list, get_or};
+ghost use Rattle.std.specs.Prelude.{◌≡◌, ◌≢◌, ◌↔◌, ◌<◌, ◌≤◌, ◌++◌, ◌∷◌, [], ℕ, IsTrue, IfOk, IfSome, OnOk, OnErr, All, AllPairs, None, length, set, take, drop, option_to_list, get_or};
 ghost use Rattle.std.specs.List.{Any, HoldsAt};
 ghost use Rattle.std.specs.Option.{option_map};
 ghost use Rattle.sip_ledger.specs.Runs.{AreRuns};
@@ -8,7 +8,7 @@ ghost use Rattle.sip_machine.specs.Owing.{CodeOwing, at_rest};
 ghost use Rattle.sip_machine.specs.Pools.{AreFirstOnes, picked};
 ghost use Rattle.sip_machine.specs.Prints.{ArePrints};
 ghost use Rattle.sip_machine.specs.inner.Effects.{led_by, rests_at, given_by};
-ghost use Rattle.sip_machine.specs.inner.Pools.{hash_by};
+ghost use Rattle.sip_machine.specs.inner.Pools.{IsRun, hash_by};
 
 use crate::dues::Dues;
 use crate::effects::{Effect, Rest, come_to_rest, lead};
@@ -141,8 +141,34 @@ impl<P: Phase> Pool<P> {
         self.dues.copy(from, to);
     }
 
+    /// Drops the first states.
+    fn drop_first(&mut self, count: usize)
+        requires { count ≤ length self.old }
+        ensures { self.new ≡ drop count self.old }
+    {
+        let kept = self.len() - count;
+        self.phases.copy_within(count.., 0);
+        self.phases.truncate(kept);
+        self.dues.drop_first(count);
+    }
+
     /// Keeps just the states at the indices, which rise.
     pub fn keep(&mut self, rows: &[usize])
+        requires within { All (λ row. row < length self.old) rows.now }
+        requires rising { AllPairs (λ a b. a < b) rows.now }
+        ensures { (x : CodeOwing P) → self.new ≡ picked self.old x rows.now }
+    {
+        match run_of(rows) {
+            Some(first) => {
+                self.drop_first(first);
+                self.truncate(rows.len());
+            }
+            None => self.keep_each(rows),
+        }
+    }
+
+    /// The same, one by one.
+    fn keep_each(&mut self, rows: &[usize])
         requires within { All (λ row. row < length self.old) rows.now }
         requires rising { AllPairs (λ a b. a < b) rows.now }
         ensures { (x : CodeOwing P) → self.new ≡ picked self.old x rows.now }
@@ -355,6 +381,22 @@ impl<P: Phase> Pool<P> {
         self.push_copy(at)?;
         self.come_to_rest(moment, last, rest);
         Ok(())
+    }
+}
+
+/// The first index, where each is the one behind the index before it.
+fn run_of(rows: &[usize]) -> Option<usize>
+    requires { AllPairs (λ a b. a < b) rows.now }
+    ensures { IfSome result (λ first. IsRun first rows.now) }
+{
+    if rows.is_empty() {
+        return None;
+    }
+    let first = rows[0];
+    if rows[rows.len() - 1] - first < rows.len() {
+        Some(first)
+    } else {
+        None
     }
 }
 

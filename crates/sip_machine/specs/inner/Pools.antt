@@ -1,4 +1,4 @@
-use Rattle.std.specs.Prelude.{◌≢◌, ◌<◌, ◌≤◌, ◌+◌, ℕ, Option, None, Some, List, [], ◌∷◌, fold, get_or, length}
+use Rattle.std.specs.Prelude.{◌≡◌, ◌≢◌, ◌<◌, ◌≤◌, ◌+◌, ℕ, Option, None, Some, List, [], ◌∷◌, fold, get_or, length}
 use Rattle.std.specs.Hash.FoldHasher.{initial, write, finish}
 use Rattle.sip_ledger.specs.declared.debt.Debt.{Debt}
 use Rattle.sip_machine.specs.Owing.{CodeOwing}
@@ -28,3 +28,8 @@ pub record IsSought {X : Type 0} (xs : List X) (rows prints : List ℕ) (print a
 abbrev pub one_past : Option ℕ → ℕ
 one_past None = 0
 one_past (Some at) = at + 1
+
+-- the indices go on by one from the first, and are not none
+pub record IsRun (first : ℕ) (rows : List ℕ) : Type 0 where
+  pub some : 0 < length rows
+  pub each : (k : ℕ) → k < length rows → get_or rows k 0 ≡ first + k

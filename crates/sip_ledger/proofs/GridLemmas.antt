@@ -1,6 +1,6 @@
 -- What the rows of a ledger owe, as its words change.
 use Rattle.std.proofs.Common.{◌≡◌, ℕ, ◌+◌, ◌-◌, ◌*◌, ◌/◌, ◌%◌, ◌^◌, ◌<◌, ◌≤◌, Bool, true, false, List, [], ◌∷◌, ◌++◌, length, take, drop, get_or, set, min, replicate, refl, sym, ap, ap₂, ◌∙◌, subst, inl, inr, arith}
-use Rattle.std.specs.Prelude.{All, IsTrue, ◌||◌, Option, None, Some, is_some, IfSome, IfNone}
+use Rattle.std.specs.Prelude.{All, IsTrue, Option, None, Some, is_some, IfSome, IfNone}
 use Rattle.std.specs.List.{fold, list_any}
 use Rattle.std.proofs.lemmas.Bool.{cases_lt, cases_eq, true≢false, false_from_ne_true}
 use Rattle.std.proofs.lemmas.List.Elements.{All-weaker}
@@ -12,7 +12,7 @@ use Rattle.sip_ledger.specs.declared.debt.Debt.{Debt}
 use Rattle.sip_ledger.specs.declared.debt.Entry.{Entry}
 use Rattle.sip_ledger.specs.declared.row.Place.{Place}
 use Rattle.sip_ledger.specs.Bits.{has}
-use Rattle.sip_ledger.specs.Debts.{IsWithoutFirst, is_payable, is_any_payable}
+use Rattle.sip_ledger.specs.Debts.{IsWithoutFirst}
 use Rattle.sip_ledger.specs.Rows.{debts_from, row_debts, IsRow}
 use Rattle.sip_ledger.specs.Grids.{Grid, grid_of, part, row_at, grid_rows, grid_row, IsGrid}
 use Rattle.sip_ledger.specs.Prints.{mixed, grid_print}
@@ -21,7 +21,7 @@ use Rattle.sip_ledger.specs.inner.Tables.{AreWords, ChangesRow, ChangesTable, Is
 use Rattle.sip_ledger.proofs.BitsLemmas.{has-past, has-zero_word, same-from_bits}
 use Rattle.sip_ledger.proofs.ListedLemmas.{parts, listed-same, listed-none, listed-shift}
 use Rattle.sip_ledger.proofs.RowLemmas.{first-any, grown-row, grown-debts, grown-gained, none-passes, one-spelling}
-use Rattle.sip_ledger.proofs.TableLemmas.{row-before, row-inside, length-part, part-of_more, part-of_last, part-take, part-drop, fewer-words, with_words, table-ledger, same-row}
+use Rattle.sip_ledger.proofs.TableLemmas.{row-inside, length-part, part-of_more, part-of_last, part-take, part-drop, fewer-words, with_words, table-ledger, same-row}
 
 -- what a row of a table owes, by its words
 abbrev pub row_in : Grid → ℕ → List Debt
@@ -260,18 +260,6 @@ pub record IsMore (entry : Entry) (t t' : Grid) : Type 0 where
   pub ledger : IsGrid t'
   pub grown : IsGrown entry t t'
 
-pub more-within : (entry : Entry) (t : Grid) → IsGrid t → length t.entries < 64 * t.width → IsMore entry t (grid_of (t.entries ++ entry ∷ []) t.width t.rows t.owed t.must)
-more-within entry t ledger room = record {
-  ledger = record {
-    owed_long = ledger.owed_long;
-    must_long = ledger.must_long;
-    wide = omega (arith, length_push t.entries entry, room);
-    narrow = let narrow = ledger.narrow in omega (arith, length_push t.entries entry, narrow);
-    each = λ k inside. grown-row t.entries entry (has (part t.width k t.owed)) (has (part t.width k t.must)) (ledger.each k inside);
-  };
-  grown = record { entries = refl; rows = refl; owed = λ row inside k. refl; must = λ row inside k. refl };
-}
-
 pub more-widened : (entry : Entry) (t : Grid) (owed' must' : List ℕ) → IsGrid t → 64 * t.width ≤ length t.entries → IsWidened t.width t.rows t.owed owed' → IsWidened t.width t.rows t.must must' →
     IsMore entry t (grid_of (t.entries ++ entry ∷ []) (t.width + 1) t.rows owed' must')
 more-widened entry t owed' must' ledger full owed_wide must_wide =
@@ -419,25 +407,10 @@ no-rows t v view = (
   (λ none. sym (rows-length t) ∙ ap length (ap grid_rows view ∙ none)),
 )
 
-pub empty-ledger : (entries : List Entry) (owed must : List ℕ) → entries ≡ [] → owed ≡ [] → must ≡ [] → IsGrid (grid_of entries 0 0 owed must)
-empty-ledger entries owed must no_entries no_owed no_must = record {
-  owed_long = ap length no_owed;
-  must_long = ap length no_must;
-  wide = omega (arith, ap length no_entries);
-  narrow = omega arith;
-  each = λ k below. absurd (omega (arith, below));
-}
-
 -- words enough for numbers of 64 bits
 pub words-fit : (t : Grid) (n : ℕ) → IsGrid t → n ≤ t.rows → length t.owed < 2 ^ 63 → n * t.width < 2 ^ 63
 words-fit t n ledger few small =
     let words = fewer-words t.width n t.rows few in
-    let long = ledger.owed_long in
-    omega (arith, words, long, small)
-
-pub row-fits : (t : Grid) (row : ℕ) → IsGrid t → row < t.rows → length t.owed < 2 ^ 63 → row * t.width + t.width < 2 ^ 63
-row-fits t row ledger inside small =
-    let words = row-before row t.rows t.width inside in
     let long = ledger.owed_long in
     omega (arith, words, long, small)
 
@@ -486,33 +459,6 @@ placed entry t t' row at ledger grown inside here gained = record {
 -- the bit of a place is free
 pub free-at : (entries : List Entry) (o m : ℕ → Bool) (entry : Entry) (at : ℕ) → IsRow entries o m → IsGainedAt entries o entry at → m at ≡ false
 free-at entries o m entry at row gained = false_from_ne_true (m at) (λ set. true≢false (sym (row.among at set) ∙ gained.last at (omega arith)))
-
--- tests that say the same leave the same
-pub without-same : (P Q : Debt → Type 0) (xs ys : List Debt) → ((d : Debt) → P d → Q d) → ((d : Debt) → Q d → P d) → IsWithoutFirst P xs ys → IsWithoutFirst Q xs ys
-without-same P Q xs ys to from is = record {
-  before = is.before;
-  first = is.first;
-  after = is.after;
-  whole = is.whole;
-  holds = to is.first is.holds;
-  none_before = All-weaker (λ d. ¬ (P d)) (λ d. ¬ (Q d)) (λ d none q. none (from d q)) is.before is.none_before;
-  rest = is.rest;
-}
-
-or-false : (b : Bool) → (b || false) ≡ b
-or-false true = refl
-or-false false = refl
-
--- one message of one
-pub single : (message t : ℕ) (d : Debt) → is_any_payable (message ∷ []) t d ≡ is_payable message t d
-single message t d = or-false (is_payable message t d)
-
-any-same : (p q : Debt → Bool) → ((d : Debt) → p d ≡ q d) → (xs : List Debt) → list_any p xs ≡ list_any q xs
-any-same p q same [] = refl
-any-same p q same (x ∷ xs) = ap₂ (λ a b. a || b) (same x) (any-same p q same xs)
-
-pub any-single : (message t : ℕ) (xs : List Debt) → list_any (is_any_payable (message ∷ []) t) xs ≡ list_any (is_payable message t) xs
-any-single message t xs = any-same (is_any_payable (message ∷ []) t) (is_payable message t) (single message t) xs
 
 -- a row of which no debt passes a test
 pub unpaid-row : (test : Debt → Bool) (t v : Grid) (row : ℕ) → t ≡ v → row < t.rows → NonePasses test t.entries (has (part t.width row t.owed)) → AsksNoMust test →

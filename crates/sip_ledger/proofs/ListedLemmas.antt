@@ -198,14 +198,6 @@ pub earliest-push : (ms : List ℕ) (m : ℕ) → earliest (ms ++ m ∷ []) ≡ 
 earliest-push [] m = refl
 earliest-push (x ∷ xs) m = let turned : min (fold min x xs) m ≡ min m (fold min x xs) = omega arith in ap Some (fold-push x m xs ∙ turned)
 
--- there are no more debts than entries
-pub listed-length : (o m : ℕ → Bool) (i : ℕ) (xs : List Entry) → length (debts_from o m i xs) ≤ length xs
-listed-length o m i [] = omega arith
-listed-length o m i (x ∷ xs) =
-    let rest = debts_from o m (i + 1) xs in
-    let more = listed-length o m (i + 1) xs in
-    elim (o i) as (λ b. length (cond b (debt_of x (m i) ∷ rest) rest) ≤ suc (length xs)) [ true ↦ omega (arith, more) | false ↦ omega (arith, more) ]
-
 -- the messages of debts, whatever has to be paid
 pub listed-messages : (o m m' : ℕ → Bool) (i : ℕ) (xs : List Entry) → map (λ (d : Debt). d.message) (debts_from o m i xs) ≡ map (λ (d : Debt). d.message) (debts_from o m' i xs)
 listed-messages o m m' i [] = refl

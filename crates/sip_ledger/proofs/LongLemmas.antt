@@ -29,12 +29,6 @@ use Rattle.sip_ledger.specs.inner.Longs.{debt_at, passes, IsFirstNumber, IsFirst
 at-itself : (n : ℕ) → is_eq (nat_cmp n n) ≡ true
 at-itself n = grind (arith, nat_tests)
 
-at-apart : (n k : ℕ) → is_eq (nat_cmp n k) ≡ false → (n ≡ k → ⊥)
-at-apart n k h e = grind (arith, nat_tests)
-
-at-same : (n k : ℕ) → is_eq (nat_cmp n k) ≡ true → n ≡ k
-at-same n k h = grind (arith, nat_tests)
-
 apart-below : (n k : ℕ) → n < k → is_eq (nat_cmp n k) ≡ false
 apart-below n k h = grind (arith, nat_tests)
 
@@ -353,9 +347,6 @@ span-is es pairs low high d e sorted indexed first last at_low at_high =
 -- the least deadline of what must be sent
 due-itself : (d : Debt) → d.must ≡ true → passes (is_due d.deadline) (Some d) ≡ true
 due-itself d must = grind (arith, nat_tests)
-
-due-must : (key : ℕ) (d : Debt) → passes (is_due key) (Some d) ≡ true → (d.must ≡ true) × (key ≡ d.deadline)
-due-must key d is = (grind (arith, nat_tests), grind (arith, nat_tests))
 
 deadlines-any : (t : ℕ) (ds : List Debt) → list_any (λ x. x == t) (debt_deadlines ds) ≡ list_any (is_due t) ds
 deadlines-any t [] = refl

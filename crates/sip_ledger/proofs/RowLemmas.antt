@@ -1,5 +1,5 @@
 -- Rows whose bits change.
-use Rattle.std.proofs.Common.{◌≡◌, ◌≢◌, ℕ, ◌+◌, ◌-◌, ◌^◌, ◌<◌, ◌≤◌, max, Bool, true, false, cond, List, [], ◌∷◌, ◌++◌, length, take, get_or, append-nil, suc, refl, sym, ap, ap₂, ◌∙◌, subst, inl, inr, arith}
+use Rattle.std.proofs.Common.{◌≡◌, ◌≢◌, ℕ, ◌+◌, ◌-◌, ◌<◌, ◌≤◌, max, Bool, true, false, cond, List, [], ◌∷◌, ◌++◌, length, take, get_or, append-nil, suc, refl, sym, ap, ap₂, ◌∙◌, subst, inl, inr, arith}
 use Rattle.std.specs.Prelude.{All, ◌↔◌, ◌&&◌, ◌||◌, nat_le, filter}
 use Rattle.std.specs.List.{list_any}
 use Rattle.std.proofs.lemmas.Bool.{cases_lt, cases_eq, true≢false, false_from_ne_true, and_from, or_left, or_right}
@@ -12,7 +12,6 @@ use Rattle.sip_ledger.specs.Debts.{IsWithoutFirst, counts_at}
 use Rattle.sip_ledger.specs.Rows.{debt_of, debts_from, row_debts, IsGap, IsRow}
 use Rattle.sip_ledger.specs.inner.Places.{IsFirst, NonePasses, AsksNoMust, IsOpenRow, IsMoved, IsExpired, IsGainedAt}
 use Rattle.sip_ledger.specs.Bits.{has, NoneFrom}
-use Rattle.sip_ledger.proofs.BitsLemmas.{same-from_bits}
 use Rattle.sip_ledger.proofs.ListedLemmas.{no_entry, front, back, parts, back-set, back-unset, back-over, back-same, back-none, front-same, listed-All, listed-append, listed-none, listed-counting}
 
 -- a bit that is moved to an equal entry in the gap before it leaves the debts as they are
@@ -406,14 +405,6 @@ gains entries entry o m o' m' at due row gained inside here others must_here mus
   gained-debts entries o m o' m' at inside gained.last here others must_others
       ∙ ap₂ (λ e d. debts_from o m 0 entries ++ debt_of e d ∷ []) (gained.is no_entry inside) must_here,
 )
-
--- rows of words that owe the same have the same words
-pub same-words : (entries : List Entry) (xs ms ys ns : List ℕ) → length xs ≡ length ys → length ms ≡ length ns →
-    ((k : ℕ) → get_or xs k 0 < 2 ^ 64) → ((k : ℕ) → get_or ms k 0 < 2 ^ 64) → ((k : ℕ) → get_or ys k 0 < 2 ^ 64) → ((k : ℕ) → get_or ns k 0 < 2 ^ 64) →
-    IsRow entries (has xs) (has ms) → IsRow entries (has ys) (has ns) → row_debts entries xs ms ≡ row_debts entries ys ns → (xs ≡ ys) × (ms ≡ ns)
-same-words entries xs ms ys ns x_long m_long x_small m_small y_small n_small row row' same =
-    let bits = one-spelling entries (has xs) (has ms) (has ys) (has ns) row row' same in
-    (same-from_bits xs ys x_long x_small y_small (λ k. (bits k).0), same-from_bits ms ns m_long m_small n_small (λ k. (bits k).1))
 
 -- a debt that passes a test, or none
 pub listed-any : (test : Debt → Bool) (entries : List Entry) (o m : ℕ → Bool) (at : ℕ) → at < length entries → o at ≡ true →

@@ -123,10 +123,6 @@ table-ledger t row owed' must' ledger changes = record {
   ];
 }
 
--- the words of a vector behind a write of all of them
-pub whole-again : (len : ℕ) (new old : List ℕ) → length new ≡ length old → length old ≡ len → take len (new ++ drop (length new) old) ≡ new
-whole-again len new old same long = take_at new (drop (length new) old) len (same ∙ long)
-
 -- a row that is written over with another one
 pub pasted-changes : (width from to : ℕ) (words : List ℕ) → IsInside width from words → IsInside width to words →
     ChangesRow width to words (written width to words (part width from words)) × (part width to (written width to words (part width from words)) ≡ part width from words)

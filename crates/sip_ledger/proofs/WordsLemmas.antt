@@ -1,9 +1,9 @@
 -- The words of all rows, moved within their list.
-use Rattle.std.proofs.Common.{◌≡◌, ℕ, ◌+◌, ◌-◌, ◌*◌, ◌<◌, ◌≤◌, List, ◌++◌, length, take, drop, get_or, refl, sym, ap, ◌∙◌, subst, inl, inr, arith}
+use Rattle.std.proofs.Common.{◌≡◌, ℕ, ◌+◌, ◌-◌, ◌*◌, ◌<◌, ◌≤◌, List, ◌++◌, length, take, drop, refl, sym, ap, ◌∙◌, subst, inl, inr, arith}
 use Rattle.std.specs.List.{copy_within}
 use Rattle.std.proofs.Math.Nat.{mul-le-mul_left}
 use Rattle.std.proofs.lemmas.Bool.{cases_eq}
-use Rattle.std.proofs.lemmas.List.{append_assoc, length-append, length-drop, length-take-le, drop-drop, drop-take, take_at, take_rest, get_or-take}
+use Rattle.std.proofs.lemmas.List.{append_assoc, length-append, length-drop, length-take-le, drop-drop, drop-take, take_at, take_rest}
 use Rattle.std.proofs.lemmas.Slice.{drop-put_mid}
 use borrow.Rule.Slice.PartMut.{put_mid}
 use lib.Seq.{paste}
@@ -106,12 +106,3 @@ narrowed width rows dropped old words few all =
       long = length-take-le (rows * kept) words (omega (arith, long, product));
       each = λ k inside. part-take kept rows k words inside ∙ all.done k inside;
     }
-
--- a row's first words
-pub front-word : (width front start n : ℕ) (words : List ℕ) → n < front → front ≤ width →
-    get_or (take width (drop start words)) n 0 ≡ get_or (take (start + front - start) (drop start words)) n 0
-front-word width front start n words below within =
-    let size : start + front - start ≡ front = omega arith in
-    get_or-take width (drop start words) n 0 (omega (arith, below, within))
-    ∙ sym (get_or-take front (drop start words) n 0 below)
-    ∙ ap (λ k. get_or (take k (drop start words)) n 0) (sym size)

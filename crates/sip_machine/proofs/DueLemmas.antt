@@ -1,5 +1,5 @@
 use Prim.Native.Nat.{suc, zero}
-use Rattle.std.specs.Prelude.{◌≡◌, ◌<◌, ◌≤◌, ◌+◌, ◌-◌, ◌||◌, ℕ, Bool, true, false, IsTrue, None, List, [], ◌∷◌, ◌++◌, All, drop, filter, get_or, length, map, max, min, replicate, set, take}
+use Rattle.std.specs.Prelude.{◌≡◌, ◌<◌, ◌≤◌, ◌+◌, ◌-◌, ◌||◌, ℕ, Bool, true, false, IsTrue, None, List, [], ◌∷◌, ◌++◌, All, drop, filter, get_or, length, max, min, set, take}
 use Rattle.std.specs.Bool.{OnTrue, OnFalse}
 use Rattle.std.specs.List.{list_any}
 use Rattle.std.proofs.Common.{inl, inr, refl, sym, ◌∙◌, ap, ap₂, subst, arith, cond, true≢false, length-set}

@@ -1,11 +1,10 @@
 use Prim.Native.Nat.{suc, zero}
-use Rattle.std.specs.Prelude.{◌≡◌, ◌≢◌, ◌<◌, ◌≤◌, ◌+◌, ◌-◌, ℕ, IsTrue, Bool, true, false, List, [], ◌∷◌, ◌++◌, All, AllPairs, bit_xor, drop, get_or, length, map, set, take}
+use Rattle.std.specs.Prelude.{◌≡◌, ◌≢◌, ◌<◌, ◌≤◌, ◌+◌, ◌-◌, ℕ, List, [], ◌∷◌, ◌++◌, All, AllPairs, bit_xor, drop, get_or, length, map, set, take}
 use Rattle.std.specs.List.{Any}
-use Rattle.std.proofs.Common.{inl, inr, refl, sym, ◌∙◌, ap, ap₂, subst, arith, length-set, true≢false}
+use Rattle.std.proofs.Common.{inl, inr, refl, sym, ◌∙◌, ap, ap₂, subst, arith, length-set}
 use Rattle.std.proofs.lemmas.Bool.{cases_lt}
-use Rattle.std.proofs.lemmas.List.{get_or_append_left, get_or_default, get_or-set_same, get_or-set_other, get_or-drop, get_or-map, get_or-take, length-drop, length-map, length-take-le, map-append, same_lists, take_all, take_more, take-set-le}
-use Rattle.std.proofs.Math.Seq.{get_or-append_seam}
-use Rattle.std.proofs.lemmas.List.Elements.{All-nil, All-push, All-get_or, All-weaker}
+use Rattle.std.proofs.lemmas.List.{get_or_append_left, get_or_default, get_or-set_same, get_or-set_other, get_or-drop, get_or-map, get_or-take, length-drop, length-map, length-take-le, map-append, same_lists, take_all, take_more}
+use Rattle.std.proofs.lemmas.List.Elements.{All-nil, All-push, All-weaker}
 use Rattle.std.proofs.lemmas.List.Quantifiers.{Any-push, all_pairs_push}
 use Rattle.sip_ledger.specs.declared.debt.Debt.{Debt}
 use Rattle.sip_machine.specs.Owes.{owed_in}
@@ -25,10 +24,6 @@ module _ {X : Type 0} (xs : List X) where
   -- none has
   abbrev pub IsNew : List ℕ → ℕ → Type 0
   IsNew rows k = (x : X) → All (λ row. get_or xs row x ≢ get_or xs k x) rows
-
-  -- where one has, not none has
-  pub among-new : (rows : List ℕ) (k : ℕ) (x : X) → Any (λ row. get_or xs row x ≡ get_or xs k x) rows → All (λ row. get_or xs row x ≢ get_or xs k x) rows → ⊥
-  among-new rows k x (i, row, low, is, same) new = new i row low (ap (λ r. get_or xs r x) is ∙ same)
 
   pub Any-here : (rows : List ℕ) (i d k : ℕ) (x : X) → i < length rows → get_or xs (get_or rows i d) x ≡ get_or xs k x → Any (λ row. get_or xs row x ≡ get_or xs k x) rows
   Any-here rows i d k x low same = (i, get_or rows i d, low, get_or_default rows i (get_or rows i d) d low, same)
@@ -77,10 +72,6 @@ module _ {X : Type 0} (xs : List X) where
     ];
     apart = first.apart;
   }
-
-  -- the rows found so far are within the list
-  pub first-within : (from at : ℕ) (rows : List ℕ) → at ≤ length xs → AreFirstOnes xs from at rows → All (λ row. row < length xs) rows
-  first-within from at rows le first = All-weaker (λ row. (from ≤ row) × (row < at)) (λ row. row < length xs) (λ row is. let b = is.1 in omega (arith, b, le)) rows first.within
 
 -- rows that rise are not before their place
 pub rising-above : (rows : List ℕ) (k : ℕ) → AllPairs (λ a b. a < b) rows → k < length rows → k ≤ get_or rows k 0

@@ -1,5 +1,5 @@
 use Prim.Native.Nat.{suc, zero}
-use Rattle.std.specs.Prelude.{◌≡◌, ◌==◌, ◌↔◌, ◌<◌, ◌≤◌, ◌+◌, ℕ, IsTrue, true, List, [], ◌∷◌, ◌++◌, drop, get_or, length, set, take}
+use Rattle.std.specs.Prelude.{◌≡◌, ◌==◌, ◌↔◌, ◌<◌, ◌+◌, ℕ, IsTrue, true, List, [], ◌∷◌, ◌++◌, drop, get_or, length, set, take}
 use Rattle.std.proofs.Common.{Result, Ok, Err, OnErr, is_err, true≢false, refl, sym, ◌∙◌, ap, ap₂, subst, arith, length-append}
 use Rattle.std.proofs.lemmas.Bool.Decides.{nat_tests}
 use Rattle.std.proofs.Math.Seq.{get_or-append_seam, take-append_seam}

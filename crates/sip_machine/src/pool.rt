@@ -265,8 +265,9 @@ impl<P: Phase> Pool<P> {
         ensures { IfOk result (λ prints. ArePrints self.now from prints.items) }
     {
         let mut prints = self.dues.prints(*self.phases.allocator(), from)?;
+        let mut hashed = None;
         for at in 0..prints.len() {
-            prints[at] ^= hash_of(&self.phases[from + at]);
+            prints[at] ^= hash_again(&mut hashed, self.phases[from + at]);
         }
         Ok(prints)
     }
@@ -398,6 +399,22 @@ fn run_of(rows: &[usize]) -> Option<usize>
     } else {
         None
     }
+}
+
+/// The hash of a phase, beside the phase that was asked for last and its hash, if there is one.
+fn hash_again<P: Phase>(last: &mut Option<(P, u64)>, phase: P) -> u64
+    requires { IfSome last.old (λ known. known.1 ≡ hash_by (P.hash_input known.0)) }
+    ensures is { result ≡ hash_by (P.hash_input phase) }
+    ensures last { IfSome last.new (λ known. known.1 ≡ hash_by (P.hash_input known.0)) }
+{
+    if let Some((known, hash)) = *last {
+        if known == phase {
+            return hash;
+        }
+    }
+    let hash = hash_of(&phase);
+    *last = Some((phase, hash));
+    hash
 }
 
 /// The hash of a phase.

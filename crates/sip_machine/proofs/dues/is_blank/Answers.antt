@@ -1,4 +1,3 @@
-use Rattle.std.specs.Prelude.{◌≡◌, ◌<◌, length}
 use Rattle.std.proofs.Common.{arith}
 use Rattle.sip_ledger.specs.Ledgers.{rows_of}
 use Rattle.sip_machine.proofs.DueLemmas.{blank-rows}

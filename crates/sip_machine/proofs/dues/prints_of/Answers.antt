@@ -1,5 +1,5 @@
 use Rattle.std.specs.Prelude.{◌≡◌, [], ◌∷◌, length}
-use Rattle.std.proofs.Common.{◌∙◌, ap, arith, length-append}
+use Rattle.std.proofs.Common.{ap, arith, length-append}
 use Rattle.sip_ledger.specs.Ledgers.{rows_of}
 use Rattle.sip_machine.proofs.DueLemmas.{ArePrinted-more, prints-all}
 use Rattle.sip_machine.proofs.dues.prints_of.Goals as goal

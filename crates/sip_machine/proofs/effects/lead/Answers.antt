@@ -1,4 +1,4 @@
-use Rattle.std.specs.Prelude.{◌≡◌, ◌≤◌, ◌++◌, ◌∷◌, [], filter, map, set}
+use Rattle.std.specs.Prelude.{◌≤◌, ◌++◌, ◌∷◌, [], filter, map, set}
 use Rattle.std.proofs.Common.{◌∙◌, ap, arith}
 use Rattle.sip_ledger.specs.declared.debt.Debt.{Debt}
 use Rattle.sip_ledger.specs.Debts.{counts_at, softened_debt}

@@ -1,4 +1,4 @@
-use Rattle.std.specs.Prelude.{◌≡◌, ◌<◌, get_or, length, take}
+use Rattle.std.specs.Prelude.{◌<◌, get_or, length}
 use Rattle.std.proofs.Common.{◌∙◌, refl, sym, arith, take_all, true≢false}
 use Rattle.std.proofs.lemmas.List.{get_or_default}
 use Rattle.std.proofs.lemmas.List.Elements.{All-get_or, All-more}

@@ -1,9 +1,9 @@
-use Rattle.std.proofs.Common.{◌≡◌, ◌<◌, ◌∙◌, List, [], ◌∷◌, ap, arith, get_or, length, sym, true≢false}
+use Rattle.std.proofs.Common.{◌≡◌, ◌∙◌, arith, get_or, length, sym, true≢false}
 use Rattle.std.proofs.lemmas.Bool.{OnTrue_at, OnTrue_from}
 use Rattle.std.proofs.lemmas.List.Elements.{All-get_or}
 use Rattle.std.proofs.lemmas.Result.{IfOk-weaker}
 use Rattle.sip_machine.specs.MachineEvent.{event_in}
-use Rattle.sip_machine.specs.Rules.{Knows, Waits}
+use Rattle.sip_machine.specs.Rules.{Knows}
 use Rattle.sip_states.proofs.Following.{Follows}
 use Rattle.sip_states.proofs.Stepping.{gives_alone, only}
 use Rattle.sip_states.proofs.steps.step_alone.Goals as goal

@@ -1,6 +1,5 @@
-use Rattle.std.proofs.Common.{◌≡◌, ◌<◌, ◌∙◌, ◌++◌, ap, append_assoc, append-nil, arith, get_or, length, refl, subst, sym, take, take_all, true≢false}
+use Rattle.std.proofs.Common.{◌≡◌, ◌<◌, ◌∙◌, ◌++◌, ap, append_assoc, append-nil, arith, get_or, length, refl, subst, sym, take, take_all}
 use Rattle.std.proofs.lemmas.List.{get_or-take, get_or_append_left, length-take-le, take_more}
-use Rattle.std.proofs.lemmas.List.Elements.{All-get_or}
 use Rattle.sip_machine.specs.MachineEvent.{event_in}
 use Rattle.sip_machine.specs.Rules.{Knows, StandFor}
 use Rattle.sip_machine.proofs.PoolLemmas.{in-longer, take-old}

@@ -1,10 +1,8 @@
-use Rattle.std.specs.Prelude.{◌≡◌, ◌<◌, ◌≤◌, None, All, length, []}
+use Rattle.std.specs.Prelude.{◌≡◌, None, []}
 use Rattle.std.proofs.Common.{refl}
-use Rattle.sip_ledger.specs.declared.debt.Debt.{Debt}
 use Rattle.sip_ledger.specs.Ledgers.{rows_of}
-use Rattle.sip_machine.specs.Owes.{owed_in}
-use Rattle.sip_machine.specs.inner.Dues.{rows_in, AreDues}
-use Rattle.sip_machine.proofs.DueLemmas.{owed-none, set-none, AreDues-set, between-row}
+use Rattle.sip_machine.specs.inner.Dues.{rows_in}
+use Rattle.sip_machine.proofs.DueLemmas.{set-none}
 use Rattle.sip_machine.proofs.dues.Dues.clear.Goals as goal
 use Rattle.sip_machine.proofs.dues.Dues.clear.Goals.{in-Some, in_default}
 

@@ -1,12 +1,12 @@
-use Rattle.std.specs.Prelude.{◌≡◌, ◌<◌, ◌≤◌, None, All, length, filter}
-use Rattle.std.proofs.Common.{sym, ap, subst}
+use Rattle.std.specs.Prelude.{◌≡◌, ◌<◌, ◌≤◌, length, filter}
+use Rattle.std.proofs.Common.{sym, subst}
 use Rattle.std.proofs.lemmas.List.Elements.{All-filter}
 use Rattle.sip_ledger.specs.Debts.{counts_at}
 use Rattle.sip_ledger.specs.declared.debt.Debt.{Debt}
 use Rattle.sip_ledger.specs.Ledgers.{rows_of}
 use Rattle.sip_machine.specs.Owes.{owed_in}
-use Rattle.sip_machine.specs.inner.Dues.{rows_in, AreDues}
-use Rattle.sip_machine.proofs.DueLemmas.{owed-none, set-none, AreDues-set, between-row}
+use Rattle.sip_machine.specs.inner.Dues.{AreDues}
+use Rattle.sip_machine.proofs.DueLemmas.{AreDues-set, between-row}
 use Rattle.sip_machine.proofs.dues.Dues.expire.Goals as goal
 use Rattle.sip_machine.proofs.dues.Dues.expire.Goals.{in-Some, in_default}
 

@@ -1,4 +1,4 @@
-use Rattle.std.specs.Prelude.{◌≡◌, ◌∷◌, [], get_or, length, set}
+use Rattle.std.specs.Prelude.{◌≡◌, get_or, length, set}
 use Rattle.std.proofs.Common.{◌∙◌, ap, arith}
 use Rattle.sip_machine.specs.inner.Effects.{led_by, rests_at}
 use Rattle.sip_machine.proofs.PoolLemmas.{alone-set, some-at}

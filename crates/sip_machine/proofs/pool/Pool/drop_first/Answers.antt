@@ -1,4 +1,4 @@
-use Rattle.std.specs.Prelude.{◌≡◌, ◌≤◌, ◌-◌, drop, length, take}
+use Rattle.std.specs.Prelude.{◌≡◌, ◌-◌, drop, length, take}
 use Rattle.std.specs.List.{copy_within}
 use Rattle.std.proofs.Common.{◌∙◌, ap, ap₂, arith, sym}
 use Rattle.std.proofs.lemmas.List.{length-drop}

@@ -1,4 +1,4 @@
-use Rattle.std.specs.Prelude.{◌≡◌, ◌<◌, ◌≤◌, get_or, length, take}
+use Rattle.std.specs.Prelude.{◌<◌, ◌≤◌, get_or, length, take}
 use Rattle.std.proofs.Common.{◌∙◌, ap, refl, sym, arith, length-set}
 use Rattle.std.proofs.lemmas.List.{get_or-set_same, get_or-set_other, take-set-le}
 use Rattle.sip_machine.proofs.FirstLemmas.{picking-more, rising-above}

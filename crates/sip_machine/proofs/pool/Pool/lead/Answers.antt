@@ -1,4 +1,4 @@
-use Rattle.std.specs.Prelude.{◌≡◌, ◌<◌, filter, set}
+use Rattle.std.specs.Prelude.{◌<◌, filter, set}
 use Rattle.std.proofs.Common.{◌∙◌, ap, sym, subst}
 use Rattle.sip_ledger.specs.Debts.{counts_at}
 use Rattle.sip_machine.specs.Owes.{owed_in}

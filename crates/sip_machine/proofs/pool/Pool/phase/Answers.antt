@@ -1,4 +1,4 @@
-use Rattle.std.specs.Prelude.{◌<◌, get_or}
+use Rattle.std.specs.Prelude.{◌<◌}
 use Rattle.std.proofs.Common.{subst, ◌∙◌, sym, ap}
 use Rattle.sip_machine.proofs.PoolLemmas.{in-phases, state-at}
 use Rattle.sip_machine.proofs.pool.Pool.phase.Goals as goal

@@ -21,4 +21,4 @@ returns g c =
     let long = c.in_ok-prints.ensures.long in
     let even = c.self.invariant in
     let all : length phases ≤ c.args.from + c.loop-at.at = omega (arith, size, long, even) in
-    mixed-all g.P.Hash.hash_input phases c.args.from old rows c.args.self.now c.loop-at.prints.items c.loop-at.at c.self.view_is c.self.invariant c.in_ok-prints.ensures c.loop-at.invariant all
+    mixed-all g.P.Hash.hash_input phases c.args.from old rows c.args.self.now c.loop-at.prints.items c.loop-at.at c.self.view_is c.self.invariant c.in_ok-prints.ensures c.loop-at.invariant.0 all

@@ -1,6 +1,5 @@
-use Rattle.std.specs.Prelude.{◌≡◌, ◌++◌, ◌∷◌, [], get_or}
-use Rattle.std.proofs.Common.{◌∙◌, ap}
-use Rattle.sip_machine.specs.Owing.{at_rest}
+use Rattle.std.specs.Prelude.{◌∷◌, [], get_or}
+use Rattle.std.proofs.Common.{◌∙◌}
 use Rattle.sip_machine.specs.inner.Effects.{led_by}
 use Rattle.sip_machine.proofs.PoolLemmas.{some-at, last-in, set-last, take-old, on_err}
 use Rattle.sip_machine.proofs.ToLemmas.{on_ok}

@@ -1,6 +1,6 @@
-use Rattle.std.proofs.Common.{◌≡◌, ◌≤◌, ◌-◌, ◌+◌, ◌<◌, ◌∙◌, List, ap, arith, get_or, length, subst, sym, ℕ}
+use Rattle.std.proofs.Common.{◌≡◌, ◌-◌, ◌<◌, ◌∙◌, List, ap, arith, get_or, length, subst, sym, ℕ}
 use Rattle.std.proofs.lemmas.List.{get_or_default}
-use Rattle.sip_machine.specs.inner.Slots.{Slotted, AreSlots, IsReached}
+use Rattle.sip_machine.specs.inner.Slots.{Slotted, AreSlots}
 use Rattle.sip_machine.proofs.SlotsLemmas.{reached-start, reached-more}
 use Rattle.sip_machine.proofs.slots.Slots.last_from.Goals as goal
 

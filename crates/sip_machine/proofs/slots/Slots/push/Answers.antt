@@ -1,4 +1,4 @@
-use Rattle.std.proofs.Common.{◌≡◌, ◌<◌, ◌+◌, ◌++◌, ◌∷◌, [], ◌∙◌, List, ap, arith, get_or, length, set, subst, sym, ℕ}
+use Rattle.std.proofs.Common.{◌≡◌, ◌<◌, ◌+◌, ◌++◌, ◌∷◌, [], ◌∙◌, List, ap, arith, get_or, length, sym, ℕ}
 use Rattle.std.proofs.lemmas.List.{get_or_default, length_push}
 use Rattle.sip_machine.specs.inner.Slots.{Slotted, AreSlots, slot_of}
 use Rattle.sip_machine.proofs.SlotsLemmas.{slots-more}

@@ -1,5 +1,5 @@
-use Rattle.std.specs.Prelude.{◌≡◌, ◌≤◌, get_or, length, map}
-use Rattle.std.proofs.Common.{◌∙◌, ap, arith}
+use Rattle.std.specs.Prelude.{◌≡◌, ◌≤◌, get_or, length}
+use Rattle.std.proofs.Common.{ap, arith}
 use Rattle.std.proofs.lemmas.List.{length-map}
 use Rattle.sip_machine.specs.MachineEvent.{event_in}
 use Rattle.sip_machine.specs.Pools.{picked}

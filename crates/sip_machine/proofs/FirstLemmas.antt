@@ -117,12 +117,12 @@ run-picked xs rows first x run within =
     let size : length (take (length rows) (drop first xs)) ≡ length rows = length-take-le (length rows) (drop first xs) room in
     let count : length (picked xs x rows) ≡ length rows = length-map rows (λ row. get_or xs row x) in
     same_lists (take (length rows) (drop first xs)) (picked xs x rows) (size ∙ sym count)
-      (λ k d low.
-          let inside : k < length rows = omega (arith, low, size) in
-          let is = run.each k inside in
-          let row_low = within k 0 inside in
-          get_or-take (length rows) (drop first xs) k d inside ∙ get_or-drop first xs k d ∙ ap (λ n. get_or xs n d) (sym is)
-          ∙ get_or_default xs (get_or rows k 0) d x row_low ∙ sym (get_or-map (λ row. get_or xs row x) rows k 0 d inside))
+    (λ k d low.
+    let inside : k < length rows = omega (arith, low, size) in
+    let is = run.each k inside in
+    let row_low = within k 0 inside in
+    get_or-take (length rows) (drop first xs) k d inside ∙ get_or-drop first xs k d ∙ ap (λ n. get_or xs n d) (sym is)
+    ∙ get_or_default xs (get_or rows k 0) d x row_low ∙ sym (get_or-map (λ row. get_or xs row x) rows k 0 d inside))
 
 -- Elements that are brought to the front.
 
@@ -201,6 +201,6 @@ module _ {S : Type 0} (input : S → List (List ℕ)) (phases : List S) (from : 
             let there_k : from + (k - from) ≡ k = omega (arith, above_k) in
             mixing.mixed (i - from) p (omega (arith, above_i, low_i, size, all)) (omega (arith, above_i, low_i, size))
             ∙ ap₂ (λ n q. bit_xor n (hash_by (input q))) (prints.same i k [] above_i in_i above_k in_k owes)
-                (ap (λ n. get_or phases n p) there_i ∙ phase ∙ ap (λ n. get_or phases n p) (sym there_k))
+            (ap (λ n. get_or phases n p) there_i ∙ phase ∙ ap (λ n. get_or phases n p) (sym there_k))
             ∙ sym (mixing.mixed (k - from) p (omega (arith, above_k, low_k, size, all)) (omega (arith, above_k, low_k, size)));
       }

@@ -57,26 +57,26 @@ slots-more s print slot newest are is low count =
       some = omega (arith, size, some);
       long = length_push s.olders older ∙ ap (λ n. n + 1) long ∙ sym (length_push s.prints print);
       newest_is = λ other other_low. rw size (
-        let inside : other < slots = omega (arith, other_low, size) in
-        elim (cases_eq other slot) [
-          | inl same ↦
-              let value : get_or (set s.newest slot newest) other 0 ≡ length s.prints + 1 = ap (λ k. get_or (set s.newest slot newest) k 0) same ∙ get_or-set_same s.newest slot newest 0 low ∙ count in
-              rw (value, same ∙ is) (newest-here slots s.prints print)
-          | inr apart ↦
-              rw (get_or-set_other s.newest slot other newest 0 apart)
+          let inside : other < slots = omega (arith, other_low, size) in
+          elim (cases_eq other slot) [
+            | inl same ↦
+                let value : get_or (set s.newest slot newest) other 0 ≡ length s.prints + 1 = ap (λ k. get_or (set s.newest slot newest) k 0) same ∙ get_or-set_same s.newest slot newest 0 low ∙ count in
+                rw (value, same ∙ is) (newest-here slots s.prints print)
+            | inr apart ↦
+                rw (get_or-set_other s.newest slot other newest 0 apart)
                 (newest-other slots s.prints other (get_or s.newest other 0) print (λ same. apart (same ∙ sym is)) (are.newest_is other inside))
-        ]);
+          ]);
       older_is = λ at at_low. rw size (elim (cases_lt at (length s.prints)) [
-          | inl below ↦
-              rw (get_or_append_left s.prints (print ∷ []) 0 at below, get_or_append_left s.olders (older ∷ []) 0 at (omega (arith, below, long)))
-                (newest-before slots s.prints (slot_of slots (get_or s.prints at 0)) at (get_or s.olders at 0) print (omega (arith, below)) (are.older_is at below))
-          | inr here ↦
-              let end : at ≡ length s.prints = omega (arith, here, at_low, length_push s.prints print) in
-              let value : get_or (s.prints ++ print ∷ []) at 0 ≡ print = get_or_push s.prints print 0 at (sym end) in
-              let before : get_or (s.olders ++ older ∷ []) at 0 ≡ older = get_or_push s.olders older 0 at (omega (arith, end, long)) in
-              rw (value, before, end, sym is)
-                (newest-before slots s.prints slot (length s.prints) older print (omega arith) (are.newest_is slot low))
-        ]);
+        | inl below ↦
+            rw (get_or_append_left s.prints (print ∷ []) 0 at below, get_or_append_left s.olders (older ∷ []) 0 at (omega (arith, below, long)))
+            (newest-before slots s.prints (slot_of slots (get_or s.prints at 0)) at (get_or s.olders at 0) print (omega (arith, below)) (are.older_is at below))
+        | inr here ↦
+            let end : at ≡ length s.prints = omega (arith, here, at_low, length_push s.prints print) in
+            let value : get_or (s.prints ++ print ∷ []) at 0 ≡ print = get_or_push s.prints print 0 at (sym end) in
+            let before : get_or (s.olders ++ older ∷ []) at 0 ≡ older = get_or_push s.olders older 0 at (omega (arith, end, long)) in
+            rw (value, before, end, sym is)
+            (newest-before slots s.prints slot (length s.prints) older print (omega arith) (are.newest_is slot low))
+      ]);
     }
 
 -- where one past the newest print of the slot is, there is none of the print behind it
@@ -98,8 +98,8 @@ reached-more s print limit next at are low reached is apart =
       none = λ k high k_low equal. elim (cases_lt k at) [
         | inl below ↦ older.last k high below (ap (slot_of (length s.newest)) equal ∙ sym same)
         | inr above ↦ elim (cases_lt at k) [
-            | inl behind ↦ reached.none k (omega (arith, behind, is)) k_low equal
-            | inr here ↦ apart (ap (λ i. get_or s.prints i 0) (let one : at ≡ k = omega (arith, above, here) in one) ∙ equal)
-          ]
+          | inl behind ↦ reached.none k (omega (arith, behind, is)) k_low equal
+          | inr here ↦ apart (ap (λ i. get_or s.prints i 0) (let one : at ≡ k = omega (arith, above, here) in one) ∙ equal)
+        ]
       ];
     }

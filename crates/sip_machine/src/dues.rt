@@ -276,12 +276,7 @@ impl Dues {
 }
 
 /// A ledger of so many rows, of which this one owes a debt and no other owes anything.
-fn opened(
-    alloc: Global,
-    rows: usize,
-    row: usize,
-    debt: Debt,
-) -> Result<Box<Ledger>, AllocError>
+fn opened(alloc: Global, rows: usize, row: usize, debt: Debt) -> Result<Box<Ledger>, AllocError>
     requires { row < rows }
     ensures { IfOk result (λ boxed. rows_of boxed.value ≡ set (rows_in rows None) row (owed_in (rows_in rows None) row ++ debt ∷ [])) }
 {

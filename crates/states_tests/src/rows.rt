@@ -80,11 +80,7 @@ fn waits_so(alloc: Global, book: &Book, row: &Row) -> Result<bool, Fail> {
     if set.is_empty() {
         return Err("no state".into());
     }
-    Ok(
-        set.last_moment() == row.1
-            && are_left(&mut set, last, row.2)?
-            && has_idle_alone(&set),
-    )
+    Ok(set.last_moment() == row.1 && are_left(&mut set, last, row.2)? && has_idle_alone(&set))
 }
 
 /// Whether the set has no state but the idle one.

@@ -50,8 +50,7 @@ loop-at-preserved g c =
     let here : get_or c.loop-at.pool i d ≡ state = ap (λ ys. get_or ys i d) is ∙ get_or_append_left old found d i (omega (arith, count, below)) ∙ sym (get_or-take c.args.count old i d below) in
     let (added, new_is, gives) = c.in_ok-successors.ensures.ok d in
     let stands = subst (λ s. StandFor g.M.Machine.names g.M.Machine.in_range g.M.Machine.seen texts (r.Take (g.M.Machine.seen texts s) e) added) here gives in
-    rw (take_more xs i d low)
-    (
+    rw (take_more xs i d low) (
       found ++ added,
       new_is ∙ ap (λ ys. ys ++ added) is ∙ append_assoc old found added,
       gives_more g.M.Machine.names g.M.Machine.in_range g.M.Machine.seen texts r e (g.met.M.Machine.lawful m) (take i xs) state found added (found ++ added) covers stands refl,

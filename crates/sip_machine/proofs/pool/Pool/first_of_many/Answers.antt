@@ -46,8 +46,7 @@ loop-at-preserved g c =
           let here : get_or prints (at - from) 0 ≡ print = get_or_default prints (at - from) 0 print low_at ∙ sym c.index-print.ensures in
           let more_rows = length_push rows at in
           let more_kept = length_push kept print in
-          rw (w.rows-is, w.slots-is, w.in_ok-push.ensures.ok, w.in_ok-push-2.ensures.items)
-          (
+          rw (w.rows-is, w.slots-is, w.in_ok-push.ensures.ok, w.in_ok-push-2.ensures.items) (
             first-more xs from at rows at_from first
                 (λ x i d low same. true≢false (sym ((repeats x).1 (Any-here xs rows i d at x low same)) ∙ w.if-not-is_repeat.true)),
             more_kept ∙ ap (λ n. n + 1) long ∙ sym more_rows,

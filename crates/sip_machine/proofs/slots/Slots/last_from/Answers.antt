@@ -34,11 +34,10 @@ loop-next-preserved c =
     get_or_default s.prints at 0 c.index.result.now low ∙ ap (λ (ps : List ℕ). get_or ps at c.index.result.now) (sym prints_now) ∙ sym c.index.ensures in
     let older : get_or s.olders at 0 ≡ c.index-next.result.now =
     get_or_default s.olders at 0 c.index-next.result.now (omega (arith, low, long)) ∙ ap (λ (ps : List ℕ). get_or ps at c.index-next.result.now) (sym olders_now) ∙ sym c.index-next.ensures in
-    let within = (are.older_is at low).within in
-    (
+    let within = (are.older_is at low).within in (
       omega (arith, older, within, low),
       λ limit low_limit is.
-        rw (sym older)
+          rw (sym older)
           (reached-more s c.args.print limit c.loop-next.next at are low_limit (c.loop-next.invariant.1 limit low_limit is) (omega (arith, some)) (λ same. c.if-index-print.false (sym print ∙ same))),
     )
 

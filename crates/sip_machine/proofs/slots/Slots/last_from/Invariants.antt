@@ -7,7 +7,7 @@ abbrev pub invariant-loop-next : goal.invariant-loop-next
 invariant-loop-next l =
     (l.next ≤ length l.self.prints)
     × ((limit : ℕ) → limit ≤ length l.self.prints → IsNewest (length l.self.newest) l.self.prints (slot_of (length l.self.newest) l.print) limit l.fn.newest →
-        IsReached (length l.self.newest) l.self.prints l.print limit l.next)
+    IsReached (length l.self.newest) l.self.prints l.print limit l.next)
 
 abbrev pub decreases-loop-next : goal.decreases-loop-next
 decreases-loop-next l = l.next

@@ -1,5 +1,5 @@
 //! What is shown of logs: rows worked out by hand from the log format and from RFC 3261 section 7.
-use crate::listings::shown::{shown, shown_failing, shown_in, written};
+use crate::shown::{shown, shown_failing, shown_in, written};
 use sip_verdict::{LogReason, ShowError, Shown};
 use std::test::Fail;
 use worked_logs::{FOLDED, Room, STORED, log_of, log_with};

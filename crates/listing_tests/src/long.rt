@@ -1,7 +1,7 @@
 //! Long messages that are shown, and a long log whose source fails on the way: worked out by hand from the log format and from RFC 3261
 //! section 7.
-use crate::listings::listed::listing_failing;
-use crate::listings::shown::{shown, shown_failing_in};
+use crate::listed::listing_failing;
+use crate::shown::{shown, shown_failing_in};
 use sip_verdict::{JudgeError, ShowError, Shown};
 use std::alloc::{AllocError, Global};
 use std::process::Abort;

@@ -1,5 +1,5 @@
 //! Transactions that can stand in many states, and such as owe many messages: what is listed of them, worked out by hand.
-use crate::listings::listed::{listing_on, lists};
+use crate::listed::{listing_on, lists};
 use std::alloc::{AllocError, Global};
 use std::fmt::Write;
 use std::test::Fail;

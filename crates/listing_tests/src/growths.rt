@@ -1,6 +1,6 @@
 //! Logs that are listed while memory is refused: `tests/growths` refuses each growth in turn, and the test then fails with want of memory
 //! or passes with the answer of ample memory.
-use crate::listings::listed::list_rows;
+use crate::listed::list_rows;
 use std::test::Fail;
 use worked_logs::STORED;
 

@@ -1,17 +1,7 @@
 //! The listings of entries, worked out by hand from the machines of RFC 3261 section 17, as RFC 6026 corrects them. T1 is 500, T2 4000, T4
 //! 5000 and the tolerance 50 ms, where no other is named. A message is told by the number of the first entry with its bytes.
-mod growths;
-mod listed;
-mod long;
-mod shown;
-mod shows;
-mod told;
-mod tolerances;
-mod widths;
 
-use crate::listings::listed::{
-    Listed, answers_io, list_rows, listing_on, lists, lists_until_a_read_fails,
-};
+use crate::listed::{Listed, answers_io, list_rows, listing_on, lists, lists_until_a_read_fails};
 use std::test::Fail;
 use worked_logs::{CANCELLED_LOG, STORED, WIDE, cancelled, header, log_of, log_with};
 

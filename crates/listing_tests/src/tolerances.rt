@@ -1,6 +1,6 @@
 //! When each timer's window opens and closes, where an element may be early by one tolerance and late by another: what is listed at a moment
 //! has the phase that may end up to the close, and the one behind its end from the opening on. T1 is 500, T2 4000 and T4 5000 ms.
-use crate::listings::listed::lists;
+use crate::listed::lists;
 use std::alloc::{AllocError, Global};
 use std::process::Abort;
 use std::test::Fail;

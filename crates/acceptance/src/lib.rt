@@ -1,4 +1,4 @@
-//! Tests that cross the crates: whole logs, judged at once and entry by entry, listed and shown.
+//! Tests that cross the crates: whole logs, judged at once and entry by entry.
 #![tactic(auto)]
 
 #[cfg(test)]
@@ -7,8 +7,6 @@ mod formats;
 mod growths;
 #[cfg(test)]
 mod hashers;
-#[cfg(test)]
-mod listings;
 #[cfg(test)]
 mod many;
 #[cfg(test)]

@@ -4,10 +4,8 @@ ghost use Rattle.sip_machine.specs.Owing.{OwingInRange};
 ghost use Rattle.sip_machine.specs.InviteClient.{InviteClientInRange};
 
 use crate::messages::{Numbered, Start, book_of};
-use crate::runs::{Entry, run};
-use sip_machine::{
-    Action, Debt, InviteClient, InviteClientPhase, InviteClientState, Machine, Params, Run,
-};
+use crate::runs::{Entry, State, run, states_of};
+use sip_machine::{Action, Debt, InviteClient, InviteClientPhase, Machine, Params, Pool, Run};
 use std::alloc::Global;
 use std::process::Abort;
 use std::test::Fail;
@@ -57,7 +55,7 @@ fn is_owed(runs: &[Run], want: Option<Debt>) -> bool {
     }
 }
 
-fn is_wanted(state: &InviteClientState, want: Want) -> bool {
+fn is_wanted(state: &State<InviteClientPhase>, want: Want) -> bool {
     match (&state.phase, want) {
         (InviteClientPhase::Idle, Want::Idle) | (InviteClientPhase::Ended, Want::Ended) => true,
         (InviteClientPhase::Calling(waiting), Want::Calling(set, interval)) => {
@@ -73,12 +71,12 @@ fn is_wanted(state: &InviteClientState, want: Want) -> bool {
         ) => *request == INVITE && *cancel == first,
         (InviteClientPhase::Accepted { set }, Want::Accepted(moment)) => *set == moment,
         (InviteClientPhase::Completed { request, set, .. }, Want::Completed(moment, debt)) =>
-            *request == INVITE && *set == moment && is_owed(state.owes.runs(), debt),
+            *request == INVITE && *set == moment && is_owed(&state.owes, debt),
         _ => false,
     }
 }
 
-fn are_wanted(states: &[InviteClientState], want: Want) -> bool {
+fn are_wanted(states: &[State<InviteClientPhase>], want: Want) -> bool {
     match (states, want) {
         ([], Want::Nothing) => true,
         ([only], want) => is_wanted(only, want),
@@ -112,8 +110,8 @@ fn states_after(
     client: &InviteClient,
     transport: &str,
     entries: &[Entry],
-) -> Result<Vec<InviteClientState>, Fail>
-    ensures { IfOk result (λ states. All (OwingInRange InviteClientInRange) states.items) }
+) -> Result<Pool<InviteClientPhase>, Fail>
+    ensures { IfOk result (All (OwingInRange InviteClientInRange)) }
 {
     let book = book_of(alloc, &MESSAGES, "INVITE", transport)?;
     run(alloc, client, &book, entries)
@@ -124,8 +122,8 @@ type Row = (&'static [Entry], Want);
 
 /// Where the entries lead.
 fn leads(alloc: Global, transport: &str, entries: &[Entry], want: Want) -> Result<bool, Fail> {
-    let states = states_after(alloc, &client(500)?, transport, entries)?;
-    Ok(are_wanted(&states, want))
+    let pool = states_after(alloc, &client(500)?, transport, entries)?;
+    Ok(are_wanted(&states_of(alloc, &pool)?, want))
 }
 
 /// That the entries of each row lead to its state.
@@ -411,20 +409,14 @@ fn over_a_reliable_transport(rt: HostRuntime) -> Result<(), Fail> {
 /// When the state may end, and its last moment.
 type Ends = (Option<(u64, Option<u64>)>, Option<u64>);
 
-fn ends_of(client: &InviteClient, state: &InviteClientState) -> Ends
-    requires { OwingInRange InviteClientInRange state.now }
-{
-    (client.end_window(state), client.until(state))
-}
-
 /// The ends of the only state after the entries.
 fn ends_after(alloc: Global, t1: u64, transport: &str, entries: &[Entry]) -> Result<Ends, Fail> {
     let client = client(t1)?;
-    let states = states_after(alloc, &client, transport, entries)?;
-    let [only] = states.as_slice() else {
+    let pool = states_after(alloc, &client, transport, entries)?;
+    if pool.len() != 1 {
         return Err("not one state".into());
-    };
-    Ok(ends_of(&client, only))
+    }
+    Ok((client.end_window(&pool, 0), client.until(&pool, 0)))
 }
 
 /// A base time T1, a transport, entries, and the ends of the only state after them.

@@ -4,10 +4,8 @@ ghost use Rattle.sip_machine.specs.Owing.{OwingInRange};
 ghost use Rattle.sip_machine.specs.InviteServer.{InviteServerInRange};
 
 use crate::messages::{Numbered, Start, book_of};
-use crate::runs::{Entry, run};
-use sip_machine::{
-    Action, InviteServer, InviteServerPhase, InviteServerState, Machine, Owes, Owing, Params, Run,
-};
+use crate::runs::{Entry, State, run, states_of};
+use sip_machine::{Action, InviteServer, InviteServerPhase, Machine, Params, Pool, Run};
 use std::alloc::Global;
 use std::process::Abort;
 use std::test::Fail;
@@ -71,7 +69,7 @@ enum Want {
     Confirmed(u64, &'static [Owed]),
 }
 
-fn is_wanted(state: &InviteServerState, want: Want) -> bool {
+fn is_wanted(state: &State<InviteServerPhase>, want: Want) -> bool {
     match (&state.phase, want) {
         (InviteServerPhase::Idle, Want::Idle) => true,
         (
@@ -81,9 +79,9 @@ fn is_wanted(state: &InviteServerState, want: Want) -> bool {
                 last,
             },
             Want::Proceeding(moment, number, debts),
-        ) => !*reliable && *set == moment && *last == number && are_owed(state.owes.runs(), debts),
+        ) => !*reliable && *set == moment && *last == number && are_owed(&state.owes, debts),
         (InviteServerPhase::Accepted { set }, Want::Accepted(moment, debts)) => {
-            *set == moment && are_owed(state.owes.runs(), debts)
+            *set == moment && are_owed(&state.owes, debts)
         }
         (
             InviteServerPhase::Completed {
@@ -100,15 +98,15 @@ fn is_wanted(state: &InviteServerState, want: Want) -> bool {
                 && *set == moment
                 && *repeat == again
                 && *interval == length
-                && are_owed(state.owes.runs(), debts)
+                && are_owed(&state.owes, debts)
         }
         (InviteServerPhase::Confirmed { reliable, set }, Want::Confirmed(moment, debts)) =>
-            !*reliable && *set == moment && are_owed(state.owes.runs(), debts),
+            !*reliable && *set == moment && are_owed(&state.owes, debts),
         _ => false,
     }
 }
 
-fn are_wanted(states: &[InviteServerState], wants: &[Want]) -> bool {
+fn are_wanted(states: &[State<InviteServerPhase>], wants: &[Want]) -> bool {
     states.len() == wants.len()
         && states
             .iter()
@@ -122,8 +120,8 @@ fn server() -> Result<InviteServer, Fail> {
 }
 
 /// The states after the entries, of all steps.
-fn states_after(alloc: Global, entries: &[Entry]) -> Result<Vec<InviteServerState>, Fail>
-    ensures { IfOk result (λ states. All (OwingInRange InviteServerInRange) states.items) }
+fn states_after(alloc: Global, entries: &[Entry]) -> Result<Pool<InviteServerPhase>, Fail>
+    ensures { IfOk result (All (OwingInRange InviteServerInRange)) }
 {
     let book = book_of(alloc, &MESSAGES, "INVITE", "UDP")?;
     run(alloc, &server()?, &book, entries)
@@ -131,8 +129,8 @@ fn states_after(alloc: Global, entries: &[Entry]) -> Result<Vec<InviteServerStat
 
 /// Where the entries lead.
 fn leads(alloc: Global, entries: &[Entry], wants: &[Want]) -> Result<bool, Fail> {
-    let states = states_after(alloc, entries)?;
-    Ok(are_wanted(&states, wants))
+    let pool = states_after(alloc, entries)?;
+    Ok(are_wanted(&states_of(alloc, &pool)?, wants))
 }
 
 /// Entries, and where they lead.
@@ -501,13 +499,16 @@ fn after_the_ack(rt: HostRuntime) -> Result<(), Fail> {
 }
 
 /// When the state may end, and its last moment.
-fn ends_of(
-    server: &InviteServer,
-    state: &InviteServerState,
-) -> (Option<(u64, Option<u64>)>, Option<u64>)
-    requires { OwingInRange InviteServerInRange state.now }
+type Ends = (Option<(u64, Option<u64>)>, Option<u64>);
+
+/// The ends of the only state.
+fn ends_of(server: &InviteServer, pool: &Pool<InviteServerPhase>) -> Result<Ends, Fail>
+    requires { All (OwingInRange InviteServerInRange) pool.now }
 {
-    (server.end_window(state), server.until(state))
+    if pool.len() != 1 {
+        return Err("not one state".into());
+    }
+    Ok((server.end_window(pool, 0), server.until(pool, 0)))
 }
 
 /// Entries, and the ends of the only state after them.
@@ -558,16 +559,9 @@ static ENDS: &[EndsRow] = &[
 ];
 
 /// The ends of the only state after the entries.
-fn ends_after(
-    alloc: Global,
-    server: &InviteServer,
-    entries: &[Entry],
-) -> Result<(Option<(u64, Option<u64>)>, Option<u64>), Fail> {
-    let states = states_after(alloc, entries)?;
-    let [only] = states.as_slice() else {
-        return Err("not one state".into());
-    };
-    Ok(ends_of(server, only))
+fn ends_after(alloc: Global, server: &InviteServer, entries: &[Entry]) -> Result<Ends, Fail> {
+    let pool = states_after(alloc, entries)?;
+    ends_of(server, &pool)
 }
 
 #[test]
@@ -579,31 +573,27 @@ fn ends(rt: HostRuntime) -> Result<(), Fail> {
             "{entries:?}"
         );
     }
-    assert!(rt; is_wanted(&server.ended(), Want::Idle));
+    assert!(rt; server.ended() == InviteServerPhase::Idle);
     Ok(())
 }
 
 #[test]
 fn ends_over_tcp(rt: HostRuntime) -> Result<(), Fail> {
     let server = server()?;
-    let completed = Owing {
-        phase: InviteServerPhase::Completed {
-            reliable: true,
-            final_message: BUSY,
-            set: 700,
-            repeat: 700,
-            interval: 500,
-        },
-        owes: Owes::none(),
-    };
-    assert!(rt; ends_of(&server, &completed) == (Some((32_650, Some(32_750))), Some(32_750)));
-    let confirmed = Owing {
-        phase: InviteServerPhase::Confirmed {
-            reliable: true,
-            set: 700,
-        },
-        owes: Owes::none(),
-    };
-    assert!(rt; ends_of(&server, &confirmed) == (Some((700, Some(750))), Some(750)));
+    let mut completed = Pool::new(rt.alloc());
+    completed.push(InviteServerPhase::Completed {
+        reliable: true,
+        final_message: BUSY,
+        set: 700,
+        repeat: 700,
+        interval: 500,
+    })?;
+    assert!(rt; ends_of(&server, &completed)? == (Some((32_650, Some(32_750))), Some(32_750)));
+    let mut confirmed = Pool::new(rt.alloc());
+    confirmed.push(InviteServerPhase::Confirmed {
+        reliable: true,
+        set: 700,
+    })?;
+    assert!(rt; ends_of(&server, &confirmed)? == (Some((700, Some(750))), Some(750)));
     Ok(())
 }

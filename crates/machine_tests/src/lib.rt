@@ -10,11 +10,11 @@ mod invite_server;
 #[cfg(test)]
 mod messages;
 #[cfg(test)]
-mod outbox;
-#[cfg(test)]
 mod plain_client;
 #[cfg(test)]
 mod plain_server;
+#[cfg(test)]
+mod pool;
 #[cfg(test)]
 mod rules_3261;
 #[cfg(test)]

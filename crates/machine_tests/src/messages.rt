@@ -4,7 +4,7 @@ ghost use Rattle.sip_machine.specs.MachineEvent.{FitsBook};
 ghost use Rattle.sip_machine.specs.Texts.{Keeps};
 
 use sip_machine::{Action, Book, Event};
-use sip_message::Message;
+use sip_message::{Message, ReadError};
 use std::alloc::{AllocError, Global};
 use std::test::Fail;
 
@@ -92,8 +92,10 @@ pub(crate) fn event_of(
     let Some(bytes) = book.bytes(number) else {
         return Err("not kept".into());
     };
-    let Ok(message) = Message::read(alloc, bytes) else {
-        return Err("not a message".into());
+    let message = match Message::read(alloc, bytes) {
+        Ok(message) => message,
+        Err(ReadError::Memory) => return Err(AllocError.into()),
+        Err(_) => return Err("not a message".into()),
     };
     Ok(Event::of(moment, action, number, &message))
 }

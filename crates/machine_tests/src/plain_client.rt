@@ -4,9 +4,7 @@ ghost use Rattle.sip_machine.specs.PlainClient.{PlainClientInRange};
 
 use crate::messages::{Numbered, Start, book_of};
 use crate::runs::{Entry, run};
-use sip_machine::{
-    Action, Machine, Owes, Owing, Params, PlainClient, PlainClientPhase, PlainClientState, Waiting,
-};
+use sip_machine::{Action, Machine, Params, PlainClient, PlainClientPhase, Pool, Waiting};
 use std::alloc::Global;
 use std::process::Abort;
 use std::test::Fail;
@@ -46,11 +44,11 @@ fn client() -> Result<PlainClient, Fail> {
 /// The phase after the entries, None where one of them has no step.
 fn phase_after(alloc: Global, entries: &[Entry]) -> Result<Option<PlainClientPhase>, Fail> {
     let book = book_of(alloc, &MESSAGES, "OPTIONS", "UDP")?;
-    let states = run(alloc, &client()?, &book, entries)?;
-    match states.as_slice() {
-        [only] => Ok(Some(only.phase)),
-        _ => Ok(None),
+    let pool = run(alloc, &client()?, &book, entries)?;
+    if pool.len() != 1 {
+        return Ok(None);
     }
+    Ok(Some(pool.phase(0)))
 }
 
 /// A state that is wanted, of the request of moment 0 over an unreliable transport.
@@ -214,40 +212,40 @@ fn final_responses_and_failures(rt: HostRuntime) -> Result<(), Fail> {
     all_lead(&rt, FINAL_RESPONSES_AND_FAILURES)
 }
 
-/// When the state may end, and its last moment.
+/// When a state of the phase that owes nothing may end, and its last moment.
 fn ends_of(
+    alloc: Global,
     client: &PlainClient,
     phase: PlainClientPhase,
-) -> (Option<(u64, Option<u64>)>, Option<u64>)
+) -> Result<(Option<(u64, Option<u64>)>, Option<u64>), Fail>
     requires { PlainClientInRange phase }
 {
-    let state: PlainClientState = Owing {
-        phase,
-        owes: Owes::none(),
-    };
-    (client.end_window(&state), client.until(&state))
+    let mut pool = Pool::new(alloc);
+    pool.push(phase)?;
+    Ok((client.end_window(&pool, 0), client.until(&pool, 0)))
 }
 
 #[test]
 fn ends(rt: HostRuntime) -> Result<(), Fail> {
+    let alloc = rt.alloc();
     let client = client()?;
-    assert!(rt; ends_of(&client, PlainClientPhase::Idle) == (None, None));
+    assert!(rt; ends_of(alloc, &client, PlainClientPhase::Idle)? == (None, None));
     // Timer E fires by 550, timer F from 31950 to 32050.
     let timer_f = Some((31_950, Some(32_050)));
     let trying = PlainClientPhase::Trying(waiting(0, 500));
-    assert!(rt; ends_of(&client, trying) == (timer_f, Some(550)));
+    assert!(rt; ends_of(alloc, &client, trying)? == (timer_f, Some(550)));
     let proceeding = PlainClientPhase::Proceeding(waiting(31_500, 4_000));
-    assert!(rt; ends_of(&client, proceeding) == (timer_f, Some(32_050)));
+    assert!(rt; ends_of(alloc, &client, proceeding)? == (timer_f, Some(32_050)));
     let completed = PlainClientPhase::Completed {
         reliable: false,
         set: 700,
     };
-    assert!(rt; ends_of(&client, completed) == (Some((5_650, Some(5_750))), Some(5_750)));
+    assert!(rt; ends_of(alloc, &client, completed)? == (Some((5_650, Some(5_750))), Some(5_750)));
     let completed = PlainClientPhase::Completed {
         reliable: true,
         set: 700,
     };
-    assert!(rt; ends_of(&client, completed) == (Some((700, Some(750))), Some(750)));
-    assert!(rt; ends_of(&client, client.ended().phase) == (None, None));
+    assert!(rt; ends_of(alloc, &client, completed)? == (Some((700, Some(750))), Some(750)));
+    assert!(rt; ends_of(alloc, &client, client.ended())? == (None, None));
     Ok(())
 }

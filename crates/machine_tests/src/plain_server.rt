@@ -4,11 +4,8 @@ ghost use Rattle.sip_machine.specs.Owing.{OwingInRange};
 ghost use Rattle.sip_machine.specs.PlainServer.{PlainServerInRange};
 
 use crate::messages::{Numbered, Start, book_of};
-use crate::runs::{Entry, run};
-use sip_machine::{
-    Action, Debt, Machine, Owes, Owing, Params, PlainServer, PlainServerPhase, PlainServerState,
-    Run,
-};
+use crate::runs::{Entry, State, run, states_of};
+use sip_machine::{Action, Debt, Machine, Params, PlainServer, PlainServerPhase, Pool, Run};
 use std::alloc::Global;
 use std::process::Abort;
 use std::test::Fail;
@@ -61,12 +58,12 @@ enum Want {
     Completed(u32, u64, &'static [Owed]),
 }
 
-fn is_wanted(state: &PlainServerState, want: Want) -> bool {
+fn is_wanted(state: &State<PlainServerPhase>, want: Want) -> bool {
     match (&state.phase, want) {
         (PlainServerPhase::Idle, Want::Idle) => true,
         (PlainServerPhase::Trying { reliable }, Want::Trying) => !*reliable,
         (PlainServerPhase::Proceeding { reliable, last }, Want::Proceeding(number, debts)) =>
-            !*reliable && *last == number && are_owed(state.owes.runs(), debts),
+            !*reliable && *last == number && are_owed(&state.owes, debts),
         (
             PlainServerPhase::Completed {
                 reliable,
@@ -77,12 +74,12 @@ fn is_wanted(state: &PlainServerState, want: Want) -> bool {
         ) => !*reliable
             && *final_message == number
             && *set == moment
-            && are_owed(state.owes.runs(), debts),
+            && are_owed(&state.owes, debts),
         _ => false,
     }
 }
 
-fn are_wanted(states: &[PlainServerState], wants: &[Want]) -> bool {
+fn are_wanted(states: &[State<PlainServerPhase>], wants: &[Want]) -> bool {
     states.len() == wants.len()
         && states
             .iter()
@@ -96,8 +93,8 @@ fn server() -> Result<PlainServer, Fail> {
 }
 
 /// The states after the entries, of all steps.
-fn states_after(alloc: Global, entries: &[Entry]) -> Result<Vec<PlainServerState>, Fail>
-    ensures { IfOk result (λ states. All (OwingInRange PlainServerInRange) states.items) }
+fn states_after(alloc: Global, entries: &[Entry]) -> Result<Pool<PlainServerPhase>, Fail>
+    ensures { IfOk result (All (OwingInRange PlainServerInRange)) }
 {
     let book = book_of(alloc, &MESSAGES, "OPTIONS", "UDP")?;
     run(alloc, &server()?, &book, entries)
@@ -105,8 +102,8 @@ fn states_after(alloc: Global, entries: &[Entry]) -> Result<Vec<PlainServerState
 
 /// Where the entries lead.
 fn leads(alloc: Global, entries: &[Entry], wants: &[Want]) -> Result<bool, Fail> {
-    let states = states_after(alloc, entries)?;
-    Ok(are_wanted(&states, wants))
+    let pool = states_after(alloc, entries)?;
+    Ok(are_wanted(&states_of(alloc, &pool)?, wants))
 }
 
 /// Entries, and where they lead.
@@ -361,10 +358,10 @@ fn are_turns(runs: &[Run], want: Turns) -> bool {
 }
 
 /// Whether the state is proceeding with this last response, and owes these.
-fn proceeds(state: &PlainServerState, (number, turns): (u32, Turns)) -> bool {
+fn proceeds(state: &State<PlainServerPhase>, (number, turns): (u32, Turns)) -> bool {
     match &state.phase {
         PlainServerPhase::Proceeding { last, .. } => {
-            *last == number && are_turns(state.owes.runs(), turns)
+            *last == number && are_turns(&state.owes, turns)
         }
         _ => false,
     }
@@ -392,7 +389,7 @@ static REPEATS: [Entry; 11] = [
 
 /// Whether the entries lead to states that proceed so.
 fn all_proceed(alloc: Global, entries: &[Entry], wants: &[(u32, Turns)]) -> Result<bool, Fail> {
-    let states = states_after(alloc, entries)?;
+    let states = states_of(alloc, &states_after(alloc, entries)?)?;
     Ok(
         states.len() == wants.len()
             && states
@@ -440,13 +437,16 @@ fn equal_debts_stand_in_runs(rt: HostRuntime) -> Result<(), Fail> {
 }
 
 /// When the state may end, and its last moment.
-fn ends_of(
-    server: &PlainServer,
-    state: &PlainServerState,
-) -> (Option<(u64, Option<u64>)>, Option<u64>)
-    requires { OwingInRange PlainServerInRange state.now }
+type Ends = (Option<(u64, Option<u64>)>, Option<u64>);
+
+/// The ends of the only state.
+fn ends_of(server: &PlainServer, pool: &Pool<PlainServerPhase>) -> Result<Ends, Fail>
+    requires { All (OwingInRange PlainServerInRange) pool.now }
 {
-    (server.end_window(state), server.until(state))
+    if pool.len() != 1 {
+        return Err("not one state".into());
+    }
+    Ok((server.end_window(pool, 0), server.until(pool, 0)))
 }
 
 /// Entries, and the ends of the only state after them.
@@ -488,16 +488,9 @@ static ENDS: &[EndsRow] = &[
 ];
 
 /// The ends of the only state after the entries.
-fn ends_after(
-    alloc: Global,
-    server: &PlainServer,
-    entries: &[Entry],
-) -> Result<(Option<(u64, Option<u64>)>, Option<u64>), Fail> {
-    let states = states_after(alloc, entries)?;
-    let [only] = states.as_slice() else {
-        return Err("not one state".into());
-    };
-    Ok(ends_of(server, only))
+fn ends_after(alloc: Global, server: &PlainServer, entries: &[Entry]) -> Result<Ends, Fail> {
+    let pool = states_after(alloc, entries)?;
+    ends_of(server, &pool)
 }
 
 #[test]
@@ -509,14 +502,12 @@ fn ends(rt: HostRuntime) -> Result<(), Fail> {
             "{entries:?}"
         );
     }
-    let over_tcp = Owing {
-        phase: PlainServerPhase::Completed {
-            reliable: true,
-            final_message: FINAL,
-            set: 700,
-        },
-        owes: Owes::none(),
-    };
-    assert!(rt; ends_of(&server, &over_tcp) == (Some((700, Some(750))), Some(750)));
+    let mut over_tcp = Pool::new(rt.alloc());
+    over_tcp.push(PlainServerPhase::Completed {
+        reliable: true,
+        final_message: FINAL,
+        set: 700,
+    })?;
+    assert!(rt; ends_of(&server, &over_tcp)? == (Some((700, Some(750))), Some(750)));
     Ok(())
 }

@@ -1,10 +1,10 @@
 //! The INVITE machines of RFC 3261 without its correction, and restarts, with moments worked out by hand for T1 500, T2 4000, T4 5000 and 50 either way.
 
 use crate::messages::{Numbered, Start, book_of};
-use crate::runs::{Entry, run};
+use crate::runs::{Entry, State, run, states_of};
 use sip_machine::{
     Action, InviteClient, InviteClient3261, InviteClientPhase, InviteServer, InviteServer3261,
-    InviteServer3261Phase, InviteServerPhase, Machine, Owing, Params, Phase, Run, Waiting,
+    InviteServer3261Phase, InviteServerPhase, Machine, Params, Phase, Run, Waiting,
 };
 use std::alloc::Global;
 use std::process::Abort;
@@ -42,9 +42,10 @@ fn states_after<M: Machine>(
     alloc: Global,
     machine: &M,
     entries: &[Entry],
-) -> Result<Vec<M::State>, Fail> {
+) -> Result<Vec<State<M::Phase>>, Fail> {
     let book = book_of(alloc, &MESSAGES, "INVITE", "UDP")?;
-    run(alloc, machine, &book, entries)
+    let pool = run(alloc, machine, &book, entries)?;
+    states_of(alloc, &pool)
 }
 
 /// A debt that is wanted: its message, its deadline, and whether it must be sent.
@@ -67,10 +68,10 @@ fn are_owed(runs: &[Run], wants: &[Owed]) -> bool {
         })
 }
 
-fn are_wanted<P: Phase>(states: &[Owing<P>], wants: &[Want<P>]) -> bool {
+fn are_wanted<P: Phase>(states: &[State<P>], wants: &[Want<P>]) -> bool {
     states.len() == wants.len()
         && states.iter().zip(wants).all(|(state, want)| state.phase == want.0
-            && are_owed(state.owes.runs(), want.1))
+            && are_owed(&state.owes, want.1))
 }
 
 type Server = (&'static [Entry], &'static [Want<InviteServer3261Phase>]);

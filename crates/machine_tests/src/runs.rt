@@ -1,15 +1,35 @@
 //! Runs of a machine over entries: of all steps, and of one state that steps in its own place.
-ghost use Rattle.std.specs.Prelude.{All, IfOk};
+ghost use Rattle.std.specs.Prelude.{◌<◌, All, AllPairs, IfOk, OnOk};
 ghost use Rattle.sip_machine.specs.MachineEvent.{FitsBook};
 ghost use Rattle.sip_machine.specs.Rules.{Knows};
 
 use crate::messages::event_of;
-use sip_machine::{Action, Book, Event, Machine};
+use sip_machine::{Action, Book, Event, Machine, Phase, Pool, Run};
 use std::alloc::Global;
 use std::test::Fail;
 
 /// An entry: its moment, what was done, and the number of its message.
 pub(crate) type Entry = (u64, Action, u32);
+
+/// A state of a pool: its phase, and what it owes.
+#[derive(Debug, Drop)]
+pub(crate) struct State<P> {
+    pub phase: P,
+    pub owes: Vec<Run>,
+}
+
+/// The states of a pool.
+pub(crate) fn states_of<P: Phase>(alloc: Global, pool: &Pool<P>) -> Result<Vec<State<P>>, Fail> {
+    let mut states = Vec::new(alloc);
+    for at in 0..pool.len() {
+        let state = State {
+            phase: pool.phase(at),
+            owes: pool.runs(alloc, at)?,
+        };
+        states.push(state)?;
+    }
+    Ok(states)
+}
 
 /// The states of the machine after the entries, of all steps. Where each entry gives just one, it is the one that steps in its own place.
 pub(crate) fn run<M: Machine>(
@@ -17,51 +37,80 @@ pub(crate) fn run<M: Machine>(
     machine: &M,
     book: &Book,
     entries: &[Entry],
-) -> Result<Vec<M::State>, Fail>
-    ensures { IfOk result (λ states. All M.in_range states.items) }
+) -> Result<Pool<M::Phase>, Fail>
+    ensures { IfOk result (All M.in_range) }
 {
-    let mut states = Vec::new(alloc);
-    states.push(machine.first())?;
+    let mut pool = Pool::new(alloc);
+    pool.push(machine.first())?;
     let mut is_alone = true;
     for &(moment, action, number) in entries {
         let event = event_of(alloc, book, moment, action, number)?;
-        states = step(alloc, machine, book, &states, &event)?;
-        is_alone = is_alone && states.len() == 1;
+        step(alloc, machine, book, &mut pool, &event)?;
+        is_alone = is_alone && pool.len() == 1;
     }
     let alone = run_alone(alloc, machine, book, entries)?;
-    if !agree(&states, is_alone, alone) {
+    if !agree(alloc, &pool, is_alone, &alone)? {
         return Err("in its own place it steps otherwise".into());
     }
-    Ok(states)
+    Ok(pool)
 }
 
 /// Whether the state that stepped in its own place is the only one, where there was just one after each entry.
-fn agree<S: PartialEq + Drop>(states: &[S], is_alone: bool, alone: Option<S>) -> bool {
+fn agree<P: Phase>(
+    alloc: Global,
+    pool: &Pool<P>,
+    is_alone: bool,
+    alone: &Option<Pool<P>>,
+) -> Result<bool, Fail> {
     match alone {
-        Some(alone) => is_alone && states.len() == 1 && states[0] == alone,
-        None => !is_alone,
+        Some(alone) => {
+            let same = are_same(&states_of(alloc, pool)?, &states_of(alloc, alone)?);
+            Ok(is_alone && pool.len() == 1 && same)
+        }
+        None => Ok(!is_alone),
     }
 }
 
-/// The states that the event gives.
-fn step<M: Machine>(
+/// Whether the states are the same, one by one.
+pub(crate) fn are_same<P: Phase>(states: &[State<P>], others: &[State<P>]) -> bool {
+    states.len() == others.len()
+        && states.iter().zip(others).all(|(state, other)| state.phase == other.phase
+            && state.owes.as_slice() == other.owes.as_slice())
+}
+
+/// Puts the states that the event gives in the place of those that take it.
+pub(crate) fn step<M: Machine>(
     alloc: Global,
     machine: &M,
     book: &Book,
-    states: &[M::State],
+    pool: &mut Pool<M::Phase>,
     event: &Event,
-) -> Result<Vec<M::State>, Fail>
+) -> Result<(), Fail>
     requires fits { FitsBook book.now event.now }
-    requires known { All (Knows M.names book.now) states.now }
-    requires in_range { All M.in_range states.now }
-    ensures known { IfOk result (λ next. All (Knows M.names book.now) next.items) }
-    ensures in_range { IfOk result (λ next. All M.in_range next.items) }
+    requires known { All (Knows M.names book.now) pool.old }
+    requires in_range { All M.in_range pool.old }
+    ensures known { OnOk result (All (Knows M.names book.now) pool.new) }
+    ensures in_range { OnOk result (All M.in_range pool.new) }
 {
-    let mut next = Vec::new(alloc);
-    for state in states {
-        machine.successors(book, state, event, &mut next)?;
+    let count = pool.len();
+    for at in 0..count {
+        machine.successors(book, pool, at, event)?;
     }
-    Ok(next)
+    let given = indices(alloc, count, pool.len())?;
+    pool.keep(&given);
+    Ok(())
+}
+
+/// The numbers from one on and before another.
+pub(crate) fn indices(alloc: Global, from: usize, to: usize) -> Result<Vec<usize>, Fail>
+    ensures within { IfOk result (λ rows. All (λ row. row < to) rows.items) }
+    ensures rising { IfOk result (λ rows. AllPairs (λ a b. a < b) rows.items) }
+{
+    let mut rows = Vec::new(alloc);
+    for row in from..to {
+        rows.push(row)?;
+    }
+    Ok(rows)
 }
 
 /// The state that steps in its own place, None where an entry gives none or two.
@@ -70,13 +119,14 @@ fn run_alone<M: Machine>(
     machine: &M,
     book: &Book,
     entries: &[Entry],
-) -> Result<Option<M::State>, Fail> {
-    let mut state = machine.first();
+) -> Result<Option<Pool<M::Phase>>, Fail> {
+    let mut pool = Pool::new(alloc);
+    pool.push(machine.first())?;
     for &(moment, action, number) in entries {
         let event = event_of(alloc, book, moment, action, number)?;
-        if !machine.step(alloc, book, &mut state, &event)? {
+        if !machine.step(book, &mut pool, &event)? {
             return Ok(None);
         }
     }
-    Ok(Some(state))
+    Ok(Some(pool))
 }

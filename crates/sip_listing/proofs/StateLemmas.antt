@@ -2,10 +2,9 @@
 use Rattle.std.proofs.Common.{◌≡◌, ◌++◌, ◌∙◌, ℕ, Some, None, List, [], ◌∷◌, All, map, refl, sym, ap, ap₂, subst}
 use Rattle.std.specs.List.{filter_map}
 use Rattle.std.proofs.lemmas.List.Elements.{All-head, All-tail}
-use Rattle.sip_machine.specs.declared.owing.Owing.{Owing as CodeOwing}
 use Rattle.sip_machine.specs.Texts.{Texts, text_of}
 use Rattle.sip_machine.specs.Owes.{owes_names}
-use Rattle.sip_machine.specs.Owing.{owing_seen, owing_names}
+use Rattle.sip_machine.specs.Owing.{CodeOwing, owing_seen, owing_names}
 use Rattle.sip_machine.specs.Told.{ToldField, Told, Flag, Number, Message, field_by, told_by, told_of, field_message, messages_told}
 use Rattle.sip_machine.specs.inner.DebtLaws.{All-front, All-back}
 use Rattle.sip_states.specs.KeyMachine.{coded_of, of_machine, to_machine}
@@ -37,9 +36,9 @@ module _ (number : List ℕ → ℕ) (texts : Texts) where
   told_back : (told : Told ℕ) → Tells number texts (messages_told told) → told_by number (told_by (text_of texts) told) ≡ told
   told_back told tells = ap (telling told.name) (fields_back told.fields tells)
 
-  module _ {S D X : Type 0} (words : X → Told (List ℕ)) (seen : Texts → S → X) (names : S → List ℕ) where
+  module _ {S X : Type 0} (words : X → Told (List ℕ)) (seen : Texts → S → X) (names : S → List ℕ) where
     -- the text of a state is that of the words that tell it
-    state_told : (x : CodeOwing S D) (state : ToldState) → said_state texts state ≡ meant words seen names texts x → Tells number texts (owing_names names x)
+    state_told : (x : CodeOwing S) (state : ToldState) → said_state texts state ≡ meant words seen names texts x → Tells number texts (owing_names names x)
         → owing_text words number (owing_seen seen texts x) ≡ state_line state
     state_told x state says tells =
         let of_phase : Tells number texts (names x.phase) = All-front (λ name. number (text_of texts name) ≡ name) (names x.phase) (owes_names x.owes) tells in
@@ -50,7 +49,7 @@ module _ (number : List ℕ → ℕ) (texts : Texts) where
         (debts_told number texts x.owes of_debts ∙ ap debts_fields (sym (ap (λ (s : Saying). s.2) says)))
 
     -- and so are those of several
-    states_told : (xs : List (CodeOwing S D)) (states : List ToldState) → map (said_state texts) states ≡ map (meant words seen names texts) xs
+    states_told : (xs : List (CodeOwing S)) (states : List ToldState) → map (said_state texts) states ≡ map (meant words seen names texts) xs
         → All (λ x. Tells number texts (owing_names names x)) xs → map (λ x. owing_text words number (owing_seen seen texts x)) xs ≡ map state_line states
     states_told [] [] are tells = refl
     states_told [] (state ∷ states) are tells = absurd (cc)

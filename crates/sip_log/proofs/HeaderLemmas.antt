@@ -200,11 +200,6 @@ title-length : (format : Format) → length (title_text format) ≡ 12
 title-length One = refl
 title-length Two = refl
 
--- fewer bytes are left
-pub ComesFirst-short : (input : List ℕ) → length input < 12 → HeaderComes input (stops faults.Header)
-ComesFirst-short input short =
-    inr ((λ format rest is. omega (arith, ap length is, length-append (title_text format) rest, title-length format)), refl)
-
 -- the bytes of line 1 are not held
 pub ComesFirst-other : (held ys : List ℕ) → 12 ≤ length held → ((format : Format) → ¬ (take 12 held ≡ title_text format)) → HeaderComes (held ++ ys) (stops faults.Header)
 ComesFirst-other held ys long other = inr (

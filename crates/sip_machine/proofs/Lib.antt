@@ -7,13 +7,6 @@ pub mod BothLemmas
 pub mod TextLaws
 mod OrderLaws
 mod RunLaws
-pub mod OutboxLemmas
-pub mod RunsLemmas
-pub mod RebuiltLemmas
-pub mod FingerprintLemmas
-pub mod SummaryLemmas
-pub mod RisesLemmas
-pub mod RunOrderLemmas
 pub mod PayableLemmas
 pub mod ProvisionalLemmas
 pub mod AckLemmas
@@ -21,4 +14,8 @@ pub mod BesideLemmas
 pub mod ToLemmas
 pub mod RetainLemmas
 pub mod HolderLemmas
-pub mod NamingLemmas
+pub mod DueLemmas
+pub mod RunsLemmas
+pub mod PoolLemmas
+pub mod FirstLemmas
+pub mod SlotsLemmas

@@ -4,9 +4,8 @@ use Rattle.std.specs.Prelude.{◌≡◌, ◌≢◌, ◌<◌, ◌≤◌, ◌↔�
 use Rattle.std.specs.List.{items_where_true}
 use Rattle.std.specs.HashMap.{get}
 use Rattle.std.specs.Cmp.Lexicographic.{bytes_decides}
-use Rattle.std.proofs.Common.{Result, Ok, Err, OnOk, is_err, true≢false, inl, inr, refl, sym, ◌∙◌, ap, subst, arith, cond, get_or}
+use Rattle.std.proofs.Common.{Result, Ok, Err, OnOk, is_err, true≢false, inl, inr, sym, ◌∙◌, ap, subst, arith, get_or}
 use Rattle.std.proofs.lemmas.Bool.{cases_lt}
-use Rattle.std.proofs.lemmas.Bool.Decides.{eqb_tells}
 use Rattle.std.proofs.lemmas.Grind.{get_or_picked}
 use Rattle.std.proofs.lemmas.Option.{slice_get-get_or, get_or_from_slice_get}
 use Rattle.std.proofs.lemmas.List.{get_or-map, get_or-take, get_or_default, length-map, length-take-le, take_all}
@@ -17,12 +16,11 @@ use Rattle.sip_key.specs.Solid.{solid}
 use Rattle.sip_machine.specs.Texts.{Texts, IsBook, Keeps, text_of}
 use Rattle.sip_machine.specs.Retained.{only}
 use Rattle.sip_machine.specs.declared.tos.To.{To}
-use Rattle.sip_machine.specs.declared.tos.Owner.{Owner}
-use Rattle.sip_machine.specs.declared.tos.Owner.TheVariants.{Only, Several}
+use Rattle.sip_machine.specs.declared.tos.Owner.TheVariants.{Only}
 use Rattle.sip_machine.specs.declared.tos.Holder.{Holder}
 use Rattle.sip_machine.specs.declared.tos.Holder.TheVariants.{One, Nobody, Unknown}
 use Rattle.sip_machine.specs.inner.Order.{hash_of}
-use Rattle.sip_machine.specs.inner.Tos.{IsToOf, IsTo, AreTos, Owners, IsOwner, MayOwn, owner_with, AreOwned, IsHolder, HoldsBetween, count_between}
+use Rattle.sip_machine.specs.inner.Tos.{IsToOf, IsTo, AreTos, Owners, IsOwner, MayOwn, AreOwned, IsHolder, HoldsBetween, count_between}
 use Rattle.sip_machine.proofs.BesideLemmas.{among-all, count_between-is, many}
 use Rattle.sip_machine.proofs.TextLaws.{Keeps-grow, text_of-grow}
 use Rattle.sip_machine.proofs.RetainLemmas.{only-Keeps, text_of-only}
@@ -157,43 +155,6 @@ AllPairs-take R n xs up = λ i j d lt low. elim (cases_lt (length xs) n) [
 pub on_ok : {T E : Type 0} (r : Result T E) (P : Type 0) → is_err r ≡ false → OnOk r P → P
 on_ok (Ok x) P is_not ok = ok
 on_ok (Err e) P is_not ok = absurd (true≢false is_not)
-
--- one may own what it owned with one more, and the one more does
-owner-stays : (owner : Option Owner) (n number : ℕ) → IsSomeAnd owner (IsOwner n) → IsOwner n (owner_with owner number)
-owner-stays None n number may = absurd may
-owner-stays (Some (Only m)) n number may =
-    elim (eqb_tells m number) [
-      | inl same ↦ subst (IsOwner n) (sym (ap (λ b. cond b (Only number) Several) same.0)) (may ∙ same.1)
-      | inr other ↦ subst (IsOwner n) (sym (ap (λ b. cond b (Only number) Several) other.0)) tt
-    ]
-owner-stays (Some Several) n number may = tt
-
-owner-more : (owner : Option Owner) (number : ℕ) → IsOwner number (owner_with owner number)
-owner-more None number = refl
-owner-more (Some (Only m)) number =
-    elim (eqb_tells m number) [
-      | inl same ↦ subst (IsOwner number) (sym (ap (λ b. cond b (Only number) Several) same.0)) refl
-      | inr other ↦ subst (IsOwner number) (sym (ap (λ b. cond b (Only number) Several) other.0)) tt
-    ]
-owner-more (Some Several) number = tt
-
--- what is told when one more is
-pub MayOwn-others : (old new : Owners) (hash number : ℕ) (owner : Owner) → owner ≡ owner_with (get nat_eq old hash) number →
-    ((q : ℕ) → get nat_eq new q ≡ cond (nat_eq hash q) (Some owner) (get nat_eq old q)) → (h n : ℕ) → MayOwn old h n → MayOwn new h n
-MayOwn-others old new hash number owner is updates h n may =
-    elim (eqb_tells hash h) [
-      | inl same ↦
-          let now : get nat_eq new h ≡ Some owner = updates h ∙ ap (λ b. cond b (Some owner) (get nat_eq old h)) same.0 in
-          let before : IsSomeAnd (get nat_eq old hash) (IsOwner n) = subst (λ k. IsSomeAnd (get nat_eq old k) (IsOwner n)) (sym same.1) may in
-          let stays : IsOwner n owner = subst (IsOwner n) (sym is) (owner-stays (get nat_eq old hash) n number before) in
-          subst (λ o. IsSomeAnd o (IsOwner n)) (sym now) stays
-      | inr other ↦ subst (λ o. IsSomeAnd o (IsOwner n)) (sym (updates h ∙ ap (λ b. cond b (Some owner) (get nat_eq old h)) other.0)) may
-    ]
-
-pub MayOwn-new : (old new : Owners) (hash number : ℕ) (owner : Owner) → owner ≡ owner_with (get nat_eq old hash) number →
-    get nat_eq new hash ≡ Some owner → MayOwn new hash number
-MayOwn-new old new hash number owner is now =
-    subst (λ o. IsSomeAnd o (IsOwner number)) (sym now) (subst (IsOwner number) (sym is) (owner-more (get nat_eq old hash) number))
 
 -- whose a To is that is one of the list
 pub owned_by : (owners : Owners) (tos : List To) (text : List ℕ) (n : ℕ) → AreOwned owners tos → get nat_eq owners (hash_of text) ≡ Some (Only n) → All (λ to. to.text ≡ text → to.number ≡ n) tos

@@ -5,7 +5,6 @@ use Rattle.sip_machine.specs.declared.event.Kind.{Kind}
 use Rattle.sip_machine.specs.declared.event.Kind.TheVariants.{Request, Response}
 use Rattle.sip_machine.specs.declared.invite_client.InviteClientPhase.{InviteClientPhase as CodePhase}
 use Rattle.sip_machine.specs.declared.invite_client.InviteClientPhase.TheVariants as code
-use Rattle.sip_machine.specs.declared.outbox.Debt.{Debt}
 use Rattle.sip_machine.specs.Times.{Times, last_moment}
 use Rattle.sip_machine.specs.Limits.{open_at, close_at, window_at}
 use Rattle.sip_machine.specs.Texts.{Texts, text_of}
@@ -140,7 +139,6 @@ abbrev pub invite_client_coded : Coded InviteClientPhase
 invite_client_coded =
     record {
       Code = CodePhase;
-      Debts = List Debt;
       seen = invite_client_seen;
       names = invite_client_names;
       InRange = InviteClientInRange;

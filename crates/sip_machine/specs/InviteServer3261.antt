@@ -5,7 +5,6 @@ use Rattle.sip_machine.specs.declared.event.Kind.TheVariants.{Request, Response}
 use Rattle.sip_machine.specs.declared.invite_server_3261.InviteServer3261Phase.{InviteServer3261Phase as CodePhase}
 use Rattle.sip_machine.specs.declared.invite_server_3261.InviteServer3261Phase.TheVariants as code
 use Rattle.sip_machine.specs.declared.invite_server.InviteServerPhase.TheVariants as code_phase
-use Rattle.sip_machine.specs.declared.outbox.Debt.{Debt}
 use Rattle.sip_machine.specs.Times.{Times}
 use Rattle.sip_machine.specs.Texts.{Texts}
 use Rattle.sip_machine.specs.MachineEvent.{MachineEvent}
@@ -117,7 +116,6 @@ abbrev pub invite_server_3261_coded : Coded InviteServer3261Phase
 invite_server_3261_coded =
     record {
       Code = CodePhase;
-      Debts = List Debt;
       seen = invite_server_3261_seen;
       names = invite_server_3261_names;
       InRange = InviteServer3261InRange;

@@ -13,6 +13,8 @@ pub mod Debts
 pub mod Owes
 pub mod Figure
 pub mod Owing
+pub mod Prints
+pub mod Pools
 pub mod Replies
 pub mod inner
 pub mod PlainClient

@@ -1,9 +1,13 @@
-use Rattle.std.specs.Prelude.{ℕ, ◌<◌, ◌^◌, List, All, map}
-use Rattle.sip_machine.specs.declared.outbox.Debt.{Debt}
+use Rattle.std.specs.Prelude.{ℕ, ◌<◌, ◌^◌, List, [], All, get_or, map}
+use Rattle.sip_ledger.specs.declared.debt.Debt.{Debt}
 use Rattle.sip_machine.specs.Texts.{Texts, text_of}
 use Rattle.sip_machine.specs.Debts.{Owed}
 
 -- A machine's debts of the code, whose messages are numbers of a book.
+
+-- what one of many states owes, by its row
+abbrev pub owed_in : List (List Debt) → ℕ → List Debt
+owed_in rows row = get_or rows row []
 
 -- the debt beside the texts of a book
 abbrev pub owed_seen : Texts → Debt → Owed

@@ -3,7 +3,6 @@ use Rattle.sip_machine.specs.declared.event.Kind.{Kind}
 use Rattle.sip_machine.specs.declared.event.Kind.TheVariants.{Request, Response}
 use Rattle.sip_machine.specs.declared.plain_client.PlainClientPhase.{PlainClientPhase as CodePhase}
 use Rattle.sip_machine.specs.declared.plain_client.PlainClientPhase.TheVariants as code
-use Rattle.sip_machine.specs.declared.debts.NoDebts.{NoDebts}
 use Rattle.sip_machine.specs.Times.{Times, last_moment}
 use Rattle.sip_machine.specs.Limits.{close_at, window_at}
 use Rattle.sip_machine.specs.Texts.{Texts}
@@ -99,7 +98,6 @@ abbrev pub plain_client_coded : Coded PlainClientPhase
 plain_client_coded =
     record {
       Code = CodePhase;
-      Debts = NoDebts;
       seen = plain_client_seen;
       names = plain_client_names;
       InRange = PlainClientInRange;

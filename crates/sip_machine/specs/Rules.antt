@@ -25,13 +25,14 @@ pub record Hide {X : Type 0} (r : Rules X) (x : X) (h : ℕ) (y : X) : Type 0 wh
   pub waited : Waits r x h
   pub gives : y ≡ r.ended
 
--- what every machine keeps: the first and the ended state stay for ever, and a visible step gives a state that can wait at its own moment
+-- what every machine keeps: the first and the ended state stay for ever, and a visible step leads from and to a state that can wait at its own moment
 pub record IsLawful {X : Type 0} (r : Rules X) : Type 0 where
   pub first_has_no_end : r.window r.first ≡ None
   pub first_stays : r.until r.first ≡ None
   pub ended_has_no_end : r.window r.ended ≡ None
   pub ended_stays : r.until r.ended ≡ None
   pub fresh : (x : X) (e : MachineEvent) (y : X) → r.Take x e y → Waits r y e.moment
+  pub timely : (x : X) (e : MachineEvent) (y : X) → r.Take x e y → Waits r x e.moment
 
 -- the messages that a state names are kept
 abbrev pub Knows : {S : Type 0} → (S → List ℕ) → Texts → S → Type 0

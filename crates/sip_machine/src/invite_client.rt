@@ -13,24 +13,23 @@ ghost use Rattle.sip_machine.specs.InviteClient.{Sends, invite_client_seen, invi
 mod acks;
 
 use crate::book::Book;
-use crate::debts::BoxedDebts;
+use crate::dues::Dues;
 use crate::event::{Event, Kind, Method, is_provisional, is_success, is_unsuccessful};
 use crate::invite_client::acks::first_acked;
-use crate::owes::Owes;
-use crate::owing::Owing;
 use crate::phases::{Change, Phase, Phases, Turn};
 use crate::timers::timeout;
 use crate::told::{Field, Told};
 use crate::waiting::Waiting;
 use sip_times::Params;
 use std::alloc::{AllocError, Global};
+use std::hash::Hash;
 use std::marker::Model;
 
 /// Timer D over an unreliable transport, in milliseconds.
 const TIMER_D: u64 = 32_000;
 
 /// A phase of the INVITE client transaction. Moments are in milliseconds, and messages are numbers of the `Book`.
-#[derive(Clone, Copy, Debug, PartialEq, Eq, PartialOrd, Ord)]
+#[derive(Clone, Copy, Debug, PartialEq, Eq, Hash)]
 pub enum InviteClientPhase {
     /// No INVITE was sent yet.
     Idle,
@@ -57,11 +56,10 @@ pub enum InviteClientPhase {
 }
 
 impl Phase for InviteClientPhase {
-    type Debts = BoxedDebts;
-}
+    ghost use Rattle.sip_machine.specs.inner.InviteClientLaws.{invite_client_exact};
 
-/// A state of the INVITE client transaction: its phase, and the responses for which it owes an ACK.
-pub type InviteClientState = Owing<InviteClientPhase>;
+    ghost exact = { invite_client_exact };
+}
 
 /// The INVITE client transaction.
 #[derive(Clone, Copy, Debug)]
@@ -91,7 +89,7 @@ impl Phases for InviteClient {
     ghost use Rattle.std.specs.Prelude.{refl, []};
     ghost use Rattle.sip_machine.specs.declared.invite_client.InviteClientPhase.TheVariants.{Idle, Ended};
     ghost use Rattle.sip_machine.specs.InviteClient.{InviteClientPhase as Seen, invite_client, invite_client_told, invite_client_seen, invite_client_names, InviteClientInRange};
-    ghost use Rattle.sip_machine.specs.inner.InviteClientLaws.{invite_client_is_figure, invite_client_window_same, invite_client_closes_same, invite_client_exact, invite_client_apart, invite_client_by_names};
+    ghost use Rattle.sip_machine.specs.inner.InviteClientLaws.{invite_client_is_figure, invite_client_window_same, invite_client_closes_same, invite_client_apart, invite_client_by_names};
 
     type Phase = InviteClientPhase;
 
@@ -245,15 +243,16 @@ impl Phases for InviteClient {
         book: &Book,
         phase: &InviteClientPhase,
         event: &Event,
-        owes: &Owes<InviteClientPhase>,
-    ) -> Result<Option<usize>, AllocError> {
+        dues: &mut Dues,
+        row: usize,
+    ) -> Result<Option<u32>, AllocError> {
         let Kind::Request(Method::Ack) = event.kind() else {
             return Ok(None);
         };
         let InviteClientPhase::Completed { request, .. } = *phase else {
             return Ok(None);
         };
-        first_acked(alloc, book, request, owes, event)
+        first_acked(alloc, book, request, event, dues, row)
     }
 
     fn stays(&self, _phase: &InviteClientPhase, _kind: Kind) -> bool {
@@ -361,8 +360,6 @@ impl Phases for InviteClient {
     ghost window_stands = { invite_client_window_same };
 
     ghost closes_stand = { invite_client_closes_same };
-
-    ghost exact = { invite_client_exact };
 
     ghost apart = { invite_client_apart };
 

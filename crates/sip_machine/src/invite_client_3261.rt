@@ -5,9 +5,9 @@ ghost use Rattle.sip_machine.specs.InviteClient.{invite_client_seen};
 ghost use Rattle.sip_machine.specs.inner.InviteClient3261Laws.{IsEndedBy};
 
 use crate::book::Book;
+use crate::dues::Dues;
 use crate::event::{Event, Kind, is_success};
 use crate::invite_client::{InviteClient, InviteClientPhase};
-use crate::owes::Owes;
 use crate::phases::{Change, Phases, Turn};
 use crate::told::Told;
 use sip_times::Params;
@@ -46,7 +46,7 @@ impl Phases for InviteClient3261 {
     ghost use Rattle.sip_machine.specs.declared.invite_client.InviteClientPhase.TheVariants.{Idle, Ended};
     ghost use Rattle.sip_machine.specs.InviteClient.{InviteClientPhase as Seen, invite_client_told, invite_client_seen, invite_client_names, InviteClientInRange};
     ghost use Rattle.sip_machine.specs.InviteClient3261.{invite_client_3261};
-    ghost use Rattle.sip_machine.specs.inner.InviteClientLaws.{invite_client_window_same, invite_client_closes_same, invite_client_exact, invite_client_apart, invite_client_by_names};
+    ghost use Rattle.sip_machine.specs.inner.InviteClientLaws.{invite_client_window_same, invite_client_closes_same, invite_client_apart, invite_client_by_names};
     ghost use Rattle.sip_machine.specs.inner.InviteClient3261Laws.{invite_client_3261_is_figure};
 
     type Phase = InviteClientPhase;
@@ -113,9 +113,10 @@ impl Phases for InviteClient3261 {
         book: &Book,
         phase: &InviteClientPhase,
         event: &Event,
-        owes: &Owes<InviteClientPhase>,
-    ) -> Result<Option<usize>, AllocError> {
-        self.corrected.paid(alloc, book, phase, event, owes)
+        dues: &mut Dues,
+        row: usize,
+    ) -> Result<Option<u32>, AllocError> {
+        self.corrected.paid(alloc, book, phase, event, dues, row)
     }
 
     fn stays(&self, phase: &InviteClientPhase, kind: Kind) -> bool {
@@ -155,8 +156,6 @@ impl Phases for InviteClient3261 {
     ghost window_stands = { invite_client_window_same };
 
     ghost closes_stand = { invite_client_closes_same };
-
-    ghost exact = { invite_client_exact };
 
     ghost apart = { invite_client_apart };
 

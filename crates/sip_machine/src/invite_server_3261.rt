@@ -15,20 +15,19 @@ ghost use Rattle.sip_machine.specs.inner.InviteServer3261Laws.{turn_within};
 ghost use Rattle.sip_machine.specs.inner.Single.{AnswersOne};
 
 use crate::book::Book;
-use crate::debts::BoxedDebts;
+use crate::dues::Dues;
 use crate::event::{Event, Kind, Method, is_success};
 use crate::invite_server::{InviteServer, InviteServerPhase};
-use crate::owes::Owes;
-use crate::owing::Owing;
-use crate::paying::first_equal;
+use crate::paying::equal_bytes;
 use crate::phases::{Change, Phase, Phases, Turn};
 use crate::told::{Field, Told};
 use sip_times::Params;
 use std::alloc::{AllocError, Global};
+use std::hash::Hash;
 use std::marker::Model;
 
 /// A phase of the INVITE server transaction of an element that was built before RFC 6026.
-#[derive(Clone, Copy, Debug, PartialEq, Eq, PartialOrd, Ord)]
+#[derive(Clone, Copy, Debug, PartialEq, Eq, Hash)]
 pub enum InviteServer3261Phase {
     /// A 2xx was sent: it is the user's, which sends it again, and the INVITE may come again.
     Passed,
@@ -41,11 +40,10 @@ pub enum InviteServer3261Phase {
 }
 
 impl Phase for InviteServer3261Phase {
-    type Debts = BoxedDebts;
-}
+    ghost use Rattle.sip_machine.specs.inner.InviteServer3261Laws.{invite_server_3261_exact};
 
-/// A state of the transaction: its phase, and the responses that it owes.
-pub type InviteServer3261State = Owing<InviteServer3261Phase>;
+    ghost exact = { invite_server_3261_exact };
+}
 
 /// The INVITE server transaction of an element that was built before RFC 6026: a 2xx is the last that it does.
 #[derive(Clone, Copy, Debug)]
@@ -78,7 +76,7 @@ impl Phases for InviteServer3261 {
     ghost use Rattle.sip_machine.specs.declared.invite_server.InviteServerPhase.TheVariants.{Idle};
     ghost use Rattle.sip_machine.specs.declared.invite_server_3261.InviteServer3261Phase.TheVariants.{In};
     ghost use Rattle.sip_machine.specs.InviteServer3261.{InviteServer3261Phase as Seen, invite_server_3261, invite_server_3261_told, invite_server_3261_seen, invite_server_3261_names, InviteServer3261InRange};
-    ghost use Rattle.sip_machine.specs.inner.InviteServer3261Laws.{invite_server_3261_is_figure, invite_server_3261_window_same, invite_server_3261_closes_same, invite_server_3261_exact, invite_server_3261_apart, invite_server_3261_by_names};
+    ghost use Rattle.sip_machine.specs.inner.InviteServer3261Laws.{invite_server_3261_is_figure, invite_server_3261_window_same, invite_server_3261_closes_same, invite_server_3261_apart, invite_server_3261_by_names};
 
     type Phase = InviteServer3261Phase;
 
@@ -156,15 +154,16 @@ impl Phases for InviteServer3261 {
         book: &Book,
         _phase: &InviteServer3261Phase,
         event: &Event,
-        owes: &Owes<InviteServer3261Phase>,
-    ) -> Result<Option<usize>, AllocError> {
+        dues: &mut Dues,
+        row: usize,
+    ) -> Result<Option<u32>, AllocError> {
         match event.kind() {
             Kind::Request(_) => Ok(None),
             Kind::Response(code) => {
                 if is_success(code) {
                     return Ok(None);
                 }
-                Ok(first_equal(book, event, owes))
+                Ok(equal_bytes(book, event, dues, row))
             }
         }
     }
@@ -232,8 +231,6 @@ impl Phases for InviteServer3261 {
     ghost window_stands = { invite_server_3261_window_same };
 
     ghost closes_stand = { invite_server_3261_closes_same };
-
-    ghost exact = { invite_server_3261_exact };
 
     ghost apart = { invite_server_3261_apart };
 

@@ -1,106 +1,120 @@
 //! What every machine of a transaction (RFC 3261 section 17) offers, and the laws that it keeps.
-ghost use Rattle.std.specs.Prelude.{◌≡◌, ◌++◌, ◌∷◌, [], ℕ, List, Option, IfOk, OnOk, OnErr, Contains, true};
+ghost use Rattle.std.specs.Prelude.{◌≡◌, ◌<◌, ◌++◌, [], ℕ, List, Option, IfOk, OnOk, OnErr, Contains, length};
+ghost use Rattle.std.specs.List.{HoldsAt};
 ghost use Rattle.std.specs.Bool.{OnTrue, OnFalse};
 ghost use Rattle.sip_machine.specs.MachineEvent.{FitsBook, event_in};
 ghost use Rattle.sip_machine.specs.Texts.{Texts, IsBook, text_of};
 ghost use Rattle.sip_machine.specs.Rules.{Rules, IsLawful, Knows, StandFor};
 ghost use Rattle.sip_machine.specs.Naming.{AppendsAll};
+ghost use Rattle.sip_machine.specs.Owing.{CodeOwing, at_rest};
 
 use crate::book::Book;
 use crate::event::Event;
-use std::alloc::{AllocError, Global};
+use crate::phases::Phase;
+use crate::pool::Pool;
+use std::alloc::AllocError;
 
 /// A machine of a transaction. What it means are its rules, over states that hold their messages as
-/// bytes; a state of the code holds numbers of a `Book` in their place.
+/// bytes; a state of the code holds numbers of a `Book` in their place, and stands in a `Pool`.
 pub trait Machine: Drop {
-    /// A state of the code. Its `==` is over all its data.
-    type State: Ord + Drop;
+    /// A phase of the code: a state is one, with what is owed beside it.
+    type Phase: Phase;
 
     /// A state as the rules see it.
     ghost Seen: { Type 0 };
 
     /// What a state of the code stands for, beside the texts of a book.
-    ghost seen: { Texts → Self.State → Seen };
+    ghost seen: { Texts → CodeOwing Self.Phase → Seen };
 
     /// The numbers of the messages that a state of the code names.
-    ghost names: { Self.State → List ℕ };
+    ghost names: { CodeOwing Self.Phase → List ℕ };
 
     /// The moments of a state of the code are within the limits, so that no sum wraps.
-    ghost in_range: { Self.State → Type 0 };
+    ghost in_range: { CodeOwing Self.Phase → Type 0 };
 
     /// What may happen, and when.
     ghost rules: { Self → Rules Seen };
 
     /// The state before anything was sent or received.
-    ghost first: { Self → Self.State };
+    ghost first: { Self → CodeOwing Self.Phase };
 
     /// The state after an end.
-    ghost ended: { Self → Self.State };
+    ghost ended: { Self → CodeOwing Self.Phase };
 
     /// From when and until when a state of the code may end.
-    ghost end_window: { Self → Self.State → Option (ℕ × Option ℕ) };
+    ghost end_window: { Self → CodeOwing Self.Phase → Option (ℕ × Option ℕ) };
 
     /// The last moment of a state of the code.
-    ghost until: { Self → Self.State → Option ℕ };
+    ghost until: { Self → CodeOwing Self.Phase → Option ℕ };
 
-    /// The state before anything was sent or received.
-    fn first(&self) -> Self::State
-        ensures { result ≡ first self.now };
+    /// The phase of the state before anything was sent or received, which owes nothing.
+    fn first(&self) -> Self::Phase
+        ensures { at_rest result ≡ first self.now };
 
-    /// The state after an end.
-    fn ended(&self) -> Self::State
-        ensures { result ≡ ended self.now };
+    /// The phase of the state after an end, which owes nothing.
+    fn ended(&self) -> Self::Phase
+        ensures { at_rest result ≡ ended self.now };
 
-    /// Appends each state that the event gives, once. On an error the vector is as before.
+    /// Puts each state behind the others, once, that the event gives from the one at the index. On an error all is as before.
     fn successors(
         &self,
         book: &Book,
-        state: &Self::State,
+        pool: &mut Pool<Self::Phase>,
+        at: usize,
         event: &Event,
-        out: &mut Vec<Self::State>,
     ) -> Result<(), AllocError>
+        requires at { at < length pool.old }
         requires fits { FitsBook book.now event.now }
-        requires known { Knows names book.now state.now }
-        requires in_range { in_range state.now }
-        ensures ok { OnOk result ((added : List Self.State) × (out.new.items ≡ out.old.items ++ added)
+        requires known { HoldsAt (Knows names book.now) pool.old at }
+        requires in_range { HoldsAt in_range pool.old at }
+        ensures ok { HoldsAt (λ x. OnOk result ((added : List (CodeOwing Self.Phase)) × (pool.new ≡ pool.old ++ added)
             × StandFor names in_range seen book.now
-            ((rules self.now).Take (seen book.now state.now) (event_in book.now event.now)) added) }
-        ensures err { OnErr result (out.new.items ≡ out.old.items) };
+            ((rules self.now).Take (seen book.now x) (event_in book.now event.now)) added)) pool.old at }
+        ensures err { OnErr result (pool.new ≡ pool.old) };
 
-    /// Takes the event where the state stands, if it gives just one state, and tells whether it did. If it did not, or on
-    /// an error, the state is as before.
+    /// Takes the event where the only state stands, if it gives just one state, and tells whether it did. If it did not, or on
+    /// an error, all is as before.
     fn step(
         &self,
-        alloc: Global,
         book: &Book,
-        state: &mut Self::State,
+        pool: &mut Pool<Self::Phase>,
         event: &Event,
     ) -> Result<bool, AllocError>
+        requires alone { length pool.old ≡ 1 }
         requires fits { FitsBook book.now event.now }
-        requires known { Knows names book.now state.old }
-        requires in_range { in_range state.old }
-        ensures one { IfOk result (λ stepped. OnTrue stepped (StandFor names in_range seen book.now
-            ((rules self.now).Take (seen book.now state.old) (event_in book.now event.now)) (state.new ∷ []))) }
-        ensures other { IfOk result (λ stepped. OnFalse stepped (state.new ≡ state.old)) }
-        ensures err { OnErr result (state.new ≡ state.old) };
+        requires known { HoldsAt (Knows names book.now) pool.old 0 }
+        requires in_range { HoldsAt in_range pool.old 0 }
+        ensures one { HoldsAt (λ x. IfOk result (λ stepped. OnTrue stepped (StandFor names in_range seen book.now
+            ((rules self.now).Take (seen book.now x) (event_in book.now event.now)) pool.new))) pool.old 0 }
+        ensures alone { IfOk result (λ stepped. OnTrue stepped (length pool.new ≡ 1)) }
+        ensures other { IfOk result (λ stepped. OnFalse stepped (pool.new ≡ pool.old)) }
+        ensures err { OnErr result (pool.new ≡ pool.old) };
 
-    /// From when, and until when if there is such a moment, the state may end; None if it may not.
+    /// From when, and until when if there is such a moment, the state at the index may end; None if it may not.
     /// Moments are in milliseconds.
-    fn end_window(&self, state: &Self::State) -> Option<(u64, Option<u64>)>
-        requires { in_range state.now }
-        ensures { result ≡ end_window self.now state.now };
+    fn end_window(&self, pool: &Pool<Self::Phase>, at: usize) -> Option<(u64, Option<u64>)>
+        requires at { at < length pool.now }
+        requires in_range { HoldsAt in_range pool.now at }
+        ensures { HoldsAt (λ x. result ≡ end_window self.now x) pool.now at };
 
-    /// The last moment to which the state may be waited in, in milliseconds; None if there is none.
-    fn until(&self, state: &Self::State) -> Option<u64>
-        requires { in_range state.now }
-        ensures { result ≡ until self.now state.now };
+    /// The last moment to which the state at the index may be waited in, in milliseconds; None if there is none.
+    fn until(&self, pool: &Pool<Self::Phase>, at: usize) -> Option<u64>
+        requires at { at < length pool.now }
+        requires in_range { HoldsAt in_range pool.now at }
+        ensures { HoldsAt (λ x. result ≡ until self.now x) pool.now at };
 
-    /// Appends the numbers of the messages that the state names, each at least once. On an error the vector is as before.
-    fn names(&self, state: &Self::State, out: &mut Vec<u32>) -> Result<(), AllocError>
-        ensures ok { OnOk result (AppendsAll (names state.now) out.old.items out.new.items) }
+    /// Appends the numbers of the messages that the state at the index names, each at least once. On an error the vector is as before.
+    fn names(
+        &self,
+        pool: &Pool<Self::Phase>,
+        at: usize,
+        out: &mut Vec<u32>,
+    ) -> Result<(), AllocError>
+        requires { at < length pool.now }
+        ensures ok { HoldsAt (λ x. OnOk result (AppendsAll (names x) out.old.items out.new.items)) pool.now at }
         ensures err { OnErr result (out.new.items ≡ out.old.items) };
 
-    /// The first and the ended state stay for ever, and an event gives states that can wait at its moment.
+    /// The first and the ended state stay for ever, and an event leads from and to states that can wait at its moment.
     ghost lawful: { (m : Self) → IsLawful (rules m) };
 
     /// The first state stands for that of the rules.
@@ -116,19 +130,16 @@ pub trait Machine: Drop {
     ghost ended_fits: { (m : Self) → (names (ended m) ≡ []) × in_range (ended m) };
 
     /// A state ends when what it stands for does.
-    ghost window_stands: { (m : Self) (texts : Texts) (x : Self.State) → (rules m).window (seen texts x) ≡ end_window m x };
+    ghost window_stands: { (m : Self) (texts : Texts) (x : CodeOwing Self.Phase) → (rules m).window (seen texts x) ≡ end_window m x };
 
     /// And it is waited in as long.
-    ghost until_stands: { (m : Self) (texts : Texts) (x : Self.State) → (rules m).until (seen texts x) ≡ until m x };
-
-    /// Equal states are the same one.
-    ghost exact: { (x y : Self.State) → Self.State.eq x y ≡ true → x ≡ y };
+    ghost until_stands: { (m : Self) (texts : Texts) (x : CodeOwing Self.Phase) → (rules m).until (seen texts x) ≡ until m x };
 
     /// States that stand for the same beside one book are the same one.
-    ghost apart: { (texts : Texts) (x y : Self.State) → IsBook texts → Knows names texts x → Knows names texts y →
+    ghost apart: { (texts : Texts) (x y : CodeOwing Self.Phase) → IsBook texts → Knows names texts x → Knows names texts y →
         seen texts x ≡ seen texts y → x ≡ y };
 
     /// A state stands for the same beside books that agree on what it names.
-    ghost by_names: { (a b : Texts) (x : Self.State) → ((n : ℕ) → Contains (names x) n → text_of a n ≡ text_of b n) →
+    ghost by_names: { (a b : Texts) (x : CodeOwing Self.Phase) → ((n : ℕ) → Contains (names x) n → text_of a n ≡ text_of b n) →
         seen a x ≡ seen b x };
 }

@@ -2,20 +2,19 @@
 ghost use Rattle.std.specs.Prelude.{◌≡◌};
 
 use crate::book::Book;
-use crate::debts::NoDebts;
+use crate::dues::Dues;
 use crate::event::{Event, Kind, is_final, is_provisional};
-use crate::owes::Owes;
-use crate::owing::Owing;
 use crate::phases::{Change, Phase, Phases, Turn};
 use crate::timers::{linger, timeout};
 use crate::told::{Field, Told};
 use crate::waiting::Waiting;
 use sip_times::Params;
 use std::alloc::{AllocError, Global};
+use std::hash::Hash;
 use std::marker::Model;
 
 /// A phase of the non-INVITE client transaction. Moments are in milliseconds.
-#[derive(Clone, Copy, Debug, PartialEq, Eq, PartialOrd, Ord)]
+#[derive(Clone, Copy, Debug, PartialEq, Eq, Hash)]
 pub enum PlainClientPhase {
     /// Nothing was sent yet.
     Idle,
@@ -29,11 +28,10 @@ pub enum PlainClientPhase {
 }
 
 impl Phase for PlainClientPhase {
-    type Debts = NoDebts;
-}
+    ghost use Rattle.sip_machine.specs.inner.PlainClientLaws.{plain_client_exact};
 
-/// A state of the non-INVITE client transaction: its phase. It owes nothing.
-pub type PlainClientState = Owing<PlainClientPhase>;
+    ghost exact = { plain_client_exact };
+}
 
 /// The non-INVITE client transaction.
 #[derive(Clone, Copy, Debug)]
@@ -63,7 +61,7 @@ impl Phases for PlainClient {
     ghost use Rattle.std.specs.Prelude.{refl, []};
     ghost use Rattle.sip_machine.specs.declared.plain_client.PlainClientPhase.TheVariants.{Idle, Ended};
     ghost use Rattle.sip_machine.specs.PlainClient.{PlainClientPhase as Seen, plain_client, plain_client_told, plain_client_seen, plain_client_names, PlainClientInRange};
-    ghost use Rattle.sip_machine.specs.inner.PlainClientLaws.{plain_client_is_figure, plain_client_window_same, plain_client_closes_same, plain_client_exact, plain_client_apart, plain_client_by_names};
+    ghost use Rattle.sip_machine.specs.inner.PlainClientLaws.{plain_client_is_figure, plain_client_window_same, plain_client_closes_same, plain_client_apart, plain_client_by_names};
 
     type Phase = PlainClientPhase;
 
@@ -176,8 +174,9 @@ impl Phases for PlainClient {
         _book: &Book,
         _phase: &PlainClientPhase,
         _event: &Event,
-        _owes: &Owes<PlainClientPhase>,
-    ) -> Result<Option<usize>, AllocError> {
+        _dues: &mut Dues,
+        _row: usize,
+    ) -> Result<Option<u32>, AllocError> {
         Ok(None)
     }
 
@@ -257,8 +256,6 @@ impl Phases for PlainClient {
     ghost window_stands = { plain_client_window_same };
 
     ghost closes_stand = { plain_client_closes_same };
-
-    ghost exact = { plain_client_exact };
 
     ghost apart = { plain_client_apart };
 

@@ -13,9 +13,10 @@ use crate::limit::earlier;
 use crate::retransmits::retransmits;
 use crate::told::Field;
 use sip_times::Params;
+use std::hash::Hash;
 
 /// A request that waits for its response. Moments and intervals are in milliseconds.
-#[derive(Clone, Copy, Debug, PartialEq, Eq, PartialOrd, Ord)]
+#[derive(Clone, Copy, Debug, PartialEq, Eq, Hash)]
 pub struct Waiting {
     /// Whether its transport is reliable.
     pub reliable: bool,

@@ -15,12 +15,6 @@ pub within_test : (m : ℕ) (limit : Option ℕ) → (is_within m limit ≡ true
 within_test m None = (λ e. tt, λ h. refl)
 within_test m (Some last) = (leb-true m last, le-leb m last)
 
--- and so does what the code calls with it
-pub within_told : (m n : ℕ) (limit until : Option ℕ) (b : Bool) → m ≡ n → limit ≡ until → b ≡ is_within m limit → (b ≡ true) ↔ IsWithin n until
-within_told m n limit until b same_moment same is =
-    let told : b ≡ is_within n until = is ∙ ap (λ k. is_within k limit) same_moment ∙ ap (is_within n) same in
-    (λ e. (within_test n until).0 (sym told ∙ e), λ h. told ∙ (within_test n until).1 h)
-
 module _ {S : Type 0} (InRange : S → Type 0) (window : S → Option (ℕ × Option ℕ)) (until : S → Option ℕ) (ended : S) (ended_stays : until ended ≡ None) (h m : ℕ)
     (xs ys : List S) (apart : AllPairs (λ x y. x ≢ y) xs) (in_range : All InRange xs) where
   -- the ended state can wait

@@ -77,9 +77,3 @@ module _ {X : Type 0} (test : X → Bool) (x : X) where
 -- a filter keeps no more than there was
 pub filter_shorter : {X : Type 0} (test : X → Bool) (xs : List X) → length (filter test xs) ≤ length xs
 filter_shorter test xs = omega (arith, length-filter_both test (λ x. not (test x)) (λ x. refl) xs)
-
--- where equal elements are the same, a search for an equal one tells whether the element is there
-pub found_is : {X : Type 0} (E : X → X → Bool) → IsEquivalence E → ((x y : X) → E x y ≡ true → x ≡ y) → (xs ys : List X) (x y : X) (r : Bool) → ys ≡ xs → y ≡ x →
-    IsAnyAnswer (λ z t. E z y ≡ t) ys r → Decides r (Contains xs x)
-found_is E e exact xs ys x y r same_list same answers =
-    rw (← same_list, ← same) (Decides-contains ys y r (contains_decides E (λ a b. (exact a b, λ alike. rw alike (e.refl b))) ys y r answers))

@@ -1,9 +1,11 @@
-use Rattle.std.proofs.Common.{◌≡◌, ◌≢◌, ◌↔◌, ◌≤◌, ◌⊎◌, inl, inr, ℕ, Option, List, [], ◌∷◌, ◌++◌, All, AllPairs, Contains, ap, map, get_or, subst}
-use Rattle.std.proofs.lemmas.List.{map-append}
-use Rattle.std.proofs.lemmas.List.Elements.{All-nil, All-append, All-contains, Contains-get_or, Contains-append_left, Contains-append_right, Contains-append_cases, Contains-push, Contains-push_cases}
+use Prim.Native.Nat.{suc, zero}
+use Rattle.std.proofs.Common.{◌≡◌, ◌≢◌, ◌↔◌, ◌≤◌, ◌<◌, ◌⊎◌, inl, inr, ℕ, Option, List, [], ◌∷◌, ◌++◌, All, AllPairs, Contains, ap, ap₂, arith, drop, refl, length, length-append, map, get_or, subst, sym, take, ◌∙◌, ◌+◌}
+use Rattle.std.proofs.Math.Seq.{drop-append_seam, get_or-append_seam, take-append_seam}
+use Rattle.std.proofs.lemmas.List.{get_or-take, get_or_append_left, length-take-le, map-append}
+use Rattle.std.proofs.lemmas.List.Elements.{All-get_or, All-nil, All-append, All-contains, Contains-get_or, Contains-append_left, Contains-append_right, Contains-append_cases, Contains-push, Contains-push_cases}
 use Rattle.sip_machine.specs.Texts.{Texts, IsBook}
 use Rattle.sip_machine.specs.MachineEvent.{MachineEvent}
-use Rattle.sip_machine.specs.Rules.{Rules, Waits, Knows, StandFor}
+use Rattle.sip_machine.specs.Rules.{Rules, IsLawful, Knows, StandFor}
 use Rattle.sip_states.specs.inner.Ways.{SomeCanEnd, Covers, GivesFrom, GivesAfter}
 use Rattle.sip_states.proofs.Listed.{Contains-none, Contains-here, Contains-single, Contains-map, Contains-from_map}
 use Rattle.sip_states.proofs.Waiting.{Wait-stay, Wait-end, Wait-cases}
@@ -52,12 +54,12 @@ module _ {X S : Type 0} (names : S → List ℕ) (InRange : S → Type 0) (seen 
     gives_still xs s y g =
         record { before = g.before; among = (rw map-append (Contains-append_left (map (seen texts) xs) (seen texts s ∷ []) g.before g.among.0), g.among.1); takes = g.takes }
 
-    -- one more state that can wait gives what its step gives
-    gives_push : (xs : List S) (s : S) → Waits r (seen texts s) e.moment → (y : X) → (GivesFrom seen texts r xs e y ⊎ r.Take (seen texts s) e y) ↔ GivesFrom seen texts r (xs ++ s ∷ []) e y
-    gives_push xs s waits y = (
+    -- one more state gives what its step gives
+    gives_push : IsLawful r → (xs : List S) (s : S) (y : X) → (GivesFrom seen texts r xs e y ⊎ r.Take (seen texts s) e y) ↔ GivesFrom seen texts r (xs ++ s ∷ []) e y
+    gives_push lawful xs s y = (
       λ h. elim h [
         | inl g ↦ gives_still xs s y g
-        | inr takes ↦ record { before = seen texts s; among = (rw map-append (Contains-push (map (seen texts) xs) (seen texts s)), waits); takes = takes }
+        | inr takes ↦ record { before = seen texts s; among = (rw map-append (Contains-push (map (seen texts) xs) (seen texts s)), lawful.timely (seen texts s) e y takes); takes = takes }
       ],
       λ g. elim (seen_push xs s g.before g.among.0) [
         | inl old ↦ inl (record { before = g.before; among = (old, g.among.1); takes = g.takes })
@@ -66,24 +68,11 @@ module _ {X S : Type 0} (names : S → List ℕ) (InRange : S → Type 0) (seen 
     )
 
     -- so its successors come to those found
-    pub gives_more : (xs : List S) (s : S) (found added new : List S) → Waits r (seen texts s) e.moment → Covers names InRange seen texts (GivesFrom seen texts r xs e) found →
+    pub gives_more : IsLawful r → (xs : List S) (s : S) (found added new : List S) → Covers names InRange seen texts (GivesFrom seen texts r xs e) found →
         StandFor names InRange seen texts (r.Take (seen texts s) e) added → new ≡ found ++ added → Covers names InRange seen texts (GivesFrom seen texts r (xs ++ s ∷ []) e) new
-    gives_more xs s found added new waits c stands is =
-        Covers-iff (λ y. GivesFrom seen texts r xs e y ⊎ r.Take (seen texts s) e y) (GivesFrom seen texts r (xs ++ s ∷ []) e) (gives_push xs s waits) new
+    gives_more lawful xs s found added new c stands is =
+        Covers-iff (λ y. GivesFrom seen texts r xs e y ⊎ r.Take (seen texts s) e y) (GivesFrom seen texts r (xs ++ s ∷ []) e) (gives_push lawful xs s) new
         (Covers-append (GivesFrom seen texts r xs e) (r.Take (seen texts s) e) found added new c stands is)
-
-    -- one that cannot gives none
-    pub gives_same : (xs : List S) (s : S) (found : List S) → (Waits r (seen texts s) e.moment → ⊥) → Covers names InRange seen texts (GivesFrom seen texts r xs e) found →
-        Covers names InRange seen texts (GivesFrom seen texts r (xs ++ s ∷ []) e) found
-    gives_same xs s found over c =
-        Covers-iff (GivesFrom seen texts r xs e) (GivesFrom seen texts r (xs ++ s ∷ []) e)
-        (λ y. (
-          gives_still xs s y,
-          λ g. elim (seen_push xs s g.before g.among.0) [
-            | inl old ↦ record { before = g.before; among = (old, g.among.1); takes = g.takes }
-            | inr same ↦ absurd (over (rw same g.among.1))
-          ],
-        )) found c
 
 module _ {X S : Type 0} (names : S → List ℕ) (InRange : S → Type 0) (seen : Texts → S → X) (r : Rules X) (ended : S) (window : S → Option (ℕ × Option ℕ)) (until : S → Option ℕ)
     (follows : Follows names seen r ended window until) (texts : Texts) (xs : List S) (h : ℕ) (e : MachineEvent) (low : h ≤ e.moment) where
@@ -129,14 +118,14 @@ module _ {X S : Type 0} (names : S → List ℕ) (InRange : S → Type 0) (seen 
       )) new
       (Covers-append names InRange seen texts (GivesFrom seen texts r xs e) (r.Take (seen texts ended) e) found added new c stands is)
 
-  -- the only state, where it can wait and cannot end before, gives what its step gives
-  pub gives_alone : (s : S) → xs ≡ s ∷ [] → Waits r (seen texts s) e.moment → (SomeCanEnd window until h e.moment xs → ⊥) → (new : List S) →
+  -- the only state, where it cannot end before, gives what its step gives
+  pub gives_alone : (s : S) → xs ≡ s ∷ [] → (SomeCanEnd window until h e.moment xs → ⊥) → (new : List S) →
       StandFor names InRange seen texts (r.Take (seen texts s) e) new → StandFor names InRange seen texts (GivesAfter seen texts r xs h e) new
-  gives_alone s is waits none new stands =
+  gives_alone s is none new stands =
       let here : map (seen texts) xs ≡ seen texts s ∷ [] = ap (map (seen texts)) is in
       let same : (y : X) → r.Take (seen texts s) e y ↔ GivesAfter seen texts r xs h e y =
       λ y. (
-        λ takes. stayed_gives y (record { before = seen texts s; among = (rw here (Contains-here (seen texts s) []), waits); takes = takes }),
+        λ takes. stayed_gives y (record { before = seen texts s; among = (rw here (Contains-here (seen texts s) []), follows.lawful.timely (seen texts s) e y takes); takes = takes }),
         λ g. elim (after_gives y g) [
           | inl from ↦
               let only = (Contains-single (seen texts s) from.before).0 (rw here at from.among.0) in
@@ -166,3 +155,46 @@ module _ {X S : Type 0} (names : S → List ℕ) (InRange : S → Type 0) (seen 
         known = known;
         in_range = λ k d low. All-contains InRange found (get_or new k d) c.in_range ((same (get_or new k d)).0 (Contains-get_or new k d low));
       }
+
+-- The states of a pool, behind which others were found.
+
+-- what the first ones give, as many, was found behind all of them
+abbrev pub HasFound : {X S : Type 0} → (S → List ℕ) → (S → Type 0) → (Texts → S → X) → Texts → Rules X → List S → List S → ℕ → MachineEvent → List S → Type 0
+HasFound {X} {S} names InRange seen texts r firsts old at e new =
+    (found : List S) × (new ≡ old ++ found) × Covers names InRange seen texts (GivesFrom seen texts r (take at firsts) e) found
+
+module _ {S : Type 0} where
+  -- the only element of a list is all of it
+  pub only : (xs : List S) (d : S) → length xs ≡ 1 → xs ≡ get_or xs 0 d ∷ []
+  only [] d one = absurd (omega (arith, one))
+  only (x ∷ []) d one = refl
+  only (x ∷ y ∷ xs) d one = absurd (omega (arith, one))
+
+  take-shorter : (n m : ℕ) (xs : List S) → n ≤ m → take n (take m xs) ≡ take n xs
+  take-shorter zero m xs le = refl
+  take-shorter (suc n) zero xs le = absurd (omega (arith, le))
+  take-shorter (suc n) (suc m) [] le = refl
+  take-shorter (suc n) (suc m) (x ∷ xs) le = ap (λ ys. x ∷ ys) (take-shorter n m xs (omega (arith, le)))
+
+  -- a state among the first ones, behind which others stand
+  pub first-state : (P : S → Type 0) (old found new : List S) (count at : ℕ) (d : S) → new ≡ old ++ found → count ≤ length old → at < count → All P (take count old) → P (get_or new at d)
+  first-state P old found new count at d is le low all =
+      let size : length (take count old) ≡ count = length-take-le count old le in
+      let here : get_or new at d ≡ get_or (take count old) at d = ap (λ ys. get_or ys at d) is ∙ get_or_append_left old found d at (omega (arith, le, low)) ∙ sym (get_or-take count old at d low) in
+      subst P (sym here) (All-get_or P (take count old) at d (omega (arith, size, low)) all)
+
+  -- what stands behind them
+  pub found-behind : (old found new : List S) (n : ℕ) → new ≡ old ++ found → n ≡ length old → drop n new ≡ found
+  found-behind old found new n is at = ap₂ drop at is ∙ drop-append_seam old found
+
+  -- the first one behind them
+  pub next-there : (old mid new found : List S) (x d : S) (n : ℕ) → mid ≡ old ++ x ∷ [] → new ≡ mid ++ found → n ≡ length old → get_or new n d ≡ x
+  next-there old mid new found x d n mid_is new_is at =
+      let size : length mid ≡ length old + 1 = ap length mid_is ∙ length-append old (x ∷ []) in
+      ap (λ ys. get_or ys n d) new_is ∙ get_or_append_left mid found d n (omega (arith, at, size)) ∙ ap₂ (λ ys k. get_or ys k d) mid_is at ∙ get_or-append_seam old x [] d
+
+  -- behind the states and more that stand as before, the states do too
+  pub before-more : (old mid new added : List S) → mid ≡ old ++ added → take (length mid) new ≡ mid → take (length old) new ≡ old
+  before-more old mid new added is stands =
+      let size : length mid ≡ length old + length added = ap length is ∙ length-append old added in
+      sym (take-shorter (length old) (length mid) new (omega (arith, size))) ∙ ap (take (length old)) (stands ∙ is) ∙ take-append_seam old added

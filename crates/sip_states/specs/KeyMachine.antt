@@ -9,7 +9,7 @@ use Rattle.sip_times.specs.declared.rules.Rules.TheVariants.{R3261, R6026}
 use Rattle.sip_machine.specs.Times.{Times}
 use Rattle.sip_machine.specs.Rules.{Rules}
 use Rattle.sip_machine.specs.Figure.{Owing, rules_of as rules_of_figure}
-use Rattle.sip_machine.specs.declared.owing.Owing.{Owing as CodeOwing}
+use Rattle.sip_machine.specs.Owing.{CodeOwing}
 use Rattle.sip_machine.specs.Transaction.{Transaction, Coded, idle_state}
 use Rattle.sip_machine.specs.InviteClient.{InviteClientPhase, invite_client, invite_client_coded}
 use Rattle.sip_machine.specs.PlainClient.{PlainClientPhase, plain_client, plain_client_coded}
@@ -84,7 +84,7 @@ coded_holds OfInviteServer3261 = invite_server_3261_is_coded
 
 -- the states of each machine as the code has them
 abbrev pub StateOf : MachineKind → Type 0
-StateOf machine = CodeOwing (coded_of machine).Code (coded_of machine).Debts
+StateOf machine = CodeOwing (coded_of machine).Code
 
 -- a set of this machine
 abbrev pub set_of : (machine : MachineKind) → Held Times (StateOf machine) → AnySet

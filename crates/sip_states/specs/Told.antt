@@ -1,10 +1,10 @@
 -- The states of a set in words.
 use Rattle.std.specs.Prelude.{◌≡◌, ℕ, List, map}
-use Rattle.sip_machine.specs.declared.outbox.Debt.{Debt}
-use Rattle.sip_machine.specs.declared.owing.Owing.{Owing as CodeOwing}
+use Rattle.sip_ledger.specs.declared.debt.Debt.{Debt}
+use Rattle.sip_ledger.specs.Runs.{debts_in}
 use Rattle.sip_machine.specs.Texts.{Texts, text_of}
 use Rattle.sip_machine.specs.Told.{Told, told_by, told_of, messages_told}
-use Rattle.sip_machine.specs.inner.Runs.{debts_of}
+use Rattle.sip_machine.specs.Owing.{CodeOwing}
 use Rattle.sip_states.specs.KeyMachine.{coded_of, by_machine}
 use Rattle.sip_states.specs.declared.any_set.AnySet.{AnySet}
 use Rattle.sip_states.specs.declared.told.ToldState.{ToldState}
@@ -15,15 +15,15 @@ Saying = Told (List ℕ) × List ℕ × List Debt
 
 -- what these words say, beside the texts of a book
 abbrev pub said_state : Texts → ToldState → Saying
-said_state texts state = (told_by (text_of texts) (told_of state.phase), messages_told (told_of state.phase), debts_of state.owes.items)
+said_state texts state = (told_by (text_of texts) (told_of state.phase), messages_told (told_of state.phase), debts_in state.owes.items)
 
-module _ {S D X : Type 0} (words : X → Told (List ℕ)) (seen : Texts → S → X) (names : S → List ℕ) where
+module _ {S X : Type 0} (words : X → Told (List ℕ)) (seen : Texts → S → X) (names : S → List ℕ) where
   -- what is to be said of a state of the code
-  abbrev pub meant : Texts → CodeOwing S D → Saying
+  abbrev pub meant : Texts → CodeOwing S → Saying
   meant texts x = (words (seen texts x.phase), names x.phase, x.owes)
 
   -- these words say it of these states, one by one
-  abbrev pub AreToldAs : List (CodeOwing S D) → List ToldState → Type 0
+  abbrev pub AreToldAs : List (CodeOwing S) → List ToldState → Type 0
   AreToldAs states told = (texts : Texts) → map (said_state texts) told ≡ map (meant texts) states
 
 -- these are the states of the set in words

@@ -1,9 +1,11 @@
 //! Which states can end, and which can wait.
-ghost use Rattle.std.specs.Prelude.{◌≡◌, ◌≢◌, ◌≤◌, ◌↔◌, [], All, AllPairs, IsTrue, OnOk, OnErr, filter};
+ghost use Rattle.std.specs.Prelude.{◌≡◌, ◌≢◌, ◌<◌, ◌≤◌, ◌↔◌, [], All, AllPairs, Contains, IsTrue, OnOk, OnErr, filter, length};
+ghost use Rattle.std.specs.List.{HoldsAt};
 ghost use Rattle.sip_machine.specs.Limits.{IsWithin};
+ghost use Rattle.sip_machine.specs.Owing.{at_rest};
 ghost use Rattle.sip_states.specs.inner.Ways.{is_within, IsFirstEnd, CanEnd, SomeCanEnd, CanReach, SomeCanReach, IsLastOf, Advances};
 
-use sip_machine::Machine;
+use sip_machine::{Machine, Phase, Pool};
 use std::alloc::AllocError;
 
 /// Whether the moment is not past the limit, if there is one.
@@ -16,98 +18,120 @@ pub(crate) fn is_within(moment: u64, limit: Option<u64>) -> bool
     }
 }
 
-/// The first moment from `from` on at which the state can end, None if it cannot.
-fn first_end<M: Machine>(machine: &M, state: &M::State, from: u64) -> Option<u64>
-    requires { M.in_range state.now }
-    ensures { IsFirstEnd (M.end_window machine.now state.now) (M.until machine.now state.now) from result }
+/// The first moment from `from` on at which the state at the index can end, None if it cannot.
+fn first_end<M: Machine>(machine: &M, pool: &Pool<M::Phase>, at: usize, from: u64) -> Option<u64>
+    requires at { at < length pool.now }
+    requires in_range { HoldsAt M.in_range pool.now at }
+    ensures { HoldsAt (λ x. IsFirstEnd (M.end_window machine.now x) (M.until machine.now x) from result) pool.now at }
 {
-    let (opens, closes) = machine.end_window(state)?;
+    let (opens, closes) = machine.end_window(pool, at)?;
     let first = from.max(opens);
-    if is_within(first, closes) && is_within(first, machine.until(state)) {
+    if is_within(first, closes) && is_within(first, machine.until(pool, at)) {
         Some(first)
     } else {
         None
     }
 }
 
-/// Whether the state can end at a moment from `from` to `to`.
-fn can_end<M: Machine>(machine: &M, state: &M::State, from: u64, to: u64) -> bool
-    requires { M.in_range state.now }
-    ensures { IsTrue result ↔ CanEnd (M.end_window machine.now state.now) (M.until machine.now state.now) from to }
+/// Whether the state at the index can end at a moment from `from` to `to`.
+fn can_end<M: Machine>(machine: &M, pool: &Pool<M::Phase>, at: usize, from: u64, to: u64) -> bool
+    requires at { at < length pool.now }
+    requires in_range { HoldsAt M.in_range pool.now at }
+    ensures { HoldsAt (λ x. IsTrue result ↔ CanEnd (M.end_window machine.now x) (M.until machine.now x) from to) pool.now at }
 {
-    match first_end(machine, state, from) {
+    match first_end(machine, pool, at, from) {
         None => false,
         Some(first) => first <= to,
     }
 }
 
 /// Whether one of the states can.
-pub(crate) fn some_can_end<M: Machine>(machine: &M, states: &[M::State], from: u64, to: u64) -> bool
-    requires { All M.in_range states.now }
-    ensures { IsTrue result ↔ SomeCanEnd (M.end_window machine.now) (M.until machine.now) from to states.now }
+pub(crate) fn some_can_end<M: Machine>(
+    machine: &M,
+    pool: &Pool<M::Phase>,
+    from: u64,
+    to: u64,
+) -> bool
+    requires { All M.in_range pool.now }
+    ensures { IsTrue result ↔ SomeCanEnd (M.end_window machine.now) (M.until machine.now) from to pool.now }
 {
-    states.iter().any(|state| can_end(machine, state, from, to))
+    for at in 0..pool.len() {
+        if can_end(machine, pool, at, from, to) {
+            return true;
+        }
+    }
+    false
 }
 
 /// Keeps the states that can wait until the moment.
-fn keep_waiting<M: Machine>(machine: &M, states: &mut Vec<M::State>, moment: u64)
-    requires { All M.in_range states.old.items }
-    ensures { states.new.items ≡ filter (λ x. is_within moment (M.until machine.now x)) states.old.items }
+fn keep_waiting<M: Machine>(machine: &M, pool: &mut Pool<M::Phase>, moment: u64)
+    requires { All M.in_range pool.old }
+    ensures { pool.new ≡ filter (λ x. is_within moment (M.until machine.now x)) pool.old }
 {
     let mut kept = 0;
-    for i in 0..states.len() {
-        if is_within(moment, machine.until(&states[i])) {
-            states.swap(kept, i);
+    for at in 0..pool.len() {
+        if is_within(moment, machine.until(pool, at)) {
+            pool.copy(at, kept);
             kept += 1;
         }
     }
-    states.truncate(kept);
+    pool.truncate(kept);
+}
+
+/// Whether one of the states is in this phase, and owes nothing.
+fn has_at_rest<P: Phase>(pool: &Pool<P>, phase: P) -> bool
+    ensures { IsTrue result ↔ Contains pool.now (at_rest phase) }
+{
+    for at in 0..pool.len() {
+        if pool.is_at_rest(at, phase) {
+            return true;
+        }
+    }
+    false
 }
 
 /// Lets the states wait: those that can stay, and the ended one where one of them can end.
 pub(crate) fn advance_states<M: Machine>(
     machine: &M,
-    states: &mut Vec<M::State>,
+    pool: &mut Pool<M::Phase>,
     from: u64,
     to: u64,
 ) -> Result<(), AllocError>
-    requires in_range { All M.in_range states.old.items }
-    requires distinct { AllPairs (λ x y. x ≢ y) states.old.items }
-    ensures advances { OnOk result (Advances M.in_range (M.end_window machine.now) (M.until machine.now) (M.ended machine.now) from to states.old.items states.new.items) }
-    ensures err { OnErr result (states.new.items ≡ states.old.items) }
+    requires in_range { All M.in_range pool.old }
+    requires distinct { AllPairs (λ x y. x ≢ y) pool.old }
+    ensures advances { OnOk result (Advances M.in_range (M.end_window machine.now) (M.until machine.now) (M.ended machine.now) from to pool.old pool.new) }
+    ensures err { OnErr result (pool.new ≡ pool.old) }
 {
-    if some_can_end(machine, states.as_slice(), from, to) {
-        let ended = machine.ended();
-        if !states.contains(&ended) {
-            states.push(ended)?;
-        }
+    if some_can_end(machine, pool, from, to) && !has_at_rest(pool, machine.ended()) {
+        pool.push(machine.ended())?;
     }
-    keep_waiting(machine, states, to);
+    keep_waiting(machine, pool, to);
     Ok(())
 }
 
-/// The last moment to which one can wait who stands in the state, None if there is none: once the
+/// The last moment to which one can wait who stands in the state at the index, None if there is none: once the
 /// state can end one can wait for ever.
-fn last_of<M: Machine>(machine: &M, state: &M::State, from: u64) -> Option<u64>
-    requires { M.in_range state.now }
-    ensures { IsLastOf (CanReach (M.end_window machine.now state.now) (M.until machine.now state.now) from) from result }
+fn last_of<M: Machine>(machine: &M, pool: &Pool<M::Phase>, at: usize, from: u64) -> Option<u64>
+    requires at { at < length pool.now }
+    requires in_range { HoldsAt M.in_range pool.now at }
+    ensures { HoldsAt (λ x. IsLastOf (CanReach (M.end_window machine.now x) (M.until machine.now x) from) from result) pool.now at }
 {
-    match first_end(machine, state, from) {
+    match first_end(machine, pool, at, from) {
         Some(_) => None,
-        None => machine.until(state),
+        None => machine.until(pool, at),
     }
 }
 
 /// The last moment to which one can wait who stands in one of the states, None if there is none.
-pub(crate) fn last_of_all<M: Machine>(machine: &M, states: &[M::State], from: u64) -> Option<u64>
-    requires some { states.now ≢ [] }
-    requires in_range { All M.in_range states.now }
-    requires waiting { All (λ x. IsWithin from (M.until machine.now x)) states.now }
-    ensures { IsLastOf (λ m. SomeCanReach (M.end_window machine.now) (M.until machine.now) from m states.now) from result }
+pub(crate) fn last_of_all<M: Machine>(machine: &M, pool: &Pool<M::Phase>, from: u64) -> Option<u64>
+    requires some { pool.now ≢ [] }
+    requires in_range { All M.in_range pool.now }
+    requires waiting { All (λ x. IsWithin from (M.until machine.now x)) pool.now }
+    ensures { IsLastOf (λ m. SomeCanReach (M.end_window machine.now) (M.until machine.now) from m pool.now) from result }
 {
     let mut last = from;
-    for state in states {
-        last = last.max(last_of(machine, state, from)?);
+    for at in 0..pool.len() {
+        last = last.max(last_of(machine, pool, at, from)?);
     }
     Some(last)
 }

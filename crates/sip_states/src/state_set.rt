@@ -1,20 +1,21 @@
 //! The states in which the runs of a machine can stand at a moment.
-ghost use Rattle.std.specs.Prelude.{◌≡◌, ◌≢◌, ◌↔◌, ◌+◌, ◌⊎◌, [], ◌∷◌, ◌≤◌, OnOk, OnErr, All, Contains, IfOk, IsErrOf, IsTrue, flat_map, length, map};
+ghost use Rattle.std.specs.Prelude.{◌≡◌, ◌≢◌, ◌↔◌, ◌+◌, ◌⊎◌, [], ◌∷◌, ◌<◌, ◌≤◌, OnOk, OnErr, All, AllPairs, Contains, IfOk, IsErrOf, IsTrue, flat_map, length, map, take};
 ghost use Rattle.std.specs.Bool.{OnTrue, OnFalse};
 ghost use Rattle.sip_machine.specs.Texts.{Texts, IsBook};
 ghost use Rattle.sip_machine.specs.MachineEvent.{FitsBook, event_in};
 ghost use Rattle.sip_machine.specs.Naming.{AppendsAll};
+ghost use Rattle.sip_machine.specs.Owing.{CodeOwing};
 ghost use Rattle.sip_machine.specs.Rules.{Knows, StandFor};
+ghost use Rattle.sip_machine.specs.Pools.{picked};
 ghost use Rattle.sip_states.specs.Held.{IsKept};
 ghost use Rattle.sip_states.specs.Runs.{Wait, RunGives, IsAgenda, IsWide, widest};
+ghost use Rattle.sip_states.specs.inner.Ways.{GivesAfter};
 
-use crate::each_once::keep_each_once;
 use crate::ends::{advance_states, last_of_all};
 use crate::steps::{find_given, step_alone};
-use sip_machine::{Book, Event, Machine};
+use sip_machine::{Book, Event, Machine, Pool};
 use std::alloc::{AllocError, Global};
 use std::marker::Model;
-use std::mem;
 use thiserror::Error;
 
 /// How many states are followed after an event.
@@ -44,23 +45,22 @@ impl From<AllocError> for TakeError {
 
 /// The states in which the runs of a machine can stand at a moment, in milliseconds.
 #[derive(Drop)]
-#[derive_where(Debug; M, M::State)]
+#[derive_where(Debug; M, M::Phase)]
 pub struct StateSet<M: Machine> {
     machine: M,
     moment: u64,
-    states: Vec<M::State>,
-    /// Room for the states that the next event gives.
-    found: Vec<M::State>,
+    states: Pool<M::Phase>,
 }
 
 impl<M: Machine> Model for StateSet<M> {
+    ghost use Rattle.sip_machine.specs.Owing.{CodeOwing};
     ghost use Rattle.sip_states.specs.Held.{Held, IsKept};
 
-    ghost Value = { Held M M.State };
+    ghost Value = { Held M (CodeOwing M.Phase) };
 
-    ghost view = { λ s. record { machine = s.machine; moment = s.moment; states = s.states.items } };
+    ghost view = { λ s. record { machine = s.machine; moment = s.moment; states = s.states } };
 
-    ghost invariant = { λ s. IsKept M.in_range M.until M.ended (record { machine = s.machine; moment = s.moment; states = s.states.items }) };
+    ghost invariant = { λ s. IsKept M.in_range M.until M.ended (record { machine = s.machine; moment = s.moment; states = s.states }) };
 }
 
 impl<M: Machine> StateSet<M> {
@@ -68,13 +68,12 @@ impl<M: Machine> StateSet<M> {
     pub fn start(alloc: Global, machine: M) -> Result<Self, AllocError>
         ensures { IfOk result (λ set. set ≡ record { machine = machine; moment = 0; states = M.first machine ∷ [] }) }
     {
-        let mut states = Vec::new(alloc);
+        let mut states = Pool::new(alloc);
         states.push(machine.first())?;
         Ok(StateSet {
             machine,
             moment: 0,
             states,
-            found: Vec::new(alloc),
         })
     }
 
@@ -110,10 +109,11 @@ impl<M: Machine> StateSet<M> {
             (event_in book.now event.now)) }
         ensures err { OnErr result (self.new ≡ self.old) }
     {
-        if self.take_alone(book, event)? {
-            return Ok(());
+        if !self.take_alone(book, event)? {
+            self.take_each(book, event)?;
         }
-        self.take_each(book, event)
+        self.states.tidy();
+        Ok(())
     }
 
     /// Lets the only state take the event where it stands, and tells whether it did. If it did not, or on an error, the set is
@@ -137,7 +137,7 @@ impl<M: Machine> StateSet<M> {
         Ok(stepped)
     }
 
-    /// Lets each state take the event, into room of its own.
+    /// Lets each state take the event.
     fn take_each(&mut self, book: &Book, event: &Event) -> Result<(), TakeError>
         requires order { self.old.moment ≤ event.now.moment }
         requires fits { FitsBook book.now event.now }
@@ -153,30 +153,25 @@ impl<M: Machine> StateSet<M> {
         ensures err { OnErr result (self.new ≡ self.old) }
     {
         book.known();
-        self.found.clear();
-        find_given(
-            &self.machine,
-            book,
-            self.states.as_slice(),
-            self.moment,
-            event,
-            &mut self.found,
-        )?;
-        keep_each_once(&mut self.found);
-        if self.found.len() > WIDEST {
-            return Err(TakeError::TooMany);
+        let before = self.states.len();
+        match given_rows(&self.machine, book, &mut self.states, self.moment, event) {
+            Ok(rows) => {
+                self.states.keep(&rows);
+                self.moment = event.moment();
+                Ok(())
+            }
+            Err(error) => {
+                self.states.truncate(before);
+                Err(error)
+            }
         }
-        mem::swap(&mut self.states, &mut self.found);
-        self.moment = event.moment();
-        Ok(())
     }
 
     /// Gives back the room that no state takes.
     pub(crate) fn trim(&mut self)
         ensures { self.new ≡ self.old }
     {
-        fit(&mut self.states);
-        self.found = Vec::new(*self.found.allocator());
+        self.states.fit();
     }
 
     /// Each state is there once and in range, each can wait at the moment, and there are at most
@@ -192,15 +187,15 @@ impl<M: Machine> StateSet<M> {
         requires { self.now.states ≢ [] }
         ensures { (texts : Texts) → IsAgenda (M.rules self.now.machine) (Contains (map (M.seen texts) self.now.states)) self.now.moment result }
     {
-        last_of_all(&self.machine, self.states.as_slice(), self.moment)
+        last_of_all(&self.machine, &self.states, self.moment)
     }
 
     /// Appends the numbers of the messages that the states name, each at least once.
     pub(crate) fn names(&self, out: &mut Vec<u32>) -> Result<(), AllocError>
         ensures { OnOk result (AppendsAll (flat_map M.names self.now.states) out.old.items out.new.items) }
     {
-        for state in &self.states {
-            self.machine.names(state, out)?;
+        for at in 0..self.states.len() {
+            self.machine.names(&self.states, at, out)?;
         }
         Ok(())
     }
@@ -209,10 +204,9 @@ impl<M: Machine> StateSet<M> {
     pub(crate) fn is_quiet(&self) -> bool
         ensures { IsTrue result → (self.now.states ≡ M.first self.now.machine ∷ []) ⊎ (self.now.states ≡ M.ended self.now.machine ∷ []) }
     {
-        match self.states.as_slice() {
-            [state] => *state == self.machine.first() || *state == self.machine.ended(),
-            _ => false,
-        }
+        self.states.len() == 1
+            && (self.states.is_at_rest(0, self.machine.first())
+                || self.states.is_at_rest(0, self.machine.ended()))
     }
 
     /// Whether no run is left.
@@ -223,24 +217,39 @@ impl<M: Machine> StateSet<M> {
     }
 
     /// The states, each once, in any order.
-    pub fn states(&self) -> &[M::State]
+    pub fn states(&self) -> &Pool<M::Phase>
         ensures { result.now ≡ self.now.states }
     {
         &self.states
     }
 }
 
-/// Moves items to a place of their own size, where there is memory for one.
-fn fit<T: Drop>(items: &mut Vec<T>)
-    ensures { items.new.items ≡ items.old.items }
+/// Finds the states that the event gives, behind the others, and tells where the first of each stand. On an error they may
+/// stand there still.
+fn given_rows<M: Machine>(
+    machine: &M,
+    book: &Book,
+    states: &mut Pool<M::Phase>,
+    from: u64,
+    event: &Event,
+) -> Result<Vec<usize>, TakeError>
+    requires order { from ≤ event.now.moment }
+    requires fits { FitsBook book.now event.now }
+    requires book { IsBook book.now }
+    requires known { All (Knows M.names book.now) states.old }
+    requires in_range { All M.in_range states.old }
+    ensures within { IfOk result (λ rows. All (λ row. row < length states.new) rows.items) }
+    ensures rising { IfOk result (λ rows. AllPairs (λ a b. a < b) rows.items) }
+    ensures gives { (x : CodeOwing M.Phase) → IfOk result (λ rows. StandFor M.names M.in_range M.seen book.now
+        (GivesAfter M.seen book.now (M.rules machine.now) states.old from (event_in book.now event.now)) (picked states.new x rows.items)) }
+    ensures few { IfOk result (λ rows. length rows.items ≤ widest) }
+    ensures too_many { IsErrOf result TakeError.TooMany → IsWide (GivesAfter M.seen book.now (M.rules machine.now) states.old from (event_in book.now event.now)) }
+    ensures before { take (length states.old) states.new ≡ states.old }
 {
-    if items.capacity() == items.len() {
-        return;
+    let first = find_given(machine, book, states, from, event)?;
+    let rows = states.first_ones(first)?;
+    if rows.len() > WIDEST {
+        return Err(TakeError::TooMany);
     }
-    let Ok(mut fitting) = Vec::with_capacity(*items.allocator(), items.len()) else {
-        return;
-    };
-    if fitting.append(items).is_ok() {
-        *items = fitting;
-    }
+    Ok(rows)
 }

@@ -20,11 +20,12 @@ pub(crate) fn told_states<M: Phases>(
 ) -> Result<Vec<ToldState>, AllocError>
     ensures { IfOk result (λ told. AreToldAs M.told M.seen M.names set.now.states told.items) }
 {
+    let states = set.states();
     let mut told = Vec::new(alloc);
-    for state in set.states() {
+    for at in 0..states.len() {
         told.push(ToldState {
-            phase: M::told(alloc, &state.phase)?,
-            owes: state.owes.runs().to_vec(alloc)?,
+            phase: M::told(alloc, &states.phase(at))?,
+            owes: states.runs(alloc, at)?,
         })?;
     }
     Ok(told)

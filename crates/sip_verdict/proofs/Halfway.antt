@@ -1,16 +1,18 @@
 -- What is known of the transactions when an entry came, and some sets are still to hear its event.
 use Rattle.std.proofs.Common.{◌≡◌, ◌≢◌, ◌≤◌, ◌<◌, ◌+◌, ◌-◌, ◌⊎◌, ◌||◌, inl, inr, ℕ, suc, Bool, true, false, Option, Some, None, List, [], ◌∷◌, ◌++◌, All, AllPairs, IsTrue, map, length, position, get_or, slice_get, refl, sym, ap, ◌∙◌, subst, arith}
+use Rattle.std.specs.List.{position_or_len}
 use Rattle.std.specs.Option.{option_map}
 use Rattle.std.proofs.lemmas.Bool.{false≢true}
 use Rattle.std.proofs.lemmas.List.Elements.{All-head, All-tail}
+use Rattle.std.proofs.lemmas.Grind.{common_steps}
 use Rattle.std.proofs.lemmas.List.Quantifiers.{position-Some}
+use Rattle.std.proofs.lemmas.List.Sums.{fails_before_first}
 use Rattle.std.proofs.lemmas.Option.{slice_get_within, slice_get-get_or}
 use Rattle.sip_key.specs.Key.{KeyParts}
 use Rattle.sip_machine.specs.Times.{Times}
 use Rattle.sip_machine.specs.Texts.{Texts}
 use Rattle.sip_machine.specs.NumberedEvent.{NumberedEvent}
 use Rattle.sip_machine.specs.MachineEvent.{event_in}
-use Rattle.sip_machine.proofs.OutboxLemmas.{All-position_None}
 use Rattle.sip_states.specs.KeyMachine.{machine_of_key, key_rules}
 use Rattle.sip_states.specs.AnySet.{moment_of}
 use Rattle.sip_states.specs.Agenda.{is_overdue}
@@ -33,6 +35,12 @@ use Rattle.sip_verdict.proofs.Overdue.{overdue_none, in_time_some}
 use Rattle.sip_verdict.proofs.QuietSets.{leads_later, quiet_stepped}
 use Rattle.sip_verdict.proofs.Stepped.{own_passed, other_passed, run_still}
 use Rattle.sip_verdict.proofs.TablesPassing.{at_place, All-place, All-places, zip-place, place-zip, set-place, keys_are, among_not, among_first, among_rest, first_apart, leaves_keys, leaves_sets, heard_given}
+
+-- where no index passes, no element does
+All-position_None : {X : Type 0} (p : X → Bool) (xs : List X) → position p xs ≡ None → All (λ x. ¬ (IsTrue (p x))) xs
+All-position_None p xs e k d low passes =
+    let none : length xs ≤ position_or_len p xs = grind (arith, common_steps) in
+    false≢true (sym (fails_before_first p xs k d (omega arith)) ∙ passes)
 
 -- where all elements differ, those behind the first do
 AllPairs-tail : (n : ℕ) (ns : List ℕ) → AllPairs (λ a b. a ≢ b) (n ∷ ns) → AllPairs (λ a b. a ≢ b) ns

@@ -4,7 +4,7 @@ use Rattle.std.specs.List.{flat_map}
 use Rattle.std.proofs.lemmas.List.{map-append}
 use Rattle.std.proofs.lemmas.List.Elements.{Contains-append_left, Contains-append_right, Contains-append_cases}
 use Rattle.sip_machine.specs.Times.{Times}
-use Rattle.sip_machine.specs.declared.outbox.Debt.{Debt}
+use Rattle.sip_ledger.specs.declared.debt.Debt.{Debt}
 use Rattle.sip_machine.specs.Texts.{Texts, text_of}
 use Rattle.sip_machine.specs.Owes.{owes_seen, owes_names}
 use Rattle.sip_machine.specs.MachineEvent.{MachineEvent}

@@ -15,6 +15,27 @@ use std::hash::{BuildHasherDefault, FoldHasher};
 use std::process::Abort;
 use std::test::Fail;
 
+/// Whether the sets have the same states, one by one.
+fn are_same(
+    alloc: Global,
+    set: &StateSet<InviteServer>,
+    twin: &StateSet<InviteServer>,
+) -> Result<bool, Fail> {
+    let states = set.states();
+    let others = twin.states();
+    if states.len() != others.len() {
+        return Ok(false);
+    }
+    for at in 0..states.len() {
+        let owed = states.runs(alloc, at)?;
+        let owes = others.runs(alloc, at)?;
+        if states.phase(at) != others.phase(at) || owed.as_slice() != owes.as_slice() {
+            return Ok(false);
+        }
+    }
+    Ok(true)
+}
+
 /// Takes the entry, and a second time where memory was refused. The twin has the same states.
 fn take_again(
     rt: &(impl Abort + AllocGlobal),
@@ -35,10 +56,10 @@ fn take_again(
     let alloc = rt.alloc();
     if let Err(error) = take(alloc, set, book, entry)? {
         assert_eq!(rt; error, TakeError::Memory);
-        assert!(rt; set.states() == twin.states());
+        assert!(rt; are_same(rt.alloc(), set, twin)?);
         take(alloc, set, book, entry)??;
         take(alloc, twin, book, entry)??;
-        assert!(rt; set.states() == twin.states());
+        assert!(rt; are_same(rt.alloc(), set, twin)?);
         return Err(error.into());
     }
     take(alloc, twin, book, entry)??;
@@ -73,7 +94,7 @@ fn take_each_again(
 
 /// Lets the set wait until the moment, and a second time where memory was refused. The twin has the same states, and so many behind it.
 fn advance_again(
-    rt: &impl Abort,
+    rt: &(impl Abort + AllocGlobal),
     set: &mut StateSet<InviteServer>,
     twin: &mut StateSet<InviteServer>,
     moment: u64,
@@ -86,18 +107,18 @@ fn advance_again(
 {
     let waited = set.advance(moment);
     if waited.is_err() {
-        assert!(rt; set.states() == twin.states());
+        assert!(rt; are_same(rt.alloc(), set, twin)?);
         set.advance(moment)?;
     }
     assert_eq!(rt; set.states().len(), count, "at {moment}");
     twin.advance(moment)?;
-    assert!(rt; set.states() == twin.states());
+    assert!(rt; are_same(rt.alloc(), set, twin)?);
     Ok(waited?)
 }
 
 /// Lets the set wait so until each of the moments, behind which it has so many states.
 fn advance_each_again(
-    rt: &impl Abort,
+    rt: &(impl Abort + AllocGlobal),
     set: &mut StateSet<InviteServer>,
     twin: &mut StateSet<InviteServer>,
     from: u64,

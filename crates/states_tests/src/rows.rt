@@ -4,7 +4,7 @@ ghost use Rattle.std.specs.Prelude.{◌≤◌};
 
 use crate::played::{BUSY, Entry, INVITE, OK, book, play};
 use sip_machine::{
-    Action, Book, InviteServer, InviteServerPhase, Owing, Params, PlainClientState, Waiting,
+    Action, Book, InviteServer, InviteServerPhase, Params, PlainClientPhase, Waiting,
 };
 use sip_states::StateSet;
 use std::alloc::Global;
@@ -80,17 +80,13 @@ fn waits_so(alloc: Global, book: &Book, row: &Row) -> Result<bool, Fail> {
     if set.is_empty() {
         return Err("no state".into());
     }
-    Ok(
-        set.last_moment() == row.1
-            && are_left(&mut set, last, row.2)?
-            && matches!(
-                set.states(),
-                [] | [Owing {
-                    phase: InviteServerPhase::Idle,
-                    ..
-                }]
-            ),
-    )
+    Ok(set.last_moment() == row.1 && are_left(&mut set, last, row.2)? && has_idle_alone(&set))
+}
+
+/// Whether the set has no state but the idle one.
+fn has_idle_alone(set: &StateSet<InviteServer>) -> bool {
+    let states = set.states();
+    states.is_empty() || (states.len() == 1 && states.phase(0) == InviteServerPhase::Idle)
 }
 
 #[test]
@@ -102,9 +98,9 @@ fn waits_as_timers_fire(rt: HostRuntime) -> Result<(), Fail> {
     Ok(())
 }
 
-/// A state that owes nothing takes less than 48 bytes.
+/// A phase takes less than 48 bytes.
 #[test]
 fn states_are_small(rt: HostRuntime) {
-    assert!(rt; size_of::<PlainClientState>() < 48);
+    assert!(rt; size_of::<PlainClientPhase>() < 48);
     assert!(rt; size_of::<Waiting>() < 48);
 }

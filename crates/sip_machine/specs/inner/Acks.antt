@@ -1,6 +1,6 @@
 use Rattle.std.specs.Prelude.{◌≡◌, ◌≤◌, ◌↔◌, ℕ, List, All, ⊤}
 use Rattle.sip_key.specs.AckOf.{AckOf}
-use Rattle.sip_machine.specs.declared.outbox.Debt.{Debt}
+use Rattle.sip_ledger.specs.declared.debt.Debt.{Debt}
 use Rattle.sip_machine.specs.declared.tos.Holder.{Holder}
 use Rattle.sip_machine.specs.declared.tos.Holder.TheVariants.{One, Nobody, Unknown}
 use Rattle.sip_machine.specs.Texts.{Texts, text_of}

@@ -1,17 +1,18 @@
-use Rattle.std.specs.Prelude.{◌≡◌, ◌⊎◌, ℕ, Option, Some, None, filter, remove}
+use Rattle.std.specs.Prelude.{◌≡◌, ◌⊎◌, ℕ, Option, Some, None, List, filter}
 use Rattle.std.specs.Option.{option_map}
 use Rattle.sip_machine.specs.declared.phases.Change.TheVariants as code
 use Rattle.sip_machine.specs.declared.phases.Turn.{Turn}
-use Rattle.sip_machine.specs.declared.owing.Owing.{Owing as CodeOwing}
-use Rattle.sip_machine.specs.declared.owing.Effect.{Effect}
-use Rattle.sip_machine.specs.declared.owing.Rest.{Rest}
-use Rattle.sip_machine.specs.declared.owing.Rest.TheVariants as resting
+use Rattle.sip_machine.specs.declared.effects.Effect.{Effect}
+use Rattle.sip_machine.specs.declared.effects.Rest.{Rest}
+use Rattle.sip_machine.specs.declared.effects.Rest.TheVariants as resting
+use Rattle.sip_ledger.specs.declared.debt.Debt.{Debt}
 use Rattle.sip_machine.specs.Times.{Times}
 use Rattle.sip_machine.specs.MachineEvent.{MachineEvent}
 use Rattle.sip_machine.specs.Rules.{OrStays}
 use Rattle.sip_machine.specs.Figure.{Figure, Owing, Follows, Repays}
-use Rattle.sip_machine.specs.Owing.{changed_debts}
-use Rattle.sip_machine.specs.inner.Outbox.{counts_at}
+use Rattle.sip_machine.specs.Owing.{CodeOwing, changed_debts}
+use Rattle.sip_machine.specs.inner.Paying.{paid_by}
+use Rattle.sip_ledger.specs.Debts.{counts_at}
 
 -- What an event does to a state of the code.
 
@@ -24,26 +25,31 @@ abbrev pub Rests : {X : Type 0} → Figure X → MachineEvent → Owing X → Ow
 Rests f e x y = Repays f e x y ⊎ (f.Stays x.phase e.kind × (y ≡ x))
 
 -- the state without what has expired at t
-abbrev pub unexpired_at : {S D : Type 0} → ℕ → CodeOwing S D → CodeOwing S D
+abbrev pub unexpired_at : {S : Type 0} → ℕ → CodeOwing S → CodeOwing S
 unexpired_at t x = record x { owes = filter (counts_at t) x.owes }
 
 -- where a turn leads from it
-abbrev pub led_by : {S D : Type 0} → Times → ℕ → Turn S → CodeOwing S D → CodeOwing S D
+abbrev pub led_by : {S : Type 0} → Times → ℕ → Turn S → CodeOwing S → CodeOwing S
 led_by p t turn x = record x { phase = turn.phase; owes = changed_debts p t turn.change (filter (counts_at t) x.owes) }
 
--- where the debt at an index is paid
-abbrev pub repaid_at : {S D : Type 0} → ℕ → ℕ → CodeOwing S D → CodeOwing S D
-repaid_at t index x = record x { owes = filter (counts_at t) (remove x.owes index) }
+-- where the first debt is paid that a send of this message pays
+abbrev pub repaid_at : {S : Type 0} → ℕ → ℕ → CodeOwing S → CodeOwing S
+repaid_at t message x = record x { owes = filter (counts_at t) (paid_by message t x.owes) }
+
+-- what is owed where the phase stays
+abbrev pub rested_debts : ℕ → Rest → List Debt → List Debt
+rested_debts t resting.Stays owes = filter (counts_at t) owes
+rested_debts t (resting.Pays message) owes = filter (counts_at t) (paid_by message t owes)
 
 -- where the phase stays
-abbrev pub rests_at : {S D : Type 0} → ℕ → Rest → CodeOwing S D → CodeOwing S D
+abbrev pub rests_at : {S : Type 0} → ℕ → Rest → CodeOwing S → CodeOwing S
 rests_at t resting.Stays x = unexpired_at t x
-rests_at t (resting.Pays index) x = repaid_at t index x
+rests_at t (resting.Pays message) x = repaid_at t message x
 
 -- an event leads to a phase where nothing is owed
 abbrev pub quiets : {S : Type 0} → S → Effect S
 quiets phase = record { turn = Some (record { phase = phase; change = code.Drops }); rest = None }
 
 -- the states that the effect of an event at t gives
-abbrev pub given_by : {S D : Type 0} → Times → ℕ → CodeOwing S D → Effect S → Option (CodeOwing S D) × Option (CodeOwing S D)
+abbrev pub given_by : {S : Type 0} → Times → ℕ → CodeOwing S → Effect S → Option (CodeOwing S) × Option (CodeOwing S)
 given_by p t x effect = (option_map (λ turn. led_by p t turn x) effect.turn, option_map (λ rest. rests_at t rest x) effect.rest)

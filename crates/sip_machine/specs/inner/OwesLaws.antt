@@ -1,16 +1,14 @@
 use Rattle.std.specs.Prelude.{◌≡◌, ◌≤◌, ◌↔◌, ◌&&◌, ◌||◌, ℕ, Bool, true, false, is_some, IsTrue, List, [], ◌∷◌, ◌++◌, All, Contains, filter, map, nat_le}
 use Rattle.std.specs.List.{list_any}
-use Rattle.std.specs.Cmp.Lexicographic.{pointwise}
 use Rattle.std.proofs.Common.{refl, sym, ap, ap₂, arith, cond, true≢false}
 use Rattle.std.proofs.lemmas.Bool.Decides.{nat_tests}
 use Rattle.std.proofs.lemmas.List.Elements.{All-head, All-tail, All-nil, All-cons, All-filter, All-map, All-append, All-weaker, Contains-append_right}
-use Rattle.sip_machine.specs.declared.outbox.Debt.{Debt}
-use Rattle.sip_machine.specs.contracts.outbox.DebtPartialEq.TheImpl as debt_eq
+use Rattle.sip_ledger.specs.declared.debt.Debt.{Debt}
 use Rattle.sip_machine.specs.Limits.{IsWithin}
 use Rattle.sip_machine.specs.Texts.{Texts, IsBook, Keeps, text_of}
 use Rattle.sip_machine.specs.Debts.{Owed, unexpired, softened, Pays, must_deadlines, earliest}
 use Rattle.sip_machine.specs.Owes.{owed_seen, owes_seen, owes_names}
-use Rattle.sip_machine.specs.inner.Outbox.{counts_at, softened_debt, is_payable, debt_deadlines}
+use Rattle.sip_ledger.specs.Debts.{counts_at, softened_debt, is_payable, debt_deadlines}
 use Rattle.sip_machine.specs.inner.DebtLaws.{filter-map, All-front, All-back, All-without, IsWithin-earliest}
 
 -- Laws of what a machine owes: of the debts of the code, of what they stand for, and of moments up to their deadlines.
@@ -24,19 +22,6 @@ both_true false b e = absurd (true≢false (sym e))
 debt_same : (c d : Debt) → c.message ≡ d.message → c.deadline ≡ d.deadline → c.must ≡ d.must → c ≡ d
 debt_same c d message deadline must =
     let e : record { message = c.message; deadline = c.deadline; must = c.must } ≡ d = rw (message, deadline, must) in e
-
--- equal debts of the code are the same one
-debt_exact : (c d : Debt) → debt_eq.ghosts.eq c d ≡ true → c ≡ d
-debt_exact c d e = debt_same c d (grind (arith, nat_tests)) (grind (arith, nat_tests)) (grind (arith, nat_tests))
-
--- equal lists of debts are the same one
-pub owes_exact : (xs ys : List Debt) → pointwise debt_eq.ghosts.eq xs ys ≡ true → xs ≡ ys
-owes_exact [] [] e = refl
-owes_exact [] (y ∷ ys) e = absurd (true≢false (sym e))
-owes_exact (x ∷ xs) [] e = absurd (true≢false (sym e))
-owes_exact (x ∷ xs) (y ∷ ys) e =
-    let each = both_true (debt_eq.ghosts.eq x y) (pointwise debt_eq.ghosts.eq xs ys) e in
-    ap₂ (λ z zs. z ∷ zs) (debt_exact x y each.0) (owes_exact xs ys each.1)
 
 -- debts that stand for the same beside one book are the same
 pub owes_apart : (texts : Texts) (xs ys : List Debt) → IsBook texts → All (Keeps texts) (owes_names xs) →

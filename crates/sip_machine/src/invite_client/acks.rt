@@ -1,36 +1,43 @@
 //! Which response an ACK is for: the INVITE and the ACK of the `Book` are read anew, and tell all but the response,
 //! which is told by its To alone.
-ghost use Rattle.std.specs.Prelude.{◌↔◌, ◌<◌, ◌≤◌, IfOk, IsTrue, All};
-ghost use Rattle.sip_machine.specs.Owes.{owes_names};
+ghost use Rattle.std.specs.Prelude.{◌≡◌, ◌≢◌, ◌↔◌, ◌<◌, ◌≤◌, [], IfOk, IsTrue, All, length};
+ghost use Rattle.sip_ledger.specs.Runs.{debts_in};
+ghost use Rattle.sip_machine.specs.Owes.{owed_in, owes_names};
 ghost use Rattle.sip_machine.specs.Texts.{Keeps, text_of};
 ghost use Rattle.sip_machine.specs.inner.Acks.{HasTo, IsOwedTo, PaysDebt};
-ghost use Rattle.sip_machine.specs.inner.Runs.{debts_of};
 ghost use Rattle.sip_machine.specs.inner.Paying.{FindsFirst};
+ghost use Rattle.sip_machine.specs.inner.Tos.{HoldsBetween};
 
 use crate::book::Book;
+use crate::dues::Dues;
 use crate::event::Event;
 use crate::hashed::Hashed;
-use crate::invite_client::InviteClientPhase;
-use crate::outbox::{Debt, Run};
-use crate::owes::Owes;
+use crate::paying::payable;
 use crate::tos::Holder;
 use sip_key::{is_ack_for, solid_of};
+use sip_ledger::{Debt, Run};
 use std::alloc::{AllocError, Global};
 
-/// The index of the first debt whose message is a response to the INVITE that the event's message is the ACK for
+/// The message of the first debt of the row that is a response to the INVITE that the event's message is the ACK for
 /// (RFC 3261, section 17.1.1.3), and whose deadline has not passed; None if there is none.
 pub(crate) fn first_acked(
     alloc: Global,
     book: &Book,
     request: u32,
-    owes: &Owes<InviteClientPhase>,
     event: &Event,
-) -> Result<Option<usize>, AllocError>
+    dues: &mut Dues,
+    row: usize,
+) -> Result<Option<u32>, AllocError>
+    requires row { row < length dues.old }
     requires ack { Keeps book.now event.now.number }
     requires invite { Keeps book.now request }
-    requires owed { All (Keeps book.now) (owes_names owes.now) }
-    ensures { IfOk result (FindsFirst (PaysDebt book.now (text_of book.now event.now.number) (text_of book.now request) event.now.moment) owes.now) }
+    requires owed { All (Keeps book.now) (owes_names (owed_in dues.old row)) }
+    ensures same { dues.new ≡ dues.old }
+    ensures finds { IfOk result (FindsFirst (PaysDebt book.now (text_of book.now event.now.number) (text_of book.now request) event.now.moment) event.now.moment (owed_in dues.old row)) }
 {
+    if dues.owes_nothing(row) {
+        return Ok(None);
+    }
     let ack = match book.message(alloc, event.number())? {
         Some(ack) => ack,
         None => return Ok(None),
@@ -44,41 +51,71 @@ pub(crate) fn first_acked(
     }
     let to = solid_of(alloc, ack.to().whole)?;
     let to = Hashed::of(to);
-    first_with_to(alloc, book, &to, owes, event.moment())
+    first_with_to(alloc, book, &to, event.moment(), dues, row)
 }
 
-/// The index of the first debt whose message has this To, from which the blanks were taken, and whose deadline has not
+/// The message of the first debt of the row that has this To, from which the blanks were taken, and whose deadline has not
 /// passed.
 fn first_with_to(
     alloc: Global,
     book: &Book,
     to: &Hashed,
-    owes: &Owes<InviteClientPhase>,
     moment: u64,
-) -> Result<Option<usize>, AllocError>
-    requires { All (Keeps book.now) (owes_names owes.now) }
-    ensures { IfOk result (FindsFirst (HasTo book.now to.now moment) owes.now) }
+    dues: &mut Dues,
+    row: usize,
+) -> Result<Option<u32>, AllocError>
+    requires row { row < length dues.old }
+    requires some { owed_in dues.old row ≢ [] }
+    requires owed { All (Keeps book.now) (owes_names (owed_in dues.old row)) }
+    ensures same { dues.new ≡ dues.old }
+    ensures finds { IfOk result (FindsFirst (HasTo book.now to.now moment) moment (owed_in dues.old row)) }
 {
-    match holder(book, to, owes) {
-        Holder::One(number) => Ok(owes.payable(number, moment)),
+    match holder(alloc, book, to, dues, row)? {
+        Holder::One(number) => Ok(payable(number, moment, dues, row)),
         Holder::Nobody => Ok(None),
-        Holder::Unknown => first_of_runs(alloc, book, to, owes.runs(), moment),
+        Holder::Unknown => {
+            let runs = dues.runs(alloc, row)?;
+            first_of_runs(alloc, book, to, &runs, moment)
+        }
     }
 }
 
-/// So many runs are looked at one by one, which costs less than to find the one message that has a To.
-const FEW: usize = 8;
+/// So many messages are looked at one by one, which costs less than to find the one message that has a To.
+const FEW: u32 = 8;
 
-/// Which message that is owed has this To, where no other one has it and there are many.
-fn holder(book: &Book, to: &Hashed, owes: &Owes<InviteClientPhase>) -> Holder
-    requires { All (Keeps book.now) (owes_names owes.now) }
-    ensures { IsOwedTo book.now to.now owes.now result }
+/// Which message that the row owes has this To, where no other one has it and there is one alone, or there are many.
+fn holder(
+    alloc: Global,
+    book: &Book,
+    to: &Hashed,
+    dues: &Dues,
+    row: usize,
+) -> Result<Holder, AllocError>
+    requires row { row < length dues.now }
+    requires some { owed_in dues.now row ≢ [] }
+    requires owed { All (Keeps book.now) (owes_names (owed_in dues.now row)) }
+    ensures { IfOk result (IsOwedTo book.now to.now (owed_in dues.now row)) }
 {
-    if owes.runs().len() <= FEW {
-        return Holder::Unknown;
+    let (low, high) = dues.span();
+    if low == high {
+        return only_holder(alloc, book, to, low);
     }
-    let (low, high) = owes.span();
-    book.holder(to, low, high)
+    if high.saturating_sub(low) < FEW {
+        return Ok(Holder::Unknown);
+    }
+    Ok(book.holder(to, low, high))
+}
+
+/// The message, if it has this To.
+fn only_holder(alloc: Global, book: &Book, to: &Hashed, number: u32) -> Result<Holder, AllocError>
+    requires { Keeps book.now number }
+    ensures { IfOk result (HoldsBetween book.now to.now number number) }
+{
+    if book.has_to(alloc, number, to, &mut 0)? {
+        Ok(Holder::One(number))
+    } else {
+        Ok(Holder::Nobody)
+    }
 }
 
 /// The same for the debts of these runs, by a look at each.
@@ -88,18 +125,16 @@ fn first_of_runs(
     to: &Hashed,
     runs: &[Run],
     moment: u64,
-) -> Result<Option<usize>, AllocError>
+) -> Result<Option<u32>, AllocError>
     requires filled { All (λ run. 0 < run.count) runs.now }
     requires debts { All (λ run. Keeps book.now run.debt.message) runs.now }
-    ensures { IfOk result (FindsFirst (HasTo book.now to.now moment) (debts_of runs.now)) }
+    ensures { IfOk result (FindsFirst (HasTo book.now to.now moment) moment (debts_in runs.now)) }
 {
     let mut near = 0;
-    let mut index = 0usize;
     for run in runs {
         if pays(alloc, book, to, &mut near, run.debt, moment)? {
-            return Ok(Some(index));
+            return Ok(Some(run.debt.message));
         }
-        index = index.checked_add(run.count).ok_or(AllocError)?;
     }
     Ok(None)
 }

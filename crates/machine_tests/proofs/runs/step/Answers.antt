@@ -1,17 +1,29 @@
-use Rattle.std.proofs.Common.{sym, subst}
+use Rattle.std.proofs.Common.{◌<◌, length, All, arith, length-append, sym, subst}
 use Rattle.std.proofs.lemmas.List.Elements.{All-append}
 use Rattle.sip_machine.specs.Rules.{Knows}
+use Rattle.machine_tests.proofs.Picked.{all_picked}
 use Rattle.machine_tests.proofs.runs.step.Goals as goal
 
-pub successors-requires-clause-known : goal.successors-requires-clause-known
-successors-requires-clause-known g c =
-    subst (Knows g.M.Machine.names c.args.book.now) (sym c.state-item.is) (c.requires.known c.loop-state.state-index c.state-item.result c.loop-state-test.true)
+pub loop-at-preserved : goal.loop-at-preserved
+loop-at-preserved g c =
+    let ok = c.in_ok-successors.ensures.ok (g.M.Machine.first c.args.machine.now) in
+    let before = c.loop-at.pool in
+    let is = c.loop-at.invariant in
+    rw ok.1
+    (record {
+      within = let long = length-append before ok.0 in omega (arith, is.within);
+      known = All-append (Knows g.M.Machine.names c.args.book.now) before ok.0 is.known ok.2.known;
+      in_range = All-append g.M.Machine.in_range before ok.0 is.in_range ok.2.in_range;
+    })
 
-pub loop-state-preserved : goal.loop-state-preserved
-loop-state-preserved g c =
-    let ok = c.in_ok-successors.ensures.ok in
-    let next = c.loop-state.next.items in
-    rw ok.1 (
-      All-append (Knows g.M.Machine.names c.args.book.now) next ok.0 c.loop-state.invariant.0 ok.2.known,
-      All-append g.M.Machine.in_range next ok.0 c.loop-state.invariant.1 ok.2.in_range,
-    )
+pub returns-clause-known : goal.returns-clause-known
+returns-clause-known g c =
+    let first = g.M.Machine.first c.args.machine.now in
+    rw (c.keep.ensures first, c.deref.ensures.value)
+    (all_picked (Knows g.M.Machine.names c.args.book.now) c.loop-at.pool first c.in_ok-given.given.items c.loop-at.invariant.known (rw (← c.len.ensures) c.in_ok-given.ensures.within))
+
+pub returns-clause-in_range : goal.returns-clause-in_range
+returns-clause-in_range g c =
+    let first = g.M.Machine.first c.args.machine.now in
+    rw (c.keep.ensures first, c.deref.ensures.value)
+    (all_picked g.M.Machine.in_range c.loop-at.pool first c.in_ok-given.given.items c.loop-at.invariant.in_range (rw (← c.len.ensures) c.in_ok-given.ensures.within))

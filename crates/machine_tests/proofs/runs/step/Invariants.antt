@@ -1,6 +1,11 @@
-use Rattle.std.specs.Prelude.{All}
+use Rattle.std.specs.Prelude.{◌≤◌, All, length}
 use Rattle.sip_machine.specs.Rules.{Knows}
 use Rattle.machine_tests.proofs.runs.step.Given as goal
 
-abbrev pub invariant-loop-state : goal.invariant-loop-state
-invariant-loop-state g l = All (Knows g.M.Machine.names l.book) l.next.items × All g.M.Machine.in_range l.next.items
+abbrev pub invariant-loop-at : goal.invariant-loop-at
+invariant-loop-at g l =
+    record {
+      within : l.count ≤ length l.pool;
+      known : All (Knows g.M.Machine.names l.book) l.pool;
+      in_range : All g.M.Machine.in_range l.pool;
+    }

@@ -2,54 +2,61 @@ use Rattle.std.proofs.Common.{sym}
 use Rattle.std.proofs.lemmas.Result.{IfOk-weaker}
 use Rattle.sip_times.specs.declared.action.Action.TheVariants.{Sent, Received, Failed, Restart}
 use Rattle.sip_machine.specs.Limits.{IsWithin}
+use Rattle.sip_machine.specs.Texts.{Keeps}
+use Rattle.sip_machine.specs.Owes.{owed_in, owes_names}
 use Rattle.sip_machine.specs.MachineEvent.{event_in}
 use Rattle.sip_machine.specs.Figure.{until_of}
-use Rattle.sip_machine.specs.Owing.{owing_seen}
+use Rattle.sip_machine.specs.Owing.{state_in, owing_seen}
+use Rattle.sip_machine.specs.inner.DebtLaws.{All-front}
 use Rattle.sip_machine.proofs.OwingSteps.{taken}
 use Rattle.sip_machine.proofs.owing.effect_of.Goals as goal
 
-pub returns-in-Received : goal.returns-in-Received
-returns-in-Received g c =
+pub restarts-requires : goal.restarts-requires
+restarts-requires g c =
+    All-front (Keeps c.args.book.now) (g.M.Phases.names c.args.phase.now) (owes_names (owed_in c.args.dues.now c.args.row)) c.requires.known
+
+pub returns-in-Received-clause-gives : goal.returns-in-Received-clause-gives
+returns-in-Received-clause-gives g c =
     let m = g.M.Phases in
     let p = m.times c.args.machine.now in
     let texts = c.args.book.now in
     let e = event_in texts c.args.event.now in
-    let x = c.args.state.now in
+    let x = (state_in c.args.phase.now c.args.dues.now c.args.row) in
     let within : IsWithin e.moment (until_of m.figure p (owing_seen m.seen texts x)) = rw (c.moment.ensures, c.until.ensures texts) at c.if-is_past.ensures in
     IfOk-weaker c.receives.result _ _
     (λ effect gives. taken m.figure p m.seen m.names m.in_range texts Received e x effect (sym c.in-Received.ensures) within gives)
     c.receives.ensures
 
-pub returns-in-Sent : goal.returns-in-Sent
-returns-in-Sent g c =
+pub returns-in-Sent-clause-gives : goal.returns-in-Sent-clause-gives
+returns-in-Sent-clause-gives g c =
     let m = g.M.Phases in
     let p = m.times c.args.machine.now in
     let texts = c.args.book.now in
     let e = event_in texts c.args.event.now in
-    let x = c.args.state.now in
+    let x = (state_in c.args.phase.now c.args.dues.now c.args.row) in
     let within : IsWithin e.moment (until_of m.figure p (owing_seen m.seen texts x)) = rw (c.moment.ensures, c.until.ensures texts) at c.if-is_past.ensures in
     IfOk-weaker c.emits.result _ _
     (λ effect gives. taken m.figure p m.seen m.names m.in_range texts Sent e x effect (sym c.in-Sent.ensures) within gives)
-    c.emits.ensures
+    c.emits.ensures.gives
 
-pub returns-in-Failed : goal.returns-in-Failed
-returns-in-Failed g c =
+pub returns-in-Failed-clause-gives : goal.returns-in-Failed-clause-gives
+returns-in-Failed-clause-gives g c =
     let m = g.M.Phases in
     let p = m.times c.args.machine.now in
     let texts = c.args.book.now in
     let e = event_in texts c.args.event.now in
-    let x = c.args.state.now in
+    let x = (state_in c.args.phase.now c.args.dues.now c.args.row) in
     let within : IsWithin e.moment (until_of m.figure p (owing_seen m.seen texts x)) = rw (c.moment.ensures, c.until.ensures texts) at c.if-is_past.ensures in
     IfOk-weaker c.fails.result _ _
     (λ effect gives. taken m.figure p m.seen m.names m.in_range texts Failed e x effect (sym c.in-Failed.ensures) within gives)
-    c.fails.ensures
+    c.fails.ensures.gives
 
-pub returns-in-Restart : goal.returns-in-Restart
-returns-in-Restart g c =
+pub returns-in-Restart-clause-gives : goal.returns-in-Restart-clause-gives
+returns-in-Restart-clause-gives g c =
     let m = g.M.Phases in
     let p = m.times c.args.machine.now in
     let texts = c.args.book.now in
     let e = event_in texts c.args.event.now in
-    let x = c.args.state.now in
+    let x = (state_in c.args.phase.now c.args.dues.now c.args.row) in
     let within : IsWithin e.moment (until_of m.figure p (owing_seen m.seen texts x)) = rw (c.moment.ensures, c.until.ensures texts) at c.if-is_past.ensures in
-    taken m.figure p m.seen m.names m.in_range texts Restart e x c.restarts.result (sym c.in-Restart.ensures) within (c.restarts.ensures e.moment)
+    taken m.figure p m.seen m.names m.in_range texts Restart e x c.restarts.result (sym c.in-Restart.ensures) within (c.restarts.ensures e.moment x.owes)

@@ -3,9 +3,9 @@ use Rattle.std.proofs.lemmas.List.Filters.{FiltersInPlace}
 use Rattle.sip_states.specs.inner.Ways.{is_within}
 use Rattle.sip_states.proofs.ends.keep_waiting.Given as goal
 
-abbrev pub invariant-loop-i : goal.invariant-loop-i
-invariant-loop-i g l =
+abbrev pub invariant-loop-at : goal.invariant-loop-at
+invariant-loop-at g l =
     record {
-      filters : FiltersInPlace (λ x. is_within l.moment (g.M.Machine.until l.machine x)) l.initial.states.items l.states.items l.kept l.i;
-      in_range : All g.M.Machine.in_range l.states.items;
+      filters : FiltersInPlace (λ x. is_within l.moment (g.M.Machine.until l.machine x)) l.initial.pool l.pool l.kept l.at;
+      in_range : All g.M.Machine.in_range l.pool;
     }

@@ -2,7 +2,7 @@ use Rattle.std.proofs.Common.{inl, inr}
 use Rattle.sip_states.proofs.ends.last_of.Goals as goal
 
 pub returns-in-None : goal.returns-in-None
-returns-in-None g c = λ m low. (
-  λ reach. elim reach [ inl stays ↦ rw c.until.ensures stays | inr can ↦ absurd (c.in-None.ensures can.at can.is) ],
-  λ within. inl (rw c.until.ensures at within),
+returns-in-None g c = λ d m low. (
+  λ reach. elim reach [ inl stays ↦ rw (c.until.ensures d) stays | inr can ↦ absurd (c.in-None.ensures d can.at can.is) ],
+  λ within. inl (rw (c.until.ensures d) at within),
 )

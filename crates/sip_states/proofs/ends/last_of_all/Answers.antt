@@ -1,24 +1,35 @@
-use Rattle.std.proofs.Common.{take}
-use Rattle.std.proofs.Common.{◌≡◌, ◌≤◌, ◌<◌, length, max, arith, take_all}
-use Rattle.std.proofs.lemmas.List.{take_more}
+use Rattle.std.proofs.Common.{◌≡◌, ◌≤◌, ◌<◌, length, max, get_or, take, arith, take_all}
+use Rattle.std.proofs.lemmas.List.{take_more, get_or_default}
+use Rattle.std.proofs.lemmas.List.Elements.{All-get_or}
 use Rattle.sip_states.proofs.Reaching.{last_push, last_all}
 use Rattle.sip_states.proofs.ends.last_of_all.Goals as goal
 
-pub loop-state-preserved : goal.loop-state-preserved
-loop-state-preserved g c =
+pub last_of-requires-clause-in_range : goal.last_of-requires-clause-in_range
+last_of-requires-clause-in_range g c = λ d. All-get_or g.M.Machine.in_range c.args.pool.now c.loop-at.at d (omega arith) c.requires.in_range
+
+pub returns-in_err-last_of : goal.returns-in_err-last_of
+returns-in_err-last_of g c = rw c.from_residual.ensures (λ m low.
+    let xs = c.args.pool.now in
+    let i = c.loop-at.at in
+    let d = g.M.Machine.ended c.args.machine.now in
+    let inside : i < length xs = omega arith in
+    (λ _. tt, λ _. (i, get_or xs i d, inside, get_or_default xs i (get_or xs i d) d inside, (c.in_err-last_of.ensures d m low).1 tt)))
+
+pub loop-at-preserved : goal.loop-at-preserved
+loop-at-preserved g c =
     let m = c.args.machine.now in
-    let xs = c.args.states.now in
-    let i = c.loop-state.state-index in
-    let x = c.state-item.result in
+    let xs = c.args.pool.now in
+    let i = c.loop-at.at in
+    let d = g.M.Machine.ended m in
     let low : i < length xs = omega arith in
-    let later : c.max-last.result ≡ max c.loop-state.last c.in_ok-last_of.field-0 = omega arith in
-    rw (take_more xs i x low, ← c.state-item.is)
-    (last_push (g.M.Machine.end_window m) (g.M.Machine.until m) c.args.from (take i xs) x c.loop-state.last c.in_ok-last_of.field-0 c.max-last.result c.loop-state.invariant c.in_ok-last_of.ensures later)
+    let later : c.max-last.result ≡ max c.loop-at.last c.in_ok-last_of.field-0 = omega arith in
+    rw (take_more xs i d low)
+    (last_push (g.M.Machine.end_window m) (g.M.Machine.until m) c.args.from (take i xs) (get_or xs i d) c.loop-at.last c.in_ok-last_of.field-0 c.max-last.result c.loop-at.invariant (c.in_ok-last_of.ensures d) later)
 
 pub returns : goal.returns
 returns g c =
     let m = c.args.machine.now in
-    let xs = c.args.states.now in
-    let past : length xs ≤ c.loop-state.state-index = omega arith in
-    let so_far = rw (take_all c.loop-state.state-index xs past) at c.loop-state.invariant in
-    last_all (g.M.Machine.end_window m) (g.M.Machine.until m) c.args.from xs c.loop-state.last c.requires.some c.requires.waiting so_far
+    let xs = c.args.pool.now in
+    let past : length xs ≤ c.loop-at.at = omega arith in
+    let so_far = rw (take_all c.loop-at.at xs past) at c.loop-at.invariant in
+    last_all (g.M.Machine.end_window m) (g.M.Machine.until m) c.args.from xs c.loop-at.last c.requires.some c.requires.waiting so_far

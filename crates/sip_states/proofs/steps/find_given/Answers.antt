@@ -1,60 +1,111 @@
-use Rattle.std.proofs.Common.{◌<◌, ◌≤◌, ◌∙◌, length, take, sym, arith, take_all}
-use Rattle.std.proofs.lemmas.List.{take_more}
-use Rattle.std.proofs.lemmas.List.Elements.{All-contains}
+use Rattle.std.proofs.Common.{◌≡◌, ◌∙◌, ◌++◌, ◌∷◌, [], ◌+◌, All, ap, append_assoc, arith, length, length-append, refl, subst, sym, take, take_all, true≢false}
+use Rattle.std.proofs.lemmas.List.Elements.{All-nil, All-take}
 use Rattle.sip_machine.specs.MachineEvent.{event_in}
-use Rattle.sip_machine.specs.Rules.{Knows}
-use Rattle.sip_states.proofs.Advancing.{within_told}
+use Rattle.sip_machine.specs.Texts.{Keeps}
+use Rattle.sip_machine.specs.Rules.{Knows, StandFor}
+use Rattle.sip_machine.specs.Owing.{at_rest}
+use Rattle.sip_machine.proofs.PoolLemmas.{take-old}
+use Rattle.sip_states.specs.inner.Ways.{Covers, GivesFrom, GivesAfter}
 use Rattle.sip_states.proofs.Following.{Follows}
-use Rattle.sip_states.proofs.Stepping.{gives_more, gives_same, gives_stayed, gives_ended}
+use Rattle.sip_states.proofs.Stepping.{gives_stayed, gives_ended, found-behind, next-there, before-more}
 use Rattle.sip_states.proofs.steps.find_given.Goals as goal
-use Rattle.sip_states.proofs.steps.find_given.Goals.{then-is_within+in_ok-successors, else-is_within}
 
-pub successors-requires-clause-known : goal.successors-requires-clause-known
-successors-requires-clause-known g c =
-    All-contains (Knows g.M.Machine.names c.args.book.now) c.args.states.now c.state-item.result c.requires.known
-    (c.loop-state.state-index, c.loop-state-test.true, sym c.state-item.is)
+pub step_each-requires-clause-known : goal.step_each-requires-clause-known
+step_each-requires-clause-known g c = All-take (Knows g.M.Machine.names c.args.book.now) c.len-count.result c.args.pool.now c.requires.known
 
-pub loop-state-preserved : goal.loop-state-preserved
-loop-state-preserved g c =
+pub step_each-requires-clause-in_range : goal.step_each-requires-clause-in_range
+step_each-requires-clause-in_range g c = All-take g.M.Machine.in_range c.len-count.result c.args.pool.now c.requires.in_range
+
+pub returns-then-not-some_can_end-clause-gives : goal.returns-then-not-some_can_end-clause-gives
+returns-then-not-some_can_end-clause-gives g c =
     let texts = c.args.book.now in
     let m = c.args.machine.now in
     let r = g.M.Machine.rules m in
     let e = event_in texts c.args.event.now in
-    let xs = c.args.states.now in
-    let i = c.loop-state.state-index in
-    let state = c.state-item.result in
-    let low : i < length xs = omega arith in
-    let waits = within_told c.moment-to.result e.moment c.until.result (r.until (g.M.Machine.seen texts state)) c.is_within.result c.moment-to.ensures
-    (c.until.ensures ∙ sym (g.met.M.Machine.until_stands m texts state)) c.is_within.ensures in
-    elim c.if-is_within.branch [
-      | then-is_within+in_ok-successors w ↦
-          let added = w.in_ok-successors.ensures.ok in
-          rw (w.found-is, take_more xs i state low, ← c.state-item.is)
-          (gives_more g.M.Machine.names g.M.Machine.in_range g.M.Machine.seen texts r e (take i xs) state c.loop-state.found.items added.0 w.successors.new.out.items (waits.0 w.if-is_within.true) c.loop-state.invariant added.2 added.1)
-      | else-is_within w ↦
-          rw (w.found-is, take_more xs i state low, ← c.state-item.is)
-          (gives_same g.M.Machine.names g.M.Machine.in_range g.M.Machine.seen texts r e (take i xs) state c.loop-state.found.items (λ can. let k = waits.1 can in let over = w.if-is_within.false in absurd (cc)) c.loop-state.invariant)
-    ]
-
-pub returns-in_ok-successors-2 : goal.returns-in_ok-successors-2
-returns-in_ok-successors-2 g c =
-    let m = c.args.machine.now in
-    let past : length c.args.states.now ≤ c.loop-state.state-index = omega arith in
-    let all = rw (take_all c.loop-state.state-index c.args.states.now past) at c.loop-state.invariant in
-    let ends = rw c.moment-to.ensures at c.some_can_end.ensures in
-    let added = c.in_ok-successors-2.ensures.ok in
-    let follows : Follows g.M.Machine.names g.M.Machine.seen (g.M.Machine.rules m) (g.M.Machine.ended m) (g.M.Machine.end_window m) (g.M.Machine.until m) =
+    let xs = c.args.pool.now in
+    let n = c.len-count.result in
+    let size = c.len-count.ensures in
+    let (found, is, covers) = c.in_ok-step_each.ensures.gives in
+    let all : take n xs ≡ xs = take_all n xs (omega (arith, size)) in
+    let ends = rw c.moment.ensures at c.some_can_end.ensures in
+    let follows : Follows g.M.Machine.names g.M.Machine.seen r (g.M.Machine.ended m) (g.M.Machine.end_window m) (g.M.Machine.until m) =
     record { lawful = g.met.M.Machine.lawful m; ended_is = g.met.M.Machine.ended_stands m; ended_names = (g.met.M.Machine.ended_fits m).0; window_is = g.met.M.Machine.window_stands m; until_is = g.met.M.Machine.until_stands m; apart = g.met.M.Machine.apart } in
-    gives_ended g.M.Machine.names g.M.Machine.in_range g.M.Machine.seen (g.M.Machine.rules m) (g.M.Machine.ended m) (g.M.Machine.end_window m) (g.M.Machine.until m) follows c.args.book.now c.args.states.now c.args.from
-    (event_in c.args.book.now c.args.event.now) c.requires.order (ends.0 c.if-some_can_end.true) c.loop-state.found.items added.0 c.successors-then-some_can_end.new.out.items all (rw c.ended.ensures at added.2) added.1
+    subst (Covers g.M.Machine.names g.M.Machine.in_range g.M.Machine.seen texts (GivesAfter g.M.Machine.seen texts r xs c.args.from e))
+    (sym (found-behind xs found c.step_each.new.pool n is size))
+    (gives_stayed g.M.Machine.names g.M.Machine.in_range g.M.Machine.seen r (g.M.Machine.ended m) (g.M.Machine.end_window m) (g.M.Machine.until m) follows texts xs c.args.from e
+    c.requires.order (λ some. true≢false (sym (ends.1 some) ∙ c.if-not-some_can_end.true)) found
+    (subst (λ ys. Covers g.M.Machine.names g.M.Machine.in_range g.M.Machine.seen texts (GivesFrom g.M.Machine.seen texts r ys e) found) all covers))
 
-pub returns-else-some_can_end : goal.returns-else-some_can_end
-returns-else-some_can_end g c =
+pub step_each-requires-2-clause-known : goal.step_each-requires-2-clause-known
+step_each-requires-2-clause-known g c =
+    subst (All (Knows g.M.Machine.names c.args.book.now)) (sym (take-old c.args.pool.now (at_rest c.ended.result ∷ []) c.push.new.self c.len-count.result c.in_ok-push.ensures.ok c.len-count.ensures)) c.requires.known
+
+pub step_each-requires-2-clause-in_range : goal.step_each-requires-2-clause-in_range
+step_each-requires-2-clause-in_range g c =
+    subst (All g.M.Machine.in_range) (sym (take-old c.args.pool.now (at_rest c.ended.result ∷ []) c.push.new.self c.len-count.result c.in_ok-push.ensures.ok c.len-count.ensures)) c.requires.in_range
+
+pub returns-in_err-step_each-2-clause-before : goal.returns-in_err-step_each-2-clause-before
+returns-in_err-step_each-2-clause-before g c =
+    before-more c.args.pool.now c.push.new.self c.step_each-2.new.pool (at_rest c.ended.result ∷ []) c.in_ok-push.ensures.ok c.in_err-step_each-2.ensures.before
+
+pub successors-requires-clause-known : goal.successors-requires-clause-known
+successors-requires-clause-known g c = λ d.
     let m = c.args.machine.now in
-    let past : length c.args.states.now ≤ c.loop-state.state-index = omega arith in
-    let all = rw (take_all c.loop-state.state-index c.args.states.now past) at c.loop-state.invariant in
-    let ends = rw c.moment-to.ensures at c.some_can_end.ensures in
-    let follows : Follows g.M.Machine.names g.M.Machine.seen (g.M.Machine.rules m) (g.M.Machine.ended m) (g.M.Machine.end_window m) (g.M.Machine.until m) =
+    let (found, is, covers) = c.in_ok-step_each-2.ensures.gives in
+    let there = next-there c.args.pool.now c.push.new.self c.step_each-2.new.pool found (at_rest c.ended.result) d c.len-count.result c.in_ok-push.ensures.ok is c.len-count.ensures ∙ c.ended.ensures in
+    subst (Knows g.M.Machine.names c.args.book.now) (sym there) (subst (All (Keeps c.args.book.now)) (sym (g.met.M.Machine.ended_fits m).0) (All-nil (Keeps c.args.book.now)))
+
+pub successors-requires-clause-in_range : goal.successors-requires-clause-in_range
+successors-requires-clause-in_range g c = λ d.
+    let m = c.args.machine.now in
+    let (found, is, covers) = c.in_ok-step_each-2.ensures.gives in
+    let there = next-there c.args.pool.now c.push.new.self c.step_each-2.new.pool found (at_rest c.ended.result) d c.len-count.result c.in_ok-push.ensures.ok is c.len-count.ensures ∙ c.ended.ensures in
+    subst g.M.Machine.in_range (sym there) (g.met.M.Machine.ended_fits m).1
+
+pub returns-in_err-successors-clause-before : goal.returns-in_err-successors-clause-before
+returns-in_err-successors-clause-before g c =
+    before-more c.args.pool.now c.push.new.self c.successors.new.pool (at_rest c.ended.result ∷ []) c.in_ok-push.ensures.ok
+    (ap (take (length c.push.new.self)) c.in_err-successors.ensures.err ∙ c.in_ok-step_each-2.ensures.before)
+
+pub returns-clause-within : goal.returns-clause-within
+returns-clause-within g c =
+    let (found, is, covers) = c.in_ok-step_each-2.ensures.gives in
+    let (added, new_is, gives) = c.in_ok-successors.ensures.ok (g.M.Machine.ended c.args.machine.now) in
+    let mid = c.push.new.self in
+    let one : length c.step_each-2.new.pool ≡ length mid + length found = ap length is ∙ length-append mid found in
+    let two : length c.successors.new.pool ≡ length c.step_each-2.new.pool + length added = ap length new_is ∙ length-append c.step_each-2.new.pool added in
+    let first = c.len-first.ensures in
+    omega (arith, one, two, first)
+
+pub returns-clause-gives : goal.returns-clause-gives
+returns-clause-gives g c =
+    let texts = c.args.book.now in
+    let m = c.args.machine.now in
+    let r = g.M.Machine.rules m in
+    let e = event_in texts c.args.event.now in
+    let xs = c.args.pool.now in
+    let n = c.len-count.result in
+    let mid = c.push.new.self in
+    let ended = g.M.Machine.ended m in
+    let (found, is, covers) = c.in_ok-step_each-2.ensures.gives in
+    let (added, new_is, gives) = c.in_ok-successors.ensures.ok ended in
+    let all : take n mid ≡ xs = take-old xs (at_rest c.ended.result ∷ []) mid n c.in_ok-push.ensures.ok c.len-count.ensures in
+    let there = next-there xs mid c.step_each-2.new.pool found (at_rest c.ended.result) ended n c.in_ok-push.ensures.ok is c.len-count.ensures ∙ c.ended.ensures in
+    let whole = new_is ∙ ap (λ ys. ys ++ added) is ∙ append_assoc mid found added in
+    let ends = rw c.moment.ensures at c.some_can_end.ensures in
+    let follows : Follows g.M.Machine.names g.M.Machine.seen r (g.M.Machine.ended m) (g.M.Machine.end_window m) (g.M.Machine.until m) =
     record { lawful = g.met.M.Machine.lawful m; ended_is = g.met.M.Machine.ended_stands m; ended_names = (g.met.M.Machine.ended_fits m).0; window_is = g.met.M.Machine.window_stands m; until_is = g.met.M.Machine.until_stands m; apart = g.met.M.Machine.apart } in
-    gives_stayed g.M.Machine.names g.M.Machine.in_range g.M.Machine.seen (g.M.Machine.rules m) (g.M.Machine.ended m) (g.M.Machine.end_window m) (g.M.Machine.until m) follows c.args.book.now c.args.states.now c.args.from
-    (event_in c.args.book.now c.args.event.now) c.requires.order (λ some. let k = ends.1 some in let none = c.if-some_can_end.false in absurd (cc)) c.loop-state.found.items all
+    subst (Covers g.M.Machine.names g.M.Machine.in_range g.M.Machine.seen texts (GivesAfter g.M.Machine.seen texts r xs c.args.from e))
+    (sym (found-behind mid (found ++ added) c.successors.new.pool c.len-first.result whole c.len-first.ensures))
+    (gives_ended g.M.Machine.names g.M.Machine.in_range g.M.Machine.seen r ended (g.M.Machine.end_window m) (g.M.Machine.until m) follows texts xs c.args.from e
+    c.requires.order (ends.0 c.if-not-some_can_end.false) found added (found ++ added)
+    (subst (λ ys. Covers g.M.Machine.names g.M.Machine.in_range g.M.Machine.seen texts (GivesFrom g.M.Machine.seen texts r ys e) found) all covers)
+    (subst (λ s. StandFor g.M.Machine.names g.M.Machine.in_range g.M.Machine.seen texts (r.Take (g.M.Machine.seen texts s) e) added) there gives) refl)
+
+pub returns-clause-before : goal.returns-clause-before
+returns-clause-before g c =
+    let (found, is, covers) = c.in_ok-step_each-2.ensures.gives in
+    let (added, new_is, gives) = c.in_ok-successors.ensures.ok (g.M.Machine.ended c.args.machine.now) in
+    let mid = c.push.new.self in
+    let whole = new_is ∙ ap (λ ys. ys ++ added) is ∙ append_assoc mid found added in
+    before-more c.args.pool.now mid c.successors.new.pool (at_rest c.ended.result ∷ []) c.in_ok-push.ensures.ok (take-old mid (found ++ added) c.successors.new.pool _ whole refl)

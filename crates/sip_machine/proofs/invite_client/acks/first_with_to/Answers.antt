@@ -1,7 +1,9 @@
-use Rattle.std.proofs.Common.{IsTrue}
+use Rattle.std.proofs.Common.{IsTrue, sym, subst}
+use Rattle.std.specs.Prelude.{All}
+use Rattle.sip_ledger.specs.Debts.{is_payable}
+use Rattle.sip_machine.specs.Owes.{owed_in}
 use Rattle.sip_machine.specs.Texts.{Keeps}
 use Rattle.sip_machine.specs.inner.Acks.{HasTo}
-use Rattle.sip_machine.specs.inner.Outbox.{is_payable}
 use Rattle.sip_machine.specs.inner.OwesLaws.{All-names}
 use Rattle.sip_machine.proofs.HolderLemmas.{FindsFirst-same, pays-held}
 use Rattle.sip_machine.proofs.RunsLemmas.{each-All}
@@ -9,22 +11,22 @@ use Rattle.sip_machine.proofs.invite_client.acks.first_with_to.Goals as goal
 
 pub first_of_runs-requires-clause-debts : goal.first_of_runs-requires-clause-debts
 first_of_runs-requires-clause-debts c =
-    each-All (λ debt. Keeps c.args.book.now debt.message) c.runs.result.now c.runs.ensures.filled
-    (rw c.runs.ensures.debts (All-names (Keeps c.args.book.now) c.args.owes.now c.requires))
+    let runs = c.in_ok-runs-in-Unknown.ensures in
+    rw c.deref.ensures.value
+    (each-All (λ debt. Keeps c.args.book.now debt.message) c.in_ok-runs-in-Unknown.runs.items runs.filled
+    (subst (All (λ debt. Keeps c.args.book.now debt.message)) (sym runs.whole) (All-names (Keeps c.args.book.now) (owed_in c.args.dues.now c.args.row) c.requires.owed)))
 
-pub returns-in-One : goal.returns-in-One
-returns-in-One c =
+pub returns-in-One-clause-finds : goal.returns-in-One-clause-finds
+returns-in-One-clause-finds c =
     let texts = c.args.book.now in
     let to = c.args.to.now in
     let t = c.args.moment in
     let n = c.in-One.number in
-    FindsFirst-same (λ debt. IsTrue (is_payable n t debt)) (HasTo texts to t) c.args.owes.now c.payable.result
-    (pays-held texts to n t c.args.owes.now (rw c.in-One.is at c.holder.ensures)) c.payable.ensures
+    let debts = owed_in c.args.dues.now c.args.row in
+    FindsFirst-same (λ debt. IsTrue (is_payable n t debt)) (HasTo texts to t) t debts c.payable.result
+    (pays-held texts to n t debts (rw c.in-One.is at c.in_ok-number.ensures)) c.payable.ensures.finds
 
-pub returns-in-Nobody : goal.returns-in-Nobody
-returns-in-Nobody c =
-    let none = rw c.in-Nobody.is at c.holder.ensures in
-    λ k d low has. none k d low has.0
-
-pub returns-in-Unknown : goal.returns-in-Unknown
-returns-in-Unknown c = rw c.runs.ensures.debts at c.first_of_runs.ensures
+pub returns-in-Nobody-clause-finds : goal.returns-in-Nobody-clause-finds
+returns-in-Nobody-clause-finds c =
+    let nobody = rw c.in-Nobody.is at c.in_ok-number.ensures in
+    λ k d low has. nobody k d low has.0

@@ -1,8 +1,27 @@
-use Rattle.std.proofs.Common.{◌++◌, OnOk, subst}
-use Rattle.sip_machine.specs.Owes.{owes_names}
-use Rattle.sip_machine.specs.Naming.{AppendsAll}
+use Rattle.std.specs.Prelude.{◌≡◌, ◌<◌, ◌++◌, get_or}
+use Rattle.std.proofs.Common.{◌∙◌, ap, sym, subst, append_assoc}
+use Rattle.sip_machine.specs.Owes.{owed_in, owes_names}
+use Rattle.sip_machine.specs.Owing.{owing_names}
+use Rattle.sip_machine.proofs.PoolLemmas.{in-phases, in-rows, state-here}
+use Rattle.sip_machine.proofs.ToLemmas.{on_ok}
 use Rattle.sip_machine.proofs.owing.AnyMachine.names.Goals as goal
 
+pub index-requires : goal.index-requires
+index-requires g c =
+    subst (λ n. c.args.at < n) (sym c.pool.inside.phases.ok.0) (in-phases c.pool.inside.phases.items c.pool.inside.dues c.args.pool.now c.args.at c.pool.view_is c.requires)
+
+pub names-requires : goal.names-requires
+names-requires g c = in-rows c.pool.inside.phases.items c.pool.inside.dues c.args.pool.now c.args.at c.pool.view_is c.pool.invariant c.requires
+
 pub returns-clause-ok : goal.returns-clause-ok
-returns-clause-ok g c =
-    subst (λ ns. OnOk c.push_names.result (AppendsAll (ns ++ owes_names c.args.state.now.owes) c.args.out.now.items c.push_names.new.out.items)) c.message.ensures c.push_names.ensures.ok
+returns-clause-ok g c = λ d.
+    let names = g.M.Phases.names in
+    let p = c.index.result.now in
+    let owes = owed_in c.pool.inside.dues c.args.at in
+    let here = state-here c.pool.inside.phases.items c.pool.inside.dues c.args.pool.now c.args.at p d c.pool.view_is c.requires c.index.ensures in
+    let old = c.args.out.now.items in
+    let x = get_or c.args.pool.now c.args.at d in
+    let owed = on_ok c.names.result _ (rw c.is_err.ensures.value at c.if-is_err.false) c.names.ensures.ok in
+    let whole : c.names.new.numbers.items ≡ old ++ (names p ++ owes_names owes) =
+    owed ∙ ap (λ ns. ns ++ owes_names owes) (c.in_ok-push_some.ensures.ok ∙ ap (λ ns. old ++ ns) c.message.ensures) ∙ append_assoc old (names p) (owes_names owes) in
+    (owing_names names x, whole ∙ ap (λ y. old ++ owing_names names y) here, λ n. (λ h. h, λ h. h))

@@ -6,8 +6,8 @@ returns g c =
     let m = c.self.inside.machine in
     let follows : Follows g.M.Machine.names g.M.Machine.seen (g.M.Machine.rules m) (g.M.Machine.ended m) (g.M.Machine.end_window m) (g.M.Machine.until m) =
     record { lawful = g.met.M.Machine.lawful m; ended_is = g.met.M.Machine.ended_stands m; ended_names = (g.met.M.Machine.ended_fits m).0; window_is = g.met.M.Machine.window_stands m; until_is = g.met.M.Machine.until_stands m; apart = g.met.M.Machine.apart } in
-    let last = rw c.as_slice.ensures.value at c.last_of_all.ensures in
+    let last = c.last_of_all.ensures in
     rw (← c.self.view_is)
     (λ texts n low.
-    let reach = reach_seen g.M.Machine.names g.M.Machine.in_range g.M.Machine.seen (g.M.Machine.rules m) (g.M.Machine.ended m) (g.M.Machine.end_window m) (g.M.Machine.until m) follows texts c.self.inside.moment n low c.self.inside.states.items in
+    let reach = reach_seen g.M.Machine.names g.M.Machine.in_range g.M.Machine.seen (g.M.Machine.rules m) (g.M.Machine.ended m) (g.M.Machine.end_window m) (g.M.Machine.until m) follows texts c.self.inside.moment n low c.self.inside.states in
     (λ wait. (last n low).0 (reach.1 wait), λ within. reach.0 ((last n low).1 within)))

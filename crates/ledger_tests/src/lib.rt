@@ -1,0 +1,13 @@
+//! Tests of `sip_ledger`: rows beside plain lists of debts.
+#![tactic(auto)]
+
+#[cfg(test)]
+mod growths;
+#[cfg(test)]
+mod lists;
+#[cfg(test)]
+mod long;
+#[cfg(test)]
+mod played;
+#[cfg(test)]
+mod rows;

@@ -1,0 +1,205 @@
+//! One row that owes more than a word has bits for.
+use crate::lists::{agree, debts, may, must, owes};
+use sip_ledger::{Debt, Ledger};
+use std::process::Abort;
+use std::test::Fail;
+
+/// A ledger of one row, which owes this.
+fn of_one(rt: &(impl Abort + AllocGlobal), list: &[Debt]) -> Result<Ledger, Fail> {
+    let mut ledger = Ledger::new(rt.alloc());
+    ledger.push()?;
+    for debt in list {
+        assert!(rt; 0 < ledger.len());
+        ledger.gain(0, *debt)?;
+    }
+    Ok(ledger)
+}
+
+/// Debts of so many messages, each with a deadline of its own.
+fn different(rt: &(impl Abort + AllocGlobal), count: u32) -> Result<Vec<Debt>, Fail> {
+    let mut list = Vec::new(rt.alloc());
+    for message in 0..count {
+        list.push(must(message, 1000 + u64::from(message)))?;
+    }
+    Ok(list)
+}
+
+/// The row pays the messages of the list in this order, and owes the others after each.
+fn pays(rt: &(impl Abort + AllocGlobal), count: u32, order: &[u32]) -> Result<(), Fail> {
+    let mut list = different(rt, count)?;
+    let mut ledger = of_one(rt, &list)?;
+    for message in order {
+        assert!(rt; 0 < ledger.len());
+        assert!(rt; ledger.pay(0, *message, 1000), "{message}");
+        list.retain(|debt| debt.message != *message);
+        ledger.tidy();
+        owes(rt, &mut ledger, 0, &list)?;
+        assert!(rt; 0 < ledger.len());
+        assert!(rt; !ledger.pay(0, *message, 1000), "{message}");
+    }
+    Ok(())
+}
+
+#[test]
+fn debts_are_paid_first_first(rt: HostRuntime) -> Result<(), Fail> {
+    let mut order = Vec::new(rt.alloc());
+    for message in 0..100 {
+        order.push(message)?;
+    }
+    pays(&rt, 100, &order)
+}
+
+#[test]
+fn debts_are_paid_last_first(rt: HostRuntime) -> Result<(), Fail> {
+    let mut order = Vec::new(rt.alloc());
+    for message in 0..100 {
+        order.push(99 - message)?;
+    }
+    pays(&rt, 100, &order)
+}
+
+#[test]
+fn debts_are_paid_by_turns(rt: HostRuntime) -> Result<(), Fail> {
+    let mut order = Vec::new(rt.alloc());
+    for at in 0..50 {
+        order.push(at)?;
+        order.push(99 - at)?;
+    }
+    pays(&rt, 100, &order)
+}
+
+/// Seventy debts of one message with three deadlines, of which those of the first may be sent alone.
+fn of_three_deadlines(rt: &(impl Abort + AllocGlobal)) -> Result<Vec<Debt>, Fail> {
+    let mut list = Vec::new(rt.alloc());
+    for _ in 0..20 {
+        list.push(may(1, 10))?;
+    }
+    for _ in 0..20 {
+        list.push(must(1, 20))?;
+    }
+    for _ in 0..30 {
+        list.push(may(1, 30))?;
+    }
+    Ok(list)
+}
+
+/// A send pays the first debt whose deadline is not past, and one that must be sent does not expire.
+#[test]
+fn a_long_row_expires_and_softens(rt: HostRuntime) -> Result<(), Fail> {
+    let mut list = of_three_deadlines(&rt)?;
+    let mut ledger = of_one(&rt, &list)?;
+    assert!(rt; 0 < ledger.len());
+    ledger.expire(0, 11);
+    list.retain(|debt| debt.deadline != 10);
+    owes(&rt, &mut ledger, 0, &list)?;
+    assert!(rt; 0 < ledger.len());
+    ledger.expire(0, 21);
+    owes(&rt, &mut ledger, 0, &list)?;
+    assert!(rt; 0 < ledger.len());
+    assert!(rt; ledger.pay(0, 1, 21));
+    assert!(rt; list.len() > 20);
+    list.remove(20);
+    owes(&rt, &mut ledger, 0, &list)?;
+    assert!(rt; 0 < ledger.len());
+    assert!(rt; ledger.pay_any(0, &[1, 3], 30));
+    assert!(rt; list.len() > 20);
+    list.remove(20);
+    owes(&rt, &mut ledger, 0, &list)?;
+    assert!(rt; 0 < ledger.len());
+    assert!(rt; !ledger.pay_any(0, &[1, 3], 31));
+    assert!(rt; 0 < ledger.len());
+    assert!(rt; !ledger.can_pay_any(0, &[1, 3], 31));
+    assert!(rt; 0 < ledger.len());
+    ledger.soften(0);
+    for debt in list.iter_mut() {
+        debt.must = false;
+    }
+    owes(&rt, &mut ledger, 0, &list)?;
+    assert!(rt; 0 < ledger.len());
+    ledger.expire(0, 21);
+    list.retain(|debt| debt.deadline == 30);
+    owes(&rt, &mut ledger, 0, &list)?;
+    assert!(rt; 0 < ledger.len());
+    ledger.clear(0);
+    owes(&rt, &mut ledger, 0, &[])
+}
+
+/// A long row is copied, and its copy goes on.
+#[test]
+fn a_long_row_is_copied_and_dropped(rt: HostRuntime) -> Result<(), Fail> {
+    let list = different(&rt, 70)?;
+    let mut ledger = of_one(&rt, &list)?;
+    assert!(rt; 0 < ledger.len());
+    ledger.copy(0, 0);
+    assert!(rt; 0 < ledger.len());
+    assert!(rt; ledger.same(0, 0));
+    assert!(rt; 0 < ledger.len());
+    ledger.push_copy(0)?;
+    assert!(rt; 1 < ledger.len());
+    assert!(rt; ledger.pay(1, 3, 0));
+    let mut lists = Vec::new(rt.alloc());
+    lists.push(list.clone()?)?;
+    lists.push(list)?;
+    assert!(rt; 1 < lists.len());
+    lists[1].retain(|debt| debt.message != 3);
+    agree(&rt, &mut ledger, &lists)?;
+    ledger.drop_first(1);
+    assert!(rt; 0 < lists.len());
+    lists.remove(0);
+    agree(&rt, &mut ledger, &lists)?;
+    let mut ledger = of_one(&rt, &debts(&rt, &ledger, 0)?)?;
+    ledger.push()?;
+    lists.push(Vec::new(rt.alloc()))?;
+    agree(&rt, &mut ledger, &lists)
+}
+
+/// A long row goes with the others.
+#[test]
+fn a_long_row_goes(rt: HostRuntime) -> Result<(), Fail> {
+    let list = different(&rt, 70)?;
+    let mut ledger = of_one(&rt, &list)?;
+    ledger.truncate(1);
+    owes(&rt, &mut ledger, 0, &list)?;
+    ledger.drop_first(0);
+    owes(&rt, &mut ledger, 0, &list)?;
+    ledger.truncate(0);
+    assert!(rt; ledger.is_empty());
+    let mut ledger = of_one(&rt, &list)?;
+    ledger.drop_first(1);
+    assert!(rt; ledger.is_empty());
+    ledger.push()?;
+    owes(&rt, &mut ledger, 0, &[])
+}
+
+/// The span of what a row owes, whatever it owes.
+#[test]
+fn a_span_is_of_what_is_owed(rt: HostRuntime) -> Result<(), Fail> {
+    let mut ledger = of_one(&rt, &[])?;
+    assert!(rt; 0 < ledger.len());
+    assert!(rt; ledger.span(0).is_none());
+    for message in [7, 3, 9, 3] {
+        assert!(rt; 0 < ledger.len());
+        ledger.gain(0, must(message, 10))?;
+    }
+    assert!(rt; 0 < ledger.len());
+    assert!(rt; ledger.span(0) == Some((3, 9)));
+    assert!(rt; ledger.pay(0, 9, 0));
+    assert!(rt; 0 < ledger.len());
+    assert!(rt; ledger.span(0) == Some((3, 7)));
+    for message in 100..200 {
+        assert!(rt; 0 < ledger.len());
+        ledger.gain(0, may(message, 10))?;
+    }
+    assert!(rt; 0 < ledger.len());
+    assert!(rt; ledger.span(0) == Some((3, 199)));
+    for message in [3, 3, 7, 199, 100] {
+        assert!(rt; 0 < ledger.len());
+        assert!(rt; ledger.pay(0, message, 0));
+    }
+    assert!(rt; 0 < ledger.len());
+    assert!(rt; ledger.span(0) == Some((101, 198)));
+    ledger.expire(0, 11);
+    assert!(rt; 0 < ledger.len());
+    assert!(rt; ledger.span(0).is_none());
+    Ok(())
+}

@@ -1,0 +1,191 @@
+//! Steps by chance, on rows and on plain lists of debts beside them.
+use crate::lists::{agree, owes};
+use sip_ledger::{Debt, Ledger};
+use std::process::Abort;
+use std::test::Fail;
+
+/// Numbers by chance.
+#[derive(Drop)]
+struct Chance(u64);
+
+impl Chance {
+    /// A number below the limit, which is not 0.
+    fn below(&mut self, limit: u64) -> u64 {
+        self.0 = self
+            .0
+            .wrapping_mul(6_364_136_223_846_793_005)
+            .wrapping_add(1_442_695_040_888_963_407);
+        (self.0 >> 33) % limit.max(1)
+    }
+}
+
+/// The row pays a message, as its list does.
+fn pay(
+    rt: &impl Abort,
+    ledger: &mut Ledger,
+    list: &mut Vec<Debt>,
+    row: usize,
+    message: u32,
+    moment: u64,
+) {
+    assert!(rt; row < ledger.len());
+    let paid = ledger.pay(row, message, moment);
+    let first = list
+        .iter()
+        .position(|debt| debt.message == message && moment <= debt.deadline);
+    assert!(rt; paid == first.is_some());
+    if let Some(first) = first {
+        list.remove(first);
+    }
+}
+
+/// The row pays one of two messages, as its list does.
+fn pay_any(rt: &impl Abort, ledger: &mut Ledger, list: &mut Vec<Debt>, row: usize, moment: u64) {
+    assert!(rt; row < ledger.len());
+    let paid = ledger.pay_any(row, &[1, 2], moment);
+    let first = list.iter().position(|debt| (debt.message == 1 || debt.message == 2)
+        && moment <= debt.deadline);
+    assert!(rt; paid == first.is_some());
+    if let Some(first) = first {
+        list.remove(first);
+    }
+}
+
+/// A step on a row and its list.
+fn step(
+    rt: &(impl Abort + AllocGlobal),
+    chance: &mut Chance,
+    ledger: &mut Ledger,
+    list: &mut Vec<Debt>,
+    row: usize,
+) -> Result<(), Fail> {
+    let message = u32::try_from(chance.below(4)).unwrap_or(0);
+    let moment = chance.below(40);
+    assert!(rt; row < ledger.len());
+    match chance.below(20) {
+        0 => {
+            ledger.soften(row);
+            for debt in list.iter_mut() {
+                debt.must = false;
+            }
+        }
+        1 => {
+            ledger.expire(row, moment);
+            list.retain(|debt| debt.must || moment <= debt.deadline);
+        }
+        2 => ledger.tidy(),
+        3 => {
+            if chance.below(8) == 0 {
+                ledger.clear(row);
+                list.clear();
+            }
+        }
+        4..8 => pay(rt, ledger, list, row, message, moment),
+        8 => pay_any(rt, ledger, list, row, moment),
+        _ => {
+            let debt = Debt {
+                message,
+                deadline: 10 * (moment / 10),
+                must: chance.below(2) == 0,
+            };
+            ledger.gain(row, debt)?;
+            list.push(debt)?;
+        }
+    }
+    owes(rt, ledger, row, list)
+}
+
+/// Rows come and go.
+fn change_rows(
+    rt: &(impl Abort + AllocGlobal),
+    chance: &mut Chance,
+    ledger: &mut Ledger,
+    lists: &mut Vec<Vec<Debt>>,
+) -> Result<(), Fail> {
+    let row = chance.below(lists.len() as u64) as usize;
+    let other = chance.below(lists.len() as u64) as usize;
+    assert!(rt; row < ledger.len());
+    assert!(rt; other < ledger.len());
+    assert!(rt; row < lists.len());
+    assert!(rt; other < lists.len());
+    match chance.below(5) {
+        0 if lists.len() > 1 => {
+            ledger.drop_first(1);
+            lists.remove(0);
+        }
+        1 if lists.len() > 1 => {
+            let kept = lists.len() - 1;
+            ledger.truncate(kept);
+            lists.truncate(kept);
+        }
+        2 => {
+            let copy = lists[row].clone()?;
+            ledger.copy(row, other);
+            lists[other] = copy;
+        }
+        3 if lists.len() < 8 => {
+            let copy = lists[row].clone()?;
+            ledger.push_copy(row)?;
+            lists.push(copy)?;
+        }
+        _ => {
+            ledger.push()?;
+            lists.push(Vec::new(rt.alloc()))?;
+        }
+    }
+    Ok(())
+}
+
+/// So many steps from this number on.
+fn play(rt: &(impl Abort + AllocGlobal), seed: u64, steps: u64) -> Result<(), Fail> {
+    let mut chance = Chance(seed);
+    let mut ledger = Ledger::new(rt.alloc());
+    let mut lists: Vec<Vec<Debt>> = Vec::new(rt.alloc());
+    ledger.push()?;
+    lists.push(Vec::new(rt.alloc()))?;
+    for _ in 0..steps {
+        let row = chance.below(lists.len() as u64) as usize;
+        assert!(rt; row < lists.len());
+        step(rt, &mut chance, &mut ledger, &mut lists[row], row)?;
+        if chance.below(10) == 0 {
+            change_rows(rt, &mut chance, &mut ledger, &mut lists)?;
+            agree(rt, &mut ledger, &lists)?;
+        }
+    }
+    Ok(())
+}
+
+#[test]
+fn rows_owe_what_plain_lists_have(rt: HostRuntime) -> Result<(), Fail> {
+    for seed in 0..20 {
+        play(&rt, seed, 300)?;
+    }
+    Ok(())
+}
+
+/// So many steps of one row from this number on, which comes to owe much, and is copied now and then.
+fn play_alone(rt: &(impl Abort + AllocGlobal), seed: u64, steps: u64) -> Result<(), Fail> {
+    let mut chance = Chance(seed);
+    let mut ledger = Ledger::new(rt.alloc());
+    let mut list: Vec<Debt> = Vec::new(rt.alloc());
+    ledger.push()?;
+    for _ in 0..steps {
+        step(rt, &mut chance, &mut ledger, &mut list, 0)?;
+        if chance.below(50) == 0 {
+            assert!(rt; 0 < ledger.len());
+            ledger.push_copy(0)?;
+            assert!(rt; 1 < ledger.len());
+            assert!(rt; ledger.same(0, 1));
+            ledger.drop_first(1);
+        }
+    }
+    owes(rt, &mut ledger, 0, &list)
+}
+
+#[test]
+fn a_long_row_owes_what_a_plain_list_has(rt: HostRuntime) -> Result<(), Fail> {
+    for seed in 0..20 {
+        play_alone(&rt, seed, 600)?;
+    }
+    Ok(())
+}

@@ -1,0 +1,158 @@
+//! Each operation once, by hand.
+use crate::lists::{debts, may, must, owes};
+use sip_ledger::{Debt, Ledger, Run};
+use std::process::Abort;
+use std::test::Fail;
+
+/// A ledger of one row, which owes this.
+fn of_one(rt: &(impl Abort + AllocGlobal), list: &[Debt]) -> Result<Ledger, Fail> {
+    let mut ledger = Ledger::new(rt.alloc());
+    ledger.push()?;
+    for debt in list {
+        assert!(rt; 0 < ledger.len());
+        ledger.gain(0, *debt)?;
+    }
+    Ok(ledger)
+}
+
+#[test]
+fn nothing_is_owed_at_first(rt: HostRuntime) -> Result<(), Fail> {
+    let mut ledger = Ledger::new(rt.alloc());
+    assert!(rt; ledger.is_empty());
+    ledger.push()?;
+    assert_eq!(rt; ledger.len(), 1);
+    assert!(rt; !ledger.is_empty());
+    owes(&rt, &mut ledger, 0, &[])
+}
+
+#[test]
+fn the_first_debt_of_a_message_is_paid(rt: HostRuntime) -> Result<(), Fail> {
+    let list = [must(1, 10), may(2, 10), must(1, 10), must(1, 20)];
+    let mut ledger = of_one(&rt, &list)?;
+    owes(&rt, &mut ledger, 0, &list)?;
+    assert!(rt; 0 < ledger.len());
+    assert!(rt; ledger.pay(0, 1, 10));
+    owes(&rt, &mut ledger, 0, &[may(2, 10), must(1, 10), must(1, 20)])?;
+    assert!(rt; 0 < ledger.len());
+    assert!(rt; ledger.pay(0, 1, 11));
+    owes(&rt, &mut ledger, 0, &[may(2, 10), must(1, 10)])?;
+    assert!(rt; 0 < ledger.len());
+    assert!(rt; !ledger.pay(0, 1, 11));
+    assert!(rt; 0 < ledger.len());
+    assert!(rt; !ledger.pay(0, 3, 0));
+    assert!(rt; 0 < ledger.len());
+    assert!(rt; ledger.pay_any(0, &[2, 3], 10));
+    owes(&rt, &mut ledger, 0, &[must(1, 10)])
+}
+
+#[test]
+fn what_may_be_sent_expires(rt: HostRuntime) -> Result<(), Fail> {
+    let mut ledger = of_one(&rt, &[may(1, 10), must(2, 10), may(1, 11), may(3, 9)])?;
+    assert!(rt; 0 < ledger.len());
+    ledger.expire(0, 11);
+    owes(&rt, &mut ledger, 0, &[must(2, 10), may(1, 11)])?;
+    assert!(rt; 0 < ledger.len());
+    ledger.soften(0);
+    owes(&rt, &mut ledger, 0, &[may(2, 10), may(1, 11)])?;
+    assert!(rt; 0 < ledger.len());
+    ledger.clear(0);
+    owes(&rt, &mut ledger, 0, &[])
+}
+
+/// Rows come and go behind and before the others.
+#[test]
+fn rows_are_copied_and_dropped(rt: HostRuntime) -> Result<(), Fail> {
+    let mut ledger = of_one(&rt, &[must(1, 10)])?;
+    assert!(rt; 0 < ledger.len());
+    ledger.push_copy(0)?;
+    ledger.push()?;
+    assert!(rt; 1 < ledger.len());
+    ledger.gain(1, may(2, 20))?;
+    assert_eq!(rt; ledger.len(), 3);
+    owes(&rt, &mut ledger, 0, &[must(1, 10)])?;
+    owes(&rt, &mut ledger, 1, &[must(1, 10), may(2, 20)])?;
+    owes(&rt, &mut ledger, 2, &[])?;
+    ledger.drop_first(1);
+    assert_eq!(rt; ledger.len(), 2);
+    owes(&rt, &mut ledger, 0, &[must(1, 10), may(2, 20)])?;
+    assert!(rt; 1 < ledger.len());
+    ledger.copy(1, 0);
+    owes(&rt, &mut ledger, 0, &[])?;
+    ledger.truncate(1);
+    assert_eq!(rt; ledger.len(), 1);
+    ledger.truncate(9);
+    assert_eq!(rt; ledger.len(), 1);
+    ledger.drop_first(9);
+    assert!(rt; ledger.is_empty());
+    Ok(())
+}
+
+#[test]
+fn equal_neighbours_are_one_run(rt: HostRuntime) -> Result<(), Fail> {
+    let list = [
+        must(1, 10),
+        must(1, 10),
+        may(1, 10),
+        must(2, 10),
+        must(1, 10),
+    ];
+    let ledger = of_one(&rt, &list)?;
+    assert!(rt; 0 < ledger.len());
+    let runs = ledger.runs(rt.alloc(), 0)?;
+    let run = |debt, count| Run { debt, count };
+    let wants = [
+        run(must(1, 10), 2),
+        run(may(1, 10), 1),
+        run(must(2, 10), 1),
+        run(must(1, 10), 1),
+    ];
+    assert!(rt; runs.as_slice() == wants.as_slice(), "{runs:?}");
+    let mut numbers = Vec::new(rt.alloc());
+    assert!(rt; 0 < ledger.len());
+    ledger.names(0, &mut numbers)?;
+    assert!(rt; numbers.as_slice() == [1, 1, 1, 2, 1].as_slice());
+    Ok(())
+}
+
+/// The same debts in one order have one spelling, whichever entries they came by.
+#[test]
+fn equal_rows_are_the_same(rt: HostRuntime) -> Result<(), Fail> {
+    let mut ledger = of_one(&rt, &[must(1, 10), must(2, 10), must(1, 10)])?;
+    ledger.push()?;
+    assert!(rt; 1 < ledger.len());
+    ledger.gain(1, must(2, 10))?;
+    assert!(rt; 1 < ledger.len());
+    ledger.gain(1, must(1, 10))?;
+    assert!(rt; 1 < ledger.len());
+    assert!(rt; !ledger.same(0, 1));
+    assert!(rt; ledger.pay(0, 1, 0));
+    assert!(rt; 1 < ledger.len());
+    assert!(rt; ledger.same(0, 1));
+    assert!(rt; ledger.print(0) == ledger.print(1));
+    Ok(())
+}
+
+/// A hundred debts, of which the first ones are paid and go.
+#[test]
+fn entries_that_no_row_owes_go(rt: HostRuntime) -> Result<(), Fail> {
+    let mut ledger = of_one(&rt, &[])?;
+    for number in 0..100 {
+        assert!(rt; 0 < ledger.len());
+        ledger.gain(0, must(number, 10))?;
+    }
+    for number in 0..70 {
+        assert!(rt; 0 < ledger.len());
+        assert!(rt; ledger.pay(0, number, 0), "{number}");
+        ledger.tidy();
+    }
+    let left = debts(&rt, &ledger, 0)?;
+    assert_eq!(rt; left.len(), 30);
+    assert!(rt; left[0] == must(70, 10));
+    for number in 70..100 {
+        assert!(rt; 0 < ledger.len());
+        assert!(rt; ledger.pay(0, number, 0), "{number}");
+    }
+    ledger.tidy();
+    assert_eq!(rt; ledger.len(), 1);
+    owes(&rt, &mut ledger, 0, &[])
+}

@@ -1,0 +1,10 @@
+use Rattle.std.specs.Prelude.{All}
+use Rattle.sip_machine.specs.Rules.{Knows}
+use Rattle.machine_tests.proofs.pool.push_owing.Given as goal
+
+abbrev pub invariant-loop-message : goal.invariant-loop-message
+invariant-loop-message g l =
+    record {
+      known : All (Knows g.M.Machine.names l.book) l.pool;
+      in_range : All g.M.Machine.in_range l.pool;
+    }

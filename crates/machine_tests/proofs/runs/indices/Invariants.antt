@@ -1,0 +1,10 @@
+use Rattle.std.specs.Prelude.{◌<◌, All, AllPairs}
+use Rattle.machine_tests.proofs.runs.indices.Given as goal
+
+abbrev pub invariant-loop-row : goal.invariant-loop-row
+invariant-loop-row l =
+    record {
+      within : All (λ row. row < l.to) l.rows.items;
+      below : All (λ row. row < l.row) l.rows.items;
+      rising : AllPairs (λ a b. a < b) l.rows.items;
+    }

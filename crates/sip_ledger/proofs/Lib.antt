@@ -1,0 +1,13 @@
+pub mod SpanLemmas
+pub mod LongLemmas
+pub mod IndexLemmas
+pub mod BitsLemmas
+pub mod ListedLemmas
+pub mod RowLemmas
+pub mod TableLemmas
+pub mod GridLemmas
+pub mod RunLemmas
+pub mod WordsLemmas
+pub mod MemoLemmas
+pub mod WordLemmas
+pub mod WordRowLemmas

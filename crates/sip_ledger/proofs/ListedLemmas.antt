@@ -1,0 +1,225 @@
+-- The debts at bits of a list of entries.
+use Rattle.std.proofs.Common.{◌≡◌, ℕ, zero, suc, ◌+◌, ◌-◌, ◌<◌, ◌≤◌, Bool, true, false, ◌&&◌, ◌||◌, cond, List, [], ◌∷◌, ◌++◌, length, take, drop, get_or, map, filter, refl, sym, ap, ◌∙◌, subst, arith}
+use Rattle.std.specs.Prelude.{All, nat_le, Some, option_to_list, min}
+use Rattle.std.specs.List.{fold}
+use Rattle.std.proofs.lemmas.List.{append_cancel_right, drop_more, length-take-le, take-append-drop, take_more}
+use Rattle.std.proofs.lemmas.List.Elements.{All-nil, All-cons, All-head, All-tail}
+use Rattle.sip_ledger.specs.declared.debt.Debt.{Debt}
+use Rattle.sip_ledger.specs.declared.debt.Entry.{Entry}
+use Rattle.sip_ledger.specs.Debts.{counts_at, softened_debt, debt_deadlines, earliest}
+use Rattle.sip_ledger.specs.Rows.{debt_of, debts_from, IsGap}
+
+abbrev pub no_entry : Entry
+no_entry = record { message = 0; deadline = 0 }
+
+-- a debt more or none, before other debts
+cond-append : (b : Bool) (d : Debt) (all xs ys : List Debt) → all ≡ xs ++ ys → cond b (d ∷ all) all ≡ cond b (d ∷ xs) xs ++ ys
+cond-append true d all xs ys e = ap (λ l. d ∷ l) e
+cond-append false d all xs ys e = e
+
+cond-same : (b b' : Bool) (d d' : Debt) (xs xs' : List Debt) → b ≡ b' → d ≡ d' → xs ≡ xs' → cond b (d ∷ xs) xs ≡ cond b' (d' ∷ xs') xs'
+cond-same b b' d d' xs xs' same_b same_d same_xs =
+    ap (λ a. cond a (d ∷ xs) xs) same_b ∙ ap (λ x. cond b' (x ∷ xs) xs) same_d ∙ ap (λ l. cond b' (d' ∷ l) l) same_xs
+
+cond-filter : (p : Debt → Bool) (b : Bool) (d : Debt) (xs : List Debt) → filter p (cond b (d ∷ xs) xs) ≡ cond (b && p d) (d ∷ filter p xs) (filter p xs)
+cond-filter p true d xs = refl
+cond-filter p false d xs = refl
+
+cond-map : {X : Type 0} (f : Debt → X) (b : Bool) (d : Debt) (xs : List Debt) → map f (cond b (d ∷ xs) xs) ≡ cond b (f d ∷ map f xs) (map f xs)
+cond-map f true d xs = refl
+cond-map f false d xs = refl
+
+cond-All : (P : Debt → Type 0) (b : Bool) (d : Debt) (xs : List Debt) → (b ≡ true → P d) → All P xs → All P (cond b (d ∷ xs) xs)
+cond-All P true d xs here rest = All-cons P d xs (here refl) rest
+cond-All P false d xs here rest = rest
+
+-- those of two parts
+pub listed-append : (o m : ℕ → Bool) (i : ℕ) (xs ys : List Entry) → debts_from o m i (xs ++ ys) ≡ debts_from o m i xs ++ debts_from o m (i + length xs) ys
+listed-append o m i [] ys = let none : i ≡ i + 0 = omega arith in ap (λ n. debts_from o m n ys) none
+listed-append o m i (x ∷ xs) ys =
+    let next : i + 1 + length xs ≡ i + suc (length xs) = omega arith in
+    cond-append (o i) (debt_of x (m i)) (debts_from o m (i + 1) (xs ++ ys)) (debts_from o m (i + 1) xs) (debts_from o m (i + suc (length xs)) ys)
+    (listed-append o m (i + 1) xs ys ∙ ap (λ n. debts_from o m (i + 1) xs ++ debts_from o m n ys) next)
+
+-- where the bits agree they are the same
+pub listed-same : (o m o' m' : ℕ → Bool) (i : ℕ) (xs : List Entry) → ((k : ℕ) → i ≤ k → k < i + length xs → (o k ≡ o' k) × (m k ≡ m' k)) →
+    debts_from o m i xs ≡ debts_from o' m' i xs
+listed-same o m o' m' i [] agree = refl
+listed-same o m o' m' i (x ∷ xs) agree =
+    let here = agree i (omega arith) (omega arith) in
+    cond-same (o i) (o' i) (debt_of x (m i)) (debt_of x (m' i)) (debts_from o m (i + 1) xs) (debts_from o' m' (i + 1) xs) here.0
+    (ap (debt_of x) here.1) (listed-same o m o' m' (i + 1) xs (λ k from below. agree k (omega (arith, from)) (omega (arith, below))))
+
+-- without bits there are none
+pub listed-none : (o m : ℕ → Bool) (i : ℕ) (xs : List Entry) → ((k : ℕ) → i ≤ k → k < i + length xs → o k ≡ false) → debts_from o m i xs ≡ []
+listed-none o m i [] none = refl
+listed-none o m i (x ∷ xs) none =
+    ap (λ b. cond b (debt_of x (m i) ∷ debts_from o m (i + 1) xs) (debts_from o m (i + 1) xs)) (none i (omega arith) (omega arith))
+    ∙ listed-none o m (i + 1) xs (λ k from below. none k (omega (arith, from)) (omega (arith, below)))
+
+-- what each debt at a bit is, all are
+pub listed-All : (P : Debt → Type 0) (o m : ℕ → Bool) (i : ℕ) (xs : List Entry) →
+    ((j : ℕ) (e : Entry) → j < length xs → o (i + j) ≡ true → P (debt_of (get_or xs j e) (m (i + j)))) → All P (debts_from o m i xs)
+listed-All P o m i [] each = All-nil P
+listed-All P o m i (x ∷ xs) each =
+    let none : i + 0 ≡ i = omega arith in
+    cond-All P (o i) (debt_of x (m i)) (debts_from o m (i + 1) xs)
+    (λ is. subst (λ n. P (debt_of x (m n))) none (each 0 x (omega arith) (ap o none ∙ is)))
+    (listed-All P o m (i + 1) xs (λ j e below is.
+    let next : i + 1 + j ≡ i + suc j = omega arith in
+    subst (λ n. P (debt_of (get_or xs j e) (m n))) (sym next) (each (suc j) e (omega (arith, below)) (ap o (sym next) ∙ is))))
+
+-- the debts at the bits before k, and those from k on
+abbrev pub front : (ℕ → Bool) → (ℕ → Bool) → List Entry → ℕ → List Debt
+front o m entries k = debts_from o m 0 (take k entries)
+
+abbrev pub back : (ℕ → Bool) → (ℕ → Bool) → List Entry → ℕ → List Debt
+back o m entries k = debts_from o m k (drop k entries)
+
+pub parts : (o m : ℕ → Bool) (entries : List Entry) (k : ℕ) → k ≤ length entries → debts_from o m 0 entries ≡ front o m entries k ++ back o m entries k
+parts o m entries k within =
+    let long : 0 + length (take k entries) ≡ k = omega (arith, length-take-le k entries within) in
+    ap (debts_from o m 0) (sym (take-append-drop k entries)) ∙ listed-append o m 0 (take k entries) (drop k entries)
+    ∙ ap (λ n. front o m entries k ++ debts_from o m n (drop k entries)) long
+
+-- the debt at k, if its bit is set, is the first of those from k on
+pub back-at : (o m : ℕ → Bool) (entries : List Entry) (k : ℕ) (e : Entry) → k < length entries →
+    back o m entries k ≡ cond (o k) (debt_of (get_or entries k e) (m k) ∷ back o m entries (k + 1)) (back o m entries (k + 1))
+back-at o m entries k e within = ap (debts_from o m k) (drop_more entries k e within)
+
+pub back-set : (o m : ℕ → Bool) (entries : List Entry) (k : ℕ) (e : Entry) → k < length entries → o k ≡ true →
+    back o m entries k ≡ debt_of (get_or entries k e) (m k) ∷ back o m entries (k + 1)
+back-set o m entries k e within is =
+    back-at o m entries k e within ∙ ap (λ b. cond b (debt_of (get_or entries k e) (m k) ∷ back o m entries (k + 1)) (back o m entries (k + 1))) is
+
+pub back-unset : (o m : ℕ → Bool) (entries : List Entry) (k : ℕ) → k < length entries → o k ≡ false → back o m entries k ≡ back o m entries (k + 1)
+back-unset o m entries k within is =
+    back-at o m entries k no_entry within
+    ∙ ap (λ b. cond b (debt_of (get_or entries k no_entry) (m k) ∷ back o m entries (k + 1)) (back o m entries (k + 1))) is
+
+-- past the last bit there are none
+pub back-none : (o m : ℕ → Bool) (entries : List Entry) (k : ℕ) → ((j : ℕ) → k ≤ j → o j ≡ false) → back o m entries k ≡ []
+back-none o m entries k none = listed-none o m k (drop k entries) (λ j from below. none j from)
+
+-- those before k by the bits before k alone, and those from k on by the others
+pub front-same : (o m o' m' : ℕ → Bool) (entries : List Entry) (k : ℕ) → k ≤ length entries → ((j : ℕ) → j < k → (o j ≡ o' j) × (m j ≡ m' j)) →
+    front o m entries k ≡ front o' m' entries k
+front-same o m o' m' entries k within agree =
+    listed-same o m o' m' 0 (take k entries) (λ j from below. agree j (omega (arith, below, length-take-le k entries within)))
+
+pub back-same : (o m o' m' : ℕ → Bool) (entries : List Entry) (k : ℕ) → ((j : ℕ) → k ≤ j → (o j ≡ o' j) × (m j ≡ m' j)) →
+    back o m entries k ≡ back o' m' entries k
+back-same o m o' m' entries k agree = listed-same o m o' m' k (drop k entries) (λ j from below. agree j from)
+
+-- a gap has none
+pub back-gap : (o m : ℕ → Bool) (entries : List Entry) (i n : ℕ) → i + n ≤ length entries → IsGap o i (i + n) → back o m entries i ≡ back o m entries (i + n)
+back-gap o m entries i zero within gap = let none : i ≡ i + 0 = omega arith in ap (back o m entries) none
+back-gap o m entries i (suc n) within gap =
+    let next : i + 1 + n ≡ i + suc n = omega arith in
+    back-unset o m entries i (omega (arith, within)) (gap i (omega arith) (omega arith))
+    ∙ back-gap o m entries (i + 1) n (omega (arith, within)) (λ j from below. gap j (omega (arith, from)) (omega (arith, below)))
+    ∙ ap (back o m entries) next
+
+pub back-over : (o m : ℕ → Bool) (entries : List Entry) (i k : ℕ) → i ≤ k → k ≤ length entries → IsGap o i k → back o m entries i ≡ back o m entries k
+back-over o m entries i k order within gap =
+    let is : i + (k - i) ≡ k = omega (arith, order) in
+    back-gap o m entries i (k - i) (omega (arith, within, is)) (λ j from below. gap j from (omega (arith, below, is))) ∙ ap (back o m entries) is
+
+-- what counts still at t
+pub listed-counting : (t : ℕ) (o m o' : ℕ → Bool) (i : ℕ) (xs : List Entry) →
+    ((j : ℕ) (e : Entry) → j < length xs → o' (i + j) ≡ (o (i + j) && (m (i + j) || nat_le t (get_or xs j e).deadline))) →
+    debts_from o' m i xs ≡ filter (counts_at t) (debts_from o m i xs)
+listed-counting t o m o' i [] each = refl
+listed-counting t o m o' i (x ∷ xs) each =
+    let none : i ≡ i + 0 = omega arith in
+    let here : o' i ≡ (o i && (m i || nat_le t x.deadline)) =
+    subst (λ n. o' n ≡ (o n && (m n || nat_le t x.deadline))) (sym none) (each 0 x (omega arith)) in
+    let rest = listed-counting t o m o' (i + 1) xs (λ j e below.
+    let next : i + 1 + j ≡ i + suc j = omega arith in
+    subst (λ n. o' n ≡ (o n && (m n || nat_le t (get_or xs j e).deadline))) (sym next) (each (suc j) e (omega (arith, below)))) in
+    cond-same (o' i) (o i && (m i || nat_le t x.deadline)) (debt_of x (m i)) (debt_of x (m i)) (debts_from o' m (i + 1) xs)
+    (filter (counts_at t) (debts_from o m (i + 1) xs)) here refl rest
+    ∙ sym (cond-filter (counts_at t) (o i) (debt_of x (m i)) (debts_from o m (i + 1) xs))
+
+-- debts that have not to be paid any more
+pub listed-softened : (o m m' : ℕ → Bool) (i : ℕ) (xs : List Entry) → ((k : ℕ) → m' k ≡ false) →
+    debts_from o m' i xs ≡ map softened_debt (debts_from o m i xs)
+listed-softened o m m' i [] none = refl
+listed-softened o m m' i (x ∷ xs) none =
+    cond-same (o i) (o i) (debt_of x (m' i)) (softened_debt (debt_of x (m i))) (debts_from o m' (i + 1) xs)
+    (map softened_debt (debts_from o m (i + 1) xs)) refl (ap (debt_of x) (none i)) (listed-softened o m m' (i + 1) xs none)
+    ∙ sym (cond-map softened_debt (o i) (debt_of x (m i)) (debts_from o m (i + 1) xs))
+
+-- the bits before k with the next one behind them
+pub front-gap : (o m : ℕ → Bool) (entries : List Entry) (from at : ℕ) → from ≤ at → at ≤ length entries → IsGap o from at →
+    front o m entries at ≡ front o m entries from
+front-gap o m entries from at order within gap =
+    append_cancel_right (front o m entries at) (front o m entries from) (back o m entries at)
+    (sym (parts o m entries at within) ∙ parts o m entries from (omega (arith, order, within))
+    ∙ ap (λ l. front o m entries from ++ l) (back-over o m entries from at order within gap))
+
+pub front-next : (o m : ℕ → Bool) (entries : List Entry) (from at : ℕ) (e : Entry) → from ≤ at → at < length entries → IsGap o from at → o at ≡ true →
+    front o m entries (at + 1) ≡ front o m entries from ++ debt_of (get_or entries at e) (m at) ∷ []
+front-next o m entries from at e order within gap set =
+    let entry = get_or entries at e in
+    let debt = debt_of entry (m at) in
+    let less : at ≤ length entries = omega (arith, within) in
+    let long : 0 + length (take at entries) ≡ at = omega (arith, length-take-le at entries less) in
+    ap (debts_from o m 0) (take_more entries at e within)
+    ∙ listed-append o m 0 (take at entries) (entry ∷ [])
+    ∙ ap (λ n. front o m entries at ++ debts_from o m n (entry ∷ [])) long
+    ∙ ap (λ b. front o m entries at ++ cond b (debt ∷ []) []) set
+    ∙ ap (λ l. l ++ debt ∷ []) (front-gap o m entries from at order less gap)
+
+-- what must be sent is what is at the bits of must
+must-of : (b c : Bool) → (c ≡ true → b ≡ true) → (b && c) ≡ c
+must-of true c among = refl
+must-of false true among = among refl
+must-of false false among = refl
+
+pub listed-must : (o m : ℕ → Bool) (i : ℕ) (xs : List Entry) → ((k : ℕ) → m k ≡ true → o k ≡ true) →
+    debt_deadlines (debts_from o m i xs) ≡ map (λ d. d.deadline) (debts_from m m i xs)
+listed-must o m i [] among = refl
+listed-must o m i (x ∷ xs) among =
+    let debt = debt_of x (m i) in
+    let rest = debts_from o m (i + 1) xs in
+    ap (map (λ (d : Debt). d.deadline)) (cond-filter (λ d. d.must) (o i) debt rest)
+    ∙ cond-map (λ d. d.deadline) (o i && m i) debt (filter (λ d. d.must) rest)
+    ∙ ap (λ b. cond b (x.deadline ∷ debt_deadlines rest) (debt_deadlines rest)) (must-of (o i) (m i) (among i))
+    ∙ ap (λ l. cond (m i) (x.deadline ∷ l) l) (listed-must o m (i + 1) xs among)
+    ∙ sym (cond-map (λ d. d.deadline) (m i) debt (debts_from m m (i + 1) xs))
+
+-- the least of moments and one more
+fold-push : (a m : ℕ) (ms : List ℕ) → fold min a (ms ++ m ∷ []) ≡ min (fold min a ms) m
+fold-push a m [] = refl
+fold-push a m (x ∷ xs) = fold-push (min a x) m xs
+
+pub earliest-push : (ms : List ℕ) (m : ℕ) → earliest (ms ++ m ∷ []) ≡ earliest (m ∷ option_to_list (earliest ms))
+earliest-push [] m = refl
+earliest-push (x ∷ xs) m = let turned : min (fold min x xs) m ≡ min m (fold min x xs) = omega arith in ap Some (fold-push x m xs ∙ turned)
+
+-- the messages of debts, whatever has to be paid
+pub listed-messages : (o m m' : ℕ → Bool) (i : ℕ) (xs : List Entry) → map (λ (d : Debt). d.message) (debts_from o m i xs) ≡ map (λ (d : Debt). d.message) (debts_from o m' i xs)
+listed-messages o m m' i [] = refl
+listed-messages o m m' i (x ∷ xs) =
+    cond-map (λ (d : Debt). d.message) (o i) (debt_of x (m i)) (debts_from o m (i + 1) xs)
+    ∙ ap (λ l. cond (o i) (x.message ∷ l) l) (listed-messages o m m' (i + 1) xs)
+    ∙ sym (cond-map (λ (d : Debt). d.message) (o i) (debt_of x (m' i)) (debts_from o m' (i + 1) xs))
+
+-- a place further on
+pub listed-shift : (o m : ℕ → Bool) (n i : ℕ) (xs : List Entry) → debts_from (λ k. o (n + k)) (λ k. m (n + k)) i xs ≡ debts_from o m (n + i) xs
+listed-shift o m n i [] = refl
+listed-shift o m n i (x ∷ xs) =
+    let next : n + (i + 1) ≡ n + i + 1 = omega arith in
+    cond-same (o (n + i)) (o (n + i)) (debt_of x (m (n + i))) (debt_of x (m (n + i))) (debts_from (λ k. o (n + k)) (λ k. m (n + k)) (i + 1) xs) (debts_from o m (n + i + 1) xs) refl refl
+    (listed-shift o m n (i + 1) xs ∙ ap (λ j. debts_from o m j xs) next)
+
+-- the least of rising moments is the first one
+fold-first : (x : ℕ) (xs : List ℕ) → All (λ y. x ≤ y) xs → fold min x xs ≡ x
+fold-first x [] above = refl
+fold-first x (y ∷ ys) above =
+    let here : min x y ≡ x = omega (arith, All-head (λ z. x ≤ z) y ys above) in
+    ap (λ n. fold min n ys) here ∙ fold-first x ys (All-tail (λ z. x ≤ z) y ys above)
+
+pub earliest-first : (x : ℕ) (xs : List ℕ) → All (λ y. x ≤ y) xs → Some x ≡ earliest (x ∷ xs)
+earliest-first x xs above = ap Some (sym (fold-first x xs above))

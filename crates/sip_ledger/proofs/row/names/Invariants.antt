@@ -1,0 +1,13 @@
+use Rattle.std.proofs.Common.{◌≡◌, ◌-◌, ◌≤◌, ◌++◌, length, take, map}
+use Rattle.sip_ledger.specs.declared.debt.Debt.{Debt}
+use Rattle.sip_ledger.specs.Bits.{has}
+use Rattle.sip_ledger.specs.Rows.{debts_from}
+use Rattle.sip_ledger.proofs.row.names.Given as goal
+
+abbrev pub invariant-loop-at : goal.invariant-loop-at
+invariant-loop-at l =
+    (l.from ≤ length l.entries)
+    × (l.numbers.items ≡ l.fn.numbers.items ++ map (λ (d : Debt). d.message) (debts_from (has l.owed) (has l.owed) 0 (take l.from l.entries)))
+
+abbrev pub decreases-loop-at : goal.decreases-loop-at
+decreases-loop-at l = length l.entries - l.from

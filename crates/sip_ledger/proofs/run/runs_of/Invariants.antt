@@ -1,0 +1,6 @@
+use Rattle.std.proofs.Common.{take}
+use Rattle.sip_ledger.specs.Runs.{AreRuns}
+use Rattle.sip_ledger.proofs.run.runs_of.Given as goal
+
+abbrev pub invariant-loop-debt : goal.invariant-loop-debt
+invariant-loop-debt l = AreRuns (take l.debt-index l.debts) l.runs.items

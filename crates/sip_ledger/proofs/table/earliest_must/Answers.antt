@@ -1,0 +1,18 @@
+use Rattle.std.proofs.Common.{◌≡◌, ℕ, ◌<◌, true, length, subst, sym}
+use Rattle.sip_ledger.specs.Bits.{has}
+use Rattle.sip_ledger.specs.Debts.{debt_deadlines, earliest}
+use Rattle.sip_ledger.specs.Rows.{IsRow, row_debts}
+use Rattle.sip_ledger.specs.Grids.{part}
+use Rattle.sip_ledger.proofs.TableLemmas.{span-is}
+use Rattle.sip_ledger.proofs.table.earliest_must.Goals as goal
+
+pub earliest_must-requires-clause-within : goal.earliest_must-requires-clause-within
+earliest_must-requires-clause-within c =
+    subst (λ m. (k : ℕ) → has m k ≡ true → k < length c.args.entries.now) (sym (span-is c.args.width c.args.row c.args.must.now)) c.requires.within
+
+pub returns : goal.returns
+returns c owed row =
+    let entries = c.args.entries.now in
+    let mine = part c.args.width c.args.row owed in
+    subst (λ m. IsRow entries (has mine) (has m) → c.earliest_must.result ≡ earliest (debt_deadlines (row_debts entries mine m)))
+    (span-is c.args.width c.args.row c.args.must.now) (c.earliest_must.ensures mine) row.is

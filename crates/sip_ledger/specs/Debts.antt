@@ -1,0 +1,45 @@
+use Rattle.std.specs.Prelude.{◌≡◌, ◌≤◌, ◌==◌, ◌&&◌, ◌||◌, IsTrue, ℕ, Bool, false, Option, List, ◌∷◌, ◌++◌, All, filter, map, min, nat_le}
+use Rattle.std.specs.List.{list_any, reduce}
+use Rattle.sip_ledger.specs.declared.debt.Debt.{Debt}
+
+-- What is owed, oldest first.
+
+-- ys are xs without the first one of which P holds
+pub record IsWithoutFirst {X : Type 0} (P : X → Type 0) (xs ys : List X) : Type 0 where
+  pub before : List X
+  pub first : X
+  pub after : List X
+  pub whole : xs ≡ before ++ first ∷ after
+  pub holds : P first
+  pub none_before : All (λ x. ¬ (P x)) before
+  pub rest : ys ≡ before ++ after
+
+-- the debt counts still at t
+abbrev pub counts_at : ℕ → Debt → Bool
+counts_at t debt = debt.must || nat_le t debt.deadline
+
+-- the debt, which has not to be paid any more
+abbrev pub softened_debt : Debt → Debt
+softened_debt debt = record { message = debt.message; deadline = debt.deadline; must = false }
+
+-- a send of this message at t can pay the debt
+abbrev pub is_payable : ℕ → ℕ → Debt → Bool
+is_payable message t debt = debt.message == message && nat_le t debt.deadline
+
+-- a send of one of the messages at t can pay the debt
+abbrev pub is_any_payable : List ℕ → ℕ → Debt → Bool
+is_any_payable messages t debt = list_any (λ message. is_payable message t debt) messages
+
+-- the deadlines of debts that have to be paid
+abbrev pub debt_deadlines : List Debt → List ℕ
+debt_deadlines debts = map (λ debt. debt.deadline) (filter (λ debt. debt.must) debts)
+
+-- the least of these moments, none if there is none
+abbrev pub earliest : List ℕ → Option ℕ
+earliest moments = reduce min moments
+
+-- the least and the greatest number of a message that is owed
+pub record IsSpan (debts : List Debt) (low high : ℕ) : Type 0 where
+  pub least : IsTrue (list_any (λ debt. debt.message == low) debts)
+  pub greatest : IsTrue (list_any (λ debt. debt.message == high) debts)
+  pub between : All (λ debt. (low ≤ debt.message) × (debt.message ≤ high)) debts

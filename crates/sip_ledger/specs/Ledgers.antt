@@ -1,0 +1,26 @@
+use Rattle.std.specs.Prelude.{ℕ, List, [], ◌∷◌, Option, None, Some, get_or}
+use Rattle.std.specs.Map.{values_of}
+use Rattle.sip_ledger.specs.declared.debt.Debt.{Debt}
+use Rattle.sip_ledger.specs.Grids.{Grid, grid_rows}
+
+-- What many rows owe.
+
+-- a grid; or, where there is one row alone and it owes many debts, these in their order, each with its number
+pub record Table : Type 0 where
+  pub grid : Grid
+  pub long : Option (List (ℕ × Debt))
+
+abbrev pub table_of : Grid → Option (List (ℕ × Debt)) → Table
+table_of grid long = record { grid = grid; long = long }
+
+abbrev pub rows_by : Grid → Option (List (ℕ × Debt)) → List (List Debt)
+rows_by grid None = grid_rows grid
+rows_by grid (Some debts) = values_of debts ∷ []
+
+-- what each row owes
+unfoldable pub rows_of : Table → List (List Debt)
+rows_of table = rows_by table.grid table.long
+
+-- what one of the rows owes
+abbrev pub row_of : Table → ℕ → List Debt
+row_of table row = get_or (rows_of table) row []

@@ -1,0 +1,6 @@
+pub mod Ends
+pub mod Indexes
+pub mod Longs
+pub mod Memos
+pub mod Places
+pub mod Tables

@@ -1,0 +1,62 @@
+use Rattle.std.specs.Prelude.{◌≡◌, ◌≢◌, ◌<◌, ◌≤◌, ◌+◌, ◌-◌, ◌*◌, ◌^◌, ℕ, List, [], ◌∷◌, ◌++◌, length, drop, get_or}
+use Rattle.sip_ledger.specs.declared.debt.Entry.{Entry}
+use Rattle.sip_ledger.specs.Bits.{has}
+use Rattle.sip_ledger.specs.Rows.{IsRow}
+use Rattle.sip_ledger.specs.Grids.{Grid, part, grid_rows}
+use Rattle.sip_ledger.specs.inner.Places.{IsGainedAt}
+
+-- Rows of words, one behind another.
+
+-- the row has its words
+abbrev pub IsInside : ℕ → ℕ → List ℕ → Type 0
+IsInside width row words = row * width + width ≤ length words
+
+-- words of 64 bits
+abbrev pub AreWords : List ℕ → Type 0
+AreWords words = (k : ℕ) → get_or words k 0 < 2 ^ 64
+
+-- a row among others, with words enough for the entries
+pub record IsTableRow (entries : List Entry) (width row : ℕ) (owed must : List ℕ) : Type 0 where
+  pub owed_inside : IsInside width row owed
+  pub must_inside : IsInside width row must
+  pub wide : length entries ≤ 64 * width
+  pub fits : 64 * width < 2 ^ 64
+  pub is : IsRow entries (has (part width row owed)) (has (part width row must))
+
+-- no other row has changed
+pub record ChangesRow (width row : ℕ) (old new : List ℕ) : Type 0 where
+  pub long : length new ≡ length old
+  pub others : (k : ℕ) → k ≢ row → part width k new ≡ part width k old
+
+-- nor has one whose bits are these and those, and the changed one is a row
+pub record ChangesTable (entries : List Entry) (width row : ℕ) (owed must owed' must' : List ℕ) : Type 0 where
+  pub owed_changes : ChangesRow width row owed owed'
+  pub must_changes : ChangesRow width row must must'
+  pub is : IsRow entries (has (part width row owed')) (has (part width row must'))
+
+-- each row has a word more, behind its others
+pub record IsWidened (width rows : ℕ) (old new : List ℕ) : Type 0 where
+  pub long : length new ≡ rows * (width + 1)
+  pub each : (k : ℕ) → k < rows → part (width + 1) k new ≡ part width k old ++ 0 ∷ []
+
+-- each row is without its first words
+pub record IsNarrowed (width rows dropped : ℕ) (old new : List ℕ) : Type 0 where
+  pub long : length new ≡ rows * (width - dropped)
+  pub each : (k : ℕ) → k < rows → part (width - dropped) k new ≡ drop dropped (part width k old)
+
+-- the first words of each row are 0
+abbrev pub IsEmptyFront : ℕ → ℕ → ℕ → List ℕ → Type 0
+IsEmptyFront width rows front words = (row n : ℕ) → row < rows → n < front → get_or (part width row words) n 0 ≡ 0
+
+-- an entry more behind the others, over which the rows have the bits that they had
+pub record IsGrown (entry : Entry) (old new : Grid) : Type 0 where
+  pub entries : new.entries ≡ old.entries ++ entry ∷ []
+  pub rows : new.rows ≡ old.rows
+  pub owed : (row : ℕ) → row < old.rows → (k : ℕ) → has (part new.width row new.owed) k ≡ has (part old.width row old.owed) k
+  pub must : (row : ℕ) → row < old.rows → (k : ℕ) → has (part new.width row new.must) k ≡ has (part old.width row old.must) k
+
+-- where the row gains a debt of the entry, at an entry that is there, while the rows owe what they did
+pub record IsPlace (row : ℕ) (entry : Entry) (old new : Grid) (at : ℕ) : Type 0 where
+  pub inside : at < length new.entries
+  pub is : IsGainedAt new.entries (has (part new.width row new.owed)) entry at
+  pub debts : grid_rows new ≡ grid_rows old

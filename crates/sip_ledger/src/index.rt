@@ -1,0 +1,102 @@
+//! Numbers under keys.
+ghost use Rattle.std.specs.Prelude.{◌≡◌, ◌≤◌, ◌==◌, ◌&&◌, ℕ, cond, true, false, [], IfSome, IfNone, OnOk, OnErr};
+ghost use Rattle.sip_ledger.specs.inner.Indexes.{holds, IsFirstFrom, IsLastPair, IsNextUnder, IsWithoutPair, NoneFrom};
+
+use std::alloc::{AllocError, Global};
+use std::collections::BTreeSet;
+use std::marker::Model;
+
+/// Which numbers stand under which keys. Contracts see the pairs of a key and a number, in order.
+#[derive(Debug, Drop)]
+pub(crate) struct Index {
+    pairs: BTreeSet<(u64, u64)>,
+}
+
+impl Model for Index {
+    ghost use Rattle.std.specs.Prelude.{ℕ, List};
+
+    ghost Value = { List (ℕ × ℕ) };
+
+    ghost view = { λ index. index.pairs.keys };
+}
+
+impl Index {
+    /// There are no numbers.
+    pub(crate) fn new(alloc: Global) -> Self
+        ensures { result ≡ [] }
+    {
+        Index {
+            pairs: BTreeSet::new(alloc),
+        }
+    }
+
+    /// Whether the number stands under the key.
+    pub(crate) fn has(&self, key: u64, number: u64) -> bool
+        ensures { result ≡ holds self.now key number }
+    {
+        self.pairs.contains(&(key, number))
+    }
+
+    /// Puts the number under the key. On an error all is as before.
+    pub(crate) fn put(&mut self, key: u64, number: u64) -> Result<(), AllocError>
+        ensures ok { OnOk result ((k n : ℕ) → holds self.new k n ≡ cond (k == key && n == number) true (holds self.old k n)) }
+        ensures err { OnErr result (self.new ≡ self.old) }
+    {
+        let _added = self.pairs.insert((key, number))?;
+        Ok(())
+    }
+
+    /// Takes the number from the key, if it stands there.
+    pub(crate) fn take(&mut self, key: u64, number: u64)
+        ensures { (k n : ℕ) → holds self.new k n ≡ cond (k == key && n == number) false (holds self.old k n) }
+    {
+        let _held = self.pairs.remove(&(key, number));
+    }
+
+    /// The first pair from this one on.
+    pub(crate) fn first_from(&self, key: u64, number: u64) -> Option<(u64, u64)>
+        ensures found { IfSome result (IsFirstFrom self.now key number) }
+        ensures none { IfNone result (NoneFrom self.now key number) }
+    {
+        match self.pairs.range((key, number)..).next() {
+            Some(pair) => Some(*pair),
+            None => None,
+        }
+    }
+
+    /// The first number under the key from this one on.
+    pub(crate) fn next(&self, key: u64, from: u64) -> Option<u64>
+        ensures found { IfSome result (IsNextUnder self.now key from) }
+        ensures none { IfNone result ((n : ℕ) → from ≤ n → holds self.now key n ≡ false) }
+    {
+        match self.first_from(key, from) {
+            Some((found, number)) if found == key => Some(number),
+            _ => None,
+        }
+    }
+
+    /// The first pair.
+    pub(crate) fn first(&self) -> Option<(u64, u64)>
+        ensures found { IfSome result (IsFirstFrom self.now 0 0) }
+        ensures none { IfNone result (NoneFrom self.now 0 0) }
+    {
+        self.pairs.first().copied()
+    }
+
+    /// The last pair.
+    pub(crate) fn last(&self) -> Option<(u64, u64)>
+        ensures found { IfSome result (IsLastPair self.now) }
+        ensures none { IfNone result ((k n : ℕ) → holds self.now k n ≡ false) }
+    {
+        self.pairs.last().copied()
+    }
+
+    /// Takes out the first pair.
+    pub(crate) fn pop_first(&mut self) -> Option<(u64, u64)>
+        ensures found { IfSome result (IsWithoutPair self.old self.new) }
+        ensures none { IfNone result ((k n : ℕ) → holds self.old k n ≡ false) }
+        ensures same { IfNone result (self.new ≡ self.old) }
+    {
+        self.pairs.pop_first()
+    }
+}

@@ -1,0 +1,53 @@
+//! Debts in runs of equal ones.
+ghost use Rattle.std.specs.Prelude.{◌≡◌, ◌↔◌, ◌++◌, ◌∷◌, [], ◌<◌, ◌-◌, ◌^◌, List, IsTrue, IfOk, OnOk, length};
+ghost use Rattle.sip_ledger.specs.Runs.{debts_in, AreRuns};
+ghost use Rattle.sip_ledger.specs.declared.debt.Debt.{Debt};
+ghost use Rattle.sip_ledger.specs.inner.Ends.{EndsWith};
+
+use crate::debt::Debt;
+use std::alloc::{AllocError, Global};
+
+/// Equal debts, one behind another.
+#[derive(Clone, Copy, Debug, PartialEq, Eq)]
+pub struct Run {
+    /// Each of them.
+    pub debt: Debt,
+    /// How many there are.
+    pub count: usize,
+}
+
+/// Puts a debt behind the others, into the last run if that is of its equals.
+fn append(runs: &mut Vec<Run>, debt: Debt) -> Result<(), AllocError>
+    requires { length (debts_in runs.old.items) < 2 ^ 64 - 1 }
+    ensures { (debts : List Debt) → AreRuns debts runs.old.items → OnOk result (AreRuns (debts ++ debt ∷ []) runs.new.items) }
+{
+    if ends_with(runs, debt) {
+        let last = runs.len() - 1;
+        runs[last].count += 1;
+        return Ok(());
+    }
+    runs.push(Run { debt, count: 1 })?;
+    Ok(())
+}
+
+/// These debts, with equal neighbours in one.
+pub(crate) fn runs_of(alloc: Global, debts: &[Debt]) -> Result<Vec<Run>, AllocError>
+    requires { length debts.now < 2 ^ 64 - 1 }
+    ensures { IfOk result (λ runs. AreRuns debts.now runs.items) }
+{
+    let mut runs = Vec::new(alloc);
+    for debt in debts {
+        append(&mut runs, *debt)?;
+    }
+    Ok(runs)
+}
+
+/// Whether the last run is of this debt.
+fn ends_with(runs: &[Run], debt: Debt) -> bool
+    ensures { IsTrue result ↔ EndsWith runs.now debt }
+{
+    if runs.is_empty() {
+        return false;
+    }
+    runs[runs.len() - 1].debt == debt
+}

@@ -1,0 +1,128 @@
+//! The words of all rows, one row behind another.
+ghost use Rattle.std.specs.Prelude.{◌≡◌, ◌<◌, ◌≤◌, ◌*◌, ◌++◌, ℕ, OnOk, OnErr, IfOk, length, drop, fold, get_or, replicate};
+ghost use Rattle.sip_ledger.specs.Grids.{part};
+ghost use Rattle.sip_ledger.specs.Prints.{mixed};
+ghost use Rattle.sip_ledger.specs.inner.Tables.{IsInside, IsWidened, IsNarrowed, IsEmptyFront};
+
+use std::alloc::{AllocError, Global};
+
+/// Puts a row of no bits behind the others in both. On an error they are as before.
+pub(crate) fn put_row(
+    owed: &mut Vec<u64>,
+    must: &mut Vec<u64>,
+    width: usize,
+) -> Result<(), AllocError>
+    ensures owed { OnOk result (owed.new.items ≡ owed.old.items ++ replicate width 0) }
+    ensures must { OnOk result (must.new.items ≡ must.old.items ++ replicate width 0) }
+    ensures err { OnErr result ((owed.new.items ≡ owed.old.items) × (must.new.items ≡ must.old.items)) }
+{
+    owed.reserve(width)?;
+    must.reserve(width)?;
+    owed.resize(owed.len() + width, 0)?;
+    must.resize(must.len() + width, 0)
+}
+
+/// Puts a copy of a row behind the others in both. On an error they are as before.
+pub(crate) fn copy_row(
+    owed: &mut Vec<u64>,
+    must: &mut Vec<u64>,
+    width: usize,
+    row: usize,
+) -> Result<(), AllocError>
+    requires owed { IsInside width row owed.old.items }
+    requires must { IsInside width row must.old.items }
+    ensures owed { OnOk result (owed.new.items ≡ owed.old.items ++ part width row owed.old.items) }
+    ensures must { OnOk result (must.new.items ≡ must.old.items ++ part width row must.old.items) }
+    ensures err { OnErr result ((owed.new.items ≡ owed.old.items) × (must.new.items ≡ must.old.items)) }
+{
+    let start = row * width;
+    let end = start + width;
+    owed.reserve(width)?;
+    must.reserve(width)?;
+    owed.extend_from_within(start..end)?;
+    must.extend_from_within(start..end)
+}
+
+/// Drops the first items.
+pub(crate) fn drop_first<T: Copy + Drop>(items: &mut Vec<T>, count: usize)
+    requires { count ≤ length items.old.items }
+    ensures { items.new.items ≡ drop count items.old.items }
+{
+    let kept = items.len() - count;
+    items.copy_within(count.., 0);
+    items.truncate(kept);
+}
+
+/// A copy in which each row has a word more.
+pub(crate) fn widened(
+    alloc: Global,
+    words: &[u64],
+    width: usize,
+    rows: usize,
+) -> Result<Vec<u64>, AllocError>
+    requires { length words.now ≡ rows * width }
+    ensures { IfOk result (λ wide. IsWidened width rows words.now wide.items) }
+{
+    let mut wide = Vec::with_capacity(alloc, words.len().saturating_add(rows))?;
+    for row in 0..rows {
+        let start = row * width;
+        wide.extend_from_slice(&words[start..start + width])?;
+        wide.push(0)?;
+    }
+    Ok(wide)
+}
+
+/// How many words are 0 at the front of every row.
+pub(crate) fn empty_front(words: &[u64], width: usize, rows: usize) -> usize
+    requires { length words.now ≡ rows * width }
+    ensures within { result ≤ width }
+    ensures empty { IsEmptyFront width rows result words.now }
+{
+    let mut front = width;
+    for row in 0..rows {
+        let start = row * width;
+        front = zeros(&words[start..start + front]);
+        if front == 0 {
+            return 0;
+        }
+    }
+    front
+}
+
+/// How many words are 0 before the first that is not.
+fn zeros(words: &[u64]) -> usize
+    ensures within { result ≤ length words.now }
+    ensures zero { (k : ℕ) → k < result → get_or words.now k 0 ≡ 0 }
+{
+    for (i, word) in words.iter().enumerate() {
+        if *word != 0 {
+            return i;
+        }
+    }
+    words.len()
+}
+
+/// Takes the first words out of each row.
+pub(crate) fn narrow(words: &mut Vec<u64>, width: usize, rows: usize, dropped: usize)
+    requires long { length words.old.items ≡ rows * width }
+    requires within { dropped ≤ width }
+    ensures { IsNarrowed width rows dropped words.old.items words.new.items }
+{
+    let kept = width - dropped;
+    for row in 0..rows {
+        let start = row * width;
+        words.copy_within(start + dropped..start + width, row * kept);
+    }
+    words.truncate(rows * kept);
+}
+
+/// A number for the words, from another one.
+pub(crate) fn print(seed: u64, words: &[u64]) -> u64
+    ensures { result ≡ fold mixed seed words.now }
+{
+    let mut print = seed;
+    for word in words {
+        print = (print ^ *word).wrapping_mul(11_400_714_819_323_198_485);
+    }
+    print
+}

@@ -1,0 +1,147 @@
+use Prim.Native.Nat.{suc, zero}
+use Rattle.std.specs.Prelude.{◌≡◌, ◌==◌, ◌↔◌, ◌<◌, ◌+◌, ℕ, IsTrue, true, List, [], ◌∷◌, ◌++◌, drop, get_or, length, set, take}
+use Rattle.std.proofs.Common.{Result, Ok, Err, OnErr, is_err, true≢false, refl, sym, ◌∙◌, ap, ap₂, subst, arith, length-append}
+use Rattle.std.proofs.lemmas.Bool.Decides.{nat_tests}
+use Rattle.std.proofs.Math.Seq.{get_or-append_seam, take-append_seam}
+use Rattle.sip_ledger.specs.declared.debt.Debt.{Debt}
+use Rattle.sip_machine.specs.Owes.{owed_in}
+use Rattle.sip_machine.specs.Owing.{CodeOwing, state_in}
+use Rattle.sip_machine.specs.declared.effects.Rest.{Rest}
+use Rattle.sip_machine.specs.declared.effects.Rest.TheVariants.{Stays, Pays}
+use Rattle.sip_machine.specs.inner.Effects.{rested_debts, rests_at}
+use Rattle.sip_machine.specs.inner.Pools.{beside}
+
+-- Phases with what is owed beside them.
+
+module _ {S : Type 0} where
+  -- as many as there are phases
+  pub beside-length : (phases : List S) (rows : List (List Debt)) → length (beside phases rows) ≡ length phases
+  beside-length [] rows = refl
+  beside-length (phase ∷ phases) [] = ap suc (beside-length phases [])
+  beside-length (phase ∷ phases) (row ∷ rows) = ap suc (beside-length phases rows)
+
+  -- one of them
+  pub beside-at : (phases : List S) (rows : List (List Debt)) (k : ℕ) (p : S) (x : CodeOwing S) → k < length phases → get_or (beside phases rows) k x ≡ state_in (get_or phases k p) rows k
+  beside-at [] rows k p x low = absurd (omega (arith, low))
+  beside-at (phase ∷ phases) [] zero p x low = refl
+  beside-at (phase ∷ phases) [] (suc k) p x low = beside-at phases [] k p x (omega (arith, low)) ∙ ap (λ owes. record { phase = get_or phases k p; owes = owes }) (past k)
+    where
+      past : (k : ℕ) → owed_in [] k ≡ owed_in [] (suc k)
+      past zero = refl
+      past (suc k) = refl
+  beside-at (phase ∷ phases) (row ∷ rows) zero p x low = refl
+  beside-at (phase ∷ phases) (row ∷ rows) (suc k) p x low = beside-at phases rows k p x (omega (arith, low))
+
+  -- one more
+  pub beside-push : (phases : List S) (rows : List (List Debt)) (phase : S) (row : List Debt) → length rows ≡ length phases →
+      beside (phases ++ phase ∷ []) (rows ++ row ∷ []) ≡ beside phases rows ++ record { phase = phase; owes = row } ∷ []
+  beside-push [] [] phase row long = refl
+  beside-push [] (r ∷ rows) phase row long = absurd (omega (arith, long))
+  beside-push (p ∷ phases) [] phase row long = absurd (omega (arith, long))
+  beside-push (p ∷ phases) (r ∷ rows) phase row long = ap (λ xs. record { phase = p; owes = r } ∷ xs) (beside-push phases rows phase row (omega (arith, long)))
+
+  -- the first ones
+  pub beside-take : (phases : List S) (rows : List (List Debt)) (n : ℕ) → length rows ≡ length phases → beside (take n phases) (take n rows) ≡ take n (beside phases rows)
+  beside-take [] rows zero long = refl
+  beside-take [] rows (suc n) long = refl
+  beside-take (p ∷ phases) [] n long = absurd (omega (arith, long))
+  beside-take (p ∷ phases) (r ∷ rows) zero long = refl
+  beside-take (p ∷ phases) (r ∷ rows) (suc n) long = ap (λ xs. record { phase = p; owes = r } ∷ xs) (beside-take phases rows n (omega (arith, long)))
+
+  -- without the first ones
+  pub beside-drop : (phases : List S) (rows : List (List Debt)) (n : ℕ) → length rows ≡ length phases → beside (drop n phases) (drop n rows) ≡ drop n (beside phases rows)
+  beside-drop [] [] zero long = refl
+  beside-drop [] [] (suc n) long = refl
+  beside-drop [] (r ∷ rows) n long = absurd (omega (arith, long))
+  beside-drop (p ∷ phases) [] n long = absurd (omega (arith, long))
+  beside-drop (p ∷ phases) (r ∷ rows) zero long = refl
+  beside-drop (p ∷ phases) (r ∷ rows) (suc n) long = beside-drop phases rows n (omega (arith, long))
+
+  -- one of them changes
+  pub beside-set : (phases : List S) (rows : List (List Debt)) (k : ℕ) (phase : S) (row : List Debt) → length rows ≡ length phases →
+      beside (set phases k phase) (set rows k row) ≡ set (beside phases rows) k (record { phase = phase; owes = row })
+  beside-set [] [] k phase row long = refl
+  beside-set [] (r ∷ rows) k phase row long = absurd (omega (arith, long))
+  beside-set (p ∷ phases) [] k phase row long = absurd (omega (arith, long))
+  beside-set (p ∷ phases) (r ∷ rows) zero phase row long = refl
+  beside-set (p ∷ phases) (r ∷ rows) (suc k) phase row long = ap (λ xs. record { phase = p; owes = r } ∷ xs) (beside-set phases rows k phase row (omega (arith, long)))
+
+  -- what is owed by one of them alone
+  pub beside-owes : (phases : List S) (rows : List (List Debt)) (k : ℕ) (p : S) (row : List Debt) → length rows ≡ length phases → k < length phases →
+      beside phases (set rows k row) ≡ set (beside phases rows) k (record { phase = get_or phases k p; owes = row })
+  beside-owes [] rows k p row long low = absurd (omega (arith, low))
+  beside-owes (phase ∷ phases) [] k p row long low = absurd (omega (arith, long))
+  beside-owes (phase ∷ phases) (r ∷ rows) zero p row long low = refl
+  beside-owes (phase ∷ phases) (r ∷ rows) (suc k) p row long low =
+      ap (λ xs. record { phase = phase; owes = r } ∷ xs) (beside-owes phases rows k p row (omega (arith, long)) (omega (arith, low)))
+
+  -- an index of a state is one of a phase, and of a row
+  pub in-phases : (phases : List S) (rows : List (List Debt)) (xs : List (CodeOwing S)) (k : ℕ) → beside phases rows ≡ xs → k < length xs → k < length phases
+  in-phases phases rows xs k is low = subst (λ n. k < n) (ap length (sym is) ∙ beside-length phases rows) low
+
+  pub in-rows : (phases : List S) (rows : List (List Debt)) (xs : List (CodeOwing S)) (k : ℕ) → beside phases rows ≡ xs → length rows ≡ length phases → k < length xs → k < length rows
+  in-rows phases rows xs k is long low = subst (λ n. k < n) (sym long) (in-phases phases rows xs k is low)
+
+  -- the state there
+  pub state-at : (phases : List S) (rows : List (List Debt)) (xs : List (CodeOwing S)) (k : ℕ) (p : S) (x : CodeOwing S) → beside phases rows ≡ xs → k < length xs →
+      get_or xs k x ≡ state_in (get_or phases k p) rows k
+  state-at phases rows xs k p x is low = ap (λ ys. get_or ys k x) (sym is) ∙ beside-at phases rows k p x (in-phases phases rows xs k is low)
+
+  pub state-here : (phases : List S) (rows : List (List Debt)) (xs : List (CodeOwing S)) (k : ℕ) (p : S) (x : CodeOwing S) → beside phases rows ≡ xs → k < length xs →
+      p ≡ get_or phases k p → state_in p rows k ≡ get_or xs k x
+  state-here phases rows xs k p x is low is_p = ap (λ q. state_in q rows k) is_p ∙ sym (state-at phases rows xs k p x is low)
+
+  -- states with the same phase and the same debts are the same
+  pub same-state : (x y : CodeOwing S) → x.phase ≡ y.phase → x.owes ≡ y.owes → x ≡ y
+  same-state x y phase owes = let e : record { phase = x.phase; owes = x.owes } ≡ y = rw (phase, owes) in e
+
+-- what is owed at rest
+pub rests-owes : {S : Type 0} (t : ℕ) (rest : Rest) (x : CodeOwing S) → record { phase = x.phase; owes = rested_debts t rest x.owes } ≡ rests_at t rest x
+rests-owes t Stays x = refl
+rests-owes t (Pays message) x = refl
+
+-- what holds on an error
+pub on_err : {T E : Type 0} (r : Result T E) (P : Type 0) → is_err r ≡ true → OnErr r P → P
+on_err (Ok x) P is err = absurd (true≢false (sym is))
+on_err (Err e) P is err = err
+
+-- whether there are none
+pub empty-length : {X : Type 0} (xs : List X) (n : ℕ) → n ≡ length xs → IsTrue (n == 0) ↔ (xs ≡ [])
+empty-length [] n is = (λ _. refl, λ _. grind (arith, nat_tests))
+empty-length (x ∷ xs) n is = (λ none. let low : n ≡ 0 = grind (arith, nat_tests) in absurd (omega (arith, low, is)), λ none. cc)
+
+-- Lists that grow at their end.
+
+module _ {X : Type 0} where
+  -- an element
+  pub some-at : (xs : List X) (k : ℕ) → k < length xs → X
+  some-at [] k low = absurd (omega (arith, low))
+  some-at (x ∷ xs) zero low = x
+  some-at (x ∷ xs) (suc k) low = some-at xs k (omega (arith, low))
+
+  pub in-longer : (old added new : List X) (k : ℕ) → new ≡ old ++ added → k < length old → k < length new
+  in-longer old added new k is low =
+      let long : length new ≡ length old + length added = ap length is ∙ length-append old added in omega (arith, long, low)
+
+  pub last-in : (old new : List X) (x : X) (last : ℕ) → new ≡ old ++ x ∷ [] → last ≡ length old → last < length new
+  last-in old new x last is at = let long : length new ≡ length old + 1 = ap length is ∙ length-append old (x ∷ []) in omega (arith, long, at)
+
+  -- the only element
+  pub alone-set : (xs : List X) (x : X) → length xs ≡ 1 → set xs 0 x ≡ x ∷ []
+  alone-set [] x one = absurd (omega (arith, one))
+  alone-set (y ∷ []) x one = refl
+  alone-set (y ∷ z ∷ xs) x one = absurd (omega (arith, one))
+
+  set-end : (old : List X) (x y : X) → set (old ++ x ∷ []) (length old) y ≡ old ++ y ∷ []
+  set-end [] x y = refl
+  set-end (z ∷ old) x y = ap (λ xs. z ∷ xs) (set-end old x y)
+
+  -- a copy at the end changes
+  pub set-last : (old more new : List X) (x d : X) (last : ℕ) (f : X → X) → more ≡ old ++ x ∷ [] → last ≡ length old → new ≡ set more last (f (get_or more last d)) → new ≡ old ++ f x ∷ []
+  set-last old more new x d last f is at changed =
+      let here : get_or more last d ≡ x = ap₂ (λ xs k. get_or xs k d) is at ∙ get_or-append_seam old x [] d in
+      changed ∙ ap (λ y. set more last (f y)) here ∙ ap₂ (λ xs k. set xs k (f x)) is at ∙ set-end old x (f x)
+
+  -- and goes again
+  pub take-old : (old added new : List X) (n : ℕ) → new ≡ old ++ added → n ≡ length old → take n new ≡ old
+  take-old old added new n is at = ap₂ take at is ∙ take-append_seam old added

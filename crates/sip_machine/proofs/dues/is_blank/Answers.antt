@@ -1,0 +1,7 @@
+use Rattle.std.proofs.Common.{arith}
+use Rattle.sip_ledger.specs.Ledgers.{rows_of}
+use Rattle.sip_machine.proofs.DueLemmas.{blank-rows}
+use Rattle.sip_machine.proofs.dues.is_blank.Goals as goal
+
+pub returns : goal.returns
+returns c = λ _. blank-rows (rows_of c.args.ledger.now) (λ k low. c.loop-row.invariant k (omega (arith, low)))

@@ -1,0 +1,27 @@
+use Rattle.std.specs.Prelude.{◌<◌, []}
+use Rattle.std.proofs.Common.{◌∙◌, ap, sym, subst}
+use Rattle.sip_machine.specs.Figure.{until_of}
+use Rattle.sip_machine.specs.Owing.{at_rest, owing_seen, OwingInRange}
+use Rattle.sip_machine.proofs.PoolLemmas.{in-phases, in-rows, state-here}
+use Rattle.sip_machine.proofs.owing.AnyMachine.until.Goals as goal
+
+pub index-requires : goal.index-requires
+index-requires g c =
+    subst (λ n. c.args.at < n) (sym c.pool.inside.phases.ok.0) (in-phases c.pool.inside.phases.items c.pool.inside.dues c.args.pool.now c.args.at c.pool.view_is c.requires.at)
+
+pub until-requires-clause-row : goal.until-requires-clause-row
+until-requires-clause-row g c = in-rows c.pool.inside.phases.items c.pool.inside.dues c.args.pool.now c.args.at c.pool.view_is c.pool.invariant c.requires.at
+
+pub until-requires-clause-in_range : goal.until-requires-clause-in_range
+until-requires-clause-in_range g c =
+    let p = c.index.result.now in
+    let d = at_rest p in
+    subst (OwingInRange g.M.Phases.in_range) (sym (state-here c.pool.inside.phases.items c.pool.inside.dues c.args.pool.now c.args.at p d c.pool.view_is c.requires.at c.index.ensures))
+    (c.requires.in_range d)
+
+pub returns : goal.returns
+returns g c = λ d.
+    let m = g.M.Phases in
+    c.until.ensures []
+    ∙ ap (λ x. until_of m.figure (m.times c.args.self.now) (owing_seen m.seen [] x))
+    (state-here c.pool.inside.phases.items c.pool.inside.dues c.args.pool.now c.args.at c.index.result.now d c.pool.view_is c.requires.at c.index.ensures)

@@ -1,0 +1,42 @@
+use Rattle.std.specs.Prelude.{◌<◌, IfOk}
+use Rattle.std.proofs.Common.{sym, subst}
+use Rattle.sip_machine.specs.MachineEvent.{event_in}
+use Rattle.sip_machine.specs.Rules.{Knows}
+use Rattle.sip_machine.specs.Figure.{TakeOf}
+use Rattle.sip_machine.specs.Owing.{at_rest, owing_seen, owing_names, OwingInRange}
+use Rattle.sip_machine.specs.inner.Both.{AnswersBoth}
+use Rattle.sip_machine.specs.inner.Effects.{given_by}
+use Rattle.sip_machine.proofs.PoolLemmas.{in-phases, in-rows, state-here}
+use Rattle.sip_machine.proofs.owing.effect_at.Goals as goal
+
+pub index-requires : goal.index-requires
+index-requires g c =
+    subst (λ n. c.args.at < n) (sym c.pool.inside.phases.ok.0) (in-phases c.pool.inside.phases.items c.pool.inside.dues c.args.pool.now c.args.at c.pool.view_is c.requires.at)
+
+pub effect_of-requires-clause-row : goal.effect_of-requires-clause-row
+effect_of-requires-clause-row g c = in-rows c.pool.inside.phases.items c.pool.inside.dues c.args.pool.now c.args.at c.pool.view_is c.pool.invariant c.requires.at
+
+pub effect_of-requires-clause-known : goal.effect_of-requires-clause-known
+effect_of-requires-clause-known g c =
+    let p = c.index.result.now in
+    let d = at_rest p in
+    subst (Knows (owing_names g.M.Phases.names) c.args.book.now)
+    (sym (state-here c.pool.inside.phases.items c.pool.inside.dues c.args.pool.now c.args.at p d c.pool.view_is c.requires.at c.index.ensures)) (c.requires.known d)
+
+pub effect_of-requires-clause-in_range : goal.effect_of-requires-clause-in_range
+effect_of-requires-clause-in_range g c =
+    let p = c.index.result.now in
+    let d = at_rest p in
+    subst (OwingInRange g.M.Phases.in_range) (sym (state-here c.pool.inside.phases.items c.pool.inside.dues c.args.pool.now c.args.at p d c.pool.view_is c.requires.at c.index.ensures))
+    (c.requires.in_range d)
+
+pub returns-clause-gives : goal.returns-clause-gives
+returns-clause-gives g c = λ d.
+    let m = g.M.Phases in
+    let p = m.times c.args.machine.now in
+    let texts = c.args.book.now in
+    let e = c.args.event.now in
+    subst
+    (λ x. IfOk c.effect_of.result (λ effect. AnswersBoth (owing_names m.names) (OwingInRange m.in_range) (owing_seen m.seen) texts
+    (TakeOf m.figure p (owing_seen m.seen texts x) (event_in texts e)) (given_by p e.moment x effect)))
+    (state-here c.pool.inside.phases.items c.pool.inside.dues c.args.pool.now c.args.at c.index.result.now d c.pool.view_is c.requires.at c.index.ensures) c.effect_of.ensures.gives

@@ -1,0 +1,19 @@
+use Rattle.std.proofs.Common.{◌∙◌, sym, true≢false}
+use Rattle.sip_machine.proofs.FirstLemmas.{first-more, first-again, Any-here}
+use Rattle.sip_machine.proofs.pool.Pool.first_of_few.Goals as goal
+use Rattle.sip_machine.proofs.pool.Pool.first_of_few.Goals.{then-not-is_among+in_ok-push, else-not-is_among}
+
+pub loop-at-preserved : goal.loop-at-preserved
+loop-at-preserved g c =
+    let xs = c.args.self.now in
+    let at = c.loop-at.at in
+    let rows = c.loop-at.rows.items in
+    let first = c.loop-at.invariant in
+    let among = rw c.deref.ensures.value at c.is_among.ensures in
+    elim c.if-not-is_among.branch [
+      | then-not-is_among+in_ok-push w ↦
+          rw (w.rows-is, w.in_ok-push.ensures.items)
+          (first-more xs c.args.from at rows c.loop-at.auto.at first
+          (λ x i d low same. true≢false (sym ((among x).1 (Any-here xs rows i d at x low same)) ∙ w.if-not-is_among.true)))
+      | else-not-is_among w ↦ rw w.rows-is (first-again xs c.args.from at rows first (λ x. (among x).0 w.if-not-is_among.false))
+    ]

@@ -1,0 +1,5 @@
+use Rattle.sip_machine.specs.Pools.{AreFirstOnes}
+use Rattle.sip_machine.proofs.pool.Pool.first_of_few.Given as goal
+
+abbrev pub invariant-loop-at : goal.invariant-loop-at
+invariant-loop-at g l = AreFirstOnes l.self l.from l.at l.rows.items

@@ -1,0 +1,68 @@
+use Rattle.std.specs.Prelude.{◌≡◌, ◌<◌, ◌+◌, ◌-◌, ◌∷◌, [], get_or, length}
+use Rattle.std.proofs.Common.{◌∙◌, ap, sym, subst, arith, inl, inr, true≢false}
+use Rattle.std.proofs.lemmas.Bool.{cases_lt}
+use Rattle.std.proofs.lemmas.List.{get_or_default, get_or_append_left, get_or_push, length_push}
+use Rattle.sip_machine.specs.Pools.{AreFirstOnes}
+use Rattle.sip_machine.proofs.FirstLemmas.{first-more, first-again, Any-here}
+use Rattle.sip_machine.proofs.pool.Pool.first_of_many.Goals as goal
+use Rattle.sip_machine.proofs.pool.Pool.first_of_many.Goals.{then-not-is_repeat+in_ok-push+in_ok-push-2, else-not-is_repeat}
+
+pub is_repeat-requires-clause-prints : goal.is_repeat-requires-clause-prints
+is_repeat-requires-clause-prints g c = rw c.deref.ensures.value (λ k x low same.
+    let xs = c.args.self.now in
+    let at = c.loop-at.at in
+    let from = c.args.from in
+    let rows = c.loop-at.rows.items in
+    let prints = c.in_ok-prints.prints.items in
+    let row = get_or rows k 0 in
+    let at_from = c.loop-at.auto.at in
+    let within : at < length xs = omega arith in
+    let inside = c.loop-at.invariant.0.within k 0 low in
+    let from_row = inside.0 in
+    let row_at = inside.1 in
+    let low_row : row < length xs = omega (arith, row_at, within) in
+    let equal = c.in_ok-prints.ensures.same row at x from_row low_row (omega (arith, at_from)) within same in
+    let long = c.in_ok-prints.ensures.long in
+    let low_at : at - from < length prints = omega (arith, within, long) in
+    c.loop-at.invariant.2 k low ∙ equal ∙ get_or_default prints (at - from) 0 c.index-print.result.now low_at ∙ sym c.index-print.ensures)
+
+pub loop-at-preserved : goal.loop-at-preserved
+loop-at-preserved g c =
+    let xs = c.args.self.now in
+    let at = c.loop-at.at in
+    let from = c.args.from in
+    let rows = c.loop-at.rows.items in
+    let prints = c.in_ok-prints.prints.items in
+    let kept = c.loop-at.slots.prints in
+    let print = c.index-print.result.now in
+    let at_from = c.loop-at.auto.at in
+    let (first, long, told) = c.loop-at.invariant in
+    let repeats = rw c.deref.ensures.value at c.is_repeat.ensures in
+    elim c.if-not-is_repeat.branch [
+      | then-not-is_repeat+in_ok-push+in_ok-push-2 w ↦
+          let within : at < length xs = omega arith in
+          let all = c.in_ok-prints.ensures.long in
+          let low_at : at - from < length prints = omega (arith, within, all, at_from) in
+          let here : get_or prints (at - from) 0 ≡ print = get_or_default prints (at - from) 0 print low_at ∙ sym c.index-print.ensures in
+          let more_rows = length_push rows at in
+          let more_kept = length_push kept print in
+          rw (w.rows-is, w.slots-is, w.in_ok-push.ensures.ok, w.in_ok-push-2.ensures.items) (
+            first-more xs from at rows at_from first
+                (λ x i d low same. true≢false (sym ((repeats x).1 (Any-here xs rows i d at x low same)) ∙ w.if-not-is_repeat.true)),
+            more_kept ∙ ap (λ n. n + 1) long ∙ sym more_rows,
+            (λ k low. elim (cases_lt k (length rows)) [
+              | inl before ↦
+                  get_or_append_left kept (print ∷ []) 0 k (omega (arith, before, long)) ∙ told k before
+                  ∙ ap (λ r. get_or prints (r - from) 0) (sym (get_or_append_left rows (at ∷ []) 0 k before))
+              | inr behind ↦
+                  get_or_push kept print 0 k (omega (arith, behind, low, long, more_rows)) ∙ sym here
+                  ∙ ap (λ r. get_or prints (r - from) 0) (sym (get_or_push rows at 0 k (omega (arith, behind, low, more_rows))))
+            ]),
+          )
+      | else-not-is_repeat w ↦ rw (w.rows-is, w.slots-is) (first-again xs from at rows first (λ x. (repeats x).0 w.if-not-is_repeat.false), long, told)
+    ]
+
+pub returns : goal.returns
+returns g c =
+    let end : c.loop-at.at ≡ length c.args.self.now = omega arith in
+    subst (λ n. AreFirstOnes c.args.self.now c.args.from n c.loop-at.rows.items) end c.loop-at.invariant.0

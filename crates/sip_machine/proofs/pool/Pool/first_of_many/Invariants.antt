@@ -1,0 +1,10 @@
+use Rattle.std.specs.Prelude.{◌≡◌, ◌<◌, ◌-◌, ℕ, get_or, length}
+use Rattle.sip_machine.specs.Pools.{AreFirstOnes}
+use Rattle.sip_machine.proofs.pool.Pool.first_of_many.Given as goal
+
+-- the first ones so far, whose prints are in the slots
+abbrev pub invariant-loop-at : goal.invariant-loop-at
+invariant-loop-at g l =
+    AreFirstOnes l.self l.from l.at l.rows.items
+    × (length l.slots.prints ≡ length l.rows.items)
+    × ((k : ℕ) → k < length l.rows.items → get_or l.slots.prints k 0 ≡ get_or l.prints.items (get_or l.rows.items k 0 - l.from) 0)

@@ -1,0 +1,32 @@
+use Rattle.std.specs.Prelude.{◌<◌, ◌≡◌, get_or}
+use Rattle.std.proofs.Common.{subst, ◌∙◌, sym, ap, true≢false}
+use Rattle.sip_machine.specs.Owes.{owed_in}
+use Rattle.sip_machine.specs.Owing.{at_rest}
+use Rattle.sip_machine.proofs.PoolLemmas.{in-phases, in-rows, state-at, same-state}
+use Rattle.sip_machine.proofs.pool.Pool.is_at_rest.Goals as goal
+
+pub index-requires : goal.index-requires
+index-requires g c = subst (λ n. c.args.at < n) (sym c.self.inside.phases.ok.0) (in-phases c.self.inside.phases.items c.self.inside.dues c.args.self.now c.args.at c.self.view_is c.requires)
+
+pub owes_nothing-requires : goal.owes_nothing-requires
+owes_nothing-requires g c = in-rows c.self.inside.phases.items c.self.inside.dues c.args.self.now c.args.at c.self.view_is c.self.invariant c.requires
+
+pub returns-then-eq : goal.returns-then-eq
+returns-then-eq g c = λ d.
+    let p = c.index.result.now in
+    let x = get_or c.args.self.now c.args.at d in
+    let is = state-at c.self.inside.phases.items c.self.inside.dues c.args.self.now c.args.at p d c.self.view_is c.requires in
+    let phase : x.phase ≡ c.args.phase = ap (λ y. y.phase) is ∙ sym c.index.ensures ∙ g.met.P.Phase.exact p c.args.phase (sym c.if-eq.ensures) in
+    let owes : x.owes ≡ owed_in c.self.inside.dues c.args.at = ap (λ y. y.owes) is in
+    (λ nothing. same-state x (at_rest c.args.phase) phase (owes ∙ c.owes_nothing.ensures.0 nothing), λ rests. c.owes_nothing.ensures.1 (sym owes ∙ ap (λ y. y.owes) rests))
+
+pub returns-else-eq : goal.returns-else-eq
+returns-else-eq g c = λ d.
+    let p = c.index.result.now in
+    let x = get_or c.args.self.now c.args.at d in
+    let is = state-at c.self.inside.phases.items c.self.inside.dues c.args.self.now c.args.at p d c.self.view_is c.requires in (
+      λ equal. absurd (true≢false (sym equal ∙ c.if-eq.false)),
+      λ rests.
+          let same : p ≡ c.args.phase = c.index.ensures ∙ sym (ap (λ y. y.phase) is) ∙ ap (λ y. y.phase) rests in
+          absurd (true≢false (sym (g.met.P.Eq.laws.refl c.args.phase) ∙ sym (rw same at c.if-eq.ensures))),
+    )

@@ -1,0 +1,8 @@
+use Rattle.sip_machine.specs.inner.Pools.{IsSought, one_past}
+use Rattle.sip_machine.proofs.pool.Pool.is_repeat.Given as goal
+
+abbrev pub invariant-loop-next : goal.invariant-loop-next
+invariant-loop-next g l = IsSought l.self l.rows l.slots.prints l.print l.at l.next
+
+abbrev pub decreases-loop-next : goal.decreases-loop-next
+decreases-loop-next g l = one_past l.next

@@ -1,0 +1,14 @@
+use Rattle.std.specs.Prelude.{IfOk}
+use Rattle.std.proofs.Common.{sym, ap, subst}
+use Rattle.sip_ledger.specs.Runs.{AreRuns}
+use Rattle.sip_machine.proofs.PoolLemmas.{in-rows, state-at}
+use Rattle.sip_machine.proofs.pool.Pool.runs.Goals as goal
+
+pub runs-requires : goal.runs-requires
+runs-requires g c = in-rows c.self.inside.phases.items c.self.inside.dues c.args.self.now c.args.at c.self.view_is c.self.invariant c.requires
+
+pub returns : goal.returns
+returns g c =
+    λ d.
+    subst (λ debts. IfOk c.runs.result (λ runs. AreRuns debts runs.items))
+    (ap (λ x. x.owes) (sym (state-at c.self.inside.phases.items c.self.inside.dues c.args.self.now c.args.at d.phase d c.self.view_is c.requires))) c.runs.ensures

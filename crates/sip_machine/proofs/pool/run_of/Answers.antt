@@ -1,0 +1,9 @@
+use Rattle.std.specs.Prelude.{◌<◌, length}
+use Rattle.std.proofs.Common.{arith}
+use Rattle.sip_machine.proofs.FirstLemmas.{run-of}
+use Rattle.sip_machine.proofs.pool.run_of.Goals as goal
+
+pub returns-then-rows-first : goal.returns-then-rows-first
+returns-then-rows-first c =
+    let some : 0 < length c.args.rows.now = omega arith in
+    run-of c.args.rows.now c.requires some c.if-rows-first.true

@@ -1,0 +1,13 @@
+use Rattle.std.proofs.Common.{◌≤◌, length, ℕ}
+use Rattle.sip_machine.specs.inner.Slots.{IsNewest, IsReached, slot_of}
+use Rattle.sip_machine.proofs.slots.Slots.last_from.Given as goal
+
+-- of what is passed nothing is equal
+abbrev pub invariant-loop-next : goal.invariant-loop-next
+invariant-loop-next l =
+    (l.next ≤ length l.self.prints)
+    × ((limit : ℕ) → limit ≤ length l.self.prints → IsNewest (length l.self.newest) l.self.prints (slot_of (length l.self.newest) l.print) limit l.fn.newest →
+    IsReached (length l.self.newest) l.self.prints l.print limit l.next)
+
+abbrev pub decreases-loop-next : goal.decreases-loop-next
+decreases-loop-next l = l.next

@@ -1,0 +1,19 @@
+use Rattle.std.specs.Prelude.{◌≡◌, ◌≤◌, ℕ, Option, None, Some, List, [], All, length, replicate}
+use Rattle.sip_ledger.specs.declared.debt.Debt.{Debt}
+use Rattle.sip_ledger.specs.Ledgers.{Table, rows_of}
+
+-- What many states owe, with a ledger or without one.
+
+-- what each of the rows owes
+abbrev pub rows_in : ℕ → Option Table → List (List Debt)
+rows_in count None = replicate count []
+rows_in count (Some table) = rows_of table
+
+-- the numbers of the debts' messages are between these two
+abbrev pub AreBetween : ℕ → ℕ → List Debt → Type 0
+AreBetween low high debts = All (λ debt. (low ≤ debt.message) × (debt.message ≤ high)) debts
+
+-- there are so many rows, and the numbers of all messages that are owed are between these two
+pub record AreDues (rows : List (List Debt)) (count low high : ℕ) : Type 0 where
+  pub long : length rows ≡ count
+  pub between : All (AreBetween low high) rows

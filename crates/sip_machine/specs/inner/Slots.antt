@@ -1,0 +1,38 @@
+use Rattle.std.specs.Prelude.{◌≡◌, ◌≢◌, ◌<◌, ◌≤◌, ◌-◌, ◌/◌, ◌^◌, ℕ, Option, None, Some, List, get_or, length}
+use Rattle.std.specs.Int.Bits.{bit_and}
+
+-- Numbers, found again by a look at those alone that fall into the same slot.
+
+-- for each slot one past its newest print, the prints, and for each of them one past the one before it of its slot
+pub record Slotted : Type 0 where
+  pub newest : List ℕ
+  pub prints : List ℕ
+  pub olders : List ℕ
+
+-- the slot of a number, of so many slots
+abbrev pub slot_of : ℕ → ℕ → ℕ
+slot_of slots print = bit_and (print / 2 ^ 40) (slots - 1)
+
+-- the last index before the limit at which the print stands
+abbrev pub IsLastBefore : List ℕ → ℕ → ℕ → Option ℕ → Type 0
+IsLastBefore prints print limit None = (k : ℕ) → k < limit → get_or prints k 0 ≢ print
+IsLastBefore prints print limit (Some at) = (at < limit) × (get_or prints at 0 ≡ print) × ((k : ℕ) → at < k → k < limit → get_or prints k 0 ≢ print)
+
+-- one past the last index before the limit whose print is of the slot, or 0
+pub record IsNewest (slots : ℕ) (prints : List ℕ) (slot limit newest : ℕ) : Type 0 where
+  pub within : newest ≤ limit
+  pub of_slot : 0 < newest → slot_of slots (get_or prints (newest - 1) 0) ≡ slot
+  pub last : (k : ℕ) → newest ≤ k → k < limit → slot_of slots (get_or prints k 0) ≢ slot
+
+-- each slot knows its newest print, and each print the one before it of its slot
+pub record AreSlots (s : Slotted) : Type 0 where
+  pub some : 0 < length s.newest
+  pub long : length s.olders ≡ length s.prints
+  pub newest_is : (slot : ℕ) → slot < length s.newest → IsNewest (length s.newest) s.prints slot (length s.prints) (get_or s.newest slot 0)
+  pub older_is : (at : ℕ) → at < length s.prints → IsNewest (length s.newest) s.prints (slot_of (length s.newest) (get_or s.prints at 0)) at (get_or s.olders at 0)
+
+-- what comes next is of the print's slot, and between it and the limit nothing is equal to the print
+pub record IsReached (slots : ℕ) (prints : List ℕ) (print limit next : ℕ) : Type 0 where
+  pub within : next ≤ limit
+  pub of_slot : 0 < next → slot_of slots (get_or prints (next - 1) 0) ≡ slot_of slots print
+  pub none : (k : ℕ) → next ≤ k → k < limit → get_or prints k 0 ≢ print

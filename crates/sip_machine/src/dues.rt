@@ -1,0 +1,331 @@
+//! What each of many states owes: a ledger, where any of them owes something.
+ghost use Rattle.std.specs.Prelude.{◌≡◌, ◌↔◌, ◌<◌, ◌≤◌, ◌++◌, ◌∷◌, [], List, IsTrue, IfOk, OnOk, OnErr, None, All, length, set, map, filter, take, drop};
+ghost use Rattle.std.specs.List.{list_any};
+ghost use Rattle.sip_ledger.specs.Debts.{counts_at, softened_debt, is_payable, debt_deadlines};
+ghost use Rattle.sip_ledger.specs.Ledgers.{rows_of};
+ghost use Rattle.sip_ledger.specs.Runs.{AreRuns};
+ghost use Rattle.sip_machine.specs.Debts.{earliest};
+ghost use Rattle.sip_machine.specs.Owes.{owed_in, owes_names};
+ghost use Rattle.sip_machine.specs.Prints.{ArePrints};
+ghost use Rattle.sip_machine.specs.inner.Dues.{AreBetween, rows_in};
+ghost use Rattle.sip_machine.specs.inner.Paying.{paid_by};
+
+use sip_ledger::{Debt, Ledger, Run};
+use std::alloc::{AllocError, Global};
+use std::marker::Model;
+
+/// What each of many states owes, oldest cause first, in a row of its own. Where none owes anything, nothing is allocated.
+/// Contracts see the rows. Beside them stand numbers between which those of all messages are that are owed.
+#[derive(Debug, Drop)]
+pub struct Dues {
+    rows: usize,
+    ledger: Option<Box<Ledger>>,
+    lowest: u32,
+    highest: u32,
+}
+
+impl Model for Dues {
+    ghost use Rattle.std.specs.Prelude.{List};
+    ghost use Rattle.std.specs.Option.{option_map};
+    ghost use Rattle.sip_ledger.specs.declared.debt.Debt.{Debt};
+    ghost use Rattle.sip_machine.specs.inner.Dues.{AreDues, rows_in};
+
+    ghost Value = { List (List Debt) };
+
+    ghost view = { λ d. rows_in d.rows (option_map (λ boxed. boxed.value) d.ledger) };
+
+    ghost invariant = { λ d. AreDues (rows_in d.rows (option_map (λ boxed. boxed.value) d.ledger)) d.rows d.lowest d.highest };
+}
+
+impl Dues {
+    /// There are no rows.
+    pub(crate) fn none() -> Dues
+        ensures { result ≡ [] }
+    {
+        Dues {
+            rows: 0,
+            ledger: None,
+            lowest: u32::MAX,
+            highest: 0,
+        }
+    }
+
+    /// Puts a row that owes nothing behind the others. On an error all is as before.
+    pub(crate) fn push(&mut self) -> Result<(), AllocError>
+        ensures ok { OnOk result (self.new ≡ self.old ++ [] ∷ []) }
+        ensures err { OnErr result (self.new ≡ self.old) }
+    {
+        let rows = self.rows.checked_add(1).ok_or(AllocError)?;
+        if let Some(ledger) = &mut self.ledger {
+            ledger.push()?;
+        }
+        self.rows = rows;
+        Ok(())
+    }
+
+    /// Puts a row that owes what this one does behind the others. On an error all is as before.
+    pub(crate) fn push_copy(&mut self, row: usize) -> Result<(), AllocError>
+        requires { row < length self.old }
+        ensures ok { OnOk result (self.new ≡ self.old ++ owed_in self.old row ∷ []) }
+        ensures err { OnErr result (self.new ≡ self.old) }
+    {
+        let rows = self.rows.checked_add(1).ok_or(AllocError)?;
+        if let Some(ledger) = &mut self.ledger {
+            ledger.push_copy(row)?;
+        }
+        self.rows = rows;
+        Ok(())
+    }
+
+    /// Keeps the first rows.
+    pub(crate) fn truncate(&mut self, rows: usize)
+        ensures { self.new ≡ take rows self.old }
+    {
+        if let Some(ledger) = &mut self.ledger {
+            ledger.truncate(rows);
+        }
+        self.rows = self.rows.min(rows);
+    }
+
+    /// Drops the first rows.
+    pub(crate) fn drop_first(&mut self, rows: usize)
+        requires { rows ≤ length self.old }
+        ensures { self.new ≡ drop rows self.old }
+    {
+        if let Some(ledger) = &mut self.ledger {
+            ledger.drop_first(rows);
+        }
+        self.rows -= rows;
+    }
+
+    /// Lets the row owe what another one does, and nothing else.
+    pub(crate) fn copy(&mut self, from: usize, to: usize)
+        requires from { from < length self.old }
+        requires to { to < length self.old }
+        ensures { self.new ≡ set self.old to (owed_in self.old from) }
+    {
+        if let Some(ledger) = &mut self.ledger {
+            ledger.copy(from, to);
+        }
+    }
+
+    /// Lets the row owe one more debt, behind its others. On an error all is as before.
+    pub(crate) fn gain(&mut self, alloc: Global, row: usize, debt: Debt) -> Result<(), AllocError>
+        requires { row < length self.old }
+        ensures ok { OnOk result (self.new ≡ set self.old row (owed_in self.old row ++ debt ∷ [])) }
+        ensures err { OnErr result (self.new ≡ self.old) }
+    {
+        match &mut self.ledger {
+            Some(ledger) => ledger.gain(row, debt)?,
+            None => self.ledger = Some(opened(alloc, self.rows, row, debt)?),
+        }
+        self.lowest = self.lowest.min(debt.message);
+        self.highest = self.highest.max(debt.message);
+        Ok(())
+    }
+
+    /// Takes out of the row the first debt that a send of the message at the moment pays, if there is one.
+    pub(crate) fn pay(&mut self, row: usize, message: u32, moment: u64)
+        requires { row < length self.old }
+        ensures { self.new ≡ set self.old row (paid_by message moment (owed_in self.old row)) }
+    {
+        if let Some(ledger) = &mut self.ledger {
+            ledger.pay(row, message, moment);
+        }
+    }
+
+    /// Whether the row has a debt that a send of the message at the moment pays.
+    pub(crate) fn can_pay(&mut self, row: usize, message: u32, moment: u64) -> bool
+        requires { row < length self.old }
+        ensures same { self.new ≡ self.old }
+        ensures can { result ≡ list_any (is_payable message moment) (owed_in self.old row) }
+    {
+        match &mut self.ledger {
+            Some(ledger) => ledger.can_pay(row, message, moment),
+            None => false,
+        }
+    }
+
+    /// Drops what the row may send and whose deadline is below the moment.
+    pub(crate) fn expire(&mut self, row: usize, moment: u64)
+        requires { row < length self.old }
+        ensures { self.new ≡ set self.old row (filter (counts_at moment) (owed_in self.old row)) }
+    {
+        if let Some(ledger) = &mut self.ledger {
+            ledger.expire(row, moment);
+        }
+    }
+
+    /// Of what the row owes, nothing has to be sent any more.
+    pub(crate) fn soften(&mut self, row: usize)
+        requires { row < length self.old }
+        ensures { self.new ≡ set self.old row (map softened_debt (owed_in self.old row)) }
+    {
+        if let Some(ledger) = &mut self.ledger {
+            ledger.soften(row);
+        }
+    }
+
+    /// The row owes nothing any more.
+    pub(crate) fn clear(&mut self, row: usize)
+        requires { row < length self.old }
+        ensures { self.new ≡ set self.old row [] }
+    {
+        if let Some(ledger) = &mut self.ledger {
+            ledger.clear(row);
+        }
+    }
+
+    /// The least deadline of what the row must send.
+    pub(crate) fn earliest_must(&self, row: usize) -> Option<u64>
+        requires { row < length self.now }
+        ensures { result ≡ earliest (debt_deadlines (owed_in self.now row)) }
+    {
+        match &self.ledger {
+            Some(ledger) => ledger.earliest_must(row),
+            None => None,
+        }
+    }
+
+    /// Whether the row owes nothing.
+    pub(crate) fn owes_nothing(&self, row: usize) -> bool
+        requires { row < length self.now }
+        ensures { IsTrue result ↔ (owed_in self.now row ≡ []) }
+    {
+        match &self.ledger {
+            Some(ledger) => ledger.owes_nothing(row),
+            None => true,
+        }
+    }
+
+    /// Whether two rows owe the same.
+    pub(crate) fn same(&self, row: usize, other: usize) -> bool
+        requires row { row < length self.now }
+        requires other { other < length self.now }
+        ensures { IsTrue result ↔ (owed_in self.now row ≡ owed_in self.now other) }
+    {
+        match &self.ledger {
+            Some(ledger) => ledger.same(row, other),
+            None => true,
+        }
+    }
+
+    /// A number for what each row from one on owes: rows that owe the same have the same, and others hardly ever.
+    pub(crate) fn prints(&self, alloc: Global, from: usize) -> Result<Vec<u64>, AllocError>
+        requires { from ≤ length self.now }
+        ensures { IfOk result (λ prints. ArePrints self.now from prints.items) }
+    {
+        match &self.ledger {
+            Some(ledger) => prints_of(alloc, ledger, from),
+            None => zeros(alloc, self.rows, from),
+        }
+    }
+
+    /// Puts the number of each message that the row owes behind the others, once for each debt. On an error they are as before.
+    pub(crate) fn names(
+        &self,
+        alloc: Global,
+        row: usize,
+        numbers: &mut Vec<u32>,
+    ) -> Result<(), AllocError>
+        requires { row < length self.now }
+        ensures ok { OnOk result (numbers.new.items ≡ numbers.old.items ++ owes_names (owed_in self.now row)) }
+        ensures err { OnErr result (numbers.new.items ≡ numbers.old.items) }
+    {
+        let Some(ledger) = &self.ledger else {
+            return Ok(());
+        };
+        let mut owed = Vec::new(alloc);
+        ledger.names(row, &mut owed)?;
+        numbers.append(&mut owed)
+    }
+
+    /// What the row owes, with equal neighbours in one.
+    pub(crate) fn runs(&self, alloc: Global, row: usize) -> Result<Vec<Run>, AllocError>
+        requires { row < length self.now }
+        ensures { IfOk result (λ runs. AreRuns (owed_in self.now row) runs.items) }
+    {
+        match &self.ledger {
+            Some(ledger) => ledger.runs(alloc, row),
+            None => Ok(Vec::new(alloc)),
+        }
+    }
+
+    /// Numbers between which those of all messages are that are owed.
+    pub(crate) fn span(&self) -> (u32, u32)
+        ensures { All (AreBetween result.0 result.1) self.now }
+    {
+        (self.lowest, self.highest)
+    }
+
+    /// Gives memory back that no row needs.
+    pub(crate) fn tidy(&mut self)
+        ensures { self.new ≡ self.old }
+    {
+        let Some(ledger) = &mut self.ledger else {
+            return;
+        };
+        if is_blank(ledger) {
+            self.ledger = None;
+            self.lowest = u32::MAX;
+            self.highest = 0;
+        } else {
+            ledger.tidy();
+        }
+    }
+}
+
+/// A ledger of so many rows, of which this one owes a debt and no other owes anything.
+fn opened(alloc: Global, rows: usize, row: usize, debt: Debt) -> Result<Box<Ledger>, AllocError>
+    requires { row < rows }
+    ensures { IfOk result (λ boxed. rows_of boxed.value ≡ set (rows_in rows None) row (owed_in (rows_in rows None) row ++ debt ∷ [])) }
+{
+    let mut ledger = blank(alloc, rows)?;
+    ledger.gain(row, debt)?;
+    Ok(Box::new(alloc, ledger)?)
+}
+
+/// A ledger of so many rows, which owe nothing.
+fn blank(alloc: Global, rows: usize) -> Result<Ledger, AllocError>
+    ensures { IfOk result (λ ledger. rows_of ledger ≡ rows_in rows None) }
+{
+    let mut ledger = Ledger::new(alloc);
+    for row in 0..rows {
+        ledger.push()?;
+    }
+    Ok(ledger)
+}
+
+/// Whether no row owes anything.
+fn is_blank(ledger: &Ledger) -> bool
+    ensures { IsTrue result → (rows_of ledger.now ≡ rows_in (length (rows_of ledger.now)) None) }
+{
+    for row in 0..ledger.len() {
+        if !ledger.owes_nothing(row) {
+            return false;
+        }
+    }
+    true
+}
+
+/// The print of each row from one on.
+fn prints_of(alloc: Global, ledger: &Ledger, from: usize) -> Result<Vec<u64>, AllocError>
+    requires { from ≤ length (rows_of ledger.now) }
+    ensures { IfOk result (λ prints. ArePrints (rows_of ledger.now) from prints.items) }
+{
+    let mut prints = Vec::with_capacity(alloc, ledger.len() - from)?;
+    for row in from..ledger.len() {
+        prints.push(ledger.print(row))?;
+    }
+    Ok(prints)
+}
+
+/// The same print for each of so many rows from one on that owe nothing.
+fn zeros(alloc: Global, rows: usize, from: usize) -> Result<Vec<u64>, AllocError>
+    requires { from ≤ rows }
+    ensures { IfOk result (λ prints. ArePrints (rows_in rows None) from prints.items) }
+{
+    let mut prints = Vec::with_capacity(alloc, rows - from)?;
+    prints.resize(rows - from, 0)?;
+    Ok(prints)
+}

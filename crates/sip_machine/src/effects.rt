@@ -1,0 +1,78 @@
+//! What an event does to a state, and how it is done to what the state owes.
+ghost use Rattle.std.specs.Prelude.{◌≡◌, ◌<◌, ◌≤◌, OnOk, OnErr, length, set, filter};
+ghost use Rattle.sip_ledger.specs.Debts.{counts_at};
+ghost use Rattle.sip_machine.specs.Times.{last_moment};
+ghost use Rattle.sip_machine.specs.Owes.{owed_in};
+ghost use Rattle.sip_machine.specs.Owing.{changed_debts};
+ghost use Rattle.sip_machine.specs.inner.Effects.{rested_debts};
+
+use crate::dues::Dues;
+use crate::phases::{Change, Turn};
+use sip_ledger::Debt;
+use sip_times::Params;
+use std::alloc::{AllocError, Global};
+
+/// What an event does to a state: a row may lead on, and a message that is sent may leave the phase as it is. Where neither is,
+/// the event has no step.
+#[derive(Clone, Copy)]
+pub(crate) struct Effect<P> {
+    /// Where a row leads.
+    pub turn: Option<Turn<P>>,
+    /// How the phase stays.
+    pub rest: Option<Rest>,
+}
+
+/// How a message that is sent leaves the phase as it is.
+#[derive(Clone, Copy)]
+pub(crate) enum Rest {
+    /// Nothing changes.
+    Stays,
+    /// It pays the first debt that a send of this message pays.
+    Pays(u32),
+}
+
+/// Does to what the state owes what a row does, with what has not expired. On an error all is as before.
+pub(crate) fn lead(
+    alloc: Global,
+    params: &Params,
+    moment: u64,
+    change: Change,
+    dues: &mut Dues,
+    row: usize,
+) -> Result<(), AllocError>
+    requires moment { moment ≤ last_moment }
+    requires row { row < length dues.old }
+    ensures ok { OnOk result (dues.new ≡ set dues.old row (changed_debts params.now moment change (filter (counts_at moment) (owed_in dues.old row)))) }
+    ensures err { OnErr result (dues.new ≡ dues.old) }
+{
+    match change {
+        Change::Keeps => dues.expire(row, moment),
+        Change::Softens => {
+            dues.expire(row, moment);
+            dues.soften(row);
+        }
+        Change::Drops => dues.clear(row),
+        Change::Gains { must, message } => {
+            // what is new counts at its own moment
+            let debt = Debt {
+                message,
+                deadline: params.deadline(moment),
+                must,
+            };
+            dues.gain(alloc, row, debt)?;
+            dues.expire(row, moment);
+        }
+    }
+    Ok(())
+}
+
+/// Leaves the phase as it is, with what has not expired, and without the debt that is paid, if one is.
+pub(crate) fn come_to_rest(moment: u64, rest: Rest, dues: &mut Dues, row: usize)
+    requires { row < length dues.old }
+    ensures { dues.new ≡ set dues.old row (rested_debts moment rest (owed_in dues.old row)) }
+{
+    if let Rest::Pays(message) = rest {
+        dues.pay(row, message, moment);
+    }
+    dues.expire(row, moment);
+}

@@ -1,0 +1,427 @@
+//! The states in which a transaction may stand: their phases, and what they owe.
+ghost use Rattle.std.specs.Prelude.{◌≡◌, ◌≢◌, ◌↔◌, ◌<◌, ◌≤◌, ◌++◌, ◌∷◌, [], ℕ, IsTrue, IfOk, IfSome, OnOk, OnErr, All, AllPairs, None, length, set, take, drop, option_to_list, get_or};
+ghost use Rattle.std.specs.List.{Any, HoldsAt};
+ghost use Rattle.std.specs.Option.{option_map};
+ghost use Rattle.sip_ledger.specs.Runs.{AreRuns};
+ghost use Rattle.sip_machine.specs.Times.{last_moment};
+ghost use Rattle.sip_machine.specs.Owing.{CodeOwing, at_rest};
+ghost use Rattle.sip_machine.specs.Pools.{AreFirstOnes, picked};
+ghost use Rattle.sip_machine.specs.Prints.{ArePrints};
+ghost use Rattle.sip_machine.specs.inner.Effects.{led_by, rests_at, given_by};
+ghost use Rattle.sip_machine.specs.inner.Pools.{IsRun, hash_by};
+
+use crate::dues::Dues;
+use crate::effects::{Effect, Rest, come_to_rest, lead};
+use crate::phases::{Phase, Turn};
+use crate::slots::Slots;
+use sip_ledger::Run;
+use sip_times::Params;
+use std::alloc::{AllocError, Global};
+use std::hash::{FoldHasher, Hasher};
+use std::marker::Model;
+
+/// So many states are told apart by a look at each other, which costs less than to keep their prints.
+const FEW: usize = 8;
+
+/// States of a transaction: each has its phase, and a row of what it owes. Contracts see the list of the states.
+#[derive(Debug, Drop)]
+pub struct Pool<P: Phase> {
+    pub(crate) phases: Vec<P>,
+    pub(crate) dues: Dues,
+}
+
+impl<P: Phase> Model for Pool<P> {
+    ghost use Rattle.std.specs.Prelude.{◌≡◌, List, length};
+    ghost use Rattle.sip_machine.specs.Owing.{CodeOwing};
+    ghost use Rattle.sip_machine.specs.inner.Pools.{beside};
+
+    ghost Value = { List (CodeOwing P) };
+
+    ghost view = { λ p. beside p.phases.items p.dues };
+
+    ghost invariant = { λ p. length p.dues ≡ length p.phases.items };
+}
+
+impl<P: Phase> Pool<P> {
+    /// There are no states.
+    pub fn new(alloc: Global) -> Self
+        ensures { result ≡ [] }
+    {
+        Pool {
+            phases: Vec::new(alloc),
+            dues: Dues::none(),
+        }
+    }
+
+    /// How many states there are.
+    pub fn len(&self) -> usize
+        ensures { result ≡ length self.now }
+    {
+        self.phases.len()
+    }
+
+    /// Whether there are none.
+    pub fn is_empty(&self) -> bool
+        ensures { IsTrue result ↔ (self.now ≡ []) }
+    {
+        self.phases.is_empty()
+    }
+
+    /// The phase of the state at the index.
+    pub fn phase(&self, at: usize) -> P
+        requires { at < length self.now }
+        ensures { HoldsAt (λ x. result ≡ x.phase) self.now at }
+    {
+        self.phases[at]
+    }
+
+    /// What the state at the index owes, with equal neighbours in one.
+    pub fn runs(&self, alloc: Global, at: usize) -> Result<Vec<Run>, AllocError>
+        requires { at < length self.now }
+        ensures { HoldsAt (λ x. IfOk result (λ runs. AreRuns x.owes runs.items)) self.now at }
+    {
+        self.dues.runs(alloc, at)
+    }
+
+    /// Whether the state at the index is in this phase, and owes nothing.
+    pub fn is_at_rest(&self, at: usize, phase: P) -> bool
+        requires { at < length self.now }
+        ensures { HoldsAt (λ x. IsTrue result ↔ (x ≡ at_rest phase)) self.now at }
+    {
+        self.phases[at] == phase && self.dues.owes_nothing(at)
+    }
+
+    /// Whether the states at the indices are the same.
+    fn is_same(&self, at: usize, other: usize) -> bool
+        requires at { at < length self.now }
+        requires other { other < length self.now }
+        ensures { (x : CodeOwing P) → IsTrue result ↔ (get_or self.now at x ≡ get_or self.now other x) }
+    {
+        self.phases[at] == self.phases[other] && self.dues.same(at, other)
+    }
+
+    /// Puts a state behind the others that owes nothing. On an error all is as before.
+    pub fn push(&mut self, phase: P) -> Result<(), AllocError>
+        ensures ok { OnOk result (self.new ≡ self.old ++ at_rest phase ∷ []) }
+        ensures err { OnErr result (self.new ≡ self.old) }
+    {
+        self.phases.reserve(1)?;
+        self.dues.push()?;
+        self.phases.push_reserved(phase);
+        Ok(())
+    }
+
+    /// Puts a copy of the state at the index behind the others. On an error all is as before.
+    fn push_copy(&mut self, at: usize) -> Result<(), AllocError>
+        requires { at < length self.old }
+        ensures ok { HoldsAt (λ x. OnOk result (self.new ≡ self.old ++ x ∷ [])) self.old at }
+        ensures err { OnErr result (self.new ≡ self.old) }
+    {
+        self.phases.reserve(1)?;
+        self.dues.push_copy(at)?;
+        self.phases.push_reserved(self.phases[at]);
+        Ok(())
+    }
+
+    /// Keeps the first states.
+    pub fn truncate(&mut self, len: usize)
+        ensures { self.new ≡ take len self.old }
+    {
+        self.phases.truncate(len);
+        self.dues.truncate(len);
+    }
+
+    /// Puts a copy of a state in the place of another one.
+    pub fn copy(&mut self, from: usize, to: usize)
+        requires from { from < length self.old }
+        requires to { to < length self.old }
+        ensures { HoldsAt (λ x. self.new ≡ set self.old to x) self.old from }
+    {
+        self.phases[to] = self.phases[from];
+        self.dues.copy(from, to);
+    }
+
+    /// Drops the first states.
+    fn drop_first(&mut self, count: usize)
+        requires { count ≤ length self.old }
+        ensures { self.new ≡ drop count self.old }
+    {
+        let kept = self.len() - count;
+        self.phases.copy_within(count.., 0);
+        self.phases.truncate(kept);
+        self.dues.drop_first(count);
+    }
+
+    /// Keeps just the states at the indices, which rise.
+    pub fn keep(&mut self, rows: &[usize])
+        requires within { All (λ row. row < length self.old) rows.now }
+        requires rising { AllPairs (λ a b. a < b) rows.now }
+        ensures { (x : CodeOwing P) → self.new ≡ picked self.old x rows.now }
+    {
+        match run_of(rows) {
+            Some(first) => {
+                self.drop_first(first);
+                self.truncate(rows.len());
+            }
+            None => self.keep_each(rows),
+        }
+    }
+
+    /// The same, one by one.
+    fn keep_each(&mut self, rows: &[usize])
+        requires within { All (λ row. row < length self.old) rows.now }
+        requires rising { AllPairs (λ a b. a < b) rows.now }
+        ensures { (x : CodeOwing P) → self.new ≡ picked self.old x rows.now }
+    {
+        for to in 0..rows.len() {
+            if rows[to] != to {
+                self.copy(rows[to], to);
+            }
+        }
+        self.truncate(rows.len());
+    }
+
+    /// The indices of the states from one on, which rise: where some are the same, that of the first of them.
+    pub fn first_ones(&self, from: usize) -> Result<Vec<usize>, AllocError>
+        requires { from ≤ length self.now }
+        ensures { IfOk result (λ rows. AreFirstOnes self.now from (length self.now) rows.items) }
+    {
+        if self.len().saturating_sub(from) <= FEW {
+            self.first_of_few(from)
+        } else {
+            self.first_of_many(from)
+        }
+    }
+
+    /// The same, by a look at each other one.
+    fn first_of_few(&self, from: usize) -> Result<Vec<usize>, AllocError>
+        requires { from ≤ length self.now }
+        ensures { IfOk result (λ rows. AreFirstOnes self.now from (length self.now) rows.items) }
+    {
+        let mut rows = Vec::new(*self.phases.allocator());
+        for at in from..self.len() {
+            if !self.is_among(&rows, at) {
+                rows.push(at)?;
+            }
+        }
+        Ok(rows)
+    }
+
+    /// The same, by a look at those of the same print.
+    fn first_of_many(&self, from: usize) -> Result<Vec<usize>, AllocError>
+        requires { from ≤ length self.now }
+        ensures { IfOk result (λ rows. AreFirstOnes self.now from (length self.now) rows.items) }
+    {
+        let alloc = *self.phases.allocator();
+        let prints = self.prints(from)?;
+        let mut slots = Slots::with_room(alloc, prints.len())?;
+        let mut rows = Vec::with_capacity(alloc, prints.len())?;
+        for at in from..self.len() {
+            let print = prints[at - from];
+            if !self.is_repeat(&slots, print, &rows, at) {
+                slots.push(print)?;
+                rows.push(at)?;
+            }
+        }
+        Ok(rows)
+    }
+
+    /// Whether a state at one of the indices, whose prints these are, is the same as this one, which has this print.
+    fn is_repeat(&self, slots: &Slots, print: u64, rows: &[usize], at: usize) -> bool
+        requires at { at < length self.now }
+        requires within { All (λ row. row < length self.now) rows.now }
+        requires long { length slots.now.prints ≡ length rows.now }
+        requires prints { (k : ℕ) (x : CodeOwing P) → k < length rows.now → get_or self.now (get_or rows.now k 0) x ≡ get_or self.now at x →
+            get_or slots.now.prints k 0 ≡ print }
+        ensures { (x : CodeOwing P) → IsTrue result ↔ Any (λ row. get_or self.now row x ≡ get_or self.now at x) rows.now }
+    {
+        let mut next = slots.last(print);
+        while let Some(found) = next {
+            if self.is_same(rows[found], at) {
+                return true;
+            }
+            next = slots.before(found);
+        }
+        false
+    }
+
+    /// Whether a state at one of the indices is the same as this one.
+    fn is_among(&self, rows: &[usize], at: usize) -> bool
+        requires at { at < length self.now }
+        requires within { All (λ row. row < length self.now) rows.now }
+        ensures { (x : CodeOwing P) → IsTrue result ↔ Any (λ row. get_or self.now row x ≡ get_or self.now at x) rows.now }
+    {
+        for row in rows {
+            if self.is_same(*row, at) {
+                return true;
+            }
+        }
+        false
+    }
+
+    /// A number for each state from one on: equal ones have the same, and others hardly ever.
+    fn prints(&self, from: usize) -> Result<Vec<u64>, AllocError>
+        requires { from ≤ length self.now }
+        ensures { IfOk result (λ prints. ArePrints self.now from prints.items) }
+    {
+        let mut prints = self.dues.prints(*self.phases.allocator(), from)?;
+        let mut hashed = None;
+        for at in 0..prints.len() {
+            prints[at] ^= hash_again(&mut hashed, self.phases[from + at]);
+        }
+        Ok(prints)
+    }
+
+    /// Gives memory back that nothing owed needs.
+    pub fn tidy(&mut self)
+        ensures { self.new ≡ self.old }
+    {
+        self.dues.tidy();
+    }
+
+    /// Moves the phases to a place of their own size, where there is memory for one.
+    pub fn fit(&mut self)
+        ensures { self.new ≡ self.old }
+    {
+        if self.phases.capacity() == self.phases.len() {
+            return;
+        }
+        let Ok(mut fitting) = Vec::with_capacity(*self.phases.allocator(), self.phases.len()) else {
+            return;
+        };
+        if fitting.append(&mut self.phases).is_ok() {
+            self.phases = fitting;
+        }
+    }
+
+    /// Leads the state at the index where the row does. On an error all is as before.
+    pub(crate) fn lead(
+        &mut self,
+        params: &Params,
+        moment: u64,
+        at: usize,
+        turn: Turn<P>,
+    ) -> Result<(), AllocError>
+        requires moment { moment ≤ last_moment }
+        requires at { at < length self.old }
+        ensures ok { HoldsAt (λ x. OnOk result (self.new ≡ set self.old at (led_by params.now moment turn x))) self.old at }
+        ensures err { OnErr result (self.new ≡ self.old) }
+    {
+        let alloc = *self.phases.allocator();
+        lead(alloc, params, moment, turn.change, &mut self.dues, at)?;
+        self.phases[at] = turn.phase;
+        Ok(())
+    }
+
+    /// Brings the state at the index to rest.
+    pub(crate) fn come_to_rest(&mut self, moment: u64, at: usize, rest: Rest)
+        requires { at < length self.old }
+        ensures { HoldsAt (λ x. self.new ≡ set self.old at (rests_at moment rest x)) self.old at }
+    {
+        come_to_rest(moment, rest, &mut self.dues, at);
+    }
+
+    /// Puts the states behind the others that the effect of an event gives from the one at the index. On an error all is as before.
+    pub(crate) fn push_given(
+        &mut self,
+        params: &Params,
+        moment: u64,
+        at: usize,
+        effect: Effect<P>,
+    ) -> Result<(), AllocError>
+        requires moment { moment ≤ last_moment }
+        requires at { at < length self.old }
+        ensures ok { HoldsAt (λ x. OnOk result (self.new ≡ self.old ++ (option_to_list (given_by params.now moment x effect).0 ++ option_to_list (given_by params.now moment x effect).1))) self.old at }
+        ensures err { OnErr result (self.new ≡ self.old) }
+    {
+        let before = self.len();
+        self.push_led(params, moment, at, effect.turn)?;
+        if self.push_rested(moment, at, effect.rest).is_err() {
+            self.truncate(before);
+            return Err(AllocError);
+        }
+        Ok(())
+    }
+
+    /// Puts a copy of the state at the index behind the others that goes where the row leads, if there is one. On an error
+    /// all is as before.
+    fn push_led(
+        &mut self,
+        params: &Params,
+        moment: u64,
+        at: usize,
+        turn: Option<Turn<P>>,
+    ) -> Result<(), AllocError>
+        requires moment { moment ≤ last_moment }
+        requires at { at < length self.old }
+        ensures ok { HoldsAt (λ x. OnOk result (self.new ≡ self.old ++ option_to_list (option_map (λ turn. led_by params.now moment turn x) turn))) self.old at }
+        ensures err { OnErr result (self.new ≡ self.old) }
+    {
+        let Some(turn) = turn else {
+            return Ok(());
+        };
+        let last = self.len();
+        self.push_copy(at)?;
+        if self.lead(params, moment, last, turn).is_err() {
+            self.truncate(last);
+            return Err(AllocError);
+        }
+        Ok(())
+    }
+
+    /// Puts a copy of the state at the index behind the others that comes to rest, if it does. On an error all is as before.
+    fn push_rested(&mut self, moment: u64, at: usize, rest: Option<Rest>) -> Result<(), AllocError>
+        requires { at < length self.old }
+        ensures ok { HoldsAt (λ x. OnOk result (self.new ≡ self.old ++ option_to_list (option_map (λ rest. rests_at moment rest x) rest))) self.old at }
+        ensures err { OnErr result (self.new ≡ self.old) }
+    {
+        let Some(rest) = rest else {
+            return Ok(());
+        };
+        let last = self.len();
+        self.push_copy(at)?;
+        self.come_to_rest(moment, last, rest);
+        Ok(())
+    }
+}
+
+/// The first index, where each is the one behind the index before it.
+fn run_of(rows: &[usize]) -> Option<usize>
+    requires { AllPairs (λ a b. a < b) rows.now }
+    ensures { IfSome result (λ first. IsRun first rows.now) }
+{
+    if rows.is_empty() {
+        return None;
+    }
+    let first = rows[0];
+    if rows[rows.len() - 1] - first < rows.len() {
+        Some(first)
+    } else {
+        None
+    }
+}
+
+/// The hash of a phase, beside the phase that was asked for last and its hash, if there is one.
+fn hash_again<P: Phase>(last: &mut Option<(P, u64)>, phase: P) -> u64
+    requires { IfSome last.old (λ known. known.1 ≡ hash_by (P.hash_input known.0)) }
+    ensures is { result ≡ hash_by (P.hash_input phase) }
+    ensures last { IfSome last.new (λ known. known.1 ≡ hash_by (P.hash_input known.0)) }
+{
+    if let Some((known, hash)) = *last {
+        if known == phase {
+            return hash;
+        }
+    }
+    let hash = hash_of(&phase);
+    *last = Some((phase, hash));
+    hash
+}
+
+/// The hash of a phase.
+fn hash_of<P: Phase>(phase: &P) -> u64
+    ensures { result ≡ hash_by (P.hash_input phase.now) }
+{
+    let mut hasher = FoldHasher::default();
+    phase.hash(&mut hasher);
+    hasher.finish()
+}

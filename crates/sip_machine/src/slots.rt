@@ -1,0 +1,97 @@
+//! Prints, each found again by a look at those alone that fall into the same slot.
+ghost use Rattle.std.specs.Prelude.{◌≡◌, ◌<◌, ◌≤◌, ◌++◌, ◌∷◌, [], IfOk, OnOk, OnErr, length, get_or, ℕ};
+ghost use Rattle.sip_machine.specs.inner.Slots.{IsLastBefore, IsNewest, slot_of};
+
+use std::alloc::{AllocError, Global};
+use std::marker::Model;
+
+/// Prints, in the order in which they came.
+#[derive(Debug, Drop)]
+pub(crate) struct Slots {
+    /// For each slot, one past the index of its last print, 0 if there is none.
+    newest: Vec<usize>,
+    prints: Vec<u64>,
+    /// For each print, one past the index of the last one before it of its slot, 0 if there is none.
+    olders: Vec<usize>,
+}
+
+impl Model for Slots {
+    ghost use Rattle.sip_machine.specs.inner.Slots.{Slotted, AreSlots};
+
+    ghost Value = { Slotted };
+
+    ghost view = { λ s. record { newest = s.newest.items; prints = s.prints.items; olders = s.olders.items } };
+
+    ghost invariant = { λ s. AreSlots (record { newest = s.newest.items; prints = s.prints.items; olders = s.olders.items }) };
+}
+
+impl Slots {
+    /// There are none, and room for so many.
+    pub(crate) fn with_room(alloc: Global, count: usize) -> Result<Slots, AllocError>
+        ensures { IfOk result (λ slots. slots.prints ≡ []) }
+    {
+        let slots = count.checked_next_power_of_two().ok_or(AllocError)?;
+        let mut newest = Vec::with_capacity(alloc, slots)?;
+        newest.resize(slots, 0)?;
+        Ok(Slots {
+            newest,
+            prints: Vec::with_capacity(alloc, count)?,
+            olders: Vec::with_capacity(alloc, count)?,
+        })
+    }
+
+    /// Puts the print behind the others. On an error all is as before.
+    pub(crate) fn push(&mut self, print: u64) -> Result<(), AllocError>
+        ensures ok { OnOk result (self.new.prints ≡ self.old.prints ++ print ∷ []) }
+        ensures err { OnErr result (self.new ≡ self.old) }
+    {
+        let slot = slot_of(self.newest.len(), print);
+        self.prints.reserve(1)?;
+        self.olders.push(self.newest[slot])?;
+        self.prints.push_reserved(print);
+        self.newest[slot] = self.prints.len();
+        Ok(())
+    }
+
+    /// The index of the last one that is equal to the print.
+    pub(crate) fn last(&self, print: u64) -> Option<usize>
+        ensures { IsLastBefore self.now.prints print (length self.now.prints) result }
+    {
+        let slot = slot_of(self.newest.len(), print);
+        self.last_from(print, self.newest[slot])
+    }
+
+    /// The index of the last one before this one that is equal to it.
+    pub(crate) fn before(&self, at: usize) -> Option<usize>
+        requires { at < length self.now.prints }
+        ensures { IsLastBefore self.now.prints (get_or self.now.prints at 0) at result }
+    {
+        self.last_from(self.prints[at], self.olders[at])
+    }
+
+    /// The index of the last one before a limit that is equal to the print, where one past the last one of its slot is known.
+    fn last_from(&self, print: u64, newest: usize) -> Option<usize>
+        requires { newest ≤ length self.now.prints }
+        ensures { (limit : ℕ) → limit ≤ length self.now.prints → IsNewest (length self.now.newest) self.now.prints (slot_of (length self.now.newest) print) limit newest →
+            IsLastBefore self.now.prints print limit result }
+    {
+        let mut next = newest;
+        while next > 0 {
+            let at = next - 1;
+            if self.prints[at] == print {
+                return Some(at);
+            }
+            next = self.olders[at];
+        }
+        None
+    }
+}
+
+/// The slot of the print.
+fn slot_of(slots: usize, print: u64) -> usize
+    requires { 0 < slots }
+    ensures is { result ≡ slot_of slots print }
+    ensures within { result < slots }
+{
+    (print >> 40) as usize & (slots - 1)
+}

@@ -2,6 +2,8 @@ pub mod SpanLemmas
 pub mod LongLemmas
 pub mod IndexLemmas
 pub mod BitsLemmas
+pub mod EachLemmas
+pub mod PayLemmas
 pub mod ListedLemmas
 pub mod RowLemmas
 pub mod TableLemmas

@@ -1,4 +1,4 @@
-use Rattle.std.specs.Prelude.{◌≡◌, ◌≤◌, ◌==◌, ◌&&◌, ◌||◌, IsTrue, ℕ, Bool, false, Option, List, ◌∷◌, ◌++◌, All, filter, map, min, nat_le}
+use Rattle.std.specs.Prelude.{◌≡◌, ◌≤◌, ◌==◌, ◌&&◌, ◌||◌, if◌then◌else◌, IsTrue, ℕ, Bool, false, true, Option, None, Some, List, [], ◌∷◌, ◌++◌, All, filter, map, min, nat_le}
 use Rattle.std.specs.List.{list_any, reduce}
 use Rattle.sip_ledger.specs.declared.debt.Debt.{Debt}
 
@@ -30,6 +30,11 @@ is_payable message t debt = debt.message == message && nat_le t debt.deadline
 abbrev pub is_any_payable : List ℕ → ℕ → Debt → Bool
 is_any_payable messages t debt = list_any (λ message. is_payable message t debt) messages
 
+-- what is owed behind a send of this message at t, which pays the first debt that it can
+abbrev pub paid_by : ℕ → ℕ → List Debt → List Debt
+paid_by message t [] = []
+paid_by message t (debt ∷ debts) = if is_payable message t debt then debts else debt ∷ paid_by message t debts
+
 -- the deadlines of debts that have to be paid
 abbrev pub debt_deadlines : List Debt → List ℕ
 debt_deadlines debts = map (λ debt. debt.deadline) (filter (λ debt. debt.must) debts)
@@ -37,6 +42,15 @@ debt_deadlines debts = map (λ debt. debt.deadline) (filter (λ debt. debt.must)
 -- the least of these moments, none if there is none
 abbrev pub earliest : List ℕ → Option ℕ
 earliest moments = reduce min moments
+
+-- t is not past this moment, if there is one
+abbrev pub is_within : ℕ → Option ℕ → Bool
+is_within t None = true
+is_within t (Some last) = nat_le t last
+
+-- nothing that has to be paid is past at t
+abbrev pub is_timely : ℕ → List Debt → Bool
+is_timely t debts = is_within t (earliest (debt_deadlines debts))
 
 -- the least and the greatest number of a message that is owed
 pub record IsSpan (debts : List Debt) (low high : ℕ) : Type 0 where

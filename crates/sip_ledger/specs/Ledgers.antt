@@ -1,4 +1,4 @@
-use Rattle.std.specs.Prelude.{ℕ, List, [], ◌∷◌, Option, None, Some, get_or}
+use Rattle.std.specs.Prelude.{ℕ, List, [], ◌∷◌, Option, None, Some, drop, get_or, take}
 use Rattle.std.specs.Map.{values_of}
 use Rattle.sip_ledger.specs.declared.debt.Debt.{Debt}
 use Rattle.sip_ledger.specs.Grids.{Grid, grid_rows}
@@ -24,3 +24,7 @@ rows_of table = rows_by table.grid table.long
 -- what one of the rows owes
 abbrev pub row_of : Table → ℕ → List Debt
 row_of table row = get_or (rows_of table) row []
+
+-- the elements from one index up to another
+abbrev pub from_to : {X : Type 0} → ℕ → ℕ → List X → List X
+from_to from to xs = drop from (take to xs)

@@ -3,6 +3,7 @@
 
 mod bits;
 mod debt;
+mod each;
 mod index;
 mod indexes;
 mod ledger;

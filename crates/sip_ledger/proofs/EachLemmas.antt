@@ -1,0 +1,85 @@
+-- Lists of which each element from one on changes, or behind which some of them come once more.
+use Prim.Native.Nat.{suc, zero}
+use Rattle.std.proofs.Common.{Result, Ok, Err, OnErr, ◌≡◌, ◌<◌, ◌≤◌, ◌⊎◌, inl, inr, ℕ, ◌+◌, Bool, List, [], ◌∷◌, ◌++◌, length, drop, take, get_or, set, map, filter, refl, ap, sym, ◌∙◌, arith, cond}
+use Rattle.std.proofs.lemmas.List.Elements.{filter_more}
+use Rattle.sip_ledger.specs.Ledgers.{from_to}
+
+-- what holds always, holds on an error
+pub always_err : {T E : Type 0} (r : Result T E) (P : Type 0) → P → OnErr r P
+always_err (Ok x) P p = tt
+always_err (Err e) P p = p
+
+module _ {X : Type 0} where
+  -- the elements from one index up to another have changed
+  abbrev pub changing : (X → X) → ℕ → ℕ → List X → List X
+  changing f from k xs = take from xs ++ map f (from_to from k xs) ++ drop k xs
+
+  -- none of no elements
+  pub from_to-none : (from to : ℕ) (xs : List X) → to ≤ from → from_to from to xs ≡ []
+  from_to-none zero zero xs le = refl
+  from_to-none zero (suc to) xs le = absurd (omega (arith, le))
+  from_to-none (suc from) zero xs le = refl
+  from_to-none (suc from) (suc to) [] le = refl
+  from_to-none (suc from) (suc to) (x ∷ xs) le = from_to-none from to xs (omega (arith, le))
+
+  pub changing-none : (f : X → X) (from : ℕ) (xs : List X) → changing f from from xs ≡ xs
+  changing-none f zero xs = refl
+  changing-none f (suc from) [] = refl
+  changing-none f (suc from) (x ∷ xs) = ap (λ ys. x ∷ ys) (changing-none f from xs)
+
+  changing-next : (f : X → X) (from k : ℕ) (xs : List X) (d : X) → from ≤ k → k < length xs →
+      set (changing f from k xs) k (f (get_or (changing f from k xs) k d)) ≡ changing f from (suc k) xs
+  changing-next f from k [] d le low = absurd (omega (arith, low))
+  changing-next f zero zero (x ∷ xs) d le low = refl
+  changing-next f zero (suc k) (x ∷ xs) d le low = ap (λ ys. f x ∷ ys) (changing-next f zero k xs d (omega arith) (omega (arith, low)))
+  changing-next f (suc from) zero (x ∷ xs) d le low = absurd (omega (arith, le))
+  changing-next f (suc from) (suc k) (x ∷ xs) d le low = ap (λ ys. x ∷ ys) (changing-next f from k xs d (omega (arith, le)) (omega (arith, low)))
+
+  pub changing-more : (f : X → X) (from k : ℕ) (xs : List X) (d : X) → from ≤ k → k < length xs →
+      set (changing f from k xs) k (f (get_or (changing f from k xs) k d)) ≡ changing f from (k + 1) xs
+  changing-more f from k xs d le low =
+      let next : suc k ≡ k + 1 = omega arith in changing-next f from k xs d le low ∙ ap (λ n. changing f from n xs) next
+
+  pub changing-length : (f : X → X) (from k : ℕ) (xs : List X) → from ≤ k → length (changing f from k xs) ≡ length xs
+  changing-length f zero zero xs le = refl
+  changing-length f zero (suc k) [] le = refl
+  changing-length f zero (suc k) (x ∷ xs) le = ap suc (changing-length f zero k xs (omega arith))
+  changing-length f (suc from) zero xs le = absurd (omega (arith, le))
+  changing-length f (suc from) (suc k) [] le = refl
+  changing-length f (suc from) (suc k) (x ∷ xs) le = ap suc (changing-length f from k xs (omega (arith, le)))
+
+  pub changing-all : (f : X → X) (from k : ℕ) (xs : List X) → length xs ≤ k → changing f from k xs ≡ take from xs ++ map f (drop from xs)
+  changing-all f zero zero [] le = refl
+  changing-all f zero (suc k) [] le = refl
+  changing-all f zero zero (x ∷ xs) le = absurd (omega (arith, le))
+  changing-all f zero (suc k) (x ∷ xs) le = ap (λ ys. f x ∷ ys) (changing-all f zero k xs (omega (arith, le)))
+  changing-all f (suc from) zero [] le = refl
+  changing-all f (suc from) (suc k) [] le = refl
+  changing-all f (suc from) zero (x ∷ xs) le = absurd (omega (arith, le))
+  changing-all f (suc from) (suc k) (x ∷ xs) le = ap (λ ys. x ∷ ys) (changing-all f from k xs (omega (arith, le)))
+
+  pub changing-front : (f : X → X) (from k : ℕ) (xs : List X) → from ≤ k → take from (changing f from k xs) ≡ take from xs
+  changing-front f zero k xs le = refl
+  changing-front f (suc from) zero xs le = absurd (omega (arith, le))
+  changing-front f (suc from) (suc k) [] le = refl
+  changing-front f (suc from) (suc k) (x ∷ xs) le = ap (λ ys. x ∷ ys) (changing-front f from k xs (omega (arith, le)))
+
+  -- one more of the elements that pass a test
+  passing-next : (p : X → Bool) (from k : ℕ) (xs : List X) (d : X) → from ≤ k → k < length xs →
+      filter p (from_to from (suc k) xs) ≡ filter p (from_to from k xs) ++ cond (p (get_or xs k d)) (get_or xs k d ∷ []) []
+  passing-next p zero k xs d le low = let next : suc k ≡ k + 1 = omega arith in ap (λ n. filter p (take n xs)) next ∙ filter_more p xs k d low
+  passing-next p (suc from) zero xs d le low = absurd (omega (arith, le))
+  passing-next p (suc from) (suc k) [] d le low = absurd (omega (arith, low))
+  passing-next p (suc from) (suc k) (x ∷ xs) d le low = passing-next p from k xs d (omega (arith, le)) (omega (arith, low))
+
+  pub passing-more : (p : X → Bool) (from k : ℕ) (xs : List X) (d : X) → from ≤ k → k < length xs →
+      filter p (from_to from (k + 1) xs) ≡ filter p (from_to from k xs) ++ cond (p (get_or xs k d)) (get_or xs k d ∷ []) []
+  passing-more p from k xs d le low =
+      let next : k + 1 ≡ suc k = omega arith in ap (λ n. filter p (from_to from n xs)) next ∙ passing-next p from k xs d le low
+
+  -- up to the same place
+  pub from_to-end : (from to k : ℕ) (xs : List X) → from ≤ k → to ≤ k → k ≤ to ⊎ k ≤ from → from_to from k xs ≡ from_to from to xs
+  from_to-end from to k xs le past (inl within) = let same : k ≡ to = omega (arith, past, within) in ap (λ n. from_to from n xs) same
+  from_to-end from to k xs le past (inr none) =
+      let low : to ≤ from = omega (arith, past, none) in
+      from_to-none from k xs none ∙ sym (from_to-none from to xs low)

@@ -1,0 +1,96 @@
+//! What is done to many rows at once.
+ghost use Rattle.std.specs.Prelude.{◌≡◌, ◌≤◌, ◌<◌, ◌&&◌, ◌++◌, ◌∷◌, [], List, OnOk, OnErr, drop, filter, length, map, take};
+ghost use Rattle.std.specs.List.{list_any};
+ghost use Rattle.sip_ledger.specs.declared.debt.Debt.{Debt};
+ghost use Rattle.sip_ledger.specs.Debts.{counts_at, is_payable, is_timely, paid_by};
+ghost use Rattle.sip_ledger.specs.Ledgers.{rows_of, row_of, from_to};
+
+use crate::debt::Debt;
+use crate::ledger::Ledger;
+use std::alloc::AllocError;
+
+impl Ledger {
+    /// Whether nothing that the row must send is past at the moment.
+    pub fn is_timely(&self, row: usize, moment: u64) -> bool
+        requires { row < length (rows_of self.now) }
+        ensures { result ≡ is_timely moment (row_of self.now row) }
+    {
+        match self.earliest_must(row) {
+            Some(deadline) => moment <= deadline,
+            None => true,
+        }
+    }
+
+    /// Puts a copy of each row from one up to another behind the others, but of those that must send something that is past at the
+    /// moment. On an error all is as before.
+    pub fn push_timely(&mut self, from: usize, to: usize, moment: u64) -> Result<(), AllocError>
+        requires { to ≤ length (rows_of self.old) }
+        ensures ok { OnOk result (rows_of self.new ≡ rows_of self.old ++ filter (is_timely moment) (from_to from to (rows_of self.old))) }
+        ensures err { OnErr result (rows_of self.new ≡ rows_of self.old) }
+    {
+        let before = self.len();
+        for row in from..to {
+            if self.is_timely(row, moment) && self.push_copy(row).is_err() {
+                self.truncate(before);
+                return Err(AllocError);
+            }
+        }
+        Ok(())
+    }
+
+    /// The same, but of those alone that have a debt that a send of the message at the moment pays.
+    pub fn push_payable(
+        &mut self,
+        from: usize,
+        to: usize,
+        message: u32,
+        moment: u64,
+    ) -> Result<(), AllocError>
+        requires { to ≤ length (rows_of self.old) }
+        ensures ok { OnOk result (rows_of self.new ≡ rows_of self.old ++
+            filter (λ owes. list_any (is_payable message moment) owes && is_timely moment owes) (from_to from to (rows_of self.old))) }
+        ensures err { OnErr result (rows_of self.new ≡ rows_of self.old) }
+    {
+        let before = self.len();
+        for row in from..to {
+            if self.can_pay(row, message, moment)
+                && self.is_timely(row, moment)
+                && self.push_copy(row).is_err()
+            {
+                self.truncate(before);
+                return Err(AllocError);
+            }
+        }
+        Ok(())
+    }
+
+    /// Lets each row from one on owe one more debt, behind its others. On an error the rows before them are as they were, and there
+    /// are as many.
+    pub fn gain_each(&mut self, from: usize, debt: Debt) -> Result<(), AllocError>
+        ensures ok { OnOk result (rows_of self.new ≡ take from (rows_of self.old) ++ map (λ owes. owes ++ debt ∷ []) (drop from (rows_of self.old))) }
+        ensures err { OnErr result ((length (rows_of self.new) ≡ length (rows_of self.old)) × (take from (rows_of self.new) ≡ take from (rows_of self.old))) }
+    {
+        for row in from..self.len() {
+            self.gain(row, debt)?;
+        }
+        Ok(())
+    }
+
+    /// Takes out of each row from one on the first debt that a send of the message at the moment pays, if there is one.
+    pub fn pay_each(&mut self, from: usize, message: u32, moment: u64)
+        ensures { rows_of self.new ≡ take from (rows_of self.old) ++ map (paid_by message moment) (drop from (rows_of self.old)) }
+    {
+        for row in from..self.len() {
+            self.pay(row, message, moment);
+        }
+    }
+
+    /// Drops what each row from one on may send and whose deadline is below the moment.
+    pub fn expire_each(&mut self, from: usize, moment: u64)
+        ensures { rows_of self.new ≡ take from (rows_of self.old) ++ map (filter (counts_at moment)) (drop from (rows_of self.old)) }
+    {
+        for row in from..self.len() {
+            self.expire(row, moment);
+        }
+    }
+}

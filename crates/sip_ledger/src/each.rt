@@ -64,14 +64,16 @@ impl Ledger {
         Ok(())
     }
 
-    /// Lets each row from one on owe one more debt, behind its others. On an error the rows before them are as they were, and there
-    /// are as many.
+    /// Lets each row from one on owe one more debt, behind its others. On an error they are gone, and the rows before them are left.
     pub fn gain_each(&mut self, from: usize, debt: Debt) -> Result<(), AllocError>
         ensures ok { OnOk result (rows_of self.new ≡ take from (rows_of self.old) ++ map (λ owes. owes ++ debt ∷ []) (drop from (rows_of self.old))) }
-        ensures err { OnErr result ((length (rows_of self.new) ≡ length (rows_of self.old)) × (take from (rows_of self.new) ≡ take from (rows_of self.old))) }
+        ensures err { OnErr result (rows_of self.new ≡ take from (rows_of self.old)) }
     {
         for row in from..self.len() {
-            self.gain(row, debt)?;
+            if self.gain(row, debt).is_err() {
+                self.truncate(from);
+                return Err(AllocError);
+            }
         }
         Ok(())
     }

@@ -9,14 +9,13 @@ use Rattle.std.proofs.lemmas.Bool.Decides.{nat_tests}
 use Rattle.std.proofs.Math.Seq.{get_or-append_seam}
 use Rattle.std.proofs.lemmas.List.{get_or_append_left, get_or_default, get_or-set_same, set-get_or}
 use Rattle.sip_ledger.specs.declared.debt.Debt.{Debt}
-use Rattle.sip_ledger.specs.Debts.{counts_at, is_payable, IsWithoutFirst as LedgerWithoutFirst}
+use Rattle.sip_ledger.specs.Debts.{counts_at, is_payable, IsWithoutFirst as LedgerWithoutFirst, paid_by}
 use Rattle.sip_ledger.specs.Ledgers.{Table, rows_of, row_of}
 use Rattle.sip_ledger.specs.Prints.{print_of}
 use Rattle.sip_machine.specs.Debts.{IsWithoutFirst}
 use Rattle.sip_machine.specs.Prints.{ArePrints}
 use Rattle.sip_machine.specs.Owes.{owed_in}
 use Rattle.sip_machine.specs.inner.Dues.{rows_in, AreBetween, AreDues}
-use Rattle.sip_machine.specs.inner.Paying.{paid_by}
 
 -- What many states owe.
 

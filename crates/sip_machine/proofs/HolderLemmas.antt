@@ -9,9 +9,9 @@ use Rattle.sip_machine.specs.Owes.{owes_names}
 use Rattle.sip_machine.specs.Texts.{Texts, Keeps}
 use Rattle.sip_machine.specs.inner.Acks.{HasTo, IsOwedTo}
 use Rattle.sip_machine.specs.inner.DebtLaws.{IsWithoutFirst-alike}
-use Rattle.sip_ledger.specs.Debts.{is_payable}
+use Rattle.sip_ledger.specs.Debts.{is_payable, paid_by}
 use Rattle.sip_machine.specs.inner.OwesLaws.{All-names}
-use Rattle.sip_machine.specs.inner.Paying.{FindsFirst, paid_by}
+use Rattle.sip_machine.specs.inner.Paying.{FindsFirst}
 use Rattle.sip_machine.specs.inner.Dues.{AreBetween}
 use Rattle.sip_machine.specs.inner.Tos.{HoldsBetween}
 

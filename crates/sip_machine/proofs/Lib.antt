@@ -15,7 +15,9 @@ pub mod ToLemmas
 pub mod RetainLemmas
 pub mod HolderLemmas
 pub mod DueLemmas
+pub mod DuesEachLemmas
 pub mod RunsLemmas
 pub mod PoolLemmas
+pub mod PoolEachLemmas
 pub mod FirstLemmas
 pub mod SlotsLemmas

@@ -5,14 +5,13 @@ use Rattle.std.proofs.lemmas.Bool.Decides.{nat_tests}
 use Rattle.std.proofs.lemmas.List.Elements.{All-nil, All-head, All-tail, All-append, All-cons, All-replicate}
 use Rattle.sip_ledger.specs.declared.debt.Debt.{Debt}
 use Rattle.sip_ledger.specs.declared.run.Run.{Run}
-use Rattle.sip_ledger.specs.Debts.{is_payable}
+use Rattle.sip_ledger.specs.Debts.{is_payable, paid_by}
 use Rattle.sip_ledger.specs.Runs.{debts_in}
 use Rattle.sip_machine.specs.Texts.{Texts, text_of}
 use Rattle.sip_machine.specs.Debts.{IsWithoutFirst}
 use Rattle.sip_machine.specs.inner.Acks.{HasTo}
 use Rattle.sip_machine.specs.inner.Tos.{IsToOf}
 use Rattle.sip_machine.specs.inner.DebtLaws.{All-front, All-back}
-use Rattle.sip_machine.specs.inner.Paying.{paid_by}
 use Rattle.sip_machine.proofs.DueLemmas.{unpaid-front, without-behind}
 
 -- Debts in runs of equal ones.

@@ -1,14 +1,15 @@
 //! What each of many states owes: a ledger, where any of them owes something.
 ghost use Rattle.std.specs.Prelude.{◌≡◌, ◌↔◌, ◌<◌, ◌≤◌, ◌++◌, ◌∷◌, [], List, IsTrue, IfOk, OnOk, OnErr, None, All, length, set, map, filter, take, drop};
 ghost use Rattle.std.specs.List.{list_any};
-ghost use Rattle.sip_ledger.specs.Debts.{counts_at, softened_debt, is_payable, debt_deadlines};
+ghost use Rattle.sip_ledger.specs.Debts.{counts_at, softened_debt, is_payable, debt_deadlines, paid_by};
 ghost use Rattle.sip_ledger.specs.Ledgers.{rows_of};
 ghost use Rattle.sip_ledger.specs.Runs.{AreRuns};
 ghost use Rattle.sip_machine.specs.Debts.{earliest};
 ghost use Rattle.sip_machine.specs.Owes.{owed_in, owes_names};
 ghost use Rattle.sip_machine.specs.Prints.{ArePrints};
 ghost use Rattle.sip_machine.specs.inner.Dues.{AreBetween, rows_in};
-ghost use Rattle.sip_machine.specs.inner.Paying.{paid_by};
+
+mod each;
 
 use sip_ledger::{Debt, Ledger, Run};
 use std::alloc::{AllocError, Global};

@@ -1,5 +1,5 @@
 //! What an event does to a state, and how it is done to what the state owes.
-ghost use Rattle.std.specs.Prelude.{◌≡◌, ◌<◌, ◌≤◌, OnOk, OnErr, length, set, filter};
+ghost use Rattle.std.specs.Prelude.{◌≡◌, ◌<◌, ◌≤◌, ◌++◌, OnOk, OnErr, drop, length, map, set, filter, take};
 ghost use Rattle.sip_ledger.specs.Debts.{counts_at};
 ghost use Rattle.sip_machine.specs.Times.{last_moment};
 ghost use Rattle.sip_machine.specs.Owes.{owed_in};
@@ -62,6 +62,55 @@ pub(crate) fn lead(
             dues.gain(alloc, row, debt)?;
             dues.expire(row, moment);
         }
+    }
+    Ok(())
+}
+
+/// The same to what each row from one on owes. On an error the rows before them are as before.
+pub(crate) fn lead_each(
+    alloc: Global,
+    params: &Params,
+    moment: u64,
+    change: Change,
+    dues: &mut Dues,
+    from: usize,
+) -> Result<(), AllocError>
+    requires { moment ≤ last_moment }
+    ensures ok { OnOk result (dues.new ≡ take from dues.old ++ map (λ owes. changed_debts params.now moment change (filter (counts_at moment) owes)) (drop from dues.old)) }
+    ensures err { OnErr result (take from dues.new ≡ take from dues.old) }
+{
+    match change {
+        Change::Keeps => dues.expire_each(from, moment),
+        Change::Softens | Change::Drops => lead_rows(alloc, params, moment, change, dues, from)?,
+        Change::Gains { must, message } => {
+            // what is new counts at its own moment
+            let debt = Debt {
+                message,
+                deadline: params.deadline(moment),
+                must,
+            };
+            dues.gain_each(alloc, from, debt)?;
+            dues.expire_each(from, moment);
+        }
+    }
+    Ok(())
+}
+
+/// The same, one by one.
+fn lead_rows(
+    alloc: Global,
+    params: &Params,
+    moment: u64,
+    change: Change,
+    dues: &mut Dues,
+    from: usize,
+) -> Result<(), AllocError>
+    requires { moment ≤ last_moment }
+    ensures ok { OnOk result (dues.new ≡ take from dues.old ++ map (λ owes. changed_debts params.now moment change (filter (counts_at moment) owes)) (drop from dues.old)) }
+    ensures err { OnErr result (take from dues.new ≡ take from dues.old) }
+{
+    for row in from..dues.len() {
+        lead(alloc, params, moment, change, dues, row)?;
     }
     Ok(())
 }

@@ -10,6 +10,8 @@ ghost use Rattle.sip_machine.specs.Prints.{ArePrints};
 ghost use Rattle.sip_machine.specs.inner.Effects.{led_by, rests_at, given_by};
 ghost use Rattle.sip_machine.specs.inner.Pools.{IsRun, hash_by};
 
+mod each;
+
 use crate::dues::Dues;
 use crate::effects::{Effect, Rest, come_to_rest, lead};
 use crate::phases::{Phase, Turn};

@@ -11,8 +11,7 @@ use Rattle.sip_machine.specs.MachineEvent.{MachineEvent}
 use Rattle.sip_machine.specs.Rules.{OrStays}
 use Rattle.sip_machine.specs.Figure.{Figure, Owing, Follows, Repays}
 use Rattle.sip_machine.specs.Owing.{CodeOwing, changed_debts}
-use Rattle.sip_machine.specs.inner.Paying.{paid_by}
-use Rattle.sip_ledger.specs.Debts.{counts_at}
+use Rattle.sip_ledger.specs.Debts.{counts_at, paid_by}
 
 -- What an event does to a state of the code.
 

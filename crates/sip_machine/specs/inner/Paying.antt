@@ -1,6 +1,6 @@
-use Rattle.std.specs.Prelude.{◌≤◌, ℕ, if◌then◌else◌, Option, None, Some, List, [], ◌∷◌, All}
+use Rattle.std.specs.Prelude.{◌≤◌, ℕ, Option, None, Some, List, All}
 use Rattle.sip_ledger.specs.declared.debt.Debt.{Debt}
-use Rattle.sip_ledger.specs.Debts.{is_payable}
+use Rattle.sip_ledger.specs.Debts.{paid_by}
 use Rattle.sip_machine.specs.Texts.{Texts, text_of}
 use Rattle.sip_machine.specs.Debts.{IsWithoutFirst}
 
@@ -9,11 +9,6 @@ use Rattle.sip_machine.specs.Debts.{IsWithoutFirst}
 -- it pays this debt at t: it satisfies its message, and the deadline has not passed
 abbrev pub PaysFor : (List ℕ → Type 0) → Texts → ℕ → Debt → Type 0
 PaysFor Satisfies texts t debt = Satisfies (text_of texts debt.message) × (t ≤ debt.deadline)
-
--- what is owed behind a send of this message at t, which pays the first debt that it can
-abbrev pub paid_by : ℕ → ℕ → List Debt → List Debt
-paid_by message t [] = []
-paid_by message t (debt ∷ debts) = if is_payable message t debt then debts else debt ∷ paid_by message t debts
 
 -- the first debt of which P holds is the first that a send of this message at t pays; none is given if P holds of none
 abbrev pub FindsFirst : (Debt → Type 0) → ℕ → List Debt → Option ℕ → Type 0

@@ -1,0 +1,33 @@
+use Rattle.std.specs.Prelude.{◌≡◌, None}
+use Rattle.std.proofs.Common.{refl, ◌∙◌, ap, subst}
+use Rattle.sip_ledger.specs.Debts.{paid_by}
+use Rattle.sip_ledger.specs.Ledgers.{rows_of}
+use Rattle.sip_machine.specs.inner.Dues.{rows_in, AreDues}
+use Rattle.sip_machine.proofs.DuesEachLemmas.{AreDues-mapped, mapped-none}
+use Rattle.sip_machine.proofs.DueLemmas.{between-paid}
+use Rattle.sip_machine.proofs.dues.Dues.pay_each.Goals as goal
+use Rattle.sip_machine.proofs.dues.Dues.pay_each.Goals.{in-Some, in_default}
+
+pub invariant_of-self : goal.invariant_of-self
+invariant_of-self c =
+    let own = c.self.inside in
+    elim c.match-self.branch [
+      | in-Some w ↦
+          let rows = rows_of w.in-Some.ledger.value in
+          let dues : AreDues rows own.rows own.lowest own.highest = rw w.in-Some.is at c.self.invariant in
+          let clauses = rw w.deref_mut.ensures.value at w.pay_each.ensures in
+          rw w.self-inside-is
+          (rw clauses (AreDues-mapped (paid_by c.args.message c.args.moment) rows own.rows own.lowest own.highest c.args.from (between-paid c.args.message c.args.moment own.lowest own.highest) dues))
+      | in_default w ↦ rw w.self-inside-is c.self.invariant
+    ]
+
+pub returns : goal.returns
+returns c =
+    elim c.match-self.branch [
+      | in-Some w ↦
+          let is : rows_of w.in-Some.ledger.value ≡ c.args.self.now = rw w.in-Some.is at c.self.view_is in
+          rw w.self-inside-is (rw (w.deref_mut.ensures.value, is) at w.pay_each.ensures)
+      | in_default w ↦
+          let is : rows_in c.self.inside.rows None ≡ c.args.self.now = rw w.in_default.is at c.self.view_is in
+          rw (w.self-inside-is, w.in_default.is, ← is) (mapped-none (paid_by c.args.message c.args.moment) c.self.inside.rows c.args.from refl)
+    ]

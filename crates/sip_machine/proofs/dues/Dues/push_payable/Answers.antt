@@ -1,0 +1,26 @@
+use Rattle.std.specs.Prelude.{◌≡◌, ◌≤◌, None, length, ◌&&◌}
+use Rattle.std.proofs.Common.{sym, ◌∙◌, ap, arith, rules, [], ◌+◌, ◌-◌}
+use Rattle.std.specs.List.{list_any}
+use Rattle.sip_ledger.specs.Debts.{is_payable, is_timely}
+use Rattle.std.proofs.lemmas.List.{length-replicate}
+use Rattle.sip_ledger.specs.Ledgers.{rows_of}
+use Rattle.sip_machine.specs.inner.Dues.{rows_in, AreDues}
+use Rattle.sip_machine.proofs.DuesEachLemmas.{AreDues-again, payable-none}
+use Rattle.sip_machine.proofs.dues.Dues.push_payable.Goals as goal
+
+pub invariant_of-self-in-Some : goal.invariant_of-self-in-Some
+invariant_of-self-in-Some c =
+    let own = c.self.inside in
+    let rows = rows_of c.in-Some.ledger.value in
+    let dues : AreDues rows own.rows own.lowest own.highest = rw c.in-Some.is at c.self.invariant in
+    let clauses = rw c.deref_mut.ensures.value at c.in_ok-push_payable.ensures.ok in
+    AreDues-again (λ owes. list_any (is_payable c.args.message c.args.moment) owes && is_timely c.args.moment owes) rows (rows_of c.push_payable.new.self) own.rows c.len-self-inside.result own.lowest own.highest c.args.from c.args.to dues clauses
+    (c.len-self-inside.ensures ∙ ap (λ table. length (rows_of table)) c.deref.ensures)
+
+pub returns-in_default-clause-ok : goal.returns-in_default-clause-ok
+returns-in_default-clause-ok c =
+    let is : rows_in c.self.inside.rows None ≡ c.args.self.now = rw c.in_default.is at c.self.view_is in
+    let count = c.self.inside.rows in
+    let size : length c.args.self.now ≡ count = ap length (sym is) ∙ length-replicate count [] in
+    let le = c.requires in
+    rw (c.in_default.is, ← is) (payable-none c.args.message c.args.moment count c.args.from c.args.to (omega (arith, size, le)))

@@ -1,0 +1,9 @@
+use Rattle.std.specs.Prelude.{◌≡◌, ◌≤◌, filter, length}
+use Rattle.sip_ledger.specs.Debts.{counts_at}
+use Rattle.sip_machine.specs.Owing.{changed_debts}
+use Rattle.sip_ledger.proofs.EachLemmas.{changing}
+use Rattle.sip_machine.proofs.effects.lead_rows.Given as goal
+
+-- the rows so far are led
+abbrev pub invariant-loop-row : goal.invariant-loop-row
+invariant-loop-row l = (l.from ≤ l.row) × (l.dues ≡ changing (λ owes. changed_debts l.params l.moment l.change (filter (counts_at l.moment) owes)) l.from l.row l.initial.dues)

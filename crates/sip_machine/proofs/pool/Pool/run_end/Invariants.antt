@@ -1,0 +1,11 @@
+use Rattle.std.specs.Prelude.{◌≡◌, ◌<◌, ◌≤◌, ◌-◌, All}
+use Rattle.std.specs.List.{HoldsAt}
+use Rattle.sip_ledger.specs.Ledgers.{from_to}
+use Rattle.sip_machine.proofs.pool.Pool.run_end.Given as goal
+
+-- those before it are in the phase of the first
+abbrev pub invariant-loop-end : goal.invariant-loop-end
+invariant-loop-end g l = (l.at < l.end) × (l.end ≤ l.limit) × HoldsAt (λ first. All (λ x. x.phase ≡ first.phase) (from_to l.at l.end l.self)) l.self l.at
+
+abbrev pub decreases-loop-end : goal.decreases-loop-end
+decreases-loop-end g l = l.limit - l.end

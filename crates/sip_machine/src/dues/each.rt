@@ -1,0 +1,121 @@
+//! What many states owe, changed at once.
+ghost use Rattle.std.specs.Prelude.{◌≡◌, ◌≤◌, ◌&&◌, ◌++◌, ◌∷◌, [], List, None, IfOk, OnOk, OnErr, drop, filter, length, map, take};
+ghost use Rattle.std.specs.List.{list_any};
+ghost use Rattle.sip_ledger.specs.declared.debt.Debt.{Debt};
+ghost use Rattle.sip_ledger.specs.Debts.{counts_at, is_payable, is_timely, paid_by};
+ghost use Rattle.sip_ledger.specs.Ledgers.{from_to, rows_of};
+ghost use Rattle.sip_machine.specs.inner.Dues.{rows_in};
+
+use crate::dues::{Dues, blank};
+use sip_ledger::{Debt, Ledger};
+use std::alloc::{AllocError, Global};
+
+impl Dues {
+    /// How many rows there are.
+    pub(crate) fn len(&self) -> usize
+        ensures { result ≡ length self.now }
+    {
+        self.rows
+    }
+
+    /// Puts a copy of each row from one up to another behind the others, but of those that must send something that is past at the
+    /// moment. On an error all is as before.
+    pub(crate) fn push_timely(
+        &mut self,
+        from: usize,
+        to: usize,
+        moment: u64,
+    ) -> Result<(), AllocError>
+        requires { to ≤ length self.old }
+        ensures ok { OnOk result (self.new ≡ self.old ++ filter (is_timely moment) (from_to from to self.old)) }
+        ensures err { OnErr result (self.new ≡ self.old) }
+    {
+        match &mut self.ledger {
+            Some(ledger) => {
+                ledger.push_timely(from, to, moment)?;
+                self.rows = ledger.len();
+            }
+            None => {
+                let more = to.saturating_sub(from);
+                self.rows = self.rows.checked_add(more).ok_or(AllocError)?;
+            }
+        }
+        Ok(())
+    }
+
+    /// The same, but of those alone that have a debt that a send of the message at the moment pays.
+    pub(crate) fn push_payable(
+        &mut self,
+        from: usize,
+        to: usize,
+        message: u32,
+        moment: u64,
+    ) -> Result<(), AllocError>
+        requires { to ≤ length self.old }
+        ensures ok { OnOk result (self.new ≡ self.old ++
+            filter (λ owes. list_any (is_payable message moment) owes && is_timely moment owes) (from_to from to self.old)) }
+        ensures err { OnErr result (self.new ≡ self.old) }
+    {
+        if let Some(ledger) = &mut self.ledger {
+            ledger.push_payable(from, to, message, moment)?;
+            self.rows = ledger.len();
+        }
+        Ok(())
+    }
+
+    /// Lets each row from one on owe one more debt, behind its others. On an error the rows before them are as they were.
+    pub(crate) fn gain_each(
+        &mut self,
+        alloc: Global,
+        from: usize,
+        debt: Debt,
+    ) -> Result<(), AllocError>
+        ensures ok { OnOk result (self.new ≡ take from self.old ++ map (λ owes. owes ++ debt ∷ []) (drop from self.old)) }
+        ensures err { OnErr result (take from self.new ≡ take from self.old) }
+    {
+        match &mut self.ledger {
+            Some(ledger) => {
+                if ledger.gain_each(from, debt).is_err() {
+                    self.rows = self.rows.min(from);
+                    return Err(AllocError);
+                }
+            }
+            None => self.ledger = Some(opened_from(alloc, self.rows, from, debt)?),
+        }
+        self.lowest = self.lowest.min(debt.message);
+        self.highest = self.highest.max(debt.message);
+        Ok(())
+    }
+
+    /// Takes out of each row from one on the first debt that a send of the message at the moment pays, if there is one.
+    pub(crate) fn pay_each(&mut self, from: usize, message: u32, moment: u64)
+        ensures { self.new ≡ take from self.old ++ map (paid_by message moment) (drop from self.old) }
+    {
+        if let Some(ledger) = &mut self.ledger {
+            ledger.pay_each(from, message, moment);
+        }
+    }
+
+    /// Drops what each row from one on may send and whose deadline is below the moment.
+    pub(crate) fn expire_each(&mut self, from: usize, moment: u64)
+        ensures { self.new ≡ take from self.old ++ map (filter (counts_at moment)) (drop from self.old) }
+    {
+        if let Some(ledger) = &mut self.ledger {
+            ledger.expire_each(from, moment);
+        }
+    }
+}
+
+/// A ledger of so many rows, of which each from one on owes a debt and no other owes anything.
+fn opened_from(
+    alloc: Global,
+    rows: usize,
+    from: usize,
+    debt: Debt,
+) -> Result<Box<Ledger>, AllocError>
+    ensures { IfOk result (λ boxed. rows_of boxed.value ≡ take from (rows_in rows None) ++ map (λ owes. owes ++ debt ∷ []) (drop from (rows_in rows None))) }
+{
+    let mut ledger = blank(alloc, rows)?;
+    ledger.gain_each(from, debt)?;
+    Ok(Box::new(alloc, ledger)?)
+}

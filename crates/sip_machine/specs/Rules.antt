@@ -1,4 +1,4 @@
-use Rattle.std.specs.Prelude.{◌≡◌, ◌≢◌, ◌↔◌, ◌⊎◌, ℕ, Option, None, List, All, Contains, AllPairs, map}
+use Rattle.std.specs.Prelude.{◌≡◌, ◌≢◌, ◌↔◌, ◌⊎◌, ℕ, Option, None, List, [], ◌∷◌, All, Contains, AllPairs, map}
 use Rattle.sip_machine.specs.Limits.{IsWithin, IsOpenAt}
 use Rattle.sip_machine.specs.Texts.{Texts, Keeps}
 use Rattle.sip_machine.specs.MachineEvent.{MachineEvent}
@@ -44,3 +44,14 @@ pub record StandFor {X S : Type 0} (names : S → List ℕ) (InRange : S → Typ
   pub distinct : AllPairs (λ x y. x ≢ y) (map (seen texts) xs)
   pub known : All (Knows names texts) xs
   pub in_range : All InRange xs
+
+-- the code's states xs stand for exactly those of which P holds, perhaps more than once; the book keeps what they name
+pub record Covers {X S : Type 0} (names : S → List ℕ) (InRange : S → Type 0) (seen : Texts → S → X) (texts : Texts) (P : X → Type 0) (xs : List S) : Type 0 where
+  pub members : (x : X) → Contains (map (seen texts) xs) x ↔ P x
+  pub known : All (Knows names texts) xs
+  pub in_range : All InRange xs
+
+-- one of the states leads to y
+abbrev pub FromSome : {X S : Type 0} → (S → X → Type 0) → List S → X → Type 0
+FromSome Leads [] y = ⊥
+FromSome Leads (x ∷ xs) y = Leads x y ⊎ FromSome Leads xs y

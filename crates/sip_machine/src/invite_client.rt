@@ -255,6 +255,10 @@ impl Phases for InviteClient {
         first_acked(alloc, book, request, event, dues, row)
     }
 
+    fn pays(&self, _book: &Book, _phase: &InviteClientPhase, _event: &Event) -> Option<u32> {
+        None
+    }
+
     fn stays(&self, _phase: &InviteClientPhase, _kind: Kind) -> bool {
         false
     }

@@ -168,6 +168,19 @@ impl Phases for InviteServer3261 {
         }
     }
 
+    fn pays(&self, book: &Book, _phase: &InviteServer3261Phase, event: &Event) -> Option<u32> {
+        match event.kind() {
+            Kind::Request(_) => None,
+            Kind::Response(code) => {
+                if is_success(code) {
+                    return None;
+                }
+                book.known();
+                Some(event.number())
+            }
+        }
+    }
+
     fn stays(&self, phase: &InviteServer3261Phase, kind: Kind) -> bool {
         let Kind::Response(code) = kind else {
             return false;

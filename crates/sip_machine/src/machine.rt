@@ -1,10 +1,10 @@
 //! What every machine of a transaction (RFC 3261 section 17) offers, and the laws that it keeps.
-ghost use Rattle.std.specs.Prelude.{◌≡◌, ◌<◌, ◌++◌, [], ℕ, List, Option, IfOk, OnOk, OnErr, Contains, length};
+ghost use Rattle.std.specs.Prelude.{◌≡◌, ◌<◌, ◌≤◌, ◌++◌, [], ℕ, List, Option, IfOk, OnOk, OnErr, All, Contains, length, take};
 ghost use Rattle.std.specs.List.{HoldsAt};
 ghost use Rattle.std.specs.Bool.{OnTrue, OnFalse};
 ghost use Rattle.sip_machine.specs.MachineEvent.{FitsBook, event_in};
 ghost use Rattle.sip_machine.specs.Texts.{Texts, IsBook, text_of};
-ghost use Rattle.sip_machine.specs.Rules.{Rules, IsLawful, Knows, StandFor};
+ghost use Rattle.sip_machine.specs.Rules.{Rules, Covers, FromSome, IsLawful, Knows, StandFor};
 ghost use Rattle.sip_machine.specs.Naming.{AppendsAll};
 ghost use Rattle.sip_machine.specs.Owing.{CodeOwing, at_rest};
 
@@ -71,6 +71,24 @@ pub trait Machine: Drop {
             × StandFor names in_range seen book.now
             ((rules self.now).Take (seen book.now x) (event_in book.now event.now)) added)) pool.old at }
         ensures err { OnErr result (pool.new ≡ pool.old) };
+
+    /// Puts behind the others the states that the event gives from the first ones, as many; some may be found more than once. On an
+    /// error some may have been put behind the others.
+    fn successors_each(
+        &self,
+        book: &Book,
+        pool: &mut Pool<Self::Phase>,
+        count: usize,
+        event: &Event,
+    ) -> Result<(), AllocError>
+        requires count { count ≤ length pool.old }
+        requires fits { FitsBook book.now event.now }
+        requires known { All (Knows names book.now) (take count pool.old) }
+        requires in_range { All in_range (take count pool.old) }
+        ensures gives { OnOk result ((added : List (CodeOwing Self.Phase)) × (pool.new ≡ pool.old ++ added)
+            × Covers names in_range seen book.now
+            (FromSome (λ x. (rules self.now).Take (seen book.now x) (event_in book.now event.now)) (take count pool.old)) added) }
+        ensures before { take (length pool.old) pool.new ≡ pool.old };
 
     /// Takes the event where the only state stands, if it gives just one state, and tells whether it did. If it did not, or on
     /// an error, all is as before.

@@ -180,6 +180,10 @@ impl Phases for PlainClient {
         Ok(None)
     }
 
+    fn pays(&self, _book: &Book, _phase: &PlainClientPhase, _event: &Event) -> Option<u32> {
+        None
+    }
+
     fn stays(&self, _phase: &PlainClientPhase, _kind: Kind) -> bool {
         false
     }

@@ -6,11 +6,15 @@ use Rattle.sip_machine.specs.declared.effects.Effect.{Effect}
 use Rattle.sip_machine.specs.declared.effects.Rest.{Rest}
 use Rattle.sip_machine.specs.declared.effects.Rest.TheVariants as resting
 use Rattle.sip_ledger.specs.declared.debt.Debt.{Debt}
+use Rattle.sip_times.specs.declared.action.Action.{Action}
+use Rattle.sip_times.specs.declared.action.Action.TheVariants.{Sent, Received, Failed, Mark, Restart}
 use Rattle.sip_machine.specs.Times.{Times}
+use Rattle.sip_machine.specs.Limits.{IsWithin}
+use Rattle.sip_machine.specs.Texts.{Texts}
 use Rattle.sip_machine.specs.MachineEvent.{MachineEvent}
 use Rattle.sip_machine.specs.Rules.{OrStays}
-use Rattle.sip_machine.specs.Figure.{Figure, Owing, Follows, Repays}
-use Rattle.sip_machine.specs.Owing.{CodeOwing, changed_debts}
+use Rattle.sip_machine.specs.Figure.{Figure, Owing, Follows, Repays, until_of}
+use Rattle.sip_machine.specs.Owing.{CodeOwing, changed_debts, owing_seen}
 use Rattle.sip_ledger.specs.Debts.{counts_at, paid_by}
 
 -- What an event does to a state of the code.
@@ -52,3 +56,21 @@ quiets phase = record { turn = Some (record { phase = phase; change = code.Drops
 -- the states that the effect of an event at t gives
 abbrev pub given_by : {S : Type 0} → Times → ℕ → CodeOwing S → Effect S → Option (CodeOwing S) × Option (CodeOwing S)
 given_by p t x effect = (option_map (λ turn. led_by p t turn x) effect.turn, option_map (λ rest. rests_at t rest x) effect.rest)
+
+-- the states to which the row of an event leads, by what was done with its message: where it was received, those of the phase that has none too
+abbrev pub Leads : {X : Type 0} → Figure X → Times → Action → MachineEvent → Owing X → Owing X → Type 0
+Leads f p Received e x y = Hears f p e x y
+Leads f p Sent e x y = Follows (f.Sends p x.phase e.kind e) p e x y
+Leads f p Failed e x y = ⊥
+Leads f p Mark e x y = ⊥
+Leads f p Restart e x y = ⊥
+
+-- the same of a state of the code that has lasted until the event
+abbrev pub LeadsFrom : {X S : Type 0} → Figure X → Times → (Texts → S → X) → Texts → MachineEvent → CodeOwing S → Owing X → Type 0
+LeadsFrom f p seen texts e x y =
+    IsWithin e.moment (until_of f p (owing_seen seen texts x)) × Leads f p e.action e (owing_seen seen texts (unexpired_at e.moment x)) y
+
+-- and those to which a sent message leads that leaves the phase as it is
+abbrev pub RestsFrom : {X S : Type 0} → Figure X → Times → (Texts → S → X) → Texts → MachineEvent → CodeOwing S → Owing X → Type 0
+RestsFrom f p seen texts e x y =
+    IsWithin e.moment (until_of f p (owing_seen seen texts x)) × Rests f e (owing_seen seen texts (unexpired_at e.moment x)) y

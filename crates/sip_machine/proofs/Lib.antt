@@ -1,4 +1,5 @@
 pub mod OwingSteps
+pub mod OwingEachLemmas
 pub mod RepliesLemmas
 pub mod Rows3261
 pub mod RuleLaws
@@ -19,5 +20,6 @@ pub mod DuesEachLemmas
 pub mod RunsLemmas
 pub mod PoolLemmas
 pub mod PoolEachLemmas
+pub mod CoversLemmas
 pub mod FirstLemmas
 pub mod SlotsLemmas

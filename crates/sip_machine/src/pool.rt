@@ -372,7 +372,12 @@ impl<P: Phase> Pool<P> {
     }
 
     /// Puts a copy of the state at the index behind the others that comes to rest, if it does. On an error all is as before.
-    pub(crate) fn push_rested(&mut self, moment: u64, at: usize, rest: Option<Rest>) -> Result<(), AllocError>
+    pub(crate) fn push_rested(
+        &mut self,
+        moment: u64,
+        at: usize,
+        rest: Option<Rest>,
+    ) -> Result<(), AllocError>
         requires { at < length self.old }
         ensures ok { HoldsAt (λ x. OnOk result (self.new ≡ self.old ++ option_to_list (option_map (λ rest. rests_at moment rest x) rest))) self.old at }
         ensures err { OnErr result (self.new ≡ self.old) }

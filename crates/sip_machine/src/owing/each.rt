@@ -231,12 +231,13 @@ fn rests_run<M: Phases>(
     if is_past(event.moment(), machine.closes(&phase)) {
         return Ok(());
     }
-    if !machine.stays(&phase, event.kind()) {
-        if let Some(message) = machine.pays(book, &phase, event) {
-            return pool.push_paid_each(event.moment(), from, to, message);
-        }
+    if machine.stays(&phase, event.kind()) {
+        return rests_rows(machine, book, pool, from, to, event);
     }
-    rests_rows(machine, book, pool, from, to, event)
+    match machine.pays(book, &phase, event) {
+        Some(message) => pool.push_paid_each(event.moment(), from, to, message),
+        None => rests_rows(machine, book, pool, from, to, event),
+    }
 }
 
 /// The same, one by one.

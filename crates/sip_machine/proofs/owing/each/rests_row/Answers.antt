@@ -1,0 +1,95 @@
+use Rattle.std.specs.Prelude.{◌≡◌, ◌<◌, ◌≤◌, ◌&&◌, ◌++◌, ◌⊎◌, [], List, All, filter, get_or, length, map, option_to_list, take}
+use Rattle.std.specs.Option.{option_map}
+use Rattle.std.specs.List.{list_any}
+use Rattle.std.proofs.Common.{sym, ◌∙◌, ap, refl, subst, arith, append-nil, append_assoc, true≢false}
+use Rattle.std.proofs.lemmas.Result.{on_ok_weaker}
+use Rattle.std.proofs.lemmas.List.Elements.{All-weaker}
+use Rattle.sip_ledger.specs.Debts.{is_payable, is_timely}
+use Rattle.sip_ledger.specs.Ledgers.{from_to}
+use Rattle.sip_machine.specs.Texts.{Keeps}
+use Rattle.sip_machine.specs.MachineEvent.{event_in}
+use Rattle.sip_machine.specs.Owes.{owes_names}
+use Rattle.sip_machine.specs.Owing.{CodeOwing, at_rest, owing_seen, owing_names, OwingInRange}
+use Rattle.sip_machine.specs.Rules.{Covers, FromSome, Knows}
+use Rattle.sip_machine.specs.Limits.{IsWithin}
+use Rattle.sip_machine.specs.Figure.{until_of}
+use Rattle.sip_machine.specs.inner.Single.{AnswersOne}
+use Rattle.sip_machine.specs.inner.DebtLaws.{All-front}
+use Rattle.sip_machine.specs.inner.Effects.{Leads, LeadsFrom, Rests, RestsFrom, led_by, repaid_at, rests_at, unexpired_at}
+use Rattle.sip_machine.proofs.PoolLemmas.{in-phases, in-rows, state-at, state-here, take-old}
+use Rattle.sip_machine.proofs.CoversLemmas.{Covers-none, Covers-one, before-either}
+use Rattle.sip_machine.proofs.OwingEachLemmas.{lasting-answers}
+use Rattle.sip_machine.proofs.owing.each.rests_row.Goals as goal
+
+pub index-requires : goal.index-requires
+index-requires g c =
+    subst (λ n. c.args.at < n) (sym c.pool.inside.phases.ok.0) (in-phases c.pool.inside.phases.items c.pool.inside.dues c.args.pool.now c.args.at c.pool.view_is c.requires.at)
+
+pub until-requires-clause-row : goal.until-requires-clause-row
+until-requires-clause-row g c = in-rows c.pool.inside.phases.items c.pool.inside.dues c.args.pool.now c.args.at c.pool.view_is c.pool.invariant c.requires.at
+
+pub until-requires-clause-in_range : goal.until-requires-clause-in_range
+until-requires-clause-in_range g c =
+    let m = g.M.Phases in
+    let texts = c.args.book.now in
+    let p = c.index.result.now in
+    let d = at_rest p in
+    let here = state-here c.pool.inside.phases.items c.pool.inside.dues c.args.pool.now c.args.at p d c.pool.view_is c.requires.at c.index.ensures in
+    subst (OwingInRange m.in_range) (sym here) (c.requires.in_range d)
+
+pub rests-requires-clause-row : goal.rests-requires-clause-row
+rests-requires-clause-row g c = in-rows c.pool.inside.phases.items c.pool.inside.dues c.args.pool.now c.args.at c.pool.view_is c.pool.invariant c.requires.at
+
+pub rests-requires-clause-known : goal.rests-requires-clause-known
+rests-requires-clause-known g c =
+    let m = g.M.Phases in
+    let texts = c.args.book.now in
+    let p = c.index.result.now in
+    let d = at_rest p in
+    let here = state-here c.pool.inside.phases.items c.pool.inside.dues c.args.pool.now c.args.at p d c.pool.view_is c.requires.at c.index.ensures in
+    subst (Knows (owing_names m.names) texts) (sym here) (c.requires.known d)
+
+pub rests-requires-clause-in_range : goal.rests-requires-clause-in_range
+rests-requires-clause-in_range g c =
+    let m = g.M.Phases in
+    let texts = c.args.book.now in
+    let p = c.index.result.now in
+    let d = at_rest p in
+    let here = state-here c.pool.inside.phases.items c.pool.inside.dues c.args.pool.now c.args.at p d c.pool.view_is c.requires.at c.index.ensures in
+    subst (OwingInRange m.in_range) (sym here) (c.requires.in_range d)
+
+pub returns-then-is_past-clause-gives : goal.returns-then-is_past-clause-gives
+returns-then-is_past-clause-gives g c = λ d.
+    let m = g.M.Phases in
+    let texts = c.args.book.now in
+    let p = m.times c.args.machine.now in
+    let e = event_in texts c.args.event.now in
+    let x = get_or c.args.pool.now c.args.at d in
+    let here = state-here c.pool.inside.phases.items c.pool.inside.dues c.args.pool.now c.args.at c.index.result.now d c.pool.view_is c.requires.at c.index.ensures in
+    let past = subst (λ x. ¬ (IsWithin e.moment (until_of m.figure p (owing_seen m.seen texts x)))) here (rw (c.moment.ensures, c.until.ensures texts) at c.if-is_past.ensures) in
+    ([], sym (append-nil c.args.pool.now), Covers-none (owing_names m.names) (OwingInRange m.in_range) (owing_seen m.seen) texts (RestsFrom m.figure p m.seen texts e x) (λ y h. past h.0))
+
+pub returns-clause-gives : goal.returns-clause-gives
+returns-clause-gives g c = λ d.
+    let m = g.M.Phases in
+    let texts = c.args.book.now in
+    let p = m.times c.args.machine.now in
+    let e = event_in texts c.args.event.now in
+    let x = get_or c.args.pool.now c.args.at d in
+    let here = state-here c.pool.inside.phases.items c.pool.inside.dues c.args.pool.now c.args.at c.index.result.now d c.pool.view_is c.requires.at c.index.ensures in
+    let within = subst (λ x. IsWithin e.moment (until_of m.figure p (owing_seen m.seen texts x))) here (rw (c.moment.ensures, c.until.ensures texts) at c.if-is_past.ensures) in
+    let rested = option_map (λ rest. rests_at e.moment rest x) c.in_ok-rest.rest in
+    let one = subst (λ x. AnswersOne (owing_names m.names) (OwingInRange m.in_range) (owing_seen m.seen) texts
+    (Rests m.figure e (owing_seen m.seen texts (unexpired_at e.moment x))) (option_map (λ rest. rests_at e.moment rest x) c.in_ok-rest.rest)) here c.in_ok-rest.ensures.gives in
+    let covers = Covers-one (owing_names m.names) (OwingInRange m.in_range) (owing_seen m.seen) texts (RestsFrom m.figure p m.seen texts e x) rested
+    (lasting-answers m.figure p m.seen m.names m.in_range texts e.moment x (Rests m.figure e (owing_seen m.seen texts (unexpired_at e.moment x))) rested within one) in
+    on_ok_weaker c.push_rested.result (λ (is : c.push_rested.new.self ≡ c.args.pool.now ++ option_to_list rested). (option_to_list rested, is, covers))
+    (rw (c.in_ok-rest.ensures.same, c.pool.view_is, c.moment-2.ensures) at c.push_rested.ensures.ok d)
+
+pub returns-clause-before : goal.returns-clause-before
+returns-clause-before g c =
+    let d = at_rest c.index.result.now in
+    let rested = option_to_list (option_map (λ rest. rests_at c.args.event.now.moment rest (get_or c.args.pool.now c.args.at d)) c.in_ok-rest.rest) in
+    before-either c.push_rested.result c.args.pool.now rested c.push_rested.new.self
+    (rw (c.in_ok-rest.ensures.same, c.pool.view_is, c.moment-2.ensures) at c.push_rested.ensures.ok d)
+    (rw (c.in_ok-rest.ensures.same, c.pool.view_is) at c.push_rested.ensures.err)

@@ -1,0 +1,66 @@
+use Rattle.std.specs.Prelude.{◌≡◌, ◌<◌, ◌≤◌, ◌++◌, ◌+◌, ◌-◌, ◌∷◌, [], List, All, get_or, length, take}
+use Rattle.std.proofs.Common.{sym, ◌∙◌, ap, subst, arith, refl, length-drop}
+use Rattle.std.proofs.lemmas.List.{get_or_append_left, length-take-le}
+use Rattle.sip_ledger.specs.Ledgers.{from_to}
+use Rattle.sip_ledger.proofs.EachLemmas.{from_to-none}
+use Rattle.sip_machine.specs.MachineEvent.{event_in}
+use Rattle.sip_machine.specs.Owing.{CodeOwing, owing_seen, owing_names, OwingInRange}
+use Rattle.sip_machine.specs.Rules.{Covers, FromSome, Knows}
+use Rattle.sip_machine.specs.inner.Effects.{RestsFrom}
+use Rattle.sip_machine.proofs.CoversLemmas.{HasFound, found-none, found-more, Covers-alone, slice-at, before-more}
+use Rattle.sip_machine.proofs.PoolLemmas.{some-at}
+use Rattle.sip_machine.proofs.PoolEachLemmas.{from_to-more}
+use Rattle.sip_machine.proofs.owing.each.rests_rows.Goals as goal
+
+pub loop-at-init : goal.loop-at-init
+loop-at-init g c =
+    let m = g.M.Phases in
+    let texts = c.args.book.now in
+    let e = event_in texts c.args.event.now in
+    let order = c.requires.from in
+    let P = RestsFrom m.figure (m.times c.args.machine.now) m.seen texts e in (
+      omega arith,
+      omega (arith, order),
+      subst (λ xs. HasFound (owing_names m.names) (OwingInRange m.in_range) (owing_seen m.seen) texts P xs c.args.pool.now c.args.pool.now) (sym (from_to-none c.args.from c.args.from c.args.pool.now (omega arith)))
+          (found-none (owing_names m.names) (OwingInRange m.in_range) (owing_seen m.seen) texts P c.args.pool.now),
+    )
+
+pub rests_row-requires-clause-known : goal.rests_row-requires-clause-known
+rests_row-requires-clause-known g c = λ d.
+    let (from_le, to_le, (found, is, covers)) = c.loop-at.invariant in
+    let below = c.loop-at-test.true in
+    slice-at (Knows (owing_names g.M.Phases.names) c.args.book.now) c.args.from c.args.to c.loop-at.at c.args.pool.now found c.loop-at.pool d is from_le below c.requires.to c.requires.known
+
+pub rests_row-requires-clause-in_range : goal.rests_row-requires-clause-in_range
+rests_row-requires-clause-in_range g c = λ d.
+    let (from_le, to_le, (found, is, covers)) = c.loop-at.invariant in
+    let below = c.loop-at-test.true in
+    slice-at (OwingInRange g.M.Phases.in_range) c.args.from c.args.to c.loop-at.at c.args.pool.now found c.loop-at.pool d is from_le below c.requires.to c.requires.in_range
+
+pub returns-in_err-rests_row-clause-before : goal.returns-in_err-rests_row-clause-before
+returns-in_err-rests_row-clause-before g c =
+    let (from_le, to_le, (found, is, covers)) = c.loop-at.invariant in
+    before-more c.args.pool.now c.loop-at.pool c.rests_row.new.pool found is c.rests_row.ensures.before
+
+pub loop-at-preserved : goal.loop-at-preserved
+loop-at-preserved g c =
+    let m = g.M.Phases in
+    let texts = c.args.book.now in
+    let e = event_in texts c.args.event.now in
+    let P = RestsFrom m.figure (m.times c.args.machine.now) m.seen texts e in
+    let old = c.args.pool.now in
+    let at = c.loop-at.at in
+    let (from_le, to_le, (found, is, covers)) = c.loop-at.invariant in
+    let below = c.loop-at-test.true in
+    let le = c.requires.to in
+    let low : at < length old = omega (arith, below, le) in
+    let d = some-at old at low in
+    let x = get_or old at d in
+    let here : get_or c.loop-at.pool at d ≡ x = ap (λ ys. get_or ys at d) is ∙ get_or_append_left old found d at low in
+    let (added, new_is, gives) = c.in_ok-rests_row.ensures.gives d in
+    let covers_more = subst (λ s. Covers (owing_names m.names) (OwingInRange m.in_range) (owing_seen m.seen) texts (P s) added) here gives in (
+      omega (arith, from_le),
+      omega (arith, below),
+      found-more (owing_names m.names) (OwingInRange m.in_range) (owing_seen m.seen) texts P (from_to c.args.from at old) (x ∷ []) (from_to c.args.from (at + 1) old) old c.loop-at.pool c.rests_row.new.pool added
+          (from_to-more c.args.from at old d from_le low) (found, is, covers) new_is (Covers-alone (owing_names m.names) (OwingInRange m.in_range) (owing_seen m.seen) texts P x added covers_more),
+    )

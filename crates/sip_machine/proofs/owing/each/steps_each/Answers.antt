@@ -1,0 +1,57 @@
+use Rattle.std.specs.Prelude.{◌≡◌, ◌<◌, ◌≤◌, ◌+◌, ◌∷◌, [], All, get_or, length, take}
+use Rattle.std.proofs.Common.{sym, ◌∙◌, ap, subst, arith}
+use Rattle.std.proofs.lemmas.List.{get_or_append_left, length-take-le, take_all, take_more}
+use Rattle.sip_machine.specs.MachineEvent.{event_in}
+use Rattle.sip_machine.specs.Rules.{FromSome, Knows, StandFor}
+use Rattle.sip_machine.specs.Figure.{TakeOf}
+use Rattle.sip_machine.specs.Owing.{CodeOwing, owing_seen, owing_names, OwingInRange}
+use Rattle.sip_machine.proofs.CoversLemmas.{HasFound, found-none, found-more, Covers-alone, Covers-stood, slice-at}
+use Rattle.sip_machine.proofs.PoolLemmas.{some-at}
+use Rattle.sip_machine.proofs.owing.each.steps_each.Goals as goal
+
+pub loop-at-init : goal.loop-at-init
+loop-at-init g c =
+    let m = g.M.Phases in
+    let texts = c.args.book.now in
+    found-none (owing_names m.names) (OwingInRange m.in_range) (owing_seen m.seen) texts
+    (λ x. TakeOf m.figure (m.times c.args.machine.now) (owing_seen m.seen texts x) (event_in texts c.args.event.now)) c.args.pool.now
+
+pub successors-requires-clause-known : goal.successors-requires-clause-known
+successors-requires-clause-known g c = λ d.
+    let (found, is, covers) = c.loop-at.invariant in
+    slice-at (Knows (owing_names g.M.Phases.names) c.args.book.now) 0 c.args.count c.loop-at.at c.args.pool.now found c.loop-at.pool d is (omega arith) c.loop-at-test.true c.requires.count c.requires.known
+
+pub successors-requires-clause-in_range : goal.successors-requires-clause-in_range
+successors-requires-clause-in_range g c = λ d.
+    let (found, is, covers) = c.loop-at.invariant in
+    slice-at (OwingInRange g.M.Phases.in_range) 0 c.args.count c.loop-at.at c.args.pool.now found c.loop-at.pool d is (omega arith) c.loop-at-test.true c.requires.count c.requires.in_range
+
+pub loop-at-preserved : goal.loop-at-preserved
+loop-at-preserved g c =
+    let m = g.M.Phases in
+    let texts = c.args.book.now in
+    let e = event_in texts c.args.event.now in
+    let P = λ (x : CodeOwing g.row.M-Phase.Denot). TakeOf m.figure (m.times c.args.machine.now) (owing_seen m.seen texts x) e in
+    let old = c.args.pool.now in
+    let at = c.loop-at.at in
+    let (found, is, covers) = c.loop-at.invariant in
+    let below = c.loop-at-test.true in
+    let le = c.requires.count in
+    let low : at < length old = omega (arith, below, le) in
+    let d = some-at old at low in
+    let x = get_or old at d in
+    let here : get_or c.loop-at.pool at d ≡ x = ap (λ ys. get_or ys at d) is ∙ get_or_append_left old found d at low in
+    let (added, new_is, gives) = c.in_ok-successors.ensures.ok d in
+    let stands = subst (λ s. StandFor (owing_names m.names) (OwingInRange m.in_range) (owing_seen m.seen) texts (P s) added) here gives in
+    found-more (owing_names m.names) (OwingInRange m.in_range) (owing_seen m.seen) texts P (take at old) (x ∷ []) (take (at + 1) old) old c.loop-at.pool c.successors.new.pool added
+    (take_more old at d low) (found, is, covers) new_is
+    (Covers-alone (owing_names m.names) (OwingInRange m.in_range) (owing_seen m.seen) texts P x added (Covers-stood (owing_names m.names) (OwingInRange m.in_range) (owing_seen m.seen) texts (P x) added stands))
+
+pub returns-clause-gives : goal.returns-clause-gives
+returns-clause-gives g c =
+    let m = g.M.Phases in
+    let texts = c.args.book.now in
+    let at = c.loop-at.at in
+    let all : at ≡ c.args.count = omega arith in
+    subst (λ n. HasFound (owing_names m.names) (OwingInRange m.in_range) (owing_seen m.seen) texts
+    (λ x. TakeOf m.figure (m.times c.args.machine.now) (owing_seen m.seen texts x) (event_in texts c.args.event.now)) (take n c.args.pool.now) c.args.pool.now c.loop-at.pool) all c.loop-at.invariant

@@ -1,0 +1,12 @@
+use Rattle.std.specs.Prelude.{◌≤◌, take}
+use Rattle.sip_machine.specs.MachineEvent.{event_in}
+use Rattle.sip_machine.specs.Figure.{TakeOf}
+use Rattle.sip_machine.specs.Owing.{owing_seen, owing_names, OwingInRange}
+use Rattle.sip_machine.proofs.CoversLemmas.{HasFound}
+use Rattle.sip_machine.proofs.owing.each.steps_each.Given as goal
+
+-- what the states so far give was found
+abbrev pub invariant-loop-at : goal.invariant-loop-at
+invariant-loop-at g l =
+    HasFound (owing_names g.M.Phases.names) (OwingInRange g.M.Phases.in_range) (owing_seen g.M.Phases.seen) l.book
+    (λ x. TakeOf g.M.Phases.figure (g.M.Phases.times l.machine) (owing_seen g.M.Phases.seen l.book x) (event_in l.book l.event)) (take l.at l.initial.pool) l.initial.pool l.pool

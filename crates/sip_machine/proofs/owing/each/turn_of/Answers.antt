@@ -1,0 +1,24 @@
+use Rattle.std.proofs.Common.{sym}
+use Rattle.std.proofs.lemmas.Result.{IfOk-weaker}
+use Rattle.sip_machine.specs.MachineEvent.{event_in}
+use Rattle.sip_machine.proofs.OwingEachLemmas.{leads-received, leads-sent}
+use Rattle.sip_machine.proofs.owing.each.turn_of.Goals as goal
+
+pub returns-in_ok-turn-in-Received : goal.returns-in_ok-turn-in-Received
+returns-in_ok-turn-in-Received g c = λ owes known fits.
+    let m = g.M.Phases in
+    let texts = c.args.book.now in
+    rw c.unwrap_or.ensures
+    (leads-received m.figure (m.times c.args.machine.now) m.seen m.names m.in_range texts c.args.event.now.action (event_in texts c.args.event.now)
+    (record { phase = c.args.phase.now; owes = owes }) c.in_ok-turn-in-Received.turn c.in-Received.ensures c.in_ok-turn-in-Received.ensures known fits
+    (rw (c.params.ensures, c.moment.ensures) at c.due_within_limits.ensures))
+
+pub returns-in-Sent : goal.returns-in-Sent
+returns-in-Sent g c =
+    let m = g.M.Phases in
+    let texts = c.args.book.now in
+    IfOk-weaker c.sends.result _ _
+    (λ turn one. λ owes known fits.
+    leads-sent m.figure (m.times c.args.machine.now) m.seen m.names m.in_range texts c.args.event.now.action (event_in texts c.args.event.now)
+    (record { phase = c.args.phase.now; owes = owes }) turn c.in-Sent.ensures one known fits (rw (c.params.ensures, c.moment.ensures) at c.due_within_limits.ensures))
+    c.sends.ensures

@@ -1,6 +1,6 @@
 -- Lists of which each element from one on changes, or behind which some of them come once more.
 use Prim.Native.Nat.{suc, zero}
-use Rattle.std.proofs.Common.{Result, Ok, Err, OnErr, ◌≡◌, ◌<◌, ◌≤◌, ◌⊎◌, inl, inr, ℕ, ◌+◌, Bool, List, [], ◌∷◌, ◌++◌, length, drop, take, get_or, set, map, filter, refl, ap, sym, ◌∙◌, arith, cond}
+use Rattle.std.proofs.Common.{Result, Ok, Err, OnErr, ◌≡◌, ◌<◌, ◌≤◌, ◌⊎◌, inl, inr, ℕ, ◌+◌, Bool, List, [], ◌∷◌, ◌++◌, length, drop, take, get_or, set, map, filter, refl, ap, ap₂, sym, ◌∙◌, arith, cond}
 use Rattle.std.proofs.lemmas.List.Elements.{filter_more}
 use Rattle.sip_ledger.specs.Ledgers.{from_to}
 
@@ -63,6 +63,13 @@ module _ {X : Type 0} where
   changing-front f (suc from) zero xs le = absurd (omega (arith, le))
   changing-front f (suc from) (suc k) [] le = refl
   changing-front f (suc from) (suc k) (x ∷ xs) le = ap (λ ys. x ∷ ys) (changing-front f from k xs (omega (arith, le)))
+
+  -- a change that changes none of the elements
+  pub unchanged-each : (f : X → X) (from : ℕ) (xs : List X) → ((k : ℕ) (d : X) → k < length xs → f (get_or xs k d) ≡ get_or xs k d) → xs ≡ take from xs ++ map f (drop from xs)
+  unchanged-each f zero [] each = refl
+  unchanged-each f zero (x ∷ xs) each = ap₂ (λ y ys. y ∷ ys) (sym (each 0 x (omega arith))) (unchanged-each f zero xs (λ k d below. each (suc k) d (omega (arith, below))))
+  unchanged-each f (suc from) [] each = refl
+  unchanged-each f (suc from) (x ∷ xs) each = ap (λ ys. x ∷ ys) (unchanged-each f from xs (λ k d below. each (suc k) d (omega (arith, below))))
 
   -- one more of the elements that pass a test
   passing-next : (p : X → Bool) (from k : ℕ) (xs : List X) (d : X) → from ≤ k → k < length xs →

@@ -86,7 +86,19 @@ impl Ledger {
     }
 
     /// Drops what each row from one on may send and whose deadline is below the moment.
+    #[tactic(auto, unfolding(crate::specs::Ledgers::rows_of))]
     pub fn expire_each(&mut self, from: usize, moment: u64)
+        ensures { rows_of self.new ≡ take from (rows_of self.old) ++ map (filter (counts_at moment)) (drop from (rows_of self.old)) }
+    {
+        match &self.long {
+            Some(_) => self.expire_each_of_long(from, moment),
+            None => self.rows.expire_each(from, moment),
+        }
+    }
+
+    /// The same where there may be a long row.
+    #[inline(never)]
+    fn expire_each_of_long(&mut self, from: usize, moment: u64)
         ensures { rows_of self.new ≡ take from (rows_of self.old) ++ map (filter (counts_at moment)) (drop from (rows_of self.old)) }
     {
         for row in from..self.len() {

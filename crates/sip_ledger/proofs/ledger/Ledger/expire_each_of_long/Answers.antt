@@ -3,7 +3,7 @@ use Rattle.std.specs.Prelude.{◌<◌, length, filter}
 use Rattle.sip_ledger.specs.Debts.{counts_at}
 use Rattle.sip_ledger.specs.Ledgers.{rows_of}
 use Rattle.sip_ledger.proofs.EachLemmas.{changing-none, changing-more, changing-all, changing-length}
-use Rattle.sip_ledger.proofs.ledger.Ledger.expire_each.Goals as goal
+use Rattle.sip_ledger.proofs.ledger.Ledger.expire_each_of_long.Goals as goal
 
 pub loop-row-init : goal.loop-row-init
 loop-row-init c = (omega arith, sym (changing-none (filter (counts_at c.args.moment)) c.args.from (rows_of c.args.self.now)))

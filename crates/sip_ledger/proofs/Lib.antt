@@ -13,3 +13,4 @@ pub mod WordsLemmas
 pub mod MemoLemmas
 pub mod WordLemmas
 pub mod WordRowLemmas
+pub mod MarkLemmas

@@ -23,7 +23,21 @@ impl Ledger {
 
     /// Puts a copy of each row from one up to another behind the others, but of those that must send something that is past at the
     /// moment. On an error all is as before.
+    #[tactic(auto, unfolding(crate::specs::Ledgers::rows_of))]
     pub fn push_timely(&mut self, from: usize, to: usize, moment: u64) -> Result<(), AllocError>
+        requires { to ≤ length (rows_of self.old) }
+        ensures ok { OnOk result (rows_of self.new ≡ rows_of self.old ++ filter (is_timely moment) (from_to from to (rows_of self.old))) }
+        ensures err { OnErr result (rows_of self.new ≡ rows_of self.old) }
+    {
+        if self.long.is_none() {
+            return self.rows.push_timely(from, to, moment);
+        }
+        self.push_timely_of_long(from, to, moment)
+    }
+
+    /// The same where there may be a long row.
+    #[inline(never)]
+    fn push_timely_of_long(&mut self, from: usize, to: usize, moment: u64) -> Result<(), AllocError>
         requires { to ≤ length (rows_of self.old) }
         ensures ok { OnOk result (rows_of self.new ≡ rows_of self.old ++ filter (is_timely moment) (from_to from to (rows_of self.old))) }
         ensures err { OnErr result (rows_of self.new ≡ rows_of self.old) }

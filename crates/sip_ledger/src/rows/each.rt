@@ -1,11 +1,17 @@
 //! What is done to many rows over one list of entries at once. Where one word has all entries, what is asked of them is asked once
 //! for all rows.
-ghost use Rattle.std.specs.Prelude.{◌≡◌, ◌++◌, filter, map, take, drop};
-ghost use Rattle.sip_ledger.specs.Debts.{counts_at};
-ghost use Rattle.sip_ledger.specs.Grids.{grid_rows};
+ghost use Rattle.std.specs.Prelude.{◌≡◌, ◌≤◌, ◌<◌, ◌+◌, ◌-◌, ◌++◌, List, Bool, OnOk, OnErr, length, filter, map, take, drop};
+ghost use Rattle.std.specs.Vec.{vec_len, vec_capacity};
+ghost use Rattle.sip_ledger.specs.declared.debt.Debt.{Debt};
+ghost use Rattle.sip_ledger.specs.declared.debt.Entry.{Entry};
+ghost use Rattle.sip_ledger.specs.Debts.{counts_at, is_timely};
+ghost use Rattle.sip_ledger.specs.Grids.{grid_of, grid_rows, grid_row, IsGrid};
+ghost use Rattle.sip_ledger.specs.Ledgers.{from_to};
+ghost use Rattle.sip_ledger.specs.inner.Marks.{is_marked, IsTold, ArePut};
 
 use crate::row;
 use crate::rows::Rows;
+use std::alloc::AllocError;
 
 impl Rows {
     /// Drops what each row from one on may send and whose deadline is below the moment.
@@ -41,6 +47,116 @@ impl Rows {
             if !row::keeps_past(self.owed[row], self.must[row], bits) {
                 self.expire(row, moment);
             }
+        }
+    }
+
+    /// Puts a copy of each row from one up to another behind the others, but of those that must send something that is past at the
+    /// moment. On an error all is as before.
+    pub(crate) fn push_timely(
+        &mut self,
+        from: usize,
+        to: usize,
+        moment: u64,
+    ) -> Result<(), AllocError>
+        requires { to ≤ length (grid_rows self.old) }
+        ensures ok { OnOk result (grid_rows self.new ≡ grid_rows self.old ++ filter (is_timely moment) (from_to from to (grid_rows self.old))) }
+        ensures err { OnErr result (grid_rows self.new ≡ grid_rows self.old) }
+    {
+        if self.width == 1 {
+            let past = self.past_bits(moment);
+            self.push_marked(from, to, None, past)
+        } else {
+            self.push_timely_rows(from, to, moment)
+        }
+    }
+
+    /// The same row by row.
+    fn push_timely_rows(&mut self, from: usize, to: usize, moment: u64) -> Result<(), AllocError>
+        requires { to ≤ length (grid_rows self.old) }
+        ensures ok { OnOk result (grid_rows self.new ≡ grid_rows self.old ++ filter (is_timely moment) (from_to from to (grid_rows self.old))) }
+        ensures err { OnErr result (grid_rows self.new ≡ grid_rows self.old) }
+    {
+        let before = self.len();
+        for row in from..to {
+            if self.is_timely(row, moment) && self.push_copy(row).is_err() {
+                self.truncate(before);
+                return Err(AllocError);
+            }
+        }
+        Ok(())
+    }
+
+    /// Whether nothing that the row must send is past at the moment.
+    pub(crate) fn is_timely(&self, row: usize, moment: u64) -> bool
+        requires { row < length (grid_rows self.now) }
+        ensures { result ≡ is_timely moment (grid_row self.now row) }
+    {
+        match self.earliest_must(row) {
+            Some(deadline) => moment <= deadline,
+            None => true,
+        }
+    }
+
+    /// Puts a copy of each row from one up to another behind the others, but of those alone that the masks mark, where one word has
+    /// all entries. On an error all is as before.
+    fn push_marked(
+        &mut self,
+        from: usize,
+        to: usize,
+        wanted: Option<u64>,
+        barred: u64,
+    ) -> Result<(), AllocError>
+        requires within { to ≤ length (grid_rows self.old) }
+        requires one { self.old.width ≡ 1 }
+        ensures ok { (test : List Debt → Bool) → IsTold self.old.entries test wanted barred →
+            OnOk result (grid_rows self.new ≡ grid_rows self.old ++ filter test (from_to from to (grid_rows self.old))) }
+        ensures err { OnErr result (self.new ≡ self.old) }
+    {
+        let most = to.saturating_sub(from);
+        self.owed.reserve(most)?;
+        self.must.reserve(most)?;
+        put_marked(&mut self.owed, &mut self.must, from, to, wanted, barred);
+        self.rows = self.owed.len();
+        Ok(())
+    }
+}
+
+/// Whether the row of these words owes one of the wanted bits, if some are wanted, and must send none of the barred ones.
+fn is_marked(owed: u64, must: u64, wanted: Option<u64>, barred: u64) -> bool
+    ensures { result ≡ is_marked wanted barred owed must }
+{
+    match wanted {
+        Some(wanted) => owed & wanted != 0 && must & barred == 0,
+        None => must & barred == 0,
+    }
+}
+
+/// Puts a copy of each row from one up to another behind the others, but of those alone that the masks mark, where there is room
+/// for all of them.
+fn put_marked(
+    owed: &mut Vec<u64>,
+    must: &mut Vec<u64>,
+    from: usize,
+    to: usize,
+    wanted: Option<u64>,
+    barred: u64,
+)
+    requires owed { to ≤ length owed.old.items }
+    requires must { to ≤ length must.old.items }
+    requires owed_room { vec_len owed.old + (to - from) ≤ vec_capacity owed.old }
+    requires must_room { vec_len must.old + (to - from) ≤ vec_capacity must.old }
+    ensures ledger { (entries : List Entry) → IsGrid (grid_of entries 1 (length owed.old.items) owed.old.items must.old.items) →
+        IsGrid (grid_of entries 1 (length owed.new.items) owed.new.items must.new.items) }
+    ensures put { (entries : List Entry) (test : List Debt → Bool) → IsTold entries test wanted barred →
+        IsGrid (grid_of entries 1 (length owed.old.items) owed.old.items must.old.items) →
+        ArePut entries test from to owed.old.items must.old.items owed.new.items must.new.items }
+{
+    for row in from..to {
+        let word = owed[row];
+        let due = must[row];
+        if is_marked(word, due, wanted, barred) {
+            owed.push_reserved(word);
+            must.push_reserved(due);
         }
     }
 }

@@ -1,7 +1,7 @@
 use Rattle.std.specs.Prelude.{◌≡◌, ◌≤◌, ◌⊎◌, ◌++◌, filter, length}
 use Rattle.sip_ledger.specs.Debts.{is_timely}
 use Rattle.sip_ledger.specs.Ledgers.{rows_of, from_to}
-use Rattle.sip_ledger.proofs.ledger.Ledger.push_timely.Given as goal
+use Rattle.sip_ledger.proofs.ledger.Ledger.push_timely_of_long.Given as goal
 
 -- the rows so far stand behind the others
 abbrev pub invariant-loop-row : goal.invariant-loop-row

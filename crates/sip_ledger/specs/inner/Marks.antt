@@ -1,0 +1,28 @@
+use Rattle.std.specs.Prelude.{◌≡◌, ◌==◌, ◌&&◌, ◌<◌, ◌^◌, ℕ, Bool, not, bit_and, Option, None, Some, List, [], ◌∷◌, ◌++◌, filter, length}
+use Rattle.sip_ledger.specs.declared.debt.Debt.{Debt}
+use Rattle.sip_ledger.specs.declared.debt.Entry.{Entry}
+use Rattle.sip_ledger.specs.Bits.{has}
+use Rattle.sip_ledger.specs.Rows.{row_debts, IsRow}
+use Rattle.sip_ledger.specs.Grids.{grid_of, grid_rows, IsGrid}
+use Rattle.sip_ledger.specs.Ledgers.{from_to}
+
+-- Rows of one word each, chosen by masks.
+
+-- one of the wanted bits is owed, if some are wanted, and none of the barred ones must be sent
+abbrev pub is_marked : Option ℕ → ℕ → ℕ → ℕ → Bool
+is_marked None barred owed must = bit_and must barred == 0
+is_marked (Some wanted) barred owed must = not (bit_and owed wanted == 0) && bit_and must barred == 0
+
+-- the masks tell of each row of one word whether what it owes passes the test
+pub record IsTold (entries : List Entry) (test : List Debt → Bool) (wanted : Option ℕ) (barred : ℕ) : Type 0 where
+  pub tells : (owed must : ℕ) → owed < 2 ^ 64 → must < 2 ^ 64 → IsRow entries (has (owed ∷ [])) (has (must ∷ [])) →
+      test (row_debts entries (owed ∷ []) (must ∷ [])) ≡ is_marked wanted barred owed must
+
+-- what each row of one word owes
+abbrev pub word_rows : List Entry → List ℕ → List ℕ → List (List Debt)
+word_rows entries owed must = grid_rows (grid_of entries 1 (length owed) owed must)
+
+-- those of the rows from one up to another that pass the test stand behind the others
+pub record ArePut (entries : List Entry) (test : List Debt → Bool) (from to : ℕ) (owed must owed' must' : List ℕ) : Type 0 where
+  pub ledger : IsGrid (grid_of entries 1 (length owed') owed' must')
+  pub rows : word_rows entries owed' must' ≡ word_rows entries owed must ++ filter test (from_to from to (word_rows entries owed must))

@@ -53,7 +53,28 @@ impl Ledger {
     }
 
     /// The same, but of those alone that have a debt that a send of the message at the moment pays.
+    #[tactic(auto, unfolding(crate::specs::Ledgers::rows_of))]
     pub fn push_payable(
+        &mut self,
+        from: usize,
+        to: usize,
+        message: u32,
+        moment: u64,
+    ) -> Result<(), AllocError>
+        requires { to ≤ length (rows_of self.old) }
+        ensures ok { OnOk result (rows_of self.new ≡ rows_of self.old ++
+            filter (λ owes. list_any (is_payable message moment) owes && is_timely moment owes) (from_to from to (rows_of self.old))) }
+        ensures err { OnErr result (rows_of self.new ≡ rows_of self.old) }
+    {
+        if self.long.is_none() {
+            return self.rows.push_payable(from, to, message, moment);
+        }
+        self.push_payable_of_long(from, to, message, moment)
+    }
+
+    /// The same where there may be a long row.
+    #[inline(never)]
+    fn push_payable_of_long(
         &mut self,
         from: usize,
         to: usize,

@@ -1,10 +1,11 @@
 //! What is done to many rows over one list of entries at once. Where one word has all entries, what is asked of them is asked once
 //! for all rows.
-ghost use Rattle.std.specs.Prelude.{◌≡◌, ◌≤◌, ◌<◌, ◌+◌, ◌-◌, ◌++◌, List, Bool, OnOk, OnErr, length, filter, map, take, drop};
+ghost use Rattle.std.specs.Prelude.{◌≡◌, ◌≤◌, ◌<◌, ◌+◌, ◌-◌, ◌++◌, ◌&&◌, List, Bool, OnOk, OnErr, length, filter, map, take, drop};
+ghost use Rattle.std.specs.List.{list_any};
 ghost use Rattle.std.specs.Vec.{vec_len, vec_capacity};
 ghost use Rattle.sip_ledger.specs.declared.debt.Debt.{Debt};
 ghost use Rattle.sip_ledger.specs.declared.debt.Entry.{Entry};
-ghost use Rattle.sip_ledger.specs.Debts.{counts_at, is_timely};
+ghost use Rattle.sip_ledger.specs.Debts.{counts_at, is_payable, is_timely};
 ghost use Rattle.sip_ledger.specs.Grids.{grid_of, grid_rows, grid_row, IsGrid};
 ghost use Rattle.sip_ledger.specs.Ledgers.{from_to};
 ghost use Rattle.sip_ledger.specs.inner.Marks.{is_marked, IsTold, ArePut};
@@ -79,6 +80,54 @@ impl Rows {
         let before = self.len();
         for row in from..to {
             if self.is_timely(row, moment) && self.push_copy(row).is_err() {
+                self.truncate(before);
+                return Err(AllocError);
+            }
+        }
+        Ok(())
+    }
+
+    /// The same, but of those alone that have a debt that a send of the message at the moment pays.
+    pub(crate) fn push_payable(
+        &mut self,
+        from: usize,
+        to: usize,
+        message: u32,
+        moment: u64,
+    ) -> Result<(), AllocError>
+        requires { to ≤ length (grid_rows self.old) }
+        ensures ok { OnOk result (grid_rows self.new ≡ grid_rows self.old ++
+            filter (λ owes. list_any (is_payable message moment) owes && is_timely moment owes) (from_to from to (grid_rows self.old))) }
+        ensures err { OnErr result (grid_rows self.new ≡ grid_rows self.old) }
+    {
+        if self.width == 1 {
+            let payable = self.payable_bits(message, moment);
+            let past = self.past_bits(moment);
+            self.push_marked(from, to, Some(payable), past)
+        } else {
+            self.push_payable_rows(from, to, message, moment)
+        }
+    }
+
+    /// The same row by row.
+    fn push_payable_rows(
+        &mut self,
+        from: usize,
+        to: usize,
+        message: u32,
+        moment: u64,
+    ) -> Result<(), AllocError>
+        requires { to ≤ length (grid_rows self.old) }
+        ensures ok { OnOk result (grid_rows self.new ≡ grid_rows self.old ++
+            filter (λ owes. list_any (is_payable message moment) owes && is_timely moment owes) (from_to from to (grid_rows self.old))) }
+        ensures err { OnErr result (grid_rows self.new ≡ grid_rows self.old) }
+    {
+        let before = self.len();
+        for row in from..to {
+            if self.can_pay(row, message, moment)
+                && self.is_timely(row, moment)
+                && self.push_copy(row).is_err()
+            {
                 self.truncate(before);
                 return Err(AllocError);
             }

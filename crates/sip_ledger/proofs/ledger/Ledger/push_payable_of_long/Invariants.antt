@@ -2,7 +2,7 @@ use Rattle.std.specs.Prelude.{◌≡◌, ◌≤◌, ◌⊎◌, ◌&&◌, ◌++�
 use Rattle.std.specs.List.{list_any}
 use Rattle.sip_ledger.specs.Debts.{is_payable, is_timely}
 use Rattle.sip_ledger.specs.Ledgers.{rows_of, from_to}
-use Rattle.sip_ledger.proofs.ledger.Ledger.push_payable.Given as goal
+use Rattle.sip_ledger.proofs.ledger.Ledger.push_payable_of_long.Given as goal
 
 -- the rows so far stand behind the others
 abbrev pub invariant-loop-row : goal.invariant-loop-row

@@ -71,6 +71,23 @@ module _ {X : Type 0} where
   unchanged-each f (suc from) [] each = refl
   unchanged-each f (suc from) (x ∷ xs) each = ap (λ ys. x ∷ ys) (unchanged-each f from xs (λ k d below. each (suc k) d (omega (arith, below))))
 
+  -- a list in which each element from one on has changed
+  pub changed-each : (f : X → X) (from : ℕ) (xs ys : List X) → length ys ≡ length xs → ((k : ℕ) (d : X) → k < from → k < length xs → get_or ys k d ≡ get_or xs k d) →
+      ((k : ℕ) (d : X) → from ≤ k → k < length xs → get_or ys k d ≡ f (get_or xs k d)) → ys ≡ take from xs ++ map f (drop from xs)
+  changed-each f zero [] [] long before behind = refl
+  changed-each f zero [] (y ∷ ys) long before behind = absurd (omega (arith, long))
+  changed-each f zero (x ∷ xs) [] long before behind = absurd (omega (arith, long))
+  changed-each f zero (x ∷ xs) (y ∷ ys) long before behind =
+      ap₂ (λ z zs. z ∷ zs) (behind 0 x (omega arith) (omega arith))
+      (changed-each f zero xs ys (omega (arith, long)) (λ k d early _. absurd (omega (arith, early))) (λ k d _ below. behind (suc k) d (omega arith) (omega (arith, below))))
+  changed-each f (suc from) [] [] long before behind = refl
+  changed-each f (suc from) [] (y ∷ ys) long before behind = absurd (omega (arith, long))
+  changed-each f (suc from) (x ∷ xs) [] long before behind = absurd (omega (arith, long))
+  changed-each f (suc from) (x ∷ xs) (y ∷ ys) long before behind =
+      ap₂ (λ z zs. z ∷ zs) (before 0 x (omega arith) (omega arith))
+      (changed-each f from xs ys (omega (arith, long)) (λ k d early below. before (suc k) d (omega (arith, early)) (omega (arith, below)))
+      (λ k d above below. behind (suc k) d (omega (arith, above)) (omega (arith, below))))
+
   -- one more of the elements that pass a test
   passing-next : (p : X → Bool) (from k : ℕ) (xs : List X) (d : X) → from ≤ k → k < length xs →
       filter p (from_to from (suc k) xs) ≡ filter p (from_to from k xs) ++ cond (p (get_or xs k d)) (get_or xs k d ∷ []) []

@@ -14,3 +14,4 @@ pub mod MemoLemmas
 pub mod WordLemmas
 pub mod WordRowLemmas
 pub mod MarkLemmas
+pub mod GainLemmas

@@ -1,4 +1,5 @@
-use Rattle.std.specs.Prelude.{◌≡◌, ◌==◌, ◌&&◌, ◌<◌, ◌^◌, ℕ, Bool, not, bit_and, Option, None, Some, List, [], ◌∷◌, ◌++◌, filter, length}
+use Rattle.std.specs.Prelude.{◌≡◌, ◌≢◌, ◌==◌, ◌&&◌, ◌<◌, ◌≤◌, ◌^◌, ℕ, Bool, true, get_or, not, bit_and, Option, None, Some, List, [], ◌∷◌, ◌++◌, filter, length}
+use Rattle.sip_masks.specs.Bits.{test}
 use Rattle.sip_ledger.specs.declared.debt.Debt.{Debt}
 use Rattle.sip_ledger.specs.declared.debt.Entry.{Entry}
 use Rattle.sip_ledger.specs.Bits.{has}
@@ -14,15 +15,22 @@ is_marked None barred owed must = bit_and must barred == 0
 is_marked (Some wanted) barred owed must = not (bit_and owed wanted == 0) && bit_and must barred == 0
 
 -- the masks tell of each row of one word whether what it owes passes the test
-pub record IsTold (entries : List Entry) (test : List Debt → Bool) (wanted : Option ℕ) (barred : ℕ) : Type 0 where
+pub record IsTold (entries : List Entry) (goes : List Debt → Bool) (wanted : Option ℕ) (barred : ℕ) : Type 0 where
   pub tells : (owed must : ℕ) → owed < 2 ^ 64 → must < 2 ^ 64 → IsRow entries (has (owed ∷ [])) (has (must ∷ [])) →
-      test (row_debts entries (owed ∷ []) (must ∷ [])) ≡ is_marked wanted barred owed must
+      goes (row_debts entries (owed ∷ []) (must ∷ [])) ≡ is_marked wanted barred owed must
 
 -- what each row of one word owes
 abbrev pub word_rows : List Entry → List ℕ → List ℕ → List (List Debt)
 word_rows entries owed must = grid_rows (grid_of entries 1 (length owed) owed must)
 
 -- those of the rows from one up to another that pass the test stand behind the others
-pub record ArePut (entries : List Entry) (test : List Debt → Bool) (from to : ℕ) (owed must owed' must' : List ℕ) : Type 0 where
+pub record ArePut (entries : List Entry) (goes : List Debt → Bool) (from to : ℕ) (owed must owed' must' : List ℕ) : Type 0 where
   pub ledger : IsGrid (grid_of entries 1 (length owed') owed' must')
-  pub rows : word_rows entries owed' must' ≡ word_rows entries owed must ++ filter test (from_to from to (word_rows entries owed must))
+  pub rows : word_rows entries owed' must' ≡ word_rows entries owed must ++ filter goes (from_to from to (word_rows entries owed must))
+
+-- each word from one on has the bit besides
+pub record IsSetFrom (from bit : ℕ) (old new : List ℕ) : Type 0 where
+  pub long : length new ≡ length old
+  pub before : (k : ℕ) → k < from → get_or new k 0 ≡ get_or old k 0
+  pub same : (k : ℕ) → from ≤ k → k < length old → test (get_or new k 0) bit ≡ true
+  pub others : (k i : ℕ) → i ≢ bit → test (get_or new k 0) i ≡ test (get_or old k 0) i

@@ -101,7 +101,20 @@ impl Ledger {
 
     /// Lets each row from one on owe one more debt, behind its others. On an error the rows before them are as they were, and there
     /// are as many.
+    #[tactic(auto, unfolding(crate::specs::Ledgers::rows_of))]
     pub fn gain_each(&mut self, from: usize, debt: Debt) -> Result<(), AllocError>
+        ensures ok { OnOk result (rows_of self.new ≡ take from (rows_of self.old) ++ map (λ owes. owes ++ debt ∷ []) (drop from (rows_of self.old))) }
+        ensures err { OnErr result ((length (rows_of self.new) ≡ length (rows_of self.old)) × (take from (rows_of self.new) ≡ take from (rows_of self.old))) }
+    {
+        if self.long.is_none() && !self.rows.is_crowded() {
+            return self.rows.gain_each(from, debt);
+        }
+        self.gain_each_of_long(from, debt)
+    }
+
+    /// The same where there may be a long row, or a row may become one.
+    #[inline(never)]
+    fn gain_each_of_long(&mut self, from: usize, debt: Debt) -> Result<(), AllocError>
         ensures ok { OnOk result (rows_of self.new ≡ take from (rows_of self.old) ++ map (λ owes. owes ++ debt ∷ []) (drop from (rows_of self.old))) }
         ensures err { OnErr result ((length (rows_of self.new) ≡ length (rows_of self.old)) × (take from (rows_of self.new) ≡ take from (rows_of self.old))) }
     {
@@ -112,7 +125,19 @@ impl Ledger {
     }
 
     /// Takes out of each row from one on the first debt that a send of the message at the moment pays, if there is one.
+    #[tactic(auto, unfolding(crate::specs::Ledgers::rows_of))]
     pub fn pay_each(&mut self, from: usize, message: u32, moment: u64)
+        ensures { rows_of self.new ≡ take from (rows_of self.old) ++ map (paid_by message moment) (drop from (rows_of self.old)) }
+    {
+        match &self.long {
+            Some(_) => self.pay_each_of_long(from, message, moment),
+            None => self.rows.pay_each(from, message, moment),
+        }
+    }
+
+    /// The same where there may be a long row.
+    #[inline(never)]
+    fn pay_each_of_long(&mut self, from: usize, message: u32, moment: u64)
         ensures { rows_of self.new ≡ take from (rows_of self.old) ++ map (paid_by message moment) (drop from (rows_of self.old)) }
     {
         for row in from..self.len() {

@@ -1,17 +1,19 @@
 //! What is done to many rows over one list of entries at once. Where one word has all entries, what is asked of them is asked once
 //! for all rows.
-ghost use Rattle.std.specs.Prelude.{◌≡◌, ◌≤◌, ◌<◌, ◌+◌, ◌-◌, ◌++◌, ◌&&◌, List, Bool, OnOk, OnErr, length, filter, map, take, drop};
+ghost use Rattle.std.specs.Prelude.{◌≡◌, ◌≢◌, ◌≤◌, ◌<◌, ◌+◌, ◌-◌, ◌++◌, ◌∷◌, [], ◌&&◌, ℕ, List, Bool, false, get_or, OnOk, OnErr, length, filter, map, take, drop};
 ghost use Rattle.std.specs.List.{list_any};
 ghost use Rattle.std.specs.Vec.{vec_len, vec_capacity};
 ghost use Rattle.sip_ledger.specs.declared.debt.Debt.{Debt};
 ghost use Rattle.sip_ledger.specs.declared.debt.Entry.{Entry};
-ghost use Rattle.sip_ledger.specs.Debts.{counts_at, is_payable, is_timely};
+ghost use Rattle.sip_ledger.specs.Debts.{counts_at, is_payable, is_timely, paid_by};
+ghost use Rattle.sip_ledger.specs.Rows.{debt_of};
 ghost use Rattle.sip_ledger.specs.Grids.{grid_of, grid_rows, grid_row, IsGrid};
 ghost use Rattle.sip_ledger.specs.Ledgers.{from_to};
-ghost use Rattle.sip_ledger.specs.inner.Marks.{is_marked, IsTold, ArePut};
+ghost use Rattle.sip_ledger.specs.inner.Marks.{is_marked, IsSetFrom, IsTold, ArePut};
 
+use crate::debt::{Debt, Entry};
 use crate::row;
-use crate::rows::Rows;
+use crate::rows::{Rows, rise};
 use std::alloc::AllocError;
 
 impl Rows {
@@ -48,6 +50,62 @@ impl Rows {
             if !row::keeps_past(self.owed[row], self.must[row], bits) {
                 self.expire(row, moment);
             }
+        }
+    }
+
+    /// Lets each row from one on owe one more debt, behind its others. On an error the rows before them are as they were, and there
+    /// are as many.
+    pub(crate) fn gain_each(&mut self, from: usize, debt: Debt) -> Result<(), AllocError>
+        ensures ok { OnOk result (grid_rows self.new ≡ take from (grid_rows self.old) ++ map (λ owes. owes ++ debt ∷ []) (drop from (grid_rows self.old))) }
+        ensures err { OnErr result ((length (grid_rows self.new) ≡ length (grid_rows self.old)) × (take from (grid_rows self.new) ≡ take from (grid_rows self.old))) }
+    {
+        let entry = Entry {
+            message: debt.message,
+            deadline: debt.deadline,
+        };
+        if self.width == 1 && self.entries.len() < 64 && !has_entry(&self.entries, entry) {
+            return self.gain_new(from, entry, debt.must);
+        }
+        self.gain_rows(from, debt)
+    }
+
+    /// The same row by row.
+    fn gain_rows(&mut self, from: usize, debt: Debt) -> Result<(), AllocError>
+        ensures ok { OnOk result (grid_rows self.new ≡ take from (grid_rows self.old) ++ map (λ owes. owes ++ debt ∷ []) (drop from (grid_rows self.old))) }
+        ensures err { OnErr result ((length (grid_rows self.new) ≡ length (grid_rows self.old)) × (take from (grid_rows self.new) ≡ take from (grid_rows self.old))) }
+    {
+        for row in from..self.rows {
+            self.gain(row, debt)?;
+        }
+        Ok(())
+    }
+
+    /// Lets each row from one on owe a debt of an entry that is not there yet, while one word has all of them. On an error all is as
+    /// before.
+    fn gain_new(&mut self, from: usize, entry: Entry, due: bool) -> Result<(), AllocError>
+        requires one { self.old.width ≡ 1 }
+        requires room { length self.old.entries < 64 }
+        requires absent { (k : ℕ) (e : Entry) → k < length self.old.entries → get_or self.old.entries k e ≢ entry }
+        ensures ok { OnOk result (grid_rows self.new ≡ take from (grid_rows self.old) ++ map (λ owes. owes ++ debt_of entry due ∷ []) (drop from (grid_rows self.old))) }
+        ensures err { OnErr result (self.new ≡ self.old) }
+    {
+        let bit = self.entries.len();
+        let rises = rise(&self.entries, self.rises, entry);
+        self.entries.push(entry)?;
+        self.rises = rises;
+        set_from(&mut self.owed, from, bit);
+        if due {
+            set_from(&mut self.must, from, bit);
+        }
+        Ok(())
+    }
+
+    /// Takes out of each row from one on the first debt that a send of the message at the moment pays, if there is one.
+    pub(crate) fn pay_each(&mut self, from: usize, message: u32, moment: u64)
+        ensures { grid_rows self.new ≡ take from (grid_rows self.old) ++ map (paid_by message moment) (drop from (grid_rows self.old)) }
+    {
+        for row in from..self.rows {
+            self.pay(row, message, moment);
         }
     }
 
@@ -207,5 +265,22 @@ fn put_marked(
             owed.push_reserved(word);
             must.push_reserved(due);
         }
+    }
+}
+
+/// Whether one of the entries is this one.
+fn has_entry(entries: &[Entry], entry: Entry) -> bool
+    ensures { result ≡ false → (k : ℕ) (e : Entry) → k < length entries.now → get_or entries.now k e ≢ entry }
+{
+    entries.contains(&entry)
+}
+
+/// Sets a bit in each word from one on.
+fn set_from(words: &mut [u64], from: usize, bit: usize)
+    requires { bit < 64 }
+    ensures { IsSetFrom from bit words.old words.new }
+{
+    for at in from..words.len() {
+        words[at] |= 1 << bit;
     }
 }

@@ -4,7 +4,7 @@ use Rattle.sip_ledger.specs.Debts.{paid_by}
 use Rattle.sip_ledger.specs.Ledgers.{rows_of}
 use Rattle.sip_ledger.proofs.PayLemmas.{paid-row}
 use Rattle.sip_ledger.proofs.EachLemmas.{changing-none, changing-more, changing-all, changing-length}
-use Rattle.sip_ledger.proofs.ledger.Ledger.pay_each.Goals as goal
+use Rattle.sip_ledger.proofs.ledger.Ledger.pay_each_of_long.Goals as goal
 
 pub loop-row-init : goal.loop-row-init
 loop-row-init c = (omega arith, sym (changing-none (paid_by c.args.message c.args.moment) c.args.from (rows_of c.args.self.now)))

@@ -19,14 +19,15 @@ use Rattle.sip_ledger.specs.Rows.{debts_from, row_debts, IsRow}
 use Rattle.sip_ledger.specs.Grids.{Grid, grid_of, part, grid_rows, IsGrid}
 use Rattle.sip_ledger.specs.inner.Marks.{is_marked, IsTold, ArePut, word_rows}
 use Rattle.sip_ledger.specs.Ledgers.{from_to}
+use Rattle.sip_ledger.specs.Prints.{mixed, grid_print}
 use Rattle.sip_ledger.specs.inner.Memos.{asked_of, IsMask}
 use Rattle.sip_ledger.specs.inner.Places.{AsksNoMust}
 use Rattle.sip_ledger.proofs.BitsLemmas.{lowest-set}
 use Rattle.sip_ledger.proofs.ListedLemmas.{no_entry, listed-must}
 use Rattle.sip_ledger.proofs.RowLemmas.{listed-any, none-passes}
-use Rattle.sip_ledger.proofs.WordLemmas.{has-one, none-in, none-of_word, word-part}
-use Rattle.sip_ledger.proofs.WordRowLemmas.{word-row}
-use Rattle.sip_ledger.proofs.GridLemmas.{rows-length, rows-get, pushed-row}
+use Rattle.sip_ledger.proofs.WordLemmas.{has-one, none-in, none-of_word, word-part, part-one}
+use Rattle.sip_ledger.proofs.WordRowLemmas.{word-row, row-in_word}
+use Rattle.sip_ledger.proofs.GridLemmas.{rows-length, rows-get, pushed-row, print-is}
 use Rattle.sip_ledger.proofs.EachLemmas.{from_to-none, from_to-end, passing-more}
 
 some-bits : (n : ℕ) → (n == 0) ≡ false → 0 < n
@@ -202,3 +203,14 @@ pub put-end : (entries : List Entry) (goes : List Debt → Bool) (from to k : �
 put-end entries goes from to k owed must owed' must' was order past end =
     let rows = word_rows entries owed must in
     record { ledger = was.ledger; rows = was.rows ∙ ap (λ l. rows ++ filter goes l) (from_to-end from to k rows order past end) }
+
+-- the print of a row of one word
+pub word-print : (t v : Grid) (row : ℕ) → t ≡ v → t.width ≡ 1 → IsGrid t → row < t.rows → mixed (mixed 0 (get_or t.owed row 0)) (get_or t.must row 0) ≡ grid_print v row
+word-print t v row view one ledger inside =
+    let places = row-in_word t row ledger one inside in
+    sym (print-is t v row view
+    ∙ ap₂ (λ o m. fold mixed (fold mixed 0 o) m) (ap (λ w. part w row t.owed) one ∙ part-one t.owed row places.0) (ap (λ w. part w row t.must) one ∙ part-one t.must row places.1))
+
+pub word-count : (t v : Grid) → t ≡ v → t.width ≡ 1 → IsGrid t → length (grid_rows v) ≡ length t.owed
+word-count t v view one ledger =
+    ap (λ x. length (grid_rows x)) (sym view ∙ word-grid t one ledger) ∙ rows-length (grid_of t.entries 1 (length t.owed) t.owed t.must)

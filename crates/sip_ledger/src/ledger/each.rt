@@ -1,13 +1,14 @@
 //! What is done to many rows at once.
-ghost use Rattle.std.specs.Prelude.{◌≡◌, ◌≤◌, ◌<◌, ◌&&◌, ◌++◌, ◌∷◌, [], List, OnOk, OnErr, drop, filter, length, map, take};
+ghost use Rattle.std.specs.Prelude.{◌≡◌, ◌≤◌, ◌<◌, ◌&&◌, ◌++◌, ◌∷◌, ◌+◌, ◌-◌, [], ℕ, List, IfOk, OnOk, OnErr, get_or, drop, filter, length, map, take};
 ghost use Rattle.std.specs.List.{list_any};
 ghost use Rattle.sip_ledger.specs.declared.debt.Debt.{Debt};
 ghost use Rattle.sip_ledger.specs.Debts.{counts_at, is_payable, is_timely, paid_by};
+ghost use Rattle.sip_ledger.specs.Prints.{print_of};
 ghost use Rattle.sip_ledger.specs.Ledgers.{rows_of, row_of, from_to};
 
 use crate::debt::Debt;
 use crate::ledger::Ledger;
-use std::alloc::AllocError;
+use std::alloc::{AllocError, Global};
 
 impl Ledger {
     /// Whether nothing that the row must send is past at the moment.
@@ -164,5 +165,34 @@ impl Ledger {
         for row in from..self.len() {
             self.expire(row, moment);
         }
+    }
+
+    /// A number for what each row from one on owes, in their order: rows that owe the same have the same, and others hardly ever.
+    #[tactic(auto, unfolding(crate::specs::Ledgers::rows_of, crate::specs::Prints::print_of))]
+    pub fn prints(&self, alloc: Global, from: usize) -> Result<Vec<u64>, AllocError>
+        ensures long { IfOk result (λ prints. length prints.items ≡ length (rows_of self.now) - from) }
+        ensures each { IfOk result (λ prints. (k : ℕ) → from + k < length (rows_of self.now) → get_or prints.items k 0 ≡ print_of self.now (from + k)) }
+        ensures same { IfOk result (λ _. (row other : ℕ) → from ≤ row → row < length (rows_of self.now) → other < length (rows_of self.now) →
+            row_of self.now other ≡ row_of self.now row → print_of self.now other ≡ print_of self.now row) }
+    {
+        match &self.long {
+            Some(_) => self.prints_of_long(alloc, from),
+            None => self.rows.prints(alloc, from),
+        }
+    }
+
+    /// The same where there may be a long row.
+    #[inline(never)]
+    fn prints_of_long(&self, alloc: Global, from: usize) -> Result<Vec<u64>, AllocError>
+        ensures long { IfOk result (λ prints. length prints.items ≡ length (rows_of self.now) - from) }
+        ensures each { IfOk result (λ prints. (k : ℕ) → from + k < length (rows_of self.now) → get_or prints.items k 0 ≡ print_of self.now (from + k)) }
+        ensures same { IfOk result (λ _. (row other : ℕ) → from ≤ row → row < length (rows_of self.now) → other < length (rows_of self.now) →
+            row_of self.now other ≡ row_of self.now row → print_of self.now other ≡ print_of self.now row) }
+    {
+        let mut prints = Vec::with_capacity(alloc, self.len().saturating_sub(from))?;
+        for row in from..self.len() {
+            prints.push_reserved(self.print(row));
+        }
+        Ok(prints)
     }
 }

@@ -1,6 +1,6 @@
 //! What is done to many rows over one list of entries at once. Where one word has all entries, what is asked of them is asked once
 //! for all rows.
-ghost use Rattle.std.specs.Prelude.{◌≡◌, ◌≢◌, ◌≤◌, ◌<◌, ◌+◌, ◌-◌, ◌++◌, ◌∷◌, [], ◌&&◌, ℕ, List, Bool, false, get_or, OnOk, OnErr, length, filter, map, take, drop};
+ghost use Rattle.std.specs.Prelude.{◌≡◌, ◌≢◌, ◌≤◌, ◌<◌, ◌+◌, ◌-◌, ◌++◌, ◌∷◌, [], ◌&&◌, ℕ, List, Bool, false, get_or, IfOk, OnOk, OnErr, length, filter, map, take, drop};
 ghost use Rattle.std.specs.List.{list_any};
 ghost use Rattle.std.specs.Vec.{vec_len, vec_capacity};
 ghost use Rattle.sip_ledger.specs.declared.debt.Debt.{Debt};
@@ -9,12 +9,13 @@ ghost use Rattle.sip_ledger.specs.Debts.{counts_at, is_payable, is_timely, paid_
 ghost use Rattle.sip_ledger.specs.Rows.{debt_of};
 ghost use Rattle.sip_ledger.specs.Grids.{grid_of, grid_rows, grid_row, IsGrid};
 ghost use Rattle.sip_ledger.specs.Ledgers.{from_to};
+ghost use Rattle.sip_ledger.specs.Prints.{grid_print};
 ghost use Rattle.sip_ledger.specs.inner.Marks.{is_marked, IsSetFrom, IsTold, ArePut};
 
 use crate::debt::{Debt, Entry};
-use crate::row;
 use crate::rows::{Rows, rise};
-use std::alloc::AllocError;
+use crate::{row, words};
+use std::alloc::{AllocError, Global};
 
 impl Rows {
     /// Drops what each row from one on may send and whose deadline is below the moment.
@@ -225,6 +226,33 @@ impl Rows {
         put_marked(&mut self.owed, &mut self.must, from, to, wanted, barred);
         self.rows = self.owed.len();
         Ok(())
+    }
+
+    /// A number for what each row from one on owes, in their order: rows that owe the same have the same, and others hardly ever.
+    pub(crate) fn prints(&self, alloc: Global, from: usize) -> Result<Vec<u64>, AllocError>
+        ensures long { IfOk result (λ prints. length prints.items ≡ length (grid_rows self.now) - from) }
+        ensures each { IfOk result (λ prints. (k : ℕ) → from + k < length (grid_rows self.now) → get_or prints.items k 0 ≡ grid_print self.now (from + k)) }
+        ensures same { IfOk result (λ _. (row other : ℕ) → from ≤ row → row < length (grid_rows self.now) → other < length (grid_rows self.now) →
+            grid_row self.now other ≡ grid_row self.now row → grid_print self.now other ≡ grid_print self.now row) }
+    {
+        if self.width == 1 {
+            return words::prints(alloc, &self.owed, &self.must, from);
+        }
+        self.print_rows(alloc, from)
+    }
+
+    /// The same row by row.
+    fn print_rows(&self, alloc: Global, from: usize) -> Result<Vec<u64>, AllocError>
+        ensures long { IfOk result (λ prints. length prints.items ≡ length (grid_rows self.now) - from) }
+        ensures each { IfOk result (λ prints. (k : ℕ) → from + k < length (grid_rows self.now) → get_or prints.items k 0 ≡ grid_print self.now (from + k)) }
+        ensures same { IfOk result (λ _. (row other : ℕ) → from ≤ row → row < length (grid_rows self.now) → other < length (grid_rows self.now) →
+            grid_row self.now other ≡ grid_row self.now row → grid_print self.now other ≡ grid_print self.now row) }
+    {
+        let mut prints = Vec::with_capacity(alloc, self.len().saturating_sub(from))?;
+        for row in from..self.len() {
+            prints.push_reserved(self.print(row));
+        }
+        Ok(prints)
     }
 }
 

@@ -15,3 +15,4 @@ pub mod WordLemmas
 pub mod WordRowLemmas
 pub mod MarkLemmas
 pub mod GainLemmas
+pub mod KeepLemmas

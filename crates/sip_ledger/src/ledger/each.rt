@@ -1,10 +1,10 @@
 //! What is done to many rows at once.
-ghost use Rattle.std.specs.Prelude.{◌≡◌, ◌≤◌, ◌<◌, ◌&&◌, ◌++◌, ◌∷◌, ◌+◌, ◌-◌, [], ℕ, List, IfOk, OnOk, OnErr, get_or, drop, filter, length, map, take};
+ghost use Rattle.std.specs.Prelude.{◌≡◌, ◌≤◌, ◌<◌, ◌&&◌, ◌++◌, ◌∷◌, ◌+◌, ◌-◌, [], ℕ, List, All, IfOk, OnOk, OnErr, get_or, drop, filter, length, map, take};
 ghost use Rattle.std.specs.List.{list_any};
 ghost use Rattle.sip_ledger.specs.declared.debt.Debt.{Debt};
 ghost use Rattle.sip_ledger.specs.Debts.{counts_at, is_payable, is_timely, paid_by};
 ghost use Rattle.sip_ledger.specs.Prints.{print_of};
-ghost use Rattle.sip_ledger.specs.Ledgers.{rows_of, row_of, from_to};
+ghost use Rattle.sip_ledger.specs.Ledgers.{rows_of, row_of, from_to, Rise};
 
 use crate::debt::Debt;
 use crate::ledger::Ledger;
@@ -194,5 +194,31 @@ impl Ledger {
             prints.push_reserved(self.print(row));
         }
         Ok(prints)
+    }
+
+    /// Keeps the rows of these numbers, which rise.
+    #[tactic(auto, unfolding(crate::specs::Ledgers::rows_of))]
+    pub fn keep(&mut self, rows: &[usize])
+        requires rising { Rise rows.now }
+        requires within { All (λ row. row < length (rows_of self.old)) rows.now }
+        ensures { rows_of self.new ≡ map (row_of self.old) rows.now }
+    {
+        match &self.long {
+            Some(_) => self.keep_of_long(rows),
+            None => self.rows.keep(rows),
+        }
+    }
+
+    /// The same where there may be a long row.
+    #[inline(never)]
+    fn keep_of_long(&mut self, rows: &[usize])
+        requires rising { Rise rows.now }
+        requires within { All (λ row. row < length (rows_of self.old)) rows.now }
+        ensures { rows_of self.new ≡ map (row_of self.old) rows.now }
+    {
+        for to in 0..rows.len() {
+            self.copy(rows[to], to);
+        }
+        self.truncate(rows.len());
     }
 }

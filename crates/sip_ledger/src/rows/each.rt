@@ -1,6 +1,6 @@
 //! What is done to many rows over one list of entries at once. Where one word has all entries, what is asked of them is asked once
 //! for all rows.
-ghost use Rattle.std.specs.Prelude.{◌≡◌, ◌≢◌, ◌≤◌, ◌<◌, ◌+◌, ◌-◌, ◌++◌, ◌∷◌, [], ◌&&◌, ℕ, List, Bool, false, get_or, IfOk, OnOk, OnErr, length, filter, map, take, drop};
+ghost use Rattle.std.specs.Prelude.{◌≡◌, ◌≢◌, ◌≤◌, ◌<◌, ◌+◌, ◌-◌, ◌++◌, ◌∷◌, [], ◌&&◌, ℕ, List, All, Bool, false, get_or, IfOk, OnOk, OnErr, length, filter, map, take, drop};
 ghost use Rattle.std.specs.List.{list_any};
 ghost use Rattle.std.specs.Vec.{vec_len, vec_capacity};
 ghost use Rattle.sip_ledger.specs.declared.debt.Debt.{Debt};
@@ -8,7 +8,7 @@ ghost use Rattle.sip_ledger.specs.declared.debt.Entry.{Entry};
 ghost use Rattle.sip_ledger.specs.Debts.{counts_at, is_payable, is_timely, paid_by};
 ghost use Rattle.sip_ledger.specs.Rows.{debt_of};
 ghost use Rattle.sip_ledger.specs.Grids.{grid_of, grid_rows, grid_row, IsGrid};
-ghost use Rattle.sip_ledger.specs.Ledgers.{from_to};
+ghost use Rattle.sip_ledger.specs.Ledgers.{from_to, Rise};
 ghost use Rattle.sip_ledger.specs.Prints.{grid_print};
 ghost use Rattle.sip_ledger.specs.inner.Marks.{is_marked, IsSetFrom, IsTold, ArePut};
 
@@ -254,6 +254,33 @@ impl Rows {
         }
         Ok(prints)
     }
+
+    /// Keeps the rows of these numbers, which rise.
+    pub(crate) fn keep(&mut self, rows: &[usize])
+        requires rising { Rise rows.now }
+        requires within { All (λ row. row < length (grid_rows self.old)) rows.now }
+        ensures { grid_rows self.new ≡ map (grid_row self.old) rows.now }
+    {
+        if self.width == 1 {
+            keep_words(&mut self.owed, rows);
+            keep_words(&mut self.must, rows);
+            self.rows = rows.len();
+        } else {
+            self.keep_rows(rows);
+        }
+    }
+
+    /// The same row by row.
+    fn keep_rows(&mut self, rows: &[usize])
+        requires rising { Rise rows.now }
+        requires within { All (λ row. row < length (grid_rows self.old)) rows.now }
+        ensures { grid_rows self.new ≡ map (grid_row self.old) rows.now }
+    {
+        for to in 0..rows.len() {
+            self.copy(rows[to], to);
+        }
+        self.truncate(rows.len());
+    }
 }
 
 /// Whether the row of these words owes one of the wanted bits, if some are wanted, and must send none of the barred ones.
@@ -311,4 +338,16 @@ fn set_from(words: &mut [u64], from: usize, bit: usize)
     for at in from..words.len() {
         words[at] |= 1 << bit;
     }
+}
+
+/// Keeps the words at these places, which rise.
+fn keep_words(words: &mut Vec<u64>, places: &[usize])
+    requires rising { Rise places.now }
+    requires within { All (λ place. place < length words.old.items) places.now }
+    ensures { words.new.items ≡ map (λ place. get_or words.old.items place 0) places.now }
+{
+    for to in 0..places.len() {
+        words[to] = words[places[to]];
+    }
+    words.truncate(places.len());
 }

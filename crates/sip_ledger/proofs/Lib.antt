@@ -16,3 +16,4 @@ pub mod WordRowLemmas
 pub mod MarkLemmas
 pub mod GainLemmas
 pub mod KeepLemmas
+pub mod PayEachLemmas

@@ -30,7 +30,7 @@ use Rattle.sip_ledger.proofs.WordRowLemmas.{word-row, row-in_word}
 use Rattle.sip_ledger.proofs.GridLemmas.{rows-length, rows-get, pushed-row, print-is}
 use Rattle.sip_ledger.proofs.EachLemmas.{from_to-none, from_to-end, passing-more}
 
-some-bits : (n : ℕ) → (n == 0) ≡ false → 0 < n
+pub some-bits : (n : ℕ) → (n == 0) ≡ false → 0 < n
 some-bits n e = grind (arith, nat_tests)
 
 -- one of the debts at a word's bits passes the test that a mask tells, if they share a bit

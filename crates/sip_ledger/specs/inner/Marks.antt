@@ -1,4 +1,5 @@
-use Rattle.std.specs.Prelude.{◌≡◌, ◌≢◌, ◌==◌, ◌&&◌, ◌<◌, ◌≤◌, ◌^◌, ℕ, Bool, true, get_or, not, bit_and, Option, None, Some, List, [], ◌∷◌, ◌++◌, filter, length}
+use Rattle.std.specs.Prelude.{◌≡◌, ◌≢◌, ◌==◌, ◌&&◌, ◌<◌, ◌≤◌, ◌^◌, ◌*◌, ◌%◌, ℕ, Bool, true, cond, get_or, not, bit_and, Option, None, Some, List, [], ◌∷◌, ◌++◌, filter, length}
+use Rattle.std.specs.Int.{w64, bit_not, trailing_zeros}
 use Rattle.sip_masks.specs.Bits.{test}
 use Rattle.sip_ledger.specs.declared.debt.Debt.{Debt}
 use Rattle.sip_ledger.specs.declared.debt.Entry.{Entry}
@@ -34,3 +35,19 @@ pub record IsSetFrom (from bit : ℕ) (old new : List ℕ) : Type 0 where
   pub before : (k : ℕ) → k < from → get_or new k 0 ≡ get_or old k 0
   pub same : (k : ℕ) → from ≤ k → k < length old → test (get_or new k 0) bit ≡ true
   pub others : (k i : ℕ) → i ≢ bit → test (get_or new k 0) i ≡ test (get_or old k 0) i
+
+-- a word without the first bit of another one, if that has one
+abbrev pub first_taken : ℕ → ℕ → ℕ
+first_taken both word = cond (both == 0) word (bit_and word (bit_not w64 (1 * 2 ^ trailing_zeros w64 both % 2 ^ 64)))
+
+-- each pair of words from one on is without the first bit that the former shares with a mask
+pub record AreFirstsTaken (from bits : ℕ) (owed must owed' must' : List ℕ) : Type 0 where
+  pub owed_long : length owed' ≡ length owed
+  pub must_long : length must' ≡ length must
+  pub before : (k : ℕ) → k < from → (get_or owed' k 0 ≡ get_or owed k 0) × (get_or must' k 0 ≡ get_or must k 0)
+  pub owed_behind : (k : ℕ) → from ≤ k → k < length owed → get_or owed' k 0 ≡ first_taken (bit_and (get_or owed k 0) bits) (get_or owed k 0)
+  pub must_behind : (k : ℕ) → from ≤ k → k < length owed → get_or must' k 0 ≡ first_taken (bit_and (get_or owed k 0) bits) (get_or must k 0)
+
+-- no two entries are equal
+abbrev pub AreDistinct : List Entry → Type 0
+AreDistinct entries = (i k : ℕ) (e : Entry) → i < k → k < length entries → get_or entries i e ≢ get_or entries k e

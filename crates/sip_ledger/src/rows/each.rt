@@ -1,6 +1,6 @@
 //! What is done to many rows over one list of entries at once. Where one word has all entries, what is asked of them is asked once
 //! for all rows.
-ghost use Rattle.std.specs.Prelude.{◌≡◌, ◌≢◌, ◌≤◌, ◌<◌, ◌+◌, ◌-◌, ◌++◌, ◌∷◌, [], ◌&&◌, ℕ, List, All, Bool, false, get_or, IfOk, OnOk, OnErr, length, filter, map, take, drop};
+ghost use Rattle.std.specs.Prelude.{◌≡◌, ◌≢◌, ◌≤◌, ◌<◌, ◌+◌, ◌-◌, ◌++◌, ◌∷◌, [], ◌&&◌, ℕ, List, All, Bool, true, false, get_or, IfOk, OnOk, OnErr, length, filter, map, take, drop};
 ghost use Rattle.std.specs.List.{list_any};
 ghost use Rattle.std.specs.Vec.{vec_len, vec_capacity};
 ghost use Rattle.sip_ledger.specs.declared.debt.Debt.{Debt};
@@ -10,7 +10,8 @@ ghost use Rattle.sip_ledger.specs.Rows.{debt_of};
 ghost use Rattle.sip_ledger.specs.Grids.{grid_of, grid_rows, grid_row, IsGrid};
 ghost use Rattle.sip_ledger.specs.Ledgers.{from_to, Rise};
 ghost use Rattle.sip_ledger.specs.Prints.{grid_print};
-ghost use Rattle.sip_ledger.specs.inner.Marks.{is_marked, IsSetFrom, IsTold, ArePut};
+ghost use Rattle.sip_ledger.specs.inner.Marks.{is_marked, first_taken, AreDistinct, AreFirstsTaken, IsSetFrom, IsTold, ArePut};
+ghost use Rattle.sip_ledger.specs.inner.Places.{AreRising};
 
 use crate::debt::{Debt, Entry};
 use crate::rows::{Rows, rise};
@@ -105,9 +106,29 @@ impl Rows {
     pub(crate) fn pay_each(&mut self, from: usize, message: u32, moment: u64)
         ensures { grid_rows self.new ≡ take from (grid_rows self.old) ++ map (paid_by message moment) (drop from (grid_rows self.old)) }
     {
+        if self.width == 1 && self.has_distinct() {
+            let bits = self.payable_bits(message, moment);
+            take_firsts(&mut self.owed, &mut self.must, from, bits);
+        } else {
+            self.pay_rows(from, message, moment);
+        }
+    }
+
+    /// The same row by row.
+    fn pay_rows(&mut self, from: usize, message: u32, moment: u64)
+        ensures { grid_rows self.new ≡ take from (grid_rows self.old) ++ map (paid_by message moment) (drop from (grid_rows self.old)) }
+    {
         for row in from..self.rows {
             self.pay(row, message, moment);
         }
+    }
+
+    /// Whether no two entries are equal, as far as it takes few steps for each row to tell.
+    fn has_distinct(&self) -> bool
+        ensures { result ≡ true → AreDistinct self.now.entries }
+    {
+        (self.rises || self.entries.len() <= self.rows / 2)
+            && are_distinct(&self.entries, self.rises)
     }
 
     /// Puts a copy of each row from one up to another behind the others, but of those that must send something that is past at the
@@ -350,4 +371,39 @@ fn keep_words(words: &mut Vec<u64>, places: &[usize])
         words[to] = words[places[to]];
     }
     words.truncate(places.len());
+}
+
+/// Whether no two entries are equal.
+fn are_distinct(entries: &[Entry], rises: bool) -> bool
+    requires { rises ≡ true → AreRising entries.now }
+    ensures { result ≡ true → AreDistinct entries.now }
+{
+    for at in 0..entries.len() {
+        if row::first_equal(entries, rises, 0, at) < at {
+            return false;
+        }
+    }
+    true
+}
+
+/// Takes out of each pair of words from one on the first bit that the former shares with a mask.
+fn take_firsts(owed: &mut [u64], must: &mut [u64], from: usize, bits: u64)
+    requires { length owed.old ≤ length must.old }
+    ensures { AreFirstsTaken from bits owed.old must.old owed.new must.new }
+{
+    for row in from..owed.len() {
+        let both = owed[row] & bits;
+        owed[row] = first_taken(both, owed[row]);
+        must[row] = first_taken(both, must[row]);
+    }
+}
+
+/// The word without the first bit of another one, if that has one.
+fn first_taken(both: u64, word: u64) -> u64
+    ensures { result ≡ first_taken both word }
+{
+    if both == 0 {
+        return word;
+    }
+    word & !(1 << both.trailing_zeros())
 }

@@ -1,39 +1,51 @@
-use Rattle.std.proofs.Common.{◌≡◌, arith, ◌∙◌, ap, sym, refl, get_or, set, []}
-use Rattle.std.specs.Prelude.{◌<◌, length}
-use Rattle.sip_ledger.specs.Debts.{paid_by}
-use Rattle.sip_ledger.specs.Grids.{grid_of, grid_rows}
-use Rattle.sip_ledger.proofs.GridLemmas.{rows-length}
-use Rattle.sip_ledger.proofs.PayLemmas.{paid-row}
-use Rattle.sip_ledger.proofs.EachLemmas.{changing-none, changing-more, changing-all, changing-length}
+use Rattle.std.proofs.Common.{◌≡◌, ◌++◌, List, length, take, drop, map, sym, ap, ◌∙◌, subst}
+use Rattle.std.proofs.lemmas.List.{with_items_is}
+use Rattle.sip_ledger.specs.declared.debt.Entry.{Entry}
+use Rattle.sip_ledger.specs.Debts.{is_payable, paid_by}
+use Rattle.sip_ledger.specs.Grids.{Grid, grid_of, grid_rows}
+use Rattle.sip_ledger.specs.inner.Marks.{AreDistinct}
+use Rattle.sip_ledger.specs.inner.Memos.{IsMask}
+use Rattle.sip_ledger.proofs.PayEachLemmas.{pays-all}
 use Rattle.sip_ledger.proofs.rows.Rows.pay_each.Goals as goal
 
-pub loop-row-init : goal.loop-row-init
-loop-row-init c = (omega arith, sym (changing-none (paid_by c.args.message c.args.moment) c.args.from (grid_rows c.args.self.now)))
+pub invariant_of-self : goal.invariant_of-self
+invariant_of-self c =
+    let s = c.self-then-has_distinct.inside in
+    let t = grid_of s.entries.items s.width s.rows s.owed.items s.must.items in
+    let v = c.args.self.now in
+    let view : t ≡ v = c.self-then-has_distinct.view_is ∙ c.payable_bits-bits.ensures.same in
+    let ledger = c.self-then-has_distinct.invariant.ledger in
+    let one : s.width ≡ 1 = ap (λ (x : Grid). x.width) (view ∙ sym c.self.view_is) ∙ c.if-self-eq1.true in
+    let bits = c.payable_bits-bits.result in
+    let o = c.take_firsts.new.owed in
+    let m = c.take_firsts.new.must in
+    let distinct : AreDistinct s.entries.items = subst AreDistinct (sym (ap (λ (x : Grid). x.entries) view)) (c.has_distinct.ensures c.if-has_distinct.true) in
+    let mask : IsMask (is_payable c.args.message c.args.moment) s.entries.items (length s.entries.items) bits =
+    subst (λ (l : List Entry). IsMask (is_payable c.args.message c.args.moment) l (length l) bits) (sym (ap (λ (x : Grid). x.entries) view)) c.payable_bits-bits.ensures.bits in
+    let taken = rw (c.deref_mut.ensures.value, c.deref_mut-then-has_distinct.ensures.value) at c.take_firsts.ensures in
+    let owed_is = with_items_is s.owed o (c.take_firsts.auto.owed ∙ c.deref_mut.ensures.len) in
+    let must_is = with_items_is s.must m (c.take_firsts.auto.must ∙ c.deref_mut-then-has_distinct.ensures.len) in
+    let all = pays-all c.args.message c.args.moment t c.args.from bits o m ledger one distinct mask c.payable_bits-bits.type_inv taken in
+    rw (owed_is, must_is)
+    (record { ledger = all.ledger; rises = c.self-then-has_distinct.invariant.rises; payable = c.self-then-has_distinct.invariant.payable; past = c.self-then-has_distinct.invariant.past })
 
-pub pay-requires : goal.pay-requires
-pay-requires c =
-    let s = c.self.inside in
-    let whole : length (grid_rows c.args.self.now) ≡ s.rows = ap (λ x. length (grid_rows x)) (sym c.self.view_is) ∙ rows-length (grid_of s.entries.items s.width s.rows s.owed.items s.must.items) in
-    let was = c.loop-row.invariant in
-    let size = ap length was.1 ∙ changing-length (paid_by c.args.message c.args.moment) c.args.from c.loop-row.row (grid_rows c.args.self.now) was.0 in
-    omega (arith, size, whole)
-
-pub loop-row-preserved : goal.loop-row-preserved
-loop-row-preserved c =
-    let s = c.self.inside in
-    let whole : length (grid_rows c.args.self.now) ≡ s.rows = ap (λ x. length (grid_rows x)) (sym c.self.view_is) ∙ rows-length (grid_of s.entries.items s.width s.rows s.owed.items s.must.items) in
-    let was = c.loop-row.invariant in
-    let old = grid_rows c.args.self.now in
-    let now = grid_rows c.loop-row.self in
-    let k = c.loop-row.row in
-    let pays = paid_by c.args.message c.args.moment in
-    let le = was.0 in
-    let paid = paid-row c.args.message c.args.moment c.pay.result (get_or now k []) (get_or (grid_rows c.pay.new.self) k []) now (grid_rows c.pay.new.self) c.pay.ensures.paid c.pay.ensures.unpaid in
-    (omega (arith, le), c.pay.ensures.others ∙ ap (set now k) (paid (λ same. ap (λ rows. get_or rows k []) same)) ∙ ap (λ rows. set rows k (pays (get_or rows k []))) was.1 ∙ changing-more pays c.args.from k old [] was.0 (omega (arith, whole)))
-
-pub returns : goal.returns
-returns c =
-    let s = c.self.inside in
-    let whole : length (grid_rows c.args.self.now) ≡ s.rows = ap (λ x. length (grid_rows x)) (sym c.self.view_is) ∙ rows-length (grid_of s.entries.items s.width s.rows s.owed.items s.must.items) in
-    let was = c.loop-row.invariant in
-    was.1 ∙ changing-all (paid_by c.args.message c.args.moment) c.args.from c.loop-row.row (grid_rows c.args.self.now) (omega (arith, whole))
+pub returns-then-has_distinct : goal.returns-then-has_distinct
+returns-then-has_distinct c =
+    let s = c.self-then-has_distinct.inside in
+    let t = grid_of s.entries.items s.width s.rows s.owed.items s.must.items in
+    let v = c.args.self.now in
+    let view : t ≡ v = c.self-then-has_distinct.view_is ∙ c.payable_bits-bits.ensures.same in
+    let ledger = c.self-then-has_distinct.invariant.ledger in
+    let one : s.width ≡ 1 = ap (λ (x : Grid). x.width) (view ∙ sym c.self.view_is) ∙ c.if-self-eq1.true in
+    let bits = c.payable_bits-bits.result in
+    let o = c.take_firsts.new.owed in
+    let m = c.take_firsts.new.must in
+    let distinct : AreDistinct s.entries.items = subst AreDistinct (sym (ap (λ (x : Grid). x.entries) view)) (c.has_distinct.ensures c.if-has_distinct.true) in
+    let mask : IsMask (is_payable c.args.message c.args.moment) s.entries.items (length s.entries.items) bits =
+    subst (λ (l : List Entry). IsMask (is_payable c.args.message c.args.moment) l (length l) bits) (sym (ap (λ (x : Grid). x.entries) view)) c.payable_bits-bits.ensures.bits in
+    let taken = rw (c.deref_mut.ensures.value, c.deref_mut-then-has_distinct.ensures.value) at c.take_firsts.ensures in
+    let owed_is = with_items_is s.owed o (c.take_firsts.auto.owed ∙ c.deref_mut.ensures.len) in
+    let must_is = with_items_is s.must m (c.take_firsts.auto.must ∙ c.deref_mut-then-has_distinct.ensures.len) in
+    let all = pays-all c.args.message c.args.moment t c.args.from bits o m ledger one distinct mask c.payable_bits-bits.type_inv taken in
+    rw (owed_is, must_is)
+    (all.rows ∙ ap (λ rows. take c.args.from rows ++ map (paid_by c.args.message c.args.moment) (drop c.args.from rows)) (ap grid_rows view))

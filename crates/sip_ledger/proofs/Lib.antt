@@ -17,3 +17,4 @@ pub mod MarkLemmas
 pub mod GainLemmas
 pub mod KeepLemmas
 pub mod PayEachLemmas
+pub mod ExpireEachLemmas

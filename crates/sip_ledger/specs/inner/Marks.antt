@@ -1,4 +1,4 @@
-use Rattle.std.specs.Prelude.{◌≡◌, ◌≢◌, ◌==◌, ◌&&◌, ◌<◌, ◌≤◌, ◌^◌, ◌*◌, ◌%◌, ℕ, Bool, true, cond, get_or, not, bit_and, Option, None, Some, List, [], ◌∷◌, ◌++◌, filter, length}
+use Rattle.std.specs.Prelude.{◌≡◌, ◌≢◌, ◌==◌, ◌&&◌, ◌<◌, ◌≤◌, ◌^◌, ◌*◌, ◌%◌, ℕ, Bool, true, cond, get_or, not, bit_and, bit_or, Option, None, Some, List, [], ◌∷◌, ◌++◌, filter, length}
 use Rattle.std.specs.Int.{w64, bit_not, trailing_zeros}
 use Rattle.sip_masks.specs.Bits.{test}
 use Rattle.sip_ledger.specs.declared.debt.Debt.{Debt}
@@ -51,3 +51,9 @@ pub record AreFirstsTaken (from bits : ℕ) (owed must owed' must' : List ℕ) :
 -- no two entries are equal
 abbrev pub AreDistinct : List Entry → Type 0
 AreDistinct entries = (i k : ℕ) (e : Entry) → i < k → k < length entries → get_or entries i e ≢ get_or entries k e
+
+-- each word from one on has no other bits than those of another one and those that are kept
+pub record AreKept (from kept : ℕ) (owed must owed' : List ℕ) : Type 0 where
+  pub long : length owed' ≡ length owed
+  pub before : (k : ℕ) → k < from → get_or owed' k 0 ≡ get_or owed k 0
+  pub behind : (k : ℕ) → from ≤ k → k < length owed → get_or owed' k 0 ≡ bit_and (get_or owed k 0) (bit_or (get_or must k 0) kept)

@@ -10,7 +10,7 @@ ghost use Rattle.sip_ledger.specs.Rows.{debt_of};
 ghost use Rattle.sip_ledger.specs.Grids.{grid_of, grid_rows, grid_row, IsGrid};
 ghost use Rattle.sip_ledger.specs.Ledgers.{from_to, Rise};
 ghost use Rattle.sip_ledger.specs.Prints.{grid_print};
-ghost use Rattle.sip_ledger.specs.inner.Marks.{is_marked, first_taken, AreDistinct, AreFirstsTaken, IsSetFrom, IsTold, ArePut};
+ghost use Rattle.sip_ledger.specs.inner.Marks.{is_marked, first_taken, AreDistinct, AreFirstsTaken, AreKept, IsSetFrom, IsTold, ArePut};
 ghost use Rattle.sip_ledger.specs.inner.Places.{AreRising};
 
 use crate::debt::{Debt, Entry};
@@ -23,10 +23,18 @@ impl Rows {
     pub(crate) fn expire_each(&mut self, from: usize, moment: u64)
         ensures { grid_rows self.new ≡ take from (grid_rows self.old) ++ map (filter (counts_at moment)) (drop from (grid_rows self.old)) }
     {
-        if self.width == 1 {
-            self.expire_words(from, moment);
-        } else {
+        if self.width != 1 {
             self.expire_rows(from, moment);
+            return;
+        }
+        let past = self.past_bits(moment);
+        if past == 0 {
+            return;
+        }
+        if self.has_distinct() {
+            self.expire_distinct(from, moment);
+        } else {
+            self.expire_words(from, moment);
         }
     }
 
@@ -45,14 +53,21 @@ impl Rows {
         ensures { grid_rows self.new ≡ take from (grid_rows self.old) ++ map (filter (counts_at moment)) (drop from (grid_rows self.old)) }
     {
         let bits = self.past_bits(moment);
-        if bits == 0 {
-            return;
-        }
         for row in from..self.rows {
             if !row::keeps_past(self.owed[row], self.must[row], bits) {
                 self.expire(row, moment);
             }
         }
+    }
+
+    /// The same where besides no two entries are equal: then no bit moves.
+    fn expire_distinct(&mut self, from: usize, moment: u64)
+        requires one { self.old.width ≡ 1 }
+        requires distinct { AreDistinct self.old.entries }
+        ensures { grid_rows self.new ≡ take from (grid_rows self.old) ++ map (filter (counts_at moment)) (drop from (grid_rows self.old)) }
+    {
+        let past = self.past_bits(moment);
+        keep_bits(&mut self.owed, &self.must, from, !past);
     }
 
     /// Lets each row from one on owe one more debt, behind its others. On an error the rows before them are as they were, and there
@@ -406,4 +421,14 @@ fn first_taken(both: u64, word: u64) -> u64
         return word;
     }
     word & !(1 << both.trailing_zeros())
+}
+
+/// Leaves each word from one on no other bits than those that the other word has and those of a mask.
+fn keep_bits(owed: &mut [u64], must: &[u64], from: usize, kept: u64)
+    requires { length owed.old ≤ length must.now }
+    ensures { AreKept from kept owed.old must.now owed.new }
+{
+    for row in from..owed.len() {
+        owed[row] &= must[row] | kept;
+    }
 }

@@ -13,12 +13,6 @@ use Rattle.sip_ledger.proofs.EachLemmas.{changing-none, changing-more, changing-
 use Rattle.sip_ledger.proofs.rows.Rows.expire_words.Goals as goal
 use Rattle.sip_ledger.proofs.rows.Rows.expire_words.Goals.{then-not-keeps_past, else-not-keeps_past}
 
-pub returns-then-bits-eq0 : goal.returns-then-bits-eq0
-returns-then-bits-eq0 c =
-    let v = c.args.self.now in
-    let mask = subst (λ n. IsMask (asked_of None c.args.moment) v.entries (length v.entries) n) c.if-bits-eq0.true c.past_bits-bits.ensures.bits in
-    rw c.past_bits-bits.ensures.same (fresh-rows c.args.moment c.args.from v mask)
-
 pub loop-row-init : goal.loop-row-init
 loop-row-init c =
     let same = c.past_bits-bits.ensures.same in

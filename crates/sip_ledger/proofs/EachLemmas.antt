@@ -1,6 +1,6 @@
 -- Lists of which each element from one on changes, or behind which some of them come once more.
 use Prim.Native.Nat.{suc, zero}
-use Rattle.std.proofs.Common.{Result, Ok, Err, OnErr, ◌≡◌, ◌<◌, ◌≤◌, ◌⊎◌, inl, inr, ℕ, ◌+◌, Bool, List, [], ◌∷◌, ◌++◌, length, drop, take, get_or, set, map, filter, refl, ap, ap₂, sym, ◌∙◌, arith, cond}
+use Rattle.std.proofs.Common.{Result, Ok, Err, OnErr, ◌≡◌, ◌<◌, ◌≤◌, ◌⊎◌, inl, inr, ℕ, ◌+◌, Bool, false, List, [], ◌∷◌, ◌++◌, length, drop, take, get_or, set, map, filter, refl, ap, ap₂, sym, ◌∙◌, arith, cond}
 use Rattle.std.proofs.lemmas.List.Elements.{filter_more}
 use Rattle.sip_ledger.specs.Ledgers.{from_to}
 
@@ -100,6 +100,17 @@ module _ {X : Type 0} where
       filter p (from_to from (k + 1) xs) ≡ filter p (from_to from k xs) ++ cond (p (get_or xs k d)) (get_or xs k d ∷ []) []
   passing-more p from k xs d le low =
       let next : k + 1 ≡ suc k = omega arith in ap (λ n. filter p (from_to from n xs)) next ∙ passing-next p from k xs d le low
+
+  -- none of the elements passes a test
+  pub passing-none : (p : X → Bool) (from to : ℕ) (xs : List X) → ((k : ℕ) (d : X) → k < length xs → p (get_or xs k d) ≡ false) → filter p (from_to from to xs) ≡ []
+  passing-none p zero zero xs each = refl
+  passing-none p zero (suc to) [] each = refl
+  passing-none p zero (suc to) (x ∷ xs) each =
+      ap (λ b. cond b (x ∷ filter p (take to xs)) (filter p (take to xs))) (each 0 x (omega arith))
+      ∙ passing-none p zero to xs (λ k d below. each (suc k) d (omega (arith, below)))
+  passing-none p (suc from) zero xs each = refl
+  passing-none p (suc from) (suc to) [] each = refl
+  passing-none p (suc from) (suc to) (x ∷ xs) each = passing-none p from to xs (λ k d below. each (suc k) d (omega (arith, below)))
 
   -- up to the same place
   pub from_to-end : (from to k : ℕ) (xs : List X) → from ≤ k → to ≤ k → k ≤ to ⊎ k ≤ from → from_to from k xs ≡ from_to from to xs

@@ -22,13 +22,13 @@ use Rattle.sip_ledger.specs.Ledgers.{from_to}
 use Rattle.sip_ledger.specs.Prints.{mixed, grid_print}
 use Rattle.sip_ledger.specs.inner.Memos.{asked_of, IsMask}
 use Rattle.sip_ledger.specs.inner.Places.{AsksNoMust}
-use Rattle.sip_ledger.proofs.BitsLemmas.{lowest-set}
-use Rattle.sip_ledger.proofs.ListedLemmas.{no_entry, listed-must}
+use Rattle.sip_ledger.proofs.BitsLemmas.{lowest-set, test-zero}
+use Rattle.sip_ledger.proofs.ListedLemmas.{no_entry, listed-must, listed-All}
 use Rattle.sip_ledger.proofs.RowLemmas.{listed-any, none-passes}
 use Rattle.sip_ledger.proofs.WordLemmas.{has-one, none-in, none-of_word, word-part, part-one}
 use Rattle.sip_ledger.proofs.WordRowLemmas.{word-row, row-in_word}
-use Rattle.sip_ledger.proofs.GridLemmas.{rows-length, rows-get, pushed-row, print-is}
-use Rattle.sip_ledger.proofs.EachLemmas.{from_to-none, from_to-end, passing-more}
+use Rattle.sip_ledger.proofs.GridLemmas.{rows-length, rows-get, rows-inside, pushed-row, print-is}
+use Rattle.sip_ledger.proofs.EachLemmas.{from_to-none, from_to-end, passing-more, passing-none}
 
 pub some-bits : (n : ℕ) → (n == 0) ≡ false → 0 < n
 some-bits n e = grind (arith, nat_tests)
@@ -214,3 +214,18 @@ word-print t v row view one ledger inside =
 pub word-count : (t v : Grid) → t ≡ v → t.width ≡ 1 → IsGrid t → length (grid_rows v) ≡ length t.owed
 word-count t v view one ledger =
     ap (λ x. length (grid_rows x)) (sym view ∙ word-grid t one ledger) ∙ rows-length (grid_of t.entries 1 (length t.owed) t.owed t.must)
+
+-- where a message pays no entry, no row has a debt that it pays
+pub none-payable : (message t from to : ℕ) (g : Grid) → IsMask (is_payable message t) g.entries (length g.entries) 0 →
+    grid_rows g ++ filter (λ owes. list_any (is_payable message t) owes && is_timely t owes) (from_to from to (grid_rows g)) ≡ grid_rows g
+none-payable message t from to g mask =
+    let rows = grid_rows g in
+    let asks = is_payable message t in
+    ap (λ l. rows ++ l) (passing-none (λ owes. list_any asks owes && is_timely t owes) from to rows (λ k d below.
+    let o = has (part g.width k g.owed) in
+    let m = has (part g.width k g.must) in
+    let none : list_any asks (debts_from o m 0 g.entries) ≡ false =
+    list_any_none asks (debts_from o m 0 g.entries) (listed-All (λ d. asks d ≡ false) o m 0 g.entries (λ j e inside _. sym (mask.tells j e inside) ∙ test-zero j)) in
+    ap (λ owes. list_any asks owes && is_timely t owes) (rows-get g k d (rows-inside g k below))
+    ∙ ap (λ b. b && is_timely t (debts_from o m 0 g.entries)) none))
+    ∙ append-nil rows

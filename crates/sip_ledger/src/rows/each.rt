@@ -197,6 +197,9 @@ impl Rows {
     {
         if self.width == 1 {
             let payable = self.payable_bits(message, moment);
+            if payable == 0 {
+                return Ok(());
+            }
             let past = self.past_bits(moment);
             self.push_marked(from, to, Some(payable), past)
         } else {

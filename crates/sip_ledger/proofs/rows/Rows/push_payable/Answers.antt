@@ -6,11 +6,19 @@ use Rattle.sip_ledger.specs.Debts.{is_payable, is_timely}
 use Rattle.sip_ledger.specs.Grids.{Grid, grid_rows}
 use Rattle.sip_ledger.specs.Ledgers.{from_to}
 use Rattle.sip_ledger.specs.inner.Memos.{IsMask, asked_of}
-use Rattle.sip_ledger.proofs.MarkLemmas.{payable-told}
+use Rattle.sip_ledger.proofs.MarkLemmas.{payable-told, none-payable}
 use Rattle.sip_ledger.proofs.rows.Rows.push_payable.Goals as goal
 
-pub returns-then-self-eq1-clause-ok : goal.returns-then-self-eq1-clause-ok
-returns-then-self-eq1-clause-ok c =
+pub returns-then-payable-eq0-clause-ok : goal.returns-then-payable-eq0-clause-ok
+returns-then-payable-eq0-clause-ok c =
+    let message = c.args.message in
+    let t = c.args.moment in
+    let v = c.args.self.now in
+    let mask = subst (λ n. IsMask (is_payable message t) v.entries (length v.entries) n) c.if-payable-eq0.true c.payable_bits-payable.ensures.bits in
+    ap grid_rows c.payable_bits-payable.ensures.same ∙ sym (none-payable message t c.args.from c.args.to v mask)
+
+pub returns-else-payable-eq0-clause-ok : goal.returns-else-payable-eq0-clause-ok
+returns-else-payable-eq0-clause-ok c =
     let message = c.args.message in
     let t = c.args.moment in
     let same = c.past_bits-past.ensures.same ∙ c.payable_bits-payable.ensures.same in

@@ -73,11 +73,11 @@ has-with_other words bit k within other =
 abbrev pub without_bit : ℕ → ℕ → ℕ
 without_bit w i = bit_and w (bit_not w64 (1 * 2 ^ i % 2 ^ 64))
 
-test-without_same : (w i : ℕ) → i < 64 → test (without_bit w i) i ≡ false
+pub test-without_same : (w i : ℕ) → i < 64 → test (without_bit w i) i ≡ false
 unfolding test
 test-without_same w i low = ap (λ n. n == 1) (bit_at_clear_same w64 w i low)
 
-test-without_other : (w i j : ℕ) → i < 64 → j < 64 → j ≢ i → test (without_bit w i) j ≡ test w j
+pub test-without_other : (w i j : ℕ) → i < 64 → j < 64 → j ≢ i → test (without_bit w i) j ≡ test w j
 unfolding test
 test-without_other w i j low also other = ap (λ n. n == 1) (bit_at_clear_other w64 w i low j also other)
 

@@ -1,8 +1,13 @@
 -- Lists of which each element from one on changes, or behind which some of them come once more.
 use Prim.Native.Nat.{suc, zero}
-use Rattle.std.proofs.Common.{Result, Ok, Err, OnErr, OnOk, is_err, true, false, true≢false, ◌≡◌, ◌<◌, ◌≤◌, ◌⊎◌, inl, inr, ℕ, ◌+◌, Bool, List, [], ◌∷◌, ◌++◌, length, drop, take, get_or, set, map, filter, refl, ap, sym, ◌∙◌, arith, cond}
+use Rattle.std.proofs.Common.{Result, Ok, Err, OnErr, OnOk, is_err, true, true≢false, ◌≡◌, ◌<◌, ◌≤◌, ◌⊎◌, inl, inr, ℕ, ◌+◌, Bool, false, List, [], ◌∷◌, ◌++◌, length, drop, take, get_or, set, map, filter, refl, ap, ap₂, sym, ◌∙◌, arith, cond}
 use Rattle.std.proofs.lemmas.List.Elements.{filter_more}
 use Rattle.sip_ledger.specs.Ledgers.{from_to}
+
+-- what holds always, holds on an error
+pub always_err : {T E : Type 0} (r : Result T E) (P : Type 0) → P → OnErr r P
+always_err (Ok x) P p = tt
+always_err (Err e) P p = p
 
 -- what holds on an error, and without one
 pub on_err : {T E : Type 0} (r : Result T E) (P : Type 0) → is_err r ≡ true → OnErr r P → P
@@ -68,6 +73,30 @@ module _ {X : Type 0} where
   changing-front f (suc from) (suc k) [] le = refl
   changing-front f (suc from) (suc k) (x ∷ xs) le = ap (λ ys. x ∷ ys) (changing-front f from k xs (omega (arith, le)))
 
+  -- a change that changes none of the elements
+  pub unchanged-each : (f : X → X) (from : ℕ) (xs : List X) → ((k : ℕ) (d : X) → k < length xs → f (get_or xs k d) ≡ get_or xs k d) → xs ≡ take from xs ++ map f (drop from xs)
+  unchanged-each f zero [] each = refl
+  unchanged-each f zero (x ∷ xs) each = ap₂ (λ y ys. y ∷ ys) (sym (each 0 x (omega arith))) (unchanged-each f zero xs (λ k d below. each (suc k) d (omega (arith, below))))
+  unchanged-each f (suc from) [] each = refl
+  unchanged-each f (suc from) (x ∷ xs) each = ap (λ ys. x ∷ ys) (unchanged-each f from xs (λ k d below. each (suc k) d (omega (arith, below))))
+
+  -- a list in which each element from one on has changed
+  pub changed-each : (f : X → X) (from : ℕ) (xs ys : List X) → length ys ≡ length xs → ((k : ℕ) (d : X) → k < from → k < length xs → get_or ys k d ≡ get_or xs k d) →
+      ((k : ℕ) (d : X) → from ≤ k → k < length xs → get_or ys k d ≡ f (get_or xs k d)) → ys ≡ take from xs ++ map f (drop from xs)
+  changed-each f zero [] [] long before behind = refl
+  changed-each f zero [] (y ∷ ys) long before behind = absurd (omega (arith, long))
+  changed-each f zero (x ∷ xs) [] long before behind = absurd (omega (arith, long))
+  changed-each f zero (x ∷ xs) (y ∷ ys) long before behind =
+      ap₂ (λ z zs. z ∷ zs) (behind 0 x (omega arith) (omega arith))
+      (changed-each f zero xs ys (omega (arith, long)) (λ k d early _. absurd (omega (arith, early))) (λ k d _ below. behind (suc k) d (omega arith) (omega (arith, below))))
+  changed-each f (suc from) [] [] long before behind = refl
+  changed-each f (suc from) [] (y ∷ ys) long before behind = absurd (omega (arith, long))
+  changed-each f (suc from) (x ∷ xs) [] long before behind = absurd (omega (arith, long))
+  changed-each f (suc from) (x ∷ xs) (y ∷ ys) long before behind =
+      ap₂ (λ z zs. z ∷ zs) (before 0 x (omega arith) (omega arith))
+      (changed-each f from xs ys (omega (arith, long)) (λ k d early below. before (suc k) d (omega (arith, early)) (omega (arith, below)))
+      (λ k d above below. behind (suc k) d (omega (arith, above)) (omega (arith, below))))
+
   -- one more of the elements that pass a test
   passing-next : (p : X → Bool) (from k : ℕ) (xs : List X) (d : X) → from ≤ k → k < length xs →
       filter p (from_to from (suc k) xs) ≡ filter p (from_to from k xs) ++ cond (p (get_or xs k d)) (get_or xs k d ∷ []) []
@@ -80,6 +109,17 @@ module _ {X : Type 0} where
       filter p (from_to from (k + 1) xs) ≡ filter p (from_to from k xs) ++ cond (p (get_or xs k d)) (get_or xs k d ∷ []) []
   passing-more p from k xs d le low =
       let next : k + 1 ≡ suc k = omega arith in ap (λ n. filter p (from_to from n xs)) next ∙ passing-next p from k xs d le low
+
+  -- none of the elements passes a test
+  pub passing-none : (p : X → Bool) (from to : ℕ) (xs : List X) → ((k : ℕ) (d : X) → k < length xs → p (get_or xs k d) ≡ false) → filter p (from_to from to xs) ≡ []
+  passing-none p zero zero xs each = refl
+  passing-none p zero (suc to) [] each = refl
+  passing-none p zero (suc to) (x ∷ xs) each =
+      ap (λ b. cond b (x ∷ filter p (take to xs)) (filter p (take to xs))) (each 0 x (omega arith))
+      ∙ passing-none p zero to xs (λ k d below. each (suc k) d (omega (arith, below)))
+  passing-none p (suc from) zero xs each = refl
+  passing-none p (suc from) (suc to) [] each = refl
+  passing-none p (suc from) (suc to) (x ∷ xs) each = passing-none p from to xs (λ k d below. each (suc k) d (omega (arith, below)))
 
   -- up to the same place
   pub from_to-end : (from to k : ℕ) (xs : List X) → from ≤ k → to ≤ k → k ≤ to ⊎ k ≤ from → from_to from k xs ≡ from_to from to xs

@@ -13,3 +13,8 @@ pub mod WordsLemmas
 pub mod MemoLemmas
 pub mod WordLemmas
 pub mod WordRowLemmas
+pub mod MarkLemmas
+pub mod GainLemmas
+pub mod KeepLemmas
+pub mod PayEachLemmas
+pub mod ExpireEachLemmas

@@ -20,11 +20,11 @@ module _ (message t : ℕ) where
       ap (λ b. cond b (before ++ first ∷ after) (debt ∷ paid_by message t (before ++ first ∷ after))) unpaid
       ∙ ap (λ debts. debt ∷ debts) (paid-behind before first after (All-tail Unpaid debt before none) pays)
 
-  paid-is : (debts left : List Debt) → IsWithoutFirst (λ debt. IsTrue (is_payable message t debt)) debts left → left ≡ paid_by message t debts
+  pub paid-is : (debts left : List Debt) → IsWithoutFirst (λ debt. IsTrue (is_payable message t debt)) debts left → left ≡ paid_by message t debts
   paid-is debts left a = a.rest ∙ sym (paid-behind a.before a.first a.after a.none_before a.holds) ∙ ap (paid_by message t) (sym a.whole)
 
   -- where it pays none, all stay
-  unpaid-is : (debts : List Debt) → All Unpaid debts → paid_by message t debts ≡ debts
+  pub unpaid-is : (debts : List Debt) → All Unpaid debts → paid_by message t debts ≡ debts
   unpaid-is [] none = refl
   unpaid-is (debt ∷ debts) none =
       let unpaid = false_from_ne_true (is_payable message t debt) (All-head Unpaid debt debts none) in

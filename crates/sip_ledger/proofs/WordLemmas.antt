@@ -154,6 +154,21 @@ fresh-word t entries owed bits must small mask within zero =
     kept true b then = sym (then refl)
     kept false b then = refl
 
+-- where no entry is past, every debt counts
+pub fresh-entries : (t : ℕ) (entries : List Entry) (o m : ℕ → Bool) → IsMask (asked_of None t) entries (length entries) 0 →
+    filter (counts_at t) (debts_from o m 0 entries) ≡ debts_from o m 0 entries
+fresh-entries t entries o m mask =
+    sym (listed-counting t o m o 0 entries (λ j e inside.
+    let here : 0 + j ≡ j = omega arith in
+    let counts : (m j || nat_le t (get_or entries j e).deadline) ≡ true =
+    or_right (m j) (nat_le t (get_or entries j e).deadline)
+    (le-leb t (get_or entries j e).deadline (ltb-false (get_or entries j e).deadline t (sym (mask.tells j e inside) ∙ test-zero j))) in
+    subst (λ n. o n ≡ (o n && (m n || nat_le t (get_or entries j e).deadline))) (sym here) (kept (o j) (m j || nat_le t (get_or entries j e).deadline) counts)))
+  where
+    kept : (a b : Bool) → b ≡ true → a ≡ (a && b)
+    kept true b is = sym is
+    kept false b is = refl
+
 -- where deadlines never fall and the first debt counts, all do
 pub fresh-first : (t : ℕ) (entries : List Entry) (o m : ℕ → Bool) (at : ℕ) → AreRising entries → ((k : ℕ) → k < at → o k ≡ false) →
     ((e : Entry) → at < length entries → t ≤ (get_or entries at e).deadline) → filter (counts_at t) (debts_from o m 0 entries) ≡ debts_from o m 0 entries

@@ -1,5 +1,5 @@
 -- Rows of one word, and what a mask of the entries tells of them.
-use Rattle.std.proofs.Common.{◌≡◌, ℕ, ◌+◌, ◌*◌, ◌<◌, Bool, true, false, List, [], ◌∷◌, length, filter, sym, ap, ap₂, ◌∙◌, subst, arith}
+use Rattle.std.proofs.Common.{◌≡◌, ℕ, ◌+◌, ◌*◌, ◌<◌, Bool, true, false, List, [], ◌∷◌, ◌++◌, length, take, drop, filter, map, sym, ap, ap₂, ◌∙◌, subst, arith}
 use Rattle.std.specs.Prelude.{Option, None, Some, IfSome, IfNone}
 use Rattle.std.specs.Bool.{OnTrue}
 use Rattle.sip_masks.specs.Bits.{test}
@@ -9,12 +9,13 @@ use Rattle.sip_ledger.specs.declared.row.Place.{Place}
 use Rattle.sip_ledger.specs.Bits.{has}
 use Rattle.sip_ledger.specs.Debts.{counts_at}
 use Rattle.sip_ledger.specs.Rows.{row_debts, IsRow}
-use Rattle.sip_ledger.specs.Grids.{Grid, part, grid_row, IsGrid}
-use Rattle.sip_ledger.specs.inner.Memos.{IsMask}
+use Rattle.sip_ledger.specs.Grids.{Grid, part, grid_rows, grid_row, IsGrid}
+use Rattle.sip_ledger.specs.inner.Memos.{asked_of, IsMask}
 use Rattle.sip_ledger.specs.inner.Places.{IsFirst, IsFirstIn, NonePasses}
 use Rattle.sip_ledger.proofs.TableLemmas.{row-inside}
-use Rattle.sip_ledger.proofs.WordLemmas.{first-of_word, none-of_word}
-use Rattle.sip_ledger.proofs.GridLemmas.{row-before_change}
+use Rattle.sip_ledger.proofs.WordLemmas.{first-of_word, none-of_word, fresh-entries}
+use Rattle.sip_ledger.proofs.GridLemmas.{row-before_change, rows-get, rows-inside}
+use Rattle.sip_ledger.proofs.EachLemmas.{unchanged-each}
 
 pub row-in_word : (t : Grid) (row : ℕ) → IsGrid t → t.width ≡ 1 → row < t.rows → (row < length t.owed) × (row < length t.must)
 row-in_word t row ledger one inside =
@@ -57,3 +58,13 @@ pub word-row : (entries : List Entry) (width row word must : ℕ) (owed_words mu
 word-row entries width row word must owed_words must_words own own_must is =
     subst (λ o. IsRow entries (has o) (has (must ∷ []))) own
     (subst (λ m. IsRow entries (has (part width row owed_words)) (has m)) own_must is)
+
+-- where no entry is past, no row changes as what is past expires
+pub fresh-rows : (moment from : ℕ) (t : Grid) → IsMask (asked_of None moment) t.entries (length t.entries) 0 →
+    grid_rows t ≡ take from (grid_rows t) ++ map (filter (counts_at moment)) (drop from (grid_rows t))
+fresh-rows moment from t mask =
+    unchanged-each (filter (counts_at moment)) from (grid_rows t) (λ k d below.
+    let same = rows-get t k d (rows-inside t k below) in
+    ap (filter (counts_at moment)) same
+    ∙ fresh-entries moment t.entries (has (part t.width k t.owed)) (has (part t.width k t.must)) mask
+    ∙ sym same)

@@ -1,4 +1,4 @@
-use Rattle.std.specs.Prelude.{ℕ, List, [], ◌∷◌, Option, None, Some, drop, get_or, take}
+use Rattle.std.specs.Prelude.{◌<◌, ℕ, length, List, [], ◌∷◌, Option, None, Some, drop, get_or, take}
 use Rattle.std.specs.Map.{values_of}
 use Rattle.sip_ledger.specs.declared.debt.Debt.{Debt}
 use Rattle.sip_ledger.specs.Grids.{Grid, grid_rows}
@@ -28,3 +28,7 @@ row_of table row = get_or (rows_of table) row []
 -- the elements from one index up to another
 abbrev pub from_to : {X : Type 0} → ℕ → ℕ → List X → List X
 from_to from to xs = drop from (take to xs)
+
+-- each of the numbers is greater than those before it
+abbrev pub Rise : List ℕ → Type 0
+Rise numbers = (i k : ℕ) → i < k → k < length numbers → get_or numbers i 0 < get_or numbers k 0

@@ -1,6 +1,7 @@
 pub mod Ends
 pub mod Indexes
 pub mod Longs
+pub mod Marks
 pub mod Memos
 pub mod Places
 pub mod Tables

@@ -11,6 +11,8 @@ ghost use Rattle.std.specs.Map.{values_of};
 ghost use Rattle.sip_ledger.specs.Prints.{print_of};
 ghost use Rattle.sip_ledger.specs.Runs.{AreRuns};
 
+mod each;
+
 use crate::debt::Debt;
 use crate::long_row::LongRow;
 use crate::rows::Rows;

@@ -3,7 +3,6 @@
 
 mod bits;
 mod debt;
-mod each;
 mod index;
 mod indexes;
 mod ledger;

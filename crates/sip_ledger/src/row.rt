@@ -131,7 +131,7 @@ fn settle(entries: &[Entry], rises: bool, owed: &mut [u64], must: &mut [u64], pl
 }
 
 /// The first entry from here on that is equal to the one at the index.
-fn first_equal(entries: &[Entry], rises: bool, low: usize, at: usize) -> usize
+pub(crate) fn first_equal(entries: &[Entry], rises: bool, low: usize, at: usize) -> usize
     requires rising { rises ≡ true → AreRising entries.now }
     requires order { low ≤ at }
     requires within { at < length entries.now }

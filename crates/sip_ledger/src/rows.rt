@@ -12,6 +12,8 @@ ghost use Rattle.sip_ledger.specs.inner.Memos.{asked_of, IsMask};
 ghost use Rattle.sip_ledger.specs.inner.Places.{AreRising, AsksNoMust, IsBit, IsFirst, NonePasses};
 ghost use Rattle.sip_ledger.specs.inner.Tables.{IsGrown, IsPlace};
 
+mod each;
+
 use crate::debt::{Debt, Entry};
 use crate::memo::{Memo, Question};
 use crate::row::{self, Place};
@@ -327,7 +329,8 @@ impl Rows {
     /// Drops what the row may send and whose deadline is below the moment.
     pub(crate) fn expire(&mut self, row: usize, moment: u64)
         requires { row < length (grid_rows self.old) }
-        ensures { grid_rows self.new ≡ set (grid_rows self.old) row (filter (counts_at moment) (grid_row self.old row)) }
+        ensures rows { grid_rows self.new ≡ set (grid_rows self.old) row (filter (counts_at moment) (grid_row self.old row)) }
+        ensures entries { (self.new.entries ≡ self.old.entries) × (self.new.width ≡ self.old.width) }
     {
         if self.is_fresh(row, moment) {
             return;

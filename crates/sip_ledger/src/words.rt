@@ -1,8 +1,8 @@
 //! The words of all rows, one row behind another.
-ghost use Rattle.std.specs.Prelude.{◌≡◌, ◌<◌, ◌≤◌, ◌*◌, ◌++◌, ℕ, OnOk, OnErr, IfOk, length, drop, fold, get_or, replicate};
+ghost use Rattle.std.specs.Prelude.{◌≡◌, ◌<◌, ◌≤◌, ◌+◌, ◌-◌, ◌*◌, ◌++◌, ℕ, OnOk, OnErr, IfOk, length, drop, fold, get_or, replicate};
 ghost use Rattle.sip_ledger.specs.Grids.{part};
 ghost use Rattle.sip_ledger.specs.Prints.{mixed};
-ghost use Rattle.sip_ledger.specs.inner.Tables.{IsInside, IsWidened, IsNarrowed, IsEmptyFront};
+ghost use Rattle.sip_ledger.specs.inner.Tables.{AreWords, IsInside, IsWidened, IsNarrowed, IsEmptyFront};
 
 use std::alloc::{AllocError, Global};
 
@@ -122,7 +122,35 @@ pub(crate) fn print(seed: u64, words: &[u64]) -> u64
 {
     let mut print = seed;
     for word in words {
-        print = (print ^ *word).wrapping_mul(11_400_714_819_323_198_485);
+        print = mixed(print, *word);
     }
     print
+}
+
+/// A number for another one and a word.
+fn mixed(print: u64, word: u64) -> u64
+    ensures { result ≡ mixed print word }
+{
+    (print ^ word).wrapping_mul(11_400_714_819_323_198_485)
+}
+
+/// A number for each row of one word from one on.
+pub(crate) fn prints(
+    alloc: Global,
+    owed: &[u64],
+    must: &[u64],
+    from: usize,
+) -> Result<Vec<u64>, AllocError>
+    requires { length owed.now ≤ length must.now }
+    ensures long { IfOk result (λ prints. length prints.items ≡ length owed.now - from) }
+    ensures each { IfOk result (λ prints. (k : ℕ) → from + k < length owed.now →
+        get_or prints.items k 0 ≡ mixed (mixed 0 (get_or owed.now (from + k) 0)) (get_or must.now (from + k) 0)) }
+    ensures words { AreWords owed.now × AreWords must.now }
+{
+    let count = owed.len().saturating_sub(from);
+    let mut prints = Vec::with_capacity(alloc, count)?;
+    for row in from..owed.len() {
+        prints.push_reserved(mixed(mixed(0, owed[row]), must[row]));
+    }
+    Ok(prints)
 }

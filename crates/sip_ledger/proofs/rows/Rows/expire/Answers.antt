@@ -7,8 +7,8 @@ use Rattle.sip_ledger.proofs.GridLemmas.{changed, changed-to, unchanged-others, 
 use Rattle.sip_ledger.proofs.TableLemmas.{table-row}
 use Rattle.sip_ledger.proofs.rows.Rows.expire.Goals as goal
 
-pub returns-then-is_fresh : goal.returns-then-is_fresh
-returns-then-is_fresh c =
+pub returns-then-is_fresh-clause-rows : goal.returns-then-is_fresh-clause-rows
+returns-then-is_fresh-clause-rows c =
     let v = c.args.self.now in
     rw c.is_fresh.ensures.same (unchanged-others v c.args.row ∙ ap (λ d. set (grid_rows v) c.args.row d) (sym (OnTrue_at c.if-is_fresh.true c.is_fresh.ensures.fresh)))
 
@@ -44,8 +44,8 @@ invariant_of-self c =
     let debts = rw (c.deref.ensures.value, c.deref_mut.ensures.value, c.deref_mut-2.ensures.value) at c.expire.ensures.debts in
     rw (owed_is, must_is) (record { ledger = is.ledger; rises = c.self.invariant.rises; payable = c.self.invariant.payable; past = c.self.invariant.past })
 
-pub returns : goal.returns
-returns c =
+pub returns-clause-rows : goal.returns-clause-rows
+returns-clause-rows c =
     let s = c.self.inside in
     let t = grid_of s.entries.items s.width s.rows s.owed.items s.must.items in
     let v = c.args.self.now in

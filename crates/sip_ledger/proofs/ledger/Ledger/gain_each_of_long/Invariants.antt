@@ -1,0 +1,8 @@
+use Rattle.std.specs.Prelude.{◌≡◌, ◌≤◌, ◌++◌, ◌∷◌, []}
+use Rattle.sip_ledger.specs.Ledgers.{rows_of}
+use Rattle.sip_ledger.proofs.EachLemmas.{changing}
+use Rattle.sip_ledger.proofs.ledger.Ledger.gain_each_of_long.Given as goal
+
+-- the rows so far owe one more
+abbrev pub invariant-loop-row : goal.invariant-loop-row
+invariant-loop-row l = (l.from ≤ l.row) × (rows_of l.self ≡ changing (λ owes. owes ++ l.debt ∷ []) l.from l.row (rows_of l.initial.self))

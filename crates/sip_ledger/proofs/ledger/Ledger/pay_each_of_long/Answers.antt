@@ -1,0 +1,32 @@
+use Rattle.std.proofs.Common.{arith, ◌∙◌, ap, sym, refl, get_or, set, []}
+use Rattle.std.specs.Prelude.{◌<◌, length}
+use Rattle.sip_ledger.specs.Debts.{paid_by}
+use Rattle.sip_ledger.specs.Ledgers.{rows_of}
+use Rattle.sip_ledger.proofs.PayLemmas.{paid-row}
+use Rattle.sip_ledger.proofs.EachLemmas.{changing-none, changing-more, changing-all, changing-length}
+use Rattle.sip_ledger.proofs.ledger.Ledger.pay_each_of_long.Goals as goal
+
+pub loop-row-init : goal.loop-row-init
+loop-row-init c = (omega arith, sym (changing-none (paid_by c.args.message c.args.moment) c.args.from (rows_of c.args.self.now)))
+
+pub pay-requires : goal.pay-requires
+pay-requires c =
+    let was = c.loop-row.invariant in
+    let size = ap length was.1 ∙ changing-length (paid_by c.args.message c.args.moment) c.args.from c.loop-row.row (rows_of c.args.self.now) was.0 in
+    omega (arith, size)
+
+pub loop-row-preserved : goal.loop-row-preserved
+loop-row-preserved c =
+    let was = c.loop-row.invariant in
+    let old = rows_of c.args.self.now in
+    let now = rows_of c.loop-row.self in
+    let k = c.loop-row.row in
+    let pays = paid_by c.args.message c.args.moment in
+    let le = was.0 in
+    let paid = paid-row c.args.message c.args.moment c.pay.result (get_or now k []) (get_or (rows_of c.pay.new.self) k []) now (rows_of c.pay.new.self) c.pay.ensures.paid c.pay.ensures.unpaid in
+    (omega (arith, le), c.pay.ensures.others ∙ ap (set now k) (paid (λ same. ap (λ rows. get_or rows k []) same)) ∙ ap (λ rows. set rows k (pays (get_or rows k []))) was.1 ∙ changing-more pays c.args.from k old [] was.0 (omega arith))
+
+pub returns : goal.returns
+returns c =
+    let was = c.loop-row.invariant in
+    was.1 ∙ changing-all (paid_by c.args.message c.args.moment) c.args.from c.loop-row.row (rows_of c.args.self.now) (omega arith)

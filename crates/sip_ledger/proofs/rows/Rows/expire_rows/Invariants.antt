@@ -1,0 +1,9 @@
+use Rattle.std.specs.Prelude.{◌≡◌, ◌≤◌, filter}
+use Rattle.sip_ledger.specs.Debts.{counts_at}
+use Rattle.sip_ledger.specs.Grids.{grid_rows}
+use Rattle.sip_ledger.proofs.EachLemmas.{changing}
+use Rattle.sip_ledger.proofs.rows.Rows.expire_rows.Given as goal
+
+-- the rows so far have lost what expired
+abbrev pub invariant-loop-row : goal.invariant-loop-row
+invariant-loop-row l = (l.from ≤ l.row) × (grid_rows l.self ≡ changing (filter (counts_at l.moment)) l.from l.row (grid_rows l.fn.self))

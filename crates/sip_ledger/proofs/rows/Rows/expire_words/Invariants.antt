@@ -1,0 +1,10 @@
+use Rattle.std.specs.Prelude.{◌≡◌, ◌≤◌, filter}
+use Rattle.sip_ledger.specs.Debts.{counts_at}
+use Rattle.sip_ledger.specs.Grids.{grid_rows}
+use Rattle.sip_ledger.proofs.EachLemmas.{changing}
+use Rattle.sip_ledger.proofs.rows.Rows.expire_words.Given as goal
+
+-- the rows so far have lost what expired, and the entries are the same
+abbrev pub invariant-loop-row : goal.invariant-loop-row
+invariant-loop-row l = (l.from ≤ l.row) × (grid_rows l.self ≡ changing (filter (counts_at l.moment)) l.from l.row (grid_rows l.fn.self))
+    × (l.self.entries ≡ l.fn.self.entries) × (l.self.width ≡ l.fn.self.width)

@@ -1,0 +1,8 @@
+use Rattle.std.specs.Prelude.{◌≡◌, ◌≤◌, ◌++◌, ◌∷◌, []}
+use Rattle.sip_ledger.specs.Grids.{grid_rows}
+use Rattle.sip_ledger.proofs.EachLemmas.{changing}
+use Rattle.sip_ledger.proofs.rows.Rows.gain_rows.Given as goal
+
+-- the rows so far owe one more
+abbrev pub invariant-loop-row : goal.invariant-loop-row
+invariant-loop-row l = (l.from ≤ l.row) × (grid_rows l.self ≡ changing (λ owes. owes ++ l.debt ∷ []) l.from l.row (grid_rows l.fn.self))

@@ -1,0 +1,18 @@
+use Rattle.std.proofs.Common.{List, length, sym, ap, subst, ◌≡◌, ◌++◌, filter}
+use Rattle.std.specs.Prelude.{None, OnOk}
+use Rattle.sip_ledger.specs.declared.debt.Entry.{Entry}
+use Rattle.sip_ledger.specs.Debts.{is_timely}
+use Rattle.sip_ledger.specs.Grids.{Grid, grid_rows}
+use Rattle.sip_ledger.specs.Ledgers.{from_to}
+use Rattle.sip_ledger.specs.inner.Memos.{IsMask, asked_of}
+use Rattle.sip_ledger.proofs.MarkLemmas.{timely-told}
+use Rattle.sip_ledger.proofs.rows.Rows.push_timely.Goals as goal
+
+pub returns-then-self-eq1-clause-ok : goal.returns-then-self-eq1-clause-ok
+returns-then-self-eq1-clause-ok c =
+    let same = c.past_bits-past.ensures.same in
+    let v' = c.past_bits-past.new.self in
+    let mask : IsMask (asked_of None c.args.moment) v'.entries (length v'.entries) c.past_bits-past.result =
+    subst (λ (x : Grid). IsMask (asked_of None c.args.moment) x.entries (length x.entries) c.past_bits-past.result) (sym same) c.past_bits-past.ensures.bits in
+    subst (λ x. OnOk c.push_marked.result (grid_rows c.push_marked.new.self ≡ grid_rows x ++ filter (is_timely c.args.moment) (from_to c.args.from c.args.to (grid_rows x)))) same
+    (c.push_marked.ensures.ok (is_timely c.args.moment) (timely-told c.args.moment v'.entries c.past_bits-past.result mask))

@@ -2,7 +2,7 @@ use Prim.Native.Nat.{suc, zero}
 use Rattle.std.specs.Prelude.{◌≡◌, ◌<◌, ◌≤◌, ◌+◌, ◌-◌, ◌||◌, ℕ, Bool, true, false, IsTrue, None, List, [], ◌∷◌, ◌++◌, All, drop, filter, get_or, length, max, min, set, take}
 use Rattle.std.specs.Bool.{OnTrue, OnFalse}
 use Rattle.std.specs.List.{list_any}
-use Rattle.std.proofs.Common.{inl, inr, refl, sym, ◌∙◌, ap, ap₂, subst, arith, cond, true≢false, length-set}
+use Rattle.std.proofs.Common.{Result, Ok, Err, IfOk, inl, inr, refl, sym, ◌∙◌, ap, ap₂, subst, arith, cond, true≢false, length-set}
 use Rattle.std.proofs.lemmas.List.Elements.{All-nil, All-cons, All-head, All-tail, All-push, All-set, All-get_or, All-weaker, filter-append}
 use Rattle.std.proofs.lemmas.Bool.{cases_lt}
 use Rattle.std.proofs.lemmas.Bool.Decides.{nat_tests}
@@ -186,40 +186,21 @@ counted-gain t owes debt now =
 
 -- Of their prints.
 
--- each of so many rows from one on has its print, which others that owe the same have
-pub record IsPrinted (table : Table) (from : ℕ) (prints : List ℕ) (k : ℕ) : Type 0 where
-  pub is : get_or prints (k - from) 0 ≡ print_of table k
-  pub same : (other : ℕ) → other < length (rows_of table) → row_of table other ≡ row_of table k → print_of table other ≡ print_of table k
-
-abbrev pub ArePrinted : Table → ℕ → List ℕ → ℕ → Type 0
-ArePrinted table from prints count = (k : ℕ) → from ≤ k → k < count → IsPrinted table from prints k
-
--- one more
-pub ArePrinted-more : (table : Table) (from : ℕ) (prints : List ℕ) (row print : ℕ) → from + length prints ≡ row → print ≡ print_of table row →
-    ((other : ℕ) → other < length (rows_of table) → row_of table other ≡ row_of table row → print_of table other ≡ print) →
-    ArePrinted table from prints row → ArePrinted table from (prints ++ print ∷ []) (row + 1)
-ArePrinted-more table from prints row print long is same printed k above low = elim (cases_lt k row) [
-  | inl before ↦
-      let old = printed k above before in
-      record { is = get_or_append_left prints (print ∷ []) 0 (k - from) (omega (arith, above, before, long)) ∙ old.is; same = old.same }
-  | inr behind ↦
-      let last : k ≡ row = omega (arith, low, behind) in
-      let place : k - from ≡ length prints = omega (arith, last, long) in
-      record {
-        is = ap (λ n. get_or (prints ++ print ∷ []) n 0) place ∙ get_or-append_seam prints print [] 0 ∙ is ∙ ap (print_of table) (sym last);
-        same = λ other within e. same other within (e ∙ ap (row_of table) last) ∙ is ∙ ap (print_of table) (sym last);
-      }
-]
-
--- all of them
-pub prints-all : (table : Table) (from : ℕ) (prints : List ℕ) (row : ℕ) → from + length prints ≡ row → row ≡ length (rows_of table) → ArePrinted table from prints row →
-    ArePrints (rows_of table) from prints
-prints-all table from prints row long all printed = record {
-  long = long ∙ all;
+-- those of a ledger
+pub ledger-prints : {T E : Type 0} (items : T → List ℕ) (r : Result T E) (table : Table) (from : ℕ) → from ≤ length (rows_of table) →
+    IfOk r (λ prints. length (items prints) ≡ length (rows_of table) - from) →
+    IfOk r (λ prints. (k : ℕ) → from + k < length (rows_of table) → get_or (items prints) k 0 ≡ print_of table (from + k)) →
+    IfOk r (λ _. (row other : ℕ) → from ≤ row → row < length (rows_of table) → other < length (rows_of table) → row_of table other ≡ row_of table row →
+    print_of table other ≡ print_of table row) →
+    IfOk r (λ prints. ArePrints (rows_of table) from (items prints))
+ledger-prints items (Ok prints) table from le long each same = record {
+  long = omega (arith, le, long);
   same = λ i k x above_i low_i above_k low_k e.
       let rows = rows_of table in
-      let alike : row_of table i ≡ row_of table k = get_or_default rows i [] x low_i ∙ e ∙ get_or_default rows k x [] low_k in
-      let at_i = printed i above_i (omega (arith, low_i, all)) in
-      let at_k = printed k above_k (omega (arith, low_k, all)) in
-      at_i.is ∙ at_k.same i low_i alike ∙ sym at_k.is;
+      let alike : row_of table k ≡ row_of table i = get_or_default rows k [] x low_k ∙ sym e ∙ get_or_default rows i x [] low_i in
+      let at_i : from + (i - from) ≡ i = omega (arith, above_i) in
+      let at_k : from + (k - from) ≡ k = omega (arith, above_k) in
+      each (i - from) (omega (arith, at_i, low_i)) ∙ ap (print_of table) at_i ∙ sym (same i k above_i low_i low_k alike) ∙ ap (print_of table) (sym at_k)
+      ∙ sym (each (k - from) (omega (arith, at_k, low_k)));
 }
+ledger-prints items (Err e) table from le long each same = tt

@@ -217,7 +217,7 @@ impl Dues {
         ensures { IfOk result (λ prints. ArePrints self.now from prints.items) }
     {
         match &self.ledger {
-            Some(ledger) => prints_of(alloc, ledger, from),
+            Some(ledger) => ledger.prints(alloc, from),
             None => zeros(alloc, self.rows, from),
         }
     }
@@ -307,18 +307,6 @@ fn is_blank(ledger: &Ledger) -> bool
         }
     }
     true
-}
-
-/// The print of each row from one on.
-fn prints_of(alloc: Global, ledger: &Ledger, from: usize) -> Result<Vec<u64>, AllocError>
-    requires { from ≤ length (rows_of ledger.now) }
-    ensures { IfOk result (λ prints. ArePrints (rows_of ledger.now) from prints.items) }
-{
-    let mut prints = Vec::with_capacity(alloc, ledger.len() - from)?;
-    for row in from..ledger.len() {
-        prints.push(ledger.print(row))?;
-    }
-    Ok(prints)
 }
 
 /// The same print for each of so many rows from one on that owe nothing.

@@ -175,12 +175,8 @@ impl<P: Phase> Pool<P> {
         requires rising { AllPairs (λ a b. a < b) rows.now }
         ensures { (x : CodeOwing P) → self.new ≡ picked self.old x rows.now }
     {
-        for to in 0..rows.len() {
-            if rows[to] != to {
-                self.copy(rows[to], to);
-            }
-        }
-        self.truncate(rows.len());
+        keep_phases(&mut self.phases, rows);
+        self.dues.keep(rows);
     }
 
     /// The indices of the states from one on, which rise: where some are the same, that of the first of them.
@@ -390,6 +386,18 @@ impl<P: Phase> Pool<P> {
         self.come_to_rest(moment, last, rest);
         Ok(())
     }
+}
+
+/// Keeps just the phases at the indices, which rise.
+fn keep_phases<P: Phase>(phases: &mut Vec<P>, rows: &[usize])
+    requires within { All (λ row. row < length phases.old.items) rows.now }
+    requires rising { AllPairs (λ a b. a < b) rows.now }
+    ensures { (p : P) → phases.new.items ≡ picked phases.old.items p rows.now }
+{
+    for to in 0..rows.len() {
+        phases[to] = phases[rows[to]];
+    }
+    phases.truncate(rows.len());
 }
 
 /// The first index, where each is the one behind the index before it.

@@ -1,9 +1,10 @@
 //! What many states owe, changed at once.
-ghost use Rattle.std.specs.Prelude.{◌≡◌, ◌≤◌, ◌&&◌, ◌++◌, ◌∷◌, [], List, None, IfOk, OnOk, OnErr, drop, filter, length, map, take};
+ghost use Rattle.std.specs.Prelude.{◌≡◌, ◌<◌, ◌≤◌, ◌&&◌, ◌++◌, ◌∷◌, [], List, None, All, IfOk, OnOk, OnErr, drop, filter, length, map, take};
 ghost use Rattle.std.specs.List.{list_any};
 ghost use Rattle.sip_ledger.specs.declared.debt.Debt.{Debt};
 ghost use Rattle.sip_ledger.specs.Debts.{counts_at, is_payable, is_timely, paid_by};
-ghost use Rattle.sip_ledger.specs.Ledgers.{from_to, rows_of};
+ghost use Rattle.sip_ledger.specs.Ledgers.{Rise, from_to, rows_of};
+ghost use Rattle.sip_machine.specs.Owes.{owed_in};
 ghost use Rattle.sip_machine.specs.inner.Dues.{rows_in};
 
 use crate::dues::{Dues, blank};
@@ -16,6 +17,18 @@ impl Dues {
         ensures { result ≡ length self.now }
     {
         self.rows
+    }
+
+    /// Keeps just the rows at the indices, which rise.
+    pub(crate) fn keep(&mut self, rows: &[usize])
+        requires within { All (λ row. row < length self.old) rows.now }
+        requires rising { Rise rows.now }
+        ensures { self.new ≡ map (owed_in self.old) rows.now }
+    {
+        if let Some(ledger) = &mut self.ledger {
+            ledger.keep(rows);
+        }
+        self.rows = rows.len();
     }
 
     /// Puts a copy of each row from one up to another behind the others, but of those that must send something that is past at the

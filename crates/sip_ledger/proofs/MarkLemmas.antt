@@ -3,7 +3,7 @@ use Rattle.std.proofs.Common.{◌≡◌, ℕ, ◌+◌, ◌*◌, ◌^◌, ◌<◌
 use Rattle.std.specs.Prelude.{Option, None, Some, not, nat_le, nat_lt}
 use Rattle.std.specs.List.{fold, list_any}
 use Rattle.std.specs.Int.{trailing_zeros}
-use Rattle.std.proofs.lemmas.Bool.{cases_Bool, and_parts, eqb-true, eqb-false}
+use Rattle.std.proofs.lemmas.Bool.{cases_Bool, and_parts, eqb-true}
 use Rattle.std.proofs.lemmas.Bool.Decides.{nat_tests}
 use Rattle.std.proofs.lemmas.Nat.{and_le_l}
 use Rattle.std.proofs.lemmas.List.{get_or_append_left, length-append, length_push}
@@ -14,7 +14,7 @@ use Rattle.sip_masks.proofs.BitLemmas.{test-and}
 use Rattle.sip_ledger.specs.declared.debt.Debt.{Debt}
 use Rattle.sip_ledger.specs.declared.debt.Entry.{Entry}
 use Rattle.sip_ledger.specs.Bits.{has}
-use Rattle.sip_ledger.specs.Debts.{is_payable, is_timely, is_within, earliest, debt_deadlines}
+use Rattle.sip_ledger.specs.Debts.{is_payable, is_timely, is_within, earliest}
 use Rattle.sip_ledger.specs.Rows.{debts_from, row_debts, IsRow}
 use Rattle.sip_ledger.specs.Grids.{Grid, grid_of, part, grid_rows, IsGrid}
 use Rattle.sip_ledger.specs.inner.Marks.{is_marked, IsTold, ArePut, word_rows}

@@ -1,8 +1,8 @@
 -- Rows of one word each that pay, over entries of which no two are equal.
-use Rattle.std.proofs.Common.{◌≡◌, ◌≢◌, ℕ, ◌+◌, ◌*◌, ◌%◌, ◌^◌, ◌<◌, ◌≤◌, Bool, true, false, ◌==◌, cond, List, [], ◌∷◌, ◌++◌, length, take, drop, get_or, map, w64, refl, sym, ap, ap₂, ◌∙◌, subst, inl, inr, arith}
+use Rattle.std.proofs.Common.{◌≡◌, ◌≢◌, ℕ, ◌^◌, ◌<◌, ◌≤◌, true, false, ◌==◌, cond, List, [], ◌∷◌, ◌++◌, length, take, drop, get_or, map, w64, refl, sym, ap, ap₂, ◌∙◌, subst, inl, inr, arith}
 use Rattle.std.specs.Prelude.{All, IsTrue}
 use Rattle.std.specs.Int.{trailing_zeros}
-use Rattle.std.proofs.lemmas.Bool.{cases_lt, cases_eq, cases_Bool, true≢false, false_from_ne_true, and_parts, and_from, eqb-true}
+use Rattle.std.proofs.lemmas.Bool.{cases_lt, cases_eq, cases_Bool, true≢false, and_parts, and_from, eqb-true}
 use Rattle.std.proofs.lemmas.Nat.{and_le_r}
 use Rattle.std.proofs.lemmas.List.Elements.{All-weaker}
 use lib.Bits.{bit_and}
@@ -12,7 +12,7 @@ use Rattle.sip_ledger.specs.declared.debt.Debt.{Debt}
 use Rattle.sip_ledger.specs.declared.debt.Entry.{Entry}
 use Rattle.sip_ledger.specs.Bits.{has}
 use Rattle.sip_ledger.specs.Debts.{is_payable, paid_by}
-use Rattle.sip_ledger.specs.Rows.{debt_of, debts_from, row_debts, IsRow}
+use Rattle.sip_ledger.specs.Rows.{row_debts, IsRow}
 use Rattle.sip_ledger.specs.Grids.{Grid, grid_of, part, grid_rows, IsGrid}
 use Rattle.sip_ledger.specs.inner.Marks.{first_taken, AreDistinct, AreFirstsTaken}
 use Rattle.sip_ledger.specs.inner.Memos.{IsMask}

@@ -1,5 +1,5 @@
-use Rattle.std.proofs.Common.{arith, ◌∙◌, ap, sym, refl, get_or, set, []}
-use Rattle.std.specs.Prelude.{◌<◌, length}
+use Rattle.std.proofs.Common.{arith, ◌∙◌, ap, sym, get_or, set, []}
+use Rattle.std.specs.Prelude.{length}
 use Rattle.sip_ledger.specs.Debts.{paid_by}
 use Rattle.sip_ledger.specs.Ledgers.{rows_of}
 use Rattle.sip_ledger.proofs.PayLemmas.{paid-row}

@@ -1,5 +1,5 @@
 use Rattle.std.proofs.Common.{arith, ◌∙◌, ap, sym, get_or, set, subst, [], ◌≡◌, List}
-use Rattle.std.specs.Prelude.{◌<◌, length, filter, None, Bool}
+use Rattle.std.specs.Prelude.{length, filter, None}
 use Rattle.std.specs.Bool.{OnTrue}
 use Rattle.std.proofs.lemmas.Bool.{OnTrue_at}
 use Rattle.sip_ledger.specs.declared.debt.Entry.{Entry}
@@ -8,7 +8,7 @@ use Rattle.sip_ledger.specs.Grids.{Grid, grid_of, grid_rows, grid_row}
 use Rattle.sip_ledger.specs.inner.Memos.{IsMask, asked_of}
 use Rattle.sip_ledger.proofs.GridLemmas.{rows-length, row-within, unchanged-others}
 use Rattle.sip_ledger.proofs.WordLemmas.{word-part}
-use Rattle.sip_ledger.proofs.WordRowLemmas.{row-in_word, word-fresh, word-row, fresh-rows}
+use Rattle.sip_ledger.proofs.WordRowLemmas.{row-in_word, word-fresh, word-row}
 use Rattle.sip_ledger.proofs.EachLemmas.{changing-none, changing-more, changing-all, changing-length}
 use Rattle.sip_ledger.proofs.rows.Rows.expire_words.Goals as goal
 use Rattle.sip_ledger.proofs.rows.Rows.expire_words.Goals.{then-not-keeps_past, else-not-keeps_past}

@@ -1,5 +1,5 @@
 use Rattle.std.proofs.Common.{◌≡◌, arith, ◌∙◌, ap, sym, get_or, set, List, [], ◌++◌, ◌∷◌}
-use Rattle.std.specs.Prelude.{◌<◌, length, take}
+use Rattle.std.specs.Prelude.{length, take}
 use Rattle.sip_ledger.specs.declared.debt.Debt.{Debt}
 use Rattle.sip_ledger.specs.Grids.{grid_of, grid_rows}
 use Rattle.sip_ledger.proofs.GridLemmas.{rows-length}

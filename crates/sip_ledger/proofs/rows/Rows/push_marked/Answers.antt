@@ -1,10 +1,7 @@
-use Rattle.std.proofs.Common.{◌≡◌, ◌≤◌, ◌++◌, List, length, filter, sym, ap, ap₂, ◌∙◌, subst, arith}
-use Rattle.std.specs.Prelude.{Bool}
-use Rattle.sip_ledger.specs.declared.debt.Debt.{Debt}
-use Rattle.sip_ledger.specs.declared.debt.Entry.{Entry}
+use Rattle.std.proofs.Common.{◌≡◌, ◌++◌, length, filter, sym, ap, ap₂, ◌∙◌, subst, arith}
 use Rattle.sip_ledger.specs.Grids.{Grid, grid_of, grid_rows, IsGrid}
 use Rattle.sip_ledger.specs.Ledgers.{from_to}
-use Rattle.sip_ledger.specs.inner.Marks.{ArePut, IsTold}
+use Rattle.sip_ledger.specs.inner.Marks.{IsTold}
 use Rattle.sip_ledger.proofs.GridLemmas.{rows-length}
 use Rattle.sip_ledger.proofs.MarkLemmas.{word-grid}
 use Rattle.sip_ledger.proofs.rows.Rows.push_marked.Goals as goal

@@ -1,5 +1,5 @@
 use Rattle.std.proofs.Common.{Bool, List, length, sym, ap, ◌∙◌, subst, ◌≡◌, ◌++◌, ◌&&◌, filter}
-use Rattle.std.specs.Prelude.{None, Some, OnOk}
+use Rattle.std.specs.Prelude.{None, OnOk}
 use Rattle.std.specs.List.{list_any}
 use Rattle.sip_ledger.specs.declared.debt.Debt.{Debt}
 use Rattle.sip_ledger.specs.Debts.{is_payable, is_timely}

@@ -1,6 +1,5 @@
-use Rattle.std.proofs.Common.{List, length, sym, ap, subst, ◌≡◌, ◌++◌, filter}
+use Rattle.std.proofs.Common.{length, sym, subst, ◌≡◌, ◌++◌, filter}
 use Rattle.std.specs.Prelude.{None, OnOk}
-use Rattle.sip_ledger.specs.declared.debt.Entry.{Entry}
 use Rattle.sip_ledger.specs.Debts.{is_timely}
 use Rattle.sip_ledger.specs.Grids.{Grid, grid_rows}
 use Rattle.sip_ledger.specs.Ledgers.{from_to}

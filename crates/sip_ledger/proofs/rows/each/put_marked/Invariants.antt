@@ -1,4 +1,4 @@
-use Rattle.std.specs.Prelude.{◌≡◌, ◌≤◌, ◌+◌, ◌-◌, ◌⊎◌, List, Bool, length}
+use Rattle.std.specs.Prelude.{◌≤◌, ◌+◌, ◌-◌, ◌⊎◌, List, Bool, length}
 use Rattle.std.specs.Vec.{vec_len, vec_capacity}
 use Rattle.sip_ledger.specs.declared.debt.Debt.{Debt}
 use Rattle.sip_ledger.specs.declared.debt.Entry.{Entry}

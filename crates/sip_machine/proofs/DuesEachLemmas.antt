@@ -1,15 +1,16 @@
 -- What many states owe, changed at once.
 use Prim.Native.Nat.{suc, zero}
-use Rattle.std.specs.Prelude.{◌≡◌, ◌≤◌, ◌+◌, ◌-◌, ◌&&◌, ℕ, Bool, true, false, None, List, [], ◌∷◌, ◌++◌, All, drop, filter, length, map, max, min, replicate, take}
+use Rattle.std.specs.Prelude.{◌≡◌, ◌<◌, ◌≤◌, ◌+◌, ◌-◌, ◌&&◌, ℕ, Bool, true, false, None, List, [], ◌∷◌, ◌++◌, All, drop, filter, length, map, max, min, replicate, take}
 use Rattle.std.specs.List.{list_any}
 use Rattle.std.proofs.Common.{refl, sym, ◌∙◌, ap, ap₂, arith, cond, length-append, append-nil}
 use Rattle.std.proofs.lemmas.List.{length-map, replicate-append-replicate, take-append-drop}
-use Rattle.std.proofs.lemmas.List.Elements.{All-append, All-drop, All-filter, All-map, All-take, All-weaker, All-push}
+use Rattle.std.proofs.lemmas.List.Elements.{All-append, All-drop, All-filter, All-get_or, All-map, All-take, All-weaker, All-push}
 use Rattle.sip_ledger.specs.declared.debt.Debt.{Debt}
 use Rattle.sip_ledger.specs.Debts.{is_payable, is_timely}
 use Rattle.sip_ledger.specs.Ledgers.{from_to}
 use Rattle.sip_machine.specs.inner.Dues.{rows_in, AreBetween, AreDues}
-use Rattle.sip_machine.proofs.DueLemmas.{between-wider}
+use Rattle.sip_machine.specs.Owes.{owed_in}
+use Rattle.sip_machine.proofs.DueLemmas.{between-wider, owed-none}
 
 -- each row from one on changes
 pub AreDues-mapped : (f : List Debt → List Debt) (rows : List (List Debt)) (count low high from : ℕ) →
@@ -57,6 +58,15 @@ mapped-twice f g h is zero (owes ∷ rows) = ap₂ (λ row more. row ∷ more) (
 mapped-twice f g h is (suc from) [] = refl
 mapped-twice f g h is (suc from) (owes ∷ rows) = ap (λ more. owes ∷ more) (mapped-twice f g h is from rows)
 
+-- rows at indices
+pub AreDues-kept : (rows : List (List Debt)) (count low high : ℕ) (kept : List ℕ) → AreDues rows count low high → All (λ row. row < length rows) kept →
+    AreDues (map (owed_in rows) kept) (length kept) low high
+AreDues-kept rows count low high kept dues within = record {
+  long = length-map kept (owed_in rows);
+  between = All-map (AreBetween low high) (owed_in rows) kept
+      (All-weaker (λ row. row < length rows) (λ row. AreBetween low high (owed_in rows row)) (λ row low_row. All-get_or (AreBetween low high) rows row [] low_row dues.between) kept within);
+}
+
 -- Of rows that owe nothing.
 
 -- they stay so where no debts become none
@@ -101,3 +111,8 @@ payable-none message t count from to le =
     ∙ ap (λ more. rows_in count None ++ more)
     (sym (passing-no (λ owes. list_any (is_payable message t) owes && is_timely t owes) (to - from) refl)
     ∙ ap (filter (λ owes. list_any (is_payable message t) owes && is_timely t owes)) (sym (some-none count from to le)))
+
+-- rows at indices owe nothing either
+pub kept-none : (count : ℕ) (kept : List ℕ) → rows_in (length kept) None ≡ map (owed_in (rows_in count None)) kept
+kept-none count [] = refl
+kept-none count (row ∷ kept) = ap₂ (λ owes rows. owes ∷ rows) (sym (owed-none count row)) (kept-none count kept)

@@ -10,7 +10,10 @@ use Rattle.sip_ledger.specs.Ledgers.{from_to}
 use Rattle.sip_ledger.proofs.EachLemmas.{from_to-none}
 use Rattle.sip_machine.specs.Owing.{CodeOwing}
 use Rattle.sip_machine.specs.inner.DebtLaws.{filter-map}
+use Rattle.sip_machine.specs.Owes.{owed_in}
+use Rattle.sip_machine.specs.Pools.{picked}
 use Rattle.sip_machine.specs.inner.Pools.{beside}
+use Rattle.sip_machine.proofs.PoolLemmas.{beside-at}
 
 module _ {X : Type 0} where
   -- one more of the elements from one on
@@ -87,6 +90,14 @@ module _ {S : Type 0} where
       (ap (λ k. beside (replicate k q) (map g (filter p (from_to from to rows)))) size ∙ beside-each q (map g (filter p (from_to from to rows)))
       ∙ ap (map (λ (owes : List Debt). record { phase = q; owes = owes })) same
       ∙ map-again (λ (x : CodeOwing S). g x.owes) (λ (owes : List Debt). record { phase = q; owes = owes }) (filter (λ x. p x.owes) xs))
+
+  -- those at indices
+  pub beside-picked : (phases : List S) (rows : List (List Debt)) (kept : List ℕ) (x : CodeOwing S) → All (λ row. row < length phases) kept →
+      beside (picked phases x.phase kept) (map (owed_in rows) kept) ≡ picked (beside phases rows) x kept
+  beside-picked phases rows [] x within = refl
+  beside-picked phases rows (row ∷ kept) x within =
+      ap₂ (λ y ys. y ∷ ys) (sym (beside-at phases rows row x.phase x (All-head (λ row. row < length phases) row kept within)))
+      (beside-picked phases rows kept x (All-tail (λ row. row < length phases) row kept within))
 
 -- what stands behind the rows changes
 pub mapped-behind : (g : List Debt → List Debt) (rows more new after : List (List Debt)) (n : ℕ) → new ≡ rows ++ more → n ≡ length rows →

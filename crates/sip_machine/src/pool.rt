@@ -392,7 +392,8 @@ impl<P: Phase> Pool<P> {
 fn keep_phases<P: Phase>(phases: &mut Vec<P>, rows: &[usize])
     requires within { All (λ row. row < length phases.old.items) rows.now }
     requires rising { AllPairs (λ a b. a < b) rows.now }
-    ensures { (p : P) → phases.new.items ≡ picked phases.old.items p rows.now }
+    ensures are { (p : P) → phases.new.items ≡ picked phases.old.items p rows.now }
+    ensures long { length phases.new.items ≡ length rows.now }
 {
     for to in 0..rows.len() {
         phases[to] = phases[rows[to]];

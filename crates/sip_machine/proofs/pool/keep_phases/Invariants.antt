@@ -1,0 +1,6 @@
+use Rattle.sip_machine.proofs.FirstLemmas.{IsPicking}
+use Rattle.sip_machine.proofs.pool.keep_phases.Given as goal
+
+-- those so far stand in front
+abbrev pub invariant-loop-to : goal.invariant-loop-to
+invariant-loop-to g l = IsPicking l.initial.phases.items l.phases.items l.rows l.to

@@ -48,6 +48,10 @@ pub(crate) fn run<M: Machine>(
         step(alloc, machine, book, &mut pool, &event)?;
         is_alone = is_alone && pool.len() == 1;
     }
+    let together = run_together(alloc, machine, book, entries)?;
+    if !are_alike(&states_of(alloc, &pool)?, &states_of(alloc, &together)?) {
+        return Err("all at once they step otherwise".into());
+    }
     let alone = run_alone(alloc, machine, book, entries)?;
     if !agree(alloc, &pool, is_alone, &alone)? {
         return Err("in its own place it steps otherwise".into());
@@ -76,6 +80,56 @@ pub(crate) fn are_same<P: Phase>(states: &[State<P>], others: &[State<P>]) -> bo
     states.len() == others.len()
         && states.iter().zip(others).all(|(state, other)| state.phase == other.phase
             && state.owes.as_slice() == other.owes.as_slice())
+}
+
+/// Whether each state of either is one of the other.
+fn are_alike<P: Phase>(states: &[State<P>], others: &[State<P>]) -> bool {
+    are_among(states, others) && are_among(others, states)
+}
+
+/// Whether each state is one of the others.
+fn are_among<P: Phase>(states: &[State<P>], others: &[State<P>]) -> bool {
+    states.iter().all(|state| {
+        others
+            .iter()
+            .any(|other| state.phase == other.phase && state.owes.as_slice() == other.owes.as_slice())
+    })
+}
+
+/// The states of the machine after the entries, where all states step at once.
+fn run_together<M: Machine>(
+    alloc: Global,
+    machine: &M,
+    book: &Book,
+    entries: &[Entry],
+) -> Result<Pool<M::Phase>, Fail> {
+    let mut pool = Pool::new(alloc);
+    pool.push(machine.first())?;
+    for &(moment, action, number) in entries {
+        let event = event_of(alloc, book, moment, action, number)?;
+        step_together(machine, book, &mut pool, &event)?;
+    }
+    Ok(pool)
+}
+
+/// Puts the states that the event gives in the place of those that take it, each once.
+fn step_together<M: Machine>(
+    machine: &M,
+    book: &Book,
+    pool: &mut Pool<M::Phase>,
+    event: &Event,
+) -> Result<(), Fail>
+    requires fits { FitsBook book.now event.now }
+    requires known { All (Knows M.names book.now) pool.old }
+    requires in_range { All M.in_range pool.old }
+    ensures known { OnOk result (All (Knows M.names book.now) pool.new) }
+    ensures in_range { OnOk result (All M.in_range pool.new) }
+{
+    let count = pool.len();
+    machine.successors_each(book, pool, count, event)?;
+    let given = pool.first_ones(count)?;
+    pool.keep(&given);
+    Ok(())
 }
 
 /// Puts the states that the event gives in the place of those that take it.

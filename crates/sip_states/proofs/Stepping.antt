@@ -5,9 +5,9 @@ use Rattle.std.proofs.lemmas.List.{get_or-take, get_or_append_left, length-take-
 use Rattle.std.proofs.lemmas.List.Elements.{All-get_or, All-nil, All-append, All-contains, Contains-get_or, Contains-append_left, Contains-append_right, Contains-append_cases, Contains-push, Contains-push_cases}
 use Rattle.sip_machine.specs.Texts.{Texts, IsBook}
 use Rattle.sip_machine.specs.MachineEvent.{MachineEvent}
-use Rattle.sip_machine.specs.Rules.{Rules, IsLawful, Knows, StandFor}
-use Rattle.sip_states.specs.inner.Ways.{SomeCanEnd, Covers, GivesFrom, GivesAfter}
-use Rattle.sip_states.proofs.Listed.{Contains-none, Contains-here, Contains-single, Contains-map, Contains-from_map}
+use Rattle.sip_machine.specs.Rules.{Rules, Covers, FromSome, IsLawful, Knows, StandFor}
+use Rattle.sip_states.specs.inner.Ways.{SomeCanEnd, GivesFrom, GivesAfter}
+use Rattle.sip_states.proofs.Listed.{Contains-none, Contains-here, Contains-there, Contains-cons, Contains-single, Contains-map, Contains-from_map}
 use Rattle.sip_states.proofs.Waiting.{Wait-stay, Wait-end, Wait-cases}
 use Rattle.sip_states.proofs.Following.{Follows, seen_ends, ends_seen, distinct_seen}
 
@@ -35,44 +35,21 @@ module _ {X S : Type 0} (names : S → List ℕ) (InRange : S → Type 0) (seen 
         in_range = rw is (All-append InRange xs ys c.in_range s.in_range);
       }
 
-  module _ (r : Rules X) (e : MachineEvent) where
-    -- no states give none
-    pub gives_none : Covers names InRange seen texts (GivesFrom seen texts r [] e) []
-    gives_none =
-        record {
-          members = λ x. (λ h. absurd (Contains-none x h), λ g. absurd (Contains-none g.before g.among.0));
-          known = All-nil (Knows names texts);
-          in_range = All-nil InRange;
-        }
-
-    -- what one more state stands for comes last
-    seen_push : (xs : List S) (s : S) (z : X) → Contains (map (seen texts) (xs ++ s ∷ [])) z → Contains (map (seen texts) xs) z ⊎ (seen texts s ≡ z)
-    seen_push xs s z h = Contains-push_cases (map (seen texts) xs) (seen texts s) z (rw map-append at h)
-
-    -- what some states give, one more gives too
-    gives_still : (xs : List S) (s : S) (y : X) → GivesFrom seen texts r xs e y → GivesFrom seen texts r (xs ++ s ∷ []) e y
-    gives_still xs s y g =
-        record { before = g.before; among = (rw map-append (Contains-append_left (map (seen texts) xs) (seen texts s ∷ []) g.before g.among.0), g.among.1); takes = g.takes }
-
-    -- one more state gives what its step gives
-    gives_push : IsLawful r → (xs : List S) (s : S) (y : X) → (GivesFrom seen texts r xs e y ⊎ r.Take (seen texts s) e y) ↔ GivesFrom seen texts r (xs ++ s ∷ []) e y
-    gives_push lawful xs s y = (
+-- what some states lead to by an event is what it gives from those of them that can wait
+pub gives_some : {X S : Type 0} (seen : Texts → S → X) (texts : Texts) (r : Rules X) (e : MachineEvent) → IsLawful r → (xs : List S) (y : X) →
+    FromSome (λ s. r.Take (seen texts s) e) xs y ↔ GivesFrom seen texts r xs e y
+gives_some seen texts r e lawful [] y = (λ none. absurd none, λ g. absurd (Contains-none g.before g.among.0))
+gives_some seen texts r e lawful (s ∷ xs) y =
+    let more = gives_some seen texts r e lawful xs y in (
       λ h. elim h [
-        | inl g ↦ gives_still xs s y g
-        | inr takes ↦ record { before = seen texts s; among = (rw map-append (Contains-push (map (seen texts) xs) (seen texts s)), lawful.timely (seen texts s) e y takes); takes = takes }
+        | inl takes ↦ record { before = seen texts s; among = (Contains-here (seen texts s) (map (seen texts) xs), lawful.timely (seen texts s) e y takes); takes = takes }
+        | inr rest ↦ let g = more.0 rest in record { before = g.before; among = (Contains-there (seen texts s) (map (seen texts) xs) g.before g.among.0, g.among.1); takes = g.takes }
       ],
-      λ g. elim (seen_push xs s g.before g.among.0) [
-        | inl old ↦ inl (record { before = g.before; among = (old, g.among.1); takes = g.takes })
-        | inr same ↦ inr (rw same g.takes)
+      λ g. elim (Contains-cons (seen texts s) (map (seen texts) xs) g.before g.among.0) [
+        | inl same ↦ inl (rw same g.takes)
+        | inr rest ↦ inr (more.1 (record { before = g.before; among = (rest, g.among.1); takes = g.takes }))
       ],
     )
-
-    -- so its successors come to those found
-    pub gives_more : IsLawful r → (xs : List S) (s : S) (found added new : List S) → Covers names InRange seen texts (GivesFrom seen texts r xs e) found →
-        StandFor names InRange seen texts (r.Take (seen texts s) e) added → new ≡ found ++ added → Covers names InRange seen texts (GivesFrom seen texts r (xs ++ s ∷ []) e) new
-    gives_more lawful xs s found added new c stands is =
-        Covers-iff (λ y. GivesFrom seen texts r xs e y ⊎ r.Take (seen texts s) e y) (GivesFrom seen texts r (xs ++ s ∷ []) e) (gives_push lawful xs s) new
-        (Covers-append (GivesFrom seen texts r xs e) (r.Take (seen texts s) e) found added new c stands is)
 
 module _ {X S : Type 0} (names : S → List ℕ) (InRange : S → Type 0) (seen : Texts → S → X) (r : Rules X) (ended : S) (window : S → Option (ℕ × Option ℕ)) (until : S → Option ℕ)
     (follows : Follows names seen r ended window until) (texts : Texts) (xs : List S) (h : ℕ) (e : MachineEvent) (low : h ≤ e.moment) where
@@ -158,30 +135,12 @@ module _ {X S : Type 0} (names : S → List ℕ) (InRange : S → Type 0) (seen 
 
 -- The states of a pool, behind which others were found.
 
--- what the first ones give, as many, was found behind all of them
-abbrev pub HasFound : {X S : Type 0} → (S → List ℕ) → (S → Type 0) → (Texts → S → X) → Texts → Rules X → List S → List S → ℕ → MachineEvent → List S → Type 0
-HasFound {X} {S} names InRange seen texts r firsts old at e new =
-    (found : List S) × (new ≡ old ++ found) × Covers names InRange seen texts (GivesFrom seen texts r (take at firsts) e) found
-
 module _ {S : Type 0} where
   -- the only element of a list is all of it
   pub only : (xs : List S) (d : S) → length xs ≡ 1 → xs ≡ get_or xs 0 d ∷ []
   only [] d one = absurd (omega (arith, one))
   only (x ∷ []) d one = refl
   only (x ∷ y ∷ xs) d one = absurd (omega (arith, one))
-
-  take-shorter : (n m : ℕ) (xs : List S) → n ≤ m → take n (take m xs) ≡ take n xs
-  take-shorter zero m xs le = refl
-  take-shorter (suc n) zero xs le = absurd (omega (arith, le))
-  take-shorter (suc n) (suc m) [] le = refl
-  take-shorter (suc n) (suc m) (x ∷ xs) le = ap (λ ys. x ∷ ys) (take-shorter n m xs (omega (arith, le)))
-
-  -- a state among the first ones, behind which others stand
-  pub first-state : (P : S → Type 0) (old found new : List S) (count at : ℕ) (d : S) → new ≡ old ++ found → count ≤ length old → at < count → All P (take count old) → P (get_or new at d)
-  first-state P old found new count at d is le low all =
-      let size : length (take count old) ≡ count = length-take-le count old le in
-      let here : get_or new at d ≡ get_or (take count old) at d = ap (λ ys. get_or ys at d) is ∙ get_or_append_left old found d at (omega (arith, le, low)) ∙ sym (get_or-take count old at d low) in
-      subst P (sym here) (All-get_or P (take count old) at d (omega (arith, size, low)) all)
 
   -- what stands behind them
   pub found-behind : (old found new : List S) (n : ℕ) → new ≡ old ++ found → n ≡ length old → drop n new ≡ found
@@ -192,9 +151,3 @@ module _ {S : Type 0} where
   next-there old mid new found x d n mid_is new_is at =
       let size : length mid ≡ length old + 1 = ap length mid_is ∙ length-append old (x ∷ []) in
       ap (λ ys. get_or ys n d) new_is ∙ get_or_append_left mid found d n (omega (arith, at, size)) ∙ ap₂ (λ ys k. get_or ys k d) mid_is at ∙ get_or-append_seam old x [] d
-
-  -- behind the states and more that stand as before, the states do too
-  pub before-more : (old mid new added : List S) → mid ≡ old ++ added → take (length mid) new ≡ mid → take (length old) new ≡ old
-  before-more old mid new added is stands =
-      let size : length mid ≡ length old + length added = ap length is ∙ length-append old added in
-      sym (take-shorter (length old) (length mid) new (omega (arith, size))) ∙ ap (take (length old)) (stands ∙ is) ∙ take-append_seam old added

@@ -3,8 +3,8 @@ ghost use Rattle.std.specs.Prelude.{◌≡◌, ◌≤◌, ◌++◌, List, All, I
 ghost use Rattle.std.specs.Bool.{OnTrue, OnFalse};
 ghost use Rattle.sip_machine.specs.MachineEvent.{FitsBook, event_in};
 ghost use Rattle.sip_machine.specs.Owing.{CodeOwing};
-ghost use Rattle.sip_machine.specs.Rules.{Knows, StandFor};
-ghost use Rattle.sip_states.specs.inner.Ways.{Covers, GivesAfter, GivesFrom};
+ghost use Rattle.sip_machine.specs.Rules.{Covers, Knows, StandFor};
+ghost use Rattle.sip_states.specs.inner.Ways.{GivesAfter, GivesFrom};
 
 use crate::ends::some_can_end;
 use sip_machine::{Book, Event, Machine, Pool};
@@ -83,8 +83,5 @@ fn step_each<M: Machine>(
         × Covers M.names M.in_range M.seen book.now (GivesFrom M.seen book.now (M.rules machine.now) (take count pool.old) (event_in book.now event.now)) found) }
     ensures before { take (length pool.old) pool.new ≡ pool.old }
 {
-    for at in 0..count {
-        machine.successors(book, pool, at, event)?;
-    }
-    Ok(())
+    machine.successors_each(book, pool, count, event)
 }

@@ -53,12 +53,6 @@ pub record Advances {S : Type 0} (InRange : S → Type 0) (window : S → Option
   pub in_range : All InRange ys
   pub grows : (length ys ≤ length xs) ⊎ ((length ys ≤ length xs + 1) × (Contains xs ended → ⊥) × Contains ys ended)
 
--- the code's states xs stand for exactly those of which P holds, perhaps more than once; the book keeps what they name
-pub record Covers {X S : Type 0} (names : S → List ℕ) (InRange : S → Type 0) (seen : Texts → S → X) (texts : Texts) (P : X → Type 0) (xs : List S) : Type 0 where
-  pub members : (x : X) → Contains (map (seen texts) xs) x ↔ P x
-  pub known : All (Knows names texts) xs
-  pub in_range : All InRange xs
-
 -- what e gives from those of the states xs that can wait until its moment
 abbrev pub GivesFrom : {X S : Type 0} → (Texts → S → X) → Texts → Rules X → List S → MachineEvent → X → Type 0
 GivesFrom seen texts r xs e y = RunGives r (λ x. Contains (map (seen texts) xs) x × Waits r x e.moment) e y

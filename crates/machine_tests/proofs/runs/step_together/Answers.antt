@@ -1,0 +1,12 @@
+use Rattle.std.specs.Prelude.{◌<◌, All, length}
+use Rattle.std.proofs.Common.{arith, length-append, subst, take, take_all}
+use Rattle.std.proofs.lemmas.List.Elements.{All-append, All-take, All-weaker}
+use Rattle.sip_machine.specs.Rules.{Knows}
+use Rattle.machine_tests.proofs.Picked.{all_picked}
+use Rattle.machine_tests.proofs.runs.step_together.Goals as goal
+
+pub successors_each-requires-clause-known : goal.successors_each-requires-clause-known
+successors_each-requires-clause-known g c = All-take (Knows g.M.Machine.names c.args.book.now) c.len-count.result c.args.pool.now c.requires.known
+
+pub successors_each-requires-clause-in_range : goal.successors_each-requires-clause-in_range
+successors_each-requires-clause-in_range g c = All-take g.M.Machine.in_range c.len-count.result c.args.pool.now c.requires.in_range

@@ -2,12 +2,10 @@ use Prim.Native.Nat.{suc, zero}
 use Rattle.std.specs.Prelude.{◌≡◌, ◌<◌, ◌≤◌, ◌+◌, ◌-◌, ◌||◌, ℕ, Bool, true, false, IsTrue, None, List, [], ◌∷◌, ◌++◌, All, drop, filter, get_or, length, max, min, set, take}
 use Rattle.std.specs.Bool.{OnTrue, OnFalse}
 use Rattle.std.specs.List.{list_any}
-use Rattle.std.proofs.Common.{Result, Ok, Err, IfOk, inl, inr, refl, sym, ◌∙◌, ap, ap₂, subst, arith, cond, true≢false, length-set}
+use Rattle.std.proofs.Common.{Result, Ok, Err, IfOk, refl, sym, ◌∙◌, ap, ap₂, subst, arith, cond, true≢false, length-set}
 use Rattle.std.proofs.lemmas.List.Elements.{All-nil, All-cons, All-head, All-tail, All-push, All-set, All-get_or, All-weaker, filter-append}
-use Rattle.std.proofs.lemmas.Bool.{cases_lt}
 use Rattle.std.proofs.lemmas.Bool.Decides.{nat_tests}
-use Rattle.std.proofs.Math.Seq.{get_or-append_seam}
-use Rattle.std.proofs.lemmas.List.{get_or_append_left, get_or_default, get_or-set_same, set-get_or}
+use Rattle.std.proofs.lemmas.List.{get_or_default, get_or-set_same, set-get_or}
 use Rattle.sip_ledger.specs.declared.debt.Debt.{Debt}
 use Rattle.sip_ledger.specs.Debts.{counts_at, is_payable, IsWithoutFirst as LedgerWithoutFirst, paid_by}
 use Rattle.sip_ledger.specs.Ledgers.{Table, rows_of, row_of}

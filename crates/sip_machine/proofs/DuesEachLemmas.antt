@@ -1,6 +1,6 @@
 -- What many states owe, changed at once.
 use Prim.Native.Nat.{suc, zero}
-use Rattle.std.specs.Prelude.{◌≡◌, ◌<◌, ◌≤◌, ◌+◌, ◌-◌, ◌&&◌, ℕ, Bool, true, false, None, List, [], ◌∷◌, ◌++◌, All, drop, filter, length, map, max, min, replicate, take}
+use Rattle.std.specs.Prelude.{◌≡◌, ◌<◌, ◌≤◌, ◌+◌, ◌-◌, ◌&&◌, ℕ, Bool, true, false, None, List, [], ◌∷◌, ◌++◌, All, drop, filter, length, map, max, min, take}
 use Rattle.std.specs.List.{list_any}
 use Rattle.std.proofs.Common.{refl, sym, ◌∙◌, ap, ap₂, arith, cond, length-append, append-nil}
 use Rattle.std.proofs.lemmas.List.{length-map, replicate-append-replicate, take-append-drop}

@@ -3,13 +3,13 @@ use Prim.Native.Nat.{suc, zero}
 use Rattle.std.specs.Prelude.{◌≡◌, ◌≤◌, ◌<◌, ◌^◌, ◌↔◌, ◌⊎◌, ◌&&◌, ◌++◌, ℕ, IsTrue, Bool, true, false, Option, Some, None, List, [], ◌∷◌, All, filter, get_or, length, map, take, unwrap_or}
 use Rattle.std.specs.Option.{option_map}
 use Rattle.std.specs.List.{list_any}
-use Rattle.std.proofs.Common.{inl, inr, refl, sym, ◌∙◌, ap, subst, arith, cond, true≢false}
+use Rattle.std.proofs.Common.{inl, inr, refl, sym, ap, subst, arith, cond, true≢false}
 use Rattle.std.proofs.lemmas.Bool.Decides.{nat_tests}
 use Rattle.std.proofs.lemmas.List.Elements.{All-append, All-head, All-weaker}
 use Rattle.sip_times.specs.declared.action.Action.{Action}
 use Rattle.sip_times.specs.declared.action.Action.TheVariants.{Sent, Received}
 use Rattle.sip_ledger.specs.declared.debt.Debt.{Debt}
-use Rattle.sip_ledger.specs.Debts.{counts_at, debt_deadlines, is_payable, is_timely, is_within, paid_by}
+use Rattle.sip_ledger.specs.Debts.{debt_deadlines, is_payable, is_timely, is_within}
 use Rattle.sip_ledger.specs.Ledgers.{from_to}
 use Rattle.sip_machine.specs.declared.phases.Change.TheVariants as code
 use Rattle.sip_machine.specs.declared.phases.Turn.{Turn}
@@ -20,12 +20,12 @@ use Rattle.sip_machine.specs.MachineEvent.{MachineEvent}
 use Rattle.sip_machine.specs.Rules.{Covers, FromSome, Knows}
 use Rattle.sip_machine.specs.Debts.{Owed, earliest, must_deadlines, unexpired}
 use Rattle.sip_machine.specs.Owes.{owes_names, owes_seen}
-use Rattle.sip_machine.specs.Figure.{Figure, IsFigure, Owing, Steps, TakeOf, closes_at, until_of}
+use Rattle.sip_machine.specs.Figure.{Figure, Owing, Steps, TakeOf, closes_at, until_of}
 use Rattle.sip_machine.specs.Owing.{CodeOwing, turn_seen, turn_names, TurnInRange, owing_seen, owing_names, OwingInRange}
 use Rattle.sip_machine.specs.inner.Single.{AnswersOne}
 use Rattle.sip_machine.specs.inner.DebtLaws.{IsWithin-earliest, All-front, All-back}
 use Rattle.sip_machine.specs.inner.OwesLaws.{must_deadlines-seen, unexpired-seen, All-names}
-use Rattle.sip_machine.specs.inner.Paying.{PaysFor, FindsFirst}
+use Rattle.sip_machine.specs.inner.Paying.{PaysFor}
 use Rattle.sip_machine.specs.inner.Effects.{Leads, LeadsFrom, Rests, RestsFrom, led_by, repaid_at, unexpired_at}
 use Rattle.sip_machine.proofs.CoversLemmas.{FromSome-none, Covers-none, answers-cover}
 use Rattle.sip_machine.proofs.DueLemmas.{pays-some, pays-none}

@@ -1,5 +1,5 @@
-use Rattle.std.specs.Prelude.{◌≤◌, ◌++◌, ◌∷◌, [], List, drop, filter, map, take}
-use Rattle.std.proofs.Common.{◌∙◌, ap, arith}
+use Rattle.std.specs.Prelude.{◌≤◌, ◌++◌, ◌∷◌, [], List, filter}
+use Rattle.std.proofs.Common.{◌∙◌, arith}
 use Rattle.sip_ledger.specs.declared.debt.Debt.{Debt}
 use Rattle.sip_ledger.specs.Debts.{counts_at}
 use Rattle.sip_machine.specs.Limits.{close_at}

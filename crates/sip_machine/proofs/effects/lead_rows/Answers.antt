@@ -1,4 +1,4 @@
-use Rattle.std.specs.Prelude.{◌≡◌, length, filter, get_or, set, take, List, []}
+use Rattle.std.specs.Prelude.{length, filter, get_or, set, take, List, []}
 use Rattle.std.proofs.Common.{arith, ◌∙◌, ap, sym}
 use Rattle.sip_ledger.specs.declared.debt.Debt.{Debt}
 use Rattle.sip_ledger.specs.Debts.{counts_at}

@@ -1,4 +1,4 @@
-use Rattle.std.specs.Prelude.{◌≡◌, ◌≤◌, filter, length}
+use Rattle.std.specs.Prelude.{◌≡◌, ◌≤◌, filter}
 use Rattle.sip_ledger.specs.Debts.{counts_at}
 use Rattle.sip_machine.specs.Owing.{changed_debts}
 use Rattle.sip_ledger.proofs.EachLemmas.{changing}

@@ -1,5 +1,5 @@
-use Rattle.std.specs.Prelude.{◌<◌, ◌≤◌, ◌-◌, get_or, length, take}
-use Rattle.std.proofs.Common.{inl, inr, ◌∙◌, ap, refl, sym, arith, length-set}
+use Rattle.std.specs.Prelude.{◌<◌, ◌≤◌, ◌-◌, get_or, length}
+use Rattle.std.proofs.Common.{inl, inr, ◌∙◌, ap, refl, arith, length-set}
 use Rattle.std.proofs.lemmas.List.{get_or_default, get_or-set_same, get_or-set_other, length-take-le, take-set-le}
 use Rattle.std.proofs.lemmas.Bool.{cases_lt}
 use Rattle.sip_machine.proofs.FirstLemmas.{picking-more, rising-above}

@@ -1,4 +1,4 @@
-use Rattle.std.specs.Prelude.{◌≡◌, None, min, max}
+use Rattle.std.specs.Prelude.{None}
 use Rattle.sip_ledger.specs.Ledgers.{rows_of}
 use Rattle.sip_machine.specs.inner.Dues.{rows_in, AreDues}
 use Rattle.sip_ledger.proofs.EachLemmas.{on_ok}

@@ -1,5 +1,5 @@
 use Rattle.std.specs.Prelude.{◌≡◌, None}
-use Rattle.std.proofs.Common.{refl, ◌∙◌, ap, subst}
+use Rattle.std.proofs.Common.{refl}
 use Rattle.sip_ledger.specs.Debts.{paid_by}
 use Rattle.sip_ledger.specs.Ledgers.{rows_of}
 use Rattle.sip_machine.specs.inner.Dues.{rows_in, AreDues}

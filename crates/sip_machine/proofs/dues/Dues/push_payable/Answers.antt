@@ -1,5 +1,5 @@
-use Rattle.std.specs.Prelude.{◌≡◌, ◌≤◌, None, length, ◌&&◌}
-use Rattle.std.proofs.Common.{sym, ◌∙◌, ap, arith, rules, [], ◌+◌, ◌-◌}
+use Rattle.std.specs.Prelude.{◌≡◌, None, length, ◌&&◌}
+use Rattle.std.proofs.Common.{sym, ◌∙◌, ap, arith, []}
 use Rattle.std.specs.List.{list_any}
 use Rattle.sip_ledger.specs.Debts.{is_payable, is_timely}
 use Rattle.std.proofs.lemmas.List.{length-replicate}

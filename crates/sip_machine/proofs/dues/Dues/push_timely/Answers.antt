@@ -1,4 +1,4 @@
-use Rattle.std.specs.Prelude.{◌≡◌, ◌≤◌, None, length}
+use Rattle.std.specs.Prelude.{◌≡◌, None, length}
 use Rattle.std.proofs.Common.{sym, ◌∙◌, ap, arith, rules, [], ◌+◌, ◌-◌}
 use Rattle.sip_ledger.specs.Debts.{is_timely}
 use Rattle.std.proofs.lemmas.List.{length-replicate}

@@ -1,5 +1,4 @@
-use Rattle.std.specs.Prelude.{◌≤◌, ◌⊎◌, ◌-◌, take}
-use Rattle.sip_ledger.specs.Ledgers.{from_to}
+use Rattle.std.specs.Prelude.{◌≤◌, ◌-◌, take}
 use Rattle.sip_machine.specs.MachineEvent.{event_in}
 use Rattle.sip_machine.specs.Owing.{owing_seen, owing_names, OwingInRange}
 use Rattle.sip_machine.specs.inner.Effects.{LeadsFrom}

@@ -1,13 +1,11 @@
-use Rattle.std.specs.Prelude.{◌≡◌, ◌<◌, ◌≤◌, ◌++◌, List, All, length, take}
-use Rattle.std.proofs.Common.{sym, ◌∙◌, ap, subst, arith, refl}
-use Rattle.std.proofs.lemmas.List.{length-take-le}
+use Rattle.std.specs.Prelude.{All, take}
+use Rattle.std.proofs.Common.{sym, subst, arith}
 use Rattle.sip_ledger.specs.Ledgers.{from_to}
 use Rattle.sip_machine.specs.MachineEvent.{event_in}
-use Rattle.sip_machine.specs.Owing.{CodeOwing, owing_seen, owing_names, OwingInRange}
+use Rattle.sip_machine.specs.Owing.{owing_seen, owing_names, OwingInRange}
 use Rattle.sip_machine.specs.Rules.{Covers, FromSome, Knows}
 use Rattle.sip_machine.specs.inner.Effects.{RestsFrom}
 use Rattle.sip_machine.proofs.CoversLemmas.{found-none, found-more, slice-all, slice-old, take-slice, before-more}
-use Rattle.sip_machine.proofs.PoolLemmas.{take-old}
 use Rattle.sip_machine.proofs.owing.each.rests_each.Goals as goal
 
 pub loop-at-init : goal.loop-at-init

@@ -1,11 +1,11 @@
-use Rattle.std.specs.Prelude.{◌≡◌, ◌<◌, ◌≤◌, ◌++◌, ◌+◌, ◌-◌, ◌∷◌, [], List, All, get_or, length, take}
-use Rattle.std.proofs.Common.{sym, ◌∙◌, ap, subst, arith, refl, length-drop}
-use Rattle.std.proofs.lemmas.List.{get_or_append_left, length-take-le}
+use Rattle.std.specs.Prelude.{◌≡◌, ◌<◌, ◌+◌, ◌∷◌, [], get_or, length}
+use Rattle.std.proofs.Common.{sym, ◌∙◌, ap, subst, arith}
+use Rattle.std.proofs.lemmas.List.{get_or_append_left}
 use Rattle.sip_ledger.specs.Ledgers.{from_to}
 use Rattle.sip_ledger.proofs.EachLemmas.{from_to-none}
 use Rattle.sip_machine.specs.MachineEvent.{event_in}
-use Rattle.sip_machine.specs.Owing.{CodeOwing, owing_seen, owing_names, OwingInRange}
-use Rattle.sip_machine.specs.Rules.{Covers, FromSome, Knows}
+use Rattle.sip_machine.specs.Owing.{owing_seen, owing_names, OwingInRange}
+use Rattle.sip_machine.specs.Rules.{Covers, Knows}
 use Rattle.sip_machine.specs.inner.Effects.{RestsFrom}
 use Rattle.sip_machine.proofs.CoversLemmas.{HasFound, found-none, found-more, Covers-alone, slice-at, before-more}
 use Rattle.sip_machine.proofs.PoolLemmas.{some-at}

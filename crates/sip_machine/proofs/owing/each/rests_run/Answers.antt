@@ -1,7 +1,6 @@
-use Rattle.std.specs.Prelude.{◌≡◌, ◌<◌, ◌≤◌, ◌&&◌, ◌++◌, ◌⊎◌, [], List, All, filter, get_or, length, map, option_to_list, take}
-use Rattle.std.specs.Option.{option_map}
+use Rattle.std.specs.Prelude.{◌≡◌, ◌<◌, ◌&&◌, ◌++◌, [], All, filter, get_or, length, map}
 use Rattle.std.specs.List.{list_any}
-use Rattle.std.proofs.Common.{sym, ◌∙◌, ap, refl, subst, arith, append-nil, append_assoc, true≢false}
+use Rattle.std.proofs.Common.{sym, ◌∙◌, ap, subst, arith, append-nil, true≢false}
 use Rattle.std.proofs.lemmas.Result.{on_ok_weaker}
 use Rattle.std.proofs.lemmas.List.Elements.{All-weaker}
 use Rattle.sip_ledger.specs.Debts.{is_payable, is_timely}
@@ -9,11 +8,11 @@ use Rattle.sip_ledger.specs.Ledgers.{from_to}
 use Rattle.sip_machine.specs.Texts.{Keeps}
 use Rattle.sip_machine.specs.MachineEvent.{event_in}
 use Rattle.sip_machine.specs.Owes.{owes_names}
-use Rattle.sip_machine.specs.Owing.{CodeOwing, at_rest, owing_seen, owing_names, OwingInRange}
-use Rattle.sip_machine.specs.Rules.{Covers, FromSome, Knows}
+use Rattle.sip_machine.specs.Owing.{at_rest, owing_seen, owing_names, OwingInRange}
+use Rattle.sip_machine.specs.Rules.{Knows}
 use Rattle.sip_machine.specs.inner.DebtLaws.{All-front}
-use Rattle.sip_machine.specs.inner.Effects.{Leads, LeadsFrom, Rests, RestsFrom, led_by, repaid_at, rests_at, unexpired_at}
-use Rattle.sip_machine.proofs.PoolLemmas.{in-phases, in-rows, state-at, state-here, take-old}
+use Rattle.sip_machine.specs.inner.Effects.{Rests, repaid_at, unexpired_at}
+use Rattle.sip_machine.proofs.PoolLemmas.{in-phases, state-at}
 use Rattle.sip_machine.proofs.OwingEachLemmas.{closed-none, rests-paid, slice-first}
 use Rattle.sip_machine.proofs.owing.each.rests_run.Goals as goal
 

@@ -1,4 +1,4 @@
-use Rattle.std.specs.Prelude.{◌≤◌, take}
+use Rattle.std.specs.Prelude.{take}
 use Rattle.sip_machine.specs.MachineEvent.{event_in}
 use Rattle.sip_machine.specs.Figure.{TakeOf}
 use Rattle.sip_machine.specs.Owing.{owing_seen, owing_names, OwingInRange}

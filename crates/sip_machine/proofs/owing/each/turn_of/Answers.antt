@@ -1,4 +1,3 @@
-use Rattle.std.proofs.Common.{sym}
 use Rattle.std.proofs.lemmas.Result.{IfOk-weaker}
 use Rattle.sip_machine.specs.MachineEvent.{event_in}
 use Rattle.sip_machine.proofs.OwingEachLemmas.{leads-received, leads-sent}

@@ -1,4 +1,4 @@
-use Rattle.std.specs.Prelude.{◌≡◌, ◌<◌, All, length, map}
+use Rattle.std.specs.Prelude.{◌<◌, All, length}
 use Rattle.std.proofs.Common.{◌∙◌, ap, ap₂, sym, arith}
 use Rattle.std.proofs.lemmas.List.{length-map}
 use Rattle.sip_machine.specs.Owes.{owed_in}

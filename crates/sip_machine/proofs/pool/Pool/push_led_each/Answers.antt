@@ -1,5 +1,5 @@
-use Rattle.std.specs.Prelude.{◌≡◌, ◌≤◌, ◌++◌, List, filter, length, map, replicate}
-use Rattle.std.proofs.Common.{subst, ◌∙◌, sym, ap, ap₂, arith}
+use Rattle.std.specs.Prelude.{◌≡◌, ◌++◌, List, filter, length, map}
+use Rattle.std.proofs.Common.{◌∙◌, sym, ap, ap₂, arith}
 use Rattle.sip_ledger.specs.declared.debt.Debt.{Debt}
 use Rattle.sip_ledger.specs.Debts.{counts_at, is_timely}
 use Rattle.sip_ledger.specs.Ledgers.{from_to}

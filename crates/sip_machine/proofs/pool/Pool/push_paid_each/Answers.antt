@@ -1,4 +1,4 @@
-use Rattle.std.specs.Prelude.{◌≡◌, ◌<◌, ◌≤◌, ◌&&◌, ◌++◌, Bool, List, All, filter, get_or, length, map, replicate}
+use Rattle.std.specs.Prelude.{◌≡◌, ◌<◌, ◌&&◌, ◌++◌, Bool, List, All, filter, get_or, length, map}
 use Rattle.std.specs.List.{list_any}
 use Rattle.std.proofs.Common.{subst, ◌∙◌, sym, ap, ap₂, arith}
 use Rattle.std.proofs.lemmas.List.{length-map}

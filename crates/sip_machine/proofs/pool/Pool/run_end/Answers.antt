@@ -1,4 +1,4 @@
-use Rattle.std.specs.Prelude.{◌<◌, ◌≤◌, ◌≡◌, get_or, length}
+use Rattle.std.specs.Prelude.{◌<◌, ◌≡◌, get_or, length}
 use Rattle.std.proofs.Common.{subst, ◌∙◌, sym, ap, arith, refl}
 use Rattle.sip_machine.proofs.PoolLemmas.{in-phases, state-at}
 use Rattle.sip_machine.proofs.PoolEachLemmas.{some-first, some-more}

@@ -1,8 +1,9 @@
 -- What many rows owe with a debt more, whose entry is new.
-use Rattle.std.proofs.Common.{◌≡◌, ◌≢◌, ℕ, ◌<◌, ◌≤◌, Bool, true, false, List, [], ◌∷◌, ◌++◌, length, take, drop, get_or, map, refl, sym, ap, ◌∙◌, inl, inr, arith}
+use Rattle.std.proofs.Common.{◌≡◌, ◌≢◌, ℕ, ◌+◌, ◌-◌, ◌/◌, ◌^◌, ◌<◌, ◌≤◌, Bool, true, false, List, [], ◌∷◌, ◌++◌, length, take, drop, get_or, map, refl, sym, ap, ◌∙◌, inl, inr, arith}
 use Rattle.std.proofs.lemmas.Bool.{cases_lt, true≢false, false_from_ne_true}
 use Rattle.std.proofs.lemmas.List.{length_push}
 use Rattle.sip_masks.specs.Bits.{test}
+use Rattle.sip_masks.proofs.WordLemmas.{test-shr}
 use Rattle.sip_ledger.specs.declared.debt.Debt.{Debt}
 use Rattle.sip_ledger.specs.declared.debt.Entry.{Entry}
 use Rattle.sip_ledger.specs.Bits.{has}
@@ -10,13 +11,19 @@ use Rattle.sip_ledger.specs.Rows.{debt_of, debts_from, IsRow}
 use Rattle.sip_ledger.specs.Grids.{Grid, grid_of, part, grid_rows, IsGrid}
 use Rattle.sip_ledger.specs.inner.Marks.{IsSetFrom}
 use Rattle.sip_ledger.specs.inner.Places.{IsGainedAt}
-use Rattle.sip_ledger.proofs.BitsLemmas.{with_bit, test-with_same, test-with_other, has-past}
+use Rattle.sip_ledger.proofs.BitsLemmas.{with_bit, test-with_same, test-with_other, test-zero, has-past}
 use Rattle.sip_ledger.proofs.EachLemmas.{changed-each}
 use Rattle.sip_ledger.proofs.GridLemmas.{row_in, row-along, rows-length, rows-get, rows-inside}
 use Rattle.sip_ledger.proofs.RowLemmas.{grown-row, grown-debts, grown-gained, gains}
 use Rattle.sip_ledger.proofs.WordLemmas.{has-one, part-one}
 use Rattle.sip_ledger.proofs.WordRowLemmas.{row-in_word}
 use Rattle.sip_ledger.proofs.ListedLemmas.{listed-same}
+
+-- a word that is 0 from a place on has no bit there or behind
+pub none-behind : (w at i : ℕ) → w / 2 ^ at ≡ 0 → at ≤ i → test w i ≡ false
+none-behind w at i zero past =
+    let is : at + (i - at) ≡ i = omega (arith, past) in
+    ap (test w) (sym is) ∙ sym (test-shr w at (i - at)) ∙ ap (λ n. test n (i - at)) zero ∙ test-zero (i - at)
 
 -- a loop that sets a bit in each word from one on is done
 pub set-from : (from bit at : ℕ) (old new : List ℕ) → bit < 64 → length new ≡ length old → ((k : ℕ) → k < from → get_or new k 0 ≡ get_or old k 0) →

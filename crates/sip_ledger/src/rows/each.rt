@@ -31,7 +31,7 @@ impl Rows {
         if past == 0 {
             return;
         }
-        if self.has_distinct() {
+        if self.has_distinct(self.rows.saturating_sub(from)) {
             self.expire_distinct(from, moment);
         } else {
             self.expire_words(from, moment);
@@ -146,7 +146,7 @@ impl Rows {
     pub(crate) fn pay_each(&mut self, from: usize, message: u32, moment: u64)
         ensures { grid_rows self.new ≡ take from (grid_rows self.old) ++ map (paid_by message moment) (drop from (grid_rows self.old)) }
     {
-        if self.width == 1 && self.has_distinct() {
+        if self.width == 1 && self.has_distinct(self.rows.saturating_sub(from)) {
             let bits = self.payable_bits(message, moment);
             take_firsts(&mut self.owed, &mut self.must, from, bits);
         } else {
@@ -163,12 +163,13 @@ impl Rows {
         }
     }
 
-    /// Whether no two entries are equal, as far as it takes few steps for each row to tell.
-    fn has_distinct(&self) -> bool
+    /// Whether no two entries are equal, as far as it takes few steps for each of so many rows to tell.
+    fn has_distinct(&self, rows: usize) -> bool
         ensures { result ≡ true → AreDistinct self.now.entries }
     {
-        (self.rises || self.entries.len() <= self.rows / 2)
-            && are_distinct(&self.entries, self.rises)
+        let known = self.entries.len();
+        let some = if self.rises { known / 4 } else { known * 2 };
+        some <= rows && are_distinct(&self.entries, self.rises)
     }
 
     /// Puts a copy of each row from one up to another behind the others, but of those that must send something that is past at the

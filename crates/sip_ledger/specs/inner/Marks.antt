@@ -1,4 +1,4 @@
-use Rattle.std.specs.Prelude.{◌≡◌, ◌≢◌, ◌==◌, ◌&&◌, ◌<◌, ◌≤◌, ◌^◌, ◌*◌, ◌%◌, ℕ, Bool, true, cond, get_or, not, bit_and, bit_or, Option, None, Some, List, [], ◌∷◌, ◌++◌, filter, length}
+use Rattle.std.specs.Prelude.{◌≡◌, ◌≢◌, ◌==◌, ◌&&◌, ◌<◌, ◌≤◌, ◌^◌, ◌*◌, ◌%◌, ℕ, Bool, true, false, cond, get_or, not, bit_and, bit_or, Option, None, Some, List, [], ◌∷◌, ◌++◌, filter, length}
 use Rattle.std.specs.Int.{w64, bit_not, trailing_zeros}
 use Rattle.sip_masks.specs.Bits.{test}
 use Rattle.sip_ledger.specs.declared.debt.Debt.{Debt}
@@ -57,3 +57,7 @@ pub record AreKept (from kept : ℕ) (owed must owed' : List ℕ) : Type 0 where
   pub long : length owed' ≡ length owed
   pub before : (k : ℕ) → k < from → get_or owed' k 0 ≡ get_or owed k 0
   pub behind : (k : ℕ) → from ≤ k → k < length owed → get_or owed' k 0 ≡ bit_and (get_or owed k 0) (bit_or (get_or must k 0) kept)
+
+-- no word from one on has a bit at the place or behind it
+abbrev pub IsFreeFrom : ℕ → ℕ → List ℕ → Type 0
+IsFreeFrom from at words = (k i : ℕ) → from ≤ k → k < length words → at ≤ i → test (get_or words k 0) i ≡ false

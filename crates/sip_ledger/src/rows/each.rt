@@ -10,7 +10,7 @@ ghost use Rattle.sip_ledger.specs.Rows.{debt_of};
 ghost use Rattle.sip_ledger.specs.Grids.{grid_of, grid_rows, grid_row, IsGrid};
 ghost use Rattle.sip_ledger.specs.Ledgers.{from_to, Rise};
 ghost use Rattle.sip_ledger.specs.Prints.{grid_print};
-ghost use Rattle.sip_ledger.specs.inner.Marks.{is_marked, first_taken, AreDistinct, AreFirstsTaken, AreKept, IsSetFrom, IsTold, ArePut};
+ghost use Rattle.sip_ledger.specs.inner.Marks.{is_marked, first_taken, AreDistinct, AreFirstsTaken, AreKept, IsFreeFrom, IsSetFrom, IsTold, ArePut};
 ghost use Rattle.sip_ledger.specs.inner.Places.{AreRising};
 
 use crate::debt::{Debt, Entry};
@@ -31,7 +31,7 @@ impl Rows {
         if past == 0 {
             return;
         }
-        if self.has_distinct() {
+        if self.has_distinct(self.rows.saturating_sub(from)) {
             self.expire_distinct(from, moment);
         } else {
             self.expire_words(from, moment);
@@ -76,12 +76,21 @@ impl Rows {
         ensures ok { OnOk result (grid_rows self.new ≡ take from (grid_rows self.old) ++ map (λ owes. owes ++ debt ∷ []) (drop from (grid_rows self.old))) }
         ensures err { OnErr result ((length (grid_rows self.new) ≡ length (grid_rows self.old)) × (take from (grid_rows self.new) ≡ take from (grid_rows self.old))) }
     {
+        if self.width != 1 {
+            return self.gain_rows(from, debt);
+        }
         let entry = Entry {
             message: debt.message,
             deadline: debt.deadline,
         };
-        if self.width == 1 && self.entries.len() < 64 && !has_entry(&self.entries, entry) {
+        let known = self.entries.len();
+        let at = row::gained_at(&self.entries, &[], entry);
+        if at == known && at < 64 {
             return self.gain_new(from, entry, debt.must);
+        }
+        if at < known && is_free(&self.owed, from, at) {
+            self.gain_at(from, at, entry, debt.must);
+            return Ok(());
         }
         self.gain_rows(from, debt)
     }
@@ -117,11 +126,27 @@ impl Rows {
         Ok(())
     }
 
+    /// Lets each row from one on owe a debt of the entry at the index, where none of them has a bit there or behind, and one word has
+    /// all entries.
+    fn gain_at(&mut self, from: usize, at: usize, entry: Entry, due: bool)
+        requires one { self.old.width ≡ 1 }
+        requires inside { at < length self.old.entries }
+        requires is { (e : Entry) → get_or self.old.entries at e ≡ entry }
+        requires apart { (i : ℕ) (e : Entry) → i < at → get_or self.old.entries i e ≢ entry }
+        requires free { IsFreeFrom from at self.old.owed }
+        ensures { grid_rows self.new ≡ take from (grid_rows self.old) ++ map (λ owes. owes ++ debt_of entry due ∷ []) (drop from (grid_rows self.old)) }
+    {
+        set_from(&mut self.owed, from, at);
+        if due {
+            set_from(&mut self.must, from, at);
+        }
+    }
+
     /// Takes out of each row from one on the first debt that a send of the message at the moment pays, if there is one.
     pub(crate) fn pay_each(&mut self, from: usize, message: u32, moment: u64)
         ensures { grid_rows self.new ≡ take from (grid_rows self.old) ++ map (paid_by message moment) (drop from (grid_rows self.old)) }
     {
-        if self.width == 1 && self.has_distinct() {
+        if self.width == 1 && self.has_distinct(self.rows.saturating_sub(from)) {
             let bits = self.payable_bits(message, moment);
             take_firsts(&mut self.owed, &mut self.must, from, bits);
         } else {
@@ -138,12 +163,13 @@ impl Rows {
         }
     }
 
-    /// Whether no two entries are equal, as far as it takes few steps for each row to tell.
-    fn has_distinct(&self) -> bool
+    /// Whether no two entries are equal, as far as it takes few steps for each of so many rows to tell.
+    fn has_distinct(&self, rows: usize) -> bool
         ensures { result ≡ true → AreDistinct self.now.entries }
     {
-        (self.rises || self.entries.len() <= self.rows / 2)
-            && are_distinct(&self.entries, self.rises)
+        let known = self.entries.len();
+        let some = if self.rises { known / 4 } else { known * 2 };
+        some <= rows && are_distinct(&self.entries, self.rises)
     }
 
     /// Puts a copy of each row from one up to another behind the others, but of those that must send something that is past at the
@@ -362,11 +388,17 @@ fn put_marked(
     }
 }
 
-/// Whether one of the entries is this one.
-fn has_entry(entries: &[Entry], entry: Entry) -> bool
-    ensures { result ≡ false → (k : ℕ) (e : Entry) → k < length entries.now → get_or entries.now k e ≢ entry }
+/// Whether no word from one on has a bit at the place or behind it.
+fn is_free(words: &[u64], from: usize, at: usize) -> bool
+    requires { at < 64 }
+    ensures { result ≡ true → IsFreeFrom from at words.now }
 {
-    entries.contains(&entry)
+    for row in from..words.len() {
+        if words[row] >> at != 0 {
+            return false;
+        }
+    }
+    true
 }
 
 /// Sets a bit in each word from one on.

@@ -7,7 +7,7 @@ use Rattle.sip_ledger.specs.Rows.{debt_of}
 use Rattle.sip_ledger.specs.Grids.{Grid, grid_of, grid_rows}
 use Rattle.sip_ledger.specs.inner.Marks.{IsSetFrom}
 use Rattle.sip_ledger.specs.inner.Memos.{asked}
-use Rattle.sip_ledger.proofs.GainLemmas.{IsGain, gains-all}
+use Rattle.sip_ledger.proofs.GainLemmas.{new-gain, gains-all}
 use Rattle.sip_ledger.proofs.MemoLemmas.{mask-grown}
 use Rattle.sip_ledger.proofs.rows.Rows.gain_new.Goals as goal
 
@@ -21,16 +21,12 @@ invariant_of-self-then-due c =
     let m = c.set_from-then-due.new.words in
     let same : s.entries.items ≡ c.args.self.now.entries = ap (λ (x : Grid). x.entries) view in
     let bit_is : c.len-bit.result ≡ length s.entries.items = c.len-bit.ensures ∙ s.entries.ok.0 in
-    let gain : IsGain t entry c.args.from c.args.due o m = record {
-      ledger = c.self.invariant.ledger;
-      one = ap (λ (x : Grid). x.width) view ∙ c.requires.one;
-      room = omega (arith, ap length same, c.requires.room);
-      absent = subst (λ (l : List Entry). (k : ℕ) (e : Entry) → k < length l → get_or l k e ≢ entry) (sym same) c.requires.absent;
-      owed_set = subst (λ n. IsSetFrom c.args.from n s.owed.items o) bit_is (rw c.deref_mut.ensures.value at c.set_from.ensures);
-      must_set = λ _. subst (λ n. IsSetFrom c.args.from n s.must.items m) bit_is (rw c.deref_mut-then-due.ensures.value at c.set_from-then-due.ensures);
-      must_same = λ unset. absurd (true≢false (sym c.if-due.true ∙ unset));
-    } in
-    let all = gains-all t entry c.args.from c.args.due o m gain in
+    let gain = new-gain t entry c.args.from c.args.due o m c.self.invariant.ledger (ap (λ (x : Grid). x.width) view ∙ c.requires.one) (omega (arith, ap length same, c.requires.room))
+    (subst (λ (l : List Entry). (k : ℕ) (e : Entry) → k < length l → get_or l k e ≢ entry) (sym same) c.requires.absent)
+    (subst (λ n. IsSetFrom c.args.from n s.owed.items o) bit_is (rw c.deref_mut.ensures.value at c.set_from.ensures))
+    (λ _. subst (λ n. IsSetFrom c.args.from n s.must.items m) bit_is (rw c.deref_mut-then-due.ensures.value at c.set_from-then-due.ensures))
+    (λ unset. absurd (true≢false (sym c.if-due.true ∙ unset))) in
+    let all = gains-all t (s.entries.items ++ entry ∷ []) entry (length s.entries.items) c.args.from c.args.due o m gain in
     let owed_is = with_items_is s.owed o (c.set_from.auto.words ∙ c.deref_mut.ensures.len) in
     let must_is = with_items_is s.must m (c.set_from-then-due.auto.words ∙ c.deref_mut-then-due.ensures.len) in
     let items = c.in_ok-push.ensures.items in
@@ -51,16 +47,12 @@ returns-then-due-clause-ok c =
     let m = c.set_from-then-due.new.words in
     let same : s.entries.items ≡ c.args.self.now.entries = ap (λ (x : Grid). x.entries) view in
     let bit_is : c.len-bit.result ≡ length s.entries.items = c.len-bit.ensures ∙ s.entries.ok.0 in
-    let gain : IsGain t entry c.args.from c.args.due o m = record {
-      ledger = c.self.invariant.ledger;
-      one = ap (λ (x : Grid). x.width) view ∙ c.requires.one;
-      room = omega (arith, ap length same, c.requires.room);
-      absent = subst (λ (l : List Entry). (k : ℕ) (e : Entry) → k < length l → get_or l k e ≢ entry) (sym same) c.requires.absent;
-      owed_set = subst (λ n. IsSetFrom c.args.from n s.owed.items o) bit_is (rw c.deref_mut.ensures.value at c.set_from.ensures);
-      must_set = λ _. subst (λ n. IsSetFrom c.args.from n s.must.items m) bit_is (rw c.deref_mut-then-due.ensures.value at c.set_from-then-due.ensures);
-      must_same = λ unset. absurd (true≢false (sym c.if-due.true ∙ unset));
-    } in
-    let all = gains-all t entry c.args.from c.args.due o m gain in
+    let gain = new-gain t entry c.args.from c.args.due o m c.self.invariant.ledger (ap (λ (x : Grid). x.width) view ∙ c.requires.one) (omega (arith, ap length same, c.requires.room))
+    (subst (λ (l : List Entry). (k : ℕ) (e : Entry) → k < length l → get_or l k e ≢ entry) (sym same) c.requires.absent)
+    (subst (λ n. IsSetFrom c.args.from n s.owed.items o) bit_is (rw c.deref_mut.ensures.value at c.set_from.ensures))
+    (λ _. subst (λ n. IsSetFrom c.args.from n s.must.items m) bit_is (rw c.deref_mut-then-due.ensures.value at c.set_from-then-due.ensures))
+    (λ unset. absurd (true≢false (sym c.if-due.true ∙ unset))) in
+    let all = gains-all t (s.entries.items ++ entry ∷ []) entry (length s.entries.items) c.args.from c.args.due o m gain in
     let owed_is = with_items_is s.owed o (c.set_from.auto.words ∙ c.deref_mut.ensures.len) in
     let must_is = with_items_is s.must m (c.set_from-then-due.auto.words ∙ c.deref_mut-then-due.ensures.len) in
     let items = c.in_ok-push.ensures.items in
@@ -77,16 +69,12 @@ invariant_of-self-else-due c =
     let m = s.must.items in
     let same : s.entries.items ≡ c.args.self.now.entries = ap (λ (x : Grid). x.entries) view in
     let bit_is : c.len-bit.result ≡ length s.entries.items = c.len-bit.ensures ∙ s.entries.ok.0 in
-    let gain : IsGain t entry c.args.from c.args.due o m = record {
-      ledger = c.self.invariant.ledger;
-      one = ap (λ (x : Grid). x.width) view ∙ c.requires.one;
-      room = omega (arith, ap length same, c.requires.room);
-      absent = subst (λ (l : List Entry). (k : ℕ) (e : Entry) → k < length l → get_or l k e ≢ entry) (sym same) c.requires.absent;
-      owed_set = subst (λ n. IsSetFrom c.args.from n s.owed.items o) bit_is (rw c.deref_mut.ensures.value at c.set_from.ensures);
-      must_set = λ set. absurd (true≢false (sym set ∙ c.if-due.false));
-      must_same = λ _. refl;
-    } in
-    let all = gains-all t entry c.args.from c.args.due o m gain in
+    let gain = new-gain t entry c.args.from c.args.due o m c.self.invariant.ledger (ap (λ (x : Grid). x.width) view ∙ c.requires.one) (omega (arith, ap length same, c.requires.room))
+    (subst (λ (l : List Entry). (k : ℕ) (e : Entry) → k < length l → get_or l k e ≢ entry) (sym same) c.requires.absent)
+    (subst (λ n. IsSetFrom c.args.from n s.owed.items o) bit_is (rw c.deref_mut.ensures.value at c.set_from.ensures))
+    (λ set. absurd (true≢false (sym set ∙ c.if-due.false)))
+    (λ _. refl) in
+    let all = gains-all t (s.entries.items ++ entry ∷ []) entry (length s.entries.items) c.args.from c.args.due o m gain in
     let owed_is = with_items_is s.owed o (c.set_from.auto.words ∙ c.deref_mut.ensures.len) in
     let items = c.in_ok-push.ensures.items in
     rw (items, owed_is) (record {
@@ -106,16 +94,12 @@ returns-else-due-clause-ok c =
     let m = s.must.items in
     let same : s.entries.items ≡ c.args.self.now.entries = ap (λ (x : Grid). x.entries) view in
     let bit_is : c.len-bit.result ≡ length s.entries.items = c.len-bit.ensures ∙ s.entries.ok.0 in
-    let gain : IsGain t entry c.args.from c.args.due o m = record {
-      ledger = c.self.invariant.ledger;
-      one = ap (λ (x : Grid). x.width) view ∙ c.requires.one;
-      room = omega (arith, ap length same, c.requires.room);
-      absent = subst (λ (l : List Entry). (k : ℕ) (e : Entry) → k < length l → get_or l k e ≢ entry) (sym same) c.requires.absent;
-      owed_set = subst (λ n. IsSetFrom c.args.from n s.owed.items o) bit_is (rw c.deref_mut.ensures.value at c.set_from.ensures);
-      must_set = λ set. absurd (true≢false (sym set ∙ c.if-due.false));
-      must_same = λ _. refl;
-    } in
-    let all = gains-all t entry c.args.from c.args.due o m gain in
+    let gain = new-gain t entry c.args.from c.args.due o m c.self.invariant.ledger (ap (λ (x : Grid). x.width) view ∙ c.requires.one) (omega (arith, ap length same, c.requires.room))
+    (subst (λ (l : List Entry). (k : ℕ) (e : Entry) → k < length l → get_or l k e ≢ entry) (sym same) c.requires.absent)
+    (subst (λ n. IsSetFrom c.args.from n s.owed.items o) bit_is (rw c.deref_mut.ensures.value at c.set_from.ensures))
+    (λ set. absurd (true≢false (sym set ∙ c.if-due.false)))
+    (λ _. refl) in
+    let all = gains-all t (s.entries.items ++ entry ∷ []) entry (length s.entries.items) c.args.from c.args.due o m gain in
     let owed_is = with_items_is s.owed o (c.set_from.auto.words ∙ c.deref_mut.ensures.len) in
     let items = c.in_ok-push.ensures.items in
     rw (items, owed_is)

@@ -3,7 +3,7 @@ use Rattle.std.specs.List.{Any}
 use Rattle.sip_machine.specs.Limits.{IsWithin, IsOpenAt}
 use Rattle.sip_machine.specs.Texts.{Texts}
 use Rattle.sip_machine.specs.MachineEvent.{MachineEvent}
-use Rattle.sip_machine.specs.Rules.{Rules, Waits, Knows}
+use Rattle.sip_machine.specs.Rules.{Rules, Waits}
 use Rattle.sip_states.specs.Runs.{Wait, RunGives}
 
 -- The ways from one set of states to the next, as the code takes them.

@@ -1,4 +1,4 @@
-use Rattle.std.specs.Prelude.{◌≡◌, ◌++◌, List, take}
+use Rattle.std.specs.Prelude.{take}
 use Rattle.std.proofs.lemmas.Result.{on_ok_weaker}
 use Rattle.sip_machine.specs.MachineEvent.{event_in}
 use Rattle.sip_machine.specs.Rules.{FromSome}
@@ -16,7 +16,10 @@ returns-clause-gives g c =
     let some = take c.args.count c.args.pool.now in
     on_ok_weaker c.successors_each.result
     (λ (has : HasFound g.M.Machine.names g.M.Machine.in_range g.M.Machine.seen texts (λ x. r.Take (g.M.Machine.seen texts x) e) some c.args.pool.now c.successors_each.new.pool).
-    let (found, is, covers) = has in
-    (found, is, Covers-iff g.M.Machine.names g.M.Machine.in_range g.M.Machine.seen texts (FromSome (λ x. r.Take (g.M.Machine.seen texts x) e) some)
-      (GivesFrom g.M.Machine.seen texts r some e) (gives_some g.M.Machine.seen texts r e (g.met.M.Machine.lawful m) some) found covers))
+    let (found, is, covers) = has in (
+      found,
+      is,
+      Covers-iff g.M.Machine.names g.M.Machine.in_range g.M.Machine.seen texts (FromSome (λ x. r.Take (g.M.Machine.seen texts x) e) some)
+          (GivesFrom g.M.Machine.seen texts r some e) (gives_some g.M.Machine.seen texts r e (g.met.M.Machine.lawful m) some) found covers,
+    ))
     c.successors_each.ensures.gives

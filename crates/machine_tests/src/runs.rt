@@ -90,9 +90,8 @@ fn are_alike<P: Phase>(states: &[State<P>], others: &[State<P>]) -> bool {
 /// Whether each state is one of the others.
 fn are_among<P: Phase>(states: &[State<P>], others: &[State<P>]) -> bool {
     states.iter().all(|state| {
-        others
-            .iter()
-            .any(|other| state.phase == other.phase && state.owes.as_slice() == other.owes.as_slice())
+        others.iter().any(|other| state.phase == other.phase
+            && state.owes.as_slice() == other.owes.as_slice())
     })
 }
 

@@ -90,6 +90,31 @@ fn a_ledger_goes_on_after_a_refused_growth(rt: HostRuntime) -> Result<(), Fail> 
     push_again(&rt, &mut ledger, &mut twin)
 }
 
+/// Copies of both rows are pushed so, and each of them gains a debt. Where that is refused, the copies are gone.
+#[test]
+fn many_rows_go_on_after_a_refused_growth(rt: HostRuntime) -> Result<(), Fail> {
+    let mut ledger = Ledger::new(rt.alloc());
+    let mut twin = Ledger::new(rt.alloc());
+    push_again(&rt, &mut ledger, &mut twin)?;
+    push_again(&rt, &mut ledger, &mut twin)?;
+    for number in 0..70 {
+        let pushed = ledger.push_timely(0, 2.min(ledger.len()), 0);
+        if pushed.is_err() {
+            alike(&rt, &ledger, &twin)?;
+            ledger.push_timely(0, 2.min(ledger.len()), 0)?;
+        }
+        let gained = ledger.gain_each(2, must(number, 10));
+        if gained.is_err() {
+            alike(&rt, &ledger, &twin)?;
+        }
+        ledger.truncate(2);
+        pushed?;
+        gained?;
+        gain_again(&rt, &mut ledger, &mut twin, 0, must(number, 10))?;
+    }
+    Ok(())
+}
+
 /// What a row owes is told at a second call where memory was refused.
 #[test]
 fn rows_are_told_after_a_refused_growth(rt: HostRuntime) -> Result<(), Fail> {

@@ -1,6 +1,9 @@
 //! Steps by chance, on rows and on plain lists of debts beside them.
+ghost use Rattle.std.specs.Prelude.{◌<◌, All, AllPairs, IfOk};
+
 use crate::lists::{agree, owes};
 use sip_ledger::{Debt, Ledger};
+use std::alloc::Global;
 use std::process::Abort;
 use std::test::Fail;
 
@@ -132,6 +135,156 @@ fn change_rows(
             ledger.push()?;
             lists.push(Vec::new(rt.alloc()))?;
         }
+    }
+    Ok(())
+}
+
+/// Whether nothing that the list must send is past at the moment.
+fn is_timely(list: &[Debt], moment: u64) -> bool {
+    list.iter()
+        .all(|debt| !debt.must || moment <= debt.deadline)
+}
+
+/// Whether a send of the message at the moment pays one of the list's debts.
+fn can_pay(list: &[Debt], message: u32, moment: u64) -> bool {
+    list.iter()
+        .any(|debt| debt.message == message && moment <= debt.deadline)
+}
+
+/// Copies of some rows come behind the others: of those that are timely, or of those of them that can pay.
+fn push_some(
+    rt: &(impl Abort + AllocGlobal),
+    chance: &mut Chance,
+    ledger: &mut Ledger,
+    lists: &mut Vec<Vec<Debt>>,
+) -> Result<(), Fail> {
+    let from = chance.below(lists.len() as u64) as usize;
+    let to = lists.len();
+    let moment = chance.below(40);
+    let message = u32::try_from(chance.below(4)).unwrap_or(0);
+    let pays = chance.below(2) == 0;
+    assert!(rt; to <= ledger.len());
+    if pays {
+        ledger.push_payable(from, to, message, moment)?;
+    } else {
+        ledger.push_timely(from, to, moment)?;
+    }
+    for row in from..to {
+        assert!(rt; row < lists.len());
+        let list = lists[row].clone()?;
+        if is_timely(&list, moment) && (!pays || can_pay(&list, message, moment)) {
+            lists.push(list)?;
+        }
+    }
+    Ok(())
+}
+
+/// Each row from one on does the same.
+fn change_each(
+    rt: &(impl Abort + AllocGlobal),
+    chance: &mut Chance,
+    ledger: &mut Ledger,
+    lists: &mut Vec<Vec<Debt>>,
+) -> Result<(), Fail> {
+    let from = chance.below(lists.len() as u64) as usize;
+    let moment = chance.below(40);
+    let message = u32::try_from(chance.below(4)).unwrap_or(0);
+    let debt = Debt {
+        message,
+        deadline: 10 * (moment / 10),
+        must: chance.below(2) == 0,
+    };
+    let kind = chance.below(4);
+    match kind {
+        0 => ledger.pay_each(from, message, moment),
+        1 => ledger.expire_each(from, moment),
+        _ => ledger.gain_each(from, debt)?,
+    }
+    for list in lists.iter_mut().skip(from) {
+        match kind {
+            0 => {
+                let first = list
+                    .iter()
+                    .position(|debt| debt.message == message && moment <= debt.deadline);
+                if let Some(first) = first {
+                    list.remove(first);
+                }
+            }
+            1 => list.retain(|debt| debt.must || moment <= debt.deadline),
+            _ => list.push(debt)?,
+        }
+    }
+    agree(rt, ledger, lists)
+}
+
+/// Every second row is kept.
+fn keep_some(
+    rt: &(impl Abort + AllocGlobal),
+    ledger: &mut Ledger,
+    lists: &mut Vec<Vec<Debt>>,
+) -> Result<(), Fail> {
+    let rows = evens(rt.alloc(), ledger.len())?;
+    ledger.keep(&rows);
+    let mut kept = Vec::new(rt.alloc());
+    for (row, list) in lists.iter().enumerate() {
+        if row % 2 == 0 {
+            kept.push(list.clone()?)?;
+        }
+    }
+    *lists = kept;
+    Ok(())
+}
+
+/// The even numbers below the limit.
+fn evens(alloc: Global, limit: usize) -> Result<Vec<usize>, Fail>
+    ensures within { IfOk result (λ rows. All (λ row. row < limit) rows.items) }
+    ensures rising { IfOk result (λ rows. AllPairs (λ a b. a < b) rows.items) }
+{
+    let mut rows = Vec::new(alloc);
+    for row in 0..limit {
+        if row % 2 == 0 {
+            rows.push(row)?;
+        }
+    }
+    Ok(rows)
+}
+
+/// The prints of all rows are those of each.
+fn prints_agree(rt: &(impl Abort + AllocGlobal), ledger: &Ledger) -> Result<(), Fail> {
+    let prints = ledger.prints(rt.alloc(), 0)?;
+    assert_eq!(rt; prints.len(), ledger.len());
+    for (row, print) in prints.iter().enumerate() {
+        assert!(rt; row < ledger.len());
+        assert!(rt; *print == ledger.print(row), "{row}");
+    }
+    Ok(())
+}
+
+/// So many steps of many rows at once from this number on.
+fn play_many(rt: &(impl Abort + AllocGlobal), seed: u64, steps: u64) -> Result<(), Fail> {
+    let mut chance = Chance(seed);
+    let mut ledger = Ledger::new(rt.alloc());
+    let mut lists: Vec<Vec<Debt>> = Vec::new(rt.alloc());
+    ledger.push()?;
+    lists.push(Vec::new(rt.alloc()))?;
+    for _ in 0..steps {
+        match chance.below(8) {
+            0 if lists.len() < 16 => push_some(rt, &mut chance, &mut ledger, &mut lists)?,
+            1 if lists.len() > 4 => keep_some(rt, &mut ledger, &mut lists)?,
+            2 => ledger.tidy(),
+            3 => change_rows(rt, &mut chance, &mut ledger, &mut lists)?,
+            _ => change_each(rt, &mut chance, &mut ledger, &mut lists)?,
+        }
+        agree(rt, &mut ledger, &lists)?;
+        prints_agree(rt, &ledger)?;
+    }
+    Ok(())
+}
+
+#[test]
+fn many_rows_owe_what_plain_lists_have(rt: HostRuntime) -> Result<(), Fail> {
+    for seed in 0..20 {
+        play_many(&rt, seed, 150)?;
     }
     Ok(())
 }

@@ -235,6 +235,7 @@ impl Ledger {
     }
 
     /// Drops what the row may send and whose deadline is below the moment.
+    #[inline(never)]
     pub fn expire(&mut self, row: usize, moment: u64)
         requires { row < length (rows_of self.old) }
         ensures { rows_of self.new ≡ set (rows_of self.old) row (filter (counts_at moment) (row_of self.old row)) }
@@ -268,6 +269,7 @@ impl Ledger {
     }
 
     /// The least deadline of what the row must send.
+    #[inline(never)]
     pub fn earliest_must(&self, row: usize) -> Option<u64>
         requires { row < length (rows_of self.now) }
         ensures { result ≡ earliest (debt_deadlines (row_of self.now row)) }

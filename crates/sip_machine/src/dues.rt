@@ -148,6 +148,7 @@ impl Dues {
     }
 
     /// Drops what the row may send and whose deadline is below the moment.
+    #[inline(always)]
     pub(crate) fn expire(&mut self, row: usize, moment: u64)
         requires { row < length self.old }
         ensures { self.new ≡ set self.old row (filter (counts_at moment) (owed_in self.old row)) }
@@ -178,6 +179,7 @@ impl Dues {
     }
 
     /// The least deadline of what the row must send.
+    #[inline(always)]
     pub(crate) fn earliest_must(&self, row: usize) -> Option<u64>
         requires { row < length self.now }
         ensures { result ≡ earliest (debt_deadlines (owed_in self.now row)) }

@@ -32,6 +32,7 @@ pub(crate) enum Rest {
 }
 
 /// Does to what the state owes what a row does, with what has not expired. On an error all is as before.
+#[inline(always)]
 pub(crate) fn lead(
     alloc: Global,
     params: &Params,
@@ -116,6 +117,7 @@ fn lead_rows(
 }
 
 /// Leaves the phase as it is, with what has not expired, and without the debt that is paid, if one is.
+#[inline(always)]
 pub(crate) fn come_to_rest(moment: u64, rest: Rest, dues: &mut Dues, row: usize)
     requires { row < length dues.old }
     ensures { dues.new ≡ set dues.old row (rested_debts moment rest (owed_in dues.old row)) }

@@ -293,6 +293,7 @@ impl<P: Phase> Pool<P> {
     }
 
     /// Leads the state at the index where the row does. On an error all is as before.
+    #[inline(always)]
     pub(crate) fn lead(
         &mut self,
         params: &Params,

@@ -19,6 +19,7 @@ pub(crate) fn is_within(moment: u64, limit: Option<u64>) -> bool
 }
 
 /// The first moment from `from` on at which the state at the index can end, None if it cannot.
+#[inline(always)]
 fn first_end<M: Machine>(machine: &M, pool: &Pool<M::Phase>, at: usize, from: u64) -> Option<u64>
     requires at { at < length pool.now }
     requires in_range { HoldsAt M.in_range pool.now at }
@@ -34,6 +35,7 @@ fn first_end<M: Machine>(machine: &M, pool: &Pool<M::Phase>, at: usize, from: u6
 }
 
 /// Whether the state at the index can end at a moment from `from` to `to`.
+#[inline(always)]
 fn can_end<M: Machine>(machine: &M, pool: &Pool<M::Phase>, at: usize, from: u64, to: u64) -> bool
     requires at { at < length pool.now }
     requires in_range { HoldsAt M.in_range pool.now at }
@@ -46,6 +48,7 @@ fn can_end<M: Machine>(machine: &M, pool: &Pool<M::Phase>, at: usize, from: u64,
 }
 
 /// Whether one of the states can.
+#[inline(always)]
 pub(crate) fn some_can_end<M: Machine>(
     machine: &M,
     pool: &Pool<M::Phase>,

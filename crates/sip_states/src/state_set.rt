@@ -118,6 +118,7 @@ impl<M: Machine> StateSet<M> {
 
     /// Lets the only state take the event where it stands, and tells whether it did. If it did not, or on an error, the set is
     /// as before.
+    #[inline(always)]
     fn take_alone(&mut self, book: &Book, event: &Event) -> Result<bool, AllocError>
         requires order { self.old.moment ≤ event.now.moment }
         requires fits { FitsBook book.now event.now }
@@ -138,6 +139,7 @@ impl<M: Machine> StateSet<M> {
     }
 
     /// Lets each state take the event.
+    #[inline(never)]
     fn take_each(&mut self, book: &Book, event: &Event) -> Result<(), TakeError>
         requires order { self.old.moment ≤ event.now.moment }
         requires fits { FitsBook book.now event.now }

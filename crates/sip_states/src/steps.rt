@@ -12,6 +12,7 @@ use std::alloc::AllocError;
 
 /// Lets the only state take the event where it stands, after standing in it at `from`, and tells whether it did: not where
 /// there are others, where it may end before, or where it gives not just one. Then, and on an error, all is as before.
+#[inline(always)]
 pub(crate) fn step_alone<M: Machine>(
     machine: &M,
     book: &Book,

@@ -1,4 +1,5 @@
-use Rattle.std.proofs.Common.{◌<◌, ℕ, List, All, get_or, length, set, take}
+use Rattle.std.proofs.Common.{◌≡◌, ◌<◌, ◌≤◌, ◌+◌, ◌-◌, ◌++◌, ◌∙◌, ℕ, List, All, ap, arith, get_or, length, length-append, set, subst, sym, take}
+use Rattle.std.proofs.Math.Seq.{get_or-append_right}
 use Rattle.std.proofs.lemmas.List.Elements.{All-map, All-set, All-take}
 use Rattle.sip_machine.specs.Pools.{picked}
 
@@ -9,3 +10,17 @@ all_picked P xs x rows all within = All-map P (λ row. get_or xs row x) rows (λ
 -- and of the first ones, where one of them is put in the place of another
 pub all_moved : {X : Type 0} (P : X → Type 0) (xs : List X) (from to count : ℕ) (x : X) → from < length xs → All P xs → All P (take count (set xs to (get_or xs from x)))
 all_moved P xs from to count x low all = All-take P count (set xs to (get_or xs from x)) (All-set P xs to (get_or xs from x) (all from x low) all)
+
+-- and what holds of all that stands behind others holds of those of it that are picked
+pub behind_picked : {X : Type 0} (P : X → Type 0) (old added new : List X) (x : X) (rows : List ℕ) → new ≡ old ++ added →
+    All (λ row. (length old ≤ row) × (row < length new)) rows → All P added → All P (picked new x rows)
+behind_picked P old added new x rows is within all =
+    All-map P (λ row. get_or new row x) rows
+    (λ k d low.
+    let row = get_or rows k d in
+    let inside = within k d low in
+    let above = inside.0 in
+    let below = inside.1 in
+    let size : length new ≡ length old + length added = ap length is ∙ length-append old added in
+    let here : get_or new row x ≡ get_or added (row - length old) x = ap (λ xs. get_or xs row x) is ∙ get_or_append_right old added x row above in
+    subst P (sym here) (all (row - length old) x (omega (arith, above, below, size))))

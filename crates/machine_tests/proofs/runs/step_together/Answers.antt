@@ -2,7 +2,7 @@ use Rattle.std.specs.Prelude.{◌<◌, All, length}
 use Rattle.std.proofs.Common.{arith, length-append, subst, take, take_all}
 use Rattle.std.proofs.lemmas.List.Elements.{All-append, All-take, All-weaker}
 use Rattle.sip_machine.specs.Rules.{Knows}
-use Rattle.machine_tests.proofs.Picked.{all_picked}
+use Rattle.machine_tests.proofs.Picked.{behind_picked}
 use Rattle.machine_tests.proofs.runs.step_together.Goals as goal
 
 pub successors_each-requires-clause-known : goal.successors_each-requires-clause-known
@@ -10,3 +10,19 @@ successors_each-requires-clause-known g c = All-take (Knows g.M.Machine.names c.
 
 pub successors_each-requires-clause-in_range : goal.successors_each-requires-clause-in_range
 successors_each-requires-clause-in_range g c = All-take g.M.Machine.in_range c.len-count.result c.args.pool.now c.requires.in_range
+
+pub returns-clause-known : goal.returns-clause-known
+returns-clause-known g c =
+    let first = g.M.Machine.first c.args.machine.now in
+    let (added, is, covers) = c.in_ok-successors_each.ensures.gives in
+    rw (c.keep.ensures first, c.deref.ensures.value)
+    (behind_picked (Knows g.M.Machine.names c.args.book.now) c.args.pool.now added c.successors_each.new.pool first c.in_ok-given.given.items is
+    (rw c.len-count.ensures at c.in_ok-given.ensures.within) covers.known)
+
+pub returns-clause-in_range : goal.returns-clause-in_range
+returns-clause-in_range g c =
+    let first = g.M.Machine.first c.args.machine.now in
+    let (added, is, covers) = c.in_ok-successors_each.ensures.gives in
+    rw (c.keep.ensures first, c.deref.ensures.value)
+    (behind_picked g.M.Machine.in_range c.args.pool.now added c.successors_each.new.pool first c.in_ok-given.given.items is
+    (rw c.len-count.ensures at c.in_ok-given.ensures.within) covers.in_range)

@@ -22,5 +22,5 @@ behind_picked P old added new x rows is within all =
     let above = inside.0 in
     let below = inside.1 in
     let size : length new ≡ length old + length added = ap length is ∙ length-append old added in
-    let here : get_or new row x ≡ get_or added (row - length old) x = ap (λ xs. get_or xs row x) is ∙ get_or_append_right old added x row above in
+    let here : get_or new row x ≡ get_or added (row - length old) x = ap (λ xs. get_or xs row x) is ∙ get_or-append_right old added row x above in
     subst P (sym here) (all (row - length old) x (omega (arith, above, below, size))))

@@ -1,6 +1,6 @@
 -- Lists of which each element from one on changes, or behind which some of them come once more.
 use Prim.Native.Nat.{suc, zero}
-use Rattle.std.proofs.Common.{Result, Ok, Err, OnErr, OnOk, is_err, true, true≢false, ◌≡◌, ◌<◌, ◌≤◌, ◌⊎◌, inl, inr, ℕ, ◌+◌, Bool, false, List, [], ◌∷◌, ◌++◌, length, drop, take, get_or, set, map, filter, refl, ap, ap₂, sym, ◌∙◌, arith, cond}
+use Rattle.std.proofs.Common.{Result, Ok, Err, OnErr, OnOk, is_err, true≢false, ◌≡◌, ◌<◌, ◌≤◌, ◌⊎◌, inl, inr, ℕ, ◌+◌, Bool, false, List, [], ◌∷◌, ◌++◌, length, drop, take, get_or, set, map, filter, refl, ap, ap₂, sym, ◌∙◌, arith, cond}
 use Rattle.std.proofs.lemmas.List.Elements.{filter_more}
 use Rattle.sip_ledger.specs.Ledgers.{from_to}
 
@@ -9,11 +9,7 @@ pub always_err : {T E : Type 0} (r : Result T E) (P : Type 0) → P → OnErr r 
 always_err (Ok x) P p = tt
 always_err (Err e) P p = p
 
--- what holds on an error, and without one
-pub on_err : {T E : Type 0} (r : Result T E) (P : Type 0) → is_err r ≡ true → OnErr r P → P
-on_err (Ok x) P is err = absurd (true≢false (sym is))
-on_err (Err e) P is err = err
-
+-- and what holds without one
 pub on_ok : {T E : Type 0} (r : Result T E) (P : Type 0) → is_err r ≡ false → OnOk r P → P
 on_ok (Ok x) P is ok = ok
 on_ok (Err e) P is ok = absurd (true≢false is)

@@ -28,7 +28,7 @@ use Rattle.sip_ledger.proofs.RowLemmas.{listed-any, none-passes}
 use Rattle.sip_ledger.proofs.WordLemmas.{has-one, none-in, none-of_word, word-part, part-one}
 use Rattle.sip_ledger.proofs.WordRowLemmas.{word-row, row-in_word}
 use Rattle.sip_ledger.proofs.GridLemmas.{rows-length, rows-get, rows-inside, pushed-row, print-is}
-use Rattle.sip_ledger.proofs.EachLemmas.{from_to-none, from_to-end, passing-more, passing-none}
+use Rattle.sip_ledger.proofs.EachLemmas.{from_to-end, passing-more, passing-none}
 
 pub some-bits : (n : ℕ) → (n == 0) ≡ false → 0 < n
 some-bits n e = grind (arith, nat_tests)
@@ -97,16 +97,6 @@ payable-told message t entries bits past mask past_mask = record {
       ap₂ (λ a b. a && b) (any-word (is_payable message t) entries bits owed (has (must ∷ [])) owed_small (λ e b. refl) mask row.within)
       ((timely-told t entries past past_mask).tells owed must owed_small must_small row);
 }
-
--- none of the rows are put yet
-pub put-start : (entries : List Entry) (goes : List Debt → Bool) (from : ℕ) (owed must : List ℕ) → IsGrid (grid_of entries 1 (length owed) owed must) →
-    ArePut entries goes from from owed must owed must
-put-start entries goes from owed must ledger =
-    let rows = word_rows entries owed must in
-    record {
-      ledger = ledger;
-      rows = sym (ap (λ l. rows ++ filter goes l) (from_to-none from from rows (omega arith)) ∙ append-nil rows);
-    }
 
 -- a copy of one of the rows is put
 pub put-ledger : (entries : List Entry) (k : ℕ) (owed must : List ℕ) (word due : ℕ) → IsGrid (grid_of entries 1 (length owed) owed must) → k < length owed →

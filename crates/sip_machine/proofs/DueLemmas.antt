@@ -1,17 +1,14 @@
 use Prim.Native.Nat.{suc, zero}
-use Rattle.std.specs.Prelude.{◌≡◌, ◌<◌, ◌≤◌, ◌+◌, ◌-◌, ◌||◌, ℕ, Bool, true, false, IsTrue, None, List, [], ◌∷◌, ◌++◌, All, drop, filter, get_or, length, max, min, set, take}
+use Rattle.std.specs.Prelude.{◌≡◌, ◌<◌, ◌≤◌, ◌-◌, ◌||◌, ℕ, Bool, true, false, IsTrue, None, List, [], ◌∷◌, ◌++◌, All, drop, filter, length, max, min, set, take}
 use Rattle.std.specs.Bool.{OnTrue, OnFalse}
 use Rattle.std.specs.List.{list_any}
-use Rattle.std.proofs.Common.{Result, Ok, Err, IfOk, refl, sym, ◌∙◌, ap, ap₂, subst, arith, cond, true≢false, length-set}
+use Rattle.std.proofs.Common.{refl, sym, ◌∙◌, ap, ap₂, subst, arith, cond, true≢false, length-set}
 use Rattle.std.proofs.lemmas.List.Elements.{All-nil, All-cons, All-head, All-tail, All-push, All-set, All-get_or, All-weaker, filter-append}
 use Rattle.std.proofs.lemmas.Bool.Decides.{nat_tests}
-use Rattle.std.proofs.lemmas.List.{get_or_default, get_or-set_same, set-get_or}
+use Rattle.std.proofs.lemmas.List.{get_or-set_same, set-get_or}
 use Rattle.sip_ledger.specs.declared.debt.Debt.{Debt}
 use Rattle.sip_ledger.specs.Debts.{counts_at, is_payable, IsWithoutFirst as LedgerWithoutFirst, paid_by}
-use Rattle.sip_ledger.specs.Ledgers.{Table, rows_of, row_of}
-use Rattle.sip_ledger.specs.Prints.{print_of}
 use Rattle.sip_machine.specs.Debts.{IsWithoutFirst}
-use Rattle.sip_machine.specs.Prints.{ArePrints}
 use Rattle.sip_machine.specs.Owes.{owed_in}
 use Rattle.sip_machine.specs.inner.Dues.{rows_in, AreBetween, AreDues}
 
@@ -181,24 +178,3 @@ pub counted-gain : (t : ℕ) (owes : List Debt) (debt : Debt) → t ≤ debt.dea
 counted-gain t owes debt now =
     let counts : counts_at t debt ≡ true = grind (arith, nat_tests) in
     filter-append (counts_at t) owes (debt ∷ []) ∙ ap (λ b. filter (counts_at t) owes ++ cond b (debt ∷ []) []) counts
-
--- Of their prints.
-
--- those of a ledger
-pub ledger-prints : {T E : Type 0} (items : T → List ℕ) (r : Result T E) (table : Table) (from : ℕ) → from ≤ length (rows_of table) →
-    IfOk r (λ prints. length (items prints) ≡ length (rows_of table) - from) →
-    IfOk r (λ prints. (k : ℕ) → from + k < length (rows_of table) → get_or (items prints) k 0 ≡ print_of table (from + k)) →
-    IfOk r (λ _. (row other : ℕ) → from ≤ row → row < length (rows_of table) → other < length (rows_of table) → row_of table other ≡ row_of table row →
-    print_of table other ≡ print_of table row) →
-    IfOk r (λ prints. ArePrints (rows_of table) from (items prints))
-ledger-prints items (Ok prints) table from le long each same = record {
-  long = omega (arith, le, long);
-  same = λ i k x above_i low_i above_k low_k e.
-      let rows = rows_of table in
-      let alike : row_of table k ≡ row_of table i = get_or_default rows k [] x low_k ∙ sym e ∙ get_or_default rows i x [] low_i in
-      let at_i : from + (i - from) ≡ i = omega (arith, above_i) in
-      let at_k : from + (k - from) ≡ k = omega (arith, above_k) in
-      each (i - from) (omega (arith, at_i, low_i)) ∙ ap (print_of table) at_i ∙ sym (same i k above_i low_i low_k alike) ∙ ap (print_of table) (sym at_k)
-      ∙ sym (each (k - from) (omega (arith, at_k, low_k)));
-}
-ledger-prints items (Err e) table from le long each same = tt

@@ -38,10 +38,6 @@ AreDues-gained rows count low high from debt dues =
     (λ debts between. All-push (λ (d : Debt). (min low m ≤ d.message) × (d.message ≤ max high m)) debts debt between (omega arith, omega arith))
     (record { long = dues.long; between = between-wider low high m rows dues.between })
 
--- the first rows
-pub AreDues-first : (rows : List (List Debt)) (count low high n : ℕ) → length (take n rows) ≡ count → All (AreBetween low high) rows → AreDues (take n rows) count low high
-AreDues-first rows count low high n long between = record { long = long; between = All-take (AreBetween low high) n rows between }
-
 -- some come once more
 pub AreDues-again : (p : List Debt → Bool) (rows more : List (List Debt)) (count again low high from to : ℕ) → AreDues rows count low high →
     more ≡ rows ++ filter p (from_to from to rows) → again ≡ length more → AreDues more again low high

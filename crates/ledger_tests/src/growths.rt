@@ -90,7 +90,27 @@ fn a_ledger_goes_on_after_a_refused_growth(rt: HostRuntime) -> Result<(), Fail> 
     push_again(&rt, &mut ledger, &mut twin)
 }
 
-/// Copies of both rows are pushed so, and each of them gains a debt. Where that is refused, the copies are gone.
+/// Copies of both rows are pushed so, and each of them gains the debt. Where that is refused, the copies are gone.
+fn copies_gain_again(
+    rt: &(impl Abort + AllocGlobal),
+    ledger: &mut Ledger,
+    twin: &Ledger,
+    debt: Debt,
+) -> Result<(), Fail> {
+    let pushed = ledger.push_timely(0, 2.min(ledger.len()), 0);
+    if pushed.is_err() {
+        alike(rt, ledger, twin)?;
+        ledger.push_timely(0, 2.min(ledger.len()), 0)?;
+    }
+    let gained = ledger.gain_each(2, debt);
+    if gained.is_err() {
+        alike(rt, ledger, twin)?;
+    }
+    ledger.truncate(2);
+    pushed?;
+    Ok(gained?)
+}
+
 #[test]
 fn many_rows_go_on_after_a_refused_growth(rt: HostRuntime) -> Result<(), Fail> {
     let mut ledger = Ledger::new(rt.alloc());
@@ -98,32 +118,26 @@ fn many_rows_go_on_after_a_refused_growth(rt: HostRuntime) -> Result<(), Fail> {
     push_again(&rt, &mut ledger, &mut twin)?;
     push_again(&rt, &mut ledger, &mut twin)?;
     for number in 0..70 {
-        let pushed = ledger.push_timely(0, 2.min(ledger.len()), 0);
-        if pushed.is_err() {
-            alike(&rt, &ledger, &twin)?;
-            ledger.push_timely(0, 2.min(ledger.len()), 0)?;
-        }
-        let gained = ledger.gain_each(2, must(number, 10));
-        if gained.is_err() {
-            alike(&rt, &ledger, &twin)?;
-        }
-        ledger.truncate(2);
-        pushed?;
-        gained?;
+        copies_gain_again(&rt, &mut ledger, &twin, must(number, 10))?;
         gain_again(&rt, &mut ledger, &mut twin, 0, must(number, 10))?;
     }
     Ok(())
 }
 
-/// What a row owes is told at a second call where memory was refused.
-#[test]
-fn rows_are_told_after_a_refused_growth(rt: HostRuntime) -> Result<(), Fail> {
+/// A ledger of one row, which owes so many messages.
+fn of_many(rt: &(impl Abort + AllocGlobal), count: u32) -> Result<Ledger, Fail> {
     let mut ledger = Ledger::new(rt.alloc());
     ledger.push()?;
-    for number in 0..9 {
+    for number in 0..count {
         assert!(rt; 0 < ledger.len());
         ledger.gain(0, must(number, 10))?;
     }
+    Ok(ledger)
+}
+
+/// The messages of so many debts are told at a second call where memory was refused.
+fn names_again(rt: &(impl Abort + AllocGlobal), count: u32) -> Result<(), Fail> {
+    let ledger = of_many(rt, count)?;
     assert!(rt; 0 < ledger.len());
     let mut numbers = Vec::new(rt.alloc());
     let told = ledger.names(0, &mut numbers);
@@ -131,17 +145,45 @@ fn rows_are_told_after_a_refused_growth(rt: HostRuntime) -> Result<(), Fail> {
         numbers.clear();
         ledger.names(0, &mut numbers)?;
     }
-    assert_eq!(rt; numbers.len(), 9);
-    let mut refused = told;
-    let runs = match ledger.runs(rt.alloc(), 0) {
-        Ok(runs) => runs,
-        Err(error) => {
-            refused = Err(error);
-            ledger.runs(rt.alloc(), 0)?
+    assert_eq!(rt; numbers.len(), count as usize);
+    Ok(told?)
+}
+
+/// And the debts.
+fn runs_again(rt: &(impl Abort + AllocGlobal), count: u32) -> Result<(), Fail> {
+    let ledger = of_many(rt, count)?;
+    assert!(rt; 0 < ledger.len());
+    match ledger.runs(rt.alloc(), 0) {
+        Ok(runs) => {
+            assert_eq!(rt; runs.len(), count as usize);
+            Ok(())
         }
-    };
-    assert_eq!(rt; runs.len(), 9);
-    Ok(refused?)
+        Err(error) => {
+            let runs = ledger.runs(rt.alloc(), 0)?;
+            assert_eq!(rt; runs.len(), count as usize);
+            Err(error.into())
+        }
+    }
+}
+
+#[test]
+fn names_are_told_after_a_refused_growth(rt: HostRuntime) -> Result<(), Fail> {
+    names_again(&rt, 9)
+}
+
+#[test]
+fn runs_are_told_after_a_refused_growth(rt: HostRuntime) -> Result<(), Fail> {
+    runs_again(&rt, 9)
+}
+
+#[test]
+fn names_of_a_long_row_are_told_after_a_refused_growth(rt: HostRuntime) -> Result<(), Fail> {
+    names_again(&rt, 70)
+}
+
+#[test]
+fn runs_of_a_long_row_are_told_after_a_refused_growth(rt: HostRuntime) -> Result<(), Fail> {
+    runs_again(&rt, 70)
 }
 
 /// One row, which comes to owe more than one word has bits for, and a copy of it.
@@ -166,35 +208,6 @@ fn a_row_comes_after_a_long_one_after_a_refused_growth(rt: HostRuntime) -> Resul
         gain_again(&rt, &mut ledger, &mut twin, 0, must(number, 10))?;
     }
     push_again(&rt, &mut ledger, &mut twin)
-}
-
-/// What a long row owes is told at a second call where memory was refused.
-#[test]
-fn a_long_row_is_told_after_a_refused_growth(rt: HostRuntime) -> Result<(), Fail> {
-    let mut ledger = Ledger::new(rt.alloc());
-    ledger.push()?;
-    for number in 0..70 {
-        assert!(rt; 0 < ledger.len());
-        ledger.gain(0, must(number, 10))?;
-    }
-    assert!(rt; 0 < ledger.len());
-    let mut numbers = Vec::new(rt.alloc());
-    let told = ledger.names(0, &mut numbers);
-    if told.is_err() {
-        numbers.clear();
-        ledger.names(0, &mut numbers)?;
-    }
-    assert_eq!(rt; numbers.len(), 70);
-    let mut refused = told;
-    let runs = match ledger.runs(rt.alloc(), 0) {
-        Ok(runs) => runs,
-        Err(error) => {
-            refused = Err(error);
-            ledger.runs(rt.alloc(), 0)?
-        }
-    };
-    assert_eq!(rt; runs.len(), 70);
-    Ok(refused?)
 }
 
 /// Little is left of a long row, which stands over a list of entries again where there is memory.

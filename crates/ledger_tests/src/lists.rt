@@ -19,6 +19,17 @@ pub(crate) fn may(message: u32, deadline: u64) -> Debt {
     }
 }
 
+/// A ledger of one row, which owes this.
+pub(crate) fn of_one(rt: &(impl Abort + AllocGlobal), list: &[Debt]) -> Result<Ledger, Fail> {
+    let mut ledger = Ledger::new(rt.alloc());
+    ledger.push()?;
+    for debt in list {
+        assert!(rt; 0 < ledger.len());
+        ledger.gain(0, *debt)?;
+    }
+    Ok(ledger)
+}
+
 /// What the row owes.
 pub(crate) fn debts(
     rt: &(impl Abort + AllocGlobal),

@@ -1,19 +1,8 @@
 //! One row that owes more than a word has bits for.
-use crate::lists::{agree, debts, may, must, owes};
+use crate::lists::{agree, may, must, of_one, owes};
 use sip_ledger::{Debt, Ledger};
 use std::process::Abort;
 use std::test::Fail;
-
-/// A ledger of one row, which owes this.
-fn of_one(rt: &(impl Abort + AllocGlobal), list: &[Debt]) -> Result<Ledger, Fail> {
-    let mut ledger = Ledger::new(rt.alloc());
-    ledger.push()?;
-    for debt in list {
-        assert!(rt; 0 < ledger.len());
-        ledger.gain(0, *debt)?;
-    }
-    Ok(ledger)
-}
 
 /// Debts of so many messages, each with a deadline of its own.
 fn different(rt: &(impl Abort + AllocGlobal), count: u32) -> Result<Vec<Debt>, Fail> {
@@ -83,9 +72,9 @@ fn of_three_deadlines(rt: &(impl Abort + AllocGlobal)) -> Result<Vec<Debt>, Fail
     Ok(list)
 }
 
-/// A send pays the first debt whose deadline is not past, and one that must be sent does not expire.
+/// Past its deadline what may be sent expires, and what must be sent does not.
 #[test]
-fn a_long_row_expires_and_softens(rt: HostRuntime) -> Result<(), Fail> {
+fn a_long_row_expires(rt: HostRuntime) -> Result<(), Fail> {
     let mut list = of_three_deadlines(&rt)?;
     let mut ledger = of_one(&rt, &list)?;
     assert!(rt; 0 < ledger.len());
@@ -94,21 +83,41 @@ fn a_long_row_expires_and_softens(rt: HostRuntime) -> Result<(), Fail> {
     owes(&rt, &mut ledger, 0, &list)?;
     assert!(rt; 0 < ledger.len());
     ledger.expire(0, 21);
-    owes(&rt, &mut ledger, 0, &list)?;
+    owes(&rt, &mut ledger, 0, &list)
+}
+
+/// A send pays the first debt whose deadline is not past.
+#[test]
+fn a_long_row_pays_what_is_not_past(rt: HostRuntime) -> Result<(), Fail> {
+    let mut list = of_three_deadlines(&rt)?;
+    let mut ledger = of_one(&rt, &list)?;
     assert!(rt; 0 < ledger.len());
     assert!(rt; ledger.pay(0, 1, 21));
-    assert!(rt; list.len() > 20);
-    list.remove(20);
-    owes(&rt, &mut ledger, 0, &list)?;
+    assert!(rt; list.len() > 40);
+    list.remove(40);
     assert!(rt; 0 < ledger.len());
     assert!(rt; ledger.pay_any(0, &[1, 3], 30));
-    assert!(rt; list.len() > 20);
-    list.remove(20);
-    owes(&rt, &mut ledger, 0, &list)?;
+    assert!(rt; list.len() > 40);
+    list.remove(40);
+    owes(&rt, &mut ledger, 0, &list)
+}
+
+#[test]
+fn a_long_row_pays_nothing_that_is_past(rt: HostRuntime) -> Result<(), Fail> {
+    let list = of_three_deadlines(&rt)?;
+    let mut ledger = of_one(&rt, &list)?;
     assert!(rt; 0 < ledger.len());
     assert!(rt; !ledger.pay_any(0, &[1, 3], 31));
     assert!(rt; 0 < ledger.len());
     assert!(rt; !ledger.can_pay_any(0, &[1, 3], 31));
+    owes(&rt, &mut ledger, 0, &list)
+}
+
+/// What is softened expires, and what is cleared is owed no longer.
+#[test]
+fn a_long_row_softens(rt: HostRuntime) -> Result<(), Fail> {
+    let mut list = of_three_deadlines(&rt)?;
+    let mut ledger = of_one(&rt, &list)?;
     assert!(rt; 0 < ledger.len());
     ledger.soften(0);
     for debt in list.iter_mut() {
@@ -124,11 +133,9 @@ fn a_long_row_expires_and_softens(rt: HostRuntime) -> Result<(), Fail> {
     owes(&rt, &mut ledger, 0, &[])
 }
 
-/// A long row is copied, and its copy goes on.
-#[test]
-fn a_long_row_is_copied_and_dropped(rt: HostRuntime) -> Result<(), Fail> {
-    let list = different(&rt, 70)?;
-    let mut ledger = of_one(&rt, &list)?;
+/// A long row that was copied to itself, and its copy behind it, which pays the message 3.
+fn with_copy(rt: &(impl Abort + AllocGlobal), list: &[Debt]) -> Result<Ledger, Fail> {
+    let mut ledger = of_one(rt, list)?;
     assert!(rt; 0 < ledger.len());
     ledger.copy(0, 0);
     assert!(rt; 0 < ledger.len());
@@ -137,18 +144,50 @@ fn a_long_row_is_copied_and_dropped(rt: HostRuntime) -> Result<(), Fail> {
     ledger.push_copy(0)?;
     assert!(rt; 1 < ledger.len());
     assert!(rt; ledger.pay(1, 3, 0));
+    Ok(ledger)
+}
+
+/// A list and what is left of it without the message 3.
+fn with_rest(rt: &(impl Abort + AllocGlobal), list: &[Debt]) -> Result<Vec<Vec<Debt>>, Fail> {
+    let mut whole = Vec::new(rt.alloc());
+    whole.extend_from_slice(list)?;
+    let mut rest = whole.clone()?;
+    rest.retain(|debt| debt.message != 3);
     let mut lists = Vec::new(rt.alloc());
-    lists.push(list.clone()?)?;
-    lists.push(list)?;
-    assert!(rt; 1 < lists.len());
-    lists[1].retain(|debt| debt.message != 3);
-    agree(&rt, &mut ledger, &lists)?;
+    lists.push(whole)?;
+    lists.push(rest)?;
+    Ok(lists)
+}
+
+/// A long row is copied, and its copy goes on.
+#[test]
+fn a_long_row_is_copied(rt: HostRuntime) -> Result<(), Fail> {
+    let list = different(&rt, 70)?;
+    let mut ledger = with_copy(&rt, &list)?;
+    let lists = with_rest(&rt, &list)?;
+    agree(&rt, &mut ledger, &lists)
+}
+
+/// A copy stands alone once its long row is dropped.
+#[test]
+fn a_copy_of_a_long_row_stands_alone(rt: HostRuntime) -> Result<(), Fail> {
+    let list = different(&rt, 70)?;
+    let mut ledger = with_copy(&rt, &list)?;
+    let mut lists = with_rest(&rt, &list)?;
     ledger.drop_first(1);
     assert!(rt; 0 < lists.len());
     lists.remove(0);
-    agree(&rt, &mut ledger, &lists)?;
-    let mut ledger = of_one(&rt, &debts(&rt, &ledger, 0)?)?;
+    agree(&rt, &mut ledger, &lists)
+}
+
+/// Another row comes beside a long one.
+#[test]
+fn a_row_comes_beside_a_long_one(rt: HostRuntime) -> Result<(), Fail> {
+    let list = different(&rt, 69)?;
+    let mut ledger = of_one(&rt, &list)?;
     ledger.push()?;
+    let mut lists = Vec::new(rt.alloc());
+    lists.push(list)?;
     lists.push(Vec::new(rt.alloc()))?;
     agree(&rt, &mut ledger, &lists)
 }

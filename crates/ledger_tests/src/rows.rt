@@ -1,19 +1,8 @@
 //! Each operation once, by hand.
-use crate::lists::{debts, may, must, owes};
+use crate::lists::{debts, may, must, of_one, owes};
 use sip_ledger::{Debt, Ledger, Run};
 use std::process::Abort;
 use std::test::Fail;
-
-/// A ledger of one row, which owes this.
-fn of_one(rt: &(impl Abort + AllocGlobal), list: &[Debt]) -> Result<Ledger, Fail> {
-    let mut ledger = Ledger::new(rt.alloc());
-    ledger.push()?;
-    for debt in list {
-        assert!(rt; 0 < ledger.len());
-        ledger.gain(0, *debt)?;
-    }
-    Ok(ledger)
-}
 
 #[test]
 fn nothing_is_owed_at_first(rt: HostRuntime) -> Result<(), Fail> {
@@ -59,25 +48,37 @@ fn what_may_be_sent_expires(rt: HostRuntime) -> Result<(), Fail> {
     owes(&rt, &mut ledger, 0, &[])
 }
 
-/// Rows come and go behind and before the others.
-#[test]
-fn rows_are_copied_and_dropped(rt: HostRuntime) -> Result<(), Fail> {
-    let mut ledger = of_one(&rt, &[must(1, 10)])?;
+/// A row, its copy that owes one more, and a row that owes nothing.
+fn of_three(rt: &(impl Abort + AllocGlobal)) -> Result<Ledger, Fail> {
+    let mut ledger = of_one(rt, &[must(1, 10)])?;
     assert!(rt; 0 < ledger.len());
     ledger.push_copy(0)?;
     ledger.push()?;
     assert!(rt; 1 < ledger.len());
     ledger.gain(1, may(2, 20))?;
+    Ok(ledger)
+}
+
+/// Rows come behind the others.
+#[test]
+fn rows_are_copied(rt: HostRuntime) -> Result<(), Fail> {
+    let mut ledger = of_three(&rt)?;
     assert_eq!(rt; ledger.len(), 3);
     owes(&rt, &mut ledger, 0, &[must(1, 10)])?;
     owes(&rt, &mut ledger, 1, &[must(1, 10), may(2, 20)])?;
     owes(&rt, &mut ledger, 2, &[])?;
+    assert!(rt; 2 < ledger.len());
+    ledger.copy(1, 2);
+    owes(&rt, &mut ledger, 2, &[must(1, 10), may(2, 20)])
+}
+
+/// And go, from either end.
+#[test]
+fn rows_are_dropped(rt: HostRuntime) -> Result<(), Fail> {
+    let mut ledger = of_three(&rt)?;
     ledger.drop_first(1);
     assert_eq!(rt; ledger.len(), 2);
     owes(&rt, &mut ledger, 0, &[must(1, 10), may(2, 20)])?;
-    assert!(rt; 1 < ledger.len());
-    ledger.copy(1, 0);
-    owes(&rt, &mut ledger, 0, &[])?;
     ledger.truncate(1);
     assert_eq!(rt; ledger.len(), 1);
     ledger.truncate(9);

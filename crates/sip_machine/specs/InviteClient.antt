@@ -1,4 +1,4 @@
-use Rattle.std.specs.Prelude.{◌≡◌, ◌≤◌, ◌*◌, ◌⊎◌, ℕ, Bool, true, false, Option, Some, None, List, [], ◌∷◌, ◌++◌, if◌then◌else◌, codes, ⊤}
+use Rattle.std.specs.Prelude.{◌≡◌, ◌≤◌, ◌*◌, ◌⊎◌, ℕ, Bool, true, false, Option, Some, None, List, [], ◌∷◌, if◌then◌else◌, codes, ⊤}
 use Rattle.sip_key.specs.AckOf.{AckOf}
 use Rattle.sip_machine.specs.declared.event.Method.TheVariants.{Invite, Ack, Cancel}
 use Rattle.sip_machine.specs.declared.event.Kind.{Kind}
@@ -12,7 +12,7 @@ use Rattle.sip_machine.specs.MachineEvent.{MachineEvent}
 use Rattle.sip_machine.specs.Retransmits.{Retransmits}
 use Rattle.sip_machine.specs.Waiting.{Waiting, waiting_seen, WaitingInRange, waiting_fields}
 use Rattle.sip_machine.specs.Message.{IsProvisional, IsSuccess, IsUnsuccessful}
-use Rattle.sip_machine.specs.Figure.{Figure, Change, keeps, gains, closes_of}
+use Rattle.sip_machine.specs.Figure.{Figure, Change, keeps, gains}
 use Rattle.sip_machine.specs.Told.{Told, Flag, Number, Message}
 use Rattle.sip_machine.specs.Transaction.{Coded}
 
@@ -92,10 +92,6 @@ sends_by p x = []
 abbrev pub invite_client : Figure InviteClientPhase
 invite_client =
     record { idle = Idle; ended = Ended; Receives = Receives; Sends = Sends; Satisfies = Satisfies; Stays = λ x k. ⊥; ends_refused = ends_refused; window = timer_window; sends_by = sends_by }
-
--- until when its timers let a phase last
-abbrev pub closes : Times → InviteClientPhase → List ℕ
-closes p x = closes_of (timer_window p x) ++ sends_by p x
 
 -- The phases of the code, whose messages are numbers of a book.
 

@@ -9,7 +9,7 @@ use Rattle.sip_machine.specs.Times.{Times}
 use Rattle.sip_machine.specs.Texts.{Texts}
 use Rattle.sip_machine.specs.MachineEvent.{MachineEvent}
 use Rattle.sip_machine.specs.Message.{IsSuccess}
-use Rattle.sip_machine.specs.Figure.{Figure, Change, keeps, drops, closes_of}
+use Rattle.sip_machine.specs.Figure.{Figure, Change, keeps, drops}
 use Rattle.sip_machine.specs.InviteServer as corrected
 use Rattle.sip_machine.specs.InviteServer.{InviteServerPhase, Idle, Proceeding, Accepted, Completed, invite_server_seen, invite_server_names, InviteServerInRange, invite_server_told}
 use Rattle.sip_machine.specs.Told.{Told, Flag}
@@ -82,10 +82,6 @@ invite_server_3261 =
       window = timer_window;
       sends_by = sends_by;
     }
-
--- until when its timers let a phase last
-abbrev pub closes : Times → InviteServer3261Phase → List ℕ
-closes p x = closes_of (timer_window p x) ++ sends_by p x
 
 -- The phases of the code, whose messages are numbers of a book.
 

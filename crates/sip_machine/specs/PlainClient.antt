@@ -1,4 +1,4 @@
-use Rattle.std.specs.Prelude.{◌≡◌, ◌≤◌, ◌*◌, ◌⊎◌, ℕ, Bool, true, Option, None, List, [], ◌∷◌, ◌++◌, if◌then◌else◌, min, Some, codes, ⊤}
+use Rattle.std.specs.Prelude.{◌≡◌, ◌≤◌, ◌*◌, ◌⊎◌, ℕ, Bool, true, Option, None, List, [], ◌∷◌, if◌then◌else◌, min, Some, codes, ⊤}
 use Rattle.sip_machine.specs.declared.event.Kind.{Kind}
 use Rattle.sip_machine.specs.declared.event.Kind.TheVariants.{Request, Response}
 use Rattle.sip_machine.specs.declared.plain_client.PlainClientPhase.{PlainClientPhase as CodePhase}
@@ -10,7 +10,7 @@ use Rattle.sip_machine.specs.MachineEvent.{MachineEvent}
 use Rattle.sip_machine.specs.Retransmits.{Retransmits}
 use Rattle.sip_machine.specs.Waiting.{Waiting, waiting_seen, WaitingInRange, waiting_fields}
 use Rattle.sip_machine.specs.Message.{IsProvisional, IsFinal}
-use Rattle.sip_machine.specs.Figure.{Figure, Change, keeps, closes_of}
+use Rattle.sip_machine.specs.Figure.{Figure, Change, keeps}
 use Rattle.sip_machine.specs.Told.{Told, Flag, Number}
 use Rattle.sip_machine.specs.Transaction.{Coded}
 
@@ -57,10 +57,6 @@ sends_by p x = []
 abbrev pub plain_client : Figure PlainClientPhase
 plain_client =
     record { idle = Idle; ended = Ended; Receives = Receives; Sends = Sends; Satisfies = λ x k e message. ⊥; Stays = λ x k. ⊥; ends_refused = λ x k. true; window = timer_window; sends_by = sends_by }
-
--- until when its timers let a phase last
-abbrev pub closes : Times → PlainClientPhase → List ℕ
-closes p x = closes_of (timer_window p x) ++ sends_by p x
 
 -- The phases of the code, whose messages are numbers of a book.
 

@@ -1,24 +1,17 @@
 //! The INVITE client transaction (RFC 3261 section 17.1.1, with the accepted state of RFC 6026).
-ghost use Rattle.std.specs.Prelude.{◌≡◌, ◌≤◌};
-ghost use Rattle.sip_machine.specs.declared.event.Method.TheVariants.{Invite, Cancel};
-ghost use Rattle.sip_machine.specs.declared.event.Kind.TheVariants.{Request};
-ghost use Rattle.sip_machine.specs.Times.{Times, last_moment};
-ghost use Rattle.sip_machine.specs.Texts.{Texts};
-ghost use Rattle.sip_machine.specs.Rules.{Knows};
-ghost use Rattle.sip_machine.specs.Owing.{turn_seen, turn_names, TurnInRange};
-ghost use Rattle.sip_machine.specs.inner.Single.{AnswersOne};
-ghost use Rattle.sip_machine.specs.MachineEvent.{KeepsMessage, event_in};
-ghost use Rattle.sip_machine.specs.InviteClient.{Sends, invite_client_seen, invite_client_names, InviteClientInRange};
+ghost use Rattle.std.specs.Prelude.{◌≡◌};
 
 mod acks;
 
+use self::InviteClientPhase::{Accepted, Calling, Completed, Ended, Idle, Proceeding};
 use crate::book::Book;
 use crate::dues::Dues;
 use crate::event::{Event, Kind, Method, is_provisional, is_success, is_unsuccessful};
 use crate::invite_client::acks::first_acked;
 use crate::phases::{Change, Phase, Phases, Turn};
 use crate::timers::timeout;
-use crate::told::{Field, Told};
+use crate::told::Field::{Flag, Message, Number};
+use crate::told::Told;
 use crate::waiting::Waiting;
 use sip_times::Params;
 use std::alloc::{AllocError, Global};
@@ -116,11 +109,11 @@ impl Phases for InviteClient {
     }
 
     fn idle(&self) -> InviteClientPhase {
-        InviteClientPhase::Idle
+        Idle
     }
 
     fn ended(&self) -> InviteClientPhase {
-        InviteClientPhase::Ended
+        Ended
     }
 
     fn receives(
@@ -136,21 +129,21 @@ impl Phases for InviteClient {
         let set = event.moment();
         if is_unsuccessful(code) {
             let phase = match *phase {
-                InviteClientPhase::Calling(waiting) => InviteClientPhase::Completed {
+                Calling(waiting) => Completed {
                     reliable: waiting.reliable,
                     request: waiting.request,
                     set,
                 },
-                InviteClientPhase::Proceeding {
+                Proceeding {
                     reliable,
                     request,
                     ..
-                } => InviteClientPhase::Completed {
+                } => Completed {
                     reliable,
                     request,
                     set,
                 },
-                InviteClientPhase::Completed { .. } => *phase,
+                Completed { .. } => *phase,
                 _ => return Ok(None),
             };
             let change = Change::Gains {
@@ -160,25 +153,16 @@ impl Phases for InviteClient {
             return Ok(Some(Turn { phase, change }));
         }
         let phase = match *phase {
-            InviteClientPhase::Calling(waiting) if is_provisional(code) => {
-                InviteClientPhase::Proceeding {
-                    reliable: waiting.reliable,
-                    request: waiting.request,
-                    cancel: None,
-                }
-            }
-            InviteClientPhase::Calling(_) if is_success(code) => {
-                InviteClientPhase::Accepted { set }
-            }
-            InviteClientPhase::Proceeding { .. } if is_success(code) => {
-                InviteClientPhase::Accepted { set }
-            }
+            Calling(waiting) if is_provisional(code) => Proceeding {
+                reliable: waiting.reliable,
+                request: waiting.request,
+                cancel: None,
+            },
+            Calling(_) | Proceeding { .. } if is_success(code) => Accepted { set },
             _ => return Ok(None),
         };
-        Ok(Some(Turn {
-            phase,
-            change: Change::Keeps,
-        }))
+        let change = Change::Keeps;
+        Ok(Some(Turn { phase, change }))
     }
 
     fn sends(
@@ -195,34 +179,32 @@ impl Phases for InviteClient {
         let t1 = params.t1();
         let phase = match method {
             Method::Invite => match *phase {
-                InviteClientPhase::Idle => InviteClientPhase::Calling(Waiting {
+                Idle => Calling(Waiting {
                     reliable: event.reliable(),
                     request: event.number(),
                     start: event.moment(),
                     set: event.moment(),
                     interval: t1,
                 }),
-                InviteClientPhase::Calling(waiting) if waiting.repeats(params, book, event) => {
-                    InviteClientPhase::Calling(Waiting {
-                        set: event.moment(),
-                        interval: 2 * waiting.interval,
-                        ..waiting
-                    })
-                }
+                Calling(waiting) if waiting.repeats(params, book, event) => Calling(Waiting {
+                    set: event.moment(),
+                    interval: 2 * waiting.interval,
+                    ..waiting
+                }),
                 _ => return Ok(None),
             },
             Method::Ack => match *phase {
-                InviteClientPhase::Idle => InviteClientPhase::Idle,
+                Idle => Idle,
                 _ => return Ok(None),
             },
             // the first one counts, and in calling none is sent
             Method::Cancel => match *phase {
-                InviteClientPhase::Calling(_) => return Ok(None),
-                InviteClientPhase::Proceeding {
+                Calling(_) => return Ok(None),
+                Proceeding {
                     reliable,
                     request,
                     cancel: None,
-                } => InviteClientPhase::Proceeding {
+                } => Proceeding {
                     reliable,
                     request,
                     cancel: Some(event.moment()),
@@ -231,10 +213,8 @@ impl Phases for InviteClient {
             },
             Method::Other => return Ok(None),
         };
-        Ok(Some(Turn {
-            phase,
-            change: Change::Keeps,
-        }))
+        let change = Change::Keeps;
+        Ok(Some(Turn { phase, change }))
     }
 
     fn paid(
@@ -249,7 +229,7 @@ impl Phases for InviteClient {
         let Kind::Request(Method::Ack) = event.kind() else {
             return Ok(None);
         };
-        let InviteClientPhase::Completed { request, .. } = *phase else {
+        let Completed { request, .. } = *phase else {
             return Ok(None);
         };
         first_acked(alloc, book, request, event, dues, row)
@@ -266,7 +246,7 @@ impl Phases for InviteClient {
     fn ends_refused(&self, phase: &InviteClientPhase, kind: Kind) -> bool {
         match (kind, *phase) {
             (Kind::Request(Method::Invite), _) => true,
-            (Kind::Request(Method::Ack), InviteClientPhase::Completed { .. }) => true,
+            (Kind::Request(Method::Ack), Completed { .. }) => true,
             _ => false,
         }
     }
@@ -275,50 +255,43 @@ impl Phases for InviteClient {
         let params = &self.params;
         match *phase {
             // timer B
-            InviteClientPhase::Calling(waiting) => {
-                Some(params.window(waiting.start, timeout(params)))
-            }
-            InviteClientPhase::Proceeding { cancel, .. } => match cancel {
+            Calling(waiting) => Some(params.window(waiting.start, timeout(params))),
+            Proceeding { cancel, .. } => match cancel {
                 Some(first) => Some((params.opens(first, timeout(params)), None)),
                 None => None,
             },
             // timer M
-            InviteClientPhase::Accepted { set } => Some(params.window(set, timeout(params))),
+            Accepted { set } => Some(params.window(set, timeout(params))),
             // timer D
-            InviteClientPhase::Completed { reliable, set, .. } if reliable => {
-                Some(params.window(set, 0))
-            }
-            InviteClientPhase::Completed { set, .. } => Some((params.opens(set, TIMER_D), None)),
-            InviteClientPhase::Idle | InviteClientPhase::Ended => None,
+            Completed { reliable, set, .. } if reliable => Some(params.window(set, 0)),
+            Completed { set, .. } => Some((params.opens(set, TIMER_D), None)),
+            Idle | Ended => None,
         }
     }
 
     fn closes(&self, phase: &InviteClientPhase) -> Option<u64> {
         let params = &self.params;
         match *phase {
-            InviteClientPhase::Calling(waiting) => Some(waiting.closes(params, timeout(params))),
-            InviteClientPhase::Accepted { set } => Some(params.closes(set, timeout(params))),
-            InviteClientPhase::Completed { reliable, set, .. } if reliable => {
-                Some(params.closes(set, 0))
-            }
+            Calling(waiting) => Some(waiting.closes(params, timeout(params))),
+            Accepted { set } => Some(params.closes(set, timeout(params))),
+            Completed { reliable, set, .. } if reliable => Some(params.closes(set, 0)),
             _ => None,
         }
     }
 
     fn message(&self, phase: &InviteClientPhase) -> Option<u32> {
         match *phase {
-            InviteClientPhase::Calling(waiting) => Some(waiting.request),
-            InviteClientPhase::Proceeding { request, .. } => Some(request),
-            InviteClientPhase::Completed { request, .. } => Some(request),
+            Calling(waiting) => Some(waiting.request),
+            Proceeding { request, .. } | Completed { request, .. } => Some(request),
             _ => None,
         }
     }
 
     fn told(alloc: Global, phase: &InviteClientPhase) -> Result<Told, AllocError> {
         match *phase {
-            InviteClientPhase::Idle => Told::new(alloc, "idle", &[]),
-            InviteClientPhase::Calling(waiting) => Told::new(alloc, "calling", &waiting.fields()),
-            InviteClientPhase::Proceeding {
+            Idle => Told::new(alloc, "idle", &[]),
+            Calling(waiting) => Told::new(alloc, "calling", &waiting.fields()),
+            Proceeding {
                 reliable,
                 request,
                 cancel,
@@ -326,15 +299,13 @@ impl Phases for InviteClient {
                 alloc,
                 "proceeding",
                 &[
-                    Field::Flag("reliable", reliable),
-                    Field::Message("request", Some(request)),
-                    Field::Number("cancel", cancel),
+                    Flag("reliable", reliable),
+                    Message("request", Some(request)),
+                    Number("cancel", cancel),
                 ],
             ),
-            InviteClientPhase::Accepted { set } => {
-                Told::new(alloc, "accepted", &[Field::Number("set", Some(set))])
-            }
-            InviteClientPhase::Completed {
+            Accepted { set } => Told::new(alloc, "accepted", &[Number("set", Some(set))]),
+            Completed {
                 reliable,
                 request,
                 set,
@@ -342,12 +313,12 @@ impl Phases for InviteClient {
                 alloc,
                 "completed",
                 &[
-                    Field::Flag("reliable", reliable),
-                    Field::Message("request", Some(request)),
-                    Field::Number("set", Some(set)),
+                    Flag("reliable", reliable),
+                    Message("request", Some(request)),
+                    Number("set", Some(set)),
                 ],
             ),
-            InviteClientPhase::Ended => Told::new(alloc, "ended", &[]),
+            Ended => Told::new(alloc, "ended", &[]),
         }
     }
 

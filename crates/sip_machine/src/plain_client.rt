@@ -1,12 +1,14 @@
 //! The non-INVITE client transaction (RFC 3261 section 17.1.2).
 ghost use Rattle.std.specs.Prelude.{◌≡◌};
 
+use self::PlainClientPhase::{Completed, Ended, Idle, Proceeding, Trying};
 use crate::book::Book;
 use crate::dues::Dues;
 use crate::event::{Event, Kind, is_final, is_provisional};
 use crate::phases::{Change, Phase, Phases, Turn};
 use crate::timers::{linger, timeout};
-use crate::told::{Field, Told};
+use crate::told::Field::{Flag, Number};
+use crate::told::Told;
 use crate::waiting::Waiting;
 use sip_times::Params;
 use std::alloc::{AllocError, Global};
@@ -88,11 +90,11 @@ impl Phases for PlainClient {
     }
 
     fn idle(&self) -> PlainClientPhase {
-        PlainClientPhase::Idle
+        Idle
     }
 
     fn ended(&self) -> PlainClientPhase {
-        PlainClientPhase::Ended
+        Ended
     }
 
     fn receives(
@@ -106,25 +108,15 @@ impl Phases for PlainClient {
             return Ok(None);
         };
         let phase = match *phase {
-            PlainClientPhase::Trying(waiting) if is_provisional(code) => {
-                PlainClientPhase::Proceeding(waiting)
-            }
-            PlainClientPhase::Trying(waiting) if is_final(code) => PlainClientPhase::Completed {
+            Trying(waiting) if is_provisional(code) => Proceeding(waiting),
+            Trying(waiting) | Proceeding(waiting) if is_final(code) => Completed {
                 reliable: waiting.reliable,
                 set: event.moment(),
             },
-            PlainClientPhase::Proceeding(waiting) if is_final(code) => {
-                PlainClientPhase::Completed {
-                    reliable: waiting.reliable,
-                    set: event.moment(),
-                }
-            }
             _ => return Ok(None),
         };
-        Ok(Some(Turn {
-            phase,
-            change: Change::Keeps,
-        }))
+        let change = Change::Keeps;
+        Ok(Some(Turn { phase, change }))
     }
 
     fn sends(
@@ -139,33 +131,27 @@ impl Phases for PlainClient {
         };
         let params = &self.params;
         let phase = match *phase {
-            PlainClientPhase::Idle => PlainClientPhase::Trying(Waiting {
+            Idle => Trying(Waiting {
                 reliable: event.reliable(),
                 request: event.number(),
                 start: event.moment(),
                 set: event.moment(),
                 interval: params.t1(),
             }),
-            PlainClientPhase::Trying(waiting) if waiting.repeats(params, book, event) => {
-                PlainClientPhase::Trying(Waiting {
-                    set: event.moment(),
-                    interval: (2 * waiting.interval).min(params.t2()),
-                    ..waiting
-                })
-            }
-            PlainClientPhase::Proceeding(waiting) if waiting.repeats(params, book, event) => {
-                PlainClientPhase::Proceeding(Waiting {
-                    set: event.moment(),
-                    interval: params.t2(),
-                    ..waiting
-                })
-            }
+            Trying(waiting) if waiting.repeats(params, book, event) => Trying(Waiting {
+                set: event.moment(),
+                interval: (2 * waiting.interval).min(params.t2()),
+                ..waiting
+            }),
+            Proceeding(waiting) if waiting.repeats(params, book, event) => Proceeding(Waiting {
+                set: event.moment(),
+                interval: params.t2(),
+                ..waiting
+            }),
             _ => return Ok(None),
         };
-        Ok(Some(Turn {
-            phase,
-            change: Change::Keeps,
-        }))
+        let change = Change::Keeps;
+        Ok(Some(Turn { phase, change }))
     }
 
     fn paid(
@@ -196,54 +182,42 @@ impl Phases for PlainClient {
         let params = &self.params;
         match *phase {
             // timer F
-            PlainClientPhase::Trying(waiting) | PlainClientPhase::Proceeding(waiting) => {
+            Trying(waiting) | Proceeding(waiting) => {
                 Some(params.window(waiting.start, timeout(params)))
             }
             // timer K
-            PlainClientPhase::Completed { reliable, set } => {
-                Some(params.window(set, linger(params, reliable)))
-            }
-            PlainClientPhase::Idle | PlainClientPhase::Ended => None,
+            Completed { reliable, set } => Some(params.window(set, linger(params, reliable))),
+            Idle | Ended => None,
         }
     }
 
     fn closes(&self, phase: &PlainClientPhase) -> Option<u64> {
         let params = &self.params;
         match *phase {
-            PlainClientPhase::Trying(waiting) => Some(waiting.closes(params, timeout(params))),
-            PlainClientPhase::Proceeding(waiting) => Some(waiting.closes(params, timeout(params))),
-            PlainClientPhase::Completed { reliable, set } => {
-                Some(params.closes(set, linger(params, reliable)))
-            }
-            PlainClientPhase::Idle | PlainClientPhase::Ended => None,
+            Trying(waiting) => Some(waiting.closes(params, timeout(params))),
+            Proceeding(waiting) => Some(waiting.closes(params, timeout(params))),
+            Completed { reliable, set } => Some(params.closes(set, linger(params, reliable))),
+            Idle | Ended => None,
         }
     }
 
     fn message(&self, phase: &PlainClientPhase) -> Option<u32> {
         match *phase {
-            PlainClientPhase::Trying(waiting) => Some(waiting.request),
-            PlainClientPhase::Proceeding(waiting) => Some(waiting.request),
-            PlainClientPhase::Completed { .. } | PlainClientPhase::Idle | PlainClientPhase::Ended =>
-                None,
+            Trying(waiting) | Proceeding(waiting) => Some(waiting.request),
+            Completed { .. } | Idle | Ended => None,
         }
     }
 
     fn told(alloc: Global, phase: &PlainClientPhase) -> Result<Told, AllocError> {
         match *phase {
-            PlainClientPhase::Idle => Told::new(alloc, "idle", &[]),
-            PlainClientPhase::Trying(waiting) => Told::new(alloc, "trying", &waiting.fields()),
-            PlainClientPhase::Proceeding(waiting) => {
-                Told::new(alloc, "proceeding", &waiting.fields())
+            Idle => Told::new(alloc, "idle", &[]),
+            Trying(waiting) => Told::new(alloc, "trying", &waiting.fields()),
+            Proceeding(waiting) => Told::new(alloc, "proceeding", &waiting.fields()),
+            Completed { reliable, set } => {
+                let fields = [Flag("reliable", reliable), Number("set", Some(set))];
+                Told::new(alloc, "completed", &fields)
             }
-            PlainClientPhase::Completed { reliable, set } => Told::new(
-                alloc,
-                "completed",
-                &[
-                    Field::Flag("reliable", reliable),
-                    Field::Number("set", Some(set)),
-                ],
-            ),
-            PlainClientPhase::Ended => Told::new(alloc, "ended", &[]),
+            Ended => Told::new(alloc, "ended", &[]),
         }
     }
 

@@ -6,8 +6,8 @@ use Rattle.sip_machine.specs.declared.event.Kind.TheVariants.{Response}
 use Rattle.sip_machine.specs.Times.{Times}
 use Rattle.sip_machine.specs.MachineEvent.{MachineEvent}
 use Rattle.sip_machine.specs.Message.{IsSuccess}
-use Rattle.sip_machine.specs.Figure.{IsFigure, After}
-use Rattle.sip_machine.specs.InviteClient.{InviteClientPhase, Calling, Proceeding, Completed, closes}
+use Rattle.sip_machine.specs.Figure.{IsFigure, After, closes_at}
+use Rattle.sip_machine.specs.InviteClient.{InviteClientPhase, Calling, Proceeding, Completed}
 use Rattle.sip_machine.specs.InviteClient3261.{Receives, invite_client_3261, invite_client_3261_coded}
 use Rattle.sip_machine.specs.inner.Coded.{IsCoded}
 use Rattle.sip_machine.specs.inner.InviteClientLaws.{timer_d_starts, invite_client_is_figure, invite_client_is_coded}
@@ -21,8 +21,8 @@ IsEndedBy (Proceeding reliable request cancel) (Response code) = IsSuccess code
 IsEndedBy x k = ⊥
 
 -- a row leads to a phase whose timers are not past
-received : (p : Times) (x : InviteClientPhase) (k : Kind) (e : MachineEvent) (y : After InviteClientPhase) → All (λ m. e.moment ≤ m) (closes p x) →
-    Receives p x k e y → All (λ m. e.moment ≤ m) (closes p y.0)
+received : (p : Times) (x : InviteClientPhase) (k : Kind) (e : MachineEvent) (y : After InviteClientPhase) → All (λ m. e.moment ≤ m) (closes_at invite_client_3261 p x) →
+    Receives p x k e y → All (λ m. e.moment ≤ m) (closes_at invite_client_3261 p y.0)
 received p (Calling w) (Response code) e y running (inl provisional) = rw provisional.1 (All-nil (λ m. e.moment ≤ m))
 received p (Calling w) (Response code) e y running (inr (inl success)) = rw success.1 (All-nil (λ m. e.moment ≤ m))
 received p (Calling w) (Response code) e y running (inr (inr unsuccessful)) = rw unsuccessful.1 (timer_d_starts p w.reliable e.moment)

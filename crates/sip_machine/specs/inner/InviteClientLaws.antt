@@ -13,8 +13,8 @@ use Rattle.sip_machine.specs.Limits.{open_at, close_at, window_at}
 use Rattle.sip_machine.specs.Texts.{Texts, IsBook, text_of}
 use Rattle.sip_machine.specs.MachineEvent.{MachineEvent}
 use Rattle.sip_machine.specs.Rules.{Knows}
-use Rattle.sip_machine.specs.Figure.{IsFigure, After, drops, closes_of}
-use Rattle.sip_machine.specs.InviteClient.{InviteClientPhase, Idle, Ended, Calling, Proceeding, Accepted, Completed, Receives, Sends, closes, timer_window, invite_client, invite_client_seen, invite_client_names, invite_client_coded, invite_client_told}
+use Rattle.sip_machine.specs.Figure.{IsFigure, After, drops, closes_of, closes_at}
+use Rattle.sip_machine.specs.InviteClient.{InviteClientPhase, Idle, Ended, Calling, Proceeding, Accepted, Completed, Receives, Sends, timer_window, invite_client, invite_client_seen, invite_client_names, invite_client_coded, invite_client_told}
 use Rattle.sip_machine.specs.Told.{messages_told}
 use Rattle.sip_machine.specs.inner.Coded.{IsCoded}
 use Rattle.sip_machine.specs.inner.FigureLaws.{keeps_them}
@@ -67,7 +67,7 @@ pub invite_client_window_same : (a b : Texts) (p : Times) (x : CodePhase) → ti
 invite_client_window_same a b p (code.Proceeding reliable request None) = refl
 invite_client_window_same a b p x = refl
 
-pub invite_client_closes_same : (a b : Texts) (p : Times) (x : CodePhase) → closes p (invite_client_seen a x) ≡ closes p (invite_client_seen b x)
+pub invite_client_closes_same : (a b : Texts) (p : Times) (x : CodePhase) → closes_at invite_client p (invite_client_seen a x) ≡ closes_at invite_client p (invite_client_seen b x)
 invite_client_closes_same a b p code.Idle = refl
 invite_client_closes_same a b p x = refl
 
@@ -77,8 +77,8 @@ timer_d_starts p true t = timer_starts p t 0
 timer_d_starts p false t = All-nil (λ m. t ≤ m)
 
 -- a row leads to a phase whose timers are not past
-received : (p : Times) (x : InviteClientPhase) (k : Kind) (e : MachineEvent) (y : After InviteClientPhase) → All (λ m. e.moment ≤ m) (closes p x) →
-    Receives p x k e y → All (λ m. e.moment ≤ m) (closes p y.0)
+received : (p : Times) (x : InviteClientPhase) (k : Kind) (e : MachineEvent) (y : After InviteClientPhase) → All (λ m. e.moment ≤ m) (closes_at invite_client p x) →
+    Receives p x k e y → All (λ m. e.moment ≤ m) (closes_at invite_client p y.0)
 received p (Calling w) (Response code) e y running (inl provisional) = rw provisional.1 (All-nil (λ m. e.moment ≤ m))
 received p (Calling w) (Response code) e y running (inr (inl success)) = rw success.1 (timer_starts p e.moment (64 * p.t1))
 received p (Calling w) (Response code) e y running (inr (inr unsuccessful)) = rw unsuccessful.1 (timer_d_starts p w.reliable e.moment)
@@ -87,8 +87,8 @@ received p (Proceeding reliable request cancel) (Response code) e y running (inr
 received p (Completed reliable request set) (Response code) e y running h = rw h.1 running
 received p x k e y running h = absurd h
 
-sent : (p : Times) (x : InviteClientPhase) (k : Kind) (e : MachineEvent) (y : After InviteClientPhase) → All (λ m. e.moment ≤ m) (closes p x) →
-    Sends p x k e y → All (λ m. e.moment ≤ m) (closes p y.0)
+sent : (p : Times) (x : InviteClientPhase) (k : Kind) (e : MachineEvent) (y : After InviteClientPhase) → All (λ m. e.moment ≤ m) (closes_at invite_client p x) →
+    Sends p x k e y → All (λ m. e.moment ≤ m) (closes_at invite_client p y.0)
 sent p Idle (Request Invite) e y running h = rw h (repeat_starts p e.moment (close_at p e.moment (64 * p.t1)) p.t1 e.reliable (omega arith))
 sent p Idle (Request Ack) e y running h = rw h running
 sent p (Calling w) (Request Invite) e y running h =

@@ -16,10 +16,10 @@ use Rattle.sip_machine.specs.Times.{Times}
 use Rattle.sip_machine.specs.Texts.{Texts, IsBook, text_of}
 use Rattle.sip_machine.specs.MachineEvent.{MachineEvent}
 use Rattle.sip_machine.specs.Rules.{Knows}
-use Rattle.sip_machine.specs.Figure.{IsFigure, After, drops}
+use Rattle.sip_machine.specs.Figure.{IsFigure, After, drops, closes_at}
 use Rattle.sip_machine.specs.InviteServer as corrected
 use Rattle.sip_machine.specs.InviteServer.{InviteServerPhase, Proceeding, Completed}
-use Rattle.sip_machine.specs.InviteServer3261.{InviteServer3261Phase, Passed, In, Receives, Sends, Satisfies, Stays, closes, timer_window, invite_server_3261, invite_server_3261_seen, invite_server_3261_names, invite_server_3261_coded, invite_server_3261_told}
+use Rattle.sip_machine.specs.InviteServer3261.{InviteServer3261Phase, Passed, In, Receives, Sends, Satisfies, Stays, timer_window, invite_server_3261, invite_server_3261_seen, invite_server_3261_names, invite_server_3261_coded, invite_server_3261_told}
 use Rattle.sip_machine.specs.Told.{messages_told}
 use Rattle.sip_machine.specs.inner.Coded.{IsCoded}
 use Rattle.sip_machine.specs.inner.OwesLaws.{both_true}
@@ -71,19 +71,19 @@ pub invite_server_3261_window_same : (a b : Texts) (p : Times) (x : CodePhase) �
 invite_server_3261_window_same a b p code.Passed = refl
 invite_server_3261_window_same a b p (code.In phase again) = invite_server_window_same a b p phase
 
-pub invite_server_3261_closes_same : (a b : Texts) (p : Times) (x : CodePhase) → closes p (invite_server_3261_seen a x) ≡ closes p (invite_server_3261_seen b x)
+pub invite_server_3261_closes_same : (a b : Texts) (p : Times) (x : CodePhase) → closes_at invite_server_3261 p (invite_server_3261_seen a x) ≡ closes_at invite_server_3261 p (invite_server_3261_seen b x)
 invite_server_3261_closes_same a b p code.Passed = refl
 invite_server_3261_closes_same a b p (code.In phase again) = invite_server_closes_same a b p phase
 
 -- a row leads to a phase whose timers are not past
-received : (p : Times) (x : InviteServer3261Phase) (k : Kind) (e : MachineEvent) (y : After InviteServer3261Phase) → All (λ m. e.moment ≤ m) (closes p x) →
-    Receives p x k e y → All (λ m. e.moment ≤ m) (closes p y.0)
+received : (p : Times) (x : InviteServer3261Phase) (k : Kind) (e : MachineEvent) (y : After InviteServer3261Phase) → All (λ m. e.moment ≤ m) (closes_at invite_server_3261 p x) →
+    Receives p x k e y → All (λ m. e.moment ≤ m) (closes_at invite_server_3261 p y.0)
 received p Passed (Request Invite) e y running h = rw h (timer_starts p e.moment 200)
 received p Passed k e y running h = absurd h
 received p (In x again) k e y running (after, row, is) = rw is (invite_server_is_figure.received_waits p x k e after running row)
 
-sent : (p : Times) (x : InviteServer3261Phase) (k : Kind) (e : MachineEvent) (y : After InviteServer3261Phase) → All (λ m. e.moment ≤ m) (closes p x) →
-    Sends p x k e y → All (λ m. e.moment ≤ m) (closes p y.0)
+sent : (p : Times) (x : InviteServer3261Phase) (k : Kind) (e : MachineEvent) (y : After InviteServer3261Phase) → All (λ m. e.moment ≤ m) (closes_at invite_server_3261 p x) →
+    Sends p x k e y → All (λ m. e.moment ≤ m) (closes_at invite_server_3261 p y.0)
 sent p Passed (Response code) e y running h = rw h.1 (All-nil (λ m. e.moment ≤ m))
 sent p (In (Proceeding reliable set last) again) (Response code) e y running (inl success) = rw success.1 (All-nil (λ m. e.moment ≤ m))
 sent p (In (Proceeding reliable set last) again) (Response code) e y running (inr (other, within)) =

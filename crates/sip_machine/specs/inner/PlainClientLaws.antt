@@ -11,8 +11,8 @@ use Rattle.sip_machine.specs.Limits.{close_at}
 use Rattle.sip_machine.specs.Texts.{Texts, IsBook, text_of}
 use Rattle.sip_machine.specs.MachineEvent.{MachineEvent}
 use Rattle.sip_machine.specs.Rules.{Knows}
-use Rattle.sip_machine.specs.Figure.{IsFigure, After, drops}
-use Rattle.sip_machine.specs.PlainClient.{PlainClientPhase, Idle, Trying, Proceeding, Receives, Sends, closes, timer_window, plain_client, plain_client_seen, plain_client_names, plain_client_coded, plain_client_told}
+use Rattle.sip_machine.specs.Figure.{IsFigure, After, drops, closes_at}
+use Rattle.sip_machine.specs.PlainClient.{PlainClientPhase, Idle, Trying, Proceeding, Receives, Sends, timer_window, plain_client, plain_client_seen, plain_client_names, plain_client_coded, plain_client_told}
 use Rattle.sip_machine.specs.Told.{messages_told}
 use Rattle.sip_machine.specs.inner.Coded.{IsCoded}
 use Rattle.sip_machine.specs.inner.FigureLaws.{keeps_them}
@@ -54,20 +54,20 @@ pub plain_client_window_same : (a b : Texts) (p : Times) (x : CodePhase) → tim
 plain_client_window_same a b p code.Idle = refl
 plain_client_window_same a b p x = refl
 
-pub plain_client_closes_same : (a b : Texts) (p : Times) (x : CodePhase) → closes p (plain_client_seen a x) ≡ closes p (plain_client_seen b x)
+pub plain_client_closes_same : (a b : Texts) (p : Times) (x : CodePhase) → closes_at plain_client p (plain_client_seen a x) ≡ closes_at plain_client p (plain_client_seen b x)
 plain_client_closes_same a b p code.Idle = refl
 plain_client_closes_same a b p x = refl
 
 -- a row leads to a phase whose timers are not past
-received : (p : Times) (x : PlainClientPhase) (k : Kind) (e : MachineEvent) (y : After PlainClientPhase) → All (λ m. e.moment ≤ m) (closes p x) →
-    Receives p x k e y → All (λ m. e.moment ≤ m) (closes p y.0)
+received : (p : Times) (x : PlainClientPhase) (k : Kind) (e : MachineEvent) (y : After PlainClientPhase) → All (λ m. e.moment ≤ m) (closes_at plain_client p x) →
+    Receives p x k e y → All (λ m. e.moment ≤ m) (closes_at plain_client p y.0)
 received p (Trying w) (Response code) e y running h =
     elim h [ inl provisional ↦ rw provisional.1 running | inr final ↦ rw final.1 (timer_starts p e.moment (if w.reliable then 0 else p.t4)) ]
 received p (Proceeding w) (Response code) e y running h = rw h.1 (timer_starts p e.moment (if w.reliable then 0 else p.t4))
 received p x k e y running h = absurd h
 
-sent : (p : Times) (x : PlainClientPhase) (k : Kind) (e : MachineEvent) (y : After PlainClientPhase) → All (λ m. e.moment ≤ m) (closes p x) →
-    Sends p x k e y → All (λ m. e.moment ≤ m) (closes p y.0)
+sent : (p : Times) (x : PlainClientPhase) (k : Kind) (e : MachineEvent) (y : After PlainClientPhase) → All (λ m. e.moment ≤ m) (closes_at plain_client p x) →
+    Sends p x k e y → All (λ m. e.moment ≤ m) (closes_at plain_client p y.0)
 sent p Idle (Request method) e y running h = rw h (repeat_starts p e.moment (close_at p e.moment (64 * p.t1)) p.t1 e.reliable (omega arith))
 sent p (Trying w) (Request method) e y running h =
     rw h.1 (repeat_starts p e.moment (close_at p w.start (64 * p.t1)) (min (2 * w.interval) p.t2) w.reliable (patience_lasts p w e.moment (64 * p.t1) running))

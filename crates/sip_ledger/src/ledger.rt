@@ -292,6 +292,7 @@ impl Ledger {
     }
 
     /// Whether two rows owe the same.
+    #[inline(always)]
     pub fn same(&self, row: usize, other: usize) -> bool
         requires row { row < length (rows_of self.now) }
         requires other { other < length (rows_of self.now) }

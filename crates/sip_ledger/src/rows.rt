@@ -394,7 +394,9 @@ impl Rows {
     {
         table::owes_nothing(&self.owed, self.width, row)
     }
+
     /// Whether two rows owe the same.
+    #[inline(always)]
     pub(crate) fn same(&self, row: usize, other: usize) -> bool
         requires row { row < length (grid_rows self.now) }
         requires other { other < length (grid_rows self.now) }

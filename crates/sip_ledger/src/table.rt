@@ -219,11 +219,26 @@ pub(crate) fn gain(
 }
 
 /// Whether two rows have the same bits.
+#[inline(always)]
 pub(crate) fn same(words: &[u64], width: usize, row: usize, other: usize) -> bool
     requires row { IsInside width row words.now }
     requires other { IsInside width other words.now }
     ensures same { IsTrue result ↔ (part width row words.now ≡ part width other words.now) }
     ensures words { AreWords words.now }
+{
+    if width == 1 {
+        words[row] == words[other]
+    } else {
+        same_words(words, width, row, other)
+    }
+}
+
+/// The same word by word.
+#[inline(never)]
+fn same_words(words: &[u64], width: usize, row: usize, other: usize) -> bool
+    requires row { IsInside width row words.now }
+    requires other { IsInside width other words.now }
+    ensures { IsTrue result ↔ (part width row words.now ≡ part width other words.now) }
 {
     let start = row * width;
     let begin = other * width;

@@ -202,6 +202,7 @@ impl Dues {
     }
 
     /// Whether two rows owe the same.
+    #[inline(always)]
     pub(crate) fn same(&self, row: usize, other: usize) -> bool
         requires row { row < length self.now }
         requires other { other < length self.now }

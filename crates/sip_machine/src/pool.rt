@@ -94,6 +94,7 @@ impl<P: Phase> Pool<P> {
     }
 
     /// Whether the states at the indices are the same.
+    #[inline(always)]
     fn is_same(&self, at: usize, other: usize) -> bool
         requires at { at < length self.now }
         requires other { other < length self.now }
@@ -265,7 +266,7 @@ impl<P: Phase> Pool<P> {
         let mut prints = self.dues.prints(*self.phases.allocator(), from)?;
         let mut hashed = None;
         for at in 0..prints.len() {
-            prints[at] ^= hash_again(&mut hashed, self.phases[from + at]);
+            prints[at] ^= hash_again(&mut hashed, &self.phases[from + at]);
         }
         Ok(prints)
     }
@@ -419,22 +420,24 @@ fn run_of(rows: &[usize]) -> Option<usize>
 }
 
 /// The hash of a phase, beside the phase that was asked for last and its hash, if there is one.
-fn hash_again<P: Phase>(last: &mut Option<(P, u64)>, phase: P) -> u64
+#[inline(always)]
+fn hash_again<P: Phase>(last: &mut Option<(P, u64)>, phase: &P) -> u64
     requires { IfSome last.old (λ known. known.1 ≡ hash_by (P.hash_input known.0)) }
-    ensures is { result ≡ hash_by (P.hash_input phase) }
+    ensures is { result ≡ hash_by (P.hash_input phase.now) }
     ensures last { IfSome last.new (λ known. known.1 ≡ hash_by (P.hash_input known.0)) }
 {
     if let Some((known, hash)) = *last {
-        if known == phase {
+        if known == *phase {
             return hash;
         }
     }
-    let hash = hash_of(&phase);
-    *last = Some((phase, hash));
+    let hash = hash_of(phase);
+    *last = Some((*phase, hash));
     hash
 }
 
 /// The hash of a phase.
+#[inline(never)]
 fn hash_of<P: Phase>(phase: &P) -> u64
     ensures { result ≡ hash_by (P.hash_input phase.now) }
 {

@@ -26,11 +26,11 @@ impl Model for Slots {
 }
 
 impl Slots {
-    /// There are none, and room for so many.
+    /// There are none, and room for so many, of which about half are to be new.
     pub(crate) fn with_room(alloc: Global, count: usize) -> Result<Slots, AllocError>
         ensures { IfOk result (λ slots. slots.prints ≡ []) }
     {
-        let slots = count.checked_next_power_of_two().ok_or(AllocError)?;
+        let slots = count / 2 + 1;
         let mut newest = Vec::with_capacity(alloc, slots)?;
         newest.resize(slots, 0)?;
         Ok(Slots {
@@ -87,11 +87,11 @@ impl Slots {
     }
 }
 
-/// The slot of the print.
+/// The slot of the print, by its highest bits, which hang on all that was mixed into it.
 fn slot_of(slots: usize, print: u64) -> usize
     requires { 0 < slots }
     ensures is { result ≡ slot_of slots print }
     ensures within { result < slots }
 {
-    (print >> 40) as usize & (slots - 1)
+    (u128::from(print) * slots as u128 >> 64) as usize
 }

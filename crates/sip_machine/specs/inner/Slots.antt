@@ -1,5 +1,4 @@
-use Rattle.std.specs.Prelude.{◌≡◌, ◌≢◌, ◌<◌, ◌≤◌, ◌-◌, ◌/◌, ◌^◌, ℕ, Option, None, Some, List, get_or, length}
-use Rattle.std.specs.Int.Bits.{bit_and}
+use Rattle.std.specs.Prelude.{◌≡◌, ◌≢◌, ◌<◌, ◌≤◌, ◌-◌, ◌*◌, ◌/◌, ◌^◌, ℕ, Option, None, Some, List, get_or, length}
 
 -- Numbers, found again by a look at those alone that fall into the same slot.
 
@@ -11,7 +10,7 @@ pub record Slotted : Type 0 where
 
 -- the slot of a number, of so many slots
 abbrev pub slot_of : ℕ → ℕ → ℕ
-slot_of slots print = bit_and (print / 2 ^ 40) (slots - 1)
+slot_of slots print = print * slots / 2 ^ 64
 
 -- the last index before the limit at which the print stands
 abbrev pub IsLastBefore : List ℕ → ℕ → ℕ → Option ℕ → Type 0

@@ -1,16 +1,19 @@
-use Rattle.std.proofs.Common.{◌≡◌, subst}
-use Rattle.std.specs.Prelude.{IsTrue, ◌↔◌}
-use Rattle.std.proofs.lemmas.Bool.Decides.{Decides-eqb}
-use Rattle.std.proofs.lemmas.Slice.Eq.{slice_eq-Decides}
-use Rattle.sip_ledger.specs.Grids.{part}
-use Rattle.sip_ledger.proofs.TableLemmas.{span, span-is}
+use Rattle.std.specs.Prelude.{◌≡◌, ◌≤◌, ◌+◌, ◌*◌, ◌∷◌, [], get_or, length}
+use Rattle.std.proofs.Common.{◌∙◌, ap, sym, subst, arith, refl}
+use Rattle.std.proofs.lemmas.Bool.Decides.{nat_tests}
+use Rattle.sip_ledger.proofs.WordLemmas.{word-part}
 use Rattle.sip_ledger.proofs.table.same.Goals as goal
 
-pub returns-clause-same : goal.returns-clause-same
-returns-clause-same c =
+pub returns-then-width-eq1-clause-same : goal.returns-then-width-eq1-clause-same
+returns-then-width-eq1-clause-same c =
     let words = c.args.words.now in
-    let one = span c.args.width c.args.row words in
-    let two = span c.args.width c.args.other words in
-    subst (λ a. IsTrue c.eq.result ↔ (a ≡ part c.args.width c.args.other words)) (span-is c.args.width c.args.row words)
-    (subst (λ b. IsTrue c.eq.result ↔ (one ≡ b)) (span-is c.args.width c.args.other words)
-    (slice_eq-Decides Decides-eqb one two c.eq.result c.eq.ensures))
+    let row = c.args.row in
+    let other = c.args.other in
+    let one = c.if-width-eq1.true in
+    let row_end = subst (λ n. row * n + n ≤ length words) one c.requires.row in
+    let other_end = subst (λ n. other * n + n ≤ length words) one c.requires.other in
+    let here = word-part c.args.width row 0 (get_or words row 0) words one (omega (arith, row_end)) refl in
+    let there = word-part c.args.width other 0 (get_or words other 0) words one (omega (arith, other_end)) refl in (
+      λ yes. let same : get_or words row 0 ≡ get_or words other 0 = grind (arith, nat_tests) in here ∙ ap (λ w. w ∷ []) same ∙ sym there,
+      λ equal. let same : get_or words row 0 ≡ get_or words other 0 = ap (λ ws. get_or ws 0 0) (sym here ∙ equal ∙ there) in grind (arith, nat_tests),
+    )

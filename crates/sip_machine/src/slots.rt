@@ -5,24 +5,30 @@ ghost use Rattle.sip_machine.specs.inner.Slots.{IsLastBefore, IsNewest, slot_of}
 use std::alloc::{AllocError, Global};
 use std::marker::Model;
 
+/// A print that was put in.
+#[derive(Clone, Copy, Debug)]
+pub(crate) struct Kept {
+    print: u64,
+    /// One past the index of the last one before it of its slot, 0 if there is none.
+    older: usize,
+}
+
 /// Prints, in the order in which they came.
 #[derive(Debug, Drop)]
 pub(crate) struct Slots {
     /// For each slot, one past the index of its last print, 0 if there is none.
     newest: Vec<usize>,
-    prints: Vec<u64>,
-    /// For each print, one past the index of the last one before it of its slot, 0 if there is none.
-    olders: Vec<usize>,
+    kept: Vec<Kept>,
 }
 
 impl Model for Slots {
-    ghost use Rattle.sip_machine.specs.inner.Slots.{Slotted, AreSlots};
+    ghost use Rattle.sip_machine.specs.inner.Slots.{Slotted, AreSlots, slotted};
 
     ghost Value = { Slotted };
 
-    ghost view = { λ s. record { newest = s.newest.items; prints = s.prints.items; olders = s.olders.items } };
+    ghost view = { λ s. slotted s.newest.items s.kept.items };
 
-    ghost invariant = { λ s. AreSlots (record { newest = s.newest.items; prints = s.prints.items; olders = s.olders.items }) };
+    ghost invariant = { λ s. AreSlots (slotted s.newest.items s.kept.items) };
 }
 
 impl Slots {
@@ -35,8 +41,7 @@ impl Slots {
         newest.resize(slots, 0)?;
         Ok(Slots {
             newest,
-            prints: Vec::with_capacity(alloc, count)?,
-            olders: Vec::with_capacity(alloc, count)?,
+            kept: Vec::with_capacity(alloc, count)?,
         })
     }
 
@@ -46,10 +51,9 @@ impl Slots {
         ensures err { OnErr result (self.new ≡ self.old) }
     {
         let slot = slot_of(self.newest.len(), print);
-        self.prints.reserve(1)?;
-        self.olders.push(self.newest[slot])?;
-        self.prints.push_reserved(print);
-        self.newest[slot] = self.prints.len();
+        let older = self.newest[slot];
+        self.kept.push(Kept { print, older })?;
+        self.newest[slot] = self.kept.len();
         Ok(())
     }
 
@@ -66,7 +70,8 @@ impl Slots {
         requires { at < length self.now.prints }
         ensures { IsLastBefore self.now.prints (get_or self.now.prints at 0) at result }
     {
-        self.last_from(self.prints[at], self.olders[at])
+        let kept = self.kept[at];
+        self.last_from(kept.print, kept.older)
     }
 
     /// The index of the last one before a limit that is equal to the print, where one past the last one of its slot is known.
@@ -78,10 +83,11 @@ impl Slots {
         let mut next = newest;
         while next > 0 {
             let at = next - 1;
-            if self.prints[at] == print {
+            let kept = self.kept[at];
+            if kept.print == print {
                 return Some(at);
             }
-            next = self.olders[at];
+            next = kept.older;
         }
         None
     }

@@ -1,4 +1,5 @@
-use Rattle.std.specs.Prelude.{◌≡◌, ◌≢◌, ◌<◌, ◌≤◌, ◌-◌, ◌*◌, ◌/◌, ◌^◌, ℕ, Option, None, Some, List, get_or, length}
+use Rattle.std.specs.Prelude.{◌≡◌, ◌≢◌, ◌<◌, ◌≤◌, ◌-◌, ◌*◌, ◌/◌, ◌^◌, ℕ, Option, None, Some, List, get_or, length, map}
+use Rattle.sip_machine.specs.declared.slots.Kept.{Kept}
 
 -- Numbers, found again by a look at those alone that fall into the same slot.
 
@@ -7,6 +8,10 @@ pub record Slotted : Type 0 where
   pub newest : List ℕ
   pub prints : List ℕ
   pub olders : List ℕ
+
+-- the same of the pairs as they lie
+abbrev pub slotted : List ℕ → List Kept → Slotted
+slotted newest kept = record { newest = newest; prints = map (λ x. x.print) kept; olders = map (λ x. x.older) kept }
 
 -- the slot of a number, of so many slots
 abbrev pub slot_of : ℕ → ℕ → ℕ

@@ -464,8 +464,23 @@ fn are_distinct(entries: &[Entry], rises: bool) -> bool
     requires { rises ≡ true → AreRising entries.now }
     ensures { result ≡ true → AreDistinct entries.now }
 {
+    if climb(entries) {
+        return true;
+    }
     for at in 0..entries.len() {
         if row::first_equal(entries, rises, 0, at) < at {
+            return false;
+        }
+    }
+    true
+}
+
+/// Whether each deadline is above the one before it.
+fn climb(entries: &[Entry]) -> bool
+    ensures { result ≡ true → AreDistinct entries.now }
+{
+    for at in 1..entries.len() {
+        if entries[at].deadline <= entries[at - 1].deadline {
             return false;
         }
     }

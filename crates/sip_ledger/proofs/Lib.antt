@@ -14,6 +14,7 @@ pub mod MemoLemmas
 pub mod WordLemmas
 pub mod WordRowLemmas
 pub mod MarkLemmas
+pub mod CopyLemmas
 pub mod GainLemmas
 pub mod KeepLemmas
 pub mod PayEachLemmas

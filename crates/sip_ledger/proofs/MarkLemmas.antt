@@ -66,11 +66,11 @@ pub none-past : (t x : ℕ) (xs : List ℕ) → nat_le t (fold min x xs) ≡ not
 none-past t x [] = within-none x t
 none-past t x (y ∷ ys) = none-past t (min x y) ys ∙ ap not (min-past x y t (list_any (λ d. nat_lt d t) ys))
 
-within-past : (t : ℕ) (moments : List ℕ) → is_within t (earliest moments) ≡ not (list_any (λ d. nat_lt d t) moments)
+pub within-past : (t : ℕ) (moments : List ℕ) → is_within t (earliest moments) ≡ not (list_any (λ d. nat_lt d t) moments)
 within-past t [] = refl
 within-past t (x ∷ xs) = none-past t x xs
 
-any-deadline : (t : ℕ) (debts : List Debt) → list_any (λ d. nat_lt d t) (map (λ (d : Debt). d.deadline) debts) ≡ list_any (asked_of None t) debts
+pub any-deadline : (t : ℕ) (debts : List Debt) → list_any (λ d. nat_lt d t) (map (λ (d : Debt). d.deadline) debts) ≡ list_any (asked_of None t) debts
 any-deadline t [] = refl
 any-deadline t (d ∷ ds) = ap (λ b. nat_lt d.deadline t || b) (any-deadline t ds)
 

@@ -1,5 +1,5 @@
 //! The words of all rows, one row behind another.
-ghost use Rattle.std.specs.Prelude.{◌≡◌, ◌<◌, ◌≤◌, ◌+◌, ◌-◌, ◌*◌, ◌++◌, ℕ, OnOk, OnErr, IfOk, length, drop, fold, get_or, replicate};
+ghost use Rattle.std.specs.Prelude.{◌≡◌, ◌<◌, ◌≤◌, ◌+◌, ◌-◌, ◌*◌, ◌++◌, ℕ, OnOk, OnErr, IfOk, length, drop, fold, get_or, replicate, take};
 ghost use Rattle.sip_ledger.specs.Grids.{part};
 ghost use Rattle.sip_ledger.specs.Prints.{mixed};
 ghost use Rattle.sip_ledger.specs.inner.Tables.{AreWords, IsInside, IsWidened, IsNarrowed, IsEmptyFront};
@@ -39,6 +39,26 @@ pub(crate) fn copy_row(
     let end = start + width;
     owed.reserve(width)?;
     must.reserve(width)?;
+    owed.extend_from_within(start..end)?;
+    must.extend_from_within(start..end)
+}
+
+/// Puts copies of so many words from one on behind the others in both. On an error they are as before.
+pub(crate) fn copy_behind(
+    owed: &mut Vec<u64>,
+    must: &mut Vec<u64>,
+    start: usize,
+    count: usize,
+) -> Result<(), AllocError>
+    requires owed { start + count ≤ length owed.old.items }
+    requires must { start + count ≤ length must.old.items }
+    ensures owed { OnOk result (owed.new.items ≡ owed.old.items ++ take count (drop start owed.old.items)) }
+    ensures must { OnOk result (must.new.items ≡ must.old.items ++ take count (drop start must.old.items)) }
+    ensures err { OnErr result ((owed.new.items ≡ owed.old.items) × (must.new.items ≡ must.old.items)) }
+{
+    let end = start + count;
+    owed.reserve(count)?;
+    must.reserve(count)?;
     owed.extend_from_within(start..end)?;
     must.extend_from_within(start..end)
 }

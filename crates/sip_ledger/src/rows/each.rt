@@ -1,6 +1,6 @@
 //! What is done to many rows over one list of entries at once. Where one word has all entries, what is asked of them is asked once
 //! for all rows.
-ghost use Rattle.std.specs.Prelude.{◌≡◌, ◌≢◌, ◌≤◌, ◌<◌, ◌+◌, ◌-◌, ◌++◌, ◌∷◌, [], ◌&&◌, ℕ, List, All, Bool, true, false, get_or, IfOk, OnOk, OnErr, length, filter, map, take, drop};
+ghost use Rattle.std.specs.Prelude.{◌≡◌, ◌≢◌, ◌≤◌, ◌<◌, ◌+◌, ◌-◌, ◌++◌, ◌∷◌, [], ◌&&◌, ℕ, List, None, All, Bool, true, false, get_or, IfOk, OnOk, OnErr, length, filter, map, take, drop};
 ghost use Rattle.std.specs.List.{list_any};
 ghost use Rattle.std.specs.Vec.{vec_len, vec_capacity};
 ghost use Rattle.sip_ledger.specs.declared.debt.Debt.{Debt};
@@ -11,6 +11,7 @@ ghost use Rattle.sip_ledger.specs.Grids.{grid_of, grid_rows, grid_row, IsGrid};
 ghost use Rattle.sip_ledger.specs.Ledgers.{from_to, Rise};
 ghost use Rattle.sip_ledger.specs.Prints.{grid_print};
 ghost use Rattle.sip_ledger.specs.inner.Marks.{is_marked, first_taken, AreDistinct, AreFirstsTaken, AreKept, IsFreeFrom, IsSetFrom, IsTold, ArePut};
+ghost use Rattle.sip_ledger.specs.inner.Memos.{asked_of, IsMask};
 ghost use Rattle.sip_ledger.specs.inner.Places.{AreRising};
 
 use crate::debt::{Debt, Entry};
@@ -23,6 +24,9 @@ impl Rows {
     pub(crate) fn expire_each(&mut self, from: usize, moment: u64)
         ensures { grid_rows self.new ≡ take from (grid_rows self.old) ++ map (filter (counts_at moment)) (drop from (grid_rows self.old)) }
     {
+        if starts_late(&self.entries, self.rises, moment) {
+            return;
+        }
         if self.width != 1 {
             self.expire_rows(from, moment);
             return;
@@ -184,12 +188,35 @@ impl Rows {
         ensures ok { OnOk result (grid_rows self.new ≡ grid_rows self.old ++ filter (is_timely moment) (from_to from to (grid_rows self.old))) }
         ensures err { OnErr result (grid_rows self.new ≡ grid_rows self.old) }
     {
+        if starts_late(&self.entries, self.rises, moment) {
+            return self.push_copies(from, to);
+        }
         if self.width == 1 {
             let past = self.past_bits(moment);
             self.push_marked(from, to, None, past)
         } else {
             self.push_timely_rows(from, to, moment)
         }
+    }
+
+    /// Puts a copy of each row from one up to another behind the others. On an error all is as before.
+    fn push_copies(&mut self, from: usize, to: usize) -> Result<(), AllocError>
+        requires { to ≤ length (grid_rows self.old) }
+        ensures ok { OnOk result (grid_rows self.new ≡ grid_rows self.old ++ from_to from to (grid_rows self.old)) }
+        ensures err { OnErr result (self.new ≡ self.old) }
+    {
+        if from >= to {
+            return Ok(());
+        }
+        let more = to - from;
+        if more > usize::MAX - self.rows {
+            return Err(AllocError);
+        }
+        let start = from * self.width;
+        let count = more * self.width;
+        words::copy_behind(&mut self.owed, &mut self.must, start, count)?;
+        self.rows += more;
+        Ok(())
     }
 
     /// The same row by row.
@@ -348,6 +375,15 @@ impl Rows {
     }
 }
 
+/// Whether it is plain that no entry is past at the moment: deadlines never fall, and the first is not.
+fn starts_late(entries: &[Entry], rises: bool, moment: u64) -> bool
+    requires { rises ≡ true → AreRising entries.now }
+    ensures { result ≡ true → IsMask (asked_of None moment) entries.now (length entries.now) 0 }
+{
+    let count = entries.len();
+    count == 0 || (rises && moment <= entries[0].deadline)
+}
+
 /// Whether the row of these words owes one of the wanted bits, if some are wanted, and must send none of the barred ones.
 fn is_marked(owed: u64, must: u64, wanted: Option<u64>, barred: u64) -> bool
     ensures { result ≡ is_marked wanted barred owed must }
@@ -428,8 +464,23 @@ fn are_distinct(entries: &[Entry], rises: bool) -> bool
     requires { rises ≡ true → AreRising entries.now }
     ensures { result ≡ true → AreDistinct entries.now }
 {
+    if climb(entries) {
+        return true;
+    }
     for at in 0..entries.len() {
         if row::first_equal(entries, rises, 0, at) < at {
+            return false;
+        }
+    }
+    true
+}
+
+/// Whether each deadline is above the one before it.
+fn climb(entries: &[Entry]) -> bool
+    ensures { result ≡ true → AreDistinct entries.now }
+{
+    for at in 1..entries.len() {
+        if entries[at].deadline <= entries[at - 1].deadline {
             return false;
         }
     }

@@ -63,8 +63,38 @@ pub(crate) fn sends_each<M: Phases>(
         (FromSome (λ x. TakeOf M.figure (M.times machine.now) (owing_seen M.seen book.now x) (event_in book.now event.now)) (take count pool.old)) added) }
     ensures before { take (length pool.old) pool.new ≡ pool.old }
 {
-    leads_each(machine, book, pool, count, event)?;
-    rests_each(machine, book, pool, count, event)
+    let mut at = 0;
+    while at < count {
+        let end = pool.run_end(at, count);
+        sends_run(machine, book, pool, at, end, event)?;
+        at = end;
+    }
+    Ok(())
+}
+
+/// The same from states of one phase.
+fn sends_run<M: Phases>(
+    machine: &M,
+    book: &Book,
+    pool: &mut Pool<M::Phase>,
+    from: usize,
+    to: usize,
+    event: &Event,
+) -> Result<(), AllocError>
+    requires action { event.now.action ≡ Sent }
+    requires from { from < to }
+    requires to { to ≤ length pool.old }
+    requires fits { KeepsMessage book.now event.now }
+    requires known { All (Knows (owing_names M.names) book.now) (from_to from to pool.old) }
+    requires in_range { All (OwingInRange M.in_range) (from_to from to pool.old) }
+    requires same { HoldsAt (λ first. All (λ x. x.phase ≡ first.phase) (from_to from to pool.old)) pool.old from }
+    ensures gives { OnOk result ((added : List (CodeOwing M.Phase)) × (pool.new ≡ pool.old ++ added)
+        × Covers (owing_names M.names) (OwingInRange M.in_range) (owing_seen M.seen) book.now
+        (FromSome (λ x. TakeOf M.figure (M.times machine.now) (owing_seen M.seen book.now x) (event_in book.now event.now)) (from_to from to pool.old)) added) }
+    ensures before { take (length pool.old) pool.new ≡ pool.old }
+{
+    leads_run(machine, book, pool, from, to, event)?;
+    rests_run(machine, book, pool, from, to, event)
 }
 
 /// The same of any event, one by one.
@@ -180,34 +210,7 @@ fn turn_of<M: Phases>(
     }
 }
 
-/// Puts behind the states those to which a message that is sent leads from the first ones, as many, and that leaves their phase as
-/// it is.
-fn rests_each<M: Phases>(
-    machine: &M,
-    book: &Book,
-    pool: &mut Pool<M::Phase>,
-    count: usize,
-    event: &Event,
-) -> Result<(), AllocError>
-    requires count { count ≤ length pool.old }
-    requires fits { KeepsMessage book.now event.now }
-    requires known { All (Knows (owing_names M.names) book.now) (take count pool.old) }
-    requires in_range { All (OwingInRange M.in_range) (take count pool.old) }
-    ensures gives { OnOk result ((added : List (CodeOwing M.Phase)) × (pool.new ≡ pool.old ++ added)
-        × Covers (owing_names M.names) (OwingInRange M.in_range) (owing_seen M.seen) book.now
-        (FromSome (RestsFrom M.figure (M.times machine.now) M.seen book.now (event_in book.now event.now)) (take count pool.old)) added) }
-    ensures before { take (length pool.old) pool.new ≡ pool.old }
-{
-    let mut at = 0;
-    while at < count {
-        let end = pool.run_end(at, count);
-        rests_run(machine, book, pool, at, end, event)?;
-        at = end;
-    }
-    Ok(())
-}
-
-/// The same from states of one phase.
+/// Puts behind the states those to which a message that is sent leads from states of one phase, and that leaves the phase as it is.
 fn rests_run<M: Phases>(
     machine: &M,
     book: &Book,

@@ -21,8 +21,9 @@ impl<P: Phase> Pool<P> {
         ensures order { (at < result) × (result ≤ limit) }
         ensures same { HoldsAt (λ first. All (λ x. x.phase ≡ first.phase) (from_to at result self.now)) self.now at }
     {
+        let phase = self.phases[at];
         let mut end = at + 1;
-        while end < limit && self.phases[end] == self.phases[at] {
+        while end < limit && self.phases[end] == phase {
             end += 1;
         }
         end

@@ -1,55 +1,76 @@
-use Rattle.std.specs.Prelude.{◌++◌, ◌⊎◌, All, take}
-use Rattle.std.proofs.Common.{sym, ◌∙◌, ap, subst, append_assoc}
-use Rattle.std.proofs.lemmas.Result.{on_ok_weaker}
+use Rattle.std.specs.Prelude.{◌≡◌, All, take}
+use Rattle.std.proofs.Common.{sym, subst, arith}
+use Rattle.sip_ledger.specs.Ledgers.{from_to}
 use Rattle.sip_machine.specs.MachineEvent.{event_in}
+use Rattle.sip_machine.specs.Owing.{owing_seen, owing_names, OwingInRange}
 use Rattle.sip_machine.specs.Rules.{Covers, FromSome, Knows}
 use Rattle.sip_machine.specs.Figure.{TakeOf}
-use Rattle.sip_machine.specs.Owing.{owing_seen, owing_names, OwingInRange}
-use Rattle.sip_machine.specs.inner.Effects.{LeadsFrom, RestsFrom}
-use Rattle.sip_machine.proofs.CoversLemmas.{HasFound, FromSome-same, FromSome-either, Covers-same, Covers-both, slice-old, before-more}
-use Rattle.sip_machine.proofs.OwingEachLemmas.{takes-sent}
+use Rattle.sip_machine.specs.Owing.{CodeOwing}
+use Rattle.sip_machine.proofs.CoversLemmas.{HasFound, found-none, found-more, slice-all, slice-old, take-slice, before-more}
 use Rattle.sip_machine.proofs.owing.each.sends_each.Goals as goal
 
-pub rests_each-requires-clause-known : goal.rests_each-requires-clause-known
-rests_each-requires-clause-known g c =
-    let (added, is, covers) = c.in_ok-leads_each.ensures.gives in
-    subst (All (Knows (owing_names g.M.Phases.names) c.args.book.now)) (sym (slice-old 0 c.args.count c.args.pool.now added c.leads_each.new.pool is c.requires.count)) c.requires.known
+pub loop-at-init : goal.loop-at-init
+loop-at-init g c =
+    let m = g.M.Phases in
+    let texts = c.args.book.now in
+    let e = event_in texts c.args.event.now in
+    (omega arith, found-none (owing_names m.names) (OwingInRange m.in_range) (owing_seen m.seen) texts (λ x. TakeOf m.figure (m.times c.args.machine.now) (owing_seen m.seen texts x) e) c.args.pool.now)
 
-pub rests_each-requires-clause-in_range : goal.rests_each-requires-clause-in_range
-rests_each-requires-clause-in_range g c =
-    let (added, is, covers) = c.in_ok-leads_each.ensures.gives in
-    subst (All (OwingInRange g.M.Phases.in_range)) (sym (slice-old 0 c.args.count c.args.pool.now added c.leads_each.new.pool is c.requires.count)) c.requires.in_range
+pub sends_run-requires-clause-known : goal.sends_run-requires-clause-known
+sends_run-requires-clause-known g c =
+    let (at_le, (found, is, covers)) = c.loop-at.invariant in
+    let order = c.run_end-end.ensures.order in
+    let le = c.requires.count in
+    let old = c.args.pool.now in
+    let P = Knows (owing_names g.M.Phases.names) c.args.book.now in
+    let within = order.1 in
+    subst (All P) (sym (slice-old c.loop-at.at c.run_end-end.result old found c.loop-at.pool is (omega (arith, within, le))))
+    (slice-all P c.loop-at.at c.run_end-end.result c.args.count old order.1 c.requires.known)
+
+pub sends_run-requires-clause-in_range : goal.sends_run-requires-clause-in_range
+sends_run-requires-clause-in_range g c =
+    let (at_le, (found, is, covers)) = c.loop-at.invariant in
+    let order = c.run_end-end.ensures.order in
+    let le = c.requires.count in
+    let old = c.args.pool.now in
+    let P = OwingInRange g.M.Phases.in_range in
+    let within = order.1 in
+    subst (All P) (sym (slice-old c.loop-at.at c.run_end-end.result old found c.loop-at.pool is (omega (arith, within, le))))
+    (slice-all P c.loop-at.at c.run_end-end.result c.args.count old order.1 c.requires.in_range)
+
+pub returns-in_err-sends_run-clause-before : goal.returns-in_err-sends_run-clause-before
+returns-in_err-sends_run-clause-before g c =
+    let (at_le, (found, is, covers)) = c.loop-at.invariant in
+    before-more c.args.pool.now c.loop-at.pool c.sends_run.new.pool found is c.sends_run.ensures.before
+
+pub loop-at-preserved : goal.loop-at-preserved
+loop-at-preserved g c =
+    let m = g.M.Phases in
+    let texts = c.args.book.now in
+    let e = event_in texts c.args.event.now in
+    let P = λ (x : CodeOwing g.row.M-Phase.Denot). TakeOf m.figure (m.times c.args.machine.now) (owing_seen m.seen texts x) e in
+    let old = c.args.pool.now in
+    let at = c.loop-at.at in
+    let end = c.run_end-end.result in
+    let (at_le, (found, is, covers)) = c.loop-at.invariant in
+    let (added, new_is, covers_more) = c.in_ok-sends_run.ensures.gives in
+    let order = c.run_end-end.ensures.order in
+    let le = c.requires.count in
+    let after = order.0 in
+    let within = order.1 in
+    let slice = slice-old at end old found c.loop-at.pool is (omega (arith, within, le)) in (
+      order.1,
+      found-more (owing_names m.names) (OwingInRange m.in_range) (owing_seen m.seen) texts P (take at old) (from_to at end old) (take end old) old c.loop-at.pool c.sends_run.new.pool added
+          (take-slice at end old (omega (arith, after))) (found, is, covers) new_is
+          (subst (λ xs. Covers (owing_names m.names) (OwingInRange m.in_range) (owing_seen m.seen) texts (FromSome P xs) added) slice covers_more),
+    )
 
 pub returns-clause-gives : goal.returns-clause-gives
 returns-clause-gives g c =
     let m = g.M.Phases in
     let texts = c.args.book.now in
-    let p = m.times c.args.machine.now in
     let e = event_in texts c.args.event.now in
-    let P = LeadsFrom m.figure p m.seen texts e in
-    let Q = RestsFrom m.figure p m.seen texts e in
-    let old = c.args.pool.now in
-    let mid = c.leads_each.new.pool in
-    let some = take c.args.count old in
-    let (added, mid_is, covers) = c.in_ok-leads_each.ensures.gives in
-    let slice = slice-old 0 c.args.count old added mid mid_is c.requires.count in
-    on_ok_weaker c.rests_each.result
-    (λ (has : HasFound (owing_names m.names) (OwingInRange m.in_range) (owing_seen m.seen) texts Q (take c.args.count mid) mid c.rests_each.new.pool).
-    let (more, new_is, rests) = has in
-    let rests_old = subst (λ xs. Covers (owing_names m.names) (OwingInRange m.in_range) (owing_seen m.seen) texts (FromSome Q xs) more) slice rests in (
-      added ++ more,
-      new_is ∙ ap (λ xs. xs ++ more) mid_is ∙ append_assoc old added more,
-      Covers-same (owing_names m.names) (OwingInRange m.in_range) (owing_seen m.seen) texts (λ y. FromSome P some y ⊎ FromSome Q some y)
-          (FromSome (λ x. TakeOf m.figure p (owing_seen m.seen texts x) e) some)
-          (λ y.
-          let either = FromSome-either P Q some y in
-          let same = FromSome-same (λ x y. P x y ⊎ Q x y) (λ x. TakeOf m.figure p (owing_seen m.seen texts x) e) (takes-sent m.figure p m.seen texts e c.requires.action) some y in
-          (λ h. same.0 (either.0 h), λ h. either.1 (same.1 h))) (added ++ more)
-          (Covers-both (owing_names m.names) (OwingInRange m.in_range) (owing_seen m.seen) texts (FromSome P some) (FromSome Q some) added more covers rests_old),
-    ))
-    c.rests_each.ensures.gives
-
-pub returns-clause-before : goal.returns-clause-before
-returns-clause-before g c =
-    let (added, mid_is, covers) = c.in_ok-leads_each.ensures.gives in
-    before-more c.args.pool.now c.leads_each.new.pool c.rests_each.new.pool added mid_is c.rests_each.ensures.before
+    let (at_le, has) = c.loop-at.invariant in
+    let all : c.loop-at.at ≡ c.args.count = omega (arith, at_le, c.loop-at-test.false) in
+    subst (λ n. HasFound (owing_names m.names) (OwingInRange m.in_range) (owing_seen m.seen) texts (λ x. TakeOf m.figure (m.times c.args.machine.now) (owing_seen m.seen texts x) e)
+    (take n c.args.pool.now) c.args.pool.now c.loop-at.pool) all has

@@ -4,6 +4,13 @@ use Rattle.sip_machine.proofs.PoolLemmas.{in-phases, state-at}
 use Rattle.sip_machine.proofs.PoolEachLemmas.{some-first, some-more}
 use Rattle.sip_machine.proofs.pool.Pool.run_end.Goals as goal
 
+pub index-requires : goal.index-requires
+index-requires g c =
+    let at = c.requires.at in
+    let limit = c.requires.limit in
+    subst (λ n. c.args.at < n) (sym c.self.inside.phases.ok.0)
+    (in-phases c.self.inside.phases.items c.self.inside.dues c.args.self.now c.args.at c.self.view_is (omega (arith, at, limit)))
+
 pub loop-end-init : goal.loop-end-init
 loop-end-init g c =
     let xs = c.args.self.now in
@@ -11,27 +18,20 @@ loop-end-init g c =
     let limit = c.requires.limit in
     (omega arith, omega (arith, at), λ d. some-first (λ x. x.phase ≡ (get_or xs c.args.at d).phase) c.args.at xs d (omega (arith, at, limit)) refl)
 
-pub index-requires : goal.index-requires
-index-requires g c =
+pub index-requires-in-loop-end : goal.index-requires-in-loop-end
+index-requires-in-loop-end g c =
     let below = c.loop-end-test.true in
     let limit = c.requires.limit in
     subst (λ n. c.loop-end.end < n) (sym c.self.inside.phases.ok.0)
     (in-phases c.self.inside.phases.items c.self.inside.dues c.args.self.now c.loop-end.end c.self.view_is (omega (arith, below, limit)))
-
-pub index-requires-in-loop-end : goal.index-requires-in-loop-end
-index-requires-in-loop-end g c =
-    let at = c.requires.at in
-    let limit = c.requires.limit in
-    subst (λ n. c.args.at < n) (sym c.self.inside.phases.ok.0)
-    (in-phases c.self.inside.phases.items c.self.inside.dues c.args.self.now c.args.at c.self.view_is (omega (arith, at, limit)))
 
 pub loop-end-preserved : goal.loop-end-preserved
 loop-end-preserved g c =
     let xs = c.args.self.now in
     let phases = c.self.inside.phases.items in
     let rows = c.self.inside.dues in
-    let p = c.index.result.now in
-    let q = c.index-in-loop-end.result.now in
+    let p = c.index-in-loop-end.result.now in
+    let q = c.index.result.now in
     let was = c.loop-end.invariant in
     let below = c.loop-end-test.true in
     let at = c.requires.at in
@@ -43,7 +43,7 @@ loop-end-preserved g c =
       omega (arith, below),
       λ d.
           let phase : (get_or xs c.loop-end.end d).phase ≡ (get_or xs c.args.at d).phase =
-          ap (λ z. z.phase) (state-at phases rows xs c.loop-end.end p d c.self.view_is low) ∙ sym c.index.ensures ∙ g.met.P.Phase.exact p q (sym c.if-eq.ensures)
-          ∙ c.index-in-loop-end.ensures ∙ sym (ap (λ z. z.phase) (state-at phases rows xs c.args.at q d c.self.view_is first_low)) in
+          ap (λ z. z.phase) (state-at phases rows xs c.loop-end.end p d c.self.view_is low) ∙ sym c.index-in-loop-end.ensures ∙ g.met.P.Phase.exact p q (sym c.if-eq.ensures)
+          ∙ c.index.ensures ∙ sym (ap (λ z. z.phase) (state-at phases rows xs c.args.at q d c.self.view_is first_low)) in
           some-more (λ x. x.phase ≡ (get_or xs c.args.at d).phase) c.args.at c.loop-end.end xs d (omega (arith, order)) low (was.2 d) phase,
     )

@@ -1,15 +1,15 @@
 use Rattle.std.specs.Prelude.{◌≤◌, ◌-◌, take}
 use Rattle.sip_machine.specs.MachineEvent.{event_in}
 use Rattle.sip_machine.specs.Owing.{owing_seen, owing_names, OwingInRange}
-use Rattle.sip_machine.specs.inner.Effects.{RestsFrom}
+use Rattle.sip_machine.specs.Figure.{TakeOf}
 use Rattle.sip_machine.proofs.CoversLemmas.{HasFound}
-use Rattle.sip_machine.proofs.owing.each.rests_each.Given as goal
+use Rattle.sip_machine.proofs.owing.each.sends_each.Given as goal
 
 -- what leads from the states so far was found
 abbrev pub invariant-loop-at : goal.invariant-loop-at
 invariant-loop-at g l =
     (l.at ≤ l.count) × HasFound (owing_names g.M.Phases.names) (OwingInRange g.M.Phases.in_range) (owing_seen g.M.Phases.seen) l.book
-    (RestsFrom g.M.Phases.figure (g.M.Phases.times l.machine) g.M.Phases.seen l.book (event_in l.book l.event)) (take l.at l.initial.pool) l.initial.pool l.pool
+    (λ x. TakeOf g.M.Phases.figure (g.M.Phases.times l.machine) (owing_seen g.M.Phases.seen l.book x) (event_in l.book l.event)) (take l.at l.initial.pool) l.initial.pool l.pool
 
 abbrev pub decreases-loop-at : goal.decreases-loop-at
 decreases-loop-at g l = l.count - l.at

@@ -1,0 +1,56 @@
+use Rattle.std.specs.Prelude.{◌++◌, ◌⊎◌, ◌≡◌, ◌<◌, All, get_or, length}
+use Rattle.std.proofs.Common.{sym, ◌∙◌, ap, subst, append_assoc, arith}
+use Rattle.std.proofs.lemmas.Result.{on_ok_weaker}
+use Rattle.sip_ledger.specs.Ledgers.{from_to}
+use Rattle.sip_machine.specs.MachineEvent.{event_in}
+use Rattle.sip_machine.specs.Rules.{Covers, FromSome, Knows}
+use Rattle.sip_machine.specs.Figure.{TakeOf}
+use Rattle.sip_machine.specs.Owing.{owing_seen, owing_names, OwingInRange}
+use Rattle.sip_machine.specs.inner.Effects.{LeadsFrom, RestsFrom}
+use Rattle.sip_machine.proofs.CoversLemmas.{HasFound, FromSome-same, FromSome-either, Covers-same, Covers-both, slice-old, before-more}
+use Rattle.sip_machine.proofs.OwingEachLemmas.{takes-sent}
+use Rattle.sip_machine.proofs.owing.each.sends_run.Goals as goal
+
+pub rests_run-requires-clause-known : goal.rests_run-requires-clause-known
+rests_run-requires-clause-known g c =
+    let (added, is, covers) = c.in_ok-leads_run.ensures.gives in
+    subst (All (Knows (owing_names g.M.Phases.names) c.args.book.now)) (sym (slice-old c.args.from c.args.to c.args.pool.now added c.leads_run.new.pool is c.requires.to)) c.requires.known
+
+pub rests_run-requires-clause-in_range : goal.rests_run-requires-clause-in_range
+rests_run-requires-clause-in_range g c =
+    let (added, is, covers) = c.in_ok-leads_run.ensures.gives in
+    subst (All (OwingInRange g.M.Phases.in_range)) (sym (slice-old c.args.from c.args.to c.args.pool.now added c.leads_run.new.pool is c.requires.to)) c.requires.in_range
+
+pub returns-clause-gives : goal.returns-clause-gives
+returns-clause-gives g c =
+    let m = g.M.Phases in
+    let texts = c.args.book.now in
+    let p = m.times c.args.machine.now in
+    let e = event_in texts c.args.event.now in
+    let P = LeadsFrom m.figure p m.seen texts e in
+    let Q = RestsFrom m.figure p m.seen texts e in
+    let old = c.args.pool.now in
+    let mid = c.leads_run.new.pool in
+    let some = from_to c.args.from c.args.to old in
+    let (added, mid_is, covers) = c.in_ok-leads_run.ensures.gives in
+    let slice = slice-old c.args.from c.args.to old added mid mid_is c.requires.to in
+    on_ok_weaker c.rests_run.result
+    (λ (has : HasFound (owing_names m.names) (OwingInRange m.in_range) (owing_seen m.seen) texts Q (from_to c.args.from c.args.to mid) mid c.rests_run.new.pool).
+    let (more, new_is, rests) = has in
+    let rests_old = subst (λ xs. Covers (owing_names m.names) (OwingInRange m.in_range) (owing_seen m.seen) texts (FromSome Q xs) more) slice rests in (
+      added ++ more,
+      new_is ∙ ap (λ xs. xs ++ more) mid_is ∙ append_assoc old added more,
+      Covers-same (owing_names m.names) (OwingInRange m.in_range) (owing_seen m.seen) texts (λ y. FromSome P some y ⊎ FromSome Q some y)
+          (FromSome (λ x. TakeOf m.figure p (owing_seen m.seen texts x) e) some)
+          (λ y.
+          let either = FromSome-either P Q some y in
+          let same = FromSome-same (λ x y. P x y ⊎ Q x y) (λ x. TakeOf m.figure p (owing_seen m.seen texts x) e) (takes-sent m.figure p m.seen texts e c.requires.action) some y in
+          (λ h. same.0 (either.0 h), λ h. either.1 (same.1 h))) (added ++ more)
+          (Covers-both (owing_names m.names) (OwingInRange m.in_range) (owing_seen m.seen) texts (FromSome P some) (FromSome Q some) added more covers rests_old),
+    ))
+    c.rests_run.ensures.gives
+
+pub returns-clause-before : goal.returns-clause-before
+returns-clause-before g c =
+    let (added, mid_is, covers) = c.in_ok-leads_run.ensures.gives in
+    before-more c.args.pool.now c.leads_run.new.pool c.rests_run.new.pool added mid_is c.rests_run.ensures.before

@@ -1,7 +1,7 @@
 use Rattle.sip_machine.specs.InviteServer.{invite_server}
 use Rattle.sip_machine.specs.PlainServer.{plain_server}
-use Rattle.sip_machine.specs.inner.InviteServerLaws.{invite_server_is_figure}
-use Rattle.sip_machine.specs.inner.PlainServerLaws.{plain_server_is_figure}
+use Rattle.sip_machine.specs.InviteServer.Laws.{invite_server_is_figure}
+use Rattle.sip_machine.specs.PlainServer.Laws.{plain_server_is_figure}
 use Rattle.sip_states.proofs.StandsLemmas.{behind-after}
 use Rattle.sip_states.proofs.ServerLaws.{invite_sends_when_asked, plain_sends_when_asked}
 use Rattle.sip_states.proofs.laws.a_server_sends_when_it_was_asked.Goals as goal

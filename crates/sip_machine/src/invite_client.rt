@@ -235,10 +235,6 @@ impl Phases for InviteClient {
         first_acked(alloc, book, request, event, dues, row)
     }
 
-    fn pays(&self, _book: &Book, _phase: &InviteClientPhase, _event: &Event) -> Option<u32> {
-        None
-    }
-
     fn stays(&self, _phase: &InviteClientPhase, _kind: Kind) -> bool {
         false
     }
@@ -272,7 +268,7 @@ impl Phases for InviteClient {
     fn closes(&self, phase: &InviteClientPhase) -> Option<u64> {
         let params = &self.params;
         match *phase {
-            Calling(waiting) => Some(waiting.closes(params, timeout(params))),
+            Calling(waiting) => Some(waiting.closes(params)),
             Accepted { set } => Some(params.closes(set, timeout(params))),
             Completed { reliable, set, .. } if reliable => Some(params.closes(set, 0)),
             _ => None,

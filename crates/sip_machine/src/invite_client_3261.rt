@@ -118,10 +118,6 @@ impl Phases for InviteClient3261 {
         self.corrected.paid(alloc, book, phase, event, dues, row)
     }
 
-    fn pays(&self, book: &Book, phase: &InviteClientPhase, event: &Event) -> Option<u32> {
-        self.corrected.pays(book, phase, event)
-    }
-
     fn stays(&self, phase: &InviteClientPhase, kind: Kind) -> bool {
         self.corrected.stays(phase, kind)
     }

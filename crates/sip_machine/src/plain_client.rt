@@ -166,10 +166,6 @@ impl Phases for PlainClient {
         Ok(None)
     }
 
-    fn pays(&self, _book: &Book, _phase: &PlainClientPhase, _event: &Event) -> Option<u32> {
-        None
-    }
-
     fn stays(&self, _phase: &PlainClientPhase, _kind: Kind) -> bool {
         false
     }
@@ -194,8 +190,8 @@ impl Phases for PlainClient {
     fn closes(&self, phase: &PlainClientPhase) -> Option<u64> {
         let params = &self.params;
         match *phase {
-            Trying(waiting) => Some(waiting.closes(params, timeout(params))),
-            Proceeding(waiting) => Some(waiting.closes(params, timeout(params))),
+            Trying(waiting) => Some(waiting.closes(params)),
+            Proceeding(waiting) => Some(waiting.closes(params)),
             Completed { reliable, set } => Some(params.closes(set, linger(params, reliable))),
             Idle | Ended => None,
         }

@@ -86,13 +86,10 @@ sent p x k e y running h = absurd h
 leaves : LeadAway invite_client
 leaves p Idle (Request Invite) e y h (inl drop) = absurd (keeps_them h drop)
 leaves p Idle (Request Ack) e y h (inl drop) = absurd (keeps_them h drop)
-leaves p Idle (Request Cancel) e y h (inl drop) = absurd (keeps_them h drop)
 leaves p (Calling w) (Request Invite) e y h (inl drop) = absurd (keeps_them h.1 drop)
+leaves p (Calling w) (Request Cancel) e y h (inl drop) = absurd h
 leaves p (Proceeding reliable request None) (Request Cancel) e y h (inl drop) = absurd (keeps_them h drop)
-leaves p (Proceeding reliable request (Some first)) (Request Cancel) e y h (inl drop) = absurd (keeps_them h drop)
-leaves p (Accepted set) (Request Cancel) e y h (inl drop) = absurd (keeps_them h drop)
-leaves p (Completed reliable request set) (Request Cancel) e y h (inl drop) = absurd (keeps_them h drop)
-leaves p Ended (Request Cancel) e y h (inl drop) = absurd (keeps_them h drop)
+leaves p x (Request Cancel) e y h (inl drop) = absurd (keeps_them h drop)
 leaves p x k e y h (inl drop) = absurd h
 leaves p x k e y h (inr stays) = absurd stays
 

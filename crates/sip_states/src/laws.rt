@@ -4,17 +4,15 @@ ghost use Rattle.std.specs.Prelude.{◌≡◌, ◌≤◌, ◌↔◌, ◌⊎◌, 
 ghost use Rattle.sip_machine.specs.declared.event.Kind.TheVariants.{Request, Response};
 ghost use Rattle.sip_machine.specs.declared.event.Method.TheVariants.{Invite, Ack, Cancel};
 ghost use Rattle.sip_machine.specs.declared.event.Method.{Method};
-ghost use Rattle.sip_machine.specs.Figure.{Owing, Restarts};
+ghost use Rattle.sip_machine.specs.Figure.{Restarts};
 ghost use Rattle.sip_machine.specs.MachineEvent.{MachineEvent};
-ghost use Rattle.sip_machine.specs.InviteServer.{InviteServerPhase, invite_server};
 ghost use Rattle.sip_machine.specs.Limits.{open_at};
 ghost use Rattle.sip_machine.specs.Message.{IsFinal};
-ghost use Rattle.sip_machine.specs.PlainServer.{PlainServerPhase, plain_server};
 ghost use Rattle.sip_machine.specs.Times.{Times};
 ghost use Rattle.sip_states.specs.KeyMachine.{MachineKind, PhaseOf, machine_of, transaction_of, key_rules};
 ghost use Rattle.sip_states.specs.Runs.{Wait, RunGives, RuledRun, AfterRun};
 ghost use Rattle.sip_states.specs.Stands.{Stands, StandsBehind};
-ghost use Rattle.sip_key.specs.declared.role.Role.TheVariants.{Client};
+ghost use Rattle.sip_key.specs.declared.role.Role.TheVariants.{Client, Server};
 ghost use Rattle.sip_times.specs.declared.action.Action.TheVariants.{Sent, Received};
 ghost use Rattle.sip_times.specs.declared.rules.Rules.{Rules as BuiltBy};
 ghost use Rattle.sip_times.specs.declared.rules.Rules.TheVariants.{R6026};
@@ -76,10 +74,9 @@ pub fn a_second_restart_changes_nothing()
     ensures { (machine : MachineKind) (x y z : PhaseOf machine) → Restarts (transaction_of machine).figure x y → Restarts (transaction_of machine).figure y z → z ≡ y }
 {}
 
-/// A server sends nothing before a request came in (section 17.2).
+/// A server sends nothing before a request came in (section 17.2), whichever rules it was built by, for INVITE and any other method.
 pub fn a_server_sends_when_it_was_asked()
-    ensures invite { (p : Times) (events : List MachineEvent) (e : MachineEvent) (y : Owing InviteServerPhase) → StandsBehind invite_server p events e y → e.action ≡ Sent →
-        Any (λ f. (f.action ≡ Received) × ((method : Method) × (f.kind ≡ Request method))) events }
-    ensures plain { (p : Times) (events : List MachineEvent) (e : MachineEvent) (y : Owing PlainServerPhase) → StandsBehind plain_server p events e y → e.action ≡ Sent →
+    ensures { (p : Times) (rules : BuiltBy) (invite : Bool) (events : List MachineEvent) (e : MachineEvent) (y : PhaseOf (machine_of rules Server invite)) →
+        StandsBehind (transaction_of (machine_of rules Server invite)).figure p events e y → e.action ≡ Sent →
         Any (λ f. (f.action ≡ Received) × ((method : Method) × (f.kind ≡ Request method))) events }
 {}

@@ -25,8 +25,8 @@ use Rattle.sip_machine.specs.InviteServer3261 as server_3261
 use Rattle.sip_machine.specs.InviteServer3261.{InviteServer3261Phase, In, Within, invite_server_3261_seen, invite_server_3261_names, InviteServer3261InRange}
 use Rattle.sip_machine.specs.Owing.{turn_seen, turn_names, TurnInRange}
 use Rattle.sip_machine.specs.inner.Single.{AnswersOne}
-use Rattle.sip_machine.specs.inner.InviteClient3261Laws.{IsEndedBy}
-use Rattle.sip_machine.specs.inner.InviteServer3261Laws.{turn_within}
+use Rattle.sip_machine.specs.InviteClient3261.Laws.{IsEndedBy}
+use Rattle.sip_machine.specs.InviteServer3261.Laws.{turn_within}
 
 -- a 2xx ends a client
 pub ended_row : (p : Times) (x : InviteClientPhase) (k : Kind) (e : MachineEvent) (y : After InviteClientPhase) → IsEndedBy x k → client_3261.Receives p x k e y ↔ (y ≡ (Ended, drops))

@@ -15,6 +15,7 @@ use Rattle.sip_machine.specs.Message.{IsProvisional, IsSuccess, IsUnsuccessful}
 use Rattle.sip_machine.specs.Figure.{Figure, Change, keeps, gains}
 use Rattle.sip_machine.specs.Told.{Told, Flag, Number, Message}
 use Rattle.sip_machine.specs.Transaction.{Coded}
+pub mod Laws
 
 -- The INVITE client transaction, RFC 3261 section 17.1.1 and its figure 5, with the accepted state of RFC 6026 section 7.2.
 

@@ -8,6 +8,7 @@ use Rattle.sip_machine.specs.Figure.{Figure, Change, keeps, drops, gains}
 use Rattle.sip_machine.specs.InviteClient as corrected
 use Rattle.sip_machine.specs.InviteClient.{InviteClientPhase, Ended, Calling, Proceeding, Completed, invite_client, invite_client_coded}
 use Rattle.sip_machine.specs.Transaction.{Coded}
+pub mod Laws
 
 -- The INVITE client transaction of RFC 3261 section 17.1.1 and its figure 5, without RFC 6026: its phases are those of InviteClient, of which it never
 -- enters accepted.

@@ -14,6 +14,7 @@ use Rattle.sip_machine.specs.InviteServer as corrected
 use Rattle.sip_machine.specs.InviteServer.{InviteServerPhase, Idle, Proceeding, Accepted, Completed, invite_server_seen, invite_server_names, InviteServerInRange, invite_server_told}
 use Rattle.sip_machine.specs.Told.{Told, Flag}
 use Rattle.sip_machine.specs.Transaction.{Coded}
+pub mod Laws
 
 -- The INVITE server transaction of RFC 3261 section 17.2.1 and its figure 7, without RFC 6026: a 2xx is the last that it does, and the INVITE, when it
 -- comes again behind one, begins it anew.

@@ -13,6 +13,7 @@ use Rattle.sip_machine.specs.Message.{IsProvisional, IsFinal}
 use Rattle.sip_machine.specs.Figure.{Figure, Change, keeps}
 use Rattle.sip_machine.specs.Told.{Told, Flag, Number}
 use Rattle.sip_machine.specs.Transaction.{Coded}
+pub mod Laws
 
 -- The non-INVITE client transaction, RFC 3261 section 17.1.2 and its figure 6.
 

@@ -49,7 +49,7 @@ pub enum InviteClientPhase {
 }
 
 impl Phase for InviteClientPhase {
-    ghost use Rattle.sip_machine.specs.inner.InviteClientLaws.{invite_client_exact};
+    ghost use Rattle.sip_machine.specs.InviteClient.Laws.{invite_client_exact};
 
     ghost exact = { invite_client_exact };
 }
@@ -79,10 +79,10 @@ impl InviteClient {
 }
 
 impl Phases for InviteClient {
-    ghost use Rattle.std.specs.Prelude.{refl, []};
     ghost use Rattle.sip_machine.specs.declared.invite_client.InviteClientPhase.TheVariants.{Idle, Ended};
     ghost use Rattle.sip_machine.specs.InviteClient.{InviteClientPhase as Seen, invite_client, invite_client_told, invite_client_seen, invite_client_names, InviteClientInRange};
-    ghost use Rattle.sip_machine.specs.inner.InviteClientLaws.{invite_client_is_figure, invite_client_window_same, invite_client_closes_same, invite_client_apart, invite_client_by_names};
+    ghost use Rattle.sip_machine.specs.inner.Coded.{has_phases};
+    ghost use Rattle.sip_machine.specs.InviteClient.Laws.{invite_client_is_coded};
 
     type Phase = InviteClientPhase;
 
@@ -235,10 +235,6 @@ impl Phases for InviteClient {
         first_acked(alloc, book, request, event, dues, row)
     }
 
-    fn pays(&self, _book: &Book, _phase: &InviteClientPhase, _event: &Event) -> Option<u32> {
-        None
-    }
-
     fn stays(&self, _phase: &InviteClientPhase, _kind: Kind) -> bool {
         false
     }
@@ -272,7 +268,7 @@ impl Phases for InviteClient {
     fn closes(&self, phase: &InviteClientPhase) -> Option<u64> {
         let params = &self.params;
         match *phase {
-            Calling(waiting) => Some(waiting.closes(params, timeout(params))),
+            Calling(waiting) => Some(waiting.closes(params)),
             Accepted { set } => Some(params.closes(set, timeout(params))),
             Completed { reliable, set, .. } if reliable => Some(params.closes(set, 0)),
             _ => None,
@@ -322,21 +318,5 @@ impl Phases for InviteClient {
         }
     }
 
-    ghost lawful = { invite_client_is_figure };
-
-    ghost idle_stands = { λ p texts. refl };
-
-    ghost ended_stands = { λ p texts. refl };
-
-    ghost idle_fits = { λ p. (refl, tt) };
-
-    ghost ended_fits = { λ p. (refl, tt) };
-
-    ghost window_stands = { invite_client_window_same };
-
-    ghost closes_stand = { invite_client_closes_same };
-
-    ghost apart = { invite_client_apart };
-
-    ghost by_names = { invite_client_by_names };
+    ghost phases = { has_phases invite_client_is_coded };
 }

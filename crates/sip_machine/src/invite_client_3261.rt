@@ -2,7 +2,7 @@
 ghost use Rattle.std.specs.Prelude.{◌≡◌, ◌↔◌, IsTrue};
 ghost use Rattle.sip_machine.specs.Texts.{Texts};
 ghost use Rattle.sip_machine.specs.InviteClient.{invite_client_seen};
-ghost use Rattle.sip_machine.specs.inner.InviteClient3261Laws.{IsEndedBy};
+ghost use Rattle.sip_machine.specs.InviteClient3261.Laws.{IsEndedBy};
 
 use crate::book::Book;
 use crate::dues::Dues;
@@ -42,12 +42,11 @@ impl InviteClient3261 {
 }
 
 impl Phases for InviteClient3261 {
-    ghost use Rattle.std.specs.Prelude.{refl, []};
     ghost use Rattle.sip_machine.specs.declared.invite_client.InviteClientPhase.TheVariants.{Idle, Ended};
     ghost use Rattle.sip_machine.specs.InviteClient.{InviteClientPhase as Seen, invite_client_told, invite_client_seen, invite_client_names, InviteClientInRange};
     ghost use Rattle.sip_machine.specs.InviteClient3261.{invite_client_3261};
-    ghost use Rattle.sip_machine.specs.inner.InviteClientLaws.{invite_client_window_same, invite_client_closes_same, invite_client_apart, invite_client_by_names};
-    ghost use Rattle.sip_machine.specs.inner.InviteClient3261Laws.{invite_client_3261_is_figure};
+    ghost use Rattle.sip_machine.specs.inner.Coded.{has_phases};
+    ghost use Rattle.sip_machine.specs.InviteClient3261.Laws.{invite_client_3261_is_coded};
 
     type Phase = InviteClientPhase;
 
@@ -119,10 +118,6 @@ impl Phases for InviteClient3261 {
         self.corrected.paid(alloc, book, phase, event, dues, row)
     }
 
-    fn pays(&self, book: &Book, phase: &InviteClientPhase, event: &Event) -> Option<u32> {
-        self.corrected.pays(book, phase, event)
-    }
-
     fn stays(&self, phase: &InviteClientPhase, kind: Kind) -> bool {
         self.corrected.stays(phase, kind)
     }
@@ -147,23 +142,7 @@ impl Phases for InviteClient3261 {
         InviteClient::told(alloc, phase)
     }
 
-    ghost lawful = { invite_client_3261_is_figure };
-
-    ghost idle_stands = { λ p texts. refl };
-
-    ghost ended_stands = { λ p texts. refl };
-
-    ghost idle_fits = { λ p. (refl, tt) };
-
-    ghost ended_fits = { λ p. (refl, tt) };
-
-    ghost window_stands = { invite_client_window_same };
-
-    ghost closes_stand = { invite_client_closes_same };
-
-    ghost apart = { invite_client_apart };
-
-    ghost by_names = { invite_client_by_names };
+    ghost phases = { has_phases invite_client_3261_is_coded };
 }
 
 /// Whether the phase waits for a final response, and the message is a 2xx.

@@ -11,7 +11,7 @@ ghost use Rattle.sip_machine.specs.Message.{IsSuccess};
 ghost use Rattle.sip_machine.specs.InviteServer.{invite_server_seen};
 ghost use Rattle.sip_machine.specs.Owing.{turn_seen, turn_names, TurnInRange};
 ghost use Rattle.sip_machine.specs.InviteServer3261.{Passed, Receives, Sends, remembers, invite_server_3261_seen, invite_server_3261_names, InviteServer3261InRange};
-ghost use Rattle.sip_machine.specs.inner.InviteServer3261Laws.{turn_within};
+ghost use Rattle.sip_machine.specs.InviteServer3261.Laws.{turn_within};
 ghost use Rattle.sip_machine.specs.inner.Single.{AnswersOne};
 
 use crate::book::Book;
@@ -40,7 +40,7 @@ pub enum InviteServer3261Phase {
 }
 
 impl Phase for InviteServer3261Phase {
-    ghost use Rattle.sip_machine.specs.inner.InviteServer3261Laws.{invite_server_3261_exact};
+    ghost use Rattle.sip_machine.specs.InviteServer3261.Laws.{invite_server_3261_exact};
 
     ghost exact = { invite_server_3261_exact };
 }
@@ -76,7 +76,8 @@ impl Phases for InviteServer3261 {
     ghost use Rattle.sip_machine.specs.declared.invite_server.InviteServerPhase.TheVariants.{Idle};
     ghost use Rattle.sip_machine.specs.declared.invite_server_3261.InviteServer3261Phase.TheVariants.{In};
     ghost use Rattle.sip_machine.specs.InviteServer3261.{InviteServer3261Phase as Seen, invite_server_3261, invite_server_3261_told, invite_server_3261_seen, invite_server_3261_names, InviteServer3261InRange};
-    ghost use Rattle.sip_machine.specs.inner.InviteServer3261Laws.{invite_server_3261_is_figure, invite_server_3261_window_same, invite_server_3261_closes_same, invite_server_3261_apart, invite_server_3261_by_names};
+    ghost use Rattle.sip_machine.specs.inner.Coded.{has_phases};
+    ghost use Rattle.sip_machine.specs.InviteServer3261.Laws.{invite_server_3261_is_coded};
 
     type Phase = InviteServer3261Phase;
 
@@ -231,23 +232,7 @@ impl Phases for InviteServer3261 {
         }
     }
 
-    ghost lawful = { invite_server_3261_is_figure };
-
-    ghost idle_stands = { λ p texts. refl };
-
-    ghost ended_stands = { λ p texts. refl };
-
-    ghost idle_fits = { λ p. (refl, tt) };
-
-    ghost ended_fits = { λ p. (refl, tt) };
-
-    ghost window_stands = { invite_server_3261_window_same };
-
-    ghost closes_stand = { invite_server_3261_closes_same };
-
-    ghost apart = { invite_server_3261_apart };
-
-    ghost by_names = { invite_server_3261_by_names };
+    ghost phases = { has_phases invite_server_3261_is_coded };
 }
 
 /// The phase before the INVITE, which is the one after the end too.

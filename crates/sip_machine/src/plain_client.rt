@@ -30,7 +30,7 @@ pub enum PlainClientPhase {
 }
 
 impl Phase for PlainClientPhase {
-    ghost use Rattle.sip_machine.specs.inner.PlainClientLaws.{plain_client_exact};
+    ghost use Rattle.sip_machine.specs.PlainClient.Laws.{plain_client_exact};
 
     ghost exact = { plain_client_exact };
 }
@@ -60,10 +60,10 @@ impl PlainClient {
 }
 
 impl Phases for PlainClient {
-    ghost use Rattle.std.specs.Prelude.{refl, []};
     ghost use Rattle.sip_machine.specs.declared.plain_client.PlainClientPhase.TheVariants.{Idle, Ended};
     ghost use Rattle.sip_machine.specs.PlainClient.{PlainClientPhase as Seen, plain_client, plain_client_told, plain_client_seen, plain_client_names, PlainClientInRange};
-    ghost use Rattle.sip_machine.specs.inner.PlainClientLaws.{plain_client_is_figure, plain_client_window_same, plain_client_closes_same, plain_client_apart, plain_client_by_names};
+    ghost use Rattle.sip_machine.specs.inner.Coded.{has_phases};
+    ghost use Rattle.sip_machine.specs.PlainClient.Laws.{plain_client_is_coded};
 
     type Phase = PlainClientPhase;
 
@@ -166,10 +166,6 @@ impl Phases for PlainClient {
         Ok(None)
     }
 
-    fn pays(&self, _book: &Book, _phase: &PlainClientPhase, _event: &Event) -> Option<u32> {
-        None
-    }
-
     fn stays(&self, _phase: &PlainClientPhase, _kind: Kind) -> bool {
         false
     }
@@ -194,8 +190,8 @@ impl Phases for PlainClient {
     fn closes(&self, phase: &PlainClientPhase) -> Option<u64> {
         let params = &self.params;
         match *phase {
-            Trying(waiting) => Some(waiting.closes(params, timeout(params))),
-            Proceeding(waiting) => Some(waiting.closes(params, timeout(params))),
+            Trying(waiting) => Some(waiting.closes(params)),
+            Proceeding(waiting) => Some(waiting.closes(params)),
             Completed { reliable, set } => Some(params.closes(set, linger(params, reliable))),
             Idle | Ended => None,
         }
@@ -221,21 +217,5 @@ impl Phases for PlainClient {
         }
     }
 
-    ghost lawful = { plain_client_is_figure };
-
-    ghost idle_stands = { λ p texts. refl };
-
-    ghost ended_stands = { λ p texts. refl };
-
-    ghost idle_fits = { λ p. (refl, tt) };
-
-    ghost ended_fits = { λ p. (refl, tt) };
-
-    ghost window_stands = { plain_client_window_same };
-
-    ghost closes_stand = { plain_client_closes_same };
-
-    ghost apart = { plain_client_apart };
-
-    ghost by_names = { plain_client_by_names };
+    ghost phases = { has_phases plain_client_is_coded };
 }

@@ -1,6 +1,6 @@
 //! A request that a client sent, and that waits for its response (RFC 3261 sections 17.1.1.2 and 17.1.2.2).
-ghost use Rattle.std.specs.Prelude.{◌≡◌, ◌≤◌, ◌↔◌, IsTrue, Some, map};
-ghost use Rattle.sip_machine.specs.Texts.{Texts, Keeps, text_of};
+ghost use Rattle.std.specs.Prelude.{◌≡◌, ◌*◌, ◌↔◌, IsTrue, Some, [], map};
+ghost use Rattle.sip_machine.specs.Texts.{Keeps, text_of};
 ghost use Rattle.sip_machine.specs.MachineEvent.{KeepsMessage, event_in};
 ghost use Rattle.sip_machine.specs.Retransmits.{Retransmits};
 ghost use Rattle.sip_machine.specs.Debts.{earliest};
@@ -11,6 +11,7 @@ use crate::book::Book;
 use crate::event::Event;
 use crate::limit::earlier;
 use crate::retransmits::retransmits;
+use crate::timers::timeout;
 use crate::told::Field;
 use sip_times::Params;
 use std::hash::Hash;
@@ -51,13 +52,12 @@ impl Waiting {
         )
     }
 
-    /// The last moment of its timers: B or F, which was set for so long, and A or E over an unreliable transport.
-    pub(crate) fn closes(&self, params: &Params, patience: u64) -> u64
-        requires in_range { WaitingInRange self.now }
-        requires patience { patience ≤ 640000 }
-        ensures { (texts : Texts) → Some result ≡ earliest (waiting_closes params.now (waiting_seen texts self.now) patience) }
+    /// The last moment of its timers: B or F, and A or E over an unreliable transport.
+    pub(crate) fn closes(&self, params: &Params) -> u64
+        requires { WaitingInRange self.now }
+        ensures { Some result ≡ earliest (waiting_closes params.now (waiting_seen [] self.now) (64 * params.now.t1)) }
     {
-        let given_up = params.closes(self.start, patience);
+        let given_up = params.closes(self.start, timeout(params));
         if self.reliable {
             given_up
         } else {

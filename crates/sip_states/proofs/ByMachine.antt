@@ -11,7 +11,7 @@ use Rattle.sip_machine.specs.Transaction.{idle_state, ended_state}
 use Rattle.sip_machine.specs.inner.FigureLaws.{rules_lawful}
 use Rattle.sip_machine.specs.inner.OwingLaws.{owing_by_names, quiet_stands}
 use Rattle.sip_states.specs.Held.{Held}
-use Rattle.sip_states.specs.KeyMachine.{MachineKind, OfInviteClient, OfPlainClient, OfInviteServer, OfPlainServer, OfInviteClient3261, OfInviteServer3261, transaction_of, coded_of, coded_holds, PhaseOf, key_rules, StateOf, set_of, held_of, held_is, set_is, start_is, start_of_machine, of_machine, to_machine, of_one_machine}
+use Rattle.sip_states.specs.KeyMachine.{MachineKind, transaction_of, coded_of, coded_holds, PhaseOf, key_rules, StateOf, set_of, held_of, held_is, set_is, start_is, start_of_machine, of_machine, to_machine, of_one_machine}
 use Rattle.sip_states.specs.Meaning.{Meaning}
 use Rattle.sip_states.specs.AnySet.{meaning_of, IsQuietIn, IsQuietSet, OfHeld, OfSet, OfHelds, OfSets, moment_of}
 use Rattle.sip_states.specs.Sweep.{names_of, numbers_of, AppendsNumbers}
@@ -40,7 +40,7 @@ first_is_of machine texts p =
 
 -- it names no message
 pub first_knows : (machine : MachineKind) (texts : Texts) → Knows (meaning_of machine).names texts (first_of machine)
-first_knows machine texts = subst (λ names. All (Keeps texts) (names ++ [])) (sym (coded_holds machine).idle_names) (All-nil (Keeps texts))
+first_knows machine texts = subst (λ names. All (Keeps texts) (names ++ [])) (sym (coded_holds machine).idle_fits.0) (All-nil (Keeps texts))
 
 -- each set is one of some machine
 pub some_machine : (set : AnySet) → (machine : MachineKind) × (s : Held Times (StateOf machine)) × (set ≡ set_of machine s)
@@ -64,7 +64,7 @@ numbers_appended set old new appends =
 -- the set that a machine starts with names nothing
 pub start_silent : (p : Times) (machine : MachineKind) → numbers_of (start_of_machine p machine) ≡ []
 start_silent p machine =
-    ap numbers_of (start_is p machine) ∙ numbers_are machine (record { machine = p; moment = 0; states = first_of machine ∷ [] }) ∙ ap (λ names. (names ++ []) ++ []) (coded_holds machine).idle_names
+    ap numbers_of (start_is p machine) ∙ numbers_are machine (record { machine = p; moment = 0; states = first_of machine ∷ [] }) ∙ ap (λ names. (names ++ []) ++ []) (coded_holds machine).idle_fits.0
 
 -- The ended state.
 
@@ -72,28 +72,12 @@ abbrev pub last_of : (machine : MachineKind) → StateOf machine
 last_of machine = ended_state (coded_of machine)
 
 -- it stands for that of the rules
-ended_is : (machine : MachineKind) (texts : Texts) → (coded_of machine).seen texts (coded_of machine).ended ≡ (transaction_of machine).figure.ended
-ended_is OfInviteClient texts = refl
-ended_is OfPlainClient texts = refl
-ended_is OfInviteServer texts = refl
-ended_is OfPlainServer texts = refl
-ended_is OfInviteClient3261 texts = refl
-ended_is OfInviteServer3261 texts = refl
-
 pub last_is_of : (machine : MachineKind) (texts : Texts) (p : Times) → (meaning_of machine).seen texts (last_of machine) ≡ ((meaning_of machine).rules p).ended
-last_is_of machine texts p = quiet_stands (coded_of machine).seen texts (coded_of machine).ended (transaction_of machine).figure.ended (ended_is machine texts)
+last_is_of machine texts p = quiet_stands (coded_of machine).seen texts (coded_of machine).ended (transaction_of machine).figure.ended ((coded_holds machine).ended_is texts)
 
 -- it names no message
-ended_names : (machine : MachineKind) → (coded_of machine).names (coded_of machine).ended ≡ []
-ended_names OfInviteClient = refl
-ended_names OfPlainClient = refl
-ended_names OfInviteServer = refl
-ended_names OfPlainServer = refl
-ended_names OfInviteClient3261 = refl
-ended_names OfInviteServer3261 = refl
-
 pub last_knows : (machine : MachineKind) (texts : Texts) → Knows (meaning_of machine).names texts (last_of machine)
-last_knows machine texts = subst (λ names. All (Keeps texts) (names ++ [])) (sym (ended_names machine)) (All-nil (Keeps texts))
+last_knows machine texts = subst (λ names. All (Keeps texts) (names ++ [])) (sym (coded_holds machine).ended_fits.0) (All-nil (Keeps texts))
 
 -- Quiet sets.
 
@@ -112,8 +96,8 @@ quiet_silent set quiet =
     let (machine, s, is) = some_machine set in
     ap numbers_of is ∙ numbers_are machine s
     ∙ elim (quiet_in machine s (subst IsQuietSet is quiet)) [
-      | inl first ↦ ap (flat_map (owing_names (coded_of machine).names)) first ∙ ap (λ names. (names ++ []) ++ []) (coded_holds machine).idle_names
-      | inr last ↦ ap (flat_map (owing_names (coded_of machine).names)) last ∙ ap (λ names. (names ++ []) ++ []) (ended_names machine)
+      | inl first ↦ ap (flat_map (owing_names (coded_of machine).names)) first ∙ ap (λ names. (names ++ []) ++ []) (coded_holds machine).idle_fits.0
+      | inr last ↦ ap (flat_map (owing_names (coded_of machine).names)) last ∙ ap (λ names. (names ++ []) ++ []) (coded_holds machine).ended_fits.0
     ]
 
 module _ (P : (X M S : Type 0) → Meaning X M S → Held M S → Type 0) where

@@ -2,6 +2,9 @@
 use Rattle.std.proofs.Common.{◌≡◌, ◌≤◌, ◌⊎◌, inl, inr, ℕ, Bool, true, false, Some, None, List, [], ◌∷◌, ◌++◌, ◌∙◌, refl, sym, subst, arith}
 use Rattle.std.specs.Prelude.{⊤}
 use Rattle.std.proofs.Math.Decide.{dec_le}
+use Rattle.sip_key.specs.declared.role.Role.TheVariants.{Client}
+use Rattle.sip_times.specs.declared.rules.Rules.{Rules as BuiltBy}
+use Rattle.sip_times.specs.declared.rules.Rules.TheVariants.{R3261, R6026}
 use Rattle.sip_times.specs.declared.action.Action.{Action}
 use Rattle.sip_times.specs.declared.action.Action.TheVariants.{Sent, Received, Failed, Mark, Restart}
 use Rattle.sip_machine.specs.declared.event.Method.{Method}
@@ -17,7 +20,7 @@ use Rattle.sip_machine.specs.Figure.{Figure, After as Row, Owing, led_to, Emits,
 use Rattle.sip_machine.specs.InviteClient as invite
 use Rattle.sip_machine.specs.PlainClient as plain
 use Rattle.sip_states.specs.Runs.{Step, Hides, Takes, Does, Goes, taken, AfterRun}
-use Rattle.sip_states.specs.KeyMachine.{OfInviteClient, OfPlainClient, key_rules}
+use Rattle.sip_states.specs.KeyMachine.{OfInviteClient, OfPlainClient, machine_of, PhaseOf, key_rules}
 use Rattle.sip_states.proofs.RunLemmas.{Goes-last}
 use Rattle.sip_states.proofs.FewerLemmas.{Goes-through}
 
@@ -346,9 +349,16 @@ plain_sends p e x y (inr (inr (stays, same))) low = absurd stays
 plain_sends p e x y (inr (inl (left, pays, to))) low = pays.holds.0
 
 -- behind a final response of its request a client sends nothing
-pub plain_behind_final : (p : Times) (before between behind : List MachineEvent) (request final e : MachineEvent) (code : ℕ) (y : Owing plain.PlainClientPhase) → request.action ≡ Sent → IsRequest request.kind →
+plain_silent : (p : Times) (before between behind : List MachineEvent) (request final e : MachineEvent) (code : ℕ) (y : Owing plain.PlainClientPhase) → request.action ≡ Sent → IsRequest request.kind →
     final.action ≡ Received → final.kind ≡ Response code → IsFinal code → e.action ≡ Sent →
     AfterRun (key_rules p OfPlainClient) (before ++ request ∷ (between ++ final ∷ behind)) e y → ⊥
-plain_behind_final p =
+plain_silent p =
     behind_final plain.plain_client p plain_rank (plain_ranked p) IsRequest (λ k. ⊥) (plain_opens p)
     (λ code e x y h is final low. plain_finishes p code e y is final x.phase x.owes low h) (plain_sends p)
+
+-- by whichever rules it was built
+pub plain_behind_final : (p : Times) (rules : BuiltBy) (before between behind : List MachineEvent) (request final e : MachineEvent) (code : ℕ) (y : PhaseOf (machine_of rules Client false)) →
+    request.action ≡ Sent → IsRequest request.kind → final.action ≡ Received → final.kind ≡ Response code → IsFinal code → e.action ≡ Sent →
+    AfterRun (key_rules p (machine_of rules Client false)) (before ++ request ∷ (between ++ final ∷ behind)) e y → ⊥
+plain_behind_final p R6026 = plain_silent p
+plain_behind_final p R3261 = plain_silent p

@@ -9,7 +9,7 @@ use Rattle.sip_machine.specs.Rules.{Rules, IsLawful, StandFor, Knows}
 use Rattle.sip_machine.specs.Figure.{Figure, Owing, quiet, Restarts, Steps}
 use Rattle.sip_states.specs.Runs.{Wait, RunGives}
 use Rattle.sip_states.specs.Held.{Held}
-use Rattle.sip_states.specs.KeyMachine.{MachineKind, OfInviteClient, OfPlainClient, OfInviteServer, OfPlainServer, OfInviteClient3261, OfInviteServer3261, transaction_of, PhaseOf, StateOf, key_rules}
+use Rattle.sip_states.specs.KeyMachine.{MachineKind, transaction_of, coded_holds, PhaseOf, StateOf, key_rules}
 use Rattle.sip_states.specs.AnySet.{meaning_of, IsQuietIn}
 use Rattle.sip_states.proofs.Waiting.{StaysFrom, EndsFrom, IsWithin-none, IsOpenAt-none, Wait-stay, Wait-cases}
 use Rattle.sip_states.proofs.ByMachine.{first_of, last_of, first_is_of, last_is_of, first_knows, last_knows, lawful_of}
@@ -33,15 +33,6 @@ module _ {X : Type 0} (r : Rules X) (lawful : IsLawful r) (q : X) (endless : r.w
       go : StaysFrom r C h n y ⊎ EndsFrom r C h n y → y ≡ q
       go (inl stay) = (only y).0 stay.among
       go (inr end) = absurd (IsOpenAt-none end.at (r.window end.start) (ap r.window ((only end.start).0 end.among) ∙ endless) end.hides.opened)
-
--- whether a transaction ends where it began
-ended_idle : (machine : MachineKind) → ((transaction_of machine).figure.ended ≡ (transaction_of machine).figure.idle) ⊎ ¬ ((transaction_of machine).figure.ended ≡ (transaction_of machine).figure.idle)
-ended_idle OfInviteClient = inr (λ same. cc)
-ended_idle OfPlainClient = inr (λ same. cc)
-ended_idle OfInviteServer = inl refl
-ended_idle OfPlainServer = inl refl
-ended_idle OfInviteClient3261 = inr (λ same. cc)
-ended_idle OfInviteServer3261 = inl refl
 
 -- a restart leads from the idle state to itself
 idle_restarts : {X : Type 0} (f : Figure X) (y : Owing X) → Restarts f (quiet f.idle) y ↔ (y ≡ quiet f.idle)
@@ -67,25 +58,15 @@ module _ (p : Times) (machine : MachineKind) (e : MachineEvent) (is : e.action �
   ended_takes : (y : PhaseOf machine) → (key_rules p machine).Take (quiet f.ended) e y ↔ (y ≡ quiet f.ended)
   ended_takes y =
       let stays = IsWithin-none e.moment ((key_rules p machine).until (quiet f.ended)) (lawful_of machine p).ended_stays in
-      let steps = subst (λ a. Steps f p a e (quiet f.ended) y ↔ (y ≡ quiet f.ended)) (sym is) (ended_restarts f (ended_idle machine) y) in
+      let steps = subst (λ a. Steps f p a e (quiet f.ended) y ↔ (y ≡ quiet f.ended)) (sym is) (ended_restarts f (coded_holds machine).ended_decided y) in
       (λ h. steps.0 h.1, λ same. (stays, steps.1 same))
 
 -- the first and the ended state are in range
 first_in_range : (machine : MachineKind) → (meaning_of machine).in_range (first_of machine)
-first_in_range OfInviteClient = (tt, All-nil (λ debt. debt.deadline < 2 ^ 50))
-first_in_range OfPlainClient = (tt, All-nil (λ debt. debt.deadline < 2 ^ 50))
-first_in_range OfInviteServer = (tt, All-nil (λ debt. debt.deadline < 2 ^ 50))
-first_in_range OfPlainServer = (tt, All-nil (λ debt. debt.deadline < 2 ^ 50))
-first_in_range OfInviteClient3261 = (tt, All-nil (λ debt. debt.deadline < 2 ^ 50))
-first_in_range OfInviteServer3261 = (tt, All-nil (λ debt. debt.deadline < 2 ^ 50))
+first_in_range machine = ((coded_holds machine).idle_fits.1, All-nil (λ debt. debt.deadline < 2 ^ 50))
 
 last_in_range : (machine : MachineKind) → (meaning_of machine).in_range (last_of machine)
-last_in_range OfInviteClient = (tt, All-nil (λ debt. debt.deadline < 2 ^ 50))
-last_in_range OfPlainClient = (tt, All-nil (λ debt. debt.deadline < 2 ^ 50))
-last_in_range OfInviteServer = (tt, All-nil (λ debt. debt.deadline < 2 ^ 50))
-last_in_range OfPlainServer = (tt, All-nil (λ debt. debt.deadline < 2 ^ 50))
-last_in_range OfInviteClient3261 = (tt, All-nil (λ debt. debt.deadline < 2 ^ 50))
-last_in_range OfInviteServer3261 = (tt, All-nil (λ debt. debt.deadline < 2 ^ 50))
+last_in_range machine = ((coded_holds machine).ended_fits.1, All-nil (λ debt. debt.deadline < 2 ^ 50))
 
 -- what a quiet state of the code is: it stands for one without an end and without a last moment, which a restart leaves; it names nothing that is not
 -- kept, and is in range

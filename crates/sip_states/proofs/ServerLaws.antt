@@ -2,6 +2,9 @@
 use Rattle.std.proofs.Common.{◌≡◌, ◌⊎◌, inl, inr, ℕ, suc, Bool, true, false, None, List, [], ◌∷◌, ◌++◌, refl, subst, arith}
 use Rattle.std.specs.List.{Any}
 use Rattle.sip_times.specs.declared.action.Action.{Action}
+use Rattle.sip_key.specs.declared.role.Role.TheVariants.{Server}
+use Rattle.sip_times.specs.declared.rules.Rules.{Rules as BuiltBy}
+use Rattle.sip_times.specs.declared.rules.Rules.TheVariants.{R3261, R6026}
 use Rattle.sip_times.specs.declared.action.Action.TheVariants.{Sent, Received, Failed, Mark, Restart}
 use Rattle.sip_machine.specs.declared.event.Method.{Method}
 use Rattle.sip_machine.specs.declared.event.Kind.{Kind}
@@ -10,10 +13,8 @@ use Rattle.sip_machine.specs.Times.{Times}
 use Rattle.sip_machine.specs.MachineEvent.{MachineEvent}
 use Rattle.sip_machine.specs.Debts.{Owed, unexpired}
 use Rattle.sip_machine.specs.Figure.{Figure, After as Row, Owing, quiet, Emits, Fails, Steps, rules_of as rules_of_figure}
-use Rattle.sip_machine.specs.InviteServer as invite
-use Rattle.sip_machine.specs.PlainServer as plain
 use Rattle.sip_states.specs.Runs.{Step, Hides, Takes, Goes, taken, AfterRun}
-use Rattle.sip_states.specs.KeyMachine.{OfInviteServer, OfPlainServer, key_rules}
+use Rattle.sip_states.specs.KeyMachine.{machine_of, transaction_of, PhaseOf, key_rules}
 use Rattle.sip_states.proofs.Waiting.{IsOpenAt-none}
 use Rattle.sip_states.proofs.RunLemmas.{Goes-last}
 
@@ -79,18 +80,30 @@ module _ {X : Type 0} (f : Figure X) (p : Times) (asleep : IsAsleep f p) where
           absurd (emits_nothing e y (subst (λ a. Steps f p a e (quiet f.idle) y) sent (subst (λ z. Steps f p e.action e (record { phase = z.phase; owes = unexpired e.moment z.owes }) y) same step)))
       by_state x step (inr asked) = subst (Any IsAsked) after.takes asked
 
-invite_woken : (p : Times) (k : Kind) (e : MachineEvent) (y : Row invite.InviteServerPhase) → invite.Receives p invite.Idle k e y → (method : Method) × (k ≡ Request method)
-invite_woken p (Request method) e y h = (method, refl)
-invite_woken p (Response code) e y h = absurd h
+-- the figure of a server
+abbrev server : (rules : BuiltBy) (invite : Bool) → Figure (transaction_of (machine_of rules Server invite)).Phase
+server rules invite = (transaction_of (machine_of rules Server invite)).figure
 
--- an INVITE server sends nothing before it is asked
-pub invite_sends_when_asked : (p : Times) (events : List MachineEvent) (e : MachineEvent) (y : Owing invite.InviteServerPhase) → AfterRun (key_rules p OfInviteServer) events e y → e.action ≡ Sent → Any IsAsked events
-invite_sends_when_asked p = sends_when_asked invite.invite_server p (record { no_end = refl; silent = λ k e y h. h; woken = invite_woken p; unmoved = λ k stays. stays })
+woken : (rules : BuiltBy) (invite : Bool) (p : Times) (k : Kind) (e : MachineEvent) (y : Row (transaction_of (machine_of rules Server invite)).Phase) →
+    (server rules invite).Receives p (server rules invite).idle k e y → (method : Method) × (k ≡ Request method)
+woken rules invite p (Request method) e y h = (method, refl)
+woken R6026 true p (Response code) e y h = absurd h
+woken R6026 false p (Response code) e y h = absurd h
+woken R3261 true p (Response code) e y h = absurd h.1
+woken R3261 false p (Response code) e y h = absurd h
 
-plain_woken : (p : Times) (k : Kind) (e : MachineEvent) (y : Row plain.PlainServerPhase) → plain.Receives p plain.Idle k e y → (method : Method) × (k ≡ Request method)
-plain_woken p (Request method) e y h = (method, refl)
-plain_woken p (Response code) e y h = absurd h
+-- each of them sleeps in its idle phase
+asleep : (rules : BuiltBy) (invite : Bool) (p : Times) → IsAsleep (server rules invite) p
+asleep R6026 true p = record { no_end = refl; silent = λ k e y h. h; woken = woken R6026 true p; unmoved = λ k stays. stays }
+asleep R6026 false p = record { no_end = refl; silent = λ k e y h. h; woken = woken R6026 false p; unmoved = λ k stays. stays }
+asleep R3261 true p = record { no_end = refl; silent = λ k e y h. h; woken = woken R3261 true p; unmoved = unmoved }
+  where
+    unmoved : (k : Kind) → (server R3261 true).Stays (server R3261 true).idle k → ⊥
+    unmoved (Request method) stays = absurd stays
+    unmoved (Response code) (again, held, success) = cc
+asleep R3261 false p = record { no_end = refl; silent = λ k e y h. h; woken = woken R3261 false p; unmoved = λ k stays. stays }
 
--- nor does any other server
-pub plain_sends_when_asked : (p : Times) (events : List MachineEvent) (e : MachineEvent) (y : Owing plain.PlainServerPhase) → AfterRun (key_rules p OfPlainServer) events e y → e.action ≡ Sent → Any IsAsked events
-plain_sends_when_asked p = sends_when_asked plain.plain_server p (record { no_end = refl; silent = λ k e y h. h; woken = plain_woken p; unmoved = λ k stays. stays })
+-- a server sends nothing before it is asked
+pub server_sends_when_asked : (p : Times) (rules : BuiltBy) (invite : Bool) (events : List MachineEvent) (e : MachineEvent) (y : PhaseOf (machine_of rules Server invite)) →
+    AfterRun (key_rules p (machine_of rules Server invite)) events e y → e.action ≡ Sent → Any IsAsked events
+server_sends_when_asked p rules invite = sends_when_asked (server rules invite) p (asleep rules invite p)

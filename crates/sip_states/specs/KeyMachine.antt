@@ -18,12 +18,12 @@ use Rattle.sip_machine.specs.InviteClient3261.{invite_client_3261, invite_client
 use Rattle.sip_machine.specs.InviteServer3261.{InviteServer3261Phase, invite_server_3261, invite_server_3261_coded}
 use Rattle.sip_machine.specs.PlainServer.{PlainServerPhase, plain_server, plain_server_coded}
 use Rattle.sip_machine.specs.inner.Coded.{IsCoded}
-use Rattle.sip_machine.specs.inner.InviteClientLaws.{invite_client_is_coded}
-use Rattle.sip_machine.specs.inner.PlainClientLaws.{plain_client_is_coded}
-use Rattle.sip_machine.specs.inner.InviteServerLaws.{invite_server_is_coded}
-use Rattle.sip_machine.specs.inner.InviteClient3261Laws.{invite_client_3261_is_coded}
-use Rattle.sip_machine.specs.inner.InviteServer3261Laws.{invite_server_3261_is_coded}
-use Rattle.sip_machine.specs.inner.PlainServerLaws.{plain_server_is_coded}
+use Rattle.sip_machine.specs.InviteClient.Laws.{invite_client_is_coded}
+use Rattle.sip_machine.specs.PlainClient.Laws.{plain_client_is_coded}
+use Rattle.sip_machine.specs.InviteServer.Laws.{invite_server_is_coded}
+use Rattle.sip_machine.specs.InviteClient3261.Laws.{invite_client_3261_is_coded}
+use Rattle.sip_machine.specs.InviteServer3261.Laws.{invite_server_3261_is_coded}
+use Rattle.sip_machine.specs.PlainServer.Laws.{plain_server_is_coded}
 use Rattle.sip_states.specs.Held.{Held}
 use Rattle.sip_states.specs.declared.any_set.AnySet.{AnySet}
 use Rattle.sip_states.specs.declared.any_set.AnySet.TheVariants.{InviteClient, PlainClient, InviteServer, PlainServer, InviteClient3261, InviteServer3261}

@@ -1,22 +1,21 @@
 //! Laws of runs. The functions do nothing: their contracts are the laws.
 ghost use Rattle.std.specs.List.{Any};
-ghost use Rattle.std.specs.Prelude.{◌≡◌, ◌≤◌, ◌↔◌, ◌⊎◌, ◌++◌, ◌∷◌, [], ℕ, false, List, All, Contains};
+ghost use Rattle.std.specs.Prelude.{◌≡◌, ◌≤◌, ◌↔◌, ◌⊎◌, ◌++◌, ◌∷◌, [], ℕ, Bool, true, false, List, All, Contains};
 ghost use Rattle.sip_machine.specs.declared.event.Kind.TheVariants.{Request, Response};
 ghost use Rattle.sip_machine.specs.declared.event.Method.TheVariants.{Invite, Ack, Cancel};
 ghost use Rattle.sip_machine.specs.declared.event.Method.{Method};
-ghost use Rattle.sip_machine.specs.Figure.{Owing, Restarts};
+ghost use Rattle.sip_machine.specs.Figure.{Restarts};
 ghost use Rattle.sip_machine.specs.MachineEvent.{MachineEvent};
-ghost use Rattle.sip_machine.specs.InviteClient.{InviteClientPhase, invite_client};
-ghost use Rattle.sip_machine.specs.InviteServer.{InviteServerPhase, invite_server};
 ghost use Rattle.sip_machine.specs.Limits.{open_at};
 ghost use Rattle.sip_machine.specs.Message.{IsFinal};
-ghost use Rattle.sip_machine.specs.PlainClient.{PlainClientPhase, plain_client};
-ghost use Rattle.sip_machine.specs.PlainServer.{PlainServerPhase, plain_server};
 ghost use Rattle.sip_machine.specs.Times.{Times};
-ghost use Rattle.sip_states.specs.KeyMachine.{MachineKind, PhaseOf, transaction_of, key_rules};
+ghost use Rattle.sip_states.specs.KeyMachine.{MachineKind, PhaseOf, machine_of, transaction_of, key_rules};
 ghost use Rattle.sip_states.specs.Runs.{Wait, RunGives, RuledRun, AfterRun};
 ghost use Rattle.sip_states.specs.Stands.{Stands, StandsBehind};
+ghost use Rattle.sip_key.specs.declared.role.Role.TheVariants.{Client, Server};
 ghost use Rattle.sip_times.specs.declared.action.Action.TheVariants.{Sent, Received};
+ghost use Rattle.sip_times.specs.declared.rules.Rules.{Rules as BuiltBy};
+ghost use Rattle.sip_times.specs.declared.rules.Rules.TheVariants.{R6026};
 
 use sip_machine::Machine;
 
@@ -53,19 +52,20 @@ pub fn a_run_holds_one_over_fewer_events<M: Machine>(_machine: &M)
 /// Behind the final response to its INVITE a client sends nothing but ACK and CANCEL (RFC 3261 sections 17.1.1.2, 17.1.1.3 and 9.1),
 /// and behind that to any other request it sends nothing (section 17.1.2.2).
 pub fn behind_a_final_response_a_client_sends_no_request()
-    ensures invite { (p : Times) (before between behind : List MachineEvent) (request final e : MachineEvent) (code : ℕ) (y : Owing InviteClientPhase) →
+    ensures invite { (p : Times) (before between behind : List MachineEvent) (request final e : MachineEvent) (code : ℕ) (y : PhaseOf (machine_of R6026 Client true)) →
         request.action ≡ Sent → request.kind ≡ Request Invite → final.action ≡ Received → final.kind ≡ Response code → IsFinal code → e.action ≡ Sent →
-        StandsBehind invite_client p (before ++ request ∷ (between ++ final ∷ behind)) e y → (e.kind ≡ Request Ack) ⊎ (e.kind ≡ Request Cancel) }
-    ensures plain { (p : Times) (before between behind : List MachineEvent) (request final e : MachineEvent) (code : ℕ) (y : Owing PlainClientPhase) →
-        request.action ≡ Sent → (method : Method) × (request.kind ≡ Request method) → final.action ≡ Received → final.kind ≡ Response code → IsFinal code →
-        e.action ≡ Sent → StandsBehind plain_client p (before ++ request ∷ (between ++ final ∷ behind)) e y → ⊥ }
+        StandsBehind (transaction_of (machine_of R6026 Client true)).figure p (before ++ request ∷ (between ++ final ∷ behind)) e y → (e.kind ≡ Request Ack) ⊎ (e.kind ≡ Request Cancel) }
+    ensures plain { (p : Times) (rules : BuiltBy) (before between behind : List MachineEvent) (request final e : MachineEvent) (code : ℕ) (y : PhaseOf (machine_of rules Client false)) →
+        request.action ≡ Sent → (method : Method) × (request.kind ≡ Request method) → final.action ≡ Received → final.kind ≡ Response code → IsFinal code → e.action ≡ Sent →
+        StandsBehind (transaction_of (machine_of rules Client false)).figure p (before ++ request ∷ (between ++ final ∷ behind)) e y → ⊥ }
 {}
 
 /// The INVITE with which a client begins is sent again byte for byte, over an unreliable transport alone, and T1 later at the earliest,
 /// the tolerance aside (section 17.1.1.2).
 pub fn an_invite_is_sent_again_after_t1()
-    ensures { (p : Times) (first : MachineEvent) (between : List MachineEvent) (e : MachineEvent) (y : Owing InviteClientPhase) → first.action ≡ Sent → first.kind ≡ Request Invite →
-        e.action ≡ Sent → e.kind ≡ Request Invite → StandsBehind invite_client p (first ∷ between) e y →
+    ensures { (p : Times) (first : MachineEvent) (between : List MachineEvent) (e : MachineEvent) (y : PhaseOf (machine_of R6026 Client true)) → first.action ≡ Sent → first.kind ≡ Request Invite →
+        e.action ≡ Sent → e.kind ≡ Request Invite →
+        StandsBehind (transaction_of (machine_of R6026 Client true)).figure p (first ∷ between) e y →
         (e.text ≡ first.text) × (first.reliable ≡ false) × (open_at p first.moment p.t1 ≤ e.moment) }
 {}
 
@@ -74,10 +74,9 @@ pub fn a_second_restart_changes_nothing()
     ensures { (machine : MachineKind) (x y z : PhaseOf machine) → Restarts (transaction_of machine).figure x y → Restarts (transaction_of machine).figure y z → z ≡ y }
 {}
 
-/// A server sends nothing before a request came in (section 17.2).
+/// A server sends nothing before a request came in (section 17.2), whichever rules it was built by, for INVITE and any other method.
 pub fn a_server_sends_when_it_was_asked()
-    ensures invite { (p : Times) (events : List MachineEvent) (e : MachineEvent) (y : Owing InviteServerPhase) → StandsBehind invite_server p events e y → e.action ≡ Sent →
-        Any (λ f. (f.action ≡ Received) × ((method : Method) × (f.kind ≡ Request method))) events }
-    ensures plain { (p : Times) (events : List MachineEvent) (e : MachineEvent) (y : Owing PlainServerPhase) → StandsBehind plain_server p events e y → e.action ≡ Sent →
+    ensures { (p : Times) (rules : BuiltBy) (invite : Bool) (events : List MachineEvent) (e : MachineEvent) (y : PhaseOf (machine_of rules Server invite)) →
+        StandsBehind (transaction_of (machine_of rules Server invite)).figure p events e y → e.action ≡ Sent →
         Any (λ f. (f.action ≡ Received) × ((method : Method) × (f.kind ≡ Request method))) events }
 {}

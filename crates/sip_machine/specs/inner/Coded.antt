@@ -1,20 +1,85 @@
-use Rattle.std.specs.Prelude.{◌≡◌, ℕ, [], Contains, map}
+use Rattle.std.specs.Prelude.{◌≡◌, ◌≢◌, ◌⊎◌, ◌≤◌, ℕ, List, [], All, Contains, map}
+use Rattle.sip_machine.specs.declared.event.Kind.{Kind}
 use Rattle.sip_machine.specs.Times.{Times}
-use Rattle.sip_machine.specs.Texts.{Texts, text_of}
-use Rattle.sip_machine.specs.Told.{messages_told}
-use Rattle.sip_machine.specs.Figure.{Figure, IsFigure, closes_at}
+use Rattle.sip_machine.specs.Texts.{Texts, IsBook, text_of}
+use Rattle.sip_machine.specs.MachineEvent.{MachineEvent}
+use Rattle.sip_machine.specs.Rules.{Knows}
+use Rattle.sip_machine.specs.Told.{Told, messages_told}
+use Rattle.sip_machine.specs.Figure.{Figure, IsFigure, After, closes_at, drops}
 use Rattle.sip_machine.specs.Transaction.{Coded}
 
--- what holds of a figure and of its phases as the code has them: it is lawful; a phase stands for the same beside books that agree on
--- what it names; its timers do not depend on the book; what it names is what its words tell; the idle phase stands for that of the figure; and
--- neither the idle nor the ended phase names a message
+-- What the laws of each machine say.
+
+-- a row leads to a phase whose timers are not past
+abbrev pub LeadOn : {X : Type 0} → Figure X → (Times → X → Kind → MachineEvent → After X → Type 0) → Type 0
+LeadOn {X} f Rows =
+    (p : Times) (x : X) (k : Kind) (e : MachineEvent) (y : After X) → All (λ m. e.moment ≤ m) (closes_at f p x) →
+    Rows p x k e y → All (λ m. e.moment ≤ m) (closes_at f p y.0)
+
+-- a row of a message that is sent leads to another phase where it drops the debts, and where the send may leave the state as it is
+abbrev pub LeadAway : {X : Type 0} → Figure X → Type 0
+LeadAway {X} f = (p : Times) (x : X) (k : Kind) (e : MachineEvent) (y : After X) → f.Sends p x k e y → (y.1 ≡ drops) ⊎ f.Stays x k → y.0 ≢ x
+
+module _ {X S : Type 0} (seen : Texts → S → X) (names : S → List ℕ) where
+  -- phases of the code that stand for the same beside one book are the same one
+  abbrev pub AreApart : Type 0
+  AreApart = (texts : Texts) (x y : S) → IsBook texts → Knows names texts x → Knows names texts y → seen texts x ≡ seen texts y → x ≡ y
+
+  -- one stands for the same beside books that agree on what it names
+  abbrev pub StandByNames : Type 0
+  StandByNames = (a b : Texts) (x : S) → ((n : ℕ) → Contains (names x) n → text_of a n ≡ text_of b n) → seen a x ≡ seen b x
+
+  -- what one names is what its words tell
+  abbrev pub TellNames : (X → Told (List ℕ)) → Type 0
+  TellNames told = (texts : Texts) (x : S) → messages_told (told (seen texts x)) ≡ map (text_of texts) (names x)
+
+module _ {X S : Type 0} (f : Figure X) (seen : Texts → S → X) where
+  -- its timers do not depend on the book
+  abbrev pub SameWindow : Type 0
+  SameWindow = (a b : Texts) (p : Times) (x : S) → f.window p (seen a x) ≡ f.window p (seen b x)
+
+  abbrev pub SameCloses : Type 0
+  SameCloses = (a b : Texts) (p : Times) (x : S) → closes_at f p (seen a x) ≡ closes_at f p (seen b x)
+
+-- what holds of a figure and of its phases as the code has them: it is lawful; what each of the words above says; the idle and the ended phase stand for
+-- those of the figure, which are the same one or are not, name no message and are in range
 pub record IsCoded {X : Type 0} (f : Figure X) (c : Coded X) : Type 0 where
   pub is_figure : IsFigure f
-  pub by_names : (a b : Texts) (x : c.Code) → ((n : ℕ) → Contains (c.names x) n → text_of a n ≡ text_of b n) → c.seen a x ≡ c.seen b x
-  pub window_same : (a b : Texts) (p : Times) (x : c.Code) → f.window p (c.seen a x) ≡ f.window p (c.seen b x)
-  pub closes_same : (a b : Texts) (p : Times) (x : c.Code) → closes_at f p (c.seen a x) ≡ closes_at f p (c.seen b x)
-  pub named : (texts : Texts) (x : c.Code) → messages_told (c.told (c.seen texts x)) ≡ map (text_of texts) (c.names x)
+  pub apart : AreApart c.seen c.names
+  pub by_names : StandByNames c.seen c.names
+  pub window_same : SameWindow f c.seen
+  pub closes_same : SameCloses f c.seen
+  pub named : TellNames c.seen c.names c.told
   pub idle_is : (texts : Texts) → c.seen texts c.idle ≡ f.idle
-  pub idle_names : c.names c.idle ≡ []
+  pub ended_is : (texts : Texts) → c.seen texts c.ended ≡ f.ended
+  pub ended_decided : (f.ended ≡ f.idle) ⊎ (f.ended ≢ f.idle)
+  pub idle_fits : (c.names c.idle ≡ []) × c.InRange c.idle
+  pub ended_fits : (c.names c.ended ≡ []) × c.InRange c.ended
   pub idle_silent : messages_told (c.told f.idle) ≡ []
   pub ended_silent : messages_told (c.told f.ended) ≡ []
+
+-- the same of the ghosts of a machine of the code, M
+pub record HasPhases {X S M : Type 0} (f : Figure X) (seen : Texts → S → X) (names : S → List ℕ) (InRange : S → Type 0) (idle ended : M → S) : Type 0 where
+  pub is_figure : IsFigure f
+  pub apart : AreApart seen names
+  pub by_names : StandByNames seen names
+  pub window_same : SameWindow f seen
+  pub closes_same : SameCloses f seen
+  pub idle_is : (m : M) (texts : Texts) → seen texts (idle m) ≡ f.idle
+  pub ended_is : (m : M) (texts : Texts) → seen texts (ended m) ≡ f.ended
+  pub idle_fits : (m : M) → (names (idle m) ≡ []) × InRange (idle m)
+  pub ended_fits : (m : M) → (names (ended m) ≡ []) × InRange (ended m)
+
+pub has_phases : {X M : Type 0} {f : Figure X} {c : Coded X} → IsCoded f c → HasPhases f c.seen c.names c.InRange (λ (m : M). c.idle) (λ (m : M). c.ended)
+has_phases is =
+    record {
+      is_figure = is.is_figure;
+      apart = is.apart;
+      by_names = is.by_names;
+      window_same = is.window_same;
+      closes_same = is.closes_same;
+      idle_is = λ m. is.idle_is;
+      ended_is = λ m. is.ended_is;
+      idle_fits = λ m. is.idle_fits;
+      ended_fits = λ m. is.ended_fits;
+    }

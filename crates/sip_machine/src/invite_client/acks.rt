@@ -4,7 +4,7 @@ ghost use Rattle.std.specs.Prelude.{◌≡◌, ◌≢◌, ◌↔◌, ◌<◌, �
 ghost use Rattle.sip_ledger.specs.Runs.{debts_in};
 ghost use Rattle.sip_machine.specs.Owes.{owed_in, owes_names};
 ghost use Rattle.sip_machine.specs.Texts.{Keeps, text_of};
-ghost use Rattle.sip_machine.specs.inner.Acks.{HasTo, IsOwedTo, PaysDebt};
+ghost use Rattle.sip_machine.specs.inner.Acks.{HasTo, PaysDebt};
 ghost use Rattle.sip_machine.specs.inner.Paying.{FindsFirst};
 ghost use Rattle.sip_machine.specs.inner.Tos.{HoldsBetween};
 
@@ -70,7 +70,8 @@ fn first_with_to(
     ensures same { dues.new ≡ dues.old }
     ensures finds { IfOk result (FindsFirst (HasTo book.now to.now moment) moment (owed_in dues.old row)) }
 {
-    match holder(alloc, book, to, dues, row)? {
+    let (low, high) = dues.span();
+    match holder(alloc, book, to, low, high)? {
         Holder::One(number) => Ok(payable(number, moment, dues, row)),
         Holder::Nobody => Ok(None),
         Holder::Unknown => {
@@ -83,20 +84,18 @@ fn first_with_to(
 /// So many messages are looked at one by one, which costs less than to find the one message that has a To.
 const FEW: u32 = 8;
 
-/// Which message that the row owes has this To, where no other one has it and there is one alone, or there are many.
+/// Which of the messages from the number `low` up to `high` has this To, where no other one has it and there is one alone, or
+/// there are many.
 fn holder(
     alloc: Global,
     book: &Book,
     to: &Hashed,
-    dues: &Dues,
-    row: usize,
+    low: u32,
+    high: u32,
 ) -> Result<Holder, AllocError>
-    requires row { row < length dues.now }
-    requires some { owed_in dues.now row ≢ [] }
-    requires owed { All (Keeps book.now) (owes_names (owed_in dues.now row)) }
-    ensures { IfOk result (IsOwedTo book.now to.now (owed_in dues.now row)) }
+    requires { low ≡ high → Keeps book.now low }
+    ensures { IfOk result (HoldsBetween book.now to.now low high) }
 {
-    let (low, high) = dues.span();
     if low == high {
         return only_holder(alloc, book, to, low);
     }

@@ -1,13 +1,10 @@
-use Rattle.sip_machine.specs.InviteServer.{invite_server}
-use Rattle.sip_machine.specs.PlainServer.{plain_server}
-use Rattle.sip_machine.specs.inner.InviteServerLaws.{invite_server_is_figure}
-use Rattle.sip_machine.specs.inner.PlainServerLaws.{plain_server_is_figure}
+use Rattle.sip_key.specs.declared.role.Role.TheVariants.{Server}
+use Rattle.sip_states.specs.KeyMachine.{machine_of, transaction_of, coded_holds}
 use Rattle.sip_states.proofs.StandsLemmas.{behind-after}
-use Rattle.sip_states.proofs.ServerLaws.{invite_sends_when_asked, plain_sends_when_asked}
+use Rattle.sip_states.proofs.ServerLaws.{server_sends_when_asked}
 use Rattle.sip_states.proofs.laws.a_server_sends_when_it_was_asked.Goals as goal
 
-pub returns-clause-invite : goal.returns-clause-invite
-returns-clause-invite c = λ p events e y behind. invite_sends_when_asked p events e y ((behind-after invite_server invite_server_is_figure p events e y).0 behind)
-
-pub returns-clause-plain : goal.returns-clause-plain
-returns-clause-plain c = λ p events e y behind. plain_sends_when_asked p events e y ((behind-after plain_server plain_server_is_figure p events e y).0 behind)
+pub returns : goal.returns
+returns c = λ p rules invite events e y behind.
+    let machine = machine_of rules Server invite in
+    server_sends_when_asked p rules invite events e y ((behind-after (transaction_of machine).figure (coded_holds machine).is_figure p events e y).0 behind)

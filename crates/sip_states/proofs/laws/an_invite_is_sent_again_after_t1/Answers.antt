@@ -1,6 +1,7 @@
-use Rattle.std.specs.Prelude.{◌∷◌}
-use Rattle.sip_machine.specs.InviteClient.{invite_client}
-use Rattle.sip_machine.specs.inner.InviteClientLaws.{invite_client_is_figure}
+use Rattle.std.specs.Prelude.{◌∷◌, true}
+use Rattle.sip_key.specs.declared.role.Role.TheVariants.{Client}
+use Rattle.sip_times.specs.declared.rules.Rules.TheVariants.{R6026}
+use Rattle.sip_states.specs.KeyMachine.{machine_of, transaction_of, coded_holds}
 use Rattle.sip_states.proofs.StandsLemmas.{behind-after}
 use Rattle.sip_states.proofs.ClientLaws.{invite_again}
 use Rattle.sip_states.proofs.laws.an_invite_is_sent_again_after_t1.Goals as goal
@@ -8,4 +9,5 @@ use Rattle.sip_states.proofs.laws.an_invite_is_sent_again_after_t1.Goals as goal
 pub returns : goal.returns
 returns c =
     λ p first between e y first_sent first_kind sent kind behind.
-    invite_again p first between e y first_sent first_kind sent kind ((behind-after invite_client invite_client_is_figure p (first ∷ between) e y).0 behind)
+    let machine = machine_of R6026 Client true in
+    invite_again p first between e y first_sent first_kind sent kind ((behind-after (transaction_of machine).figure (coded_holds machine).is_figure p (first ∷ between) e y).0 behind)

@@ -5,9 +5,13 @@ use Rattle.sip_machine.specs.Owes.{owed_in}
 use Rattle.sip_machine.specs.Texts.{Keeps}
 use Rattle.sip_machine.specs.inner.Acks.{HasTo}
 use Rattle.sip_machine.specs.inner.OwesLaws.{All-names}
-use Rattle.sip_machine.proofs.HolderLemmas.{FindsFirst-same, pays-held}
+use Rattle.sip_machine.proofs.HolderLemmas.{FindsFirst-same, pays-held, none-held, only-kept}
 use Rattle.sip_machine.proofs.RunsLemmas.{each-All}
 use Rattle.sip_machine.proofs.invite_client.acks.first_with_to.Goals as goal
+
+pub holder-requires : goal.holder-requires
+holder-requires c =
+    only-kept c.args.book.now c.args.to.now c.span-low.result.0 c.span-low.result.1 c.args.moment c.args.dues.now c.args.row c.requires.row c.span-low.ensures c.requires.owed c.requires.some
 
 pub first_of_runs-requires-clause-debts : goal.first_of_runs-requires-clause-debts
 first_of_runs-requires-clause-debts c =
@@ -18,15 +22,13 @@ first_of_runs-requires-clause-debts c =
 
 pub returns-in-One-clause-finds : goal.returns-in-One-clause-finds
 returns-in-One-clause-finds c =
-    let texts = c.args.book.now in
-    let to = c.args.to.now in
-    let t = c.args.moment in
     let n = c.in-One.number in
-    let debts = owed_in c.args.dues.now c.args.row in
-    FindsFirst-same (λ debt. IsTrue (is_payable n t debt)) (HasTo texts to t) t debts c.payable.result
-    (pays-held texts to n t debts (rw c.in-One.is at c.in_ok-number.ensures)) c.payable.ensures.finds
+    let t = c.args.moment in
+    FindsFirst-same (λ debt. IsTrue (is_payable n t debt)) (HasTo c.args.book.now c.args.to.now t) t (owed_in c.args.dues.now c.args.row) c.payable.result
+    (pays-held c.args.book.now c.args.to.now c.span-low.result.0 c.span-low.result.1 t c.args.dues.now c.args.row c.requires.row c.span-low.ensures c.requires.owed n
+    (rw c.in-One.is at c.in_ok-number.ensures)) c.payable.ensures.finds
 
 pub returns-in-Nobody-clause-finds : goal.returns-in-Nobody-clause-finds
 returns-in-Nobody-clause-finds c =
-    let nobody = rw c.in-Nobody.is at c.in_ok-number.ensures in
-    λ k d low has. nobody k d low has.0
+    none-held c.args.book.now c.args.to.now c.span-low.result.0 c.span-low.result.1 c.args.moment c.args.dues.now c.args.row c.requires.row c.span-low.ensures c.requires.owed
+    (rw c.in-Nobody.is at c.in_ok-number.ensures)

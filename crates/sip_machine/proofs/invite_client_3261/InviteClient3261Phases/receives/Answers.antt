@@ -7,7 +7,7 @@ use Rattle.sip_machine.specs.Owing.{turn_seen, turn_names, TurnInRange}
 use Rattle.sip_machine.specs.InviteClient as client
 use Rattle.sip_machine.specs.InviteClient.{invite_client_seen, invite_client_names, InviteClientInRange}
 use Rattle.sip_machine.specs.InviteClient3261 as client_3261
-use Rattle.sip_machine.specs.inner.InviteClient3261Laws.{IsEndedBy}
+use Rattle.sip_machine.specs.InviteClient3261.Laws.{IsEndedBy}
 use Rattle.sip_machine.proofs.Rows3261.{ended_row, other_row, AnswersOne-same}
 use Rattle.sip_machine.proofs.invite_client_3261.InviteClient3261Phases.receives.Goals as goal
 

@@ -1,20 +1,14 @@
-use Rattle.std.specs.Prelude.{◌≡◌, ◌≢◌, ◌⊎◌, ◌≤◌, ◌*◌, ℕ, true, All, Contains, map, min, if◌then◌else◌}
+use Rattle.std.specs.Prelude.{◌≡◌, ◌*◌, true, min, if◌then◌else◌}
 use Rattle.std.proofs.Common.{refl, ap, inl, inr, arith}
 use Rattle.std.proofs.lemmas.Bool.Decides.{nat_tests}
-use Rattle.sip_machine.specs.declared.event.Kind.{Kind}
 use Rattle.sip_machine.specs.declared.event.Kind.TheVariants.{Request, Response}
 use Rattle.sip_machine.specs.declared.plain_client.PlainClientPhase.{PlainClientPhase as CodePhase}
 use Rattle.sip_machine.specs.declared.plain_client.PlainClientPhase.TheVariants as code
 use Rattle.sip_machine.specs.contracts.plain_client.PlainClientPhasePartialEq.TheImpl as derived
-use Rattle.sip_machine.specs.Times.{Times}
 use Rattle.sip_machine.specs.Limits.{close_at}
-use Rattle.sip_machine.specs.Texts.{Texts, IsBook, text_of}
-use Rattle.sip_machine.specs.MachineEvent.{MachineEvent}
-use Rattle.sip_machine.specs.Rules.{Knows}
-use Rattle.sip_machine.specs.Figure.{IsFigure, After, drops, closes_at}
-use Rattle.sip_machine.specs.PlainClient.{PlainClientPhase, Idle, Trying, Proceeding, Receives, Sends, timer_window, plain_client, plain_client_seen, plain_client_names, plain_client_coded, plain_client_told}
-use Rattle.sip_machine.specs.Told.{messages_told}
-use Rattle.sip_machine.specs.inner.Coded.{IsCoded}
+use Rattle.sip_machine.specs.Figure.{IsFigure}
+use Rattle.sip_machine.specs.PlainClient.{Idle, Trying, Proceeding, Receives, Sends, plain_client, plain_client_seen, plain_client_names, plain_client_coded, plain_client_told}
+use Rattle.sip_machine.specs.inner.Coded.{IsCoded, AreApart, StandByNames, TellNames, SameWindow, SameCloses, LeadOn, LeadAway}
 use Rattle.sip_machine.specs.inner.FigureLaws.{keeps_them}
 use Rattle.sip_machine.specs.inner.WaitingLaws.{waiting_exact, waiting_apart, waiting_by_names, timer_starts, repeat_starts, patience_lasts}
 
@@ -25,16 +19,12 @@ pub plain_client_exact : (x y : CodePhase) → derived.ghosts.eq x y ≡ true �
 plain_client_exact code.Idle code.Idle e = refl
 plain_client_exact (code.Trying w) (code.Trying w') e = ap code.Trying (waiting_exact w w' e)
 plain_client_exact (code.Proceeding w) (code.Proceeding w') e = ap code.Proceeding (waiting_exact w w' e)
-plain_client_exact (code.Completed reliable set) (code.Completed reliable' set') e =
-    let same_reliable : reliable ≡ reliable' = grind (arith, nat_tests) in
-    let same_set : set ≡ set' = grind (arith, nat_tests) in
-    cc
+plain_client_exact (code.Completed reliable set) (code.Completed reliable' set') e = grind (arith, nat_tests)
 plain_client_exact code.Ended code.Ended e = refl
 plain_client_exact x y e = cc
 
 -- phases that stand for the same beside one book are the same
-pub plain_client_apart : (texts : Texts) (x y : CodePhase) → IsBook texts → Knows plain_client_names texts x → Knows plain_client_names texts y →
-    plain_client_seen texts x ≡ plain_client_seen texts y → x ≡ y
+pub plain_client_apart : AreApart plain_client_seen plain_client_names
 plain_client_apart texts code.Idle code.Idle book x_known y_known e = refl
 plain_client_apart texts (code.Trying w) (code.Trying w') book x_known y_known e = ap code.Trying (waiting_apart texts w w' book x_known y_known cc)
 plain_client_apart texts (code.Proceeding w) (code.Proceeding w') book x_known y_known e = ap code.Proceeding (waiting_apart texts w w' book x_known y_known cc)
@@ -43,31 +33,28 @@ plain_client_apart texts code.Ended code.Ended book x_known y_known e = refl
 plain_client_apart texts x y book x_known y_known e = cc
 
 -- a phase stands for the same beside books that agree on what it names
-pub plain_client_by_names : (a b : Texts) (x : CodePhase) → ((n : ℕ) → Contains (plain_client_names x) n → text_of a n ≡ text_of b n) →
-    plain_client_seen a x ≡ plain_client_seen b x
+pub plain_client_by_names : StandByNames plain_client_seen plain_client_names
 plain_client_by_names a b (code.Trying w) agree = ap Trying (waiting_by_names a b w agree)
 plain_client_by_names a b (code.Proceeding w) agree = ap Proceeding (waiting_by_names a b w agree)
 plain_client_by_names a b x agree = refl
 
 -- its timers do not depend on the book
-pub plain_client_window_same : (a b : Texts) (p : Times) (x : CodePhase) → timer_window p (plain_client_seen a x) ≡ timer_window p (plain_client_seen b x)
+pub plain_client_window_same : SameWindow plain_client plain_client_seen
 plain_client_window_same a b p code.Idle = refl
 plain_client_window_same a b p x = refl
 
-pub plain_client_closes_same : (a b : Texts) (p : Times) (x : CodePhase) → closes_at plain_client p (plain_client_seen a x) ≡ closes_at plain_client p (plain_client_seen b x)
+pub plain_client_closes_same : SameCloses plain_client plain_client_seen
 plain_client_closes_same a b p code.Idle = refl
 plain_client_closes_same a b p x = refl
 
 -- a row leads to a phase whose timers are not past
-received : (p : Times) (x : PlainClientPhase) (k : Kind) (e : MachineEvent) (y : After PlainClientPhase) → All (λ m. e.moment ≤ m) (closes_at plain_client p x) →
-    Receives p x k e y → All (λ m. e.moment ≤ m) (closes_at plain_client p y.0)
+received : LeadOn plain_client Receives
 received p (Trying w) (Response code) e y running h =
     elim h [ inl provisional ↦ rw provisional.1 running | inr final ↦ rw final.1 (timer_starts p e.moment (if w.reliable then 0 else p.t4)) ]
 received p (Proceeding w) (Response code) e y running h = rw h.1 (timer_starts p e.moment (if w.reliable then 0 else p.t4))
 received p x k e y running h = absurd h
 
-sent : (p : Times) (x : PlainClientPhase) (k : Kind) (e : MachineEvent) (y : After PlainClientPhase) → All (λ m. e.moment ≤ m) (closes_at plain_client p x) →
-    Sends p x k e y → All (λ m. e.moment ≤ m) (closes_at plain_client p y.0)
+sent : LeadOn plain_client Sends
 sent p Idle (Request method) e y running h = rw h (repeat_starts p e.moment (close_at p e.moment (64 * p.t1)) p.t1 e.reliable (omega arith))
 sent p (Trying w) (Request method) e y running h =
     rw h.1 (repeat_starts p e.moment (close_at p w.start (64 * p.t1)) (min (2 * w.interval) p.t2) w.reliable (patience_lasts p w e.moment (64 * p.t1) running))
@@ -76,7 +63,7 @@ sent p (Proceeding w) (Request method) e y running h =
 sent p x k e y running h = absurd h
 
 -- a row that is sent does not drop the debts
-leaves : (p : Times) (x : PlainClientPhase) (k : Kind) (e : MachineEvent) (y : After PlainClientPhase) → Sends p x k e y → (y.1 ≡ drops) ⊎ ⊥ → y.0 ≢ x
+leaves : LeadAway plain_client
 leaves p Idle (Request method) e y h (inl drop) = absurd (keeps_them h drop)
 leaves p (Trying w) (Request method) e y h (inl drop) = absurd (keeps_them h.1 drop)
 leaves p (Proceeding w) (Request method) e y h (inl drop) = absurd (keeps_them h.1 drop)
@@ -97,7 +84,7 @@ plain_client_is_figure =
     }
 
 -- what a phase names is what its words tell
-plain_client_named : (texts : Texts) (x : CodePhase) → messages_told (plain_client_told (plain_client_seen texts x)) ≡ map (text_of texts) (plain_client_names x)
+plain_client_named : TellNames plain_client_seen plain_client_names plain_client_told
 plain_client_named texts code.Idle = refl
 plain_client_named texts x = refl
 
@@ -106,12 +93,16 @@ pub plain_client_is_coded : IsCoded plain_client plain_client_coded
 plain_client_is_coded =
     record {
       is_figure = plain_client_is_figure;
+      apart = plain_client_apart;
       by_names = plain_client_by_names;
       window_same = plain_client_window_same;
       closes_same = plain_client_closes_same;
       named = plain_client_named;
       idle_is = λ texts. refl;
-      idle_names = refl;
+      ended_is = λ texts. refl;
+      ended_decided = inr (λ same. cc);
+      idle_fits = (refl, tt);
+      ended_fits = (refl, tt);
       idle_silent = refl;
       ended_silent = refl;
     }

@@ -1,16 +1,14 @@
-use Rattle.std.specs.Prelude.{◌≤◌, All}
+use Rattle.std.specs.Prelude.{◌≤◌}
 use Rattle.std.proofs.Common.{inl, inr}
 use Rattle.std.proofs.lemmas.List.Elements.{All-nil}
 use Rattle.sip_machine.specs.declared.event.Kind.{Kind}
 use Rattle.sip_machine.specs.declared.event.Kind.TheVariants.{Response}
-use Rattle.sip_machine.specs.Times.{Times}
-use Rattle.sip_machine.specs.MachineEvent.{MachineEvent}
 use Rattle.sip_machine.specs.Message.{IsSuccess}
-use Rattle.sip_machine.specs.Figure.{IsFigure, After, closes_at}
+use Rattle.sip_machine.specs.Figure.{IsFigure}
 use Rattle.sip_machine.specs.InviteClient.{InviteClientPhase, Calling, Proceeding, Completed}
 use Rattle.sip_machine.specs.InviteClient3261.{Receives, invite_client_3261, invite_client_3261_coded}
-use Rattle.sip_machine.specs.inner.Coded.{IsCoded}
-use Rattle.sip_machine.specs.inner.InviteClientLaws.{timer_d_starts, invite_client_is_figure, invite_client_is_coded}
+use Rattle.sip_machine.specs.inner.Coded.{IsCoded, LeadOn}
+use Rattle.sip_machine.specs.InviteClient.Laws.{timer_d_starts, invite_client_is_figure, invite_client_is_coded}
 
 -- Laws of the INVITE client of RFC 3261.
 
@@ -21,8 +19,7 @@ IsEndedBy (Proceeding reliable request cancel) (Response code) = IsSuccess code
 IsEndedBy x k = ⊥
 
 -- a row leads to a phase whose timers are not past
-received : (p : Times) (x : InviteClientPhase) (k : Kind) (e : MachineEvent) (y : After InviteClientPhase) → All (λ m. e.moment ≤ m) (closes_at invite_client_3261 p x) →
-    Receives p x k e y → All (λ m. e.moment ≤ m) (closes_at invite_client_3261 p y.0)
+received : LeadOn invite_client_3261 Receives
 received p (Calling w) (Response code) e y running (inl provisional) = rw provisional.1 (All-nil (λ m. e.moment ≤ m))
 received p (Calling w) (Response code) e y running (inr (inl success)) = rw success.1 (All-nil (λ m. e.moment ≤ m))
 received p (Calling w) (Response code) e y running (inr (inr unsuccessful)) = rw unsuccessful.1 (timer_d_starts p w.reliable e.moment)
@@ -49,12 +46,16 @@ pub invite_client_3261_is_coded : IsCoded invite_client_3261 invite_client_3261_
 invite_client_3261_is_coded =
     record {
       is_figure = invite_client_3261_is_figure;
+      apart = invite_client_is_coded.apart;
       by_names = invite_client_is_coded.by_names;
       window_same = invite_client_is_coded.window_same;
       closes_same = invite_client_is_coded.closes_same;
       named = invite_client_is_coded.named;
       idle_is = invite_client_is_coded.idle_is;
-      idle_names = invite_client_is_coded.idle_names;
+      ended_is = invite_client_is_coded.ended_is;
+      ended_decided = invite_client_is_coded.ended_decided;
+      idle_fits = invite_client_is_coded.idle_fits;
+      ended_fits = invite_client_is_coded.ended_fits;
       idle_silent = invite_client_is_coded.idle_silent;
       ended_silent = invite_client_is_coded.ended_silent;
     }

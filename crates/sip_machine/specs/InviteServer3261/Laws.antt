@@ -1,4 +1,4 @@
-use Rattle.std.specs.Prelude.{◌≡◌, ◌≢◌, ◌≤◌, ◌⊎◌, ℕ, Bool, true, false, None, List, All, Contains, map}
+use Rattle.std.specs.Prelude.{◌≡◌, ◌≤◌, ℕ, Bool, true, false, None, List}
 use Rattle.std.specs.Bool.{beq}
 use Rattle.std.proofs.Common.{refl, ap, sym, ◌∙◌, inl, inr}
 use Rattle.std.proofs.lemmas.List.Elements.{All-nil}
@@ -13,19 +13,16 @@ use Rattle.sip_machine.specs.contracts.invite_server_3261.InviteServer3261PhaseP
 use Rattle.sip_machine.specs.contracts.invite_server.InviteServerPhasePartialEq.TheImpl as phase_eq
 use Rattle.sip_machine.specs.declared.phases.Turn.{Turn}
 use Rattle.sip_machine.specs.Times.{Times}
-use Rattle.sip_machine.specs.Texts.{Texts, IsBook, text_of}
 use Rattle.sip_machine.specs.MachineEvent.{MachineEvent}
-use Rattle.sip_machine.specs.Rules.{Knows}
-use Rattle.sip_machine.specs.Figure.{IsFigure, After, drops, closes_at}
+use Rattle.sip_machine.specs.Figure.{IsFigure, After, drops}
 use Rattle.sip_machine.specs.InviteServer as corrected
 use Rattle.sip_machine.specs.InviteServer.{InviteServerPhase, Proceeding, Completed}
-use Rattle.sip_machine.specs.InviteServer3261.{InviteServer3261Phase, Passed, In, Receives, Sends, Satisfies, Stays, timer_window, invite_server_3261, invite_server_3261_seen, invite_server_3261_names, invite_server_3261_coded, invite_server_3261_told}
-use Rattle.sip_machine.specs.Told.{messages_told}
-use Rattle.sip_machine.specs.inner.Coded.{IsCoded}
+use Rattle.sip_machine.specs.InviteServer3261.{InviteServer3261Phase, Passed, In, Receives, Sends, Satisfies, Stays, invite_server_3261, invite_server_3261_seen, invite_server_3261_names, invite_server_3261_coded, invite_server_3261_told}
+use Rattle.sip_machine.specs.inner.Coded.{IsCoded, AreApart, StandByNames, TellNames, SameWindow, SameCloses, LeadOn, LeadAway}
 use Rattle.sip_machine.specs.inner.OwesLaws.{both_true}
 use Rattle.sip_machine.specs.inner.FigureLaws.{keeps_them}
 use Rattle.sip_machine.specs.inner.WaitingLaws.{timer_starts}
-use Rattle.sip_machine.specs.inner.InviteServerLaws.{invite_server_exact, invite_server_apart, invite_server_by_names, invite_server_window_same, invite_server_closes_same, invite_server_is_figure}
+use Rattle.sip_machine.specs.InviteServer.Laws.{invite_server_exact, invite_server_apart, invite_server_by_names, invite_server_window_same, invite_server_closes_same, invite_server_is_figure}
 
 -- Laws of the phases of the INVITE server of RFC 3261.
 
@@ -52,8 +49,7 @@ invite_server_3261_exact (code.In phase again) (code.In phase' again') e =
     same_within a b again again' phase flag = rw (phase, flag) refl
 
 -- phases that stand for the same beside one book are the same
-pub invite_server_3261_apart : (texts : Texts) (x y : CodePhase) → IsBook texts → Knows invite_server_3261_names texts x → Knows invite_server_3261_names texts y →
-    invite_server_3261_seen texts x ≡ invite_server_3261_seen texts y → x ≡ y
+pub invite_server_3261_apart : AreApart invite_server_3261_seen invite_server_3261_names
 invite_server_3261_apart texts code.Passed code.Passed book x_known y_known e = refl
 invite_server_3261_apart texts (code.In phase again) (code.In phase' again') book x_known y_known e =
     let same_again : again ≡ again' = cc in
@@ -61,29 +57,26 @@ invite_server_3261_apart texts (code.In phase again) (code.In phase' again') boo
 invite_server_3261_apart texts x y book x_known y_known e = cc
 
 -- a phase stands for the same beside books that agree on what it names
-pub invite_server_3261_by_names : (a b : Texts) (x : CodePhase) → ((n : ℕ) → Contains (invite_server_3261_names x) n → text_of a n ≡ text_of b n) →
-    invite_server_3261_seen a x ≡ invite_server_3261_seen b x
+pub invite_server_3261_by_names : StandByNames invite_server_3261_seen invite_server_3261_names
 invite_server_3261_by_names a b code.Passed agree = refl
 invite_server_3261_by_names a b (code.In phase again) agree = ap (λ x. In x again) (invite_server_by_names a b phase agree)
 
 -- its timers do not depend on the book
-pub invite_server_3261_window_same : (a b : Texts) (p : Times) (x : CodePhase) → timer_window p (invite_server_3261_seen a x) ≡ timer_window p (invite_server_3261_seen b x)
+pub invite_server_3261_window_same : SameWindow invite_server_3261 invite_server_3261_seen
 invite_server_3261_window_same a b p code.Passed = refl
 invite_server_3261_window_same a b p (code.In phase again) = invite_server_window_same a b p phase
 
-pub invite_server_3261_closes_same : (a b : Texts) (p : Times) (x : CodePhase) → closes_at invite_server_3261 p (invite_server_3261_seen a x) ≡ closes_at invite_server_3261 p (invite_server_3261_seen b x)
+pub invite_server_3261_closes_same : SameCloses invite_server_3261 invite_server_3261_seen
 invite_server_3261_closes_same a b p code.Passed = refl
 invite_server_3261_closes_same a b p (code.In phase again) = invite_server_closes_same a b p phase
 
 -- a row leads to a phase whose timers are not past
-received : (p : Times) (x : InviteServer3261Phase) (k : Kind) (e : MachineEvent) (y : After InviteServer3261Phase) → All (λ m. e.moment ≤ m) (closes_at invite_server_3261 p x) →
-    Receives p x k e y → All (λ m. e.moment ≤ m) (closes_at invite_server_3261 p y.0)
+received : LeadOn invite_server_3261 Receives
 received p Passed (Request Invite) e y running h = rw h (timer_starts p e.moment 200)
 received p Passed k e y running h = absurd h
 received p (In x again) k e y running (after, row, is) = rw is (invite_server_is_figure.received_waits p x k e after running row)
 
-sent : (p : Times) (x : InviteServer3261Phase) (k : Kind) (e : MachineEvent) (y : After InviteServer3261Phase) → All (λ m. e.moment ≤ m) (closes_at invite_server_3261 p x) →
-    Sends p x k e y → All (λ m. e.moment ≤ m) (closes_at invite_server_3261 p y.0)
+sent : LeadOn invite_server_3261 Sends
 sent p Passed (Response code) e y running h = rw h.1 (All-nil (λ m. e.moment ≤ m))
 sent p (In (Proceeding reliable set last) again) (Response code) e y running (inl success) = rw success.1 (All-nil (λ m. e.moment ≤ m))
 sent p (In (Proceeding reliable set last) again) (Response code) e y running (inr (other, within)) =
@@ -100,7 +93,7 @@ in_same : (a b : InviteServerPhase) (again : Bool) → In a again ≡ In b again
 in_same a b again same = cc
 
 -- a row that drops the debts, or of a send that may leave the state as it is, leads to another phase
-leaves : (p : Times) (x : InviteServer3261Phase) (k : Kind) (e : MachineEvent) (y : After InviteServer3261Phase) → Sends p x k e y → (y.1 ≡ drops) ⊎ Stays x k → y.0 ≢ x
+leaves : LeadAway invite_server_3261
 leaves p Passed (Response code) e y h (inl drop) = absurd (keeps_them h.1 drop)
 leaves p Passed (Response code) e y h (inr stays) = absurd stays
 leaves p (In (Proceeding reliable set last) again) (Response code) e y (inl success) other = λ same. let e : Passed ≡ In (Proceeding reliable set last) again = sym (ap (λ z. z.0) success.1) ∙ same in cc
@@ -133,7 +126,7 @@ invite_server_3261_is_figure =
     }
 
 -- what a phase names is what its words tell
-invite_server_3261_named : (texts : Texts) (x : CodePhase) → messages_told (invite_server_3261_told (invite_server_3261_seen texts x)) ≡ map (text_of texts) (invite_server_3261_names x)
+invite_server_3261_named : TellNames invite_server_3261_seen invite_server_3261_names invite_server_3261_told
 invite_server_3261_named texts code.Passed = refl
 invite_server_3261_named texts (code.In (code_phase.Proceeding reliable set None) again) = refl
 invite_server_3261_named texts (code.In phase again) = refl
@@ -143,12 +136,16 @@ pub invite_server_3261_is_coded : IsCoded invite_server_3261 invite_server_3261_
 invite_server_3261_is_coded =
     record {
       is_figure = invite_server_3261_is_figure;
+      apart = invite_server_3261_apart;
       by_names = invite_server_3261_by_names;
       window_same = invite_server_3261_window_same;
       closes_same = invite_server_3261_closes_same;
       named = invite_server_3261_named;
       idle_is = λ texts. refl;
-      idle_names = refl;
+      ended_is = λ texts. refl;
+      ended_decided = inl refl;
+      idle_fits = (refl, tt);
+      ended_fits = (refl, tt);
       idle_silent = refl;
       ended_silent = refl;
     }

@@ -1,8 +1,7 @@
 -- What many rows owe, when copies of some of them come behind.
-use Prim.Native.Nat.{suc, zero}
+use Prim.Native.Nat.{suc}
 use Rattle.std.proofs.Common.{◌≡◌, ◌<◌, ◌≤◌, ℕ, ◌+◌, ◌-◌, ◌*◌, Bool, true, false, List, [], ◌∷◌, ◌++◌, length, take, drop, get_or, filter, refl, sym, ap, ap₂, ◌∙◌, subst, inl, inr, arith, cond}
-use Rattle.std.specs.Prelude.{None, nat_lt, not, map}
-use Rattle.std.specs.List.{list_any}
+use Rattle.std.specs.Prelude.{None, not, map}
 use Rattle.std.proofs.lemmas.Bool.{cases_lt, le-ltb}
 use Rattle.std.proofs.lemmas.List.{length-append, length-drop, length-take, length-take-le, get_or_append_left, get_or-append-add, get_or-take, get_or-drop}
 use Rattle.std.proofs.Math.Seq.{drop-append_seam}

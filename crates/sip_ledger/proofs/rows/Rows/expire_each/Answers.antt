@@ -1,4 +1,4 @@
-use Rattle.std.proofs.Common.{length, subst, sym, ap}
+use Rattle.std.proofs.Common.{length, subst, sym}
 use Rattle.std.specs.Prelude.{None}
 use Rattle.sip_ledger.specs.Grids.{grid_of}
 use Rattle.sip_ledger.specs.inner.Memos.{IsMask, asked_of}

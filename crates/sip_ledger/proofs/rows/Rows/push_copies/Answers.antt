@@ -1,5 +1,5 @@
-use Rattle.std.proofs.Common.{◌≡◌, ◌≤◌, ◌+◌, ◌-◌, ◌*◌, ◌++◌, length, take, drop, sym, ap, ◌∙◌, arith}
-use Rattle.sip_ledger.specs.Grids.{Grid, grid_of, grid_rows}
+use Rattle.std.proofs.Common.{◌≡◌, ◌+◌, ◌-◌, ◌++◌, length, ap, ◌∙◌, arith}
+use Rattle.sip_ledger.specs.Grids.{grid_of, grid_rows}
 use Rattle.sip_ledger.specs.Ledgers.{from_to}
 use Rattle.sip_ledger.proofs.GridLemmas.{words-fit, rows-length}
 use Rattle.sip_ledger.proofs.CopyLemmas.{copied-rows, span-inside}

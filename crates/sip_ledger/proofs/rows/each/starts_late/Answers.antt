@@ -1,9 +1,7 @@
-use Rattle.std.proofs.Common.{◌<◌, ℕ, length, get_or, sym, ap, ◌∙◌, subst, arith}
-use Rattle.std.specs.Prelude.{None}
+use Rattle.std.proofs.Common.{◌<◌, length, get_or, ap, arith}
 use Rattle.std.proofs.lemmas.Bool.{leb-true}
 use Rattle.std.proofs.lemmas.List.{get_or_default}
 use Rattle.sip_ledger.specs.declared.debt.Entry.{Entry}
-use Rattle.sip_ledger.specs.inner.Memos.{IsMask, asked_of}
 use Rattle.sip_ledger.proofs.ListedLemmas.{no_entry}
 use Rattle.sip_ledger.proofs.CopyLemmas.{none-late}
 use Rattle.sip_ledger.proofs.rows.each.starts_late.Goals as goal

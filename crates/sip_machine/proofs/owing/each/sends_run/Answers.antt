@@ -1,5 +1,5 @@
-use Rattle.std.specs.Prelude.{◌++◌, ◌⊎◌, ◌≡◌, ◌<◌, All, get_or, length}
-use Rattle.std.proofs.Common.{sym, ◌∙◌, ap, subst, append_assoc, arith}
+use Rattle.std.specs.Prelude.{◌++◌, ◌⊎◌, All}
+use Rattle.std.proofs.Common.{sym, ◌∙◌, ap, subst, append_assoc}
 use Rattle.std.proofs.lemmas.Result.{on_ok_weaker}
 use Rattle.sip_ledger.specs.Ledgers.{from_to}
 use Rattle.sip_machine.specs.MachineEvent.{event_in}

@@ -9,14 +9,14 @@ use Rattle.sip_machine.proofs.AckLemmas.{Says-fault, AckOf-by_to, AckOf-none}
 use Rattle.sip_machine.proofs.HolderLemmas.{FindsFirst-same}
 use Rattle.sip_machine.proofs.invite_client.acks.first_acked.Goals as goal
 
-pub returns-in-None-clause-finds : goal.returns-in-None-clause-finds
-returns-in-None-clause-finds c =
-    let fault = rw (c.in-None.is, c.number.ensures) at c.in_ok-ack.ensures in
+pub returns-in_default-clause-finds : goal.returns-in_default-clause-finds
+returns-in_default-clause-finds c =
+    let fault = rw (c.in_default.is, c.number.ensures) at c.in_ok-ack.ensures in
     λ k d low pays. Says-fault (text_of c.args.book.now c.args.event.now.number) fault.0 fault.1 pays.0.0 pays.0.3
 
-pub returns-in-None-2-clause-finds : goal.returns-in-None-2-clause-finds
-returns-in-None-2-clause-finds c =
-    let fault = rw c.in-None-2.is at c.in_ok-invite.ensures in
+pub returns-in_default-2-clause-finds : goal.returns-in_default-2-clause-finds
+returns-in_default-2-clause-finds c =
+    let fault = rw c.in_default-2.is at c.in_ok-invite.ensures in
     λ k d low pays. Says-fault (text_of c.args.book.now c.args.request) fault.0 fault.1 pays.0.1 pays.0.4
 
 pub returns-then-not-is_ack_for-clause-finds : goal.returns-then-not-is_ack_for-clause-finds

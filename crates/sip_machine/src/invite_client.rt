@@ -291,29 +291,21 @@ impl Phases for InviteClient {
                 reliable,
                 request,
                 cancel,
-            } => Told::new(
-                alloc,
-                "proceeding",
-                &[
-                    Flag("reliable", reliable),
-                    Message("request", Some(request)),
-                    Number("cancel", cancel),
-                ],
-            ),
+            } => {
+                let invite = Message("request", Some(request));
+                let fields = [Flag("reliable", reliable), invite, Number("cancel", cancel)];
+                Told::new(alloc, "proceeding", &fields)
+            }
             Accepted { set } => Told::new(alloc, "accepted", &[Number("set", Some(set))]),
             Completed {
                 reliable,
                 request,
                 set,
-            } => Told::new(
-                alloc,
-                "completed",
-                &[
-                    Flag("reliable", reliable),
-                    Message("request", Some(request)),
-                    Number("set", Some(set)),
-                ],
-            ),
+            } => {
+                let invite = Message("request", Some(request));
+                let fields = [Flag("reliable", reliable), invite, Number("set", Some(set))];
+                Told::new(alloc, "completed", &fields)
+            }
             Ended => Told::new(alloc, "ended", &[]),
         }
     }

@@ -10,7 +10,7 @@ use Rattle.sip_machine.specs.contracts.invite_client.InviteClientPhasePartialEq.
 use Rattle.sip_machine.specs.Times.{Times}
 use Rattle.sip_machine.specs.Limits.{open_at, close_at, window_at}
 use Rattle.sip_machine.specs.Figure.{IsFigure, closes_of}
-use Rattle.sip_machine.specs.InviteClient.{Idle, Ended, Calling, Proceeding, Accepted, Completed, Receives, Sends, invite_client, invite_client_seen, invite_client_names, invite_client_coded, invite_client_told}
+use Rattle.sip_machine.specs.InviteClient.{Idle, Calling, Proceeding, Completed, Receives, Sends, invite_client, invite_client_seen, invite_client_names, invite_client_coded, invite_client_told}
 use Rattle.sip_machine.specs.inner.Coded.{IsCoded, AreApart, StandByNames, TellNames, SameWindow, SameCloses, LeadOn, LeadAway}
 use Rattle.sip_machine.specs.inner.FigureLaws.{keeps_them}
 use Rattle.sip_machine.specs.inner.MessageLaws.{option_exact, message_apart}

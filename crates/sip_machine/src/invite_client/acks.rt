@@ -1,6 +1,6 @@
 //! Which response an ACK is for: the INVITE and the ACK of the `Book` are read anew, and tell all but the response,
 //! which is told by its To alone.
-ghost use Rattle.std.specs.Prelude.{◌≡◌, ◌≢◌, ◌↔◌, ◌<◌, ◌≤◌, [], IfOk, IsTrue, All, length};
+ghost use Rattle.std.specs.Prelude.{◌≡◌, ◌≢◌, ◌<◌, ◌≤◌, [], IfOk, All, length};
 ghost use Rattle.sip_ledger.specs.Runs.{debts_in};
 ghost use Rattle.sip_machine.specs.Owes.{owed_in, owes_names};
 ghost use Rattle.sip_machine.specs.Texts.{Keeps, text_of};
@@ -13,9 +13,9 @@ use crate::dues::Dues;
 use crate::event::Event;
 use crate::hashed::Hashed;
 use crate::paying::payable;
-use crate::tos::Holder;
+use crate::tos::Holder::{self, Nobody, One, Unknown};
 use sip_key::{is_ack_for, solid_of};
-use sip_ledger::{Debt, Run};
+use sip_ledger::Run;
 use std::alloc::{AllocError, Global};
 
 /// The message of the first debt of the row that is a response to the INVITE that the event's message is the ACK for
@@ -38,13 +38,11 @@ pub(crate) fn first_acked(
     if dues.owes_nothing(row) {
         return Ok(None);
     }
-    let ack = match book.message(alloc, event.number())? {
-        Some(ack) => ack,
-        None => return Ok(None),
+    let Some(ack) = book.message(alloc, event.number())? else {
+        return Ok(None);
     };
-    let invite = match book.message(alloc, request)? {
-        Some(invite) => invite,
-        None => return Ok(None),
+    let Some(invite) = book.message(alloc, request)? else {
+        return Ok(None);
     };
     if !is_ack_for(&ack, &invite) {
         return Ok(None);
@@ -72,9 +70,9 @@ fn first_with_to(
 {
     let (low, high) = dues.span();
     match holder(alloc, book, to, low, high)? {
-        Holder::One(number) => Ok(payable(number, moment, dues, row)),
-        Holder::Nobody => Ok(None),
-        Holder::Unknown => {
+        One(number) => Ok(payable(number, moment, dues, row)),
+        Nobody => Ok(None),
+        Unknown => {
             let runs = dues.runs(alloc, row)?;
             first_of_runs(alloc, book, to, &runs, moment)
         }
@@ -97,27 +95,16 @@ fn holder(
     ensures { IfOk result (HoldsBetween book.now to.now low high) }
 {
     if low == high {
-        return only_holder(alloc, book, to, low);
+        let has = book.has_to(alloc, low, to, &mut 0)?;
+        return Ok(if has { One(low) } else { Nobody });
     }
     if high.saturating_sub(low) < FEW {
-        return Ok(Holder::Unknown);
+        return Ok(Unknown);
     }
     Ok(book.holder(to, low, high))
 }
 
-/// The message, if it has this To.
-fn only_holder(alloc: Global, book: &Book, to: &Hashed, number: u32) -> Result<Holder, AllocError>
-    requires { Keeps book.now number }
-    ensures { IfOk result (HoldsBetween book.now to.now number number) }
-{
-    if book.has_to(alloc, number, to, &mut 0)? {
-        Ok(Holder::One(number))
-    } else {
-        Ok(Holder::Nobody)
-    }
-}
-
-/// The same for the debts of these runs, by a look at each.
+/// The same for the debts of these runs, by a look at each in their order, in which their messages mostly came.
 fn first_of_runs(
     alloc: Global,
     book: &Book,
@@ -131,28 +118,10 @@ fn first_of_runs(
 {
     let mut near = 0;
     for run in runs {
-        if pays(alloc, book, to, &mut near, run.debt, moment)? {
-            return Ok(Some(run.debt.message));
+        let message = run.debt.message;
+        if moment <= run.debt.deadline && book.has_to(alloc, message, to, &mut near)? {
+            return Ok(Some(message));
         }
     }
     Ok(None)
-}
-
-/// Whether the debt's message has this To, from which the blanks were taken, and its deadline has not passed. The
-/// debts are asked in their order, in which their messages mostly came.
-fn pays(
-    alloc: Global,
-    book: &Book,
-    to: &Hashed,
-    near: &mut usize,
-    debt: Debt,
-    moment: u64,
-) -> Result<bool, AllocError>
-    requires { Keeps book.now debt.message }
-    ensures { IfOk result (λ is. IsTrue is ↔ HasTo book.now to.now moment debt) }
-{
-    if debt.deadline < moment {
-        return Ok(false);
-    }
-    book.has_to(alloc, debt.message, to, near)
 }

@@ -1,5 +1,5 @@
 use Rattle.std.specs.Prelude.{true}
-use Rattle.std.proofs.Common.{inl, inr, arith}
+use Rattle.std.proofs.Common.{inr, arith}
 use Rattle.sip_machine.specs.declared.event.Kind.TheVariants.{Response}
 use Rattle.sip_machine.specs.declared.invite_client.InviteClientPhase.TheVariants as code
 use Rattle.sip_machine.specs.Texts.{text_of}
@@ -17,24 +17,22 @@ returns-then-is_unsuccessful c =
     let n = c.args.event.now in
     let row = Receives c.args.self.now in
     let k = Response c.in-Response.code in
+    let gains = Gains-one invite_client_names InviteClientInRange invite_client_seen texts in
     let unsuccessful = c.is_unsuccessful.ensures.0 c.if-is_unsuccessful.true in
     elim c.match-phase.branch [
       | in-Calling w ↦
           let s = w.in-Calling in
           rw (w.phase-is, s.is, ← c.in-Response.ensures, c.moment-set.ensures, c.number.ensures)
-          (Gains-one invite_client_names InviteClientInRange invite_client_seen texts (row (Calling (waiting_seen texts s.waiting)) k (event_in texts n))
-          (code.Completed s.waiting.reliable s.waiting.request n.moment) true n.number (λ y. (λ h. grind (arith, unsuccessful), λ e. inr (inr (unsuccessful, e))))
-          (rw s.is at c.requires.known) c.requires.fits.keeps c.requires.fits.limit)
+          (gains (row (Calling (waiting_seen texts s.waiting)) k (event_in texts n)) (code.Completed s.waiting.reliable s.waiting.request n.moment) true n.number
+          (λ y. (λ h. grind (arith, unsuccessful), λ e. inr (inr (unsuccessful, e)))) (rw s.is at c.requires.known) c.requires.fits.keeps c.requires.fits.limit)
       | in-Proceeding w ↦
           let s = w.in-Proceeding in
           rw (w.phase-is, s.is, ← c.in-Response.ensures, c.moment-set.ensures, c.number.ensures)
-          (Gains-one invite_client_names InviteClientInRange invite_client_seen texts (row (Proceeding s.reliable (text_of texts s.request) s.cancel) k (event_in texts n))
-          (code.Completed s.reliable s.request n.moment) true n.number (λ y. (λ h. grind (arith, unsuccessful), λ e. inr (unsuccessful, e)))
-          (rw s.is at c.requires.known) c.requires.fits.keeps c.requires.fits.limit)
+          (gains (row (Proceeding s.reliable (text_of texts s.request) s.cancel) k (event_in texts n)) (code.Completed s.reliable s.request n.moment) true n.number
+          (λ y. (λ h. grind (arith, unsuccessful), λ e. inr (unsuccessful, e))) (rw s.is at c.requires.known) c.requires.fits.keeps c.requires.fits.limit)
       | in-Completed w ↦
           let s = w.in-Completed in
           rw (w.phase-is, s.is, ← c.in-Response.ensures, c.number.ensures)
-          (Gains-one invite_client_names InviteClientInRange invite_client_seen texts (row (Completed s.reliable (text_of texts s.request) s.set) k (event_in texts n))
-          (code.Completed s.reliable s.request s.set) true n.number (λ y. (λ h. h.1, λ e. (unsuccessful, e)))
-          (rw s.is at c.requires.known) c.requires.fits.keeps (rw s.is at c.requires.in_range))
+          (gains (row (Completed s.reliable (text_of texts s.request) s.set) k (event_in texts n)) (code.Completed s.reliable s.request s.set) true n.number
+          (λ y. (λ h. h.1, λ e. (unsuccessful, e))) (rw s.is at c.requires.known) c.requires.fits.keeps (rw s.is at c.requires.in_range))
     ]

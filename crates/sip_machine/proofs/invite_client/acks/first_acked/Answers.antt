@@ -1,6 +1,5 @@
 use Rattle.std.proofs.Common.{◌∙◌, ap, get_or}
 use Rattle.std.proofs.lemmas.Result.{IfOk-weaker}
-use Rattle.sip_message.specs.Reads.{Reads}
 use Rattle.sip_key.specs.Solid.{solid}
 use Rattle.sip_machine.specs.Owes.{owed_in}
 use Rattle.sip_machine.specs.Texts.{text_of}
@@ -9,25 +8,20 @@ use Rattle.sip_machine.proofs.AckLemmas.{Says-fault, AckOf-by_to, AckOf-none}
 use Rattle.sip_machine.proofs.HolderLemmas.{FindsFirst-same}
 use Rattle.sip_machine.proofs.invite_client.acks.first_acked.Goals as goal
 
-pub returns-in-None-clause-finds : goal.returns-in-None-clause-finds
-returns-in-None-clause-finds c =
-    let fault = rw (c.in-None.is, c.number.ensures) at c.in_ok-ack.ensures in
+pub returns-in_default-clause-finds : goal.returns-in_default-clause-finds
+returns-in_default-clause-finds c =
+    let fault = rw (c.in_default.is, c.number.ensures) at c.in_ok-ack.ensures in
     λ k d low pays. Says-fault (text_of c.args.book.now c.args.event.now.number) fault.0 fault.1 pays.0.0 pays.0.3
 
-pub returns-in-None-2-clause-finds : goal.returns-in-None-2-clause-finds
-returns-in-None-2-clause-finds c =
-    let fault = rw c.in-None-2.is at c.in_ok-invite.ensures in
+pub returns-in_default-2-clause-finds : goal.returns-in_default-2-clause-finds
+returns-in_default-2-clause-finds c =
+    let fault = rw c.in_default-2.is at c.in_ok-invite.ensures in
     λ k d low pays. Says-fault (text_of c.args.book.now c.args.request) fault.0 fault.1 pays.0.1 pays.0.4
 
 pub returns-then-not-is_ack_for-clause-finds : goal.returns-then-not-is_ack_for-clause-finds
 returns-then-not-is_ack_for-clause-finds c =
-    let texts = c.args.book.now in
-    let ack = text_of texts c.args.event.now.number in
-    let invite = text_of texts c.args.request in
-    let reads_ack : Reads ack c.in-Some.ack = rw (c.in-Some.is, c.number.ensures) at c.in_ok-ack.ensures in
-    let reads_invite : Reads invite c.in-Some-2.invite = rw c.in-Some-2.is at c.in_ok-invite.ensures in
-    λ k d low pays. AckOf-none ack invite (text_of texts (get_or (owed_in c.args.dues.now c.args.row) k d).message) c.in-Some.ack c.in-Some-2.invite c.is_ack_for.result
-    reads_ack reads_invite c.is_ack_for.ensures c.if-not-is_ack_for.true pays.0
+    λ k d low pays. AckOf-none _ _ _ c.in-Some.ack c.in-Some-2.invite c.is_ack_for.result
+    (rw (c.in-Some.is, c.number.ensures) at c.in_ok-ack.ensures) (rw c.in-Some-2.is at c.in_ok-invite.ensures) c.is_ack_for.ensures c.if-not-is_ack_for.true pays.0
 
 pub returns-clause-finds : goal.returns-clause-finds
 returns-clause-finds c =
@@ -35,12 +29,11 @@ returns-clause-finds c =
     let t = c.args.event.now.moment in
     let ack = text_of texts c.args.event.now.number in
     let invite = text_of texts c.args.request in
-    let reads_ack : Reads ack c.in-Some.ack = rw (c.in-Some.is, c.number.ensures) at c.in_ok-ack.ensures in
-    let reads_invite : Reads invite c.in-Some-2.invite = rw c.in-Some-2.is at c.in_ok-invite.ensures in
     let to = c.of-to.ensures ∙ c.in_ok-to.ensures ∙ ap (λ a. solid a.0) c.to.ensures in
     IfOk-weaker c.first_with_to.result _ _ (λ index finds.
     FindsFirst-same (HasTo texts c.of-to.result t) (PaysDebt texts ack invite t) t (owed_in c.args.dues.now c.args.row) index (λ k d low.
     let response = text_of texts (get_or (owed_in c.args.dues.now c.args.row) k d).message in
-    let by_to = AckOf-by_to ack invite response c.in-Some.ack c.in-Some-2.invite c.is_ack_for.result reads_ack reads_invite c.is_ack_for.ensures c.if-not-is_ack_for.false c.of-to.result to in
+    let by_to = AckOf-by_to ack invite response c.in-Some.ack c.in-Some-2.invite c.is_ack_for.result
+    (rw (c.in-Some.is, c.number.ensures) at c.in_ok-ack.ensures) (rw c.in-Some-2.is at c.in_ok-invite.ensures) c.is_ack_for.ensures c.if-not-is_ack_for.false c.of-to.result to in
     (λ has. (by_to.0 has.0, has.1), λ pays. (by_to.1 pays.0, pays.1))) finds)
     (rw c.moment.ensures at c.first_with_to.ensures.finds)

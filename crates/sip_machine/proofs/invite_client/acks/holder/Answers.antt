@@ -1,8 +1,10 @@
-use Rattle.std.specs.Prelude.{IfOk}
-use Rattle.std.proofs.Common.{subst}
-use Rattle.sip_machine.specs.inner.Tos.{HoldsBetween}
+use Rattle.std.specs.Prelude.{◌≡◌, ℕ}
+use Rattle.std.proofs.Common.{true≢false, sym, ◌∙◌, subst, arith}
+use Rattle.sip_machine.specs.Texts.{text_of}
+use Rattle.sip_machine.specs.inner.Tos.{IsToOf}
 use Rattle.sip_machine.proofs.invite_client.acks.holder.Goals as goal
 
-pub returns-then-low-high : goal.returns-then-low-high
-returns-then-low-high c =
-    subst (λ high. IfOk c.only_holder.result (HoldsBetween c.args.book.now c.args.to.now c.args.low high)) c.if-low-high.true c.only_holder.ensures
+pub returns-else-has : goal.returns-else-has
+returns-else-has c = λ number kept low high its.
+    let same : number ≡ c.args.low = omega (arith, low, high, c.if-low-high.true) in
+    true≢false (sym (c.in_ok-has.ensures.1 (subst (λ (n : ℕ). IsToOf (text_of c.args.book.now n) c.args.to.now) same its)) ∙ c.if-has.false)

@@ -358,17 +358,21 @@ def name_of(kind):
     return kind.__name__.replace("_", " ")
 
 
-def write_log(path, kind, entries):
+def write_entries(path, entries, header="sip-trace 1\nt1 500 t2 4000 t4 5000 tolerance 50\n"):
     count = 0
-    with path.open("w", newline="") as file:
-        if kind in RESTARTS:
-            file.write("sip-trace 2\nt1 500 t2 4000 t4 5000 early 50 late 50\n")
-        else:
-            file.write(f"sip-trace 1\nt1 500 t2 4000 t4 5000 tolerance {10000 if kind in LONG else 50}\n")
-        for letter, moment, text in kind(entries):
+    with path.open("w", newline="", encoding="latin-1") as file:
+        file.write(header)
+        for letter, moment, text in entries:
             file.write(f"{letter} {moment} {len(text)}\n{text}\n" if text else f"{letter} {moment}\n")
             count += 1
     return count
+
+
+def write_log(path, kind, entries):
+    header = "sip-trace 2\nt1 500 t2 4000 t4 5000 early 50 late 50\n"
+    if kind not in RESTARTS:
+        header = f"sip-trace 1\nt1 500 t2 4000 t4 5000 tolerance {10000 if kind in LONG else 50}\n"
+    return write_entries(path, kind(entries), header)
 
 
 def check_legal(kind, entries, text):

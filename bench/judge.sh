@@ -1,7 +1,9 @@
 #!/bin/sh
 # Makes logs of several kinds, and prints for each what `siptrace check` needs: counted by valgrind, where it is installed, with the limits that
 # are to be reached; and timed, beside what cat needs for the same file. With numbers, logs of about so many entries are timed; else of 10,000
-# and of 100,000. With the word growth some kinds are timed alone, of 10,000, 100,000 and 1,000,000 entries side by side.
+# and of 100,000. With the word growth some kinds are timed alone, of 10,000, 100,000 and 1,000,000 entries side by side. With the word shapes
+# hostile messages and wide transactions are counted instead: what a byte takes in a message of 4 KiB and in one of 64 KiB, which is about the
+# same where reading is linear, and what an entry takes by how many states there are and how much is owed.
 # SIPTRACE names another program than the one of ./siptrace. To measure on one processor, call it by taskset.
 set -e
 unset CDPATH
@@ -11,4 +13,5 @@ if [ -z "$SIPTRACE" ]; then
   ./siptrace <crates/siptrace/stdin >&2
   SIPTRACE=$(bash -c 'source ./siptrace && find_sources && find_program && printf %s "$program"')
 fi
+if [ "$1" = shapes ]; then exec python3 bench/shapes.py "$SIPTRACE"; fi
 exec python3 bench/judge.py "$SIPTRACE" "$@"

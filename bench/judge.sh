@@ -13,5 +13,5 @@ if [ -z "$SIPTRACE" ]; then
   ./siptrace <crates/siptrace/stdin >&2
   SIPTRACE=$(bash -c 'source ./siptrace && find_sources && find_program && printf %s "$program"')
 fi
-if [ "$1" = shapes ]; then exec python3 bench/shapes.py "$SIPTRACE"; fi
+if [ "$1" = shapes ]; then exec python3 -B bench/shapes.py "$SIPTRACE"; fi
 exec python3 bench/judge.py "$SIPTRACE" "$@"

@@ -1,11 +1,8 @@
 //! The INVITE client, with moments worked out by hand for T1 500 and a tolerance of 50.
-ghost use Rattle.std.specs.Prelude.{All, IfOk};
-ghost use Rattle.sip_machine.specs.Owing.{OwingInRange};
-ghost use Rattle.sip_machine.specs.InviteClient.{InviteClientInRange};
-
 use crate::messages::{Numbered, Start, book_of};
-use crate::runs::{Entry, State, run, states_of};
-use sip_machine::{Action, Debt, InviteClient, InviteClientPhase, Machine, Params, Pool, Run};
+use crate::rows::{self, EndsRow, MUST, all_end};
+use crate::runs::Entry;
+use sip_machine::{Action, Book, InviteClient, InviteClientPhase, Params, Waiting};
 use std::alloc::Global;
 use std::process::Abort;
 use std::test::Fail;
@@ -34,56 +31,6 @@ const CANCEL: u32 = 10;
 
 const OPTIONS: u32 = 11;
 
-/// A state that is wanted, with the only debt that it owes, if there is one.
-#[derive(Clone, Copy)]
-enum Want {
-    /// No state at all.
-    Nothing,
-    Idle,
-    Calling(u64, u64),
-    Proceeding(Option<u64>),
-    Accepted(u64),
-    Completed(u64, Option<Debt>),
-    Ended,
-}
-
-fn is_owed(runs: &[Run], want: Option<Debt>) -> bool {
-    match runs {
-        [] => want.is_none(),
-        [only] => only.count == 1 && want == Some(only.debt),
-        _ => false,
-    }
-}
-
-fn is_wanted(state: &State<InviteClientPhase>, want: Want) -> bool {
-    match (&state.phase, want) {
-        (InviteClientPhase::Idle, Want::Idle) | (InviteClientPhase::Ended, Want::Ended) => true,
-        (InviteClientPhase::Calling(waiting), Want::Calling(set, interval)) => {
-            waiting.request == INVITE && waiting.set == set && waiting.interval == interval
-        }
-        (
-            InviteClientPhase::Proceeding {
-                request,
-                cancel,
-                ..
-            },
-            Want::Proceeding(first),
-        ) => *request == INVITE && *cancel == first,
-        (InviteClientPhase::Accepted { set }, Want::Accepted(moment)) => *set == moment,
-        (InviteClientPhase::Completed { request, set, .. }, Want::Completed(moment, debt)) =>
-            *request == INVITE && *set == moment && is_owed(&state.owes, debt),
-        _ => false,
-    }
-}
-
-fn are_wanted(states: &[State<InviteClientPhase>], want: Want) -> bool {
-    match (states, want) {
-        ([], Want::Nothing) => true,
-        ([only], want) => is_wanted(only, want),
-        _ => false,
-    }
-}
-
 fn client(t1: u64) -> Result<InviteClient, Fail> {
     let params = Params::new(t1, 4_000, 5_000, 50).ok_or("refused")?;
     Ok(InviteClient::new(params))
@@ -104,35 +51,86 @@ const MESSAGES: [Numbered; 11] = [
     (OPTIONS, Start::Request("OPTIONS"), None),
 ];
 
-/// The states after the entries.
-fn states_after(
-    alloc: Global,
-    client: &InviteClient,
-    transport: &str,
-    entries: &[Entry],
-) -> Result<Pool<InviteClientPhase>, Fail>
-    ensures { IfOk result (All (OwingInRange InviteClientInRange)) }
-{
-    let book = book_of(alloc, &MESSAGES, "INVITE", transport)?;
-    run(alloc, client, &book, entries)
+fn book(alloc: Global, transport: &str) -> Result<Book, Fail> {
+    book_of(alloc, &MESSAGES, "INVITE", transport)
 }
 
-/// Entries, and where they lead.
-type Row = (&'static [Entry], Want);
+type Row = rows::Row<InviteClientPhase>;
 
-/// Where the entries lead.
-fn leads(alloc: Global, transport: &str, entries: &[Entry], want: Want) -> Result<bool, Fail> {
-    let pool = states_after(alloc, &client(500)?, transport, entries)?;
-    Ok(are_wanted(&states_of(alloc, &pool)?, want))
-}
-
-/// That the entries of each row lead to its state.
+/// That the entries of each row lead to its states.
 fn all_lead(rt: &(impl Abort + AllocGlobal), transport: &str, rows: &[Row]) -> Result<(), Fail> {
-    for &(entries, want) in rows {
-        assert!(rt; leads(rt.alloc(), transport, entries, want)?, "{entries:?}");
-    }
-    Ok(())
+    rows::all_lead(rt, &client(500)?, &book(rt.alloc(), transport)?, rows)
 }
+
+const IDLE: InviteClientPhase = InviteClientPhase::Idle;
+
+const CALLING_SINCE_0: InviteClientPhase = InviteClientPhase::Calling(Waiting {
+    reliable: false,
+    request: INVITE,
+    start: 0,
+    set: 0,
+    interval: 500,
+});
+
+const CALLING_SINCE_450: InviteClientPhase = InviteClientPhase::Calling(Waiting {
+    reliable: false,
+    request: INVITE,
+    start: 0,
+    set: 450,
+    interval: 1_000,
+});
+
+const CALLING_SINCE_550: InviteClientPhase = InviteClientPhase::Calling(Waiting {
+    reliable: false,
+    request: INVITE,
+    start: 0,
+    set: 550,
+    interval: 1_000,
+});
+
+const CALLING_SINCE_31_500: InviteClientPhase = InviteClientPhase::Calling(Waiting {
+    reliable: false,
+    request: INVITE,
+    start: 0,
+    set: 31_500,
+    interval: 32_000,
+});
+
+const WAITS_ON: InviteClientPhase = InviteClientPhase::Proceeding {
+    reliable: false,
+    request: INVITE,
+    cancel: None,
+};
+
+const CANCELLED_AT_150: InviteClientPhase = InviteClientPhase::Proceeding {
+    reliable: false,
+    request: INVITE,
+    cancel: Some(150),
+};
+
+const ACCEPTED_AT_100: InviteClientPhase = InviteClientPhase::Accepted { set: 100 };
+
+const ACCEPTED_AT_300: InviteClientPhase = InviteClientPhase::Accepted { set: 300 };
+
+const COMPLETED_AT_550: InviteClientPhase = InviteClientPhase::Completed {
+    reliable: false,
+    request: INVITE,
+    set: 550,
+};
+
+const COMPLETED_AT_1_000: InviteClientPhase = InviteClientPhase::Completed {
+    reliable: false,
+    request: INVITE,
+    set: 1_000,
+};
+
+const COMPLETED_OVER_TCP: InviteClientPhase = InviteClientPhase::Completed {
+    reliable: true,
+    request: INVITE,
+    set: 0,
+};
+
+const ENDED: InviteClientPhase = InviteClientPhase::Ended;
 
 const FIRST: Entry = (0, Action::Sent, INVITE);
 
@@ -148,25 +146,25 @@ const REPEATS: [Entry; 7] = [
 ];
 
 static CALLING: &[Row] = &[
-    (&[], Want::Idle),
-    (&[FIRST], Want::Calling(0, 500)),
-    (&[FIRST, (449, Action::Sent, INVITE)], Want::Nothing),
+    (&[], &[(IDLE, &[])]),
+    (&[FIRST], &[(CALLING_SINCE_0, &[])]),
+    (&[FIRST, (449, Action::Sent, INVITE)], &[]),
     (
         &[FIRST, (450, Action::Sent, INVITE)],
-        Want::Calling(450, 1_000),
+        &[(CALLING_SINCE_450, &[])],
     ),
     (
         &[FIRST, (550, Action::Sent, INVITE)],
-        Want::Calling(550, 1_000),
+        &[(CALLING_SINCE_550, &[])],
     ),
-    (&[FIRST, (551, Action::Sent, INVITE)], Want::Nothing),
-    (&[FIRST, (500, Action::Sent, OTHER_INVITE)], Want::Nothing),
-    (&REPEATS, Want::Calling(31_500, 32_000)),
-    (&[FIRST, (10, Action::Sent, CANCEL)], Want::Nothing),
-    (&[FIRST, (10, Action::Failed, CANCEL)], Want::Nothing),
-    (&[(0, Action::Failed, INVITE)], Want::Ended),
-    (&[FIRST, (500, Action::Failed, INVITE)], Want::Ended),
-    (&[FIRST, (449, Action::Failed, INVITE)], Want::Nothing),
+    (&[FIRST, (551, Action::Sent, INVITE)], &[]),
+    (&[FIRST, (500, Action::Sent, OTHER_INVITE)], &[]),
+    (&REPEATS, &[(CALLING_SINCE_31_500, &[])]),
+    (&[FIRST, (10, Action::Sent, CANCEL)], &[]),
+    (&[FIRST, (10, Action::Failed, CANCEL)], &[]),
+    (&[(0, Action::Failed, INVITE)], &[(ENDED, &[])]),
+    (&[FIRST, (500, Action::Failed, INVITE)], &[(ENDED, &[])]),
+    (&[FIRST, (449, Action::Failed, INVITE)], &[]),
 ];
 
 #[test]
@@ -180,32 +178,32 @@ const WAITS: Entry = (100, Action::Received, TRYING);
 const CANCELLED: Entry = (150, Action::Sent, CANCEL);
 
 static PROCEEDING: &[Row] = &[
-    (&[FIRST, WAITS], Want::Proceeding(None)),
+    (&[FIRST, WAITS], &[(WAITS_ON, &[])]),
     (
         &[FIRST, WAITS, (200, Action::Received, TRYING)],
-        Want::Proceeding(None),
+        &[(WAITS_ON, &[])],
     ),
-    (&[FIRST, WAITS, (500, Action::Sent, INVITE)], Want::Nothing),
-    (&[FIRST, WAITS, CANCELLED], Want::Proceeding(Some(150))),
+    (&[FIRST, WAITS, (500, Action::Sent, INVITE)], &[]),
+    (&[FIRST, WAITS, CANCELLED], &[(CANCELLED_AT_150, &[])]),
     (
         &[FIRST, WAITS, (150, Action::Failed, CANCEL)],
-        Want::Proceeding(Some(150)),
+        &[(CANCELLED_AT_150, &[])],
     ),
     (
         &[FIRST, WAITS, CANCELLED, (200, Action::Sent, CANCEL)],
-        Want::Proceeding(Some(150)),
+        &[(CANCELLED_AT_150, &[])],
     ),
     (
         &[FIRST, (100, Action::Received, RINGING), CANCELLED],
-        Want::Proceeding(Some(150)),
+        &[(CANCELLED_AT_150, &[])],
     ),
     (
         &[FIRST, WAITS, CANCELLED, (300, Action::Received, OK)],
-        Want::Accepted(300),
+        &[(ACCEPTED_AT_300, &[])],
     ),
     (
         &[FIRST, (100, Action::Received, OK), CANCELLED],
-        Want::Accepted(100),
+        &[(ACCEPTED_AT_100, &[])],
     ),
     (
         &[
@@ -213,7 +211,7 @@ static PROCEEDING: &[Row] = &[
             (100, Action::Received, OK),
             (200, Action::Received, BUSY),
         ],
-        Want::Accepted(100),
+        &[(ACCEPTED_AT_100, &[])],
     ),
 ];
 
@@ -225,48 +223,31 @@ fn proceeding(rt: HostRuntime) -> Result<(), Fail> {
 const BUSY_NOW: Entry = (1_000, Action::Received, BUSY);
 
 /// What BUSY_NOW makes it owe.
-const OWED: Want = Want::Completed(
-    1_000,
-    Some(Debt {
-        message: BUSY,
-        deadline: 1_050,
-        must: true,
-    }),
-);
+const OWED: &[rows::Want<InviteClientPhase>] = &[(COMPLETED_AT_1_000, &[(BUSY, 1_050, MUST)])];
 
-const PAID: Want = Want::Completed(1_000, None);
+const PAID: &[rows::Want<InviteClientPhase>] = &[(COMPLETED_AT_1_000, &[])];
 
 static COMPLETED: &[Row] = &[
     (
         &[FIRST, (550, Action::Received, BUSY)],
-        Want::Completed(
-            550,
-            Some(Debt {
-                message: BUSY,
-                deadline: 600,
-                must: true,
-            }),
-        ),
+        &[(COMPLETED_AT_550, &[(BUSY, 600, MUST)])],
     ),
-    (&[FIRST, (551, Action::Received, BUSY)], Want::Nothing),
+    (&[FIRST, (551, Action::Received, BUSY)], &[]),
     (&[FIRST, WAITS, BUSY_NOW], OWED),
     (&[FIRST, WAITS, BUSY_NOW, (1_010, Action::Sent, ACK)], PAID),
     (&[FIRST, WAITS, BUSY_NOW, (1_050, Action::Sent, ACK)], PAID),
-    (
-        &[FIRST, WAITS, BUSY_NOW, (1_051, Action::Sent, ACK)],
-        Want::Nothing,
-    ),
+    (&[FIRST, WAITS, BUSY_NOW, (1_051, Action::Sent, ACK)], &[]),
     (
         &[FIRST, WAITS, BUSY_NOW, (1_010, Action::Sent, OTHER_ACK)],
-        Want::Nothing,
+        &[],
     ),
     (
         &[FIRST, WAITS, BUSY_NOW, (1_010, Action::Failed, ACK)],
-        Want::Ended,
+        &[(ENDED, &[])],
     ),
     (
         &[FIRST, WAITS, BUSY_NOW, (1_010, Action::Failed, OTHER_ACK)],
-        Want::Nothing,
+        &[],
     ),
 ];
 
@@ -302,14 +283,7 @@ static OWES_EACH_RESPONSE: &[Row] = &[
             (1_020, Action::Received, GONE),
             (1_030, Action::Sent, ACK),
         ],
-        Want::Completed(
-            1_000,
-            Some(Debt {
-                message: GONE,
-                deadline: 1_070,
-                must: true,
-            }),
-        ),
+        &[(COMPLETED_AT_1_000, &[(GONE, 1_070, MUST)])],
     ),
     (
         &[
@@ -319,14 +293,7 @@ static OWES_EACH_RESPONSE: &[Row] = &[
             (1_020, Action::Received, BUSY),
             (1_030, Action::Sent, ACK),
         ],
-        Want::Completed(
-            1_000,
-            Some(Debt {
-                message: BUSY,
-                deadline: 1_070,
-                must: true,
-            }),
-        ),
+        &[(COMPLETED_AT_1_000, &[(BUSY, 1_070, MUST)])],
     ),
 ];
 
@@ -339,16 +306,16 @@ fn owes_each_response(rt: HostRuntime) -> Result<(), Fail> {
 const NOT_SENT: Entry = (0, Action::Failed, INVITE);
 
 static IDLE_AND_ENDED: &[Row] = &[
-    (&[(0, Action::Sent, ACK)], Want::Idle),
-    (&[(0, Action::Failed, ACK)], Want::Idle),
-    (&[(0, Action::Sent, CANCEL)], Want::Idle),
-    (&[(0, Action::Failed, CANCEL)], Want::Idle),
-    (&[(0, Action::Received, BUSY)], Want::Idle),
-    (&[(0, Action::Sent, OPTIONS)], Want::Nothing),
-    (&[NOT_SENT, (10, Action::Sent, CANCEL)], Want::Ended),
-    (&[NOT_SENT, (10, Action::Received, BUSY)], Want::Ended),
-    (&[NOT_SENT, (10, Action::Sent, INVITE)], Want::Nothing),
-    (&[NOT_SENT, (10, Action::Sent, ACK)], Want::Nothing),
+    (&[(0, Action::Sent, ACK)], &[(IDLE, &[])]),
+    (&[(0, Action::Failed, ACK)], &[(IDLE, &[])]),
+    (&[(0, Action::Sent, CANCEL)], &[(IDLE, &[])]),
+    (&[(0, Action::Failed, CANCEL)], &[(IDLE, &[])]),
+    (&[(0, Action::Received, BUSY)], &[(IDLE, &[])]),
+    (&[(0, Action::Sent, OPTIONS)], &[]),
+    (&[NOT_SENT, (10, Action::Sent, CANCEL)], &[(ENDED, &[])]),
+    (&[NOT_SENT, (10, Action::Received, BUSY)], &[(ENDED, &[])]),
+    (&[NOT_SENT, (10, Action::Sent, INVITE)], &[]),
+    (&[NOT_SENT, (10, Action::Sent, ACK)], &[]),
 ];
 
 #[test]
@@ -366,19 +333,9 @@ const BUSY_AGAIN: Entry = (40, Action::Received, BUSY);
 const ACK_OF_ONE: Entry = (50, Action::Sent, ACK);
 
 static OVER_A_RELIABLE_TRANSPORT: &[Row] = &[
-    (&[FIRST, (500, Action::Sent, INVITE)], Want::Nothing),
-    (&[FIRST, (500, Action::Failed, INVITE)], Want::Nothing),
-    (
-        &OWING,
-        Want::Completed(
-            0,
-            Some(Debt {
-                message: BUSY,
-                deadline: 90,
-                must: true,
-            }),
-        ),
-    ),
+    (&[FIRST, (500, Action::Sent, INVITE)], &[]),
+    (&[FIRST, (500, Action::Failed, INVITE)], &[]),
+    (&OWING, &[(COMPLETED_OVER_TCP, &[(BUSY, 90, MUST)])]),
     (
         &[
             FIRST,
@@ -387,7 +344,7 @@ static OVER_A_RELIABLE_TRANSPORT: &[Row] = &[
             ACK_OF_ONE,
             (50, Action::Sent, ACK),
         ],
-        Want::Completed(0, None),
+        &[(COMPLETED_OVER_TCP, &[])],
     ),
     (
         &[
@@ -397,7 +354,7 @@ static OVER_A_RELIABLE_TRANSPORT: &[Row] = &[
             ACK_OF_ONE,
             (51, Action::Sent, ACK),
         ],
-        Want::Nothing,
+        &[],
     ),
 ];
 
@@ -406,68 +363,35 @@ fn over_a_reliable_transport(rt: HostRuntime) -> Result<(), Fail> {
     all_lead(&rt, "TCP", OVER_A_RELIABLE_TRANSPORT)
 }
 
-/// When the state may end, and its last moment.
-type Ends = (Option<(u64, Option<u64>)>, Option<u64>);
-
-/// The ends of the only state after the entries.
-fn ends_after(alloc: Global, t1: u64, transport: &str, entries: &[Entry]) -> Result<Ends, Fail> {
-    let client = client(t1)?;
-    let pool = states_after(alloc, &client, transport, entries)?;
-    if pool.len() != 1 {
-        return Err("not one state".into());
-    }
-    Ok((client.end_window(&pool, 0), client.until(&pool, 0)))
-}
-
-/// A base time T1, a transport, entries, and the ends of the only state after them.
-type EndsRow = (u64, &'static str, &'static [Entry], Ends);
-
-fn all_end(rt: &(impl Abort + AllocGlobal), rows: &[EndsRow]) -> Result<(), Fail> {
-    for &(t1, transport, entries, want) in rows {
-        assert!(rt;
-            ends_after(rt.alloc(), t1, transport, entries)? == want,
-            "{t1} {transport} {entries:?}"
-        );
-    }
-    Ok(())
-}
-
 const TIMER_B: Option<(u64, Option<u64>)> = Some((31_950, Some(32_050)));
 
 static ENDS: &[EndsRow] = &[
-    (500, "UDP", &[], (None, None)),
-    (500, "UDP", &[FIRST], (TIMER_B, Some(550))),
-    (500, "UDP", &REPEATS, (TIMER_B, Some(32_050))),
-    (500, "UDP", &[FIRST, WAITS], (None, None)),
+    (&[], None, None),
+    (&[FIRST], TIMER_B, Some(550)),
+    (&REPEATS, TIMER_B, Some(32_050)),
+    (&[FIRST, WAITS], None, None),
+    (&[FIRST, WAITS, CANCELLED], Some((32_100, None)), None),
+    (&[FIRST, WAITS, BUSY_NOW], None, Some(1_050)),
     (
-        500,
-        "UDP",
-        &[FIRST, WAITS, CANCELLED],
-        (Some((32_100, None)), None),
-    ),
-    (500, "UDP", &[FIRST, WAITS, BUSY_NOW], (None, Some(1_050))),
-    (
-        500,
-        "UDP",
         &[FIRST, WAITS, BUSY_NOW, (1_010, Action::Sent, ACK)],
-        (Some((32_950, None)), None),
+        Some((32_950, None)),
+        None,
     ),
-    (500, "UDP", &[NOT_SENT], (None, None)),
+    (&[NOT_SENT], None, None),
+    (&[FIRST, OK_NOW], Some((32_050, Some(32_150))), Some(32_150)),
 ];
 
 #[test]
 fn ends(rt: HostRuntime) -> Result<(), Fail> {
-    all_end(&rt, ENDS)
+    all_end(&rt, &client(500)?, &book(rt.alloc(), "UDP")?, ENDS)
 }
 
 const OK_NOW: Entry = (100, Action::Received, OK);
 
-static ENDS_BY_TRANSPORT_AND_TIMES: &[EndsRow] = &[
-    (500, "TCP", &[FIRST], (TIMER_B, Some(32_050))),
-    (500, "TCP", &OWING, (None, Some(50))),
+static ENDS_OVER_TCP: &[EndsRow] = &[
+    (&[FIRST], TIMER_B, Some(32_050)),
+    (&OWING, None, Some(50)),
     (
-        500,
-        "TCP",
         &[
             FIRST,
             BUSY_AT_ONCE,
@@ -475,29 +399,29 @@ static ENDS_BY_TRANSPORT_AND_TIMES: &[EndsRow] = &[
             ACK_OF_ONE,
             (50, Action::Sent, ACK),
         ],
-        (Some((0, Some(50))), Some(50)),
+        Some((0, Some(50))),
+        Some(50),
     ),
-    (
-        500,
-        "UDP",
-        &[FIRST, OK_NOW],
-        (Some((32_050, Some(32_150))), Some(32_150)),
-    ),
-    (
-        500,
-        "TCP",
-        &[FIRST, OK_NOW],
-        (Some((32_050, Some(32_150))), Some(32_150)),
-    ),
-    (
-        1_000,
-        "UDP",
-        &[FIRST, OK_NOW],
-        (Some((64_050, Some(64_150))), Some(64_150)),
-    ),
+    (&[FIRST, OK_NOW], Some((32_050, Some(32_150))), Some(32_150)),
 ];
 
 #[test]
-fn ends_by_transport_and_times(rt: HostRuntime) -> Result<(), Fail> {
-    all_end(&rt, ENDS_BY_TRANSPORT_AND_TIMES)
+fn ends_over_tcp(rt: HostRuntime) -> Result<(), Fail> {
+    all_end(&rt, &client(500)?, &book(rt.alloc(), "TCP")?, ENDS_OVER_TCP)
+}
+
+static ENDS_OF_SLOW_TIMERS: &[EndsRow] = &[(
+    &[FIRST, OK_NOW],
+    Some((64_050, Some(64_150))),
+    Some(64_150),
+)];
+
+#[test]
+fn ends_of_slow_timers(rt: HostRuntime) -> Result<(), Fail> {
+    all_end(
+        &rt,
+        &client(1_000)?,
+        &book(rt.alloc(), "UDP")?,
+        ENDS_OF_SLOW_TIMERS,
+    )
 }

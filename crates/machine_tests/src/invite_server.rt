@@ -1,12 +1,8 @@
 //! The INVITE server, with moments worked out by hand for T1 500, T2 4000, T4 5000 and a tolerance of 50.
-ghost use Rattle.std.specs.Prelude.{All, IfOk};
-ghost use Rattle.sip_machine.specs.Owing.{OwingInRange};
-ghost use Rattle.sip_machine.specs.InviteServer.{InviteServerInRange};
-
 use crate::messages::{Numbered, Start, book_of};
-use crate::runs::{Entry, State, run, states_of};
-use sip_machine::{Action, InviteServer, InviteServerPhase, Machine, Params, Pool, Run};
-use std::alloc::Global;
+use crate::rows::{self, EndsRow, MAY, MUST, all_end, ends_of};
+use crate::runs::Entry;
+use sip_machine::{Action, InviteServer, InviteServerPhase, Machine, Params, Pool};
 use std::process::Abort;
 use std::test::Fail;
 
@@ -41,129 +37,129 @@ const MESSAGES: [Numbered; 9] = [
     (OTHER, Start::Request("INFO"), None),
 ];
 
-/// A debt that is wanted: its message, its deadline, and whether it must be sent.
-type Owed = (u32, u64, bool);
-
-const MUST: bool = true;
-
-const MAY: bool = false;
-
-fn are_owed(runs: &[Run], wants: &[Owed]) -> bool {
-    runs.len() == wants.len()
-        && runs.iter().zip(wants).all(|(run, want)| {
-            run.count == 1
-                && run.debt.message == want.0
-                && run.debt.deadline == want.1
-                && run.debt.must == want.2
-        })
-}
-
-/// A state that is wanted, over an unreliable transport.
-#[derive(Clone, Copy)]
-enum Want {
-    Idle,
-    Proceeding(u64, Option<u32>, &'static [Owed]),
-    Accepted(u64, &'static [Owed]),
-    /// When the final response was sent, when timer G was set last, and for how long.
-    Completed(u64, u64, u64, &'static [Owed]),
-    Confirmed(u64, &'static [Owed]),
-}
-
-fn is_wanted(state: &State<InviteServerPhase>, want: Want) -> bool {
-    match (&state.phase, want) {
-        (InviteServerPhase::Idle, Want::Idle) => true,
-        (
-            InviteServerPhase::Proceeding {
-                reliable,
-                set,
-                last,
-            },
-            Want::Proceeding(moment, number, debts),
-        ) => !*reliable && *set == moment && *last == number && are_owed(&state.owes, debts),
-        (InviteServerPhase::Accepted { set }, Want::Accepted(moment, debts)) => {
-            *set == moment && are_owed(&state.owes, debts)
-        }
-        (
-            InviteServerPhase::Completed {
-                reliable,
-                final_message,
-                set,
-                repeat,
-                interval,
-            },
-            Want::Completed(moment, again, length, debts),
-        ) => {
-            !*reliable
-                && *final_message == BUSY
-                && *set == moment
-                && *repeat == again
-                && *interval == length
-                && are_owed(&state.owes, debts)
-        }
-        (InviteServerPhase::Confirmed { reliable, set }, Want::Confirmed(moment, debts)) =>
-            !*reliable && *set == moment && are_owed(&state.owes, debts),
-        _ => false,
-    }
-}
-
-fn are_wanted(states: &[State<InviteServerPhase>], wants: &[Want]) -> bool {
-    states.len() == wants.len()
-        && states
-            .iter()
-            .zip(wants)
-            .all(|(state, want)| is_wanted(state, *want))
-}
-
 fn server() -> Result<InviteServer, Fail> {
     let params = Params::new(500, 4_000, 5_000, 50).ok_or("refused")?;
     Ok(InviteServer::new(params))
 }
 
-/// The states after the entries, of all steps.
-fn states_after(alloc: Global, entries: &[Entry]) -> Result<Pool<InviteServerPhase>, Fail>
-    ensures { IfOk result (All (OwingInRange InviteServerInRange)) }
-{
-    let book = book_of(alloc, &MESSAGES, "INVITE", "UDP")?;
-    run(alloc, &server()?, &book, entries)
-}
-
-/// Where the entries lead.
-fn leads(alloc: Global, entries: &[Entry], wants: &[Want]) -> Result<bool, Fail> {
-    let pool = states_after(alloc, entries)?;
-    Ok(are_wanted(&states_of(alloc, &pool)?, wants))
-}
-
-/// Entries, and where they lead.
-type Row = (&'static [Entry], &'static [Want]);
+type Row = rows::Row<InviteServerPhase>;
 
 /// That the entries of each row lead to its states.
 fn all_lead(rt: &(impl Abort + AllocGlobal), rows: &[Row]) -> Result<(), Fail> {
-    for &(entries, wants) in rows {
-        assert!(rt; leads(rt.alloc(), entries, wants)?, "{entries:?}");
-    }
-    Ok(())
+    let book = book_of(rt.alloc(), &MESSAGES, "INVITE", "UDP")?;
+    rows::all_lead(rt, &server()?, &book, rows)
 }
+
+const IDLE: InviteServerPhase = InviteServerPhase::Idle;
+
+const QUIET: InviteServerPhase = InviteServerPhase::Proceeding {
+    reliable: false,
+    set: 0,
+    last: None,
+};
+
+const RANG: InviteServerPhase = InviteServerPhase::Proceeding {
+    reliable: false,
+    set: 0,
+    last: Some(RINGING),
+};
+
+const TRIED: InviteServerPhase = InviteServerPhase::Proceeding {
+    reliable: false,
+    set: 0,
+    last: Some(TRYING),
+};
+
+const PROGRESSED: InviteServerPhase = InviteServerPhase::Proceeding {
+    reliable: false,
+    set: 0,
+    last: Some(PROGRESS),
+};
+
+const ACCEPTED_AT_10: InviteServerPhase = InviteServerPhase::Accepted { set: 10 };
+
+const ACCEPTED_AT_20: InviteServerPhase = InviteServerPhase::Accepted { set: 20 };
+
+// When the final response was sent, when timer G was set last, and for how long.
+const BUSY_AT_0: InviteServerPhase = InviteServerPhase::Completed {
+    reliable: false,
+    final_message: BUSY,
+    set: 0,
+    repeat: 0,
+    interval: 500,
+};
+
+const BUSY_AGAIN_AT_490: InviteServerPhase = InviteServerPhase::Completed {
+    reliable: false,
+    final_message: BUSY,
+    set: 0,
+    repeat: 490,
+    interval: 1_000,
+};
+
+const BUSY_AGAIN_AT_3_500: InviteServerPhase = InviteServerPhase::Completed {
+    reliable: false,
+    final_message: BUSY,
+    set: 0,
+    repeat: 3_500,
+    interval: 4_000,
+};
+
+const BUSY_AGAIN_AT_7_500: InviteServerPhase = InviteServerPhase::Completed {
+    reliable: false,
+    final_message: BUSY,
+    set: 0,
+    repeat: 7_500,
+    interval: 4_000,
+};
+
+const BUSY_AT_10: InviteServerPhase = InviteServerPhase::Completed {
+    reliable: false,
+    final_message: BUSY,
+    set: 10,
+    repeat: 10,
+    interval: 500,
+};
+
+const BUSY_AGAIN_AT_460: InviteServerPhase = InviteServerPhase::Completed {
+    reliable: false,
+    final_message: BUSY,
+    set: 10,
+    repeat: 460,
+    interval: 1_000,
+};
+
+const BUSY_AGAIN_AT_560: InviteServerPhase = InviteServerPhase::Completed {
+    reliable: false,
+    final_message: BUSY,
+    set: 10,
+    repeat: 560,
+    interval: 1_000,
+};
+
+const CONFIRMED_AT_100: InviteServerPhase = InviteServerPhase::Confirmed {
+    reliable: false,
+    set: 100,
+};
+
+const CONFIRMED_AT_500: InviteServerPhase = InviteServerPhase::Confirmed {
+    reliable: false,
+    set: 500,
+};
 
 const FIRST: Entry = (0, Action::Received, INVITE);
 
 const TRYING_ONCE: Entry = (5, Action::Sent, TRYING);
 
-const QUIET: Want = Want::Proceeding(0, None, &[]);
-
-const ACCEPTED: Want = Want::Accepted(10, &[]);
-
 static BEFORE_THE_FINAL_RESPONSE: &[Row] = &[
-    (&[], &[Want::Idle]),
+    (&[], &[(IDLE, &[])]),
     (&[(0, Action::Sent, BUSY)], &[]),
-    (&[(0, Action::Received, ACK)], &[Want::Idle]),
-    (&[FIRST], &[QUIET]),
-    (&[FIRST, (10, Action::Received, INVITE)], &[QUIET]),
-    (&[FIRST, (250, Action::Received, INVITE)], &[QUIET]),
+    (&[(0, Action::Received, ACK)], &[(IDLE, &[])]),
+    (&[FIRST], &[(QUIET, &[])]),
+    (&[FIRST, (10, Action::Received, INVITE)], &[(QUIET, &[])]),
+    (&[FIRST, (250, Action::Received, INVITE)], &[(QUIET, &[])]),
     (&[FIRST, (251, Action::Received, INVITE)], &[]),
-    (
-        &[FIRST, (250, Action::Sent, RINGING)],
-        &[Want::Proceeding(0, Some(RINGING), &[])],
-    ),
+    (&[FIRST, (250, Action::Sent, RINGING)], &[(RANG, &[])]),
     (&[FIRST, (251, Action::Sent, RINGING)], &[]),
     (
         &[
@@ -171,7 +167,7 @@ static BEFORE_THE_FINAL_RESPONSE: &[Row] = &[
             (5, Action::Sent, RINGING),
             (10, Action::Received, INVITE),
         ],
-        &[Want::Proceeding(0, Some(RINGING), &[(RINGING, 60, MUST)])],
+        &[(RANG, &[(RINGING, 60, MUST)])],
     ),
     (
         &[
@@ -180,10 +176,7 @@ static BEFORE_THE_FINAL_RESPONSE: &[Row] = &[
             (10, Action::Received, INVITE),
             (50, Action::Sent, RINGING),
         ],
-        &[
-            Want::Proceeding(0, Some(RINGING), &[(RINGING, 60, MUST)]),
-            Want::Proceeding(0, Some(RINGING), &[]),
-        ],
+        &[(RANG, &[(RINGING, 60, MUST)]), (RANG, &[])],
     ),
     (
         &[
@@ -192,10 +185,7 @@ static BEFORE_THE_FINAL_RESPONSE: &[Row] = &[
             (10, Action::Received, INVITE),
             (60, Action::Failed, RINGING),
         ],
-        &[
-            Want::Proceeding(0, Some(RINGING), &[(RINGING, 60, MUST)]),
-            Want::Proceeding(0, Some(RINGING), &[]),
-        ],
+        &[(RANG, &[(RINGING, 60, MUST)]), (RANG, &[])],
     ),
     (
         &[
@@ -213,7 +203,7 @@ static BEFORE_THE_FINAL_RESPONSE: &[Row] = &[
             (10, Action::Received, INVITE),
             (20, Action::Sent, PROGRESS),
         ],
-        &[Want::Proceeding(0, Some(PROGRESS), &[(RINGING, 60, MUST)])],
+        &[(PROGRESSED, &[(RINGING, 60, MUST)])],
     ),
     (
         &[
@@ -223,10 +213,7 @@ static BEFORE_THE_FINAL_RESPONSE: &[Row] = &[
             (20, Action::Sent, PROGRESS),
             (30, Action::Sent, RINGING),
         ],
-        &[
-            Want::Proceeding(0, Some(RINGING), &[(RINGING, 60, MUST)]),
-            Want::Proceeding(0, Some(PROGRESS), &[]),
-        ],
+        &[(RANG, &[(RINGING, 60, MUST)]), (PROGRESSED, &[])],
     ),
 ];
 
@@ -238,7 +225,7 @@ fn before_the_final_response(rt: HostRuntime) -> Result<(), Fail> {
 static A_100_NEED_NOT_BE_REPEATED: &[Row] = &[
     (
         &[FIRST, TRYING_ONCE, (10, Action::Received, INVITE)],
-        &[Want::Proceeding(0, Some(TRYING), &[(TRYING, 60, MAY)])],
+        &[(TRIED, &[(TRYING, 60, MAY)])],
     ),
     (
         &[
@@ -247,7 +234,7 @@ static A_100_NEED_NOT_BE_REPEATED: &[Row] = &[
             (10, Action::Received, INVITE),
             (61, Action::Received, INVITE),
         ],
-        &[Want::Proceeding(0, Some(TRYING), &[(TRYING, 111, MAY)])],
+        &[(TRIED, &[(TRYING, 111, MAY)])],
     ),
     (
         &[
@@ -256,7 +243,7 @@ static A_100_NEED_NOT_BE_REPEATED: &[Row] = &[
             (10, Action::Received, INVITE),
             (61, Action::Received, CANCEL),
         ],
-        &[Want::Proceeding(0, Some(TRYING), &[])],
+        &[(TRIED, &[])],
     ),
     (
         &[
@@ -265,7 +252,7 @@ static A_100_NEED_NOT_BE_REPEATED: &[Row] = &[
             (10, Action::Received, INVITE),
             (61, Action::Sent, TRYING),
         ],
-        &[Want::Proceeding(0, Some(TRYING), &[])],
+        &[(TRIED, &[])],
     ),
 ];
 
@@ -275,22 +262,22 @@ fn a_100_need_not_be_repeated(rt: HostRuntime) -> Result<(), Fail> {
 }
 
 static AFTER_A_2XX: &[Row] = &[
-    (&[FIRST, (10, Action::Sent, OK)], &[ACCEPTED]),
+    (&[FIRST, (10, Action::Sent, OK)], &[(ACCEPTED_AT_10, &[])]),
     (
         &[
             FIRST,
             (10, Action::Sent, OK),
             (500, Action::Received, INVITE),
         ],
-        &[ACCEPTED],
+        &[(ACCEPTED_AT_10, &[])],
     ),
     (
         &[FIRST, (10, Action::Sent, OK), (500, Action::Received, ACK)],
-        &[ACCEPTED],
+        &[(ACCEPTED_AT_10, &[])],
     ),
     (
         &[FIRST, (10, Action::Sent, OK), (600, Action::Sent, OK)],
-        &[ACCEPTED],
+        &[(ACCEPTED_AT_10, &[])],
     ),
     (
         &[FIRST, (10, Action::Sent, OK), (600, Action::Sent, BUSY)],
@@ -302,7 +289,7 @@ static AFTER_A_2XX: &[Row] = &[
     ),
     (
         &[FIRST, (10, Action::Sent, OK), (32_060, Action::Sent, OK)],
-        &[ACCEPTED],
+        &[(ACCEPTED_AT_10, &[])],
     ),
     (
         &[FIRST, (10, Action::Sent, OK), (32_061, Action::Sent, OK)],
@@ -315,7 +302,7 @@ static AFTER_A_2XX: &[Row] = &[
             (10, Action::Received, INVITE),
             (20, Action::Sent, OK),
         ],
-        &[Want::Accepted(20, &[(RINGING, 60, MAY)])],
+        &[(ACCEPTED_AT_20, &[(RINGING, 60, MAY)])],
     ),
     (
         &[
@@ -325,7 +312,7 @@ static AFTER_A_2XX: &[Row] = &[
             (20, Action::Sent, OK),
             (60, Action::Sent, RINGING),
         ],
-        &[Want::Accepted(20, &[])],
+        &[(ACCEPTED_AT_20, &[])],
     ),
     (
         &[
@@ -345,21 +332,18 @@ fn after_a_2xx(rt: HostRuntime) -> Result<(), Fail> {
 }
 
 static TIMER_G: &[Row] = &[
-    (
-        &[FIRST, (10, Action::Sent, BUSY)],
-        &[Want::Completed(10, 10, 500, &[])],
-    ),
+    (&[FIRST, (10, Action::Sent, BUSY)], &[(BUSY_AT_10, &[])]),
     (
         &[FIRST, (10, Action::Sent, BUSY), (459, Action::Sent, BUSY)],
         &[],
     ),
     (
         &[FIRST, (10, Action::Sent, BUSY), (460, Action::Sent, BUSY)],
-        &[Want::Completed(10, 460, 1_000, &[])],
+        &[(BUSY_AGAIN_AT_460, &[])],
     ),
     (
         &[FIRST, (10, Action::Sent, BUSY), (560, Action::Sent, BUSY)],
-        &[Want::Completed(10, 560, 1_000, &[])],
+        &[(BUSY_AGAIN_AT_560, &[])],
     ),
     (
         &[FIRST, (10, Action::Sent, BUSY), (561, Action::Sent, BUSY)],
@@ -377,7 +361,7 @@ static TIMER_G: &[Row] = &[
             (1_500, Action::Sent, BUSY),
             (3_500, Action::Sent, BUSY),
         ],
-        &[Want::Completed(0, 3_500, 4_000, &[])],
+        &[(BUSY_AGAIN_AT_3_500, &[])],
     ),
     (
         &[
@@ -388,7 +372,7 @@ static TIMER_G: &[Row] = &[
             (3_500, Action::Sent, BUSY),
             (7_500, Action::Sent, BUSY),
         ],
-        &[Want::Completed(0, 7_500, 4_000, &[])],
+        &[(BUSY_AGAIN_AT_7_500, &[])],
     ),
     (
         &[
@@ -397,10 +381,7 @@ static TIMER_G: &[Row] = &[
             (480, Action::Received, INVITE),
             (490, Action::Sent, BUSY),
         ],
-        &[
-            Want::Completed(0, 490, 1_000, &[(BUSY, 530, MAY)]),
-            Want::Completed(0, 0, 500, &[]),
-        ],
+        &[(BUSY_AGAIN_AT_490, &[(BUSY, 530, MAY)]), (BUSY_AT_0, &[])],
     ),
     (
         &[
@@ -409,7 +390,7 @@ static TIMER_G: &[Row] = &[
             (100, Action::Received, INVITE),
             (120, Action::Sent, BUSY),
         ],
-        &[Want::Completed(0, 0, 500, &[])],
+        &[(BUSY_AT_0, &[])],
     ),
 ];
 
@@ -425,11 +406,11 @@ static AFTER_THE_ACK: &[Row] = &[
             (0, Action::Sent, BUSY),
             (100, Action::Received, OTHER),
         ],
-        &[Want::Completed(0, 0, 500, &[])],
+        &[(BUSY_AT_0, &[])],
     ),
     (
         &[FIRST, (0, Action::Sent, BUSY), (100, Action::Received, ACK)],
-        &[Want::Confirmed(100, &[])],
+        &[(CONFIRMED_AT_100, &[])],
     ),
     (
         &[FIRST, (0, Action::Sent, BUSY), (551, Action::Received, ACK)],
@@ -442,7 +423,7 @@ static AFTER_THE_ACK: &[Row] = &[
             (100, Action::Received, ACK),
             (5_150, Action::Received, ACK),
         ],
-        &[Want::Confirmed(100, &[])],
+        &[(CONFIRMED_AT_100, &[])],
     ),
     (
         &[
@@ -469,7 +450,7 @@ static AFTER_THE_ACK: &[Row] = &[
             (480, Action::Received, INVITE),
             (500, Action::Received, ACK),
         ],
-        &[Want::Confirmed(500, &[(BUSY, 530, MAY)])],
+        &[(CONFIRMED_AT_500, &[(BUSY, 530, MAY)])],
     ),
     (
         &[
@@ -479,7 +460,7 @@ static AFTER_THE_ACK: &[Row] = &[
             (500, Action::Received, ACK),
             (530, Action::Sent, BUSY),
         ],
-        &[Want::Confirmed(500, &[])],
+        &[(CONFIRMED_AT_500, &[])],
     ),
     (
         &[
@@ -497,22 +478,6 @@ static AFTER_THE_ACK: &[Row] = &[
 fn after_the_ack(rt: HostRuntime) -> Result<(), Fail> {
     all_lead(&rt, AFTER_THE_ACK)
 }
-
-/// When the state may end, and its last moment.
-type Ends = (Option<(u64, Option<u64>)>, Option<u64>);
-
-/// The ends of the only state.
-fn ends_of(server: &InviteServer, pool: &Pool<InviteServerPhase>) -> Result<Ends, Fail>
-    requires { All (OwingInRange InviteServerInRange) pool.now }
-{
-    if pool.len() != 1 {
-        return Err("not one state".into());
-    }
-    Ok((server.end_window(pool, 0), server.until(pool, 0)))
-}
-
-/// Entries, and the ends of the only state after them.
-type EndsRow = (&'static [Entry], Option<(u64, Option<u64>)>, Option<u64>);
 
 static ENDS: &[EndsRow] = &[
     (&[], None, None),
@@ -558,22 +523,12 @@ static ENDS: &[EndsRow] = &[
     ),
 ];
 
-/// The ends of the only state after the entries.
-fn ends_after(alloc: Global, server: &InviteServer, entries: &[Entry]) -> Result<Ends, Fail> {
-    let pool = states_after(alloc, entries)?;
-    ends_of(server, &pool)
-}
-
 #[test]
 fn ends(rt: HostRuntime) -> Result<(), Fail> {
     let server = server()?;
-    for &(entries, window, until) in ENDS {
-        assert!(rt;
-            ends_after(rt.alloc(), &server, entries)? == (window, until),
-            "{entries:?}"
-        );
-    }
-    assert!(rt; server.ended() == InviteServerPhase::Idle);
+    let book = book_of(rt.alloc(), &MESSAGES, "INVITE", "UDP")?;
+    all_end(&rt, &server, &book, ENDS)?;
+    assert!(rt; server.ended() == IDLE);
     Ok(())
 }
 

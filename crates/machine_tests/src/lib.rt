@@ -16,6 +16,8 @@ mod plain_server;
 #[cfg(test)]
 mod pool;
 #[cfg(test)]
+mod rows;
+#[cfg(test)]
 mod rules_3261;
 #[cfg(test)]
 mod runs;

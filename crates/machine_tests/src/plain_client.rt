@@ -1,9 +1,9 @@
 //! The non-INVITE client, with moments worked out by hand for T1 500, T2 4000, T4 5000 and a tolerance of 50.
-ghost use Rattle.std.specs.Prelude.{◌≡◌, false};
 ghost use Rattle.sip_machine.specs.PlainClient.{PlainClientInRange};
 
 use crate::messages::{Numbered, Start, book_of};
-use crate::runs::{Entry, run};
+use crate::rows;
+use crate::runs::Entry;
 use sip_machine::{Action, Machine, Params, PlainClient, PlainClientPhase, Pool, Waiting};
 use std::alloc::Global;
 use std::process::Abort;
@@ -23,98 +23,98 @@ const MESSAGES: [Numbered; 6] = [
     (699, Start::Response(699), Some(2)),
 ];
 
-/// The request of moment 0 that waits, with timer E set then for so long.
-fn waiting(set: u64, interval: u64) -> Waiting
-    ensures { result ≡ record { reliable = false; request = 1; start = 0; set = set; interval = interval } }
-{
-    Waiting {
-        reliable: false,
-        request: REQUEST,
-        start: 0,
-        set,
-        interval,
-    }
-}
-
 fn client() -> Result<PlainClient, Fail> {
     let params = Params::new(500, 4_000, 5_000, 50).ok_or("refused")?;
     Ok(PlainClient::new(params))
 }
 
-/// The phase after the entries, None where one of them has no step.
-fn phase_after(alloc: Global, entries: &[Entry]) -> Result<Option<PlainClientPhase>, Fail> {
-    let book = book_of(alloc, &MESSAGES, "OPTIONS", "UDP")?;
-    let pool = run(alloc, &client()?, &book, entries)?;
-    if pool.len() != 1 {
-        return Ok(None);
-    }
-    Ok(Some(pool.phase(0)))
-}
+type Row = rows::Row<PlainClientPhase>;
 
-/// A state that is wanted, of the request of moment 0 over an unreliable transport.
-#[derive(Clone, Copy)]
-enum Want {
-    /// No state at all.
-    Nothing,
-    Idle,
-    Trying(u64, u64),
-    Proceeding(u64, u64),
-    Completed(u64),
-    Ended,
-}
-
-fn wanted(want: Want) -> Option<PlainClientPhase> {
-    match want {
-        Want::Nothing => None,
-        Want::Idle => Some(PlainClientPhase::Idle),
-        Want::Trying(set, interval) => Some(PlainClientPhase::Trying(waiting(set, interval))),
-        Want::Proceeding(set, interval) => {
-            Some(PlainClientPhase::Proceeding(waiting(set, interval)))
-        }
-        Want::Completed(set) => Some(PlainClientPhase::Completed {
-            reliable: false,
-            set,
-        }),
-        Want::Ended => Some(PlainClientPhase::Ended),
-    }
-}
-
-/// Entries, and where they lead.
-type Row = (&'static [Entry], Want);
-
-/// That the entries of each row lead to its state.
+/// That the entries of each row lead to its states.
 fn all_lead(rt: &(impl Abort + AllocGlobal), rows: &[Row]) -> Result<(), Fail> {
-    for &(entries, want) in rows {
-        assert!(rt;
-            phase_after(rt.alloc(), entries)? == wanted(want),
-            "{entries:?}"
-        );
-    }
-    Ok(())
+    let book = book_of(rt.alloc(), &MESSAGES, "OPTIONS", "UDP")?;
+    rows::all_lead(rt, &client()?, &book, rows)
 }
+
+/// The request of moment 0 that waits, with timer E set then.
+const WAITING: Waiting = Waiting {
+    reliable: false,
+    request: REQUEST,
+    start: 0,
+    set: 0,
+    interval: 500,
+};
+
+const IDLE: PlainClientPhase = PlainClientPhase::Idle;
+
+const TRYING: PlainClientPhase = PlainClientPhase::Trying(WAITING);
+
+const TRYING_FROM_450: PlainClientPhase = PlainClientPhase::Trying(Waiting {
+    set: 450,
+    interval: 1_000,
+    ..WAITING
+});
+
+const TRYING_FROM_550: PlainClientPhase = PlainClientPhase::Trying(Waiting {
+    set: 550,
+    interval: 1_000,
+    ..WAITING
+});
+
+const TRYING_FROM_3_500: PlainClientPhase = PlainClientPhase::Trying(Waiting {
+    set: 3_500,
+    interval: 4_000,
+    ..WAITING
+});
+
+const TRYING_FROM_7_500: PlainClientPhase = PlainClientPhase::Trying(Waiting {
+    set: 7_500,
+    interval: 4_000,
+    ..WAITING
+});
+
+const PROCEEDING: PlainClientPhase = PlainClientPhase::Proceeding(WAITING);
+
+const PROCEEDING_FROM_450: PlainClientPhase = PlainClientPhase::Proceeding(Waiting {
+    set: 450,
+    interval: 4_000,
+    ..WAITING
+});
+
+const COMPLETED_AT_100: PlainClientPhase = PlainClientPhase::Completed {
+    reliable: false,
+    set: 100,
+};
+
+const COMPLETED_AT_550: PlainClientPhase = PlainClientPhase::Completed {
+    reliable: false,
+    set: 550,
+};
+
+const ENDED: PlainClientPhase = PlainClientPhase::Ended;
 
 static BEFORE_THE_FINAL_RESPONSE: &[Row] = &[
-    (&[], Want::Idle),
-    (&[(0, Action::Sent, REQUEST)], Want::Trying(0, 500)),
+    (&[], &[(IDLE, &[])]),
+    (&[(0, Action::Sent, REQUEST)], &[(TRYING, &[])]),
     (
         &[(0, Action::Sent, REQUEST), (449, Action::Sent, REQUEST)],
-        Want::Nothing,
+        &[],
     ),
     (
         &[(0, Action::Sent, REQUEST), (450, Action::Sent, REQUEST)],
-        Want::Trying(450, 1_000),
+        &[(TRYING_FROM_450, &[])],
     ),
     (
         &[(0, Action::Sent, REQUEST), (550, Action::Sent, REQUEST)],
-        Want::Trying(550, 1_000),
+        &[(TRYING_FROM_550, &[])],
     ),
     (
         &[(0, Action::Sent, REQUEST), (551, Action::Sent, REQUEST)],
-        Want::Nothing,
+        &[],
     ),
     (
         &[(0, Action::Sent, REQUEST), (500, Action::Sent, OTHER)],
-        Want::Nothing,
+        &[],
     ),
     (
         &[
@@ -123,7 +123,7 @@ static BEFORE_THE_FINAL_RESPONSE: &[Row] = &[
             (1_500, Action::Sent, REQUEST),
             (3_500, Action::Sent, REQUEST),
         ],
-        Want::Trying(3_500, 4_000),
+        &[(TRYING_FROM_3_500, &[])],
     ),
     (
         &[
@@ -133,11 +133,11 @@ static BEFORE_THE_FINAL_RESPONSE: &[Row] = &[
             (3_500, Action::Sent, REQUEST),
             (7_500, Action::Sent, REQUEST),
         ],
-        Want::Trying(7_500, 4_000),
+        &[(TRYING_FROM_7_500, &[])],
     ),
     (
         &[(0, Action::Sent, REQUEST), (100, Action::Received, 100)],
-        Want::Proceeding(0, 500),
+        &[(PROCEEDING, &[])],
     ),
     (
         &[
@@ -145,7 +145,7 @@ static BEFORE_THE_FINAL_RESPONSE: &[Row] = &[
             (100, Action::Received, 100),
             (200, Action::Received, 199),
         ],
-        Want::Proceeding(0, 500),
+        &[(PROCEEDING, &[])],
     ),
     (
         &[
@@ -153,7 +153,7 @@ static BEFORE_THE_FINAL_RESPONSE: &[Row] = &[
             (100, Action::Received, 100),
             (449, Action::Sent, REQUEST),
         ],
-        Want::Nothing,
+        &[],
     ),
     (
         &[
@@ -161,7 +161,7 @@ static BEFORE_THE_FINAL_RESPONSE: &[Row] = &[
             (100, Action::Received, 100),
             (450, Action::Sent, REQUEST),
         ],
-        Want::Proceeding(450, 4_000),
+        &[(PROCEEDING_FROM_450, &[])],
     ),
 ];
 
@@ -173,11 +173,11 @@ fn before_the_final_response(rt: HostRuntime) -> Result<(), Fail> {
 static FINAL_RESPONSES_AND_FAILURES: &[Row] = &[
     (
         &[(0, Action::Sent, REQUEST), (550, Action::Received, 200)],
-        Want::Completed(550),
+        &[(COMPLETED_AT_550, &[])],
     ),
     (
         &[(0, Action::Sent, REQUEST), (551, Action::Received, 200)],
-        Want::Nothing,
+        &[],
     ),
     (
         &[
@@ -185,7 +185,7 @@ static FINAL_RESPONSES_AND_FAILURES: &[Row] = &[
             (100, Action::Received, 200),
             (5_150, Action::Received, 699),
         ],
-        Want::Completed(100),
+        &[(COMPLETED_AT_100, &[])],
     ),
     (
         &[
@@ -193,18 +193,18 @@ static FINAL_RESPONSES_AND_FAILURES: &[Row] = &[
             (100, Action::Received, 200),
             (500, Action::Sent, REQUEST),
         ],
-        Want::Nothing,
+        &[],
     ),
-    (&[(0, Action::Failed, REQUEST)], Want::Ended),
+    (&[(0, Action::Failed, REQUEST)], &[(ENDED, &[])]),
     (
         &[(0, Action::Sent, REQUEST), (500, Action::Failed, REQUEST)],
-        Want::Ended,
+        &[(ENDED, &[])],
     ),
     (
         &[(0, Action::Sent, REQUEST), (449, Action::Failed, REQUEST)],
-        Want::Nothing,
+        &[],
     ),
-    (&[(100, Action::Received, 200)], Want::Idle),
+    (&[(100, Action::Received, 200)], &[(IDLE, &[])]),
 ];
 
 #[test]
@@ -232,9 +232,12 @@ fn ends(rt: HostRuntime) -> Result<(), Fail> {
     assert!(rt; ends_of(alloc, &client, PlainClientPhase::Idle)? == (None, None));
     // Timer E fires by 550, timer F from 31950 to 32050.
     let timer_f = Some((31_950, Some(32_050)));
-    let trying = PlainClientPhase::Trying(waiting(0, 500));
-    assert!(rt; ends_of(alloc, &client, trying)? == (timer_f, Some(550)));
-    let proceeding = PlainClientPhase::Proceeding(waiting(31_500, 4_000));
+    assert!(rt; ends_of(alloc, &client, TRYING)? == (timer_f, Some(550)));
+    let proceeding = PlainClientPhase::Proceeding(Waiting {
+        set: 31_500,
+        interval: 4_000,
+        ..WAITING
+    });
     assert!(rt; ends_of(alloc, &client, proceeding)? == (timer_f, Some(32_050)));
     let completed = PlainClientPhase::Completed {
         reliable: false,

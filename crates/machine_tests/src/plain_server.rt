@@ -1,11 +1,8 @@
 //! The non-INVITE server, with moments worked out by hand for T1 500 and a tolerance of 50.
-ghost use Rattle.std.specs.Prelude.{All, IfOk};
-ghost use Rattle.sip_machine.specs.Owing.{OwingInRange};
-ghost use Rattle.sip_machine.specs.PlainServer.{PlainServerInRange};
-
 use crate::messages::{Numbered, Start, book_of};
+use crate::rows::{self, EndsRow, MAY, MUST, all_end, ends_of};
 use crate::runs::{Entry, State, run, states_of};
-use sip_machine::{Action, Debt, Machine, Params, PlainServer, PlainServerPhase, Pool, Run};
+use sip_machine::{Action, Book, Debt, Params, PlainServer, PlainServerPhase, Pool, Run};
 use std::alloc::Global;
 use std::process::Abort;
 use std::test::Fail;
@@ -32,90 +29,58 @@ const MESSAGES: [Numbered; 6] = [
     (LAST, Start::Response(699), None),
 ];
 
-/// A debt that is wanted: its message, its deadline, and whether it must be sent.
-type Owed = (u32, u64, bool);
-
-const MUST: bool = true;
-
-const MAY: bool = false;
-
-fn are_owed(runs: &[Run], wants: &[Owed]) -> bool {
-    runs.len() == wants.len()
-        && runs.iter().zip(wants).all(|(run, want)| {
-            run.count == 1
-                && run.debt.message == want.0
-                && run.debt.deadline == want.1
-                && run.debt.must == want.2
-        })
-}
-
-/// A state that is wanted, over an unreliable transport.
-#[derive(Clone, Copy)]
-enum Want {
-    Idle,
-    Trying,
-    Proceeding(u32, &'static [Owed]),
-    Completed(u32, u64, &'static [Owed]),
-}
-
-fn is_wanted(state: &State<PlainServerPhase>, want: Want) -> bool {
-    match (&state.phase, want) {
-        (PlainServerPhase::Idle, Want::Idle) => true,
-        (PlainServerPhase::Trying { reliable }, Want::Trying) => !*reliable,
-        (PlainServerPhase::Proceeding { reliable, last }, Want::Proceeding(number, debts)) =>
-            !*reliable && *last == number && are_owed(&state.owes, debts),
-        (
-            PlainServerPhase::Completed {
-                reliable,
-                final_message,
-                set,
-            },
-            Want::Completed(number, moment, debts),
-        ) => !*reliable
-            && *final_message == number
-            && *set == moment
-            && are_owed(&state.owes, debts),
-        _ => false,
-    }
-}
-
-fn are_wanted(states: &[State<PlainServerPhase>], wants: &[Want]) -> bool {
-    states.len() == wants.len()
-        && states
-            .iter()
-            .zip(wants)
-            .all(|(state, want)| is_wanted(state, *want))
-}
-
 fn server() -> Result<PlainServer, Fail> {
     let params = Params::new(500, 4_000, 5_000, 50).ok_or("refused")?;
     Ok(PlainServer::new(params))
 }
 
-/// The states after the entries, of all steps.
-fn states_after(alloc: Global, entries: &[Entry]) -> Result<Pool<PlainServerPhase>, Fail>
-    ensures { IfOk result (All (OwingInRange PlainServerInRange)) }
-{
-    let book = book_of(alloc, &MESSAGES, "OPTIONS", "UDP")?;
-    run(alloc, &server()?, &book, entries)
+fn book(alloc: Global) -> Result<Book, Fail> {
+    book_of(alloc, &MESSAGES, "OPTIONS", "UDP")
 }
 
-/// Where the entries lead.
-fn leads(alloc: Global, entries: &[Entry], wants: &[Want]) -> Result<bool, Fail> {
-    let pool = states_after(alloc, entries)?;
-    Ok(are_wanted(&states_of(alloc, &pool)?, wants))
-}
-
-/// Entries, and where they lead.
-type Row = (&'static [Entry], &'static [Want]);
+type Row = rows::Row<PlainServerPhase>;
 
 /// That the entries of each row lead to its states.
 fn all_lead(rt: &(impl Abort + AllocGlobal), rows: &[Row]) -> Result<(), Fail> {
-    for &(entries, wants) in rows {
-        assert!(rt; leads(rt.alloc(), entries, wants)?, "{entries:?}");
-    }
-    Ok(())
+    rows::all_lead(rt, &server()?, &book(rt.alloc())?, rows)
 }
+
+const IDLE: PlainServerPhase = PlainServerPhase::Idle;
+
+const QUIET: PlainServerPhase = PlainServerPhase::Trying { reliable: false };
+
+const RANG: PlainServerPhase = PlainServerPhase::Proceeding {
+    reliable: false,
+    last: RINGING,
+};
+
+const TRIED: PlainServerPhase = PlainServerPhase::Proceeding {
+    reliable: false,
+    last: TRYING,
+};
+
+const PROGRESSED: PlainServerPhase = PlainServerPhase::Proceeding {
+    reliable: false,
+    last: PROGRESS,
+};
+
+const FINAL_AT_10: PlainServerPhase = PlainServerPhase::Completed {
+    reliable: false,
+    final_message: FINAL,
+    set: 10,
+};
+
+const FINAL_AT_20: PlainServerPhase = PlainServerPhase::Completed {
+    reliable: false,
+    final_message: FINAL,
+    set: 20,
+};
+
+const LAST_AT_10: PlainServerPhase = PlainServerPhase::Completed {
+    reliable: false,
+    final_message: LAST,
+    set: 10,
+};
 
 const FIRST: Entry = (0, Action::Received, REQUEST);
 
@@ -126,14 +91,14 @@ const TRYING_ONCE: Entry = (5, Action::Sent, TRYING);
 const FINAL_ONCE: Entry = (10, Action::Sent, FINAL);
 
 static BEFORE_THE_FINAL_RESPONSE: &[Row] = &[
-    (&[], &[Want::Idle]),
+    (&[], &[(IDLE, &[])]),
     (&[(0, Action::Sent, FINAL)], &[]),
-    (&[FIRST], &[Want::Trying]),
-    (&[FIRST, (10, Action::Received, REQUEST)], &[Want::Trying]),
-    (&[FIRST, RINGING_ONCE], &[Want::Proceeding(RINGING, &[])]),
+    (&[FIRST], &[(QUIET, &[])]),
+    (&[FIRST, (10, Action::Received, REQUEST)], &[(QUIET, &[])]),
+    (&[FIRST, RINGING_ONCE], &[(RANG, &[])]),
     (
         &[FIRST, RINGING_ONCE, (10, Action::Received, REQUEST)],
-        &[Want::Proceeding(RINGING, &[(RINGING, 60, MUST)])],
+        &[(RANG, &[(RINGING, 60, MUST)])],
     ),
     (
         &[
@@ -142,10 +107,7 @@ static BEFORE_THE_FINAL_RESPONSE: &[Row] = &[
             (10, Action::Received, REQUEST),
             (50, Action::Sent, RINGING),
         ],
-        &[
-            Want::Proceeding(RINGING, &[(RINGING, 60, MUST)]),
-            Want::Proceeding(RINGING, &[]),
-        ],
+        &[(RANG, &[(RINGING, 60, MUST)]), (RANG, &[])],
     ),
     (
         &[
@@ -154,10 +116,7 @@ static BEFORE_THE_FINAL_RESPONSE: &[Row] = &[
             (10, Action::Received, REQUEST),
             (60, Action::Failed, RINGING),
         ],
-        &[
-            Want::Proceeding(RINGING, &[(RINGING, 60, MUST)]),
-            Want::Proceeding(RINGING, &[]),
-        ],
+        &[(RANG, &[(RINGING, 60, MUST)]), (RANG, &[])],
     ),
     (
         &[
@@ -175,7 +134,7 @@ static BEFORE_THE_FINAL_RESPONSE: &[Row] = &[
             (10, Action::Received, REQUEST),
             (20, Action::Sent, PROGRESS),
         ],
-        &[Want::Proceeding(PROGRESS, &[(RINGING, 60, MUST)])],
+        &[(PROGRESSED, &[(RINGING, 60, MUST)])],
     ),
     (
         &[
@@ -186,8 +145,8 @@ static BEFORE_THE_FINAL_RESPONSE: &[Row] = &[
             (30, Action::Sent, RINGING),
         ],
         &[
-            Want::Proceeding(RINGING, &[(RINGING, 60, MUST), (RINGING, 70, MUST)]),
-            Want::Proceeding(RINGING, &[(RINGING, 70, MUST)]),
+            (RANG, &[(RINGING, 60, MUST), (RINGING, 70, MUST)]),
+            (RANG, &[(RINGING, 70, MUST)]),
         ],
     ),
     (
@@ -196,11 +155,11 @@ static BEFORE_THE_FINAL_RESPONSE: &[Row] = &[
             (5, Action::Sent, PROGRESS),
             (10, Action::Received, REQUEST),
         ],
-        &[Want::Proceeding(PROGRESS, &[(PROGRESS, 60, MUST)])],
+        &[(PROGRESSED, &[(PROGRESS, 60, MUST)])],
     ),
     (
         &[FIRST, RINGING_ONCE, (20, Action::Received, FINAL)],
-        &[Want::Proceeding(RINGING, &[])],
+        &[(RANG, &[])],
     ),
 ];
 
@@ -212,7 +171,7 @@ fn before_the_final_response(rt: HostRuntime) -> Result<(), Fail> {
 static A_100_NEED_NOT_BE_REPEATED: &[Row] = &[
     (
         &[FIRST, TRYING_ONCE, (10, Action::Received, REQUEST)],
-        &[Want::Proceeding(TRYING, &[(TRYING, 60, MAY)])],
+        &[(TRIED, &[(TRYING, 60, MAY)])],
     ),
     (
         &[
@@ -221,7 +180,7 @@ static A_100_NEED_NOT_BE_REPEATED: &[Row] = &[
             (10, Action::Received, REQUEST),
             (60, Action::Received, REQUEST),
         ],
-        &[Want::Proceeding(TRYING, &[(TRYING, 60, MAY), (TRYING, 110, MAY)])],
+        &[(TRIED, &[(TRYING, 60, MAY), (TRYING, 110, MAY)])],
     ),
     (
         &[
@@ -230,7 +189,7 @@ static A_100_NEED_NOT_BE_REPEATED: &[Row] = &[
             (10, Action::Received, REQUEST),
             (61, Action::Received, REQUEST),
         ],
-        &[Want::Proceeding(TRYING, &[(TRYING, 111, MAY)])],
+        &[(TRIED, &[(TRYING, 111, MAY)])],
     ),
     (
         &[
@@ -239,7 +198,7 @@ static A_100_NEED_NOT_BE_REPEATED: &[Row] = &[
             (10, Action::Received, REQUEST),
             (61, Action::Sent, TRYING),
         ],
-        &[Want::Proceeding(TRYING, &[])],
+        &[(TRIED, &[])],
     ),
 ];
 
@@ -249,15 +208,12 @@ fn a_100_need_not_be_repeated(rt: HostRuntime) -> Result<(), Fail> {
 }
 
 static AFTER_THE_FINAL_RESPONSE: &[Row] = &[
-    (&[FIRST, FINAL_ONCE], &[Want::Completed(FINAL, 10, &[])]),
-    (
-        &[FIRST, (10, Action::Failed, LAST)],
-        &[Want::Completed(LAST, 10, &[])],
-    ),
+    (&[FIRST, FINAL_ONCE], &[(FINAL_AT_10, &[])]),
+    (&[FIRST, (10, Action::Failed, LAST)], &[(LAST_AT_10, &[])]),
     (&[FIRST, FINAL_ONCE, (20, Action::Sent, FINAL)], &[]),
     (
         &[FIRST, FINAL_ONCE, (500, Action::Received, REQUEST)],
-        &[Want::Completed(FINAL, 10, &[(FINAL, 550, MUST)])],
+        &[(FINAL_AT_10, &[(FINAL, 550, MUST)])],
     ),
     (
         &[
@@ -266,7 +222,7 @@ static AFTER_THE_FINAL_RESPONSE: &[Row] = &[
             (500, Action::Received, REQUEST),
             (550, Action::Sent, FINAL),
         ],
-        &[Want::Completed(FINAL, 10, &[])],
+        &[(FINAL_AT_10, &[])],
     ),
     (
         &[
@@ -288,7 +244,7 @@ static AFTER_THE_FINAL_RESPONSE: &[Row] = &[
     ),
     (
         &[FIRST, FINAL_ONCE, (32_060, Action::Received, REQUEST)],
-        &[Want::Completed(FINAL, 10, &[(FINAL, 32_110, MUST)])],
+        &[(FINAL_AT_10, &[(FINAL, 32_110, MUST)])],
     ),
     (
         &[FIRST, FINAL_ONCE, (32_061, Action::Received, REQUEST)],
@@ -301,7 +257,7 @@ static AFTER_THE_FINAL_RESPONSE: &[Row] = &[
             (10, Action::Received, REQUEST),
             (20, Action::Sent, FINAL),
         ],
-        &[Want::Completed(FINAL, 20, &[(RINGING, 60, MAY)])],
+        &[(FINAL_AT_20, &[(RINGING, 60, MAY)])],
     ),
     (
         &[
@@ -311,7 +267,7 @@ static AFTER_THE_FINAL_RESPONSE: &[Row] = &[
             (20, Action::Sent, FINAL),
             (60, Action::Sent, RINGING),
         ],
-        &[Want::Completed(FINAL, 20, &[])],
+        &[(FINAL_AT_20, &[])],
     ),
     (
         &[
@@ -389,7 +345,8 @@ static REPEATS: [Entry; 11] = [
 
 /// Whether the entries lead to states that proceed so.
 fn all_proceed(alloc: Global, entries: &[Entry], wants: &[(u32, Turns)]) -> Result<bool, Fail> {
-    let states = states_of(alloc, &states_after(alloc, entries)?)?;
+    let pool = run(alloc, &server()?, &book(alloc)?, entries)?;
+    let states = states_of(alloc, &pool)?;
     Ok(
         states.len() == wants.len()
             && states
@@ -436,22 +393,6 @@ fn equal_debts_stand_in_runs(rt: HostRuntime) -> Result<(), Fail> {
     Ok(())
 }
 
-/// When the state may end, and its last moment.
-type Ends = (Option<(u64, Option<u64>)>, Option<u64>);
-
-/// The ends of the only state.
-fn ends_of(server: &PlainServer, pool: &Pool<PlainServerPhase>) -> Result<Ends, Fail>
-    requires { All (OwingInRange PlainServerInRange) pool.now }
-{
-    if pool.len() != 1 {
-        return Err("not one state".into());
-    }
-    Ok((server.end_window(pool, 0), server.until(pool, 0)))
-}
-
-/// Entries, and the ends of the only state after them.
-type EndsRow = (&'static [Entry], Option<(u64, Option<u64>)>, Option<u64>);
-
 static ENDS: &[EndsRow] = &[
     (&[], None, None),
     (&[FIRST], None, None),
@@ -487,21 +428,14 @@ static ENDS: &[EndsRow] = &[
     ),
 ];
 
-/// The ends of the only state after the entries.
-fn ends_after(alloc: Global, server: &PlainServer, entries: &[Entry]) -> Result<Ends, Fail> {
-    let pool = states_after(alloc, entries)?;
-    ends_of(server, &pool)
+#[test]
+fn ends(rt: HostRuntime) -> Result<(), Fail> {
+    all_end(&rt, &server()?, &book(rt.alloc())?, ENDS)
 }
 
 #[test]
-fn ends(rt: HostRuntime) -> Result<(), Fail> {
+fn ends_over_tcp(rt: HostRuntime) -> Result<(), Fail> {
     let server = server()?;
-    for &(entries, window, until) in ENDS {
-        assert!(rt;
-            ends_after(rt.alloc(), &server, entries)? == (window, until),
-            "{entries:?}"
-        );
-    }
     let mut over_tcp = Pool::new(rt.alloc());
     over_tcp.push(PlainServerPhase::Completed {
         reliable: true,

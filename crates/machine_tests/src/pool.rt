@@ -146,30 +146,57 @@ fn are_from(rows: &[usize], from: usize, to: usize) -> bool {
             .all(|(place, row)| *row >= from && *row - from == place)
 }
 
-/// Each of these lists makes one state, however often it is there.
-fn are_told_apart(rt: &(impl Abort + AllocGlobal), lists: &[&[u32]]) -> Result<(), Fail> {
+/// Whether both lists make the same state.
+fn make_one(alloc: Global, these: &[u32], others: &[u32]) -> Result<bool, Fail> {
+    let pool = pool_of(alloc, &[these, others])?;
+    Ok(pool.first_ones(0)?.len() == 1)
+}
+
+/// Two of these lists make one state just where they are the same one.
+fn pairs_are_told_apart(rt: &(impl Abort + AllocGlobal), lists: &[&[u32]]) -> Result<(), Fail> {
     for (place, these) in lists.iter().enumerate() {
         for (other, others) in lists.iter().enumerate() {
-            let pool = pool_of(rt.alloc(), &[these, others])?;
-            let ones = pool.first_ones(0)?;
-            assert!(rt; (ones.len() == 1) == (place == other), "{place} {other}");
+            let is_one = make_one(rt.alloc(), these, others)?;
+            assert!(rt; is_one == (place == other), "{place} {other}");
         }
     }
-    let mut twice = Vec::new(rt.alloc());
-    twice.extend_from_slice(lists)?;
-    twice.extend_from_slice(lists)?;
-    let mut pool = pool_of(rt.alloc(), &twice)?;
+    Ok(())
+}
+
+/// The states that these lists make, each of them twice.
+fn twice(alloc: Global, lists: &[&[u32]]) -> Result<Pool<PlainServerPhase>, Fail> {
+    let mut all = Vec::new(alloc);
+    all.extend_from_slice(lists)?;
+    all.extend_from_slice(lists)?;
+    pool_of(alloc, &all)
+}
+
+/// That the first ones of the states from one on are so many, one behind another.
+fn first_ones_follow(
+    rt: &(impl Abort + AllocGlobal),
+    pool: &Pool<PlainServerPhase>,
+    from: usize,
+    count: usize,
+) -> Result<(), Fail> {
+    assert!(rt; from <= pool.len());
+    let ones = pool.first_ones(from)?;
+    assert!(rt; are_from(&ones, from, from.saturating_add(count)));
+    Ok(())
+}
+
+/// Each of these lists makes one state, however often it is there.
+fn are_told_apart(rt: &(impl Abort + AllocGlobal), lists: &[&[u32]]) -> Result<(), Fail> {
+    pairs_are_told_apart(rt, lists)?;
     let count = lists.len();
-    let end = pool.len();
-    assert!(rt; end == count.saturating_mul(2) && count <= end && 2 <= end);
-    assert!(rt; are_from(&pool.first_ones(count)?, count, end));
-    assert!(rt; are_from(&pool.first_ones(2)?, 2, count.saturating_add(2)));
+    let mut pool = twice(rt.alloc(), lists)?;
+    assert!(rt; pool.len() == count.saturating_mul(2));
+    first_ones_follow(rt, &pool, count, count)?;
+    first_ones_follow(rt, &pool, 2, count)?;
+    first_ones_follow(rt, &pool, 0, count)?;
     let ones = pool.first_ones(0)?;
-    assert!(rt; are_from(&ones, 0, count));
     pool.keep(&ones);
     assert!(rt; pool.len() == count);
-    assert!(rt; are_from(&pool.first_ones(0)?, 0, count));
-    Ok(())
+    first_ones_follow(rt, &pool, 0, count)
 }
 
 #[test]
@@ -213,36 +240,52 @@ fn owed_in_turn(alloc: Global, pool: &Pool<PlainServerPhase>) -> Result<Vec<u32>
     Ok(messages)
 }
 
+/// That the states owe these messages, one behind another.
+fn owe(
+    rt: &(impl Abort + AllocGlobal),
+    pool: &Pool<PlainServerPhase>,
+    messages: &[u32],
+) -> Result<(), Fail> {
+    assert_eq!(rt; owed_in_turn(rt.alloc(), pool)?.as_slice(), messages);
+    Ok(())
+}
+
 #[test]
-fn states_come_and_go(rt: HostRuntime) -> Result<(), Fail> {
+fn a_state_is_at_rest_in_its_phase_where_it_owes_nothing(rt: HostRuntime) -> Result<(), Fail> {
+    let mut pool = pool_of(rt.alloc(), &[&[1], &[]])?;
+    assert!(rt; pool.len() == 2);
+    let phase = pool.phase(1);
+    assert!(rt; !pool.is_at_rest(0, phase) && pool.is_at_rest(1, phase));
+    assert!(rt; !pool.is_at_rest(1, PlainServerPhase::Idle));
+    pool.copy(0, 1);
+    assert!(rt; pool.len() == 2);
+    assert!(rt; !pool.is_at_rest(1, phase));
+    Ok(())
+}
+
+/// Of four states, of which the last is a copy of the first, the last two.
+fn kept_pool(rt: &(impl Abort + AllocGlobal)) -> Result<Pool<PlainServerPhase>, Fail> {
     let mut pool = pool_of(rt.alloc(), &[&[1], &[2], &[3], &[]])?;
-    let rings = pool_of(rt.alloc(), &[&[]])?;
-    assert!(rt; rings.len() == 1);
-    let phase = rings.phase(0);
     assert!(rt; pool.len() == 4);
-    assert!(rt; !pool.is_at_rest(0, phase) && pool.is_at_rest(3, phase));
-    assert!(rt; !pool.is_at_rest(3, PlainServerPhase::Idle));
     pool.copy(0, 3);
-    assert!(rt; pool.len() == 4);
-    assert!(rt; !pool.is_at_rest(3, phase));
-    assert_eq!(rt;
-        owed_in_turn(rt.alloc(), &pool)?.as_slice(),
-        [1, 2, 3, 1].as_slice()
-    );
+    owe(rt, &pool, &[1, 2, 3, 1])?;
     let rows = indices(rt.alloc(), 2, pool.len())?;
     pool.keep(&rows);
     pool.fit();
     pool.tidy();
-    assert_eq!(rt;
-        owed_in_turn(rt.alloc(), &pool)?.as_slice(),
-        [3, 1].as_slice()
-    );
+    Ok(pool)
+}
+
+#[test]
+fn states_come_and_go(rt: HostRuntime) -> Result<(), Fail> {
+    let mut pool = kept_pool(&rt)?;
+    owe(&rt, &pool, &[3, 1])?;
     pool.push(PlainServerPhase::Idle)?;
     assert!(rt; pool.len() == 3);
     assert!(rt; pool.is_at_rest(2, PlainServerPhase::Idle));
     pool.truncate(1);
     pool.tidy();
-    assert_eq!(rt; owed_in_turn(rt.alloc(), &pool)?.as_slice(), [3].as_slice());
+    owe(&rt, &pool, &[3])?;
     pool.truncate(0);
     assert!(rt; pool.is_empty());
     Ok(())
@@ -272,9 +315,6 @@ fn a_pool_goes_on_after_a_refused_growth(rt: HostRuntime) -> Result<(), Fail> {
         server.successors(&book, &mut pool, 0, &event)?;
     }
     assert!(rt; pool.len() == 5);
-    assert_eq!(rt;
-        owed_in_turn(rt.alloc(), &pool)?.as_slice(),
-        [1, 2, 1, 3, 1, 2, 1, 2, 1].as_slice()
-    );
+    owe(&rt, &pool, &[1, 2, 1, 3, 1, 2, 1, 2, 1])?;
     Ok(given?)
 }

@@ -1,10 +1,11 @@
 //! The INVITE machines of RFC 3261 without its correction, and restarts, with moments worked out by hand for T1 500, T2 4000, T4 5000 and 50 either way.
 
 use crate::messages::{Numbered, Start, book_of};
-use crate::runs::{Entry, State, run, states_of};
+use crate::rows::{MAY, MUST, Row, all_lead};
+use crate::runs::Entry;
 use sip_machine::{
-    Action, InviteClient, InviteClient3261, InviteClientPhase, InviteServer, InviteServer3261,
-    InviteServer3261Phase, InviteServerPhase, Machine, Params, Phase, Run, Waiting,
+    Action, Book, InviteClient, InviteClient3261, InviteClientPhase, InviteServer,
+    InviteServer3261, InviteServer3261Phase, InviteServerPhase, Params, Waiting,
 };
 use std::alloc::Global;
 use std::process::Abort;
@@ -37,46 +38,9 @@ fn params() -> Result<Params, Fail> {
     Ok(params)
 }
 
-/// The states of the machine after the entries, of all steps.
-fn states_after<M: Machine>(
-    alloc: Global,
-    machine: &M,
-    entries: &[Entry],
-) -> Result<Vec<State<M::Phase>>, Fail> {
-    let book = book_of(alloc, &MESSAGES, "INVITE", "UDP")?;
-    let pool = run(alloc, machine, &book, entries)?;
-    states_of(alloc, &pool)
-}
+type Server = Row<InviteServer3261Phase>;
 
-/// A debt that is wanted: its message, its deadline, and whether it must be sent.
-type Owed = (u32, u64, bool);
-
-const MUST: bool = true;
-
-const MAY: bool = false;
-
-/// A state that is wanted: its phase, and what it owes.
-type Want<P> = (P, &'static [Owed]);
-
-fn are_owed(runs: &[Run], wants: &[Owed]) -> bool {
-    runs.len() == wants.len()
-        && runs.iter().zip(wants).all(|(run, want)| {
-            run.count == 1
-                && run.debt.message == want.0
-                && run.debt.deadline == want.1
-                && run.debt.must == want.2
-        })
-}
-
-fn are_wanted<P: Phase>(states: &[State<P>], wants: &[Want<P>]) -> bool {
-    states.len() == wants.len()
-        && states.iter().zip(wants).all(|(state, want)| state.phase == want.0
-            && are_owed(&state.owes, want.1))
-}
-
-type Server = (&'static [Entry], &'static [Want<InviteServer3261Phase>]);
-
-type Client = (&'static [Entry], &'static [Want<InviteClientPhase>]);
+type Client = Row<InviteClientPhase>;
 
 const IDLE: InviteServer3261Phase = InviteServer3261Phase::In {
     phase: InviteServerPhase::Idle,
@@ -412,22 +376,18 @@ static A_CLIENT_STARTS_ANEW: &[Client] = &[
     ),
 ];
 
+fn book(alloc: Global) -> Result<Book, Fail> {
+    book_of(alloc, &MESSAGES, "INVITE", "UDP")
+}
+
 fn all_serve(rt: &(impl Abort + AllocGlobal), rows: &[Server]) -> Result<(), Fail> {
     let server = InviteServer3261::new(params()?);
-    for &(entries, wants) in rows {
-        let states = states_after(rt.alloc(), &server, entries)?;
-        assert!(rt; are_wanted(&states, wants), "{entries:?} {states:?}");
-    }
-    Ok(())
+    all_lead(rt, &server, &book(rt.alloc())?, rows)
 }
 
 fn all_call(rt: &(impl Abort + AllocGlobal), rows: &[Client]) -> Result<(), Fail> {
     let client = InviteClient3261::new(params()?);
-    for &(entries, wants) in rows {
-        let states = states_after(rt.alloc(), &client, entries)?;
-        assert!(rt; are_wanted(&states, wants), "{entries:?} {states:?}");
-    }
-    Ok(())
+    all_lead(rt, &client, &book(rt.alloc())?, rows)
 }
 
 #[test]
@@ -456,27 +416,20 @@ fn a_client_starts_anew(rt: HostRuntime) -> Result<(), Fail> {
 }
 
 /// Where the rules of RFC 6026 lead after the same entries.
+static BY_RFC_6026: (&[Row<InviteServerPhase>], &[Client]) = (
+    &[(
+        &[INVITE_CAME, OK_WENT, INVITE_CAME_AGAIN],
+        &[(InviteServerPhase::Accepted { set: 0 }, &[])],
+    )],
+    &[(
+        &[INVITE_WENT, (100, Action::Received, OK)],
+        &[(InviteClientPhase::Accepted { set: 100 }, &[])],
+    )],
+);
+
 #[test]
 fn by_rfc_6026_an_invite_behind_a_2xx_changes_nothing(rt: HostRuntime) -> Result<(), Fail> {
-    let server = InviteServer::new(params()?);
-    let states = states_after(
-        rt.alloc(),
-        &server,
-        &[INVITE_CAME, OK_WENT, INVITE_CAME_AGAIN],
-    )?;
-    assert!(rt;
-        are_wanted(&states, &[(InviteServerPhase::Accepted { set: 0 }, &[])]),
-        "{states:?}"
-    );
-    let client = InviteClient::new(params()?);
-    let states = states_after(
-        rt.alloc(),
-        &client,
-        &[INVITE_WENT, (100, Action::Received, OK)],
-    )?;
-    assert!(rt;
-        are_wanted(&states, &[(InviteClientPhase::Accepted { set: 100 }, &[])]),
-        "{states:?}"
-    );
-    Ok(())
+    let book = book(rt.alloc())?;
+    all_lead(&rt, &InviteServer::new(params()?), &book, BY_RFC_6026.0)?;
+    all_lead(&rt, &InviteClient::new(params()?), &book, BY_RFC_6026.1)
 }

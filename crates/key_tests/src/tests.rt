@@ -28,9 +28,23 @@ impl Text {
             cseq,
             more,
         } = *self;
-        format!(in alloc;
-            "{start}\r\nVia: {via}\r\nFrom:{from}\r\nTo: {to}\r\nCall-ID: {call_id}\r\nCSeq: {cseq}\r\n{more}Content-Length: 0\r\n\r\n"
-        )
+        [
+            start,
+            "\r\nVia: ",
+            via,
+            "\r\nFrom:",
+            from,
+            "\r\nTo: ",
+            to,
+            "\r\nCall-ID: ",
+            call_id,
+            "\r\nCSeq: ",
+            cseq,
+            "\r\n",
+            more,
+            "Content-Length: 0\r\n\r\n",
+        ]
+        .concat(alloc)
     }
 }
 
@@ -285,9 +299,15 @@ fn a_sent_cancel_has_a_second_key(rt: HostRuntime) -> Result<(), Fail> {
         (Direction::Sent, "INVITE", "z9hG4bK1", None),
         (Direction::Sent, "cancel", "z9hG4bK1", None),
     ] {
-        let text = format!(in rt.alloc();
-            "{method} sip:b SIP/2.0\r\nv: SIP/2.0/UDP a;branch={branch}\r\nf: sip:a\r\nt: sip:b\r\ni: c\r\nCSeq: 1 {method}\r\n\r\n"
-        )?;
+        let text = [
+            method,
+            " sip:b SIP/2.0\r\nv: SIP/2.0/UDP a;branch=",
+            branch,
+            "\r\nf: sip:a\r\nt: sip:b\r\ni: c\r\nCSeq: 1 ",
+            method,
+            "\r\n\r\n",
+        ]
+        .concat(rt.alloc())?;
         let message = read(rt.alloc(), &text)?;
         let key = cancelled_key(rt.alloc(), &message, direction)?;
         assert!(rt; has_parts(&key, parts), "{text}");

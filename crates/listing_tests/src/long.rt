@@ -36,9 +36,19 @@ fn with_parts(
 fn shows_it(rt: &(impl Abort + AllocGlobal), message: &str, canonical: &str) -> Result<(), Fail> {
     let log = log_with(rt.alloc(), "S 0,500 it; M 600", &[("it", message)])?;
     let len = canonical.len();
-    let want = format!(in rt.alloc();
-        "1 S 0 {len}\n{canonical}\n2 S 500 {len}\n{canonical}\n3 M 600\nend 3\n"
-    )?;
+    let length = format!(in rt.alloc(); "{len}")?;
+    let want = [
+        "1 S 0 ",
+        length.as_str(),
+        "\n",
+        canonical,
+        "\n2 S 500 ",
+        length.as_str(),
+        "\n",
+        canonical,
+        "\n3 M 600\nend 3\n",
+    ]
+    .concat(rt.alloc())?;
     let (text, answer) = shown(rt.alloc(), log.as_str().as_bytes())?;
     assert!(rt; text.as_slice() == want.as_str().as_bytes(), "{len} bytes");
     assert_eq!(rt; answer, Shown::End { entries: 3 });

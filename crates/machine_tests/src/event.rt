@@ -12,10 +12,15 @@ fn kind_of(
     transport: &str,
     method: &str,
 ) -> Result<(Kind, bool), Fail> {
-    let text = format!(in alloc;
-        "{start}\r\nv: SIP/2.0/{transport} a;branch=z9hG4bK1\r\nf: <sip:a>;tag=1\r\nt: <sip:b>\r\n\
-        i: c\r\nCSeq: 1 {method}\r\nl: 0\r\n\r\n"
-    )?;
+    let text = [
+        start,
+        "\r\nv: SIP/2.0/",
+        transport,
+        " a;branch=z9hG4bK1\r\nf: <sip:a>;tag=1\r\nt: <sip:b>\r\ni: c\r\nCSeq: 1 ",
+        method,
+        "\r\nl: 0\r\n\r\n",
+    ]
+    .concat(alloc)?;
     let Ok(message) = Message::read(alloc, text.as_bytes()) else {
         return Err("not a message".into());
     };

@@ -37,11 +37,17 @@ fn text_of(
         Some(tag) => format!(in alloc; ";tag={tag}")?,
         None => String::new(alloc),
     };
-    format!(in alloc;
-        "{line}\r\nVia: SIP/2.0/{transport} a.example.com;branch=z9hG4bKb1\r\n\
-        From: <sip:bob@example.com>;tag=1\r\nTo: <sip:bob@example.com>{tag}\r\nCall-ID: c1@a\r\n\
-        CSeq: 1 {method}\r\nContent-Length: 0\r\n\r\n"
-    )
+    [
+        line.as_str(),
+        "\r\nVia: SIP/2.0/",
+        transport,
+        " a.example.com;branch=z9hG4bKb1\r\nFrom: <sip:bob@example.com>;tag=1\r\nTo: <sip:bob@example.com>",
+        tag.as_str(),
+        "\r\nCall-ID: c1@a\r\nCSeq: 1 ",
+        method,
+        "\r\nContent-Length: 0\r\n\r\n",
+    ]
+    .concat(alloc)
 }
 
 /// Keeps a message under the next number.

@@ -25,14 +25,22 @@ const USAGE: &str = "siptrace: usage: siptrace [check FILE | show FILE | states 
 
 /// The log of a client that registers, repeats its request after T1 and has its response.
 fn registered(alloc: Global) -> Result<String, AllocError> {
-    format!(in alloc;
-        "{HEADER}S 0 199\n{REQUEST}\nS 500 199\n{REQUEST}\nR 700 190\n{RESPONSE}\nM 6000\n"
-    )
+    [
+        HEADER,
+        "S 0 199\n",
+        REQUEST,
+        "\nS 500 199\n",
+        REQUEST,
+        "\nR 700 190\n",
+        RESPONSE,
+        "\nM 6000\n",
+    ]
+    .concat(alloc)
 }
 
 /// The log of a client that repeats its request too early.
 fn hasty(alloc: Global) -> Result<String, AllocError> {
-    format!(in alloc; "{HEADER}S 0 199\n{REQUEST}\nS 449 199\n{REQUEST}\n")
+    [HEADER, "S 0 199\n", REQUEST, "\nS 449 199\n", REQUEST, "\n"].concat(alloc)
 }
 
 /// A platform that gives the program's name and these words, and has these bytes at the path.
@@ -114,9 +122,16 @@ fn checks_the_file(rt: HostRuntime) -> Result<(), Fail> {
 #[test]
 fn shows_the_file(rt: HostRuntime) -> Result<(), Fail> {
     let file = registered(rt.alloc())?;
-    let text = format!(in rt.alloc();
-        "1 S 0 199\n{REQUEST}\n2 S 500 199\n{REQUEST}\n3 R 700 190\n{RESPONSE}\n4 M 6000\nend 4\n"
-    )?;
+    let text = [
+        "1 S 0 199\n",
+        REQUEST,
+        "\n2 S 500 199\n",
+        REQUEST,
+        "\n3 R 700 190\n",
+        RESPONSE,
+        "\n4 M 6000\nend 4\n",
+    ]
+    .concat(rt.alloc())?;
     answers(&rt, &["show", PATH], "", file.as_str(), (text.as_str(), 0))
 }
 

@@ -11,9 +11,16 @@ use std::test::Fail;
 
 /// The request that begins the transaction of this number.
 fn request(alloc: Global, method: &str, number: u32) -> Result<String, AllocError> {
-    format!(in alloc;
-        "{method} sip:example.com SIP/2.0\r\nVia: SIP/2.0/UDP a.example.com;branch=z9hG4bK{number}\r\nFrom: <sip:bob@example.com>;tag=1\r\nTo: <sip:bob@example.com>\r\nCall-ID: c1@a\r\nCSeq: 1 {method}\r\nContent-Length: 0\r\n\r\n"
-    )
+    let number = format!(in alloc; "{number}")?;
+    [
+        method,
+        " sip:example.com SIP/2.0\r\nVia: SIP/2.0/UDP a.example.com;branch=z9hG4bK",
+        number.as_str(),
+        "\r\nFrom: <sip:bob@example.com>;tag=1\r\nTo: <sip:bob@example.com>\r\nCall-ID: c1@a\r\nCSeq: 1 ",
+        method,
+        "\r\nContent-Length: 0\r\n\r\n",
+    ]
+    .concat(alloc)
 }
 
 /// The key of a transaction of its own number. By fours the numbers go through the four machines.

@@ -18,6 +18,7 @@ use Rattle.sip_ledger.specs.Rows.{debts_from}
 use Rattle.sip_ledger.specs.Grids.{part}
 use Rattle.sip_ledger.specs.inner.Memos.{asked_of, IsMask}
 use Rattle.sip_ledger.specs.inner.Places.{AreRising, IsFirst, IsFirstIn, NonePasses}
+use Rattle.sip_ledger.specs.inner.Tables.{IsInside}
 use Rattle.sip_ledger.specs.declared.row.Place.{Place}
 use Rattle.sip_ledger.proofs.BitsLemmas.{has-is, has-past, test-zero, lowest-set}
 use Rattle.sip_ledger.proofs.ListedLemmas.{listed-counting}
@@ -189,3 +190,9 @@ fresh-first t entries o m at rises none first =
 pub word-part : (width row n x : ℕ) (words : List ℕ) → width ≡ 1 → row < length words → x ≡ get_or words row n → part width row words ≡ x ∷ []
 word-part width row n x words one inside is =
     ap (λ w. part w row words) one ∙ part-one words row inside ∙ ap (λ y. y ∷ []) (get_or_default words row 0 n inside ∙ sym is)
+
+-- the words of a row that lies inside, where a row has one
+pub own-word : (width row : ℕ) (words : List ℕ) → width ≡ 1 → IsInside width row words → part width row words ≡ get_or words row 0 ∷ []
+own-word width row words one inside =
+    let end = subst (λ n. row * n + n ≤ length words) one inside in
+    word-part width row 0 (get_or words row 0) words one (omega (arith, end)) refl

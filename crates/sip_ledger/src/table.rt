@@ -172,6 +172,9 @@ pub(crate) fn first_must(entries: &[Entry], must: &[u64], width: usize, row: usi
     ensures { (owed : List ℕ) → IsTableRow entries.now width row owed must.now →
         result ≡ earliest (debt_deadlines (row_at entries.now width owed must.now row)) }
 {
+    if width == 1 {
+        return row::first_must(entries, &[must[row]]);
+    }
     let start = row * width;
     let end = start + width;
     row::first_must(entries, &must[start..end])

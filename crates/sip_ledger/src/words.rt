@@ -1,5 +1,6 @@
 //! The words of all rows, one row behind another.
-ghost use Rattle.std.specs.Prelude.{◌≡◌, ◌<◌, ◌≤◌, ◌+◌, ◌-◌, ◌*◌, ◌++◌, ℕ, OnOk, OnErr, IfOk, length, drop, fold, get_or, replicate, take};
+ghost use Rattle.std.specs.Prelude.{◌≡◌, ◌<◌, ◌≤◌, ◌+◌, ◌-◌, ◌*◌, ◌++◌, ℕ, IsOk, OnOk, OnErr, IfOk, length, drop, fold, get_or, replicate, take};
+ghost use Rattle.std.specs.Vec.{vec_len, vec_capacity};
 ghost use Rattle.sip_ledger.specs.Grids.{part};
 ghost use Rattle.sip_ledger.specs.Prints.{mixed};
 ghost use Rattle.sip_ledger.specs.inner.Tables.{AreWords, IsInside, IsWidened, IsNarrowed, IsEmptyFront};
@@ -56,11 +57,29 @@ pub(crate) fn copy_behind(
     ensures must { OnOk result (must.new.items ≡ must.old.items ++ take count (drop start must.old.items)) }
     ensures err { OnErr result ((owed.new.items ≡ owed.old.items) × (must.new.items ≡ must.old.items)) }
 {
-    let end = start + count;
+    if count == 0 {
+        return Ok(());
+    }
     owed.reserve(count)?;
     must.reserve(count)?;
-    owed.extend_from_within(start..end)?;
-    must.extend_from_within(start..end)
+    copy_to_end(owed, start, count)?;
+    copy_to_end(must, start, count)
+}
+
+/// Puts copies of so many words from one on behind the others, for which there is room.
+fn copy_to_end(words: &mut Vec<u64>, start: usize, count: usize) -> Result<(), AllocError>
+    requires some { 0 < count }
+    requires within { start + count ≤ length words.old.items }
+    requires room { vec_len words.old + count ≤ vec_capacity words.old }
+    ensures succeeds { IsOk result }
+    ensures words { words.new.items ≡ words.old.items ++ take count (drop start words.old.items) }
+{
+    let before = words.len();
+    let first = words[start];
+    words.resize(before + count, first)?;
+    let (known, copies) = words.split_at_mut(before);
+    copies.copy_from_slice(&known[start..start + count]);
+    Ok(())
 }
 
 /// Drops the first items.

@@ -1,9 +1,9 @@
 use Prim.Native.Nat.{suc, zero}
-use Rattle.std.specs.Prelude.{◌≡◌, ◌≢◌, ◌<◌, ◌≤◌, ◌+◌, ◌-◌, ℕ, List, [], ◌∷◌, ◌++◌, All, AllPairs, bit_xor, drop, get_or, length, map, set, take}
+use Rattle.std.specs.Prelude.{◌≡◌, ◌≢◌, ◌<◌, ◌≤◌, ◌+◌, ◌-◌, ℕ, List, [], ◌∷◌, ◌++◌, All, AllPairs, bit_xor, drop, get_or, length, map, take}
 use Rattle.std.specs.List.{Any}
-use Rattle.std.proofs.Common.{inl, inr, refl, sym, ◌∙◌, ap, ap₂, subst, arith, length-set}
+use Rattle.std.proofs.Common.{inl, inr, refl, sym, ◌∙◌, ap, ap₂, subst, arith}
 use Rattle.std.proofs.lemmas.Bool.{cases_lt}
-use Rattle.std.proofs.lemmas.List.{get_or_append_left, get_or_default, get_or-set_same, get_or-set_other, get_or-drop, get_or-map, get_or-take, length-drop, length-map, length-take-le, map-append, same_lists, take_all, take_more}
+use Rattle.std.proofs.lemmas.List.{get_or_append_left, get_or_default, get_or-drop, get_or-map, get_or-take, length-drop, length-map, length-take-le, map-append, same_lists, take_all, take_more}
 use Rattle.std.proofs.lemmas.List.Elements.{All-nil, All-push, All-weaker}
 use Rattle.std.proofs.lemmas.List.Quantifiers.{Any-push, all_pairs_push}
 use Rattle.sip_ledger.specs.declared.debt.Debt.{Debt}
@@ -11,7 +11,7 @@ use Rattle.sip_machine.specs.Owes.{owed_in}
 use Rattle.sip_machine.specs.Owing.{CodeOwing}
 use Rattle.sip_machine.specs.Pools.{AreFirstOnes, picked}
 use Rattle.sip_machine.specs.Prints.{ArePrints}
-use Rattle.sip_machine.specs.inner.Pools.{IsRun, beside, hash_by}
+use Rattle.sip_machine.specs.inner.Pools.{AreMixedWith, IsRun, beside, hash_by}
 use Rattle.sip_machine.proofs.PoolLemmas.{beside-length, state-at}
 
 -- The first of each kind among the elements of a list.
@@ -165,20 +165,18 @@ module _ {S : Type 0} (input : S → List (List ℕ)) (phases : List S) (from : 
   pub mixed-start : AreMixed input phases from old old 0
   mixed-start = record { long = refl; mixed = λ k p low within. absurd (omega (arith, low)); rest = λ k low. refl }
 
-  pub mixed-more : (new : List ℕ) (at print : ℕ) (p : S) → at < length old → AreMixed input phases from old new at → p ≡ get_or phases (from + at) p → print ≡ bit_xor (get_or new at 0) (hash_by (input p)) →
-      AreMixed input phases from old (set new at print) (at + 1)
-  mixed-more new at print p low mixing is_p is = record {
-    long = length-set new at print ∙ mixing.long;
-    mixed = λ k q high within. elim (cases_lt k at) [
-      | inl before ↦ get_or-set_other new at k print 0 (λ same. omega (arith, before, same)) ∙ mixing.mixed k q before within
+  -- those of one phase more
+  pub mixed-run : (new after : List ℕ) (at to hash : ℕ) (p : S) → AreMixed input phases from old new at → AreMixedWith hash at to new after → hash ≡ hash_by (input p) → at ≤ to →
+      ((k : ℕ) (q : S) → at ≤ k → k < to → from + k < length phases → get_or phases (from + k) q ≡ p) → AreMixed input phases from old after to
+  mixed-run new after at to hash p mixing run is order alike = record {
+    long = run.long ∙ mixing.long;
+    mixed = λ k q low within. elim (cases_lt k at) [
+      | inl before ↦ run.before k before ∙ mixing.mixed k q before within
       | inr behind ↦
-          let here : at ≡ k = omega (arith, behind, high) in
-          let room : at < length new = omega (arith, low, mixing) in
-          let phase : p ≡ get_or phases (from + k) q = is_p ∙ ap (λ n. get_or phases (from + n) p) here ∙ get_or_default phases (from + k) p q within in
-          ap (λ n. get_or (set new at print) n 0) (sym here) ∙ get_or-set_same new at print 0 room ∙ is
-          ∙ ap₂ (λ n h. bit_xor n (hash_by (input h))) (mixing.rest at (omega arith) ∙ ap (λ n. get_or old n 0) here) phase
+          run.mixed k behind low
+          ∙ ap₂ (λ n h. bit_xor n h) (mixing.rest k behind) (is ∙ ap (λ h. hash_by (input h)) (sym (alike k q behind low within)))
     ];
-    rest = λ k le. get_or-set_other new at k print 0 (λ same. omega (arith, le, same)) ∙ mixing.rest k (omega (arith, le));
+    rest = λ k le. run.behind k le ∙ mixing.rest k (omega (arith, le, order));
   }
 
   -- all of them

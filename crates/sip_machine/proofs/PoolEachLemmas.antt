@@ -1,9 +1,9 @@
 -- The states of a pool, of which many take the same step.
 use Prim.Native.Nat.{suc, zero}
 use Rattle.std.specs.Prelude.{◌≡◌, ◌<◌, ◌≤◌, ◌+◌, ◌-◌, ℕ, Bool, List, [], ◌∷◌, ◌++◌, All, drop, filter, get_or, length, map, replicate, take}
-use Rattle.std.proofs.Common.{refl, sym, ◌∙◌, ap, ap₂, arith, length-append}
+use Rattle.std.proofs.Common.{refl, sym, ◌∙◌, ap, ap₂, subst, arith, length-append}
 use Rattle.std.proofs.Math.Seq.{drop-append_seam, take-append_seam}
-use Rattle.std.proofs.lemmas.List.{take_more}
+use Rattle.std.proofs.lemmas.List.{get_or-drop, get_or-take, length-drop, length-take-le, take_more}
 use Rattle.std.proofs.lemmas.List.Elements.{All-head, All-nil, All-push, All-tail}
 use Rattle.sip_ledger.specs.declared.debt.Debt.{Debt}
 use Rattle.sip_ledger.specs.Ledgers.{from_to}
@@ -33,6 +33,13 @@ module _ {X : Type 0} where
 
   pub some-more : (P : X → Type 0) (at k : ℕ) (xs : List X) (d : X) → at ≤ k → k < length xs → All P (from_to at k xs) → P (get_or xs k d) → All P (from_to at (k + 1) xs)
   some-more P at k xs d le low all p = rw (from_to-more at k xs d le low) (All-push P (from_to at k xs) (get_or xs k d) all p)
+
+  pub some-at : (P : X → Type 0) (from to k : ℕ) (xs : List X) (d : X) → to ≤ length xs → from ≤ k → k < to → All P (from_to from to xs) → P (get_or xs k d)
+  some-at P from to k xs d within low high all =
+      let size : length (from_to from to xs) ≡ to - from = length-drop from (take to xs) ∙ ap (λ n. n - from) (length-take-le to xs within) in
+      let there : from + (k - from) ≡ k = omega (arith, low) in
+      subst P (get_or-drop from (take to xs) (k - from) d ∙ ap (λ n. get_or (take to xs) n d) there ∙ get_or-take to xs k d high)
+      (all (k - from) d (omega (arith, size, low, high)))
 
 -- a map, of the elements from one index up to another
 from_to-map : {X Y : Type 0} (f : X → Y) (from to : ℕ) (xs : List X) → from_to from to (map f xs) ≡ map f (from_to from to xs)

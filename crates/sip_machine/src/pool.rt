@@ -8,7 +8,7 @@ ghost use Rattle.sip_machine.specs.Owing.{CodeOwing, at_rest};
 ghost use Rattle.sip_machine.specs.Pools.{AreFirstOnes, picked};
 ghost use Rattle.sip_machine.specs.Prints.{ArePrints};
 ghost use Rattle.sip_machine.specs.inner.Effects.{led_by, rests_at, given_by};
-ghost use Rattle.sip_machine.specs.inner.Pools.{IsRun, hash_by};
+ghost use Rattle.sip_machine.specs.inner.Pools.{AreMixedWith, IsRun, hash_by};
 
 mod each;
 
@@ -100,7 +100,10 @@ impl<P: Phase> Pool<P> {
         requires other { other < length self.now }
         ensures { (x : CodeOwing P) → IsTrue result ↔ (get_or self.now at x ≡ get_or self.now other x) }
     {
-        self.phases[at] == self.phases[other] && self.dues.same(at, other)
+        // copies are compared without a call
+        let phase = self.phases[at];
+        let other_phase = self.phases[other];
+        phase == other_phase && self.dues.same(at, other)
     }
 
     /// Puts a state behind the others that owes nothing. On an error all is as before.
@@ -207,6 +210,7 @@ impl<P: Phase> Pool<P> {
     }
 
     /// The same, by a look at those of the same print.
+    #[inline(never)]
     fn first_of_many(&self, from: usize) -> Result<Vec<usize>, AllocError>
         requires { from ≤ length self.now }
         ensures { IfOk result (λ rows. AreFirstOnes self.now from (length self.now) rows.items) }
@@ -259,14 +263,22 @@ impl<P: Phase> Pool<P> {
     }
 
     /// A number for each state from one on: equal ones have the same, and others hardly ever.
+    #[inline(never)]
     fn prints(&self, from: usize) -> Result<Vec<u64>, AllocError>
         requires { from ≤ length self.now }
         ensures { IfOk result (λ prints. ArePrints self.now from prints.items) }
     {
         let mut prints = self.dues.prints(*self.phases.allocator(), from)?;
-        let mut hashed = None;
-        for at in 0..prints.len() {
-            prints[at] ^= hash_again(&mut hashed, &self.phases[from + at]);
+        let mut at = from;
+        while at < self.len() {
+            let end = self.run_end(at, self.len());
+            mix(
+                &mut prints,
+                at - from,
+                end - from,
+                hash_of(&self.phases[at]),
+            );
+            at = end;
         }
         Ok(prints)
     }
@@ -419,21 +431,15 @@ fn run_of(rows: &[usize]) -> Option<usize>
     }
 }
 
-/// The hash of a phase, beside the phase that was asked for last and its hash, if there is one.
-#[inline(always)]
-fn hash_again<P: Phase>(last: &mut Option<(P, u64)>, phase: &P) -> u64
-    requires { IfSome last.old (λ known. known.1 ≡ hash_by (P.hash_input known.0)) }
-    ensures is { result ≡ hash_by (P.hash_input phase.now) }
-    ensures last { IfSome last.new (λ known. known.1 ≡ hash_by (P.hash_input known.0)) }
+/// Mixes a hash into the prints from one index up to another.
+fn mix(prints: &mut [u64], from: usize, to: usize, hash: u64)
+    requires order { from ≤ to }
+    requires within { to ≤ length prints.old }
+    ensures { AreMixedWith hash from to prints.old prints.new }
 {
-    if let Some((known, hash)) = *last {
-        if known == *phase {
-            return hash;
-        }
+    for at in from..to {
+        prints[at] ^= hash;
     }
-    let hash = hash_of(phase);
-    *last = Some((*phase, hash));
-    hash
 }
 
 /// The hash of a phase.

@@ -1,4 +1,4 @@
-use Rattle.std.specs.Prelude.{◌≡◌, ◌≢◌, ◌<◌, ◌≤◌, ◌+◌, ℕ, Option, None, Some, List, [], ◌∷◌, fold, get_or, length}
+use Rattle.std.specs.Prelude.{◌≡◌, ◌≢◌, ◌<◌, ◌≤◌, ◌+◌, ℕ, Option, None, Some, List, [], ◌∷◌, bit_xor, fold, get_or, length}
 use Rattle.std.specs.Hash.FoldHasher.{initial, write, finish}
 use Rattle.sip_ledger.specs.declared.debt.Debt.{Debt}
 use Rattle.sip_machine.specs.Owing.{CodeOwing}
@@ -15,6 +15,13 @@ beside (phase ∷ phases) (row ∷ rows) = record { phase = phase; owes = row } 
 -- the hash of a value that makes these writes
 abbrev pub hash_by : List (List ℕ) → ℕ
 hash_by input = finish (fold write initial input)
+
+-- the numbers from one index up to another are mixed with a hash, and the others are as they were
+pub record AreMixedWith (hash from to : ℕ) (old new : List ℕ) : Type 0 where
+  pub long : length new ≡ length old
+  pub mixed : (k : ℕ) → from ≤ k → k < to → get_or new k 0 ≡ bit_xor (get_or old k 0) hash
+  pub before : (k : ℕ) → k < from → get_or new k 0 ≡ get_or old k 0
+  pub behind : (k : ℕ) → to ≤ k → get_or new k 0 ≡ get_or old k 0
 
 -- a state is looked for among those at the rows, whose prints these are: from a limit on none is the same, and the next to look at is the last one
 -- before it that has the print

@@ -1,7 +1,10 @@
-use Rattle.std.specs.Prelude.{◌≤◌, ◌+◌, length}
-use Rattle.std.proofs.Common.{ap, arith}
-use Rattle.sip_machine.proofs.FirstLemmas.{mixed-all}
-use Rattle.sip_machine.proofs.PoolLemmas.{beside-length}
+use Rattle.std.specs.Prelude.{◌≡◌, ◌<◌, ◌≤◌, ◌+◌, ◌-◌, [], get_or, length}
+use Rattle.std.proofs.Common.{ap, arith, sym, subst, ◌∙◌}
+use Rattle.std.proofs.lemmas.List.{with_items_is}
+use Rattle.sip_machine.specs.Owing.{CodeOwing}
+use Rattle.sip_machine.proofs.FirstLemmas.{mixed-run, mixed-all}
+use Rattle.sip_machine.proofs.PoolLemmas.{beside-length, in-phases, state-at}
+use Rattle.sip_machine.proofs.PoolEachLemmas.{some-at}
 use Rattle.sip_machine.proofs.pool.Pool.prints.Goals as goal
 
 pub prints-requires : goal.prints-requires
@@ -12,13 +15,56 @@ prints-requires g c =
     let low = c.requires in
     omega (arith, size, same, even, low)
 
+pub index-requires : goal.index-requires
+index-requires g c =
+    subst (λ n. c.loop-at.at < n) (sym c.self.inside.phases.ok.0)
+    (in-phases c.self.inside.phases.items c.self.inside.dues c.args.self.now c.loop-at.at c.self.view_is (omega arith))
+
+pub mix-requires-clause-within : goal.mix-requires-clause-within
+mix-requires-clause-within g c =
+    let size = beside-length c.self.inside.phases.items c.self.inside.dues in
+    let same = ap length c.self.view_is in
+    let even = c.self.invariant in
+    let long = c.in_ok-prints.ensures.long in
+    let (from, within, mixing) = c.loop-at.invariant in
+    let kept = mixing.long in
+    let order = c.run_end-end.ensures.order in
+    omega (arith, size, same, even, long, kept, order, from, within)
+
+pub loop-at-preserved : goal.loop-at-preserved
+loop-at-preserved g c =
+    let phases = c.self.inside.phases.items in
+    let rows = c.self.inside.dues in
+    let xs = c.args.self.now in
+    let old = c.in_ok-prints.prints.items in
+    let (from, within, mixing) = c.loop-at.invariant in
+    let order = c.run_end-end.ensures.order in
+    let low = order.0 in
+    let high = order.1 in
+    let at = c.loop-at.at in
+    let to = c.run_end-end.result in
+    let p = c.index.result.now in (
+      omega (arith, from, low),
+      omega (arith, high),
+      rw (with_items_is c.loop-at.prints c.mix.new.prints (c.mix.auto.prints ∙ c.deref_mut.ensures.len)) (
+          mixed-run g.P.Hash.hash_input phases c.args.from old c.loop-at.prints.items c.mix.new.prints (at - c.args.from) (to - c.args.from) c.hash_of.result p mixing (rw c.deref_mut.ensures.value at c.mix.ensures) c.hash_of.ensures
+          (omega (arith, low))
+          (λ k q above below inside.
+          let x : CodeOwing g.row.P.Denot = record { phase = q; owes = [] } in
+          let there : c.args.from + k < length xs = omega (arith, below, high) in
+          let here : at < length xs = omega (arith, low, high) in
+          sym (ap (λ z. z.phase) (state-at phases rows xs (c.args.from + k) q x c.self.view_is there))
+          ∙ some-at (λ z. z.phase ≡ (get_or xs at x).phase) at to (c.args.from + k) xs x (omega (arith, high)) (omega (arith, above)) (omega (arith, below)) (c.run_end-end.ensures.same x)
+          ∙ ap (λ z. z.phase) (state-at phases rows xs at p x c.self.view_is here) ∙ sym c.index.ensures)),
+    )
+
 pub returns : goal.returns
 returns g c =
     let phases = c.self.inside.phases.items in
     let rows = c.self.inside.dues in
     let old = c.in_ok-prints.prints.items in
-    let size = c.in_ok-prints.prints.ok.0 in
-    let long = c.in_ok-prints.ensures.long in
-    let even = c.self.invariant in
-    let all : length phases ≤ c.args.from + c.loop-at.at = omega (arith, size, long, even) in
-    mixed-all g.P.Hash.hash_input phases c.args.from old rows c.args.self.now c.loop-at.prints.items c.loop-at.at c.self.view_is c.self.invariant c.in_ok-prints.ensures c.loop-at.invariant.0 all
+    let (from, within, mixing) = c.loop-at.invariant in
+    let size = beside-length phases rows in
+    let same = ap length c.self.view_is in
+    let all : length phases ≤ c.args.from + (c.loop-at.at - c.args.from) = omega (arith, size, same, from) in
+    mixed-all g.P.Hash.hash_input phases c.args.from old rows c.args.self.now c.loop-at.prints.items (c.loop-at.at - c.args.from) c.self.view_is c.self.invariant c.in_ok-prints.ensures mixing all

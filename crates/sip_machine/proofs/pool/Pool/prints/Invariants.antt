@@ -1,9 +1,12 @@
-use Rattle.std.specs.Prelude.{◌≡◌, IfSome}
-use Rattle.sip_machine.specs.inner.Pools.{hash_by}
+use Rattle.std.specs.Prelude.{◌≤◌, ◌-◌, length}
 use Rattle.sip_machine.proofs.FirstLemmas.{AreMixed}
 use Rattle.sip_machine.proofs.pool.Pool.prints.Given as goal
 
+-- the prints of the states before it are mixed with the hashes of their phases
 abbrev pub invariant-loop-at : goal.invariant-loop-at
 invariant-loop-at g l =
-    AreMixed g.P.Hash.hash_input l.self-inside.phases.items l.from l.initial.prints.items l.prints.items l.at
-    × IfSome l.hashed (λ known. known.1 ≡ hash_by (g.P.Hash.hash_input known.0))
+    (l.from ≤ l.at) × (l.at ≤ length l.self)
+    × AreMixed g.P.Hash.hash_input l.self-inside.phases.items l.from l.initial.prints.items l.prints.items (l.at - l.from)
+
+abbrev pub decreases-loop-at : goal.decreases-loop-at
+decreases-loop-at g l = length l.self - l.at

@@ -3,6 +3,7 @@
 use sip_key::{Direction, Key, KeyError, Role, cancelled_key, is_ack_of, key_of};
 use sip_message::{Message, ReadError};
 use std::alloc::{AllocError, Global};
+use std::process::Abort;
 use std::test::Fail;
 
 /// What differs among the messages: a line, and its fields.
@@ -75,7 +76,15 @@ const ACK: Text = Text {
 type Parts = (Role, &'static str, &'static str, &'static str);
 
 /// A message by its start line, Via and CSeq, which way it goes, and its key.
-const KEYS: [(Direction, &str, &str, &str, Result<Option<Parts>, KeyError>); 20] = [
+type KeyRow = (
+    Direction,
+    &'static str,
+    &'static str,
+    &'static str,
+    Result<Option<Parts>, KeyError>,
+);
+
+static KEYS: &[KeyRow] = &[
     // The role, sent-by and method by direction and kind.
     (
         Direction::Sent,
@@ -243,36 +252,44 @@ fn has_parts(key: &Option<Key>, parts: Option<Parts>) -> bool {
     }
 }
 
+/// Whether the message of the row has its key, or the error in its place.
+fn has_its_key(alloc: Global, row: &KeyRow) -> Result<bool, Fail> {
+    let text = Text {
+        start: row.1,
+        via: row.2,
+        cseq: row.3,
+        ..INVITE
+    };
+    let text = text.bytes(alloc)?;
+    let message = read(alloc, &text)?;
+    Ok(match (key_of(alloc, &message, row.0), row.4) {
+        (Ok(key), Ok(parts)) => has_parts(&key, parts),
+        (Err(error), Err(fault)) => error == fault,
+        _ => false,
+    })
+}
+
 #[test]
 fn a_message_has_its_key(rt: HostRuntime) -> Result<(), Fail> {
-    for (direction, start, via, cseq, expected) in KEYS {
-        let text = Text {
-            start,
-            via,
-            cseq,
-            ..INVITE
-        };
-        let text = text.bytes(rt.alloc())?;
-        let message = read(rt.alloc(), &text)?;
-        match (key_of(rt.alloc(), &message, direction), expected) {
-            (Ok(key), Ok(parts)) => assert!(rt; has_parts(&key, parts), "{text}"),
-            (Err(error), Err(fault)) => assert_eq!(rt; error, fault, "{text}"),
-            _ => assert!(rt; false, "{text}"),
-        }
+    for row in KEYS {
+        assert!(rt; has_its_key(rt.alloc(), row)?, "{}, {}", row.1, row.2);
     }
     Ok(())
 }
 
+/// Two that sent a message, and whether they have one key.
+static SENDERS: &[(&str, &str, bool)] = &[
+    ("A.Example.com", "a.example.com:05060", true),
+    ("[::1]", "[0:0::1]", false),
+    ("a.b", "a.b.", false),
+    ("a.example.com", "b.example.com", false),
+    ("a.example.com", "A.EXAMPLE.com:5060", true),
+    ("a:5061", "a:5060", false),
+];
+
 #[test]
 fn keys_are_equal_if_their_parts_are(rt: HostRuntime) -> Result<(), Fail> {
-    for (one, other, same) in [
-        ("A.Example.com", "a.example.com:05060", true),
-        ("[::1]", "[0:0::1]", false),
-        ("a.b", "a.b.", false),
-        ("a.example.com", "b.example.com", false),
-        ("a.example.com", "A.EXAMPLE.com:5060", true),
-        ("a:5061", "a:5060", false),
-    ] {
+    for &(one, other, same) in SENDERS {
         let one = server_key(rt.alloc(), one)?;
         let other = server_key(rt.alloc(), other)?;
         assert_eq!(rt; one == other, same);
@@ -282,41 +299,63 @@ fn keys_are_equal_if_their_parts_are(rt: HostRuntime) -> Result<(), Fail> {
 
 /// The server key of an OPTIONS request with this sent-by.
 fn server_key(alloc: Global, sent_by: &str) -> Result<Option<Key>, Fail> {
-    let text = format!(in alloc;
-        "OPTIONS sip:b SIP/2.0\r\nv: SIP/2.0/UDP {sent_by};branch=z9hG4bK1\r\nf: sip:a\r\nt: sip:b\r\ni: c\r\nCSeq: 1 OPTIONS\r\n\r\n"
-    )?;
+    let text = [
+        "OPTIONS sip:b SIP/2.0\r\nv: SIP/2.0/UDP ",
+        sent_by,
+        ";branch=z9hG4bK1\r\nf: sip:a\r\nt: sip:b\r\ni: c\r\nCSeq: 1 OPTIONS\r\n\r\n",
+    ]
+    .concat(alloc)?;
     let message = read(alloc, &text)?;
     key_of(alloc, &message, Direction::Received).map_err(|_| Fail::from("no key"))
 }
 
+const CANCELLED: Option<Parts> = Some((Role::Client, "z9hg4bk1", "", "INVITE"));
+
+/// A message by its method and branch, which way it goes, and its second key.
+type Second = (Direction, &'static str, &'static str, Option<Parts>);
+
+static SECOND_KEYS: &[Second] = &[
+    (Direction::Sent, "CANCEL", "z9hG4bK1", CANCELLED),
+    (Direction::Received, "CANCEL", "z9hG4bK1", None),
+    (Direction::Sent, "CANCEL", "1", None),
+    (Direction::Sent, "INVITE", "z9hG4bK1", None),
+    (Direction::Sent, "cancel", "z9hG4bK1", None),
+];
+
+/// Whether the message of the row has its second key.
+fn has_its_second_key(
+    alloc: Global,
+    (direction, method, branch, parts): Second,
+) -> Result<bool, Fail> {
+    let text = [
+        method,
+        " sip:b SIP/2.0\r\nv: SIP/2.0/UDP a;branch=",
+        branch,
+        "\r\nf: sip:a\r\nt: sip:b\r\ni: c\r\nCSeq: 1 ",
+        method,
+        "\r\n\r\n",
+    ]
+    .concat(alloc)?;
+    let message = read(alloc, &text)?;
+    let key = cancelled_key(alloc, &message, direction)?;
+    Ok(has_parts(&key, parts))
+}
+
 #[test]
 fn a_sent_cancel_has_a_second_key(rt: HostRuntime) -> Result<(), Fail> {
-    let cancelled = Some((Role::Client, "z9hg4bk1", "", "INVITE"));
-    for (direction, method, branch, parts) in [
-        (Direction::Sent, "CANCEL", "z9hG4bK1", cancelled),
-        (Direction::Received, "CANCEL", "z9hG4bK1", None),
-        (Direction::Sent, "CANCEL", "1", None),
-        (Direction::Sent, "INVITE", "z9hG4bK1", None),
-        (Direction::Sent, "cancel", "z9hG4bK1", None),
-    ] {
-        let text = [
-            method,
-            " sip:b SIP/2.0\r\nv: SIP/2.0/UDP a;branch=",
-            branch,
-            "\r\nf: sip:a\r\nt: sip:b\r\ni: c\r\nCSeq: 1 ",
-            method,
-            "\r\n\r\n",
-        ]
-        .concat(rt.alloc())?;
-        let message = read(rt.alloc(), &text)?;
-        let key = cancelled_key(rt.alloc(), &message, direction)?;
-        assert!(rt; has_parts(&key, parts), "{text}");
+    for &row in SECOND_KEYS {
+        assert!(rt;
+            has_its_second_key(rt.alloc(), row)?,
+            "{}, {}",
+            row.1,
+            row.2
+        );
     }
     Ok(())
 }
 
 /// A CANCEL, which way it goes, its key, and the key that it cancels.
-const CANCELS: [(Direction, Parts, Option<Parts>); 2] = [
+static CANCELS: &[(Direction, Parts, Option<Parts>)] = &[
     (
         Direction::Received,
         (Role::Server, "z9hg4bk1", "a.example.com:5060", "CANCEL"),
@@ -328,6 +367,40 @@ const CANCELS: [(Direction, Parts, Option<Parts>); 2] = [
         Some((Role::Client, "z9hg4bk1", "", "INVITE")),
     ),
 ];
+
+/// That the message has this key, at a second call where memory was refused. Whether it was.
+fn asks_again_for_its_key(
+    rt: &(impl Abort + AllocGlobal),
+    message: &Message<'_>,
+    direction: Direction,
+    parts: Parts,
+) -> bool {
+    let mut lacked = false;
+    let mut key = key_of(rt.alloc(), message, direction);
+    if matches!(key, Err(KeyError::Memory)) {
+        lacked = true;
+        key = key_of(rt.alloc(), message, direction);
+    }
+    assert!(rt; key.is_ok_and(|key| has_parts(&key, Some(parts))));
+    lacked
+}
+
+/// And this second key.
+fn asks_again_for_the_second(
+    rt: &(impl Abort + AllocGlobal),
+    message: &Message<'_>,
+    direction: Direction,
+    parts: Option<Parts>,
+) -> bool {
+    let mut lacked = false;
+    let mut key = cancelled_key(rt.alloc(), message, direction);
+    if key.is_err() {
+        lacked = true;
+        key = cancelled_key(rt.alloc(), message, direction);
+    }
+    assert!(rt; key.is_ok_and(|key| has_parts(&key, parts)));
+    lacked
+}
 
 /// Where a growth is refused in a call, it answers want of memory and nothing else, and the same call with
 /// memory is then right; the test ends with `Memory` (`tests/growths key_tests asks_again_for_memory`).
@@ -342,19 +415,9 @@ fn asks_again_for_memory(rt: HostRuntime) -> Result<(), Fail> {
     let text = text.bytes(alloc)?;
     let message = read(alloc, &text)?;
     let mut lacked = false;
-    for (direction, own, cancelled) in CANCELS {
-        let mut key = key_of(alloc, &message, direction);
-        if matches!(key, Err(KeyError::Memory)) {
-            lacked = true;
-            key = key_of(alloc, &message, direction);
-        }
-        assert!(rt; key.is_ok_and(|key| has_parts(&key, Some(own))));
-        let mut key = cancelled_key(alloc, &message, direction);
-        if key.is_err() {
-            lacked = true;
-            key = cancelled_key(alloc, &message, direction);
-        }
-        assert!(rt; key.is_ok_and(|key| has_parts(&key, cancelled)));
+    for &(direction, own, cancelled) in CANCELS {
+        lacked |= asks_again_for_its_key(&rt, &message, direction, own);
+        lacked |= asks_again_for_the_second(&rt, &message, direction, cancelled);
     }
     if lacked {
         return Err("Memory".into());
@@ -497,17 +560,20 @@ static ACKS: [(Text, Text, bool); 17] = [
     ),
 ];
 
+/// Whether the first of these texts is the ACK of the second for the third.
+fn is_ack(alloc: Global, ack: &str, invite: &str, response: &str) -> Result<bool, Fail> {
+    let ack = read(alloc, ack)?;
+    let invite = read(alloc, invite)?;
+    let response = read(alloc, response)?;
+    Ok(is_ack_of(&ack, &invite, &response))
+}
+
 /// Whether the ACK is that of the INVITE for the 486.
 fn belongs(alloc: Global, ack: &Text, invite: &Text) -> Result<bool, Fail> {
     let ack = ack.bytes(alloc)?;
     let invite = invite.bytes(alloc)?;
     let response = BUSY.bytes(alloc)?;
-    let is_its = is_ack_of(
-        &read(alloc, &ack)?,
-        &read(alloc, &invite)?,
-        &read(alloc, &response)?,
-    );
-    Ok(is_its)
+    is_ack(alloc, &ack, &invite, &response)
 }
 
 #[test]

@@ -1,5 +1,6 @@
 //! A refused growth. `tests/growths` refuses each in turn: the test then fails with want of memory, once it has seen that the call left
 //! all as it was, and that the same call succeeds with memory.
+use crate::at_rows;
 use crate::lists::{debts, may, must};
 use sip_ledger::{Debt, Ledger};
 use std::process::Abort;
@@ -24,15 +25,12 @@ fn gain_again(
     row: usize,
     debt: Debt,
 ) -> Result<(), Fail> {
-    assert!(rt; row < ledger.len());
-    let gained = ledger.gain(row, debt);
+    let gained = at_rows::gain(rt, ledger, row, debt);
     if gained.is_err() {
         alike(rt, ledger, twin)?;
-        assert!(rt; row < ledger.len());
-        ledger.gain(row, debt)?;
+        at_rows::gain(rt, ledger, row, debt)?;
     }
-    assert!(rt; row < twin.len());
-    twin.gain(row, debt)?;
+    at_rows::gain(rt, twin, row, debt)?;
     alike(rt, ledger, twin)?;
     Ok(gained?)
 }
@@ -60,34 +58,63 @@ fn copy_again(
     twin: &mut Ledger,
     row: usize,
 ) -> Result<(), Fail> {
-    assert!(rt; row < ledger.len());
-    let pushed = ledger.push_copy(row);
+    let pushed = at_rows::push_copy(rt, ledger, row);
     if pushed.is_err() {
         alike(rt, ledger, twin)?;
-        assert!(rt; row < ledger.len());
-        ledger.push_copy(row)?;
+        at_rows::push_copy(rt, ledger, row)?;
     }
-    assert!(rt; row < twin.len());
-    twin.push_copy(row)?;
+    at_rows::push_copy(rt, twin, row)?;
     alike(rt, ledger, twin)?;
     Ok(pushed?)
 }
 
-/// Two rows, of which each gains more debts than one word has bits for, and copies of them.
+/// The first row gains so many debts so, each of a message of its own.
+fn gain_different(
+    rt: &(impl Abort + AllocGlobal),
+    ledger: &mut Ledger,
+    twin: &mut Ledger,
+    count: u32,
+) -> Result<(), Fail> {
+    for number in 0..count {
+        gain_again(rt, ledger, twin, 0, must(number, 10))?;
+    }
+    Ok(())
+}
+
+/// Or of five messages by turns.
+fn gain_by_turns(
+    rt: &(impl Abort + AllocGlobal),
+    ledger: &mut Ledger,
+    twin: &mut Ledger,
+    count: u32,
+) -> Result<(), Fail> {
+    for number in 0..count {
+        gain_again(rt, ledger, twin, 0, must(number % 5, 10))?;
+    }
+    Ok(())
+}
+
+/// Two rows come, of which the first gains more debts than one word has bits for, and copies of it.
+fn two_rows_come(
+    rt: &(impl Abort + AllocGlobal),
+    ledger: &mut Ledger,
+    twin: &mut Ledger,
+) -> Result<(), Fail> {
+    push_again(rt, ledger, twin)?;
+    push_again(rt, ledger, twin)?;
+    gain_different(rt, ledger, twin, 65)?;
+    gain_again(rt, ledger, twin, 1, may(7, 10))?;
+    for _ in 0..4 {
+        copy_again(rt, ledger, twin, 0)?;
+    }
+    push_again(rt, ledger, twin)
+}
+
 #[test]
 fn a_ledger_goes_on_after_a_refused_growth(rt: HostRuntime) -> Result<(), Fail> {
     let mut ledger = Ledger::new(rt.alloc());
     let mut twin = Ledger::new(rt.alloc());
-    push_again(&rt, &mut ledger, &mut twin)?;
-    push_again(&rt, &mut ledger, &mut twin)?;
-    for number in 0..65 {
-        gain_again(&rt, &mut ledger, &mut twin, 0, must(number, 10))?;
-    }
-    gain_again(&rt, &mut ledger, &mut twin, 1, may(7, 10))?;
-    for _ in 0..4 {
-        copy_again(&rt, &mut ledger, &mut twin, 0)?;
-    }
-    push_again(&rt, &mut ledger, &mut twin)
+    two_rows_come(&rt, &mut ledger, &mut twin)
 }
 
 /// Copies of both rows are pushed so, and each of them gains the debt. Where that is refused, the copies are gone.
@@ -111,17 +138,26 @@ fn copies_gain_again(
     Ok(gained?)
 }
 
+/// Two rows come, and copies of them at each debt that the first gains.
+fn many_rows_come(
+    rt: &(impl Abort + AllocGlobal),
+    ledger: &mut Ledger,
+    twin: &mut Ledger,
+) -> Result<(), Fail> {
+    push_again(rt, ledger, twin)?;
+    push_again(rt, ledger, twin)?;
+    for number in 0..70 {
+        copies_gain_again(rt, ledger, twin, must(number, 10))?;
+        gain_again(rt, ledger, twin, 0, must(number, 10))?;
+    }
+    Ok(())
+}
+
 #[test]
 fn many_rows_go_on_after_a_refused_growth(rt: HostRuntime) -> Result<(), Fail> {
     let mut ledger = Ledger::new(rt.alloc());
     let mut twin = Ledger::new(rt.alloc());
-    push_again(&rt, &mut ledger, &mut twin)?;
-    push_again(&rt, &mut ledger, &mut twin)?;
-    for number in 0..70 {
-        copies_gain_again(&rt, &mut ledger, &twin, must(number, 10))?;
-        gain_again(&rt, &mut ledger, &mut twin, 0, must(number, 10))?;
-    }
-    Ok(())
+    many_rows_come(&rt, &mut ledger, &mut twin)
 }
 
 /// A ledger of one row, which owes so many messages.
@@ -129,8 +165,7 @@ fn of_many(rt: &(impl Abort + AllocGlobal), count: u32) -> Result<Ledger, Fail> 
     let mut ledger = Ledger::new(rt.alloc());
     ledger.push()?;
     for number in 0..count {
-        assert!(rt; 0 < ledger.len());
-        ledger.gain(0, must(number, 10))?;
+        at_rows::gain(rt, &mut ledger, 0, must(number, 10))?;
     }
     Ok(ledger)
 }
@@ -186,46 +221,67 @@ fn runs_of_a_long_row_are_told_after_a_refused_growth(rt: HostRuntime) -> Result
     runs_again(&rt, 70)
 }
 
-/// One row, which comes to owe more than one word has bits for, and a copy of it.
+/// One row comes, which gains more debts than one word has bits for, and a copy of it.
+fn a_long_row_comes(
+    rt: &(impl Abort + AllocGlobal),
+    ledger: &mut Ledger,
+    twin: &mut Ledger,
+) -> Result<(), Fail> {
+    push_again(rt, ledger, twin)?;
+    gain_by_turns(rt, ledger, twin, 70)?;
+    copy_again(rt, ledger, twin, 0)
+}
+
 #[test]
 fn a_long_row_goes_on_after_a_refused_growth(rt: HostRuntime) -> Result<(), Fail> {
     let mut ledger = Ledger::new(rt.alloc());
     let mut twin = Ledger::new(rt.alloc());
-    push_again(&rt, &mut ledger, &mut twin)?;
-    for number in 0..70 {
-        gain_again(&rt, &mut ledger, &mut twin, 0, must(number % 5, 10))?;
-    }
-    copy_again(&rt, &mut ledger, &mut twin, 0)
+    a_long_row_comes(&rt, &mut ledger, &mut twin)
 }
 
-/// A row is pushed behind a long one.
+/// A row comes behind a long one.
+fn another_row_comes(
+    rt: &(impl Abort + AllocGlobal),
+    ledger: &mut Ledger,
+    twin: &mut Ledger,
+) -> Result<(), Fail> {
+    push_again(rt, ledger, twin)?;
+    gain_different(rt, ledger, twin, 66)?;
+    push_again(rt, ledger, twin)
+}
+
 #[test]
 fn a_row_comes_after_a_long_one_after_a_refused_growth(rt: HostRuntime) -> Result<(), Fail> {
     let mut ledger = Ledger::new(rt.alloc());
     let mut twin = Ledger::new(rt.alloc());
-    push_again(&rt, &mut ledger, &mut twin)?;
-    for number in 0..66 {
-        gain_again(&rt, &mut ledger, &mut twin, 0, must(number, 10))?;
+    another_row_comes(&rt, &mut ledger, &mut twin)
+}
+
+/// Both pay sixty debts of five messages by turns.
+fn pay_by_turns(rt: &impl Abort, ledger: &mut Ledger, twin: &mut Ledger) {
+    for number in 0..60 {
+        assert!(rt; at_rows::pay(rt, ledger, 0, number % 5, 10));
+        assert!(rt; at_rows::pay(rt, twin, 0, number % 5, 10));
     }
-    push_again(&rt, &mut ledger, &mut twin)
 }
 
 /// Little is left of a long row, which stands over a list of entries again where there is memory.
+fn a_long_row_is_paid(
+    rt: &(impl Abort + AllocGlobal),
+    ledger: &mut Ledger,
+    twin: &mut Ledger,
+) -> Result<(), Fail> {
+    push_again(rt, ledger, twin)?;
+    gain_by_turns(rt, ledger, twin, 70)?;
+    pay_by_turns(rt, ledger, twin);
+    ledger.tidy();
+    alike(rt, ledger, twin)?;
+    gain_again(rt, ledger, twin, 0, must(9, 10))
+}
+
 #[test]
 fn a_long_row_is_tidied_after_a_refused_growth(rt: HostRuntime) -> Result<(), Fail> {
     let mut ledger = Ledger::new(rt.alloc());
     let mut twin = Ledger::new(rt.alloc());
-    push_again(&rt, &mut ledger, &mut twin)?;
-    for number in 0..70 {
-        gain_again(&rt, &mut ledger, &mut twin, 0, must(number % 5, 10))?;
-    }
-    for number in 0..60 {
-        assert!(rt; 0 < ledger.len());
-        assert!(rt; 0 < twin.len());
-        assert!(rt; ledger.pay(0, number % 5, 10));
-        assert!(rt; twin.pay(0, number % 5, 10));
-    }
-    ledger.tidy();
-    alike(&rt, &ledger, &twin)?;
-    gain_again(&rt, &mut ledger, &mut twin, 0, must(9, 10))
+    a_long_row_is_paid(&rt, &mut ledger, &mut twin)
 }

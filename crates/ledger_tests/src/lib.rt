@@ -2,6 +2,8 @@
 #![tactic(auto)]
 
 #[cfg(test)]
+mod at_rows;
+#[cfg(test)]
 mod growths;
 #[cfg(test)]
 mod lists;

@@ -1,5 +1,7 @@
 //! What rows owe, as plain lists.
-use sip_ledger::{Debt, Ledger};
+use crate::at_rows;
+use sip_ledger::{Debt, Ledger, Run};
+use std::alloc::AllocError;
 use std::process::Abort;
 use std::test::Fail;
 
@@ -24,10 +26,17 @@ pub(crate) fn of_one(rt: &(impl Abort + AllocGlobal), list: &[Debt]) -> Result<L
     let mut ledger = Ledger::new(rt.alloc());
     ledger.push()?;
     for debt in list {
-        assert!(rt; 0 < ledger.len());
-        ledger.gain(0, *debt)?;
+        at_rows::gain(rt, &mut ledger, 0, *debt)?;
     }
     Ok(ledger)
+}
+
+/// Puts a run's debts behind the others, one by one.
+fn push_run(debts: &mut Vec<Debt>, run: &Run) -> Result<(), AllocError> {
+    for _ in 0..run.count {
+        debts.push(run.debt)?;
+    }
+    Ok(())
 }
 
 /// What the row owes.
@@ -37,11 +46,10 @@ pub(crate) fn debts(
     row: usize,
 ) -> Result<Vec<Debt>, Fail> {
     assert!(rt; row < ledger.len());
+    let runs = ledger.runs(rt.alloc(), row)?;
     let mut debts = Vec::new(rt.alloc());
-    for run in &ledger.runs(rt.alloc(), row)? {
-        for _ in 0..run.count {
-            debts.push(run.debt)?;
-        }
+    for run in &runs {
+        push_run(&mut debts, run)?;
     }
     Ok(debts)
 }
@@ -74,6 +82,14 @@ fn can_pay(list: &[Debt], message: u32, moment: u64) -> bool {
         .any(|debt| debt.message == message && moment <= debt.deadline)
 }
 
+/// The row pays the messages that the list can, and no others.
+fn pays_as(rt: &impl Abort, ledger: &mut Ledger, row: usize, list: &[Debt]) {
+    for message in 0..4 {
+        let can = at_rows::can_pay(rt, ledger, row, message, 20);
+        assert!(rt; can == can_pay(list, message, 20), "{row}: {message}");
+    }
+}
+
 /// The row owes this list, whatever it is asked.
 pub(crate) fn owes(
     rt: &(impl Abort + AllocGlobal),
@@ -82,23 +98,12 @@ pub(crate) fn owes(
     list: &[Debt],
 ) -> Result<(), Fail> {
     let owed = debts(rt, ledger, row)?;
-    assert!(rt; owed.as_slice() == list, "{row}: {owed:?} for {list:?}");
-    assert!(rt; row < ledger.len());
-    assert!(rt; ledger.owes_nothing(row) == list.is_empty());
-    assert!(rt;
-        ledger.earliest_must(row) == earliest_must(list),
-        "{row}: {list:?}"
-    );
-    assert!(rt; row < ledger.len());
-    assert!(rt; ledger.span(row) == span(list), "{row}: {list:?}");
-    for message in 0..4 {
-        assert!(rt; row < ledger.len());
-        let can = ledger.can_pay(row, message, 20);
-        assert!(rt;
-            can == can_pay(list, message, 20),
-            "{row}: {message} in {list:?}"
-        );
-    }
+    assert!(rt; owed.as_slice() == list, "{row}");
+    assert!(rt; at_rows::owes_nothing(rt, ledger, row) == list.is_empty());
+    let earliest = at_rows::earliest_must(rt, ledger, row);
+    assert!(rt; earliest == earliest_must(list), "{row}");
+    assert!(rt; at_rows::span(rt, ledger, row) == span(list), "{row}");
+    pays_as(rt, ledger, row, list);
     Ok(())
 }
 
@@ -112,11 +117,11 @@ pub(crate) fn agree(
     for (row, list) in lists.iter().enumerate() {
         owes(rt, ledger, row, list)?;
         for (other, another) in lists.iter().enumerate() {
-            assert!(rt; row < ledger.len());
-            assert!(rt; other < ledger.len());
-            let same = ledger.same(row, other);
+            let same = at_rows::same(rt, ledger, row, other);
             assert!(rt; same == (list == another), "{row} and {other}");
-            assert!(rt; !same || ledger.print(row) == ledger.print(other));
+            assert!(rt;
+                !same || at_rows::print(rt, ledger, row) == at_rows::print(rt, ledger, other)
+            );
         }
     }
     Ok(())

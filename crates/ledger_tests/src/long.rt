@@ -1,6 +1,8 @@
 //! One row that owes more than a word has bits for.
+use crate::at_rows;
 use crate::lists::{agree, may, must, of_one, owes};
 use sip_ledger::{Debt, Ledger};
+use std::alloc::AllocError;
 use std::process::Abort;
 use std::test::Fail;
 
@@ -18,13 +20,17 @@ fn pays(rt: &(impl Abort + AllocGlobal), count: u32, order: &[u32]) -> Result<()
     let mut list = different(rt, count)?;
     let mut ledger = of_one(rt, &list)?;
     for message in order {
-        assert!(rt; 0 < ledger.len());
-        assert!(rt; ledger.pay(0, *message, 1000), "{message}");
+        assert!(rt;
+            at_rows::pay(rt, &mut ledger, 0, *message, 1000),
+            "{message}"
+        );
         list.retain(|debt| debt.message != *message);
         ledger.tidy();
         owes(rt, &mut ledger, 0, &list)?;
-        assert!(rt; 0 < ledger.len());
-        assert!(rt; !ledger.pay(0, *message, 1000), "{message}");
+        assert!(rt;
+            !at_rows::pay(rt, &mut ledger, 0, *message, 1000),
+            "{message}"
+        );
     }
     Ok(())
 }
@@ -77,12 +83,10 @@ fn of_three_deadlines(rt: &(impl Abort + AllocGlobal)) -> Result<Vec<Debt>, Fail
 fn a_long_row_expires(rt: HostRuntime) -> Result<(), Fail> {
     let mut list = of_three_deadlines(&rt)?;
     let mut ledger = of_one(&rt, &list)?;
-    assert!(rt; 0 < ledger.len());
-    ledger.expire(0, 11);
+    at_rows::expire(&rt, &mut ledger, 0, 11);
     list.retain(|debt| debt.deadline != 10);
     owes(&rt, &mut ledger, 0, &list)?;
-    assert!(rt; 0 < ledger.len());
-    ledger.expire(0, 21);
+    at_rows::expire(&rt, &mut ledger, 0, 21);
     owes(&rt, &mut ledger, 0, &list)
 }
 
@@ -91,12 +95,10 @@ fn a_long_row_expires(rt: HostRuntime) -> Result<(), Fail> {
 fn a_long_row_pays_what_is_not_past(rt: HostRuntime) -> Result<(), Fail> {
     let mut list = of_three_deadlines(&rt)?;
     let mut ledger = of_one(&rt, &list)?;
-    assert!(rt; 0 < ledger.len());
-    assert!(rt; ledger.pay(0, 1, 21));
+    assert!(rt; at_rows::pay(&rt, &mut ledger, 0, 1, 21));
     assert!(rt; list.len() > 40);
     list.remove(40);
-    assert!(rt; 0 < ledger.len());
-    assert!(rt; ledger.pay_any(0, &[1, 3], 30));
+    assert!(rt; at_rows::pay_any(&rt, &mut ledger, 0, &[1, 3], 30));
     assert!(rt; list.len() > 40);
     list.remove(40);
     owes(&rt, &mut ledger, 0, &list)
@@ -106,10 +108,8 @@ fn a_long_row_pays_what_is_not_past(rt: HostRuntime) -> Result<(), Fail> {
 fn a_long_row_pays_nothing_that_is_past(rt: HostRuntime) -> Result<(), Fail> {
     let list = of_three_deadlines(&rt)?;
     let mut ledger = of_one(&rt, &list)?;
-    assert!(rt; 0 < ledger.len());
-    assert!(rt; !ledger.pay_any(0, &[1, 3], 31));
-    assert!(rt; 0 < ledger.len());
-    assert!(rt; !ledger.can_pay_any(0, &[1, 3], 31));
+    assert!(rt; !at_rows::pay_any(&rt, &mut ledger, 0, &[1, 3], 31));
+    assert!(rt; !at_rows::can_pay_any(&rt, &ledger, 0, &[1, 3], 31));
     owes(&rt, &mut ledger, 0, &list)
 }
 
@@ -118,32 +118,25 @@ fn a_long_row_pays_nothing_that_is_past(rt: HostRuntime) -> Result<(), Fail> {
 fn a_long_row_softens(rt: HostRuntime) -> Result<(), Fail> {
     let mut list = of_three_deadlines(&rt)?;
     let mut ledger = of_one(&rt, &list)?;
-    assert!(rt; 0 < ledger.len());
-    ledger.soften(0);
+    at_rows::soften(&rt, &mut ledger, 0);
     for debt in list.iter_mut() {
         debt.must = false;
     }
     owes(&rt, &mut ledger, 0, &list)?;
-    assert!(rt; 0 < ledger.len());
-    ledger.expire(0, 21);
+    at_rows::expire(&rt, &mut ledger, 0, 21);
     list.retain(|debt| debt.deadline == 30);
     owes(&rt, &mut ledger, 0, &list)?;
-    assert!(rt; 0 < ledger.len());
-    ledger.clear(0);
+    at_rows::clear(&rt, &mut ledger, 0);
     owes(&rt, &mut ledger, 0, &[])
 }
 
 /// A long row that was copied to itself, and its copy behind it, which pays the message 3.
 fn with_copy(rt: &(impl Abort + AllocGlobal), list: &[Debt]) -> Result<Ledger, Fail> {
     let mut ledger = of_one(rt, list)?;
-    assert!(rt; 0 < ledger.len());
-    ledger.copy(0, 0);
-    assert!(rt; 0 < ledger.len());
-    assert!(rt; ledger.same(0, 0));
-    assert!(rt; 0 < ledger.len());
-    ledger.push_copy(0)?;
-    assert!(rt; 1 < ledger.len());
-    assert!(rt; ledger.pay(1, 3, 0));
+    at_rows::copy(rt, &mut ledger, 0, 0);
+    assert!(rt; at_rows::same(rt, &ledger, 0, 0));
+    at_rows::push_copy(rt, &mut ledger, 0)?;
+    assert!(rt; at_rows::pay(rt, &mut ledger, 1, 3, 0));
     Ok(ledger)
 }
 
@@ -210,35 +203,44 @@ fn a_long_row_goes(rt: HostRuntime) -> Result<(), Fail> {
     owes(&rt, &mut ledger, 0, &[])
 }
 
+/// The row comes to owe a hundred messages more.
+fn gain_a_hundred(rt: &impl Abort, ledger: &mut Ledger) -> Result<(), AllocError> {
+    for message in 100..200 {
+        at_rows::gain(rt, ledger, 0, may(message, 10))?;
+    }
+    Ok(())
+}
+
+/// The row pays each of the messages.
+fn pays_each(rt: &impl Abort, ledger: &mut Ledger, messages: &[u32]) {
+    for message in messages {
+        assert!(rt; at_rows::pay(rt, ledger, 0, *message, 0));
+    }
+}
+
+/// What the row owes has this span.
+fn spans(rt: &impl Abort, ledger: &Ledger, want: Option<(u32, u32)>) {
+    assert!(rt; at_rows::span(rt, ledger, 0) == want);
+}
+
 /// The span of what a row owes, whatever it owes.
+fn spans_what_is_owed(rt: &impl Abort, ledger: &mut Ledger) -> Result<(), AllocError> {
+    spans(rt, ledger, Some((3, 9)));
+    pays_each(rt, ledger, &[9]);
+    spans(rt, ledger, Some((3, 7)));
+    gain_a_hundred(rt, ledger)?;
+    spans(rt, ledger, Some((3, 199)));
+    pays_each(rt, ledger, &[3, 3, 7, 199, 100]);
+    spans(rt, ledger, Some((101, 198)));
+    at_rows::expire(rt, ledger, 0, 11);
+    spans(rt, ledger, None);
+    Ok(())
+}
+
 #[test]
 fn a_span_is_of_what_is_owed(rt: HostRuntime) -> Result<(), Fail> {
-    let mut ledger = of_one(&rt, &[])?;
-    assert!(rt; 0 < ledger.len());
-    assert!(rt; ledger.span(0).is_none());
-    for message in [7, 3, 9, 3] {
-        assert!(rt; 0 < ledger.len());
-        ledger.gain(0, must(message, 10))?;
-    }
-    assert!(rt; 0 < ledger.len());
-    assert!(rt; ledger.span(0) == Some((3, 9)));
-    assert!(rt; ledger.pay(0, 9, 0));
-    assert!(rt; 0 < ledger.len());
-    assert!(rt; ledger.span(0) == Some((3, 7)));
-    for message in 100..200 {
-        assert!(rt; 0 < ledger.len());
-        ledger.gain(0, may(message, 10))?;
-    }
-    assert!(rt; 0 < ledger.len());
-    assert!(rt; ledger.span(0) == Some((3, 199)));
-    for message in [3, 3, 7, 199, 100] {
-        assert!(rt; 0 < ledger.len());
-        assert!(rt; ledger.pay(0, message, 0));
-    }
-    assert!(rt; 0 < ledger.len());
-    assert!(rt; ledger.span(0) == Some((101, 198)));
-    ledger.expire(0, 11);
-    assert!(rt; 0 < ledger.len());
-    assert!(rt; ledger.span(0).is_none());
-    Ok(())
+    spans(&rt, &of_one(&rt, &[])?, None);
+    let list = [must(7, 10), must(3, 10), must(9, 10), must(3, 10)];
+    let mut ledger = of_one(&rt, &list)?;
+    Ok(spans_what_is_owed(&rt, &mut ledger)?)
 }

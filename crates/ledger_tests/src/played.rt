@@ -1,6 +1,7 @@
 //! Steps by chance, on rows and on plain lists of debts beside them.
 ghost use Rattle.std.specs.Prelude.{◌<◌, All, AllPairs, IfOk};
 
+use crate::at_rows;
 use crate::lists::{agree, owes};
 use sip_ledger::{Debt, Ledger};
 use std::alloc::Global;
@@ -31,8 +32,7 @@ fn pay(
     message: u32,
     moment: u64,
 ) {
-    assert!(rt; row < ledger.len());
-    let paid = ledger.pay(row, message, moment);
+    let paid = at_rows::pay(rt, ledger, row, message, moment);
     let first = list
         .iter()
         .position(|debt| debt.message == message && moment <= debt.deadline);
@@ -44,8 +44,7 @@ fn pay(
 
 /// The row pays one of two messages, as its list does.
 fn pay_any(rt: &impl Abort, ledger: &mut Ledger, list: &mut Vec<Debt>, row: usize, moment: u64) {
-    assert!(rt; row < ledger.len());
-    let paid = ledger.pay_any(row, &[1, 2], moment);
+    let paid = at_rows::pay_any(rt, ledger, row, &[1, 2], moment);
     let first = list.iter().position(|debt| (debt.message == 1 || debt.message == 2)
         && moment <= debt.deadline);
     assert!(rt; paid == first.is_some());
@@ -64,22 +63,21 @@ fn step(
 ) -> Result<(), Fail> {
     let message = u32::try_from(chance.below(4)).unwrap_or(0);
     let moment = chance.below(40);
-    assert!(rt; row < ledger.len());
     match chance.below(20) {
         0 => {
-            ledger.soften(row);
+            at_rows::soften(rt, ledger, row);
             for debt in list.iter_mut() {
                 debt.must = false;
             }
         }
         1 => {
-            ledger.expire(row, moment);
+            at_rows::expire(rt, ledger, row, moment);
             list.retain(|debt| debt.must || moment <= debt.deadline);
         }
         2 => ledger.tidy(),
         3 => {
             if chance.below(8) == 0 {
-                ledger.clear(row);
+                at_rows::clear(rt, ledger, row);
                 list.clear();
             }
         }
@@ -91,7 +89,7 @@ fn step(
                 deadline: 10 * (moment / 10),
                 must: chance.below(2) == 0,
             };
-            ledger.gain(row, debt)?;
+            at_rows::gain(rt, ledger, row, debt)?;
             list.push(debt)?;
         }
     }
@@ -123,12 +121,12 @@ fn change_rows(
         }
         2 => {
             let copy = lists[row].clone()?;
-            ledger.copy(row, other);
+            at_rows::copy(rt, ledger, row, other);
             lists[other] = copy;
         }
         3 if lists.len() < 8 => {
             let copy = lists[row].clone()?;
-            ledger.push_copy(row)?;
+            at_rows::push_copy(rt, ledger, row)?;
             lists.push(copy)?;
         }
         _ => {
@@ -254,8 +252,7 @@ fn prints_agree(rt: &(impl Abort + AllocGlobal), ledger: &Ledger) -> Result<(), 
     let prints = ledger.prints(rt.alloc(), 0)?;
     assert_eq!(rt; prints.len(), ledger.len());
     for (row, print) in prints.iter().enumerate() {
-        assert!(rt; row < ledger.len());
-        assert!(rt; *print == ledger.print(row), "{row}");
+        assert!(rt; *print == at_rows::print(rt, ledger, row), "{row}");
     }
     Ok(())
 }
@@ -325,10 +322,8 @@ fn play_alone(rt: &(impl Abort + AllocGlobal), seed: u64, steps: u64) -> Result<
     for _ in 0..steps {
         step(rt, &mut chance, &mut ledger, &mut list, 0)?;
         if chance.below(50) == 0 {
-            assert!(rt; 0 < ledger.len());
-            ledger.push_copy(0)?;
-            assert!(rt; 1 < ledger.len());
-            assert!(rt; ledger.same(0, 1));
+            at_rows::push_copy(rt, &mut ledger, 0)?;
+            assert!(rt; at_rows::same(rt, &ledger, 0, 1));
             ledger.drop_first(1);
         }
     }

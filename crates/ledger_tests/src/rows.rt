@@ -1,4 +1,5 @@
 //! Each operation once, by hand.
+use crate::at_rows;
 use crate::lists::{debts, may, must, of_one, owes};
 use sip_ledger::{Debt, Ledger, Run};
 use std::process::Abort;
@@ -19,43 +20,33 @@ fn the_first_debt_of_a_message_is_paid(rt: HostRuntime) -> Result<(), Fail> {
     let list = [must(1, 10), may(2, 10), must(1, 10), must(1, 20)];
     let mut ledger = of_one(&rt, &list)?;
     owes(&rt, &mut ledger, 0, &list)?;
-    assert!(rt; 0 < ledger.len());
-    assert!(rt; ledger.pay(0, 1, 10));
+    assert!(rt; at_rows::pay(&rt, &mut ledger, 0, 1, 10));
     owes(&rt, &mut ledger, 0, &[may(2, 10), must(1, 10), must(1, 20)])?;
-    assert!(rt; 0 < ledger.len());
-    assert!(rt; ledger.pay(0, 1, 11));
+    assert!(rt; at_rows::pay(&rt, &mut ledger, 0, 1, 11));
     owes(&rt, &mut ledger, 0, &[may(2, 10), must(1, 10)])?;
-    assert!(rt; 0 < ledger.len());
-    assert!(rt; !ledger.pay(0, 1, 11));
-    assert!(rt; 0 < ledger.len());
-    assert!(rt; !ledger.pay(0, 3, 0));
-    assert!(rt; 0 < ledger.len());
-    assert!(rt; ledger.pay_any(0, &[2, 3], 10));
+    assert!(rt; !at_rows::pay(&rt, &mut ledger, 0, 1, 11));
+    assert!(rt; !at_rows::pay(&rt, &mut ledger, 0, 3, 0));
+    assert!(rt; at_rows::pay_any(&rt, &mut ledger, 0, &[2, 3], 10));
     owes(&rt, &mut ledger, 0, &[must(1, 10)])
 }
 
 #[test]
 fn what_may_be_sent_expires(rt: HostRuntime) -> Result<(), Fail> {
     let mut ledger = of_one(&rt, &[may(1, 10), must(2, 10), may(1, 11), may(3, 9)])?;
-    assert!(rt; 0 < ledger.len());
-    ledger.expire(0, 11);
+    at_rows::expire(&rt, &mut ledger, 0, 11);
     owes(&rt, &mut ledger, 0, &[must(2, 10), may(1, 11)])?;
-    assert!(rt; 0 < ledger.len());
-    ledger.soften(0);
+    at_rows::soften(&rt, &mut ledger, 0);
     owes(&rt, &mut ledger, 0, &[may(2, 10), may(1, 11)])?;
-    assert!(rt; 0 < ledger.len());
-    ledger.clear(0);
+    at_rows::clear(&rt, &mut ledger, 0);
     owes(&rt, &mut ledger, 0, &[])
 }
 
 /// A row, its copy that owes one more, and a row that owes nothing.
 fn of_three(rt: &(impl Abort + AllocGlobal)) -> Result<Ledger, Fail> {
     let mut ledger = of_one(rt, &[must(1, 10)])?;
-    assert!(rt; 0 < ledger.len());
-    ledger.push_copy(0)?;
+    at_rows::push_copy(rt, &mut ledger, 0)?;
     ledger.push()?;
-    assert!(rt; 1 < ledger.len());
-    ledger.gain(1, may(2, 20))?;
+    at_rows::gain(rt, &mut ledger, 1, may(2, 20))?;
     Ok(ledger)
 }
 
@@ -67,8 +58,7 @@ fn rows_are_copied(rt: HostRuntime) -> Result<(), Fail> {
     owes(&rt, &mut ledger, 0, &[must(1, 10)])?;
     owes(&rt, &mut ledger, 1, &[must(1, 10), may(2, 20)])?;
     owes(&rt, &mut ledger, 2, &[])?;
-    assert!(rt; 2 < ledger.len());
-    ledger.copy(1, 2);
+    at_rows::copy(&rt, &mut ledger, 1, 2);
     owes(&rt, &mut ledger, 2, &[must(1, 10), may(2, 20)])
 }
 
@@ -88,6 +78,23 @@ fn rows_are_dropped(rt: HostRuntime) -> Result<(), Fail> {
     Ok(())
 }
 
+/// The only row has these runs.
+fn has_runs(rt: &(impl Abort + AllocGlobal), ledger: &Ledger, wants: &[Run]) -> Result<(), Fail> {
+    assert!(rt; 0 < ledger.len());
+    let runs = ledger.runs(rt.alloc(), 0)?;
+    assert!(rt; runs.as_slice() == wants);
+    Ok(())
+}
+
+/// And names these messages.
+fn has_names(rt: &(impl Abort + AllocGlobal), ledger: &Ledger, wants: &[u32]) -> Result<(), Fail> {
+    let mut numbers = Vec::new(rt.alloc());
+    assert!(rt; 0 < ledger.len());
+    ledger.names(0, &mut numbers)?;
+    assert!(rt; numbers.as_slice() == wants);
+    Ok(())
+}
+
 #[test]
 fn equal_neighbours_are_one_run(rt: HostRuntime) -> Result<(), Fail> {
     let list = [
@@ -98,8 +105,6 @@ fn equal_neighbours_are_one_run(rt: HostRuntime) -> Result<(), Fail> {
         must(1, 10),
     ];
     let ledger = of_one(&rt, &list)?;
-    assert!(rt; 0 < ledger.len());
-    let runs = ledger.runs(rt.alloc(), 0)?;
     let run = |debt, count| Run { debt, count };
     let wants = [
         run(must(1, 10), 2),
@@ -107,12 +112,8 @@ fn equal_neighbours_are_one_run(rt: HostRuntime) -> Result<(), Fail> {
         run(must(2, 10), 1),
         run(must(1, 10), 1),
     ];
-    assert!(rt; runs.as_slice() == wants.as_slice(), "{runs:?}");
-    let mut numbers = Vec::new(rt.alloc());
-    assert!(rt; 0 < ledger.len());
-    ledger.names(0, &mut numbers)?;
-    assert!(rt; numbers.as_slice() == [1, 1, 1, 2, 1].as_slice());
-    Ok(())
+    has_runs(&rt, &ledger, &wants)?;
+    has_names(&rt, &ledger, &[1, 1, 1, 2, 1])
 }
 
 /// The same debts in one order have one spelling, whichever entries they came by.
@@ -120,16 +121,12 @@ fn equal_neighbours_are_one_run(rt: HostRuntime) -> Result<(), Fail> {
 fn equal_rows_are_the_same(rt: HostRuntime) -> Result<(), Fail> {
     let mut ledger = of_one(&rt, &[must(1, 10), must(2, 10), must(1, 10)])?;
     ledger.push()?;
-    assert!(rt; 1 < ledger.len());
-    ledger.gain(1, must(2, 10))?;
-    assert!(rt; 1 < ledger.len());
-    ledger.gain(1, must(1, 10))?;
-    assert!(rt; 1 < ledger.len());
-    assert!(rt; !ledger.same(0, 1));
-    assert!(rt; ledger.pay(0, 1, 0));
-    assert!(rt; 1 < ledger.len());
-    assert!(rt; ledger.same(0, 1));
-    assert!(rt; ledger.print(0) == ledger.print(1));
+    at_rows::gain(&rt, &mut ledger, 1, must(2, 10))?;
+    at_rows::gain(&rt, &mut ledger, 1, must(1, 10))?;
+    assert!(rt; !at_rows::same(&rt, &ledger, 0, 1));
+    assert!(rt; at_rows::pay(&rt, &mut ledger, 0, 1, 0));
+    assert!(rt; at_rows::same(&rt, &ledger, 0, 1));
+    assert!(rt; at_rows::print(&rt, &ledger, 0) == at_rows::print(&rt, &ledger, 1));
     Ok(())
 }
 
@@ -138,20 +135,17 @@ fn equal_rows_are_the_same(rt: HostRuntime) -> Result<(), Fail> {
 fn entries_that_no_row_owes_go(rt: HostRuntime) -> Result<(), Fail> {
     let mut ledger = of_one(&rt, &[])?;
     for number in 0..100 {
-        assert!(rt; 0 < ledger.len());
-        ledger.gain(0, must(number, 10))?;
+        at_rows::gain(&rt, &mut ledger, 0, must(number, 10))?;
     }
     for number in 0..70 {
-        assert!(rt; 0 < ledger.len());
-        assert!(rt; ledger.pay(0, number, 0), "{number}");
+        assert!(rt; at_rows::pay(&rt, &mut ledger, 0, number, 0), "{number}");
         ledger.tidy();
     }
     let left = debts(&rt, &ledger, 0)?;
     assert_eq!(rt; left.len(), 30);
     assert!(rt; left[0] == must(70, 10));
     for number in 70..100 {
-        assert!(rt; 0 < ledger.len());
-        assert!(rt; ledger.pay(0, number, 0), "{number}");
+        assert!(rt; at_rows::pay(&rt, &mut ledger, 0, number, 0), "{number}");
     }
     ledger.tidy();
     assert_eq!(rt; ledger.len(), 1);

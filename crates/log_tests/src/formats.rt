@@ -7,6 +7,7 @@ use sip_log::{
 };
 use sip_times::{Action, Params, Rules};
 use std::alloc::{AllocError, Global};
+use std::process::Abort;
 use std::test::Fail;
 
 const HEADER_2: &[u8] = b"sip-trace 2\nt1 500 t2 4000 t4 5000 early 50 late 60\n";
@@ -29,48 +30,54 @@ fn told(alloc: Global, bytes: &[u8]) -> Option<Told> {
     ))
 }
 
+static RESTARTS: &[Row] = &[
+    (b"", 0, None),
+    (b"Z 100\n", 1, None),
+    (b"S 0 5\nhello\nZ 100\nM 5000\n", 3, None),
+    (b"Z 9999999999999\nZ 9999999999999\n", 2, None),
+    (b"Z 10000000000000\n", 0, Some(LogError::Limit)),
+    (b"M 5\nZ 4\n", 1, Some(LogError::Order)),
+    (b"Z 0", 0, Some(LogError::Truncated)),
+    (b"z 0\n", 0, Some(LogError::EntryLine)),
+];
+
 #[test]
 fn restarts_in_any_pieces(rt: HostRuntime) -> Result<(), Fail> {
-    let rows: [Row; 8] = [
-        (b"", 0, None),
-        (b"Z 100\n", 1, None),
-        (b"S 0 5\nhello\nZ 100\nM 5000\n", 3, None),
-        (b"Z 9999999999999\nZ 9999999999999\n", 2, None),
-        (b"Z 10000000000000\n", 0, Some(LogError::Limit)),
-        (b"M 5\nZ 4\n", 1, Some(LogError::Order)),
-        (b"Z 0", 0, Some(LogError::Truncated)),
-        (b"z 0\n", 0, Some(LogError::EntryLine)),
-    ];
-    assert_eq!(rt; first_other(rt.alloc(), HEADER_2, &rows)?, None);
+    assert_eq!(rt; first_other(rt.alloc(), HEADER_2, RESTARTS)?, None);
     Ok(())
 }
 
+static NO_RESTARTS: &[Row] = &[
+    (b"Z 0 5\nhello\n", 0, Some(LogError::EntryLine)),
+    (b"Z 00\n", 0, Some(LogError::EntryLine)),
+    (b"Z  0\n", 0, Some(LogError::EntryLine)),
+    (b"Z\n", 0, Some(LogError::EntryLine)),
+];
+
 #[test]
 fn lines_that_are_no_restart_in_any_pieces(rt: HostRuntime) -> Result<(), Fail> {
-    let rows: [Row; 4] = [
-        (b"Z 0 5\nhello\n", 0, Some(LogError::EntryLine)),
-        (b"Z 00\n", 0, Some(LogError::EntryLine)),
-        (b"Z  0\n", 0, Some(LogError::EntryLine)),
-        (b"Z\n", 0, Some(LogError::EntryLine)),
-    ];
-    assert_eq!(rt; first_other(rt.alloc(), HEADER_2, &rows)?, None);
+    assert_eq!(rt; first_other(rt.alloc(), HEADER_2, NO_RESTARTS)?, None);
     Ok(())
 }
+
+static RESTARTS_IN_FORMAT_1: &[Row] = &[
+    (b"Z 100\n", 0, Some(LogError::EntryLine)),
+    (b"M 1\nZ 100\n", 1, Some(LogError::EntryLine)),
+    (b"rules 3261\nZ 100\n", 0, Some(LogError::EntryLine)),
+];
 
 /// Format 1 has no restarts.
 #[test]
 fn format_1_has_no_restarts(rt: HostRuntime) -> Result<(), Fail> {
-    let rows: [Row; 3] = [
-        (b"Z 100\n", 0, Some(LogError::EntryLine)),
-        (b"M 1\nZ 100\n", 1, Some(LogError::EntryLine)),
-        (b"rules 3261\nZ 100\n", 0, Some(LogError::EntryLine)),
-    ];
-    assert_eq!(rt; first_other(rt.alloc(), HEADER, &rows)?, None);
+    assert_eq!(rt;
+        first_other(rt.alloc(), HEADER, RESTARTS_IN_FORMAT_1)?,
+        None
+    );
     Ok(())
 }
 
 /// Rows of the line of rules, which are the same behind both headers.
-const RULES: [Row; 11] = [
+static RULES: &[Row] = &[
     (b"rules 3261\n", 0, None),
     (b"rules 6026\n", 0, None),
     (b"rules 3261\nM 0\n", 1, None),
@@ -86,62 +93,63 @@ const RULES: [Row; 11] = [
 
 #[test]
 fn rules_in_any_pieces(rt: HostRuntime) -> Result<(), Fail> {
-    assert_eq!(rt; first_other(rt.alloc(), HEADER, &RULES)?, None);
-    assert_eq!(rt; first_other(rt.alloc(), HEADER_2, &RULES)?, None);
+    assert_eq!(rt; first_other(rt.alloc(), HEADER, RULES)?, None);
+    assert_eq!(rt; first_other(rt.alloc(), HEADER_2, RULES)?, None);
     Ok(())
 }
 
+static HEADERS_OF_FORMAT_2: &[Row] = &[
+    (
+        b"sip-trace 2\nt1 10000 t2 60000 t4 60000 early 10000 late 10000\n",
+        0,
+        None,
+    ),
+    (b"sip-trace 2\nt1 1 t2 1 t4 1 early 0 late 0\n", 0, None),
+    (
+        b"sip-trace 2\nt1 500 t2 4000 t4 5000 tolerance 50\n",
+        0,
+        Some(LogError::Header),
+    ),
+    (
+        b"sip-trace 1\nt1 500 t2 4000 t4 5000 early 50 late 50\n",
+        0,
+        Some(LogError::Header),
+    ),
+    (
+        b"sip-trace 2\nt1 500 t2 4000 t4 5000 early 50\n",
+        0,
+        Some(LogError::Header),
+    ),
+    (
+        b"sip-trace 2\nt1 500 t2 4000 t4 5000 late 50 early 50\n",
+        0,
+        Some(LogError::Header),
+    ),
+    (
+        b"sip-trace 2\nt1 500 t2 4000 t4 5000 early 10001 late 0\n",
+        0,
+        Some(LogError::Header),
+    ),
+    (
+        b"sip-trace 2\nt1 500 t2 4000 t4 5000 early 0 late 10001\n",
+        0,
+        Some(LogError::Header),
+    ),
+    (
+        b"sip-trace 3\nt1 500 t2 4000 t4 5000 early 50 late 50\n",
+        0,
+        Some(LogError::Header),
+    ),
+    (
+        b"sip-trace 2\nt1 500 t2 4000 t4 5000 early 50 late 60",
+        0,
+        Some(LogError::Header),
+    ),
+];
+
 #[test]
 fn headers_of_format_2_in_any_pieces(rt: HostRuntime) -> Result<(), Fail> {
-    let rows: [Row; 10] = [
-        (
-            b"sip-trace 2\nt1 10000 t2 60000 t4 60000 early 10000 late 10000\n",
-            0,
-            None,
-        ),
-        (b"sip-trace 2\nt1 1 t2 1 t4 1 early 0 late 0\n", 0, None),
-        (
-            b"sip-trace 2\nt1 500 t2 4000 t4 5000 tolerance 50\n",
-            0,
-            Some(LogError::Header),
-        ),
-        (
-            b"sip-trace 1\nt1 500 t2 4000 t4 5000 early 50 late 50\n",
-            0,
-            Some(LogError::Header),
-        ),
-        (
-            b"sip-trace 2\nt1 500 t2 4000 t4 5000 early 50\n",
-            0,
-            Some(LogError::Header),
-        ),
-        (
-            b"sip-trace 2\nt1 500 t2 4000 t4 5000 late 50 early 50\n",
-            0,
-            Some(LogError::Header),
-        ),
-        (
-            b"sip-trace 2\nt1 500 t2 4000 t4 5000 early 10001 late 0\n",
-            0,
-            Some(LogError::Header),
-        ),
-        (
-            b"sip-trace 2\nt1 500 t2 4000 t4 5000 early 0 late 10001\n",
-            0,
-            Some(LogError::Header),
-        ),
-        (
-            b"sip-trace 3\nt1 500 t2 4000 t4 5000 early 50 late 50\n",
-            0,
-            Some(LogError::Header),
-        ),
-        (
-            b"sip-trace 2\nt1 500 t2 4000 t4 5000 early 50 late 60",
-            0,
-            Some(LogError::Header),
-        ),
-    ];
-    assert_eq!(rt; first_other(rt.alloc(), b"", &rows)?, None);
+    assert_eq!(rt; first_other(rt.alloc(), b"", HEADERS_OF_FORMAT_2)?, None);
     Ok(())
 }
 
@@ -202,12 +210,18 @@ fn times(early: u64, late: u64, rules: Rules) -> Option<Params> {
     Some(Params::with_tolerances(500, 4_000, 5_000, early, late)?.with_rules(rules))
 }
 
+/// What is written in format 2.
+fn written(rt: &(impl Abort + AllocGlobal), params: &Params) -> Vec<u8> {
+    let mut text = Vec::new(rt.alloc());
+    let mut sink = ToWrite::new(&mut text);
+    assert_eq!(rt; write(&mut sink, params), Ok(()));
+    text
+}
+
 #[test]
 fn what_is_written_in_format_2(rt: HostRuntime) -> Result<(), Fail> {
     let params = times(0, 100, Rules::R3261).ok_or("refused")?;
-    let mut text = Vec::new(rt.alloc());
-    let mut sink = ToWrite::new(&mut text);
-    assert_eq!(rt; write(&mut sink, &params), Ok(()));
+    let text = written(&rt, &params);
     assert!(rt; text.as_slice() == WRITTEN);
     assert_eq!(rt; read_cut(rt.alloc(), WRITTEN), Some((3, None)));
     Ok(())

@@ -1,11 +1,12 @@
 //! Rows of the format, read in pieces of any size and written again.
 use crate::devices::{Pieces, Room};
 use sip_log::{
-    Broken, FromRead, LogError, LogReader, Progress, Sink, Source, ToWrite, WriteError,
+    Broken, Entry, FromRead, LogError, LogReader, Progress, Sink, Source, ToWrite, WriteError,
     read_entries, write_entry, write_header,
 };
 use sip_times::{Action, Params, Rules};
 use std::alloc::{AllocError, Global};
+use std::process::Abort;
 use std::test::Fail;
 
 pub(crate) const HEADER: &[u8] = b"sip-trace 1\nt1 500 t2 4000 t4 5000 tolerance 50\n";
@@ -70,126 +71,131 @@ pub(crate) fn first_other(
     Ok(None)
 }
 
+static ENTRIES: &[Row] = &[
+    (b"", 0, None),
+    (b"S 0 5\nhello\nM 0\n", 2, None),
+    (b"R 7 1\n\n\nF 7 2\n\n\n\n", 2, None),
+    (b"M 9999999999999\nM 9999999999999\n", 2, None),
+];
+
 #[test]
 fn entries_in_any_pieces(rt: HostRuntime) -> Result<(), Fail> {
-    let rows: [Row; 4] = [
-        (b"", 0, None),
-        (b"S 0 5\nhello\nM 0\n", 2, None),
-        (b"R 7 1\n\n\nF 7 2\n\n\n\n", 2, None),
-        (b"M 9999999999999\nM 9999999999999\n", 2, None),
-    ];
-    assert_eq!(rt; first_other(rt.alloc(), HEADER, &rows)?, None);
+    assert_eq!(rt; first_other(rt.alloc(), HEADER, ENTRIES)?, None);
     Ok(())
 }
+
+static FAULTS_OF_A_LINE: &[Row] = &[
+    (
+        b"1111111111111111111111111111111",
+        0,
+        Some(LogError::Truncated),
+    ),
+    (
+        b"11111111111111111111111111111111",
+        0,
+        Some(LogError::EntryLine),
+    ),
+    (
+        b"M 000000000000000000000000000001\n",
+        0,
+        Some(LogError::EntryLine),
+    ),
+    (b"S 0 5\nhelloX", 0, Some(LogError::EntryLine)),
+    (b"S 0 5\nhell", 0, Some(LogError::Truncated)),
+];
 
 #[test]
 fn faults_of_a_line_in_any_pieces(rt: HostRuntime) -> Result<(), Fail> {
-    let rows: [Row; 5] = [
-        (
-            b"1111111111111111111111111111111",
-            0,
-            Some(LogError::Truncated),
-        ),
-        (
-            b"11111111111111111111111111111111",
-            0,
-            Some(LogError::EntryLine),
-        ),
-        (
-            b"M 000000000000000000000000000001\n",
-            0,
-            Some(LogError::EntryLine),
-        ),
-        (b"S 0 5\nhelloX", 0, Some(LogError::EntryLine)),
-        (b"S 0 5\nhell", 0, Some(LogError::Truncated)),
-    ];
-    assert_eq!(rt; first_other(rt.alloc(), HEADER, &rows)?, None);
+    assert_eq!(rt; first_other(rt.alloc(), HEADER, FAULTS_OF_A_LINE)?, None);
     Ok(())
 }
+
+static FAULTS_OF_A_MESSAGE: &[Row] = &[
+    (b"S 0 5\nhello", 0, Some(LogError::Truncated)),
+    (b"S 0 0\n", 0, Some(LogError::Limit)),
+    (b"S 0 65536\n", 0, Some(LogError::Limit)),
+    (b"M 0 \n", 0, Some(LogError::EntryLine)),
+    (b"M 0 1\n", 0, Some(LogError::EntryLine)),
+];
 
 #[test]
 fn faults_of_a_message_in_any_pieces(rt: HostRuntime) -> Result<(), Fail> {
-    let rows: [Row; 5] = [
-        (b"S 0 5\nhello", 0, Some(LogError::Truncated)),
-        (b"S 0 0\n", 0, Some(LogError::Limit)),
-        (b"S 0 65536\n", 0, Some(LogError::Limit)),
-        (b"M 0 \n", 0, Some(LogError::EntryLine)),
-        (b"M 0 1\n", 0, Some(LogError::EntryLine)),
-    ];
-    assert_eq!(rt; first_other(rt.alloc(), HEADER, &rows)?, None);
+    assert_eq!(rt; first_other(rt.alloc(), HEADER, FAULTS_OF_A_MESSAGE)?, None);
     Ok(())
 }
+
+static FAULTS_OF_NUMBERS: &[Row] = &[
+    (b"M 10000000000000\n", 0, Some(LogError::Limit)),
+    (b"s 0 5\n", 0, Some(LogError::EntryLine)),
+    (b"S 0  5\nhello\n", 0, Some(LogError::EntryLine)),
+    (b"S 10000000000000 199\n", 0, Some(LogError::Limit)),
+    (b"S 99999999999999999999999 99\n", 0, Some(LogError::Limit)),
+    (b"S 00 199\n", 0, Some(LogError::EntryLine)),
+    (b"M 5\nM 4\n", 1, Some(LogError::Order)),
+    (b"M 5\nS 4 9\n", 1, Some(LogError::Order)),
+];
 
 #[test]
 fn faults_of_numbers_in_any_pieces(rt: HostRuntime) -> Result<(), Fail> {
-    let rows: [Row; 8] = [
-        (b"M 10000000000000\n", 0, Some(LogError::Limit)),
-        (b"s 0 5\n", 0, Some(LogError::EntryLine)),
-        (b"S 0  5\nhello\n", 0, Some(LogError::EntryLine)),
-        (b"S 10000000000000 199\n", 0, Some(LogError::Limit)),
-        (b"S 99999999999999999999999 99\n", 0, Some(LogError::Limit)),
-        (b"S 00 199\n", 0, Some(LogError::EntryLine)),
-        (b"M 5\nM 4\n", 1, Some(LogError::Order)),
-        (b"M 5\nS 4 9\n", 1, Some(LogError::Order)),
-    ];
-    assert_eq!(rt; first_other(rt.alloc(), HEADER, &rows)?, None);
+    assert_eq!(rt; first_other(rt.alloc(), HEADER, FAULTS_OF_NUMBERS)?, None);
     Ok(())
 }
 
+static HEADERS: &[Row] = &[
+    (HEADER, 0, None),
+    (
+        b"sip-trace 1\nt1 10000 t2 60000 t4 60000 tolerance 10000\n",
+        0,
+        None,
+    ),
+    (b"sip-trace 1\nt1 1 t2 1 t4 1 tolerance 0\n", 0, None),
+    (b"", 0, Some(LogError::Header)),
+    (b"sip-trace 1", 0, Some(LogError::Header)),
+    (
+        b"sip-trace 2\nt1 500 t2 4000 t4 5000 tolerance 50\n",
+        0,
+        Some(LogError::Header),
+    ),
+    (
+        b"sip-trace 1\nt1 500 t2 4000 t4 5000 tolerance 50",
+        0,
+        Some(LogError::Header),
+    ),
+    (
+        b"sip-trace 1\nt1 500 t2 4000 t4 5000 tolerance 50\r\n",
+        0,
+        Some(LogError::Header),
+    ),
+    (
+        b"sip-trace 1\nt1 500 t2 4000 t4 5000\n",
+        0,
+        Some(LogError::Header),
+    ),
+    (
+        b"sip-trace 1\nt1 0500 t2 4000 t4 5000 tolerance 50\n",
+        0,
+        Some(LogError::Header),
+    ),
+    (
+        b"sip-trace 1\nt1 0 t2 4000 t4 5000 tolerance 50\n",
+        0,
+        Some(LogError::Header),
+    ),
+    (
+        b"sip-trace 1\nt1 500 t2 4000 t4 5000 tolerance 10001\n",
+        0,
+        Some(LogError::Header),
+    ),
+    (
+        b"sip-trace 1\nt1 500  t2 4000 t4 5000 tolerance 50\n",
+        0,
+        Some(LogError::Header),
+    ),
+];
+
 #[test]
 fn headers_in_any_pieces(rt: HostRuntime) -> Result<(), Fail> {
-    let rows: [Row; 13] = [
-        (HEADER, 0, None),
-        (
-            b"sip-trace 1\nt1 10000 t2 60000 t4 60000 tolerance 10000\n",
-            0,
-            None,
-        ),
-        (b"sip-trace 1\nt1 1 t2 1 t4 1 tolerance 0\n", 0, None),
-        (b"", 0, Some(LogError::Header)),
-        (b"sip-trace 1", 0, Some(LogError::Header)),
-        (
-            b"sip-trace 2\nt1 500 t2 4000 t4 5000 tolerance 50\n",
-            0,
-            Some(LogError::Header),
-        ),
-        (
-            b"sip-trace 1\nt1 500 t2 4000 t4 5000 tolerance 50",
-            0,
-            Some(LogError::Header),
-        ),
-        (
-            b"sip-trace 1\nt1 500 t2 4000 t4 5000 tolerance 50\r\n",
-            0,
-            Some(LogError::Header),
-        ),
-        (
-            b"sip-trace 1\nt1 500 t2 4000 t4 5000\n",
-            0,
-            Some(LogError::Header),
-        ),
-        (
-            b"sip-trace 1\nt1 0500 t2 4000 t4 5000 tolerance 50\n",
-            0,
-            Some(LogError::Header),
-        ),
-        (
-            b"sip-trace 1\nt1 0 t2 4000 t4 5000 tolerance 50\n",
-            0,
-            Some(LogError::Header),
-        ),
-        (
-            b"sip-trace 1\nt1 500 t2 4000 t4 5000 tolerance 10001\n",
-            0,
-            Some(LogError::Header),
-        ),
-        (
-            b"sip-trace 1\nt1 500  t2 4000 t4 5000 tolerance 50\n",
-            0,
-            Some(LogError::Header),
-        ),
-    ];
-    assert_eq!(rt; first_other(rt.alloc(), b"", &rows)?, None);
+    assert_eq!(rt; first_other(rt.alloc(), b"", HEADERS)?, None);
     Ok(())
 }
 
@@ -268,28 +274,69 @@ fn a_registration_whose_source_fails(rt: HostRuntime) -> Result<(), Fail> {
     Ok(())
 }
 
-/// The largest message, the last moment, and what stays known after an error.
-#[test]
-fn what_an_entry_tells(rt: HostRuntime) -> Result<(), Fail> {
-    let mut message = Vec::new(rt.alloc());
-    message.resize(65_535, b'\n')?;
-    let mut bytes = Vec::from_slice(rt.alloc(), HEADER)?;
+/// So many bytes that are all the same.
+fn all_of(alloc: Global, byte: u8, count: usize) -> Result<Vec<u8>, AllocError> {
+    let mut bytes = Vec::new(alloc);
+    bytes.resize(count, byte)?;
+    Ok(bytes)
+}
+
+/// The log of the largest message, of the last moment, and the front of an entry behind it.
+fn largest(alloc: Global, message: &[u8]) -> Result<Vec<u8>, AllocError> {
+    let mut bytes = Vec::from_slice(alloc, HEADER)?;
     bytes.extend_from_slice(b"R 9999999999999 65535\n")?;
-    bytes.extend_from_slice(&message)?;
+    bytes.extend_from_slice(message)?;
     bytes.extend_from_slice(b"\nx")?;
-    let mut reader = LogReader::new(rt.alloc(), FromRead::new(bytes.as_slice()));
-    assert!(rt; reader.params().is_none());
-    let entry = reader.next().ok().flatten().ok_or("no entry")?;
+    Ok(bytes)
+}
+
+/// That the entry is the largest one.
+fn is_largest(rt: &impl Abort, entry: &Entry, message: &[u8]) {
     assert_eq!(rt;
         (entry.number, entry.moment, entry.action),
         (1, 9_999_999_999_999, Action::Received)
     );
-    assert!(rt; entry.bytes.as_slice() == message.as_slice());
-    assert!(rt; matches!(reader.next(), Err(LogError::Truncated)));
+    assert!(rt; entry.bytes.as_slice() == message);
+}
+
+/// That the reader tells the largest entry first.
+fn tells_the_largest<R: Source>(
+    rt: &impl Abort,
+    reader: &mut LogReader<R>,
+    message: &[u8],
+) -> Result<(), Fail> {
+    let entry = reader.next().ok().flatten().ok_or("no entry")?;
+    is_largest(rt, &entry, message);
+    Ok(())
+}
+
+/// That the reader knows the times of the header.
+fn knows_the_times<R: Source>(rt: &impl Abort, reader: &LogReader<R>) -> Result<(), Fail> {
     let params = reader.params().ok_or("no times")?;
     assert_eq!(rt; (params.early(), params.late()), (50, 50));
     assert_eq!(rt; params.rules(), Rules::R6026);
     Ok(())
+}
+
+/// What a reader tells of the log of the largest entry, in turn.
+fn reads_the_largest(
+    rt: &(impl Abort + AllocGlobal),
+    bytes: &[u8],
+    message: &[u8],
+) -> Result<(), Fail> {
+    let mut reader = LogReader::new(rt.alloc(), FromRead::new(bytes));
+    assert!(rt; reader.params().is_none());
+    tells_the_largest(rt, &mut reader, message)?;
+    assert!(rt; matches!(reader.next(), Err(LogError::Truncated)));
+    knows_the_times(rt, &reader)
+}
+
+/// The largest message, the last moment, and what stays known after an error.
+#[test]
+fn what_an_entry_tells(rt: HostRuntime) -> Result<(), Fail> {
+    let message = all_of(rt.alloc(), b'\n', 65_535)?;
+    let bytes = largest(rt.alloc(), &message)?;
+    reads_the_largest(&rt, &bytes, &message)
 }
 
 /// A buffer that is handed back takes the next entry: what stood in it is gone, and its room stays.
@@ -322,6 +369,14 @@ fn write<W: Sink>(writer: &mut W, params: &Params) -> Result<(), WriteError> {
     write_entry(writer, Action::Mark, 9_999_999_999_999, b"plays no part")
 }
 
+/// What is written.
+fn written(rt: &(impl Abort + AllocGlobal), params: &Params) -> Vec<u8> {
+    let mut text = Vec::new(rt.alloc());
+    let mut sink = ToWrite::new(&mut text);
+    assert_eq!(rt; write(&mut sink, params), Ok(()));
+    text
+}
+
 const MESSAGES: &[&[u8]] = &[b"hello", b"\n", b"hi", b""];
 
 const WRITTEN: &[u8] =
@@ -330,9 +385,7 @@ const WRITTEN: &[u8] =
 #[test]
 fn what_is_written(rt: HostRuntime) -> Result<(), Fail> {
     let params = Params::new(500, 4_000, 5_000, 50).ok_or("refused")?;
-    let mut text = Vec::new(rt.alloc());
-    let mut sink = ToWrite::new(&mut text);
-    assert_eq!(rt; write(&mut sink, &params), Ok(()));
+    let text = written(&rt, &params);
     assert!(rt; text.as_slice() == WRITTEN);
     assert_eq!(rt; read_cut(rt.alloc(), WRITTEN), Some((4, None)));
     let entries = read_entries(rt.alloc(), &mut FromRead::new(WRITTEN));
@@ -347,36 +400,37 @@ fn reads_or_tells_want_of_memory(rt: HostRuntime) {
     assert!(rt; matches!(answer, Some((4, None)) | Some((_, Some(LogError::Memory)))));
 }
 
+/// An entry: what was done, its moment, and how many bytes its message has, each an x; and the answer where it is written.
+type Written = (Action, u64, usize, Result<(), WriteError>);
+
+static NOT_WRITTEN: &[Written] = &[
+    (Action::Sent, 0, 0, Err(WriteError::Limit)),
+    (Action::Received, 0, 65_536, Err(WriteError::Limit)),
+    (
+        Action::Failed,
+        10_000_000_000_000,
+        1,
+        Err(WriteError::Limit),
+    ),
+    (Action::Mark, 10_000_000_000_000, 0, Err(WriteError::Limit)),
+    (Action::Mark, 0, 65_536, Ok(())),
+    (Action::Sent, 0, 65_535, Ok(())),
+];
+
+/// What a sink answers to the entry of the row, and whether it took nothing of it.
+fn answered(alloc: Global, row: &Written) -> Result<(Result<(), WriteError>, bool), AllocError> {
+    let bytes = all_of(alloc, b'x', row.2)?;
+    let mut room = Room::of(1_000);
+    let answer = write_entry(&mut room, row.0, row.1, &bytes);
+    Ok((answer, room.taken() == 0))
+}
+
 #[test]
 fn what_is_not_written(rt: HostRuntime) -> Result<(), Fail> {
-    let mut long = Vec::new(rt.alloc());
-    long.resize(65_536, b'x')?;
-    let rows: [(Action, u64, &[u8], Result<(), WriteError>); 6] = [
-        (Action::Sent, 0, b"", Err(WriteError::Limit)),
-        (Action::Received, 0, &long, Err(WriteError::Limit)),
-        (
-            Action::Failed,
-            10_000_000_000_000,
-            b"x",
-            Err(WriteError::Limit),
-        ),
-        (
-            Action::Mark,
-            10_000_000_000_000,
-            b"",
-            Err(WriteError::Limit),
-        ),
-        (Action::Mark, 0, &long, Ok(())),
-        (Action::Sent, 0, &long[1..], Ok(())),
-    ];
-    for (action, moment, bytes, want) in rows {
-        let mut room = Room::of(1_000);
-        assert_eq!(rt;
-            write_entry(&mut room, action, moment, bytes),
-            want,
-            "{action:?} {moment}"
-        );
-        assert_eq!(rt; room.taken() == 0, want.is_err(), "{action:?} {moment}");
+    for (number, row) in NOT_WRITTEN.iter().enumerate() {
+        let (answer, takes_nothing) = answered(rt.alloc(), row)?;
+        assert!(rt; answer == row.3, "row {number}");
+        assert!(rt; takes_nothing == row.3.is_err(), "row {number}");
     }
     Ok(())
 }

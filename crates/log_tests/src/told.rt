@@ -1,6 +1,8 @@
 //! What the errors of `sip_log` say, and how its readers and writers look to who debugs them.
 
-use sip_log::{Broken, FromRead, LogError, LogReader, ToWrite, WriteError};
+use sip_log::{Broken, FromRead, LogError, LogReader, Source, ToWrite, WriteError};
+use std::fmt::Debug;
+use std::process::Abort;
 use std::test::Fail;
 
 #[test]
@@ -29,33 +31,51 @@ fn errors_say_what_is_wrong(rt: HostRuntime) -> Result<(), Fail> {
     Ok(())
 }
 
+/// That the value looks so to who debugs it.
+fn looks<T: Debug>(rt: &(impl Abort + AllocGlobal), value: &T, look: &str) -> Result<(), Fail> {
+    let told = format!(in rt.alloc(); "{value:?}")?;
+    assert_eq!(rt; told.as_str(), look);
+    Ok(())
+}
+
+/// A reader that has read nothing, and a writer.
+fn new_ones_look(rt: &(impl Abort + AllocGlobal), bytes: &[u8]) -> Result<(), Fail> {
+    let reader = LogReader::new(rt.alloc(), FromRead::new(bytes));
+    looks(
+        rt,
+        &reader,
+        "LogReader { source: FromRead { reader: [115, 105], failure: None, ended: false }, \
+         progress: Progress { alloc: Global, stage: Fresh, format: One, params: None, count: 0, last: 0 } }",
+    )?;
+    let writer = ToWrite::new(Vec::<u8>::new(rt.alloc()));
+    looks(rt, &writer, "ToWrite { writer: [], failed: false }")
+}
+
+/// An entry.
+fn an_entry_looks<R: Source>(
+    rt: &(impl Abort + AllocGlobal),
+    reader: &mut LogReader<R>,
+) -> Result<(), Fail> {
+    let entry = reader.next().ok().flatten().ok_or("no entry")?;
+    looks(
+        rt,
+        &entry,
+        "Entry { number: 1, moment: 5, action: Mark, bytes: [] }",
+    )
+}
+
 /// A reader tells where it stands in its buffer, and not the 128 KiB that the buffer has.
 #[test]
 fn readers_and_writers_look(rt: HostRuntime) -> Result<(), Fail> {
     let bytes: &[u8] = b"sip-trace 1\nt1 1 t2 2 t4 3 tolerance 4\nM 5\nS";
-    let reader = LogReader::new(rt.alloc(), FromRead::new(&bytes[..2]));
-    let told = format!(in rt.alloc(); "{reader:?}")?;
-    assert_eq!(rt;
-        told.as_str(),
-        "LogReader { source: FromRead { reader: [115, 105], failure: None, ended: false }, \
-         progress: Progress { alloc: Global, stage: Fresh, format: One, params: None, count: 0, last: 0 } }"
-    );
+    new_ones_look(&rt, &bytes[..2])?;
     let mut reader = LogReader::new(rt.alloc(), bytes);
-    let entry = reader.next().ok().flatten().ok_or("no entry")?;
-    let told = format!(in rt.alloc(); "{entry:?}")?;
-    assert_eq!(rt;
-        told.as_str(),
-        "Entry { number: 1, moment: 5, action: Mark, bytes: [] }"
-    );
-    let told = format!(in rt.alloc(); "{reader:?}")?;
-    assert_eq!(rt;
-        told.as_str(),
+    an_entry_looks(&rt, &mut reader)?;
+    looks(
+        &rt,
+        &reader,
         "LogReader { source: [], progress: Progress { alloc: Global, \
          stage: Entries(Window { start: 43, end: 44, .. }), format: One, \
-         params: Some(Params { t1: 1, t2: 2, t4: 3, early: 4, late: 4, rules: R6026 }), count: 1, last: 5 } }"
-    );
-    let writer = ToWrite::new(Vec::<u8>::new(rt.alloc()));
-    let told = format!(in rt.alloc(); "{writer:?}")?;
-    assert_eq!(rt; told.as_str(), "ToWrite { writer: [], failed: false }");
-    Ok(())
+         params: Some(Params { t1: 1, t2: 2, t4: 3, early: 4, late: 4, rules: R6026 }), count: 1, last: 5 } }",
+    )
 }

@@ -3,6 +3,7 @@
 
 use crate::folded::{FOLDED, UNFOLDED};
 use sip_message::{Message, ReadError, write};
+use std::alloc::AllocError;
 use std::process::Abort;
 use std::test::Fail;
 
@@ -27,18 +28,29 @@ fn read_again(rt: &(impl Abort + AllocGlobal)) -> Result<(), Fail> {
     Err(error.into())
 }
 
+/// Bytes that stand before a message.
+const FRONT: &[u8] = b"front";
+
+/// Writes the message behind other bytes, at a second call where memory was refused, and gives the first answer.
+fn write_behind(
+    rt: &impl Abort,
+    message: &Message<'_>,
+    out: &mut Vec<u8>,
+) -> Result<Result<(), AllocError>, AllocError> {
+    let written = write(message, out);
+    if written.is_err() {
+        assert!(rt; out.as_slice() == FRONT);
+        write(message, out)?;
+    }
+    assert!(rt; out.strip_prefix(FRONT) == Some(UNFOLDED));
+    Ok(written)
+}
+
 /// Writes the message behind other bytes, and a second time where memory was refused.
 fn write_again(rt: &(impl Abort + AllocGlobal)) -> Result<(), Fail> {
-    let front = b"front";
     let message = Message::read(rt.alloc(), FOLDED)?;
-    let mut out = front.to_vec(rt.alloc())?;
-    let written = write(&message, &mut out);
-    if written.is_err() {
-        assert!(rt; out.as_slice() == front.as_slice());
-        write(&message, &mut out)?;
-    }
-    assert!(rt; out.starts_with(front) && &out[front.len()..] == UNFOLDED);
-    Ok(written?)
+    let mut out = FRONT.to_vec(rt.alloc())?;
+    Ok(write_behind(rt, &message, &mut out)??)
 }
 
 #[test]

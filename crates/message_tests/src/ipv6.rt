@@ -3,7 +3,7 @@
 use crate::answer::{Answer, Row};
 use sip_message::Reason;
 
-pub(crate) const IPV6: &[Row] = &[
+pub(crate) static IPV6: &[Row] = &[
     // IPv6 references in the Request-URI and in Via.
     Row {
         name: "4.1",

@@ -156,18 +156,24 @@ fn reads_back_what_it_writes(rt: HostRuntime) -> Result<(), Fail> {
     Ok(())
 }
 
-#[test]
-fn shows_the_parts(rt: HostRuntime) -> Result<(), Fail> {
-    let message = Message::read(rt.alloc(), TORTURE[0].text)?;
+/// The branches of its Vias, from the top one on.
+static BRANCHES: [&[u8]; 3] = [b"390skdjuw", b"z9hG4bK9ikj8", b"z9hG4bK30239"];
+
+/// That the first torture message shows its Vias.
+fn shows_vias(rt: &impl Abort, message: &Message<'_>) {
     let top = message.top_via();
     assert!(rt; top.transport == b"UDP".as_slice() && top.branch == Some(b"390skdjuw".as_slice()));
     assert!(rt; top.whole == b"SIP  /   2.0\r\n /UDP\r\n    192.0.2.2;branch=390skdjuw".as_slice());
     assert!(rt; !message.is_reliable());
     let mut branches = message.vias();
-    for want in [b"390skdjuw".as_slice(), b"z9hG4bK9ikj8", b"z9hG4bK30239"] {
-        assert!(rt; branches.next().is_some_and(|via| via.branch == Some(want)));
+    for want in &BRANCHES {
+        assert!(rt; branches.next().is_some_and(|via| via.branch == Some(*want)));
     }
     assert!(rt; branches.next().is_none());
+}
+
+/// And who it is from and to.
+fn shows_addresses(rt: &impl Abort, message: &Message<'_>) {
     assert!(rt; message.from().display == Some(b"\"J Rosenberg \\\\\\\"\"".as_slice()));
     assert!(rt; message.from().params == b";\r\n  tag = 98asjd8".as_slice());
     assert!(rt;
@@ -175,6 +181,10 @@ fn shows_the_parts(rt: HostRuntime) -> Result<(), Fail> {
             == b"sip:vivekg@chair-dnrc.example.com ;   tag    = 1918181833n".as_slice()
     );
     assert!(rt; message.to().display == None);
+}
+
+/// And what follows them.
+fn shows_the_rest(rt: &impl Abort, message: &Message<'_>) {
     assert!(rt; message.call_id() == b"wsinv.ndaksdj@192.0.2.1".as_slice());
     assert_eq!(rt; message.cseq().number, 9);
     assert!(rt; message.cseq().method == b"INVITE".as_slice());
@@ -182,6 +192,15 @@ fn shows_the_parts(rt: HostRuntime) -> Result<(), Fail> {
     let route = b"<sip:services.example.com;lr;unknownwith=value;unknown-no-value>";
     assert!(rt; routes.next() == Some(route.as_slice()) && routes.next() == None);
     assert!(rt; message.body().len() == 150 && message.body().first() == Some(&b'v'));
+}
+
+#[test]
+fn shows_the_parts(rt: HostRuntime) -> Result<(), Fail> {
+    let first = TORTURE.first().ok_or("no message")?;
+    let message = Message::read(rt.alloc(), first.text)?;
+    shows_vias(&rt, &message);
+    shows_addresses(&rt, &message);
+    shows_the_rest(&rt, &message);
     Ok(())
 }
 
@@ -203,26 +222,60 @@ fn long_line(
     changed(alloc, &[(6, &line)], b"")
 }
 
-#[test]
-fn reads_long_lines(rt: HostRuntime) -> Result<(), Fail> {
+const LINE_READ: Answer = Answer::Read { body: 0 };
+
+const LINE_FAULTY: Answer = Answer::Line(7, Reason::Value);
+
+/// A line: its front, a part, how often that comes, and its end. And whether the line is one.
+type LongLine = (&'static [u8], &'static [u8], usize, &'static [u8], Answer);
+
+static LONG_LINES: &[LongLine] = &[
+    (b"Via: SIP/2.0/UDP a", b";a", 30_000, b"", LINE_READ),
+    (
+        b"Via: SIP/2.0/UDP a",
+        b", SIP/2.0/UDP a",
+        4_000,
+        b"",
+        LINE_READ,
+    ),
+    (b"Via: SIP/2.0/UDP a", b",", 60_000, b"", LINE_FAULTY),
+    (
+        b"Via: SIP/2.0/UDP a;x=\"",
+        b"\\\"",
+        30_000,
+        b"\"",
+        LINE_READ,
+    ),
+    (
+        b"Via: SIP/2.0/UDP a;x=\"",
+        b"\\\"",
+        30_000,
+        b"",
+        LINE_FAULTY,
+    ),
+    (b"s: x", b"\r\ns: x", 10_000, b"", LINE_READ),
+    (b"Route: ", b"a,", 30_000, b"", LINE_READ),
+    (b"x: ", b"\xff", 60_000, b"", LINE_READ),
+];
+
+/// A long line that is read has the canonical form of a short one.
+fn reads_a_long_fold(rt: &(impl Abort + AllocGlobal)) -> Result<(), Fail> {
     let text = long_line(rt.alloc(), b"s: a", b"\r\n ", 20_000, b"b")?;
     assert_eq!(rt; canonical(rt.alloc(), &text)?.len(), 210);
-    // The unit, how often, and whether the line is one.
-    let read = Answer::Read { body: 0 };
-    let value = Answer::Line(7, Reason::Value);
-    let rows: [(&[u8], &[u8], usize, &[u8], Answer); 8] = [
-        (b"Via: SIP/2.0/UDP a", b";a", 30_000, b"", read),
-        (b"Via: SIP/2.0/UDP a", b", SIP/2.0/UDP a", 4_000, b"", read),
-        (b"Via: SIP/2.0/UDP a", b",", 60_000, b"", value),
-        (b"Via: SIP/2.0/UDP a;x=\"", b"\\\"", 30_000, b"\"", read),
-        (b"Via: SIP/2.0/UDP a;x=\"", b"\\\"", 30_000, b"", value),
-        (b"s: x", b"\r\ns: x", 10_000, b"", read),
-        (b"Route: ", b"a,", 30_000, b"", read),
-        (b"x: ", b"\xff", 60_000, b"", read),
-    ];
-    for (n, &(front, part, times, end, want)) in rows.iter().enumerate() {
-        let text = long_line(rt.alloc(), front, part, times, end)?;
-        assert_eq!(rt; answer_to(rt.alloc(), &text)?, want, "long line {n}");
+    Ok(())
+}
+
+/// What the line comes to.
+fn answer_to_line(alloc: Global, line: &LongLine) -> Result<Answer, AllocError> {
+    let text = long_line(alloc, line.0, line.1, line.2, line.3)?;
+    answer_to(alloc, &text)
+}
+
+#[test]
+fn reads_long_lines(rt: HostRuntime) -> Result<(), Fail> {
+    reads_a_long_fold(&rt)?;
+    for (n, line) in LONG_LINES.iter().enumerate() {
+        assert_eq!(rt; answer_to_line(rt.alloc(), line)?, line.4, "long line {n}");
     }
     Ok(())
 }

@@ -4,7 +4,7 @@ use sip_message::{Fault, ReadError, Reason, Unit};
 use std::test::Fail;
 
 /// Each reason, with a place where it can stand.
-const FAULTS: &[(Unit, Reason, &str)] = &[
+static FAULTS: &[(Unit, Reason, &str)] = &[
     (
         Unit::Head,
         Reason::NoHeadEnd,

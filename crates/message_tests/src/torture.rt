@@ -3,7 +3,7 @@
 use crate::answer::{Answer, Row};
 use sip_message::Reason;
 
-pub(crate) const TORTURE: &[Row] = &[
+pub(crate) static TORTURE: &[Row] = &[
     // Blank runs, folds, compact names and names in any case.
     Row {
         name: "wsinv",

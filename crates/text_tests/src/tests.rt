@@ -5,7 +5,7 @@ use sip_text::{
 };
 
 // A text, and the length of the longest token and of the longest blank run at its front.
-const FRONTS: [(&[u8], usize, usize); 8] = [
+static FRONTS: &[(&[u8], usize, usize)] = &[
     (b"a-b c", 3, 0),
     (b"<x>", 0, 0),
     (b"", 0, 0),
@@ -16,7 +16,7 @@ const FRONTS: [(&[u8], usize, usize); 8] = [
     (b"-.!%*_+`'~09azAZ@", 16, 0),
 ];
 
-const QUOTED: [(&[u8], Option<usize>); 6] = [
+static QUOTED: &[(&[u8], Option<usize>)] = &[
     (b" \"a\\\"b\"c", Some(7)),
     (b"\"\"", Some(2)),
     (b"\"a", None),
@@ -25,7 +25,7 @@ const QUOTED: [(&[u8], Option<usize>); 6] = [
     (b"\"a\r\nb\"", None),
 ];
 
-const HOSTS: [(&[u8], &str); 18] = [
+static HOSTS: &[(&[u8], &str)] = &[
     (b"a.example.com.", "name"),
     (b"x--y", "name"),
     (b"1.2.3.4.a", "name"),
@@ -47,7 +47,7 @@ const HOSTS: [(&[u8], &str); 18] = [
 ];
 
 // A text, and whether it is an IPv6 address, and a port.
-const ADDRESSES: [(&[u8], bool, bool); 6] = [
+static ADDRESSES: &[(&[u8], bool, bool)] = &[
     (b"2001:db8::9:1", true, false),
     (b"::ffff:192.0.2.10", true, false),
     (b"[::1]", false, false),
@@ -56,7 +56,7 @@ const ADDRESSES: [(&[u8], bool, bool); 6] = [
     (b"", false, false),
 ];
 
-const PAIRS: [(&[u8], &[u8], bool); 4] = [
+static PAIRS: &[(&[u8], &[u8], bool)] = &[
     (b"z9hG4bK", b"Z9HG4BK", true),
     (b"a[", b"a{", false),
     (b"a", b"ab", false),
@@ -74,21 +74,21 @@ fn kind(host: Option<Host<'_>>) -> &'static str {
 
 #[test]
 fn reads_fronts(rt: HostRuntime) {
-    for (text, token, blanks) in FRONTS {
+    for &(text, token, blanks) in FRONTS {
         assert_eq!(rt; token_len(text), token, "token of {text:?}");
         assert_eq!(rt; skip_lws(text), blanks, "blanks of {text:?}");
     }
-    for (text, len) in QUOTED {
+    for &(text, len) in QUOTED {
         assert_eq!(rt; read_quoted(text), len, "quoted string of {text:?}");
     }
 }
 
 #[test]
 fn reads_hosts(rt: HostRuntime) {
-    for (text, want) in HOSTS {
+    for &(text, want) in HOSTS {
         assert_eq!(rt; kind(read_host(text)), want, "host of {text:?}");
     }
-    for (text, address, port) in ADDRESSES {
+    for &(text, address, port) in ADDRESSES {
         assert_eq!(rt; is_ipv6_address(text), address, "IPv6 address {text:?}");
         assert_eq!(rt; is_port(text), port, "port {text:?}");
     }
@@ -96,7 +96,7 @@ fn reads_hosts(rt: HostRuntime) {
 
 #[test]
 fn folds_case(rt: HostRuntime) {
-    for (a, b, same) in PAIRS {
+    for &(a, b, same) in PAIRS {
         assert_eq!(rt; same_text(a, b), same, "{a:?} and {b:?}");
     }
 }

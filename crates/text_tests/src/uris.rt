@@ -4,7 +4,7 @@ use sip_text::{Host, Uri, read_uri};
 
 // A URI and its parts in order: the scheme, user, password, host, port, parameters and headers of a
 // SIP URI, the scheme and the rest of another. A part that is not there is `-`.
-const URIS: [(&[u8], [&[u8]; 7]); 8] = [
+static URIS: &[(&[u8], [&[u8]; 7])] = &[
     (
         b"sip:bob:pw@b.c:5060;lr?x=1&y=",
         [b"sip", b"bob", b"pw", b"b.c", b"5060", b";lr", b"x=1&y="],
@@ -30,7 +30,7 @@ const URIS: [(&[u8], [&[u8]; 7]); 8] = [
     ),
 ];
 
-const NONE: [&[u8]; 17] = [
+static NONE: &[&[u8]] = &[
     b"sip:a@b@c",
     b"sip:@b",
     b"SIP:@b",
@@ -85,10 +85,10 @@ fn parts(uri: Option<Uri<'_>>) -> [&[u8]; 7] {
 
 #[test]
 fn reads_uris(rt: HostRuntime) {
-    for (text, want) in URIS {
+    for &(text, want) in URIS {
         assert_eq!(rt; parts(read_uri(text)), want, "{text:?}");
     }
-    for text in NONE {
+    for &text in NONE {
         assert_eq!(rt; read_uri(text), None, "{text:?}");
     }
 }

@@ -98,7 +98,7 @@ fn judges_servers_that_are_early(rt: HostRuntime) -> Result<(), Fail> {
 }
 
 /// Rows of format 1, and by the rules of RFC 6026, that are the same by those of RFC 3261.
-const OF_BOTH_RULES: &[&[Row]] = &[
+static OF_BOTH_RULES: &[&[Row]] = &[
     INVITES_THAT_WAIT,
     INVITES_THAT_ARE_ANSWERED,
     CANCELS,

@@ -14,7 +14,7 @@ type Behind = (&'static str, &'static str, &'static str);
 const IN_FORMAT_2: &str = "early 50 late 50: ";
 
 /// Lines behind the header, and behind entries.
-const LINES: &[Behind] = &[
+static LINES: &[Behind] = &[
     (
         "",
         "1111111111111111111111111111111",
@@ -79,7 +79,7 @@ fn judges_lines(rt: HostRuntime) -> Result<(), Fail> {
 }
 
 /// Headers that cannot be read.
-const HEADERS: &[&str] = &[
+static HEADERS: &[&str] = &[
     "",
     "sip-trace 1\nt1 0 t2 4000 t4 5000 tolerance 50\n",
     "sip-trace 1\nt1 10001 t2 4000 t4 5000 tolerance 50\n",
@@ -129,7 +129,7 @@ fn judges_any_pieces(rt: HostRuntime) -> Result<(), Fail> {
 }
 
 /// The lengths of fronts of the stored run, from one to another, and the text of the verdict on each of them.
-const FRONTS: &[(usize, usize, &str)] = &[
+static FRONTS: &[(usize, usize, &str)] = &[
     (0, 47, "log fault 0 20 Header"),
     (48, 48, "legal entries 0 transactions 0"),
     (49, 255, "log fault 1 22 Truncated"),
@@ -143,7 +143,7 @@ const FRONTS: &[(usize, usize, &str)] = &[
 ];
 
 /// The same of a log of format 2: the line of rules begins behind byte 52, the entry of the INVITE behind 63, and the restart behind 266.
-const FRONTS_IN_FORMAT_2: &[(usize, usize, &str)] = &[
+static FRONTS_IN_FORMAT_2: &[(usize, usize, &str)] = &[
     (0, 51, "log fault 0 20 Header"),
     (52, 52, "legal entries 0 transactions 0"),
     (53, 62, "log fault 1 22 Truncated"),
@@ -182,7 +182,7 @@ fn judges_any_front(rt: HostRuntime) -> Result<(), Fail> {
 }
 
 /// Logs that are read whole.
-const READ: &[Row] = &[
+static READ: &[Row] = &[
     (STORED, "legal entries 4 transactions 1"),
     (
         "R 0 INVITE; S 0 486; R 480 INVITE; S 490,540 486",

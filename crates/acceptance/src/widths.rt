@@ -14,7 +14,7 @@ fn judges_many_debts(rt: HostRuntime) -> Result<(), Fail> {
 }
 
 /// INVITEs at one moment, or nearly.
-const REPEATS: &[Row] = &[
+static REPEATS: &[Row] = &[
     (
         "tolerance 10000: S 0*15 INVITE",
         "legal entries 15 transactions 1",

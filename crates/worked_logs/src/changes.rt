@@ -4,7 +4,7 @@
 pub type Change = (&'static str, &'static str, &'static str);
 
 /// Changes of `CANCELLED_LOG`.
-pub const OF_A_CANCELLED_CALL: &[Change] = &[
+pub static OF_A_CANCELLED_CALL: &[Change] = &[
     // The 200 to the CANCEL need not be sent within any time.
     (" S 5001 200>;", "", "legal entries 14 transactions 4"),
     // No 100 within 200 ms.
@@ -46,7 +46,7 @@ pub const OF_A_CANCELLED_CALL: &[Change] = &[
 ];
 
 /// Changes of the end of `CANCELLED_LOG`, and of its CANCEL.
-pub const OF_THE_END_OF_A_CANCELLED_CALL: &[Change] = &[
+pub static OF_THE_END_OF_A_CANCELLED_CALL: &[Change] = &[
     // The 487 again before timer G, not again without an ACK, and again behind the ACK.
     (
         "S 5042 487>;",
@@ -85,7 +85,7 @@ pub const OF_THE_END_OF_A_CANCELLED_CALL: &[Change] = &[
 ];
 
 /// Changes of `SESSION_LOG`.
-pub const OF_A_CALL: &[Change] = &[
+pub static OF_A_CALL: &[Change] = &[
     // The 407 is not sent, its ACK does not come, and it is sent again too soon.
     (" S 1 407>;", "", "breach 7 transaction 1"),
     (" R 20 ACK-1;", "", "breach 7 transaction 1"),
@@ -125,7 +125,7 @@ pub const OF_A_CALL: &[Change] = &[
 ];
 
 /// Changes of the end of `SESSION_LOG`.
-pub const OF_THE_END_OF_A_CALL: &[Change] = &[
+pub static OF_THE_END_OF_A_CALL: &[Change] = &[
     // The BYE is not answered, and is not repeated.
     (" R 20020 200-BYE;", "", "breach 17 transaction 7"),
     // Its 200 is handed on twice, without a repeat of the BYE, and once more behind the end of its transaction.

@@ -14,7 +14,7 @@ pub fn session() -> Messages<'static> {
 }
 
 /// The messages of a call that is cancelled.
-const CANCELLED: &[(&str, &str)] = &[
+static CANCELLED: &[(&str, &str)] = &[
     (
         "INVITE",
         "INVITE sip:bob@biloxi.example.com SIP/2.0\r\n\
@@ -219,7 +219,7 @@ const CANCELLED: &[(&str, &str)] = &[
 ];
 
 /// The messages of a call that is set up and ended.
-const SESSION: &[(&str, &str)] = &[
+static SESSION: &[(&str, &str)] = &[
     (
         "INVITE-1",
         "INVITE sip:bob@biloxi.example.com SIP/2.0\r\n\

@@ -2,7 +2,7 @@
 use crate::rows::Row;
 
 /// Restarts of clients.
-pub const RESTARTED_CLIENTS: &[Row] = &[
+pub static RESTARTED_CLIENTS: &[Row] = &[
     (
         "early 50 late 50: S 0 INVITE; Z 100; M 5000",
         "legal entries 3 transactions 1",
@@ -59,7 +59,7 @@ pub const RESTARTED_CLIENTS: &[Row] = &[
 ];
 
 /// Restarts of servers.
-pub const RESTARTED_SERVERS: &[Row] = &[
+pub static RESTARTED_SERVERS: &[Row] = &[
     // A response behind it is one to no request, until the request comes again.
     (
         "early 50 late 50: R 0 INVITE; S 10 180; Z 100; S 150 200",
@@ -113,7 +113,7 @@ pub const RESTARTED_SERVERS: &[Row] = &[
 ];
 
 /// Restarts by the rules of RFC 3261.
-pub const RESTARTED_BY_RFC_3261: &[Row] = &[
+pub static RESTARTED_BY_RFC_3261: &[Row] = &[
     // No timer ends the phase behind a 2xx, and a restart does.
     (
         "early 50 late 50 rules 3261: R 0 INVITE; S 0 200; M 100; S 150 200",
@@ -143,7 +143,7 @@ pub const RESTARTED_BY_RFC_3261: &[Row] = &[
 ];
 
 /// Restarts of elements with no transaction, with several, and with several restarts.
-pub const RESTARTS: &[Row] = &[
+pub static RESTARTS: &[Row] = &[
     ("early 50 late 50: Z 100", "legal entries 1 transactions 0"),
     (
         "early 50 late 50: S 0 INVITE; S 0 OPTIONS #2; Z 550; M 9999",

@@ -6,7 +6,7 @@ use crate::logs::{FULL, WIDE};
 pub type Row = (&'static str, &'static str);
 
 /// INVITE clients that wait for a response.
-pub const INVITES_THAT_WAIT: &[Row] = &[
+pub static INVITES_THAT_WAIT: &[Row] = &[
     ("", "legal entries 0 transactions 0"),
     // Timer A has no cap, and timer B ends the transaction between 31950 and 32050.
     (
@@ -39,7 +39,7 @@ pub const INVITES_THAT_WAIT: &[Row] = &[
 ];
 
 /// INVITE clients that are answered.
-pub const INVITES_THAT_ARE_ANSWERED: &[Row] = &[
+pub static INVITES_THAT_ARE_ANSWERED: &[Row] = &[
     // The ACK within the tolerance, and behind it.
     (
         "S 0 INVITE; R 200 180; R 1000 486; S 1050 ACK",
@@ -85,7 +85,7 @@ pub const INVITES_THAT_ARE_ANSWERED: &[Row] = &[
 ];
 
 /// CANCELs that are sent and received.
-pub const CANCELS: &[Row] = &[
+pub static CANCELS: &[Row] = &[
     // Not before a provisional response.
     ("S 0 INVITE; S 100 CANCEL", "breach 2 transaction 1"),
     ("S 0 INVITE; F 100 CANCEL", "breach 2 transaction 1"),
@@ -110,7 +110,7 @@ pub const CANCELS: &[Row] = &[
 ];
 
 /// INVITE servers.
-pub const INVITE_SERVERS: &[Row] = &[
+pub static INVITE_SERVERS: &[Row] = &[
     // A response within 200 ms.
     ("R 0 INVITE; S 250 180", "legal entries 2 transactions 1"),
     ("R 0 INVITE; S 251 180", "breach 2 transaction 1"),
@@ -154,7 +154,7 @@ pub const INVITE_SERVERS: &[Row] = &[
 ];
 
 /// Clients of other methods.
-pub const CLIENTS: &[Row] = &[
+pub static CLIENTS: &[Row] = &[
     // Timer E doubles up to T2.
     (
         "S 0,500,1500,3500,7500,11500 OPTIONS",
@@ -206,7 +206,7 @@ pub const CLIENTS: &[Row] = &[
 ];
 
 /// Servers of other methods.
-pub const SERVERS: &[Row] = &[
+pub static SERVERS: &[Row] = &[
     // The final response answers a repeat within the tolerance, and behind it.
     (
         "R 0 OPTIONS; S 10 200 OPTIONS; R 500 OPTIONS; S 550 200 OPTIONS",
@@ -235,7 +235,7 @@ pub const SERVERS: &[Row] = &[
 ];
 
 /// Messages of one transaction, and of two.
-pub const TRANSACTIONS_APART: &[Row] = &[
+pub static TRANSACTIONS_APART: &[Row] = &[
     // Servers by sent-by, which has the port 5060 where it names none and is without case.
     (
         "R 0 OPTIONS; R 1 OPTIONS @b.example.com",
@@ -275,7 +275,7 @@ pub const TRANSACTIONS_APART: &[Row] = &[
 ];
 
 /// Messages that are malformed, and such as concern no transaction.
-pub const MESSAGES: &[Row] = &[
+pub static MESSAGES: &[Row] = &[
     // Without the cookie a request that is sent, or that is refused, is a fault; any other message concerns no transaction.
     ("S 0 OPTIONS branch=abc", "malformed 1 head 12 NoCookie"),
     ("F 0 OPTIONS branch=abc", "malformed 1 head 12 NoCookie"),
@@ -316,7 +316,7 @@ pub const MESSAGES: &[Row] = &[
 ];
 
 /// 40 repeats before the 183 and 40 behind it may be answered or not, each with what was the last response then.
-pub const MANY_STATES: &[Row] = &[
+pub static MANY_STATES: &[Row] = &[
     // 41 ways to have sent the 180s, and 24 to have sent 23 183s.
     (
         "tolerance 10000: R 0 INVITE; S 1 180; R 2..41 INVITE; S 42 183; R 43..82 INVITE; S 83..122 180; S 123..145 183",
@@ -326,7 +326,7 @@ pub const MANY_STATES: &[Row] = &[
 ];
 
 /// Transactions of which one is overdue.
-pub const OVERDUE: &[Row] = &[
+pub static OVERDUE: &[Row] = &[
     // The first was answered.
     (
         "S 0 OPTIONS #1; S 0 OPTIONS #2; R 10 200 OPTIONS #1; M 551",
@@ -368,7 +368,7 @@ pub const OVERDUE: &[Row] = &[
 ];
 
 /// Many entries, and many messages.
-pub const MANY_ENTRIES: &[Row] = &[
+pub static MANY_ENTRIES: &[Row] = &[
     (
         "R 0 INVITE; S 1 180; M 1..10000",
         "legal entries 10002 transactions 1",
@@ -390,7 +390,7 @@ pub const MANY_ENTRIES: &[Row] = &[
 ];
 
 /// As many states as are followed, and more.
-pub const AS_MANY_STATES_AS_ARE_FOLLOWED: &[Row] = &[
+pub static AS_MANY_STATES_AS_ARE_FOLLOWED: &[Row] = &[
     (FULL, "legal entries 127 transactions 1"),
     // 1,985 states.
     (
@@ -412,7 +412,7 @@ pub const AS_MANY_STATES_AS_ARE_FOLLOWED: &[Row] = &[
 ];
 
 /// Many messages that are owed.
-pub const MANY_DEBTS: &[Row] = &[
+pub static MANY_DEBTS: &[Row] = &[
     // 300 repeats, each of which must be answered.
     (
         "tolerance 10000: R 0 OPTIONS; S 0 200 OPTIONS; R 1..300 OPTIONS; S 301..600 200 OPTIONS; M 10301",

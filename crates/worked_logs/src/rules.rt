@@ -3,7 +3,7 @@
 use crate::rows::Row;
 
 /// INVITE servers that send a 2xx, by the rules of RFC 3261.
-pub const BY_RFC_3261: &[Row] = &[
+pub static BY_RFC_3261: &[Row] = &[
     // The INVITE that comes again wants a response, within 200 ms.
     (
         "rules 3261: R 0 INVITE; S 0 200; R 500 INVITE; S 510 180",
@@ -75,7 +75,7 @@ pub const BY_RFC_3261: &[Row] = &[
 ];
 
 /// Some of these logs by the rules of RFC 6026, which a log has that names none.
-pub const BY_RFC_6026: &[Row] = &[
+pub static BY_RFC_6026: &[Row] = &[
     (
         "R 0 INVITE; S 0 200; R 500 INVITE; S 510 180",
         "breach 4 transaction 1",
@@ -110,7 +110,7 @@ pub const BY_RFC_6026: &[Row] = &[
 ];
 
 /// INVITE clients that receive a 2xx, by the rules of RFC 3261. By both rules they send nothing behind it but a CANCEL.
-pub const CLIENTS_BY_RFC_3261: &[Row] = &[
+pub static CLIENTS_BY_RFC_3261: &[Row] = &[
     (
         "rules 3261: S 0 INVITE; R 100 200; S 110 ACK #2; M 40000",
         "legal entries 4 transactions 2",

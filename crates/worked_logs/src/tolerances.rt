@@ -4,7 +4,7 @@
 use crate::rows::Row;
 
 /// Elements that may not be late, or not be early.
-pub const ON_ONE_SIDE: &[Row] = &[
+pub static ON_ONE_SIDE: &[Row] = &[
     ("early 0 late 100: S 0,499 INVITE", "breach 2 transaction 1"),
     (
         "early 0 late 100: S 0,500 INVITE",
@@ -73,7 +73,7 @@ pub type Around = (
 );
 
 /// Clients with `early 0 late 100`.
-pub const CLIENTS_EARLY_0_LATE_100: &[Around] = &[
+pub static CLIENTS_EARLY_0_LATE_100: &[Around] = &[
     // Timer A.
     (
         "S 0,? INVITE",
@@ -162,7 +162,7 @@ pub const CLIENTS_EARLY_0_LATE_100: &[Around] = &[
 ];
 
 /// Servers with `early 0 late 100`.
-pub const SERVERS_EARLY_0_LATE_100: &[Around] = &[
+pub static SERVERS_EARLY_0_LATE_100: &[Around] = &[
     // The first response to an INVITE, within 200 ms.
     (
         "R 0 INVITE; S ? 180",
@@ -250,7 +250,7 @@ pub const SERVERS_EARLY_0_LATE_100: &[Around] = &[
 ];
 
 /// Clients with `early 100 late 0`.
-pub const CLIENTS_EARLY_100_LATE_0: &[Around] = &[
+pub static CLIENTS_EARLY_100_LATE_0: &[Around] = &[
     // Timer A.
     (
         "S 0,? INVITE",
@@ -323,7 +323,7 @@ pub const CLIENTS_EARLY_100_LATE_0: &[Around] = &[
 ];
 
 /// Servers with `early 100 late 0`.
-pub const SERVERS_EARLY_100_LATE_0: &[Around] = &[
+pub static SERVERS_EARLY_100_LATE_0: &[Around] = &[
     // The first response to an INVITE.
     (
         "R 0 INVITE; S ? 180",

@@ -1,8 +1,9 @@
 //! A refused growth. `tests/growths` refuses each in turn: the test then fails with want of memory, once it has seen that the call left
 //! all as it was, and that the same call succeeds with memory.
 use crate::at_rows;
-use crate::lists::{debts, may, must};
+use crate::lists::{debts, may, must, of_one};
 use sip_ledger::{Debt, Ledger};
+use std::alloc::AllocError;
 use std::process::Abort;
 use std::test::Fail;
 
@@ -162,43 +163,54 @@ fn many_rows_go_on_after_a_refused_growth(rt: HostRuntime) -> Result<(), Fail> {
 
 /// A ledger of one row, which owes so many messages.
 fn of_many(rt: &(impl Abort + AllocGlobal), count: u32) -> Result<Ledger, Fail> {
-    let mut ledger = Ledger::new(rt.alloc());
-    ledger.push()?;
+    let mut list = Vec::new(rt.alloc());
     for number in 0..count {
-        at_rows::gain(rt, &mut ledger, 0, must(number, 10))?;
+        list.push(must(number, 10))?;
     }
-    Ok(ledger)
+    of_one(rt, &list)
 }
 
-/// The messages of so many debts are told at a second call where memory was refused.
-fn names_again(rt: &(impl Abort + AllocGlobal), count: u32) -> Result<(), Fail> {
-    let ledger = of_many(rt, count)?;
+/// The messages that the row owes are told at a second call where memory was refused, and the first answer is given.
+fn name_again(
+    rt: &impl Abort,
+    ledger: &Ledger,
+    numbers: &mut Vec<u32>,
+) -> Result<Result<(), AllocError>, AllocError> {
     assert!(rt; 0 < ledger.len());
-    let mut numbers = Vec::new(rt.alloc());
-    let told = ledger.names(0, &mut numbers);
+    let told = ledger.names(0, numbers);
     if told.is_err() {
         numbers.clear();
-        ledger.names(0, &mut numbers)?;
+        ledger.names(0, numbers)?;
     }
+    Ok(told)
+}
+
+/// So many messages are told so.
+fn names_again(rt: &(impl Abort + AllocGlobal), count: u32) -> Result<(), Fail> {
+    let ledger = of_many(rt, count)?;
+    let mut numbers = Vec::new(rt.alloc());
+    let told = name_again(rt, &ledger, &mut numbers)?;
     assert_eq!(rt; numbers.len(), count as usize);
     Ok(told?)
+}
+
+/// How many runs the row owes.
+fn count_runs(rt: &(impl Abort + AllocGlobal), ledger: &Ledger) -> Result<usize, AllocError> {
+    assert!(rt; 0 < ledger.len());
+    Ok(ledger.runs(rt.alloc(), 0)?.len())
 }
 
 /// And the debts.
 fn runs_again(rt: &(impl Abort + AllocGlobal), count: u32) -> Result<(), Fail> {
     let ledger = of_many(rt, count)?;
-    assert!(rt; 0 < ledger.len());
-    match ledger.runs(rt.alloc(), 0) {
-        Ok(runs) => {
-            assert_eq!(rt; runs.len(), count as usize);
-            Ok(())
-        }
-        Err(error) => {
-            let runs = ledger.runs(rt.alloc(), 0)?;
-            assert_eq!(rt; runs.len(), count as usize);
-            Err(error.into())
-        }
-    }
+    let told = count_runs(rt, &ledger);
+    let runs = match told {
+        Ok(runs) => runs,
+        Err(_) => count_runs(rt, &ledger)?,
+    };
+    assert_eq!(rt; runs, count as usize);
+    told?;
+    Ok(())
 }
 
 #[test]

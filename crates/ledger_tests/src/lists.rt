@@ -107,6 +107,23 @@ pub(crate) fn owes(
     Ok(())
 }
 
+/// The row owes this list, and is told to owe the same as those with an equal one.
+fn row_agrees(
+    rt: &(impl Abort + AllocGlobal),
+    ledger: &mut Ledger,
+    lists: &[Vec<Debt>],
+    row: usize,
+    list: &Vec<Debt>,
+) -> Result<(), Fail> {
+    owes(rt, ledger, row, list)?;
+    for (other, another) in lists.iter().enumerate() {
+        let same = at_rows::same(rt, ledger, row, other);
+        assert!(rt; same == (list == another), "{row} and {other}");
+        assert!(rt; !same || at_rows::print(rt, ledger, row) == at_rows::print(rt, ledger, other));
+    }
+    Ok(())
+}
+
 /// The rows owe these lists, and those that owe the same are told to.
 pub(crate) fn agree(
     rt: &(impl Abort + AllocGlobal),
@@ -115,14 +132,7 @@ pub(crate) fn agree(
 ) -> Result<(), Fail> {
     assert!(rt; ledger.len() == lists.len());
     for (row, list) in lists.iter().enumerate() {
-        owes(rt, ledger, row, list)?;
-        for (other, another) in lists.iter().enumerate() {
-            let same = at_rows::same(rt, ledger, row, other);
-            assert!(rt; same == (list == another), "{row} and {other}");
-            assert!(rt;
-                !same || at_rows::print(rt, ledger, row) == at_rows::print(rt, ledger, other)
-            );
-        }
+        row_agrees(rt, ledger, lists, row, list)?;
     }
     Ok(())
 }

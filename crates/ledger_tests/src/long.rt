@@ -15,22 +15,27 @@ fn different(rt: &(impl Abort + AllocGlobal), count: u32) -> Result<Vec<Debt>, F
     Ok(list)
 }
 
+/// The row pays the message, and owes the others.
+fn pays_one(
+    rt: &(impl Abort + AllocGlobal),
+    ledger: &mut Ledger,
+    list: &mut Vec<Debt>,
+    message: u32,
+) -> Result<(), Fail> {
+    assert!(rt; at_rows::pay(rt, ledger, 0, message, 1000), "{message}");
+    list.retain(|debt| debt.message != message);
+    ledger.tidy();
+    owes(rt, ledger, 0, list)?;
+    assert!(rt; !at_rows::pay(rt, ledger, 0, message, 1000), "{message}");
+    Ok(())
+}
+
 /// The row pays the messages of the list in this order, and owes the others after each.
 fn pays(rt: &(impl Abort + AllocGlobal), count: u32, order: &[u32]) -> Result<(), Fail> {
     let mut list = different(rt, count)?;
     let mut ledger = of_one(rt, &list)?;
     for message in order {
-        assert!(rt;
-            at_rows::pay(rt, &mut ledger, 0, *message, 1000),
-            "{message}"
-        );
-        list.retain(|debt| debt.message != *message);
-        ledger.tidy();
-        owes(rt, &mut ledger, 0, &list)?;
-        assert!(rt;
-            !at_rows::pay(rt, &mut ledger, 0, *message, 1000),
-            "{message}"
-        );
+        pays_one(rt, &mut ledger, &mut list, *message)?;
     }
     Ok(())
 }
@@ -78,16 +83,25 @@ fn of_three_deadlines(rt: &(impl Abort + AllocGlobal)) -> Result<Vec<Debt>, Fail
     Ok(list)
 }
 
+/// What may be sent until 10 expires, and what must be sent until 20 does not.
+fn expires(
+    rt: &(impl Abort + AllocGlobal),
+    ledger: &mut Ledger,
+    list: &mut Vec<Debt>,
+) -> Result<(), Fail> {
+    at_rows::expire(rt, ledger, 0, 11);
+    list.retain(|debt| debt.deadline != 10);
+    owes(rt, ledger, 0, list)?;
+    at_rows::expire(rt, ledger, 0, 21);
+    owes(rt, ledger, 0, list)
+}
+
 /// Past its deadline what may be sent expires, and what must be sent does not.
 #[test]
 fn a_long_row_expires(rt: HostRuntime) -> Result<(), Fail> {
     let mut list = of_three_deadlines(&rt)?;
     let mut ledger = of_one(&rt, &list)?;
-    at_rows::expire(&rt, &mut ledger, 0, 11);
-    list.retain(|debt| debt.deadline != 10);
-    owes(&rt, &mut ledger, 0, &list)?;
-    at_rows::expire(&rt, &mut ledger, 0, 21);
-    owes(&rt, &mut ledger, 0, &list)
+    expires(&rt, &mut ledger, &mut list)
 }
 
 /// A send pays the first debt whose deadline is not past.
@@ -185,22 +199,35 @@ fn a_row_comes_beside_a_long_one(rt: HostRuntime) -> Result<(), Fail> {
     agree(&rt, &mut ledger, &lists)
 }
 
+/// The row stays where none goes behind it or before it, and goes at last.
+fn goes_behind(
+    rt: &(impl Abort + AllocGlobal),
+    ledger: &mut Ledger,
+    list: &[Debt],
+) -> Result<(), Fail> {
+    ledger.truncate(1);
+    owes(rt, ledger, 0, list)?;
+    ledger.drop_first(0);
+    owes(rt, ledger, 0, list)?;
+    ledger.truncate(0);
+    assert!(rt; ledger.is_empty());
+    Ok(())
+}
+
+/// The row goes as the first one, and another comes.
+fn goes_first(rt: &(impl Abort + AllocGlobal), ledger: &mut Ledger) -> Result<(), Fail> {
+    ledger.drop_first(1);
+    assert!(rt; ledger.is_empty());
+    ledger.push()?;
+    owes(rt, ledger, 0, &[])
+}
+
 /// A long row goes with the others.
 #[test]
 fn a_long_row_goes(rt: HostRuntime) -> Result<(), Fail> {
     let list = different(&rt, 70)?;
-    let mut ledger = of_one(&rt, &list)?;
-    ledger.truncate(1);
-    owes(&rt, &mut ledger, 0, &list)?;
-    ledger.drop_first(0);
-    owes(&rt, &mut ledger, 0, &list)?;
-    ledger.truncate(0);
-    assert!(rt; ledger.is_empty());
-    let mut ledger = of_one(&rt, &list)?;
-    ledger.drop_first(1);
-    assert!(rt; ledger.is_empty());
-    ledger.push()?;
-    owes(&rt, &mut ledger, 0, &[])
+    goes_behind(&rt, &mut of_one(&rt, &list)?, &list)?;
+    goes_first(&rt, &mut of_one(&rt, &list)?)
 }
 
 /// The row comes to owe a hundred messages more.

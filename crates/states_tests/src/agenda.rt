@@ -129,7 +129,20 @@ fn answers_as_settled<H: BuildHasher + Drop>(
     put(rt.alloc(), tables, row.0, row.1)?;
     settle(tables, row.0)??;
     for &(moment, number) in row.2 {
-        assert!(rt; tables.due(moment) == number, "{:?} at {moment}", row.1);
+        assert!(rt; tables.due(moment) == number, "key {} at {moment}", row.0);
+    }
+    Ok(())
+}
+
+/// Touches the keys, and settles them as the rows say.
+fn answers_in_turn<H: BuildHasher + Drop>(
+    rt: &(impl Abort + AllocGlobal),
+    tables: &mut Tables<H>,
+) -> Result<(), Fail> {
+    touch_servers(rt, tables)?;
+    assert_eq!(rt; tables.due(u64::MAX), None);
+    for row in ROWS {
+        answers_as_settled(rt, tables, row)?;
     }
     Ok(())
 }
@@ -139,10 +152,5 @@ fn answers_as_settled<H: BuildHasher + Drop>(
 fn the_least_number_is_due(rt: HostRuntime) -> Result<(), Fail> {
     let params = Params::new(500, 4_000, 5_000, 50).ok_or("refused")?;
     let mut tables = Tables::new(rt.alloc(), params, BuildHasherDefault::<FoldHasher>::new());
-    touch_servers(&rt, &mut tables)?;
-    assert_eq!(rt; tables.due(u64::MAX), None);
-    for row in ROWS {
-        answers_as_settled(&rt, &mut tables, row)?;
-    }
-    Ok(())
+    answers_in_turn(&rt, &mut tables)
 }

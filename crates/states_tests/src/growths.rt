@@ -139,6 +139,24 @@ fn advance_each_again(
 }
 
 /// A set and its twin take the entries so, and wait so.
+fn play_both_again(
+    rt: &(impl Abort + AllocGlobal),
+    set: &mut StateSet<InviteServer>,
+    twin: &mut StateSet<InviteServer>,
+    book: &Book,
+    entries: &[Entry],
+    waits: &[(u64, usize)],
+) -> Result<(), Fail>
+    requires start { set.old.moment ≡ 0 }
+    requires start_of_twin { twin.old.moment ≡ 0 }
+    requires known { All (Knows (owing_names invite_server_names) book.now) set.old.states }
+    requires known_of_twin { All (Knows (owing_names invite_server_names) book.now) twin.old.states }
+{
+    let last = take_each_again(rt, set, twin, book, entries)?;
+    advance_each_again(rt, set, twin, last, waits)
+}
+
+/// Two new sets do.
 fn play_again(
     rt: &(impl Abort + AllocGlobal),
     entries: &[Entry],
@@ -149,8 +167,7 @@ fn play_again(
     let params = Params::new(500, 4_000, 5_000, 50).ok_or("refused")?;
     let mut set = StateSet::start(alloc, InviteServer::new(params))?;
     let mut twin = StateSet::start(alloc, InviteServer::new(params))?;
-    let last = take_each_again(rt, &mut set, &mut twin, &book, entries)?;
-    advance_each_again(rt, &mut set, &mut twin, last, waits)
+    play_both_again(rt, &mut set, &mut twin, &book, entries, waits)
 }
 
 /// An INVITE, a 180, two repeats, sends of the 180, and a 486.
@@ -211,14 +228,22 @@ fn touch_again(
     Ok(())
 }
 
+/// Touches five keys so.
+fn touch_five_again(
+    rt: &(impl Abort + AllocGlobal),
+    tables: &mut Tables<BuildHasherDefault<FoldHasher>>,
+) -> Result<(), Fail> {
+    for number in 1..6 {
+        touch_again(rt, tables, number)?;
+    }
+    Ok(())
+}
+
 #[test]
 fn tables_go_on_after_a_refused_growth(rt: HostRuntime) -> Result<(), Fail> {
     let params = Params::new(500, 4_000, 5_000, 50).ok_or("refused")?;
     let mut tables = Tables::new(rt.alloc(), params, BuildHasherDefault::<FoldHasher>::new());
-    for number in 1..6 {
-        touch_again(&rt, &mut tables, number)?;
-    }
-    Ok(())
+    touch_five_again(&rt, &mut tables)
 }
 
 /// Settles the key, and a second time where memory was refused. No key is due at the moment before, and then
@@ -239,15 +264,25 @@ fn settle_again(
     Ok(settled?)
 }
 
-/// Each key's INVITE comes 100 ms before that of the key before it, and waits 250 ms for its first response.
+/// Numbers of keys, and the moments of their INVITEs: each comes 100 ms before that of the key before it.
+static INVITES: &[(u32, u64)] = &[(1, 300), (2, 200), (3, 100), (1, 0)];
+
+/// Each key has its INVITE, which waits 250 ms for its first response, and is settled.
+fn settle_each_again(
+    rt: &(impl Abort + AllocGlobal),
+    tables: &mut Tables<BuildHasherDefault<FoldHasher>>,
+) -> Result<(), Fail> {
+    for &(number, moment) in INVITES {
+        touch_again(rt, tables, number)?;
+        put(rt.alloc(), tables, number, &[invite(moment)])?;
+        settle_again(rt, tables, number, moment.saturating_add(251))?;
+    }
+    Ok(())
+}
+
 #[test]
 fn an_agenda_goes_on_after_a_refused_growth(rt: HostRuntime) -> Result<(), Fail> {
     let params = Params::new(500, 4_000, 5_000, 50).ok_or("refused")?;
     let mut tables = Tables::new(rt.alloc(), params, BuildHasherDefault::<FoldHasher>::new());
-    for (number, moment) in [(1, 300), (2, 200), (3, 100), (1, 0)] {
-        touch_again(&rt, &mut tables, number)?;
-        put(rt.alloc(), &mut tables, number, &[invite(moment)])?;
-        settle_again(&rt, &mut tables, number, moment + 251)?;
-    }
-    Ok(())
+    settle_each_again(&rt, &mut tables)
 }

@@ -77,10 +77,17 @@ fn waits_so(alloc: Global, book: &Book, row: &Row) -> Result<bool, Fail> {
     let params = Params::new(500, 4_000, 5_000, 50).ok_or("refused")?;
     let mut set = StateSet::start(alloc, InviteServer::new(params))?;
     let last = play(alloc, &mut set, book, row.0)?;
+    waits_from(&mut set, last, row)
+}
+
+/// Whether the set waits so from the last of its entries on.
+fn waits_from(set: &mut StateSet<InviteServer>, last: u64, row: &Row) -> Result<bool, Fail>
+    requires { set.old.moment ≤ last }
+{
     if set.is_empty() {
         return Err("no state".into());
     }
-    Ok(set.last_moment() == row.1 && are_left(&mut set, last, row.2)? && has_idle_alone(&set))
+    Ok(set.last_moment() == row.1 && are_left(set, last, row.2)? && has_idle_alone(set))
 }
 
 /// Whether the set has no state but the idle one.
@@ -92,8 +99,8 @@ fn has_idle_alone(set: &StateSet<InviteServer>) -> bool {
 #[test]
 fn waits_as_timers_fire(rt: HostRuntime) -> Result<(), Fail> {
     let book = book(rt.alloc())?;
-    for row in ROWS {
-        assert!(rt; waits_so(rt.alloc(), &book, row)?, "{:?}", row.2);
+    for (number, row) in ROWS.iter().enumerate() {
+        assert!(rt; waits_so(rt.alloc(), &book, row)?, "row {number}");
     }
     Ok(())
 }

@@ -156,7 +156,7 @@ fn play_both_again(
     advance_each_again(rt, set, twin, last, waits)
 }
 
-/// Two new sets do.
+/// The same of two new sets.
 fn play_again(
     rt: &(impl Abort + AllocGlobal),
     entries: &[Entry],

@@ -5,3 +5,5 @@
 mod tests;
 #[cfg(test)]
 mod told;
+#[cfg(test)]
+mod wants;

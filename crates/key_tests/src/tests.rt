@@ -1,5 +1,6 @@
 //! Keys and ACKs worked out by hand from RFC 3261.
 
+use crate::wants::is;
 use sip_key::{Direction, Key, KeyError, Role, cancelled_key, is_ack_of, key_of};
 use sip_message::{Message, ReadError};
 use std::alloc::{AllocError, Global};
@@ -233,10 +234,11 @@ static KEYS: &[KeyRow] = &[
 
 /// The message of this text.
 fn read(alloc: Global, text: &str) -> Result<Message<'_>, Fail> {
-    Message::read(alloc, text.as_bytes()).map_err(|error| match error {
-        ReadError::Memory => Fail::from("Memory"),
-        ReadError::Fault(_) => Fail::from("no message"),
-    })
+    match Message::read(alloc, text.as_bytes()) {
+        Ok(message) => Ok(message),
+        Err(ReadError::Memory) => Err("Memory".into()),
+        Err(ReadError::Fault(_)) => Err("no message".into()),
+    }
 }
 
 fn has_parts(key: &Option<Key>, parts: Option<Parts>) -> bool {
@@ -292,7 +294,7 @@ fn keys_are_equal_if_their_parts_are(rt: HostRuntime) -> Result<(), Fail> {
     for &(one, other, same) in SENDERS {
         let one = server_key(rt.alloc(), one)?;
         let other = server_key(rt.alloc(), other)?;
-        assert_eq!(rt; one == other, same);
+        is(&rt, one == other, same);
     }
     Ok(())
 }
@@ -306,7 +308,10 @@ fn server_key(alloc: Global, sent_by: &str) -> Result<Option<Key>, Fail> {
     ]
     .concat(alloc)?;
     let message = read(alloc, &text)?;
-    key_of(alloc, &message, Direction::Received).map_err(|_| Fail::from("no key"))
+    match key_of(alloc, &message, Direction::Received) {
+        Ok(key) => Ok(key),
+        Err(_) => Err("no key".into()),
+    }
 }
 
 const CANCELLED: Option<Parts> = Some((Role::Client, "z9hg4bk1", "", "INVITE"));
@@ -381,7 +386,7 @@ fn asks_again_for_its_key(
         lacked = true;
         key = key_of(rt.alloc(), message, direction);
     }
-    assert!(rt; key.is_ok_and(|key| has_parts(&key, Some(parts))));
+    assert!(rt; matches!(&key, Ok(key) if has_parts(key, Some(parts))));
     lacked
 }
 
@@ -398,7 +403,7 @@ fn asks_again_for_the_second(
         lacked = true;
         key = cancelled_key(rt.alloc(), message, direction);
     }
-    assert!(rt; key.is_ok_and(|key| has_parts(&key, parts)));
+    assert!(rt; matches!(&key, Ok(key) if has_parts(key, parts)));
     lacked
 }
 

@@ -1,5 +1,6 @@
 //! What the errors of `sip_key` say.
 
+use crate::wants::is;
 use sip_key::KeyError;
 use std::test::Fail;
 
@@ -13,7 +14,7 @@ fn errors_say_what_is_wrong(rt: HostRuntime) -> Result<(), Fail> {
         ),
     ];
     for (error, told) in rows {
-        assert_eq!(rt; error.to_string(rt.alloc())?.as_str(), told);
+        is(&rt, error.to_string(rt.alloc())?.as_str(), told);
     }
     Ok(())
 }

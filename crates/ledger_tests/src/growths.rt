@@ -2,6 +2,7 @@
 //! all as it was, and that the same call succeeds with memory.
 use crate::at_rows;
 use crate::lists::{debts, may, must, of_one};
+use crate::wants::is;
 use sip_ledger::{Debt, Ledger};
 use std::alloc::AllocError;
 use std::process::Abort;
@@ -9,7 +10,7 @@ use std::test::Fail;
 
 /// Two ledgers have the same rows.
 fn alike(rt: &(impl Abort + AllocGlobal), ledger: &Ledger, twin: &Ledger) -> Result<(), Fail> {
-    assert_eq!(rt; ledger.len(), twin.len());
+    is(rt, ledger.len(), twin.len());
     for row in 0..ledger.len() {
         let owed = debts(rt, ledger, row)?;
         let owes = debts(rt, twin, row)?;
@@ -190,7 +191,7 @@ fn names_again(rt: &(impl Abort + AllocGlobal), count: u32) -> Result<(), Fail> 
     let ledger = of_many(rt, count)?;
     let mut numbers = Vec::new(rt.alloc());
     let told = name_again(rt, &ledger, &mut numbers)?;
-    assert_eq!(rt; numbers.len(), count as usize);
+    is(rt, numbers.len(), count as usize);
     Ok(told?)
 }
 
@@ -208,7 +209,7 @@ fn runs_again(rt: &(impl Abort + AllocGlobal), count: u32) -> Result<(), Fail> {
         Ok(runs) => runs,
         Err(_) => count_runs(rt, &ledger)?,
     };
-    assert_eq!(rt; runs, count as usize);
+    is(rt, runs, count as usize);
     told?;
     Ok(())
 }

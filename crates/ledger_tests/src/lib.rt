@@ -13,3 +13,5 @@ mod long;
 mod played;
 #[cfg(test)]
 mod rows;
+#[cfg(test)]
+mod wants;

@@ -3,6 +3,7 @@ ghost use Rattle.std.specs.Prelude.{◌<◌, All, AllPairs, IfOk};
 
 use crate::at_rows;
 use crate::lists::{agree, owes};
+use crate::wants::is;
 use sip_ledger::{Debt, Ledger};
 use std::alloc::Global;
 use std::process::Abort;
@@ -250,7 +251,7 @@ fn evens(alloc: Global, limit: usize) -> Result<Vec<usize>, Fail>
 /// The prints of all rows are those of each.
 fn prints_agree(rt: &(impl Abort + AllocGlobal), ledger: &Ledger) -> Result<(), Fail> {
     let prints = ledger.prints(rt.alloc(), 0)?;
-    assert_eq!(rt; prints.len(), ledger.len());
+    is(rt, prints.len(), ledger.len());
     for (row, print) in prints.iter().enumerate() {
         assert!(rt; *print == at_rows::print(rt, ledger, row), "{row}");
     }

@@ -1,6 +1,7 @@
 //! Each operation once, by hand.
 use crate::at_rows;
 use crate::lists::{debts, may, must, of_one, owes};
+use crate::wants::is;
 use sip_ledger::{Debt, Ledger, Run};
 use std::process::Abort;
 use std::test::Fail;
@@ -10,7 +11,7 @@ fn nothing_is_owed_at_first(rt: HostRuntime) -> Result<(), Fail> {
     let mut ledger = Ledger::new(rt.alloc());
     assert!(rt; ledger.is_empty());
     ledger.push()?;
-    assert_eq!(rt; ledger.len(), 1);
+    is(&rt, ledger.len(), 1);
     assert!(rt; !ledger.is_empty());
     owes(&rt, &mut ledger, 0, &[])
 }
@@ -54,7 +55,7 @@ fn of_three(rt: &(impl Abort + AllocGlobal)) -> Result<Ledger, Fail> {
 #[test]
 fn rows_are_copied(rt: HostRuntime) -> Result<(), Fail> {
     let mut ledger = of_three(&rt)?;
-    assert_eq!(rt; ledger.len(), 3);
+    is(&rt, ledger.len(), 3);
     owes(&rt, &mut ledger, 0, &[must(1, 10)])?;
     owes(&rt, &mut ledger, 1, &[must(1, 10), may(2, 20)])?;
     owes(&rt, &mut ledger, 2, &[])?;
@@ -67,12 +68,12 @@ fn rows_are_copied(rt: HostRuntime) -> Result<(), Fail> {
 fn rows_are_dropped(rt: HostRuntime) -> Result<(), Fail> {
     let mut ledger = of_three(&rt)?;
     ledger.drop_first(1);
-    assert_eq!(rt; ledger.len(), 2);
+    is(&rt, ledger.len(), 2);
     owes(&rt, &mut ledger, 0, &[must(1, 10), may(2, 20)])?;
     ledger.truncate(1);
-    assert_eq!(rt; ledger.len(), 1);
+    is(&rt, ledger.len(), 1);
     ledger.truncate(9);
-    assert_eq!(rt; ledger.len(), 1);
+    is(&rt, ledger.len(), 1);
     ledger.drop_first(9);
     assert!(rt; ledger.is_empty());
     Ok(())
@@ -142,12 +143,12 @@ fn entries_that_no_row_owes_go(rt: HostRuntime) -> Result<(), Fail> {
         ledger.tidy();
     }
     let left = debts(&rt, &ledger, 0)?;
-    assert_eq!(rt; left.len(), 30);
+    is(&rt, left.len(), 30);
     assert!(rt; left[0] == must(70, 10));
     for number in 70..100 {
         assert!(rt; at_rows::pay(&rt, &mut ledger, 0, number, 0), "{number}");
     }
     ledger.tidy();
-    assert_eq!(rt; ledger.len(), 1);
+    is(&rt, ledger.len(), 1);
     owes(&rt, &mut ledger, 0, &[])
 }

@@ -1,6 +1,7 @@
 //! Rows of format 2, of its restarts and two tolerances, and of the rules in both formats.
 use crate::devices::{Pieces, Room};
 use crate::tests::{HEADER, Row, first_other, read, read_cut};
+use crate::wants::{is, is_in};
 use sip_log::{
     FromRead, LogError, LogReader, Sink, ToWrite, WriteError, read_entries, write_entry,
     write_header, write_header_2,
@@ -43,7 +44,7 @@ static RESTARTS: &[Row] = &[
 
 #[test]
 fn restarts_in_any_pieces(rt: HostRuntime) -> Result<(), Fail> {
-    assert_eq!(rt; first_other(rt.alloc(), HEADER_2, RESTARTS)?, None);
+    is(&rt, first_other(rt.alloc(), HEADER_2, RESTARTS)?, None);
     Ok(())
 }
 
@@ -56,7 +57,7 @@ static NO_RESTARTS: &[Row] = &[
 
 #[test]
 fn lines_that_are_no_restart_in_any_pieces(rt: HostRuntime) -> Result<(), Fail> {
-    assert_eq!(rt; first_other(rt.alloc(), HEADER_2, NO_RESTARTS)?, None);
+    is(&rt, first_other(rt.alloc(), HEADER_2, NO_RESTARTS)?, None);
     Ok(())
 }
 
@@ -69,9 +70,10 @@ static RESTARTS_IN_FORMAT_1: &[Row] = &[
 /// Format 1 has no restarts.
 #[test]
 fn format_1_has_no_restarts(rt: HostRuntime) -> Result<(), Fail> {
-    assert_eq!(rt;
+    is(
+        &rt,
         first_other(rt.alloc(), HEADER, RESTARTS_IN_FORMAT_1)?,
-        None
+        None,
     );
     Ok(())
 }
@@ -93,8 +95,8 @@ static RULES: &[Row] = &[
 
 #[test]
 fn rules_in_any_pieces(rt: HostRuntime) -> Result<(), Fail> {
-    assert_eq!(rt; first_other(rt.alloc(), HEADER, RULES)?, None);
-    assert_eq!(rt; first_other(rt.alloc(), HEADER_2, RULES)?, None);
+    is(&rt, first_other(rt.alloc(), HEADER, RULES)?, None);
+    is(&rt, first_other(rt.alloc(), HEADER_2, RULES)?, None);
     Ok(())
 }
 
@@ -149,7 +151,11 @@ static HEADERS_OF_FORMAT_2: &[Row] = &[
 
 #[test]
 fn headers_of_format_2_in_any_pieces(rt: HostRuntime) -> Result<(), Fail> {
-    assert_eq!(rt; first_other(rt.alloc(), b"", HEADERS_OF_FORMAT_2)?, None);
+    is(
+        &rt,
+        first_other(rt.alloc(), b"", HEADERS_OF_FORMAT_2)?,
+        None,
+    );
     Ok(())
 }
 
@@ -176,7 +182,7 @@ fn what_a_header_tells(rt: HostRuntime) -> Result<(), Fail> {
         ),
     ];
     for (bytes, want) in rows {
-        assert_eq!(rt; told(rt.alloc(), bytes), Some(want));
+        is(&rt, told(rt.alloc(), bytes), Some(want));
     }
     Ok(())
 }
@@ -189,8 +195,8 @@ fn what_a_restart_tells(rt: HostRuntime) -> Result<(), Fail> {
     let entries = read_entries(rt.alloc(), &mut FromRead::new(bytes.as_slice()));
     let entries = entries.ok().ok_or("not read")?;
     let entry = entries.get(1).ok_or("no entry")?;
-    assert_eq!(rt; (entry.number, entry.moment), (2, 100));
-    assert_eq!(rt; entry.action, Action::Restart);
+    is(&rt, (entry.number, entry.moment), (2, 100));
+    is(&rt, entry.action, Action::Restart);
     assert!(rt; entry.bytes.is_empty());
     Ok(())
 }
@@ -214,7 +220,7 @@ fn times(early: u64, late: u64, rules: Rules) -> Option<Params> {
 fn written(rt: &(impl Abort + AllocGlobal), params: &Params) -> Vec<u8> {
     let mut text = Vec::new(rt.alloc());
     let mut sink = ToWrite::new(&mut text);
-    assert_eq!(rt; write(&mut sink, params), Ok(()));
+    is(rt, write(&mut sink, params), Ok(()));
     text
 }
 
@@ -223,7 +229,7 @@ fn what_is_written_in_format_2(rt: HostRuntime) -> Result<(), Fail> {
     let params = times(0, 100, Rules::R3261).ok_or("refused")?;
     let text = written(&rt, &params);
     assert!(rt; text.as_slice() == WRITTEN);
-    assert_eq!(rt; read_cut(rt.alloc(), WRITTEN), Some((3, None)));
+    is(&rt, read_cut(rt.alloc(), WRITTEN), Some((3, None)));
     Ok(())
 }
 
@@ -280,15 +286,21 @@ fn headers_that_are_written(rt: HostRuntime) -> Result<(), Fail> {
 fn what_is_not_written(rt: HostRuntime) -> Result<(), Fail> {
     let params = times(50, 51, Rules::R6026).ok_or("refused")?;
     let mut room = Room::of(1_000);
-    assert_eq!(rt; write_header(&mut room, &params), Err(WriteError::Limit));
-    assert_eq!(rt;
-        write_entry(&mut room, Action::Restart, 10_000_000_000_000, b""),
-        Err(WriteError::Limit)
+    is(
+        &rt,
+        write_header(&mut room, &params),
+        Err(WriteError::Limit),
     );
-    assert_eq!(rt; room.taken(), 0);
-    assert_eq!(rt;
+    is(
+        &rt,
+        write_entry(&mut room, Action::Restart, 10_000_000_000_000, b""),
+        Err(WriteError::Limit),
+    );
+    is(&rt, room.taken(), 0);
+    is(
+        &rt,
         write_entry(&mut room, Action::Restart, 9_999_999_999_999, b"x"),
-        Ok(())
+        Ok(()),
     );
     Ok(())
 }
@@ -304,15 +316,17 @@ fn a_source_that_fails(rt: HostRuntime) -> Result<(), Fail> {
             79..=82 => 2,
             _ => 3,
         };
-        assert_eq!(rt;
+        is_in(
+            &rt,
             read(rt.alloc(), Pieces::failing(WRITTEN, calls)),
             Some((whole, Some(LogError::Io))),
-            "after {calls}"
+            &calls,
         );
     }
-    assert_eq!(rt;
+    is(
+        &rt,
         read(rt.alloc(), Pieces::failing(WRITTEN, WRITTEN.len() + 1)),
-        Some((3, None))
+        Some((3, None)),
     );
     Ok(())
 }
@@ -322,14 +336,10 @@ fn a_source_that_fails(rt: HostRuntime) -> Result<(), Fail> {
 fn a_sink_that_fails(rt: HostRuntime) -> Result<(), Fail> {
     let params = times(0, 100, Rules::R3261).ok_or("refused")?;
     let mut room = Room::of(1_000);
-    assert_eq!(rt; write(&mut room, &params), Ok(()));
+    is(&rt, write(&mut room, &params), Ok(()));
     for calls in 0..room.taken() {
         let mut room = Room::of(calls);
-        assert_eq!(rt;
-            write(&mut room, &params),
-            Err(WriteError::Io),
-            "after {calls}"
-        );
+        is_in(&rt, write(&mut room, &params), Err(WriteError::Io), &calls);
         assert!(rt; room.has_failed());
     }
     Ok(())

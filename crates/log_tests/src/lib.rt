@@ -11,3 +11,5 @@ mod retries;
 mod tests;
 #[cfg(test)]
 mod told;
+#[cfg(test)]
+mod wants;

@@ -1,5 +1,6 @@
 //! Reads of std that fail, and what is tried again.
 
+use crate::wants::is;
 use sip_log::{FromRead, Source, read_entries};
 use std::io;
 use std::io::Read;
@@ -32,7 +33,7 @@ fn tries_an_interrupted_read_again(rt: HostRuntime) {
         kind: io::ErrorKind::Interrupted,
     });
     let mut buf = [0; 4];
-    assert_eq!(rt; source.fill(&mut buf).ok(), Some(1));
+    is(&rt, source.fill(&mut buf).ok(), Some(1));
     assert!(rt; !source.has_failed());
 }
 
@@ -58,18 +59,23 @@ fn fills_buffers_of_every_length(rt: HostRuntime) {
     let mut buf = [0; 256];
     for len in 0..=256 {
         let mut whole = FromRead::new(bytes.as_slice());
-        assert_eq!(rt; fill_through(&mut whole, &mut buf[..len]), Some(len));
-        assert_eq!(rt; fill_through(bytes.as_slice(), &mut buf[..len]), Some(len));
-        assert_eq!(rt;
+        is(&rt, fill_through(&mut whole, &mut buf[..len]), Some(len));
+        is(
+            &rt,
+            fill_through(bytes.as_slice(), &mut buf[..len]),
+            Some(len),
+        );
+        is(
+            &rt,
             fill_through(&mut whole, &mut buf),
-            Some(256.min(300 - len))
+            Some(256.min(300 - len)),
         );
         assert!(rt; !whole.has_failed());
         let mut single = FromRead::new(OneByOne {
             failures: 0,
             kind: io::ErrorKind::Other,
         });
-        assert_eq!(rt; single.fill(&mut buf[..len]).ok(), Some(len.min(1)));
+        is(&rt, single.fill(&mut buf[..len]).ok(), Some(len.min(1)));
     }
 }
 

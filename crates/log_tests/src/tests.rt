@@ -1,5 +1,6 @@
 //! Rows of the format, read in pieces of any size and written again.
 use crate::devices::{Pieces, Room};
+use crate::wants::{is, is_in};
 use sip_log::{
     Broken, Entry, FromRead, LogError, LogReader, Progress, Sink, Source, ToWrite, WriteError,
     read_entries, write_entry, write_header,
@@ -80,7 +81,7 @@ static ENTRIES: &[Row] = &[
 
 #[test]
 fn entries_in_any_pieces(rt: HostRuntime) -> Result<(), Fail> {
-    assert_eq!(rt; first_other(rt.alloc(), HEADER, ENTRIES)?, None);
+    is(&rt, first_other(rt.alloc(), HEADER, ENTRIES)?, None);
     Ok(())
 }
 
@@ -106,7 +107,11 @@ static FAULTS_OF_A_LINE: &[Row] = &[
 
 #[test]
 fn faults_of_a_line_in_any_pieces(rt: HostRuntime) -> Result<(), Fail> {
-    assert_eq!(rt; first_other(rt.alloc(), HEADER, FAULTS_OF_A_LINE)?, None);
+    is(
+        &rt,
+        first_other(rt.alloc(), HEADER, FAULTS_OF_A_LINE)?,
+        None,
+    );
     Ok(())
 }
 
@@ -120,7 +125,11 @@ static FAULTS_OF_A_MESSAGE: &[Row] = &[
 
 #[test]
 fn faults_of_a_message_in_any_pieces(rt: HostRuntime) -> Result<(), Fail> {
-    assert_eq!(rt; first_other(rt.alloc(), HEADER, FAULTS_OF_A_MESSAGE)?, None);
+    is(
+        &rt,
+        first_other(rt.alloc(), HEADER, FAULTS_OF_A_MESSAGE)?,
+        None,
+    );
     Ok(())
 }
 
@@ -137,7 +146,11 @@ static FAULTS_OF_NUMBERS: &[Row] = &[
 
 #[test]
 fn faults_of_numbers_in_any_pieces(rt: HostRuntime) -> Result<(), Fail> {
-    assert_eq!(rt; first_other(rt.alloc(), HEADER, FAULTS_OF_NUMBERS)?, None);
+    is(
+        &rt,
+        first_other(rt.alloc(), HEADER, FAULTS_OF_NUMBERS)?,
+        None,
+    );
     Ok(())
 }
 
@@ -195,7 +208,7 @@ static HEADERS: &[Row] = &[
 
 #[test]
 fn headers_in_any_pieces(rt: HostRuntime) -> Result<(), Fail> {
-    assert_eq!(rt; first_other(rt.alloc(), b"", HEADERS)?, None);
+    is(&rt, first_other(rt.alloc(), b"", HEADERS)?, None);
     Ok(())
 }
 
@@ -207,11 +220,12 @@ fn a_source_that_fails(rt: HostRuntime) -> Result<(), Fail> {
     // The last call finds the end.
     for calls in 0..=bytes.len() {
         let answer = read(rt.alloc(), Pieces::failing(&bytes, calls)).ok_or("told otherwise")?;
-        assert_eq!(rt; answer.1, Some(LogError::Io), "after {calls}");
+        is_in(&rt, answer.1, Some(LogError::Io), &calls);
     }
-    assert_eq!(rt;
+    is(
+        &rt,
         read(rt.alloc(), Pieces::failing(&bytes, bytes.len() + 1)),
-        Some((2, None))
+        Some((2, None)),
     );
     Ok(())
 }
@@ -258,18 +272,20 @@ fn whole_entries(len: usize) -> u32 {
 #[test]
 fn a_registration_whose_source_fails(rt: HostRuntime) -> Result<(), Fail> {
     let bytes = registration(rt.alloc())?;
-    assert_eq!(rt; bytes.len(), 674);
+    is(&rt, bytes.len(), 674);
     // The last call finds the end.
     for calls in 0..=bytes.len() {
-        assert_eq!(rt;
+        is_in(
+            &rt,
             read(rt.alloc(), Pieces::failing(&bytes, calls)),
             Some((whole_entries(calls), Some(LogError::Io))),
-            "after {calls}"
+            &calls,
         );
     }
-    assert_eq!(rt;
+    is(
+        &rt,
         read(rt.alloc(), Pieces::failing(&bytes, bytes.len() + 1)),
-        Some((4, None))
+        Some((4, None)),
     );
     Ok(())
 }
@@ -292,9 +308,10 @@ fn largest(alloc: Global, message: &[u8]) -> Result<Vec<u8>, AllocError> {
 
 /// That the entry is the largest one.
 fn is_largest(rt: &impl Abort, entry: &Entry, message: &[u8]) {
-    assert_eq!(rt;
+    is(
+        rt,
         (entry.number, entry.moment, entry.action),
-        (1, 9_999_999_999_999, Action::Received)
+        (1, 9_999_999_999_999, Action::Received),
     );
     assert!(rt; entry.bytes.as_slice() == message);
 }
@@ -313,8 +330,8 @@ fn tells_the_largest<R: Source>(
 /// That the reader knows the times of the header.
 fn knows_the_times<R: Source>(rt: &impl Abort, reader: &LogReader<R>) -> Result<(), Fail> {
     let params = reader.params().ok_or("no times")?;
-    assert_eq!(rt; (params.early(), params.late()), (50, 50));
-    assert_eq!(rt; params.rules(), Rules::R6026);
+    is(rt, (params.early(), params.late()), (50, 50));
+    is(rt, params.rules(), Rules::R6026);
     Ok(())
 }
 
@@ -355,7 +372,7 @@ fn a_buffer_is_used_again(rt: HostRuntime) -> Result<(), Fail> {
         assert!(rt; entry.bytes.as_slice() == *message);
         buffer = entry.bytes;
     }
-    assert_eq!(rt; buffer.capacity(), room);
+    is(&rt, buffer.capacity(), room);
     assert!(rt; matches!(progress.next_into(buffer, &mut left), Ok(None)));
     Ok(())
 }
@@ -373,7 +390,7 @@ fn write<W: Sink>(writer: &mut W, params: &Params) -> Result<(), WriteError> {
 fn written(rt: &(impl Abort + AllocGlobal), params: &Params) -> Vec<u8> {
     let mut text = Vec::new(rt.alloc());
     let mut sink = ToWrite::new(&mut text);
-    assert_eq!(rt; write(&mut sink, params), Ok(()));
+    is(rt, write(&mut sink, params), Ok(()));
     text
 }
 
@@ -387,9 +404,9 @@ fn what_is_written(rt: HostRuntime) -> Result<(), Fail> {
     let params = Params::new(500, 4_000, 5_000, 50).ok_or("refused")?;
     let text = written(&rt, &params);
     assert!(rt; text.as_slice() == WRITTEN);
-    assert_eq!(rt; read_cut(rt.alloc(), WRITTEN), Some((4, None)));
+    is(&rt, read_cut(rt.alloc(), WRITTEN), Some((4, None)));
     let entries = read_entries(rt.alloc(), &mut FromRead::new(WRITTEN));
-    assert_eq!(rt; entries.ok().map(|entries| entries.len()), Some(4));
+    is(&rt, entries.ok().map(|entries| entries.len()), Some(4));
     Ok(())
 }
 
@@ -440,14 +457,10 @@ fn what_is_not_written(rt: HostRuntime) -> Result<(), Fail> {
 fn a_sink_that_fails(rt: HostRuntime) -> Result<(), Fail> {
     let params = Params::new(500, 4_000, 5_000, 50).ok_or("refused")?;
     let mut room = Room::of(1_000);
-    assert_eq!(rt; write(&mut room, &params), Ok(()));
+    is(&rt, write(&mut room, &params), Ok(()));
     for calls in 0..room.taken() {
         let mut room = Room::of(calls);
-        assert_eq!(rt;
-            write(&mut room, &params),
-            Err(WriteError::Io),
-            "after {calls}"
-        );
+        is_in(&rt, write(&mut room, &params), Err(WriteError::Io), &calls);
         assert!(rt; room.has_failed());
     }
     Ok(())

@@ -1,5 +1,6 @@
 //! What the errors of `sip_log` say, and how its readers and writers look to who debugs them.
 
+use crate::wants::is;
 use sip_log::{Broken, FromRead, LogError, LogReader, Source, ToWrite, WriteError};
 use std::fmt::Debug;
 use std::process::Abort;
@@ -18,23 +19,23 @@ fn errors_say_what_is_wrong(rt: HostRuntime) -> Result<(), Fail> {
         (LogError::Failed, "failed before"),
     ];
     for (error, told) in rows {
-        assert_eq!(rt; error.to_string(rt.alloc())?.as_str(), told);
+        is(&rt, error.to_string(rt.alloc())?.as_str(), told);
     }
     let rows = [
         (WriteError::Limit, "outside the limits"),
         (WriteError::Io, "cannot write"),
     ];
     for (error, told) in rows {
-        assert_eq!(rt; error.to_string(rt.alloc())?.as_str(), told);
+        is(&rt, error.to_string(rt.alloc())?.as_str(), told);
     }
-    assert_eq!(rt; Broken.to_string(rt.alloc())?.as_str(), "failed");
+    is(&rt, Broken.to_string(rt.alloc())?.as_str(), "failed");
     Ok(())
 }
 
 /// That the value looks so to who debugs it.
 fn looks<T: Debug>(rt: &(impl Abort + AllocGlobal), value: &T, look: &str) -> Result<(), Fail> {
     let told = format!(in rt.alloc(); "{value:?}")?;
-    assert_eq!(rt; told.as_str(), look);
+    is(rt, told.as_str(), look);
     Ok(())
 }
 

@@ -4,6 +4,7 @@
 use crate::answer::answer_to;
 use crate::changed::{NO_LINE, OVER_TCP, changed};
 use crate::folded::FOLDED;
+use crate::wants::is;
 use std::alloc::{AllocError, Global};
 use std::process::Abort;
 use std::test::Fail;
@@ -58,7 +59,7 @@ fn next(seed: u64) -> u64 {
 fn agrees(rt: &(impl Abort + AllocGlobal), text: &[u8]) -> Result<(), Fail> {
     let folded = with_fold(rt.alloc(), text)?;
     let answer = answer_to(rt.alloc(), text)?;
-    assert_eq!(rt; answer, answer_to(rt.alloc(), &folded)?);
+    is(rt, answer_to(rt.alloc(), &folded)?, answer, &"folded");
     Ok(())
 }
 

@@ -2,6 +2,7 @@
 //! has seen that the call left all as it was, and that the same call succeeds with memory.
 
 use crate::folded::{FOLDED, UNFOLDED};
+use crate::wants::is;
 use sip_message::{Message, ReadError, write};
 use std::alloc::AllocError;
 use std::process::Abort;
@@ -23,7 +24,7 @@ fn read_again(rt: &(impl Abort + AllocGlobal)) -> Result<(), Fail> {
     let Err(error) = Message::read(rt.alloc(), SEVENTEEN) else {
         return Ok(());
     };
-    assert_eq!(rt; error, ReadError::Memory);
+    is(rt, error, ReadError::Memory, &"a growth");
     assert!(rt; Message::read(rt.alloc(), SEVENTEEN).is_ok());
     Err(error.into())
 }

@@ -21,3 +21,5 @@ mod tests;
 mod told;
 #[cfg(test)]
 mod torture;
+#[cfg(test)]
+mod wants;

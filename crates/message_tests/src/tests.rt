@@ -4,6 +4,7 @@ use crate::folded::{FOLDED, UNFOLDED};
 use crate::ipv6::IPV6;
 use crate::rows::{ADDRESSES, BODIES, Change, LINES, NAMES, NUMBERS, STARTS, VIAS};
 use crate::torture::TORTURE;
+use crate::wants::is;
 use sip_message::{Message, ReadError, Reason, write};
 use std::alloc::{AllocError, Global};
 use std::process::Abort;
@@ -20,12 +21,7 @@ fn canonical(alloc: Global, bytes: &[u8]) -> Result<Vec<u8>, ReadError> {
 /// Reads each message.
 fn read_rows(rt: &(impl Abort + AllocGlobal), rows: &[Row]) -> Result<(), Fail> {
     for row in rows {
-        assert_eq!(rt;
-            answer_to(rt.alloc(), row.text)?,
-            row.answer,
-            "{}",
-            row.name
-        );
+        is(rt, answer_to(rt.alloc(), row.text)?, row.answer, &row.name);
     }
     Ok(())
 }
@@ -40,7 +36,7 @@ fn reads_torture_messages(rt: HostRuntime) -> Result<(), Fail> {
 fn read_changes(rt: &(impl Abort + AllocGlobal), rows: &[Change]) -> Result<(), Fail> {
     for (n, row) in rows.iter().enumerate() {
         let text = changed(rt.alloc(), row.0, row.1)?;
-        assert_eq!(rt; answer_to(rt.alloc(), &text)?, row.2, "row {n}");
+        is(rt, answer_to(rt.alloc(), &text)?, row.2, &n);
     }
     Ok(())
 }
@@ -84,21 +80,18 @@ fn reads_bodies(rt: HostRuntime) -> Result<(), Fail> {
 fn tells_a_head_from_none(rt: HostRuntime) -> Result<(), Fail> {
     let mut text = changed(rt.alloc(), &[], b"")?;
     let no_end = Answer::Head(Reason::NoHeadEnd);
-    assert_eq!(rt; text.len(), 196);
+    is(&rt, text.len(), 196, &"its length");
     text.truncate(194);
-    assert_eq!(rt; answer_to(rt.alloc(), &text)?, no_end);
-    assert_eq!(rt; answer_to(rt.alloc(), b"")?, no_end);
-    assert_eq!(rt;
-        answer_to(rt.alloc(), b"\r\n\r\n")?,
-        Answer::Line(0, Reason::StartLine)
-    );
+    is(&rt, answer_to(rt.alloc(), &text)?, no_end, &"a front");
+    is(&rt, answer_to(rt.alloc(), b"")?, no_end, &"no bytes");
+    let no_line = Answer::Line(0, Reason::StartLine);
+    is(&rt, answer_to(rt.alloc(), b"\r\n\r\n")?, no_line, &"an end");
     Ok(())
 }
 
 #[test]
 fn writes_the_canonical_form(rt: HostRuntime) -> Result<(), Fail> {
-    assert_eq!(rt; FOLDED.len(), 181);
-    assert_eq!(rt; UNFOLDED.len(), 202);
+    assert!(rt; FOLDED.len() == 181 && UNFOLDED.len() == 202);
     assert!(rt; canonical(rt.alloc(), FOLDED)?.as_slice() == UNFOLDED);
     assert!(rt; canonical(rt.alloc(), UNFOLDED)?.as_slice() == UNFOLDED);
     Ok(())
@@ -149,7 +142,7 @@ fn reads_back_what_it_writes(rt: HostRuntime) -> Result<(), Fail> {
     for at in 0..FOLDED.len() {
         for byte in 0..=255 {
             text[at] = byte;
-            assert!(rt; is_read_back(rt.alloc(), &text)?, "{byte} at {at}");
+            is(&rt, is_read_back(rt.alloc(), &text)?, true, &at);
         }
         text[at] = FOLDED[at];
     }
@@ -186,8 +179,8 @@ fn shows_addresses(rt: &impl Abort, message: &Message<'_>) {
 /// And what follows them.
 fn shows_the_rest(rt: &impl Abort, message: &Message<'_>) {
     assert!(rt; message.call_id() == b"wsinv.ndaksdj@192.0.2.1".as_slice());
-    assert_eq!(rt; message.cseq().number, 9);
-    assert!(rt; message.cseq().method == b"INVITE".as_slice());
+    let cseq = message.cseq();
+    assert!(rt; cseq.number == 9 && cseq.method == b"INVITE".as_slice());
     let mut routes = message.routes();
     let route = b"<sip:services.example.com;lr;unknownwith=value;unknown-no-value>";
     assert!(rt; routes.next() == Some(route.as_slice()) && routes.next() == None);
@@ -261,7 +254,7 @@ static LONG_LINES: &[LongLine] = &[
 /// A long line that is read has the canonical form of a short one.
 fn reads_a_long_fold(rt: &(impl Abort + AllocGlobal)) -> Result<(), Fail> {
     let text = long_line(rt.alloc(), b"s: a", b"\r\n ", 20_000, b"b")?;
-    assert_eq!(rt; canonical(rt.alloc(), &text)?.len(), 210);
+    is(rt, canonical(rt.alloc(), &text)?.len(), 210, &"its length");
     Ok(())
 }
 
@@ -275,7 +268,7 @@ fn answer_to_line(alloc: Global, line: &LongLine) -> Result<Answer, AllocError> 
 fn reads_long_lines(rt: HostRuntime) -> Result<(), Fail> {
     reads_a_long_fold(&rt)?;
     for (n, line) in LONG_LINES.iter().enumerate() {
-        assert_eq!(rt; answer_to_line(rt.alloc(), line)?, line.4, "long line {n}");
+        is(&rt, answer_to_line(rt.alloc(), line)?, line.4, &n);
     }
     Ok(())
 }

@@ -1,5 +1,6 @@
 //! What the faults of messages say.
 
+use crate::wants::is;
 use sip_message::{Fault, ReadError, Reason, Unit};
 use std::test::Fail;
 
@@ -74,11 +75,12 @@ fn faults_say_what_is_wrong_and_where(rt: HostRuntime) -> Result<(), Fail> {
             unit: *unit,
             reason: *reason,
         };
-        assert_eq!(rt; fault.to_string(rt.alloc())?.as_str(), *told);
+        is(&rt, fault.to_string(rt.alloc())?.as_str(), *told, told);
         let error = ReadError::Fault(fault);
-        assert_eq!(rt; error.to_string(rt.alloc())?.as_str(), *told);
+        is(&rt, error.to_string(rt.alloc())?.as_str(), *told, told);
     }
     let refused = ReadError::Memory;
-    assert_eq!(rt; refused.to_string(rt.alloc())?.as_str(), "out of memory");
+    let told = refused.to_string(rt.alloc())?;
+    is(&rt, told.as_str(), "out of memory", &"no memory");
     Ok(())
 }

@@ -1,5 +1,6 @@
 //! Each form of the program on a platform of known words with a known file, and each way in which it fails.
 use crate::desk::Desk;
+use crate::wants::is;
 use sip_log::ToWrite;
 use sip_program::{Host, Output, program, run};
 use std::alloc::{AllocError, Global};
@@ -70,7 +71,7 @@ fn answers(
     let ended = run(rt.alloc(), &mut host, &mut output);
     drop(output);
     assert!(rt; written.as_slice() == want.0.as_bytes());
-    assert_eq!(rt; ended.ok(), Some(want.1));
+    is(rt, ended.ok(), Some(want.1));
     Ok(())
 }
 
@@ -92,7 +93,7 @@ fn ends(
     drop(errors);
     assert!(rt; written.as_slice() == want.0.as_bytes());
     assert!(rt; told.as_slice() == want.1.as_bytes());
-    assert_eq!(rt; status, want.2);
+    is(rt, status, want.2);
     Ok(())
 }
 
@@ -199,6 +200,6 @@ fn tells_that_the_answer_cannot_be_written(rt: HostRuntime) -> Result<(), Fail> 
     drop(output);
     drop(errors);
     assert!(rt; told.as_slice() == b"siptrace: cannot write\n".as_slice());
-    assert_eq!(rt; status, 4);
+    is(&rt, status, 4);
     Ok(())
 }

@@ -9,3 +9,5 @@ mod forms;
 mod seeds;
 #[cfg(test)]
 mod told;
+#[cfg(test)]
+mod wants;

@@ -1,4 +1,5 @@
 //! The hasher of the program.
+use crate::wants::is;
 use sip_program::Seeded;
 use std::alloc::Global;
 use std::hash::{BuildHasher, Hasher};
@@ -52,7 +53,7 @@ fn hashes_as_computed_elsewhere(rt: HostRuntime) -> Result<(), Fail> {
         (b"z9hg4bk776asdhds", 0xe678_f29c_ed02_65a4),
     ];
     for (text, wanted) in rows {
-        assert_eq!(rt; hash_of(&seed, text), wanted);
+        is(&rt, hash_of(&seed, text), wanted);
     }
     Ok(())
 }
@@ -73,7 +74,7 @@ fn tells_many_branches_apart_by_any_seed(rt: HostRuntime) -> Result<(), Fail> {
     for seed in [1, 2] {
         let mut hashes = hashes(rt.alloc(), &Seeded::new(&Same(seed))?, 10_000)?;
         hashes.dedup();
-        assert_eq!(rt; hashes.len(), 10_000);
+        is(&rt, hashes.len(), 10_000);
     }
     Ok(())
 }

@@ -1,5 +1,6 @@
 //! What the failures of the program say: the line that the standard error has, without the program's name.
 
+use crate::wants::is;
 use sip_program::Failure;
 use std::test::Fail;
 
@@ -15,7 +16,7 @@ fn failures_say_what_the_program_tells(rt: HostRuntime) -> Result<(), Fail> {
         ),
     ];
     for (failure, told) in rows {
-        assert_eq!(rt; failure.to_string(rt.alloc())?.as_str(), told);
+        is(&rt, failure.to_string(rt.alloc())?.as_str(), told);
         let line = format!(in rt.alloc(); "siptrace: {failure}\n")?;
         assert!(rt; failure.line() == line.as_bytes());
     }

@@ -5,3 +5,5 @@
 mod tests;
 #[cfg(test)]
 mod uris;
+#[cfg(test)]
+mod wants;

@@ -1,5 +1,6 @@
 //! Tokens, blanks, quoted strings, hosts and ports, and texts that differ in case.
 
+use crate::wants::is;
 use sip_text::{
     Host, is_ipv6_address, is_port, read_host, read_quoted, same_text, skip_lws, token_len,
 };
@@ -75,28 +76,28 @@ fn kind(host: Option<Host<'_>>) -> &'static str {
 #[test]
 fn reads_fronts(rt: HostRuntime) {
     for &(text, token, blanks) in FRONTS {
-        assert_eq!(rt; token_len(text), token, "token of {text:?}");
-        assert_eq!(rt; skip_lws(text), blanks, "blanks of {text:?}");
+        is(&rt, token_len(text), token, text);
+        is(&rt, skip_lws(text), blanks, text);
     }
     for &(text, len) in QUOTED {
-        assert_eq!(rt; read_quoted(text), len, "quoted string of {text:?}");
+        is(&rt, read_quoted(text), len, text);
     }
 }
 
 #[test]
 fn reads_hosts(rt: HostRuntime) {
     for &(text, want) in HOSTS {
-        assert_eq!(rt; kind(read_host(text)), want, "host of {text:?}");
+        is(&rt, kind(read_host(text)), want, text);
     }
     for &(text, address, port) in ADDRESSES {
-        assert_eq!(rt; is_ipv6_address(text), address, "IPv6 address {text:?}");
-        assert_eq!(rt; is_port(text), port, "port {text:?}");
+        is(&rt, is_ipv6_address(text), address, text);
+        is(&rt, is_port(text), port, text);
     }
 }
 
 #[test]
 fn folds_case(rt: HostRuntime) {
     for &(a, b, same) in PAIRS {
-        assert_eq!(rt; same_text(a, b), same, "{a:?} and {b:?}");
+        is(&rt, same_text(a, b), same, a);
     }
 }

@@ -1,5 +1,6 @@
 //! URIs in their parts, and texts that are none.
 
+use crate::wants::is;
 use sip_text::{Host, Uri, read_uri};
 
 // A URI and its parts in order: the scheme, user, password, host, port, parameters and headers of a
@@ -86,9 +87,9 @@ fn parts(uri: Option<Uri<'_>>) -> [&[u8]; 7] {
 #[test]
 fn reads_uris(rt: HostRuntime) {
     for &(text, want) in URIS {
-        assert_eq!(rt; parts(read_uri(text)), want, "{text:?}");
+        is(&rt, parts(read_uri(text)), want, text);
     }
     for &text in NONE {
-        assert_eq!(rt; read_uri(text), None, "{text:?}");
+        is(&rt, read_uri(text), None, text);
     }
 }

@@ -144,15 +144,12 @@ fn answers_as_settled(
 }
 
 /// Touches the keys, and settles them as the rows say.
-fn answers_in_turn(
-    rt: &(impl Abort + AllocGlobal),
-    tables: &mut Folded,
-    book: &Book,
-) -> Result<(), Fail> {
+fn answers_in_turn(rt: &(impl Abort + AllocGlobal), tables: &mut Folded) -> Result<(), Fail> {
     touch_servers(rt, tables)?;
+    let book = book(rt.alloc())?;
     is(rt, tables.due(u64::MAX), None, "before any is settled");
     for (number, row) in ROWS.iter().enumerate() {
-        answers_as_settled(rt, tables, book, number, row)?;
+        answers_as_settled(rt, tables, &book, number, row)?;
     }
     Ok(())
 }
@@ -160,7 +157,6 @@ fn answers_in_turn(
 /// Of four keys the fourth is never settled.
 #[test]
 fn the_least_number_is_due(rt: HostRuntime) -> Result<(), Fail> {
-    let book = book(rt.alloc())?;
     let mut tables = empty(rt.alloc())?;
-    answers_in_turn(&rt, &mut tables, &book)
+    answers_in_turn(&rt, &mut tables)
 }

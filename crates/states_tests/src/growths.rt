@@ -123,7 +123,12 @@ fn advance_again(
         holds(rt, are_same(rt.alloc(), set, twin)?, "the set is as it was");
         set.advance(moment)?;
     }
-    assert_eq!(rt; set.states().len(), count, "at {moment}");
+    is(
+        rt,
+        (moment, set.states().len()),
+        (moment, count),
+        "how many states are left",
+    );
     twin.advance(moment)?;
     holds(rt, are_same(rt.alloc(), set, twin)?, "both waited");
     Ok(waited?)
@@ -291,14 +296,11 @@ fn settle_again(
 static INVITES: &[(u32, u64)] = &[(1, 300), (2, 200), (3, 100), (1, 0)];
 
 /// Each key has its INVITE, which waits 250 ms for its first response, and is settled.
-fn settle_each_again(
-    rt: &(impl Abort + AllocGlobal),
-    tables: &mut Folded,
-    book: &Book,
-) -> Result<(), Fail> {
+fn settle_each_again(rt: &(impl Abort + AllocGlobal), tables: &mut Folded) -> Result<(), Fail> {
+    let book = book(rt.alloc())?;
     for &(number, moment) in INVITES {
         touch_again(rt, tables, number)?;
-        put(rt.alloc(), tables, book, number, &[invite(moment)])?;
+        put(rt.alloc(), tables, &book, number, &[invite(moment)])?;
         settle_again(rt, tables, number, moment.saturating_add(251))?;
     }
     Ok(())
@@ -306,7 +308,6 @@ fn settle_each_again(
 
 #[test]
 fn an_agenda_goes_on_after_a_refused_growth(rt: HostRuntime) -> Result<(), Fail> {
-    let book = book(rt.alloc())?;
     let mut tables = empty(rt.alloc())?;
-    settle_each_again(&rt, &mut tables, &book)
+    settle_each_again(&rt, &mut tables)
 }

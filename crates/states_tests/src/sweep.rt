@@ -45,15 +45,20 @@ fn serve(
 }
 
 /// Adds four INVITE servers: two sent a 180 last, one a 486, and one has sent nothing.
-fn serve_all(alloc: Global, tables: &mut Folded, book: &Book) -> Result<(), Fail> {
+fn serve_all(alloc: Global, tables: &mut Folded) -> Result<(), Fail> {
+    let book = book(alloc)?;
     for &(server, entries) in SERVED {
-        serve(alloc, tables, book, server, entries)?;
+        serve(alloc, tables, &book, server, entries)?;
     }
     Ok(())
 }
 
 /// Appends the names of the four servers to a 9, at a second call where memory was refused, and gives the first answer.
-fn name_again(rt: &impl Abort, tables: &Folded, numbers: &mut Vec<u32>) -> Result<(), AllocError> {
+fn append_again(
+    rt: &impl Abort,
+    tables: &Folded,
+    numbers: &mut Vec<u32>,
+) -> Result<(), AllocError> {
     numbers.push(9)?;
     let named = tables.named(numbers);
     if named.is_err() {
@@ -69,14 +74,19 @@ fn name_again(rt: &impl Abort, tables: &Folded, numbers: &mut Vec<u32>) -> Resul
     named
 }
 
+/// Names the four servers so.
+fn name_again(rt: &(impl Abort + AllocGlobal), tables: &mut Folded) -> Result<(), Fail> {
+    serve_all(rt.alloc(), tables)?;
+    let mut numbers = Vec::new(rt.alloc());
+    Ok(append_again(rt, tables, &mut numbers)?)
+}
+
 /// The 180 has the number 2 and the 486 the number 4. They are appended, ascending and each once; a second
 /// time where memory was refused.
 #[test]
 fn names_go_on_after_a_refused_growth(rt: HostRuntime) -> Result<(), Fail> {
     let mut tables = empty(rt.alloc())?;
-    serve_all(rt.alloc(), &mut tables, &book(rt.alloc())?)?;
-    let mut numbers = Vec::new(rt.alloc());
-    Ok(name_again(&rt, &tables, &mut numbers)?)
+    name_again(&rt, &mut tables)
 }
 
 /// Adds an INVITE server that took the entries to empty tables, and gives the moment of the last one.
@@ -170,12 +180,23 @@ fn waits_again(
     Ok(waited?)
 }
 
+/// So it does in new tables.
+fn waits_in_new(
+    rt: &(impl Abort + AllocGlobal),
+    book: &Book,
+    number: usize,
+    row: &Row,
+) -> Result<(), Fail> {
+    let mut tables = empty(rt.alloc())?;
+    waits_again(rt, &mut tables, book, number, row)
+}
+
 /// A 486 at 100 that is not sent again by 650 is no run's any more. A 180 has no last moment, and a 200 is not named.
 #[test]
 fn sets_wait_after_a_refused_growth(rt: HostRuntime) -> Result<(), Fail> {
     let book = book(rt.alloc())?;
     for (number, row) in ROWS.iter().enumerate() {
-        waits_again(&rt, &mut empty(rt.alloc())?, &book, number, row)?;
+        waits_in_new(&rt, &book, number, row)?;
     }
     Ok(())
 }

@@ -1,37 +1,47 @@
 //! Which key is due, worked out by hand for T1 500, T2 4000, T4 5000 and a tolerance of 50. An INVITE at m
 //! waits for its first response until m + 250, and a 486 at m is sent again by m + 550. Behind a 180 or a
 //! 200 there is no last moment.
+ghost use Rattle.std.specs.Prelude.{◌≡◌, [], IfOk};
+
+use crate::checks::{is, is_at};
 use crate::keys::touch;
-use crate::played::{BUSY, Entry, INVITE, OK, RINGING, book, play};
-use sip_machine::{Action, InviteServer, Params};
-use sip_states::{AnySet, StateSet, Tables};
+use crate::played::{BUSY, Entry, INVITE, OK, RINGING, book, served};
+use sip_machine::{Action, Book, Params};
+use sip_states::{AnySet, Tables};
 use std::alloc::{AllocError, Global};
-use std::hash::{BuildHasher, BuildHasherDefault, FoldHasher};
+use std::hash::{BuildHasherDefault, FoldHasher};
 use std::process::Abort;
 use std::test::Fail;
 
+/// Tables at the hasher of std.
+pub(crate) type Folded = Tables<BuildHasherDefault<FoldHasher>>;
+
+/// Empty tables.
+pub(crate) fn empty(alloc: Global) -> Result<Folded, Fail>
+    ensures { IfOk result (λ tables. (tables.keys ≡ []) × (tables.sets ≡ [])) }
+{
+    let params = Params::new(500, 4_000, 5_000, 50).ok_or("refused")?;
+    Ok(Tables::new(alloc, params, BuildHasherDefault::<FoldHasher>::new()))
+}
+
 /// Gives the key with this number a set that took the entries.
-pub(crate) fn put<H: BuildHasher + Drop>(
+pub(crate) fn put(
     alloc: Global,
-    tables: &mut Tables<H>,
+    tables: &mut Folded,
+    book: &Book,
     number: u32,
     entries: &[Entry],
 ) -> Result<(), Fail> {
     if number == 0 || number > tables.len() {
         return Err("not given".into());
     }
-    let params = Params::new(500, 4_000, 5_000, 50).ok_or("refused")?;
-    let mut set = StateSet::start(alloc, InviteServer::new(params))?;
-    play(alloc, &mut set, &book(alloc)?, entries)?;
+    let (set, _) = served(alloc, book, entries)?;
     *tables.set_mut(number) = AnySet::InviteServer(set);
     Ok(())
 }
 
 /// What the tables answer as the key with this number is settled; an error where its set has no state.
-pub(crate) fn settle<H: BuildHasher + Drop>(
-    tables: &mut Tables<H>,
-    number: u32,
-) -> Result<Result<(), AllocError>, Fail> {
+pub(crate) fn settle(tables: &mut Folded, number: u32) -> Result<Result<(), AllocError>, Fail> {
     if number == 0 || number > tables.len() {
         return Err("not given".into());
     }
@@ -45,13 +55,10 @@ pub(crate) fn settle<H: BuildHasher + Drop>(
 const SERVERS: [u32; 4] = [2, 6, 10, 14];
 
 /// Touches the keys, which get the numbers from 1 on.
-fn touch_servers<H: BuildHasher + Drop>(
-    rt: &(impl Abort + AllocGlobal),
-    tables: &mut Tables<H>,
-) -> Result<(), Fail> {
+fn touch_servers(rt: &(impl Abort + AllocGlobal), tables: &mut Folded) -> Result<(), Fail> {
     for server in SERVERS {
         let number = touch(rt.alloc(), tables, server)??;
-        assert_eq!(rt; number, tables.len());
+        is(rt, number, tables.len(), "a server's number");
     }
     Ok(())
 }
@@ -120,16 +127,29 @@ static ROWS: &[Row] = &[
     ),
 ];
 
-/// Gives a key the row's set, settles it, and asks who is due.
-fn answers_as_settled<H: BuildHasher + Drop>(
+/// Gives a key the set of the row with this number, settles it, and asks who is due.
+fn answers_as_settled(
     rt: &(impl Abort + AllocGlobal),
-    tables: &mut Tables<H>,
+    tables: &mut Folded,
+    book: &Book,
+    number: usize,
     row: &Row,
 ) -> Result<(), Fail> {
-    put(rt.alloc(), tables, row.0, row.1)?;
+    put(rt.alloc(), tables, book, row.0, row.1)?;
     settle(tables, row.0)??;
-    for &(moment, number) in row.2 {
-        assert!(rt; tables.due(moment) == number, "{:?} at {moment}", row.1);
+    for &(moment, due) in row.2 {
+        is_at(rt, tables.due(moment), due, number, moment);
+    }
+    Ok(())
+}
+
+/// Touches the keys, and settles them as the rows say.
+fn answers_in_turn(rt: &(impl Abort + AllocGlobal), tables: &mut Folded) -> Result<(), Fail> {
+    touch_servers(rt, tables)?;
+    let book = book(rt.alloc())?;
+    is(rt, tables.due(u64::MAX), None, "before any is settled");
+    for (number, row) in ROWS.iter().enumerate() {
+        answers_as_settled(rt, tables, &book, number, row)?;
     }
     Ok(())
 }
@@ -137,12 +157,6 @@ fn answers_as_settled<H: BuildHasher + Drop>(
 /// Of four keys the fourth is never settled.
 #[test]
 fn the_least_number_is_due(rt: HostRuntime) -> Result<(), Fail> {
-    let params = Params::new(500, 4_000, 5_000, 50).ok_or("refused")?;
-    let mut tables = Tables::new(rt.alloc(), params, BuildHasherDefault::<FoldHasher>::new());
-    touch_servers(&rt, &mut tables)?;
-    assert_eq!(rt; tables.due(u64::MAX), None);
-    for row in ROWS {
-        answers_as_settled(&rt, &mut tables, row)?;
-    }
-    Ok(())
+    let mut tables = empty(rt.alloc())?;
+    answers_in_turn(&rt, &mut tables)
 }

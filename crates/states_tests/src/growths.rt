@@ -1,35 +1,48 @@
 //! A refused growth. `tests/growths` refuses each in turn: the test then fails with want of memory, once it
 //! has seen that the call left all as it was, and that the same call succeeds with memory.
-ghost use Rattle.std.specs.Prelude.{◌≡◌, ◌≤◌, All, IfOk, OnOk};
+ghost use Rattle.std.specs.Prelude.{◌≡◌, ◌<◌, ◌≤◌, All, IfOk, OnOk, length};
 ghost use Rattle.sip_machine.specs.Rules.{Knows};
 ghost use Rattle.sip_machine.specs.Owing.{owing_names};
 ghost use Rattle.sip_machine.specs.InviteServer.{invite_server_names};
 
-use crate::agenda::{put, settle};
+use crate::agenda::{Folded, empty, put, settle};
+use crate::checks::{holds, is};
 use crate::keys::touch;
 use crate::played::{BUSY, Entry, INVITE, OK, RINGING, book, invite, take};
-use sip_machine::{Action, Book, InviteServer, Params};
-use sip_states::{StateSet, Tables, TakeError};
-use std::alloc::Global;
-use std::hash::{BuildHasherDefault, FoldHasher};
+use sip_machine::{Action, Book, InviteServer, InviteServerPhase, Params, Pool};
+use sip_states::{StateSet, TakeError};
+use std::alloc::{AllocError, Global};
 use std::process::Abort;
 use std::test::Fail;
+
+/// Whether the states at the index are the same.
+fn is_same(
+    alloc: Global,
+    states: &Pool<InviteServerPhase>,
+    others: &Pool<InviteServerPhase>,
+    at: usize,
+) -> Result<bool, AllocError>
+    requires of_states { at < length states.now }
+    requires of_others { at < length others.now }
+{
+    let owed = states.runs(alloc, at)?;
+    let owes = others.runs(alloc, at)?;
+    Ok(states.phase(at) == others.phase(at) && owed.as_slice() == owes.as_slice())
+}
 
 /// Whether the sets have the same states, one by one.
 fn are_same(
     alloc: Global,
     set: &StateSet<InviteServer>,
     twin: &StateSet<InviteServer>,
-) -> Result<bool, Fail> {
+) -> Result<bool, AllocError> {
     let states = set.states();
     let others = twin.states();
     if states.len() != others.len() {
         return Ok(false);
     }
     for at in 0..states.len() {
-        let owed = states.runs(alloc, at)?;
-        let owes = others.runs(alloc, at)?;
-        if states.phase(at) != others.phase(at) || owed.as_slice() != owes.as_slice() {
+        if !is_same(alloc, states, others, at)? {
             return Ok(false);
         }
     }
@@ -55,11 +68,11 @@ fn take_again(
 {
     let alloc = rt.alloc();
     if let Err(error) = take(alloc, set, book, entry)? {
-        assert_eq!(rt; error, TakeError::Memory);
-        assert!(rt; are_same(rt.alloc(), set, twin)?);
+        is(rt, error, TakeError::Memory, "a refused growth");
+        holds(rt, are_same(alloc, set, twin)?, "the set is as it was");
         take(alloc, set, book, entry)??;
         take(alloc, twin, book, entry)??;
-        assert!(rt; are_same(rt.alloc(), set, twin)?);
+        holds(rt, are_same(alloc, set, twin)?, "both took it");
         return Err(error.into());
     }
     take(alloc, twin, book, entry)??;
@@ -107,12 +120,17 @@ fn advance_again(
 {
     let waited = set.advance(moment);
     if waited.is_err() {
-        assert!(rt; are_same(rt.alloc(), set, twin)?);
+        holds(rt, are_same(rt.alloc(), set, twin)?, "the set is as it was");
         set.advance(moment)?;
     }
-    assert_eq!(rt; set.states().len(), count, "at {moment}");
+    is(
+        rt,
+        (moment, set.states().len()),
+        (moment, count),
+        "how many states are left",
+    );
     twin.advance(moment)?;
-    assert!(rt; are_same(rt.alloc(), set, twin)?);
+    holds(rt, are_same(rt.alloc(), set, twin)?, "both waited");
     Ok(waited?)
 }
 
@@ -139,18 +157,34 @@ fn advance_each_again(
 }
 
 /// A set and its twin take the entries so, and wait so.
+fn play_both_again(
+    rt: &(impl Abort + AllocGlobal),
+    set: &mut StateSet<InviteServer>,
+    twin: &mut StateSet<InviteServer>,
+    book: &Book,
+    entries: &[Entry],
+    waits: &[(u64, usize)],
+) -> Result<(), Fail>
+    requires start { set.old.moment ≡ 0 }
+    requires start_of_twin { twin.old.moment ≡ 0 }
+    requires known { All (Knows (owing_names invite_server_names) book.now) set.old.states }
+    requires known_of_twin { All (Knows (owing_names invite_server_names) book.now) twin.old.states }
+{
+    let last = take_each_again(rt, set, twin, book, entries)?;
+    advance_each_again(rt, set, twin, last, waits)
+}
+
+/// Two new sets do.
 fn play_again(
     rt: &(impl Abort + AllocGlobal),
+    book: &Book,
     entries: &[Entry],
     waits: &[(u64, usize)],
 ) -> Result<(), Fail> {
-    let alloc = rt.alloc();
-    let book = book(alloc)?;
     let params = Params::new(500, 4_000, 5_000, 50).ok_or("refused")?;
-    let mut set = StateSet::start(alloc, InviteServer::new(params))?;
-    let mut twin = StateSet::start(alloc, InviteServer::new(params))?;
-    let last = take_each_again(rt, &mut set, &mut twin, &book, entries)?;
-    advance_each_again(rt, &mut set, &mut twin, last, waits)
+    let mut set = StateSet::start(rt.alloc(), InviteServer::new(params))?;
+    let mut twin = StateSet::start(rt.alloc(), InviteServer::new(params))?;
+    play_both_again(rt, &mut set, &mut twin, book, entries, waits)
 }
 
 /// An INVITE, a 180, two repeats, sends of the 180, and a 486.
@@ -169,7 +203,7 @@ static SENDS: &[Entry] = &[
 
 #[test]
 fn a_set_goes_on_after_a_refused_growth(rt: HostRuntime) -> Result<(), Fail> {
-    play_again(&rt, SENDS, &[])
+    play_again(&rt, &book(rt.alloc())?, SENDS, &[])
 }
 
 static REPEAT: &[Entry] = &[
@@ -182,7 +216,12 @@ static REPEAT: &[Entry] = &[
 /// A 486 that answers a repeat, or is itself repeated: timer G fires at 540 or at 1490, and the set has a state for each.
 #[test]
 fn a_repeat_goes_on_after_a_refused_growth(rt: HostRuntime) -> Result<(), Fail> {
-    play_again(&rt, REPEAT, &[(550, 2), (551, 1), (1_541, 0)])
+    play_again(
+        &rt,
+        &book(rt.alloc())?,
+        REPEAT,
+        &[(550, 2), (551, 1), (1_541, 0)],
+    )
 }
 
 static ACCEPTED: &[Entry] = &[(0, Action::Received, INVITE), (0, Action::Sent, OK)];
@@ -190,64 +229,85 @@ static ACCEPTED: &[Entry] = &[(0, Action::Received, INVITE), (0, Action::Sent, O
 /// Behind the 200 timer L ends the transaction between 31950 and 32050.
 #[test]
 fn a_wait_goes_on_after_a_refused_growth(rt: HostRuntime) -> Result<(), Fail> {
-    play_again(&rt, ACCEPTED, &[(31_949, 1), (31_950, 2), (32_051, 1)])
+    play_again(
+        &rt,
+        &book(rt.alloc())?,
+        ACCEPTED,
+        &[(31_949, 1), (31_950, 2), (32_051, 1)],
+    )
 }
 
 /// Touches the key, and a second time where memory was refused.
 fn touch_again(
     rt: &(impl Abort + AllocGlobal),
-    tables: &mut Tables<BuildHasherDefault<FoldHasher>>,
+    tables: &mut Folded,
     number: u32,
 ) -> Result<(), Fail> {
     let before = tables.len();
     let due = tables.due(u64::MAX);
     let touched = touch(rt.alloc(), tables, number)?;
     if touched.is_err() {
-        assert_eq!(rt; tables.len(), before);
-        assert_eq!(rt; tables.due(u64::MAX), due);
-        assert_eq!(rt; touch(rt.alloc(), tables, number)??, number);
+        is(rt, tables.len(), before, "the keys are as they were");
+        is(rt, tables.due(u64::MAX), due, "no other key is due");
+        is(
+            rt,
+            touch(rt.alloc(), tables, number)??,
+            number,
+            "the key as it is touched again",
+        );
     }
-    assert_eq!(rt; touched?, number);
+    is(rt, touched?, number, "the key as it is touched");
+    Ok(())
+}
+
+/// Touches five keys so.
+fn touch_five_again(rt: &(impl Abort + AllocGlobal), tables: &mut Folded) -> Result<(), Fail> {
+    for number in 1..6 {
+        touch_again(rt, tables, number)?;
+    }
     Ok(())
 }
 
 #[test]
 fn tables_go_on_after_a_refused_growth(rt: HostRuntime) -> Result<(), Fail> {
-    let params = Params::new(500, 4_000, 5_000, 50).ok_or("refused")?;
-    let mut tables = Tables::new(rt.alloc(), params, BuildHasherDefault::<FoldHasher>::new());
-    for number in 1..6 {
-        touch_again(&rt, &mut tables, number)?;
-    }
-    Ok(())
+    let mut tables = empty(rt.alloc())?;
+    touch_five_again(&rt, &mut tables)
 }
 
 /// Settles the key, and a second time where memory was refused. No key is due at the moment before, and then
 /// this one is.
 fn settle_again(
     rt: &impl Abort,
-    tables: &mut Tables<BuildHasherDefault<FoldHasher>>,
+    tables: &mut Folded,
     number: u32,
     moment: u64,
 ) -> Result<(), Fail> {
-    assert_eq!(rt; tables.due(moment), None);
+    is(rt, tables.due(moment), None, "before it is settled");
     let settled = settle(tables, number)?;
     if settled.is_err() {
-        assert_eq!(rt; tables.due(moment), None);
+        is(rt, tables.due(moment), None, "as a growth was refused");
         settle(tables, number)??;
     }
-    assert_eq!(rt; tables.due(moment), Some(number));
+    is(rt, tables.due(moment), Some(number), "once it is settled");
     Ok(settled?)
 }
 
-/// Each key's INVITE comes 100 ms before that of the key before it, and waits 250 ms for its first response.
-#[test]
-fn an_agenda_goes_on_after_a_refused_growth(rt: HostRuntime) -> Result<(), Fail> {
-    let params = Params::new(500, 4_000, 5_000, 50).ok_or("refused")?;
-    let mut tables = Tables::new(rt.alloc(), params, BuildHasherDefault::<FoldHasher>::new());
-    for (number, moment) in [(1, 300), (2, 200), (3, 100), (1, 0)] {
-        touch_again(&rt, &mut tables, number)?;
-        put(rt.alloc(), &mut tables, number, &[invite(moment)])?;
-        settle_again(&rt, &mut tables, number, moment + 251)?;
+/// Numbers of keys, and the moments of their INVITEs: each comes 100 ms before that of the key before it.
+static INVITES: &[(u32, u64)] = &[(1, 300), (2, 200), (3, 100), (1, 0)];
+
+/// Each key has its INVITE, which waits 250 ms for its first response, and is settled.
+fn settle_each_again(rt: &(impl Abort + AllocGlobal), tables: &mut Folded) -> Result<(), Fail> {
+    let book = book(rt.alloc())?;
+    for &(number, moment) in INVITES {
+        touch_again(rt, tables, number)?;
+        put(rt.alloc(), tables, &book, number, &[invite(moment)])?;
+        settle_again(rt, tables, number, moment.saturating_add(251))?;
     }
     Ok(())
+}
+
+#[test]
+fn an_agenda_goes_on_after_a_refused_growth(rt: HostRuntime) -> Result<(), Fail> {
+    let mut tables = empty(rt.alloc())?;
+    settle_each_again(&rt, &mut tables)
 }

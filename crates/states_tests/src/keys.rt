@@ -23,6 +23,12 @@ fn request(alloc: Global, method: &str, number: u32) -> Result<String, AllocErro
     .concat(alloc)
 }
 
+/// The key of the message with this text.
+fn key_in(alloc: Global, text: &str, direction: Direction) -> Result<Key, Fail> {
+    let message = Message::read(alloc, text.as_bytes())?;
+    Ok(key_of(alloc, &message, direction)?.ok_or("no key")?)
+}
+
 /// The key of a transaction of its own number. By fours the numbers go through the four machines.
 pub(crate) fn key(alloc: Global, number: u32) -> Result<Key, Fail> {
     let (direction, method) = match number % 4 {
@@ -32,8 +38,7 @@ pub(crate) fn key(alloc: Global, number: u32) -> Result<Key, Fail> {
         _ => (Direction::Received, "OPTIONS"),
     };
     let text = request(alloc, method, number)?;
-    let message = Message::read(alloc, text.as_bytes())?;
-    Ok(key_of(alloc, &message, direction)?.ok_or("no key")?)
+    key_in(alloc, text.as_str(), direction)
 }
 
 /// What the tables answer as they touch the key of a transaction of its own number; an error where they are full.

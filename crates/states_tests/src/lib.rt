@@ -4,6 +4,8 @@
 #[cfg(test)]
 mod agenda;
 #[cfg(test)]
+mod checks;
+#[cfg(test)]
 mod growths;
 #[cfg(test)]
 mod keys;

@@ -1,11 +1,11 @@
 //! Entries that a set of the INVITE server takes.
-ghost use Rattle.std.specs.Prelude.{◌≡◌, ◌≤◌, ℕ, All, IfOk, OnOk};
+ghost use Rattle.std.specs.Prelude.{◌≡◌, ◌≤◌, [], ℕ, All, IfOk, OnOk};
 ghost use Rattle.sip_machine.specs.Rules.{Knows};
 ghost use Rattle.sip_machine.specs.Texts.{Keeps};
 ghost use Rattle.sip_machine.specs.Owing.{owing_names};
 ghost use Rattle.sip_machine.specs.InviteServer.{invite_server_names};
 
-use sip_machine::{Action, Book, Event, InviteServer};
+use sip_machine::{Action, Book, Event, InviteServer, Params};
 use sip_message::Message;
 use sip_states::{StateSet, TakeError};
 use std::alloc::{AllocError, Global};
@@ -43,14 +43,22 @@ static TEXTS: [&str; 5] = [
     CSeq: 1 INVITE\r\nContent-Length: 0\r\n\r\n",
 ];
 
-/// The book with all messages of the entries.
-pub(crate) fn book(alloc: Global) -> Result<Book, AllocError> {
-    let mut book = Book::new(alloc);
+/// Adds all messages of the entries.
+fn add_all(book: &mut Book) -> Result<(), AllocError>
+    requires { book.old ≡ [] }
+{
     book.add(INVITE, TEXTS[0].as_bytes())?;
     book.add(RINGING, TEXTS[1].as_bytes())?;
     book.add(PROGRESS, TEXTS[2].as_bytes())?;
     book.add(BUSY, TEXTS[3].as_bytes())?;
     book.add(OK, TEXTS[4].as_bytes())?;
+    Ok(())
+}
+
+/// The book with all messages of the entries.
+pub(crate) fn book(alloc: Global) -> Result<Book, AllocError> {
+    let mut book = Book::new(alloc);
+    add_all(&mut book)?;
     Ok(book)
 }
 
@@ -135,4 +143,18 @@ pub(crate) fn play(
         last = entry.0;
     }
     Ok(last)
+}
+
+/// The set of an INVITE server that took the entries, and the moment of the last one.
+pub(crate) fn served(
+    alloc: Global,
+    book: &Book,
+    entries: &[Entry],
+) -> Result<(StateSet<InviteServer>, u64), Fail>
+    ensures { IfOk result (λ served. served.0.moment ≤ served.1) }
+{
+    let params = Params::new(500, 4_000, 5_000, 50).ok_or("refused")?;
+    let mut set = StateSet::start(alloc, InviteServer::new(params))?;
+    let last = play(alloc, &mut set, book, entries)?;
+    Ok((set, last))
 }

@@ -2,21 +2,22 @@
 //! tolerance of 50.
 ghost use Rattle.std.specs.Prelude.{◌≤◌};
 
-use crate::played::{BUSY, Entry, INVITE, OK, book, play};
-use sip_machine::{
-    Action, Book, InviteServer, InviteServerPhase, Params, PlainClientPhase, Waiting,
-};
+use crate::checks::is_at;
+use crate::played::{BUSY, Entry, INVITE, OK, book, served};
+use sip_machine::{Action, Book, InviteServer, InviteServerPhase, PlainClientPhase, Waiting};
 use sip_states::StateSet;
-use std::alloc::Global;
 use std::mem::size_of;
+use std::process::Abort;
 use std::test::Fail;
 
-/// Whether the set has so many states after a wait until each of the moments.
+/// After a wait until each of the moments the set has so many states. Gives the last moment.
 fn are_left(
+    rt: &impl Abort,
     set: &mut StateSet<InviteServer>,
     from: u64,
+    number: usize,
     waits: &[(u64, usize)],
-) -> Result<bool, Fail>
+) -> Result<u64, Fail>
     requires { set.old.moment ≤ from }
 {
     let mut last = from;
@@ -25,12 +26,10 @@ fn are_left(
             return Err("not in order".into());
         }
         set.advance(moment)?;
-        if set.states().len() != count {
-            return Ok(false);
-        }
+        is_at(rt, set.states().len(), count, number, moment);
         last = moment;
     }
-    Ok(true)
+    Ok(last)
 }
 
 /// When a transaction began, later than 32 bits can count.
@@ -72,28 +71,47 @@ static ROWS: &[Row] = &[
     ),
 ];
 
-/// Whether a set that took the row's entries waits so, and has none but idle states at last.
-fn waits_so(alloc: Global, book: &Book, row: &Row) -> Result<bool, Fail> {
-    let params = Params::new(500, 4_000, 5_000, 50).ok_or("refused")?;
-    let mut set = StateSet::start(alloc, InviteServer::new(params))?;
-    let last = play(alloc, &mut set, book, row.0)?;
-    if set.is_empty() {
-        return Err("no state".into());
-    }
-    Ok(set.last_moment() == row.1 && are_left(&mut set, last, row.2)? && has_idle_alone(&set))
-}
-
 /// Whether the set has no state but the idle one.
 fn has_idle_alone(set: &StateSet<InviteServer>) -> bool {
     let states = set.states();
     states.is_empty() || (states.len() == 1 && states.phase(0) == InviteServerPhase::Idle)
 }
 
+/// The set waits as the row with this number says, from the last of its entries on, and has none but idle states at last.
+fn waits_from(
+    rt: &impl Abort,
+    set: &mut StateSet<InviteServer>,
+    from: u64,
+    number: usize,
+    row: &Row,
+) -> Result<(), Fail>
+    requires { set.old.moment ≤ from }
+{
+    if set.is_empty() {
+        return Err("no state".into());
+    }
+    is_at(rt, set.last_moment(), row.1, number, from);
+    let last = are_left(rt, set, from, number, row.2)?;
+    is_at(rt, has_idle_alone(set), true, number, last);
+    Ok(())
+}
+
+/// A set that took the row's entries does so.
+fn waits_so(
+    rt: &(impl Abort + AllocGlobal),
+    book: &Book,
+    number: usize,
+    row: &Row,
+) -> Result<(), Fail> {
+    let (mut set, last) = served(rt.alloc(), book, row.0)?;
+    waits_from(rt, &mut set, last, number, row)
+}
+
 #[test]
 fn waits_as_timers_fire(rt: HostRuntime) -> Result<(), Fail> {
     let book = book(rt.alloc())?;
-    for row in ROWS {
-        assert!(rt; waits_so(rt.alloc(), &book, row)?, "{:?}", row.2);
+    for (number, row) in ROWS.iter().enumerate() {
+        waits_so(&rt, &book, number, row)?;
     }
     Ok(())
 }

@@ -4,12 +4,15 @@ ghost use Rattle.sip_machine.specs.MachineEvent.{FitsBook};
 ghost use Rattle.sip_machine.specs.Owing.{owing_names};
 ghost use Rattle.sip_machine.specs.PlainClient.{plain_client_names};
 ghost use Rattle.sip_machine.specs.Rules.{Knows};
+ghost use Rattle.sip_machine.specs.Texts.{Keeps};
 ghost use Rattle.sip_machine.specs.Times.{last_moment};
 
+use crate::checks::{holds, is};
 use sip_machine::{Action, Book, Event, Params, PlainClient};
 use sip_message::Message;
 use sip_states::{StateSet, TakeError};
 use std::alloc::Global;
+use std::process::Abort;
 use std::test::Fail;
 
 const OPTIONS: &[u8] = b"OPTIONS sip:bob@example.com SIP/2.0\r\n\
@@ -35,28 +38,70 @@ fn take(set: &mut StateSet<PlainClient>, book: &Book, event: &Event) -> Result<(
     requires order { set.old.moment ≤ event.now.moment }
     requires fits { FitsBook book.now event.now }
     requires known { All (Knows (owing_names plain_client_names) book.now) set.old.states }
-    ensures at { OnOk result (set.new.moment ≡ event.now.moment) }
+    ensures order { set.new.moment ≤ event.now.moment }
     ensures known { All (Knows (owing_names plain_client_names) book.now) set.new.states }
 {
     set.take(book, event)
 }
 
-/// For T1 500, T2 4000, T4 5000 and a tolerance of 50: a request at 0 is repeated at 500, and then
-/// again by 1,550.
+/// The set takes the request with this number, as it is sent at the moment.
+fn takes(
+    rt: &(impl Abort + AllocGlobal),
+    set: &mut StateSet<PlainClient>,
+    book: &Book,
+    number: u32,
+    moment: u64,
+) -> Result<(), Fail>
+    requires limit { moment ≤ last_moment }
+    requires order { set.old.moment ≤ moment }
+    requires kept { Keeps book.now number }
+    requires known { All (Knows (owing_names plain_client_names) book.now) set.old.states }
+    ensures order { OnOk result (set.new.moment ≤ moment) }
+    ensures known { OnOk result (All (Knows (owing_names plain_client_names) book.now) set.new.states) }
+{
+    let event = sent(rt.alloc(), number, moment)?;
+    is(
+        rt,
+        (moment, take(set, book, &event)),
+        (moment, Ok(())),
+        "the request is taken",
+    );
+    Ok(())
+}
+
+/// The set takes the request with this number at 0 and at 500, and then waits for it until 1,550.
+fn waits(
+    rt: &(impl Abort + AllocGlobal),
+    set: &mut StateSet<PlainClient>,
+    book: &Book,
+    number: u32,
+) -> Result<(), Fail>
+    requires start { set.old.moment ≡ 0 }
+    requires kept { Keeps book.now number }
+    requires known { All (Knows (owing_names plain_client_names) book.now) set.old.states }
+{
+    takes(rt, set, book, number, 0)?;
+    takes(rt, set, book, number, 500)?;
+    set.advance(1_550)?;
+    holds(rt, !set.is_empty(), "at 1,550");
+    set.advance(1_551)?;
+    holds(rt, set.is_empty(), "at 1,551");
+    Ok(())
+}
+
+/// A new set does so, for T1 500, T2 4000, T4 5000 and a tolerance of 50.
+fn starts_and_waits(rt: &(impl Abort + AllocGlobal), book: &Book, number: u32) -> Result<(), Fail>
+    requires { Keeps book.now number }
+{
+    let params = Params::new(500, 4_000, 5_000, 50).ok_or("refused")?;
+    let mut set = StateSet::start(rt.alloc(), PlainClient::new(params))?;
+    waits(rt, &mut set, book, number)
+}
+
+/// A request at 0 is repeated at 500, and then again by 1,550.
 #[test]
 fn waits_for_the_repeat(rt: HostRuntime) -> Result<(), Fail> {
-    let alloc = rt.alloc();
-    let mut book = Book::new(alloc);
+    let mut book = Book::new(rt.alloc());
     let request = book.add(1, OPTIONS)?;
-    let params = Params::new(500, 4_000, 5_000, 50).ok_or("refused")?;
-    let mut set = StateSet::start(alloc, PlainClient::new(params))?;
-    let first = sent(alloc, request, 0)?;
-    assert_eq!(rt; take(&mut set, &book, &first), Ok(()));
-    let repeat = sent(alloc, request, 500)?;
-    assert_eq!(rt; set.take(&book, &repeat), Ok(()));
-    set.advance(1_550)?;
-    assert!(rt; !set.is_empty());
-    set.advance(1_551)?;
-    assert!(rt; set.is_empty());
-    Ok(())
+    starts_and_waits(&rt, &book, request)
 }

@@ -2,17 +2,15 @@
 ghost use Rattle.std.specs.Prelude.{◌≡◌, ◌≤◌, [], All, IfOk};
 ghost use Rattle.sip_states.specs.AnySet.{moment_of};
 
-use crate::agenda::put;
+use crate::agenda::{Folded, empty, put};
+use crate::checks::{is, is_at};
 use crate::keys::{key, touch};
-use crate::played::{BUSY, Entry, INVITE, OK, PROGRESS, RINGING, book, play};
-use sip_machine::{Action, InviteServer, Params};
-use sip_states::{AnySet, StateSet, Tables};
+use crate::played::{BUSY, Entry, INVITE, OK, PROGRESS, RINGING, book, served};
+use sip_machine::{Action, Book};
+use sip_states::AnySet;
 use std::alloc::{AllocError, Global};
-use std::hash::{BuildHasherDefault, FoldHasher};
 use std::process::Abort;
 use std::test::Fail;
-
-type Served = Tables<BuildHasherDefault<FoldHasher>>;
 
 static SERVED: &[(u32, &[Entry])] = &[
     (
@@ -34,69 +32,83 @@ static SERVED: &[(u32, &[Entry])] = &[
     ),
 ];
 
-/// Empty tables.
-fn empty(alloc: Global) -> Result<Served, Fail>
-    ensures { IfOk result (λ tables. (tables.keys ≡ []) × (tables.sets ≡ [])) }
-{
-    let params = Params::new(500, 4_000, 5_000, 50).ok_or("refused")?;
-    Ok(Tables::new(alloc, params, BuildHasherDefault::<FoldHasher>::new()))
-}
-
 /// Adds an INVITE server that took the entries.
-fn serve(alloc: Global, tables: &mut Served, server: u32, entries: &[Entry]) -> Result<(), Fail> {
+fn serve(
+    alloc: Global,
+    tables: &mut Folded,
+    book: &Book,
+    server: u32,
+    entries: &[Entry],
+) -> Result<(), Fail> {
     let number = touch(alloc, tables, server)??;
-    put(alloc, tables, number, entries)
+    put(alloc, tables, book, number, entries)
 }
 
-/// Tables of four INVITE servers: two sent a 180 last, one a 486, and one has sent nothing.
-fn servers(alloc: Global) -> Result<Served, Fail> {
-    let mut tables = empty(alloc)?;
+/// Adds four INVITE servers: two sent a 180 last, one a 486, and one has sent nothing.
+fn serve_all(alloc: Global, tables: &mut Folded) -> Result<(), Fail> {
+    let book = book(alloc)?;
     for &(server, entries) in SERVED {
-        serve(alloc, &mut tables, server, entries)?;
+        serve(alloc, tables, &book, server, entries)?;
     }
-    Ok(tables)
+    Ok(())
+}
+
+/// Appends the names of the four servers to a 9, at a second call where memory was refused, and gives the first answer.
+fn append_again(
+    rt: &impl Abort,
+    tables: &Folded,
+    numbers: &mut Vec<u32>,
+) -> Result<(), AllocError> {
+    numbers.push(9)?;
+    let named = tables.named(numbers);
+    if named.is_err() {
+        is(rt, numbers.as_slice(), [9].as_slice(), "none is appended");
+        tables.named(numbers)?;
+    }
+    is(
+        rt,
+        numbers.as_slice(),
+        [9, 2, 4].as_slice(),
+        "all are appended",
+    );
+    named
+}
+
+/// Names the four servers so.
+fn name_again(rt: &(impl Abort + AllocGlobal), tables: &mut Folded) -> Result<(), Fail> {
+    serve_all(rt.alloc(), tables)?;
+    let mut numbers = Vec::new(rt.alloc());
+    Ok(append_again(rt, tables, &mut numbers)?)
 }
 
 /// The 180 has the number 2 and the 486 the number 4. They are appended, ascending and each once; a second
 /// time where memory was refused.
 #[test]
 fn names_go_on_after_a_refused_growth(rt: HostRuntime) -> Result<(), Fail> {
-    let tables = servers(rt.alloc())?;
-    let mut numbers = Vec::new(rt.alloc());
-    numbers.push(9)?;
-    let named = tables.named(&mut numbers);
-    if named.is_err() {
-        assert!(rt; numbers.as_slice() == [9].as_slice());
-        tables.named(&mut numbers)?;
-    }
-    assert!(rt; numbers.as_slice() == [9, 2, 4].as_slice());
-    Ok(named?)
+    let mut tables = empty(rt.alloc())?;
+    name_again(&rt, &mut tables)
 }
 
-/// The set of an INVITE server that took the entries, and the moment of the last one.
-fn served(alloc: Global, entries: &[Entry]) -> Result<(StateSet<InviteServer>, u64), Fail>
-    ensures { IfOk result (λ served. served.0.moment ≤ served.1) }
+/// Adds an INVITE server that took the entries to empty tables, and gives the moment of the last one.
+fn serve_alone(
+    alloc: Global,
+    tables: &mut Folded,
+    book: &Book,
+    entries: &[Entry],
+) -> Result<u64, Fail>
+    requires keys { tables.old.keys ≡ [] }
+    requires sets { tables.old.sets ≡ [] }
+    ensures { IfOk result (λ last. All (λ set. moment_of set ≤ last) tables.new.sets) }
 {
-    let params = Params::new(500, 4_000, 5_000, 50).ok_or("refused")?;
-    let mut set = StateSet::start(alloc, InviteServer::new(params))?;
-    let last = play(alloc, &mut set, &book(alloc)?, entries)?;
-    Ok((set, last))
-}
-
-/// Tables of one INVITE server that took the entries, and the moment of the last one.
-fn one_server(alloc: Global, entries: &[Entry]) -> Result<(Served, u64), Fail>
-    ensures { IfOk result (λ served. All (λ set. moment_of set ≤ served.1) served.0.sets) }
-{
-    let (set, last) = served(alloc, entries)?;
     let key = key(alloc, 2)?;
-    let mut tables = empty(alloc)?;
     let number = tables.touch(key)?;
+    let (set, last) = served(alloc, book, entries)?;
     *tables.set_mut(number) = AnySet::InviteServer(set);
-    Ok((tables, last))
+    Ok(last)
 }
 
 /// Lets the sets wait until the moment, and a second time where memory was refused.
-fn wait_again(tables: &mut Served, moment: u64) -> Result<Result<(), AllocError>, AllocError>
+fn wait_again(tables: &mut Folded, moment: u64) -> Result<Result<(), AllocError>, AllocError>
     requires { All (λ set. moment_of set ≤ moment) tables.old.sets }
 {
     match tables.advance_all(moment) {
@@ -135,33 +147,56 @@ static ROWS: &[Row] = &[
     (&[(0, Action::Received, INVITE)], 250, &[]),
 ];
 
-/// Lets the row's set wait, and gives the first answer; an error where the names are others.
-fn waits_again(rt: &(impl Abort + AllocGlobal), row: &Row) -> Result<(), Fail> {
-    let (mut tables, last) = one_server(rt.alloc(), row.0)?;
+/// The tables name the messages of the row with this number, and no other.
+fn are_named(
+    rt: &(impl Abort + AllocGlobal),
+    tables: &Folded,
+    number: usize,
+    row: &Row,
+) -> Result<(), AllocError> {
+    let mut numbers = Vec::new(rt.alloc());
+    tables.named(&mut numbers)?;
+    is_at(rt, numbers.as_slice(), row.2, number, row.1);
+    Ok(())
+}
+
+/// Lets the set of the row with this number wait, and gives the first answer.
+fn waits_again(
+    rt: &(impl Abort + AllocGlobal),
+    tables: &mut Folded,
+    book: &Book,
+    number: usize,
+    row: &Row,
+) -> Result<(), Fail>
+    requires keys { tables.old.keys ≡ [] }
+    requires sets { tables.old.sets ≡ [] }
+{
+    let last = serve_alone(rt.alloc(), tables, book, row.0)?;
     if row.1 < last {
         return Err("not in order".into());
     }
-    let waited = wait_again(&mut tables, row.1)?;
-    assert!(rt;
-        are_named(rt.alloc(), &tables, row.2)?,
-        "{:?} at {}",
-        row.0,
-        row.1
-    );
+    let waited = wait_again(tables, row.1)?;
+    are_named(rt, tables, number, row)?;
     Ok(waited?)
 }
 
-fn are_named(alloc: Global, tables: &Served, names: &[u32]) -> Result<bool, AllocError> {
-    let mut numbers = Vec::new(alloc);
-    tables.named(&mut numbers)?;
-    Ok(numbers.as_slice() == names)
+/// So it does in new tables.
+fn waits_in_new(
+    rt: &(impl Abort + AllocGlobal),
+    book: &Book,
+    number: usize,
+    row: &Row,
+) -> Result<(), Fail> {
+    let mut tables = empty(rt.alloc())?;
+    waits_again(rt, &mut tables, book, number, row)
 }
 
 /// A 486 at 100 that is not sent again by 650 is no run's any more. A 180 has no last moment, and a 200 is not named.
 #[test]
 fn sets_wait_after_a_refused_growth(rt: HostRuntime) -> Result<(), Fail> {
-    for row in ROWS {
-        waits_again(&rt, row)?;
+    let book = book(rt.alloc())?;
+    for (number, row) in ROWS.iter().enumerate() {
+        waits_in_new(&rt, &book, number, row)?;
     }
     Ok(())
 }

@@ -2,6 +2,7 @@
 ghost use Rattle.std.specs.Prelude.{◌≡◌, ◌<◌, ◌+◌, length};
 ghost use Rattle.sip_states.specs.Tables.{IsGiven};
 
+use crate::checks::is;
 use crate::keys::touch;
 use sip_machine::{Params, Rules};
 use sip_states::{AnySet, Tables};
@@ -58,15 +59,22 @@ fn number_of<H: BuildHasher + Drop>(
     Ok((given, is_own))
 }
 
-/// Whether the key has its own number, and there are so many.
+/// The key has its own number, its set is of its machine, and there are so many keys.
 fn is_numbered<H: BuildHasher + Drop>(
-    alloc: Global,
+    rt: &(impl Abort + AllocGlobal),
     tables: &mut Tables<H>,
     rules: Rules,
     number: u32,
     count: u32,
-) -> Result<bool, Fail> {
-    Ok(number_of(alloc, tables, rules, number)? == (number, true) && tables.len() == count)
+) -> Result<(), Fail> {
+    let (given, is_own) = number_of(rt.alloc(), tables, rules, number)?;
+    is(
+        rt,
+        (given, is_own, tables.len()),
+        (number, true, count),
+        "a key",
+    );
+    Ok(())
 }
 
 /// 200 keys have numbers from 1 on, and each has its own when it comes again.
@@ -76,16 +84,10 @@ fn numbers_200_keys<H: BuildHasher + Drop>(
     rules: Rules,
 ) -> Result<(), Fail> {
     for number in 1..201 {
-        assert!(rt;
-            is_numbered(rt.alloc(), tables, rules, number, number)?,
-            "key {number}"
-        );
+        is_numbered(rt, tables, rules, number, number)?;
     }
     for number in 1..201 {
-        assert!(rt;
-            is_numbered(rt.alloc(), tables, rules, number, 200)?,
-            "key {number} again"
-        );
+        is_numbered(rt, tables, rules, number, 200)?;
     }
     Ok(())
 }

@@ -1,16 +1,18 @@
 //! What the errors of `sip_states` say.
 
+use crate::checks::is;
 use sip_states::TakeError;
+use std::process::Abort;
 use std::test::Fail;
+
+fn says(rt: &(impl Abort + AllocGlobal), error: TakeError, told: &str) -> Result<(), Fail> {
+    let text = error.to_string(rt.alloc())?;
+    is(rt, text.as_str(), told, "what it says");
+    Ok(())
+}
 
 #[test]
 fn errors_say_what_is_wrong(rt: HostRuntime) -> Result<(), Fail> {
-    let rows = [
-        (TakeError::Memory, "out of memory"),
-        (TakeError::TooMany, "more than 1,024 possible states"),
-    ];
-    for (error, told) in rows {
-        assert_eq!(rt; error.to_string(rt.alloc())?.as_str(), told);
-    }
-    Ok(())
+    says(&rt, TakeError::Memory, "out of memory")?;
+    says(&rt, TakeError::TooMany, "more than 1,024 possible states")
 }

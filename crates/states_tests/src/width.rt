@@ -4,10 +4,12 @@ ghost use Rattle.sip_machine.specs.Rules.{Knows};
 ghost use Rattle.sip_machine.specs.Owing.{owing_names};
 ghost use Rattle.sip_machine.specs.InviteServer.{invite_server_names};
 
+use crate::checks::is;
 use crate::played::{Entry, book, invite, progress, ringing, take};
 use sip_machine::{Book, InviteServer, Params};
 use sip_states::{StateSet, TakeError};
 use std::alloc::Global;
+use std::process::Abort;
 use std::test::Fail;
 
 /// The entry with this number, which is one more than its moment: an INVITE, a 180, so many repeats, a
@@ -70,30 +72,69 @@ fn widens(
     Ok(true)
 }
 
+/// Behind so many repeats and then so many sends of the 183 the set has the most states, and takes no further send.
+fn is_widest(
+    rt: &(impl Abort + AllocGlobal),
+    set: &mut StateSet<InviteServer>,
+    book: &Book,
+    repeats: u64,
+    sends: u64,
+    most: usize,
+) -> Result<(), Fail>
+    requires few { repeats ≤ 40 }
+    requires short { sends ≤ 40 }
+    requires start { set.old.moment ≡ 0 }
+    requires known { All (Knows (owing_names invite_server_names) book.now) set.old.states }
+{
+    let alloc = rt.alloc();
+    take_before_sends(alloc, set, book, repeats)?;
+    is(
+        rt,
+        set.states().len() as u64,
+        repeats + 1,
+        "before the sends",
+    );
+    is(
+        rt,
+        (repeats, widens(alloc, set, book, repeats, sends)?),
+        (repeats, true),
+        "the sends",
+    );
+    is(rt, set.states().len(), most, "behind the sends");
+    let next = entry_at(repeats, 43 + 2 * repeats + sends);
+    is(
+        rt,
+        (most, take(alloc, set, book, next)?),
+        (most, Err(TakeError::TooMany)),
+        "a send more",
+    );
+    is(rt, set.states().len(), most, "behind a send more");
+    Ok(())
+}
+
+/// So it is with a new set.
+fn follows(
+    rt: &(impl Abort + AllocGlobal),
+    book: &Book,
+    repeats: u64,
+    sends: u64,
+    most: usize,
+) -> Result<(), Fail>
+    requires few { repeats ≤ 40 }
+    requires short { sends ≤ 40 }
+{
+    let params = Params::new(500, 4_000, 5_000, 10_000).ok_or("refused")?;
+    let mut set = StateSet::start(rt.alloc(), InviteServer::new(params))?;
+    is_widest(rt, &mut set, book, repeats, sends, most)
+}
+
 /// With a tolerance of ten seconds each repeat stays owed. A 180 may pay for one of the first repeats or
 /// not, and so may a 183 for one of the other 40. So there is one state more than repeats for each number
 /// of paid 183s: with 40 repeats 984 states behind 23 sends of the 183, and not 1,025 behind 24; with 31
 /// repeats 1,024 behind 31, and not 1,056 behind 32.
 #[test]
 fn follows_1_024_states_and_no_more(rt: HostRuntime) -> Result<(), Fail> {
-    let alloc = rt.alloc();
-    let book = book(alloc)?;
-    for (repeats, sends, most) in [(40, 23, 984), (31, 31, 1_024)] {
-        let params = Params::new(500, 4_000, 5_000, 10_000).ok_or("refused")?;
-        let mut set = StateSet::start(alloc, InviteServer::new(params))?;
-        if repeats > 40 || sends > 40 {
-            return Err("not a row".into());
-        }
-        take_before_sends(alloc, &mut set, &book, repeats)?;
-        assert_eq!(rt; set.states().len() as u64, repeats + 1);
-        assert!(rt; widens(alloc, &mut set, &book, repeats, sends)?);
-        assert_eq!(rt; set.states().len(), most);
-        let next = entry_at(repeats, 43 + 2 * repeats + sends);
-        assert_eq!(rt;
-            take(alloc, &mut set, &book, next)?,
-            Err(TakeError::TooMany)
-        );
-        assert_eq!(rt; set.states().len(), most);
-    }
-    Ok(())
+    let book = book(rt.alloc())?;
+    follows(&rt, &book, 40, 23, 984)?;
+    follows(&rt, &book, 31, 31, 1_024)
 }

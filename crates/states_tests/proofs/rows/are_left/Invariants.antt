@@ -2,4 +2,4 @@ use Rattle.std.proofs.Common.{◌≤◌}
 use Rattle.states_tests.proofs.rows.are_left.Given as goal
 
 abbrev pub invariant-loop-moment : goal.invariant-loop-moment
-invariant-loop-moment l = l.set.moment ≤ l.last
+invariant-loop-moment g l = l.set.moment ≤ l.last

@@ -3,9 +3,9 @@
 //! 200 there is no last moment.
 ghost use Rattle.std.specs.Prelude.{◌≡◌, [], IfOk};
 
-use crate::checks::{is, is_at};
 use crate::keys::touch;
 use crate::played::{BUSY, Entry, INVITE, OK, RINGING, book, served};
+use crate::wants::{is, is_at};
 use sip_machine::{Action, Book, Params};
 use sip_states::{AnySet, Tables};
 use std::alloc::{AllocError, Global};

@@ -6,9 +6,9 @@ ghost use Rattle.sip_machine.specs.Owing.{owing_names};
 ghost use Rattle.sip_machine.specs.InviteServer.{invite_server_names};
 
 use crate::agenda::{Folded, empty, put, settle};
-use crate::checks::{holds, is};
 use crate::keys::touch;
 use crate::played::{BUSY, Entry, INVITE, OK, RINGING, book, invite, take};
+use crate::wants::{holds, is};
 use sip_machine::{Action, Book, InviteServer, InviteServerPhase, Params, Pool};
 use sip_states::{StateSet, TakeError};
 use std::alloc::{AllocError, Global};

@@ -4,8 +4,6 @@
 #[cfg(test)]
 mod agenda;
 #[cfg(test)]
-mod checks;
-#[cfg(test)]
 mod growths;
 #[cfg(test)]
 mod keys;
@@ -21,5 +19,7 @@ mod sweep;
 mod tables;
 #[cfg(test)]
 mod told;
+#[cfg(test)]
+mod wants;
 #[cfg(test)]
 mod width;

@@ -2,8 +2,8 @@
 //! tolerance of 50.
 ghost use Rattle.std.specs.Prelude.{◌≤◌};
 
-use crate::checks::is_at;
 use crate::played::{BUSY, Entry, INVITE, OK, book, served};
+use crate::wants::is_at;
 use sip_machine::{Action, Book, InviteServer, InviteServerPhase, PlainClientPhase, Waiting};
 use sip_states::StateSet;
 use std::mem::size_of;

@@ -7,7 +7,7 @@ ghost use Rattle.sip_machine.specs.Rules.{Knows};
 ghost use Rattle.sip_machine.specs.Texts.{Keeps};
 ghost use Rattle.sip_machine.specs.Times.{last_moment};
 
-use crate::checks::{holds, is};
+use crate::wants::{holds, is};
 use sip_machine::{Action, Book, Event, Params, PlainClient};
 use sip_message::Message;
 use sip_states::{StateSet, TakeError};

@@ -3,9 +3,9 @@ ghost use Rattle.std.specs.Prelude.{◌≡◌, ◌≤◌, [], All, IfOk};
 ghost use Rattle.sip_states.specs.AnySet.{moment_of};
 
 use crate::agenda::{Folded, empty, put};
-use crate::checks::{is, is_at};
 use crate::keys::{key, touch};
 use crate::played::{BUSY, Entry, INVITE, OK, PROGRESS, RINGING, book, served};
+use crate::wants::{is, is_at};
 use sip_machine::{Action, Book};
 use sip_states::AnySet;
 use std::alloc::{AllocError, Global};

@@ -2,8 +2,8 @@
 ghost use Rattle.std.specs.Prelude.{◌≡◌, ◌<◌, ◌+◌, length};
 ghost use Rattle.sip_states.specs.Tables.{IsGiven};
 
-use crate::checks::is;
 use crate::keys::touch;
+use crate::wants::is;
 use sip_machine::{Params, Rules};
 use sip_states::{AnySet, Tables};
 use std::alloc::Global;

@@ -1,6 +1,6 @@
 //! What the errors of `sip_states` say.
 
-use crate::checks::is;
+use crate::wants::is;
 use sip_states::TakeError;
 use std::process::Abort;
 use std::test::Fail;

@@ -4,8 +4,8 @@ ghost use Rattle.sip_machine.specs.Rules.{Knows};
 ghost use Rattle.sip_machine.specs.Owing.{owing_names};
 ghost use Rattle.sip_machine.specs.InviteServer.{invite_server_names};
 
-use crate::checks::is;
 use crate::played::{Entry, book, invite, progress, ringing, take};
+use crate::wants::is;
 use sip_machine::{Book, InviteServer, Params};
 use sip_states::{StateSet, TakeError};
 use std::alloc::Global;

@@ -1,6 +1,6 @@
 //! Logs of format 2, with restarts and two tolerances, and logs by the rules of RFC 3261.
 use crate::verdicts::{judge_rows, judges};
-use std::alloc::Global;
+use std::alloc::{AllocError, Global};
 use std::process::Abort;
 use std::test::Fail;
 use worked_logs::{
@@ -63,6 +63,11 @@ fn judges_at(
     Ok(())
 }
 
+/// The notation of these tolerances with entries behind them.
+fn behind<'a>(alloc: Global, tolerances: &'a str, entries: &'a str) -> Result<String, AllocError> {
+    [tolerances, ": ", entries].concat(alloc)
+}
+
 /// Judges logs with these tolerances on both sides of each moment that matters.
 fn judges_around(
     rt: &(impl Abort + AllocGlobal),
@@ -70,7 +75,7 @@ fn judges_around(
     rows: &[Around],
 ) -> Result<(), Fail> {
     for &(entries, legal_at, breach_at, legal, breach) in rows {
-        let notation = format!(in rt.alloc(); "{tolerances}: {entries}")?;
+        let notation = behind(rt.alloc(), tolerances, entries)?;
         judges_at(rt, notation.as_str(), legal_at, legal)?;
         judges_at(rt, notation.as_str(), breach_at, breach)?;
     }
@@ -97,28 +102,37 @@ fn judges_servers_that_are_early(rt: HostRuntime) -> Result<(), Fail> {
     judges_around(&rt, "early 100 late 0", SERVERS_EARLY_100_LATE_0)
 }
 
-/// Rows of format 1, and by the rules of RFC 6026, that are the same by those of RFC 3261.
-const OF_BOTH_RULES: &[&[Row]] = &[
-    INVITES_THAT_WAIT,
-    INVITES_THAT_ARE_ANSWERED,
-    CANCELS,
-    CLIENTS,
-    SERVERS,
-    TRANSACTIONS_APART,
-    MESSAGES,
-];
+/// Rows of format 1, and by the rules of RFC 6026, that are the same by those of RFC 3261. A caller sees no text of theirs, so that its
+/// proof reads none.
+fn of_both_rules() -> [&'static [Row]; 7] {
+    [
+        INVITES_THAT_WAIT,
+        INVITES_THAT_ARE_ANSWERED,
+        CANCELS,
+        CLIENTS,
+        SERVERS,
+        TRANSACTIONS_APART,
+        MESSAGES,
+    ]
+}
 
-/// The log of a notation of format 1 in format 2, early and late as its tolerance, by these rules.
-fn in_format_2(alloc: Global, rules: &str, notation: &str) -> Result<String, Fail> {
+/// The log of a notation of format 1 in format 2, early and late as its tolerance, by the rules that stand behind it.
+fn in_format_2<'a>(alloc: Global, rules: &'a str, notation: &'a str) -> Result<String, Fail> {
     let (front, entries) = notation.split_once(": ").unwrap_or(("", notation));
     let tolerance = front.strip_prefix("tolerance ").unwrap_or("50");
-    let front = format!(in alloc; "early {tolerance} late {tolerance} {rules}")?;
-    let front = front.as_str().trim_end();
-    let notation = format!(in alloc; "{front}: {entries}")?;
+    let notation = [
+        "early ", tolerance, " late ", tolerance, rules, ": ", entries,
+    ]
+    .concat(alloc)?;
     log_of(alloc, notation.as_str())
 }
 
-/// Judges logs in format 2, by these rules.
+/// What stands behind the tolerances of a log by the rules of RFC 3261, and of one by those of RFC 6026.
+const BY_3261: &str = " rules 3261";
+
+const BY_6026: &str = " rules 6026";
+
+/// Judges logs in format 2, by the rules that stand behind the tolerances.
 fn judges_in_format_2(
     rt: &(impl Abort + AllocGlobal),
     rules: &str,
@@ -131,24 +145,30 @@ fn judges_in_format_2(
     Ok(())
 }
 
+/// Judges the logs of several tables in format 2.
+fn judges_tables(
+    rt: &(impl Abort + AllocGlobal),
+    rules: &str,
+    tables: &[&[Row]],
+) -> Result<(), Fail> {
+    for rows in tables {
+        judges_in_format_2(rt, rules, rows)?;
+    }
+    Ok(())
+}
+
 /// A log has one verdict in both formats.
 #[test]
 fn judges_format_1_as_format_2(rt: HostRuntime) -> Result<(), Fail> {
-    for rows in OF_BOTH_RULES {
-        judges_in_format_2(&rt, "", rows)?;
-    }
-    judges_in_format_2(&rt, "", INVITE_SERVERS)?;
-    judges_in_format_2(&rt, "", BY_RFC_6026)?;
-    judges_in_format_2(&rt, "rules 3261", BY_RFC_3261)?;
-    judges_in_format_2(&rt, "rules 3261", CLIENTS_BY_RFC_3261)
+    judges_tables(&rt, "", &of_both_rules())?;
+    judges_tables(&rt, "", &[INVITE_SERVERS, BY_RFC_6026])?;
+    judges_tables(&rt, BY_3261, &[BY_RFC_3261, CLIENTS_BY_RFC_3261])
 }
 
 /// The rules of RFC 6026 are those of a log that names none, and those of RFC 3261 differ in a 2xx to an INVITE alone.
 #[test]
 fn judges_by_both_rules(rt: HostRuntime) -> Result<(), Fail> {
-    for rows in OF_BOTH_RULES {
-        judges_in_format_2(&rt, "rules 6026", rows)?;
-        judges_in_format_2(&rt, "rules 3261", rows)?;
-    }
-    judges_in_format_2(&rt, "rules 6026", INVITE_SERVERS)
+    judges_tables(&rt, BY_6026, &of_both_rules())?;
+    judges_tables(&rt, BY_3261, &of_both_rules())?;
+    judges_tables(&rt, BY_6026, &[INVITE_SERVERS])
 }

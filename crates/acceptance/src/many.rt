@@ -1,12 +1,15 @@
 //! Long messages, and many entries, transactions and messages. Each test ends within seconds.
+use crate::entries::push_entry;
 use crate::hashers::{AllZero, Same};
-use crate::verdicts::{judge_rows, judges, verdict_by, verdict_failing, verdict_of_single_bytes};
+use crate::verdicts::{
+    judge_rows, judges, reads, verdict_by, verdict_failing, verdict_of_single_bytes,
+};
 use sip_verdict::JudgeError;
-use std::alloc::Global;
+use std::alloc::{AllocError, Global};
 use std::hash::{BuildHasher, RandomState};
 use std::process::Abort;
 use std::test::Fail;
-use worked_logs::{MANY_ENTRIES, OVERDUE, header, log_with, long_log, long_message, push};
+use worked_logs::{MANY_ENTRIES, OVERDUE, header, log_with, long_log, long_message};
 
 #[test]
 fn judges_a_long_message(rt: HostRuntime) -> Result<(), Fail> {
@@ -19,7 +22,15 @@ fn judges_a_long_message(rt: HostRuntime) -> Result<(), Fail> {
     let want = "legal entries 4 transactions 1";
     judges(&rt, log.as_str(), want, "whole")?;
     let text = verdict_of_single_bytes(rt.alloc(), log.as_str().as_bytes())?;
-    assert_eq!(rt; text.as_str(), want, "in single bytes");
+    reads(&rt, text.as_str(), want, "in single bytes");
+    Ok(())
+}
+
+/// Appends a text so many times.
+fn push_times(log: &mut String, text: &str, times: usize) -> Result<(), AllocError> {
+    for _ in 0..times {
+        log.push_str(text)?;
+    }
     Ok(())
 }
 
@@ -27,9 +38,7 @@ fn judges_a_long_message(rt: HostRuntime) -> Result<(), Fail> {
 fn judges_the_longest_message(rt: HostRuntime) -> Result<(), Fail> {
     let mut log = header(rt.alloc(), "50")?;
     log.push_str("S 0 65535\n")?;
-    for _ in 0..65_535 {
-        log.push('x')?;
-    }
+    push_times(&mut log, "x", 65_535)?;
     log.push_str("\n")?;
     judges(
         &rt,
@@ -44,27 +53,31 @@ fn requests(alloc: Global, count: u64, are_apart: bool) -> Result<String, Fail> 
     let mut log = header(alloc, "50")?;
     for before in 0..count {
         let moment = if are_apart { before } else { 0 };
-        let branch = before + 1;
-        let entry = format!(in alloc; "S {moment} OPTIONS #{branch}")?;
-        push(alloc, &mut log, entry.as_str(), &[])?;
+        push_entry(alloc, &mut log, ("S", "OPTIONS"), moment, before + 1)?;
     }
     Ok(log)
+}
+
+/// Judges the log of so many OPTIONS with a text behind it. A row tells which log it is.
+fn judges_requests(
+    rt: &(impl Abort + AllocGlobal),
+    (count, are_apart, behind): (u64, bool, &str),
+    want: &str,
+    row: &str,
+) -> Result<(), Fail> {
+    let mut log = requests(rt.alloc(), count, are_apart)?;
+    log.push_str(behind)?;
+    judges(rt, log.as_str(), want, row)
 }
 
 /// Each is to be repeated by 550 behind its moment.
 #[test]
 fn names_the_first_that_is_overdue(rt: HostRuntime) -> Result<(), Fail> {
-    let log = requests(rt.alloc(), 600, true)?;
-    judges(&rt, log.as_str(), "breach 552 transaction 1", "apart")?;
-    let mut log = requests(rt.alloc(), 600, false)?;
-    judges(
-        &rt,
-        log.as_str(),
-        "legal entries 600 transactions 600",
-        "at 0",
-    )?;
-    log.push_str("M 551\n")?;
-    judges(&rt, log.as_str(), "breach 601 transaction 1", "and a mark")
+    judges_requests(&rt, (600, true, ""), "breach 552 transaction 1", "apart")?;
+    let legal = "legal entries 600 transactions 600";
+    judges_requests(&rt, (600, false, ""), legal, "at 0")?;
+    let breach = "breach 601 transaction 1";
+    judges_requests(&rt, (600, false, "M 551\n"), breach, "and a mark")
 }
 
 #[test]
@@ -81,7 +94,7 @@ fn judges_by<H: BuildHasher + Drop>(
 ) -> Result<(), Fail> {
     let log = requests(rt.alloc(), count, false)?;
     let text = verdict_by(rt.alloc(), log.as_str().as_bytes(), hasher)?;
-    assert_eq!(rt; text.as_str(), want);
+    reads(rt, text.as_str(), want, "by a hasher");
     Ok(())
 }
 
@@ -105,13 +118,10 @@ fn registrations(alloc: Global, count: u32) -> Result<String, Fail> {
     let count = u64::from(count);
     for moment in 0..count + 20 {
         if moment < count {
-            let entry = format!(in alloc; "S {moment} REGISTER #{moment}")?;
-            push(alloc, &mut log, entry.as_str(), &[])?;
+            push_entry(alloc, &mut log, ("S", "REGISTER"), moment, moment)?;
         }
         if moment >= 20 {
-            let branch = moment - 20;
-            let entry = format!(in alloc; "R {moment} 200 REGISTER #{branch}")?;
-            push(alloc, &mut log, entry.as_str(), &[])?;
+            push_entry(alloc, &mut log, ("R", "200 REGISTER"), moment, moment - 20)?;
         }
     }
     Ok(log)
@@ -136,9 +146,7 @@ fn judges_many_entries(rt: HostRuntime) -> Result<(), Fail> {
 #[test]
 fn counts_a_million_entries(rt: HostRuntime) -> Result<(), Fail> {
     let mut log = header(rt.alloc(), "50")?;
-    for _ in 0..1_000_000 {
-        log.push_str("M 0\n")?;
-    }
+    push_times(&mut log, "M 0\n", 1_000_000)?;
     judges(
         &rt,
         log.as_str(),

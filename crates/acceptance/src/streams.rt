@@ -3,18 +3,19 @@ ghost use Rattle.std.specs.Prelude.{◌≤◌};
 
 mod rows;
 
+use crate::entries::push_entry;
 use sip_log::{Entry, LogError, Progress};
 use sip_verdict::{Judge, StepError, Verdict, render};
 use std::alloc::Global;
+use std::fmt::Write;
 use std::hash::{BuildHasherDefault, FoldHasher};
 use std::process::Abort;
 use std::test::Fail;
-use worked_logs::{header, log_of, push};
+use worked_logs::{header, log_of};
 
 type Hasher = BuildHasherDefault<FoldHasher>;
 
 /// The entries of a log as they come, and the judge that takes them.
-#[derive(Drop)]
 struct Stream<'a> {
     bytes: &'a [u8],
     progress: Progress,
@@ -30,6 +31,17 @@ impl<'a> Stream<'a> {
             progress,
             judge: Judge::new(alloc, params, Hasher::new()),
         })
+    }
+
+    /// The verdict behind the entries that were taken. A stream is ended and not dropped, so that no proof goes into all that a judge
+    /// keeps.
+    fn end(self) -> Option<Verdict> {
+        let Stream {
+            bytes: _bytes,
+            progress: _progress,
+            judge,
+        } = self;
+        judge.end()
     }
 
     /// The next entry.
@@ -48,6 +60,25 @@ fn take(
     judge.entry(entry)
 }
 
+/// Takes the next entry. The answer is whether there was one, and no verdict yet.
+fn goes_on(rt: &impl Abort, stream: &mut Stream<'_>) -> Result<bool, Fail> {
+    let Some(entry) = stream.next()? else {
+        return Ok(false);
+    };
+    Ok(take(rt, &mut stream.judge, &entry)?.is_none())
+}
+
+/// Takes entries until there is a verdict, and appends how many messages are kept behind each.
+fn count_kept(rt: &impl Abort, stream: &mut Stream<'_>, kept: &mut Vec<usize>) -> Result<(), Fail> {
+    for _ in 0..=1_000_000 {
+        if !goes_on(rt, stream)? {
+            break;
+        }
+        kept.push(stream.judge.kept())?;
+    }
+    Ok(())
+}
+
 /// How many messages are kept behind each entry, and the last verdict.
 fn kept_behind_each(
     rt: &(impl Abort + AllocGlobal),
@@ -55,17 +86,10 @@ fn kept_behind_each(
 ) -> Result<(Vec<usize>, Option<Verdict>), Fail> {
     let mut stream = Stream::open(rt.alloc(), log.as_bytes())?;
     let mut kept = Vec::new(rt.alloc());
-    for _ in 0..=1_000_000 {
-        let Some(entry) = stream.next()? else {
-            break;
-        };
-        if take(rt, &mut stream.judge, &entry)?.is_some() {
-            break;
-        }
-        kept.push(stream.judge.kept())?;
-    }
-    let Stream { judge, .. } = stream;
-    Ok((kept, judge.end()))
+    let counted = count_kept(rt, &mut stream, &mut kept);
+    let verdict = stream.end();
+    counted?;
+    Ok((kept, verdict))
 }
 
 /// The text of the verdict of a judge that takes the entries of a log which is read whole.
@@ -86,13 +110,42 @@ fn answered(alloc: Global, count: u64) -> Result<String, Fail>
     for before in 0..count {
         let branch = before + 1;
         let sent = before * 10_000;
-        let received = sent + 10;
-        let entries = format!(in alloc;
-            "S {sent} OPTIONS #{branch}; R {received} 200 OPTIONS #{branch}"
-        )?;
-        push(alloc, &mut log, entries.as_str(), &[])?;
+        push_entry(alloc, &mut log, ("S", "OPTIONS"), sent, branch)?;
+        push_entry(alloc, &mut log, ("R", "200 OPTIONS"), sent + 10, branch)?;
     }
     Ok(log)
+}
+
+/// What a judge says is this. A row tells when.
+fn says(rt: &impl Abort, verdict: Option<Verdict>, want: Option<Verdict>, row: &str) {
+    assert!(rt; verdict == want, "{row}");
+}
+
+/// A legal log of so many entries and transactions.
+fn legal(entries: u32, transactions: u32) -> Option<Verdict> {
+    Some(Verdict::Legal {
+        entries,
+        transactions,
+    })
+}
+
+/// Takes the entries of a log with 1,000 transactions of two each. At these places are entries behind which so many messages are kept,
+/// and no more than 66 are kept behind any.
+fn keeps_few(
+    rt: &(impl Abort + AllocGlobal),
+    log: &str,
+    places: &[(usize, usize)],
+) -> Result<(), Fail> {
+    let (kept, verdict) = kept_behind_each(rt, log)?;
+    says(rt, verdict, legal(2_000, 1_000), "at the end");
+    assert!(rt; kept.len() == 2_000);
+    for &(place, want) in places {
+        assert_eq!(rt; kept.get(place), Some(&want), "at {place}");
+    }
+    for (place, count) in kept.iter().enumerate() {
+        assert!(rt; *count <= 66, "at {place}");
+    }
+    Ok(())
 }
 
 /// A request is needed until its response has come, and no response is. The first sweep comes behind entry 65, and each leaves
@@ -100,33 +153,22 @@ fn answered(alloc: Global, count: u64) -> Result<String, Fail>
 #[test]
 fn keeps_few_messages_of_many(rt: HostRuntime) -> Result<(), Fail> {
     let log = answered(rt.alloc(), 1_000)?;
-    let (kept, verdict) = kept_behind_each(&rt, log.as_str())?;
-    assert_eq!(rt;
-        verdict,
-        Some(Verdict::Legal {
-            entries: 2_000,
-            transactions: 1_000
-        })
-    );
-    assert_eq!(rt; kept.len(), 2_000);
-    assert_eq!(rt; (kept[63], kept[64], kept[129], kept[130]), (64, 1, 66, 1));
-    assert!(rt; kept.iter().all(|count| *count <= 66));
-    Ok(())
+    let places = [(63, 64), (64, 1), (129, 66), (130, 1)];
+    keeps_few(&rt, log.as_str(), &places)
 }
 
 /// The log of so many OPTIONS, each with a branch of its own: one every ten milliseconds, and a restart of the element behind each.
 fn restarted(alloc: Global, count: u64) -> Result<String, Fail>
     requires { count ≤ 1000 }
 {
-    let mut notation = String::new(alloc);
-    notation.push_str("early 50 late 50: ")?;
+    let mut log = log_of(alloc, "early 50 late 50: ")?;
     for branch in 0..count {
         let sent = branch * 10;
+        push_entry(alloc, &mut log, ("S", "OPTIONS"), sent, branch)?;
         let restart = sent + 5;
-        let entries = format!(in alloc; "S {sent} OPTIONS #{branch}; Z {restart};")?;
-        notation.push_str(entries.as_str())?;
+        write!(log, "Z {restart}\n")?;
     }
-    log_of(alloc, notation.as_str())
+    Ok(log)
 }
 
 /// No request is needed behind a restart. The first sweep comes behind the 65th request, which is entry 129, and each leaves that request
@@ -134,42 +176,33 @@ fn restarted(alloc: Global, count: u64) -> Result<String, Fail>
 #[test]
 fn forgets_behind_restarts(rt: HostRuntime) -> Result<(), Fail> {
     let log = restarted(rt.alloc(), 1_000)?;
-    let (kept, verdict) = kept_behind_each(&rt, log.as_str())?;
-    assert_eq!(rt;
-        verdict,
-        Some(Verdict::Legal {
-            entries: 2_000,
-            transactions: 1_000
-        })
-    );
-    assert_eq!(rt; kept.len(), 2_000);
-    assert_eq!(rt;
-        (kept[127], kept[128], kept[259], kept[260]),
-        (64, 1, 66, 1)
-    );
-    assert!(rt; kept.iter().all(|count| *count <= 66));
-    Ok(())
+    let places = [(127, 64), (128, 1), (259, 66), (260, 1)];
+    keeps_few(&rt, log.as_str(), &places)
+}
+
+/// The log of 200 INVITEs at moment 0, each with a branch of its own.
+fn waiting(alloc: Global) -> Result<String, Fail> {
+    let mut log = header(alloc, "50")?;
+    for branch in 0..200 {
+        push_entry(alloc, &mut log, ("S", "INVITE"), 0, branch)?;
+    }
+    Ok(log)
+}
+
+/// Behind each entry its message is kept, and all that came before.
+fn keeps_all(rt: &impl Abort, kept: &[usize]) {
+    for (before, count) in kept.iter().enumerate() {
+        assert!(rt; before < *count && *count - before == 1, "behind {before}");
+    }
 }
 
 /// Each request at moment 0 waits for its response, so that no sweep forgets one.
 #[test]
 fn keeps_what_is_needed(rt: HostRuntime) -> Result<(), Fail> {
-    let mut log = header(rt.alloc(), "50")?;
-    for branch in 0..200 {
-        let entry = format!(in rt.alloc(); "S 0 INVITE #{branch}")?;
-        push(rt.alloc(), &mut log, entry.as_str(), &[])?;
-    }
+    let log = waiting(rt.alloc())?;
     let (kept, verdict) = kept_behind_each(&rt, log.as_str())?;
-    assert_eq!(rt;
-        verdict,
-        Some(Verdict::Legal {
-            entries: 200,
-            transactions: 200
-        })
-    );
-    for (before, count) in kept.iter().enumerate() {
-        assert!(rt; before < *count && *count - before == 1);
-    }
+    says(&rt, verdict, legal(200, 200), "at the end");
+    keeps_all(&rt, kept.as_slice());
     Ok(())
 }
 
@@ -182,14 +215,26 @@ fn keeps_no_message_without_a_key(rt: HostRuntime) -> Result<(), Fail> {
          S 20 200 OPTIONS branch=abc; M 30; R 30 200 OPTIONS",
     )?;
     let (kept, verdict) = kept_behind_each(&rt, log.as_str())?;
-    assert_eq!(rt;
-        verdict,
-        Some(Verdict::Legal {
-            entries: 7,
-            transactions: 1
-        })
-    );
+    says(&rt, verdict, legal(7, 1), "at the end");
     assert!(rt; kept.as_slice() == [0, 1, 1, 1, 1, 1, 2].as_slice());
+    Ok(())
+}
+
+/// Takes entries, and of each the judge says this.
+fn says_of_each(
+    rt: &impl Abort,
+    stream: &mut Stream<'_>,
+    wants: &[Option<Verdict>],
+) -> Result<(), Fail> {
+    for &want in wants {
+        let entry = stream.next()?.ok_or("no entry")?;
+        says(
+            rt,
+            take(rt, &mut stream.judge, &entry)?,
+            want,
+            "of an entry",
+        );
+    }
     Ok(())
 }
 
@@ -202,43 +247,58 @@ fn tells_a_verdict_again(rt: HostRuntime) -> Result<(), Fail> {
         entry: 2,
         transaction: 1,
     });
-    for want in [None, breach, breach, breach] {
-        let entry = stream.next()?.ok_or("no entry")?;
-        assert_eq!(rt; take(&rt, &mut stream.judge, &entry)?, want);
-    }
-    let Stream { judge, .. } = stream;
-    assert_eq!(rt; judge.end(), breach);
+    let said = says_of_each(&rt, &mut stream, &[None, breach, breach, breach]);
+    let verdict = stream.end();
+    said?;
+    says(&rt, verdict, breach, "at the end");
     Ok(())
 }
 
-/// A judge that failed says so from then on, and has no verdict.
-fn fails(
+/// A judge that fails at an entry wants memory, and says that it failed from then on.
+fn takes_or_fails(
     rt: &impl Abort,
-    mut judge: Judge<Hasher>,
+    judge: &mut Judge<Hasher>,
     entry: &Entry,
-    error: StepError,
-) -> Result<(), Fail> {
-    assert_eq!(rt; error, StepError::Memory);
-    assert_eq!(rt; take(rt, &mut judge, entry), Err(StepError::Failed));
-    assert_eq!(rt; take(rt, &mut judge, entry), Err(StepError::Failed));
-    assert_eq!(rt; judge.end(), None);
-    Err(error.into())
+) -> Result<(), StepError> {
+    let Err(error) = take(rt, judge, entry) else {
+        return Ok(());
+    };
+    assert!(rt; error == StepError::Memory);
+    assert!(rt; take(rt, judge, entry) == Err(StepError::Failed));
+    assert!(rt; take(rt, judge, entry) == Err(StepError::Failed));
+    Err(error)
 }
 
-/// `tests/growths` refuses each growth in turn, those of a sweep too.
+/// Takes so many entries, or as many as there are, until the judge fails. The answer is its error.
+fn takes_until_it_fails(
+    rt: &impl Abort,
+    stream: &mut Stream<'_>,
+    count: usize,
+) -> Result<Option<StepError>, Fail> {
+    for _ in 0..count {
+        let Some(entry) = stream.next()? else {
+            break;
+        };
+        if let Err(error) = takes_or_fails(rt, &mut stream.judge, &entry) {
+            return Ok(Some(error));
+        }
+    }
+    Ok(None)
+}
+
+/// `tests/growths` refuses each growth in turn, those of a sweep too. A judge that failed has no verdict, and one that did not keeps two
+/// messages.
 #[test]
 fn refused_while_a_judge_sweeps(rt: HostRuntime) -> Result<(), Fail> {
     let log = answered(rt.alloc(), 33)?;
     let mut stream = Stream::open(rt.alloc(), log.as_str().as_bytes())?;
-    for _ in 0..66 {
-        let Some(entry) = stream.next()? else {
-            break;
-        };
-        if let Err(error) = take(&rt, &mut stream.judge, &entry) {
-            let Stream { judge, .. } = stream;
-            return fails(&rt, judge, &entry, error);
-        }
-    }
-    assert_eq!(rt; stream.judge.kept(), 2);
-    Ok(())
+    let failed = takes_until_it_fails(&rt, &mut stream, 66);
+    let kept = stream.judge.kept();
+    let verdict = stream.end();
+    let Some(error) = failed? else {
+        assert!(rt; kept == 2);
+        return Ok(());
+    };
+    says(&rt, verdict, None, "of a judge that failed");
+    Err(error.into())
 }

@@ -1,8 +1,8 @@
 //! Logs that are cut, that cannot be read, or that come in pieces: worked out by hand from the log format.
 use crate::verdicts::{
-    judges, verdict_cut_at, verdict_failing, verdict_of_single_bytes, verdict_on,
+    fails_to_read, judges, reads, reads_at, verdict_cut_at, verdict_failing,
+    verdict_of_single_bytes, verdict_on,
 };
-use sip_verdict::JudgeError;
 use std::process::Abort;
 use std::test::Fail;
 use worked_logs::{Row, STORED, header, log_of};
@@ -68,14 +68,27 @@ const LINES: &[Behind] = &[
     ),
 ];
 
-#[test]
-fn judges_lines(rt: HostRuntime) -> Result<(), Fail> {
-    for &(notation, behind, want) in LINES {
-        let mut log = log_of(rt.alloc(), notation)?;
-        log.push_str(behind)?;
-        judges(&rt, log.as_str(), want, behind)?;
+/// Judges a log with text behind it.
+fn judges_behind(
+    rt: &(impl Abort + AllocGlobal),
+    (notation, behind, want): Behind,
+) -> Result<(), Fail> {
+    let mut log = log_of(rt.alloc(), notation)?;
+    log.push_str(behind)?;
+    judges(rt, log.as_str(), want, behind)
+}
+
+/// Judges logs with text behind them, row by row.
+fn judges_each_behind(rt: &(impl Abort + AllocGlobal), rows: &[Behind]) -> Result<(), Fail> {
+    for &row in rows {
+        judges_behind(rt, row)?;
     }
     Ok(())
+}
+
+#[test]
+fn judges_lines(rt: HostRuntime) -> Result<(), Fail> {
+    judges_each_behind(&rt, LINES)
 }
 
 /// Headers that cannot be read.
@@ -98,26 +111,52 @@ const HEADERS: &[&str] = &[
     "sip-trace 2\nt1 500 t2 4000 t4 5000 early 50 late 50",
 ];
 
-#[test]
-fn judges_headers(rt: HostRuntime) -> Result<(), Fail> {
-    for &log in HEADERS {
-        judges(&rt, log, "log fault 0 20 Header", log)?;
+/// Judges logs of which no header can be read.
+fn judges_each(rt: &(impl Abort + AllocGlobal), logs: &[&str]) -> Result<(), Fail> {
+    for &log in logs {
+        judges(rt, log, "log fault 0 20 Header", log)?;
     }
     Ok(())
+}
+
+#[test]
+fn judges_headers(rt: HostRuntime) -> Result<(), Fail> {
+    judges_each(&rt, HEADERS)
 }
 
 /// A log of format 2 with a line of rules and a restart.
 const RESTARTED: &str = "early 50 late 50 rules 3261: R 0 INVITE; Z 100";
 
+/// Judges the bytes one by one.
+fn judges_single_bytes(
+    rt: &(impl Abort + AllocGlobal),
+    bytes: &[u8],
+    want: &str,
+) -> Result<(), Fail> {
+    let text = verdict_of_single_bytes(rt.alloc(), bytes)?;
+    reads(rt, text.as_str(), want, "in single bytes");
+    Ok(())
+}
+
+/// Judges the bytes in two pieces.
+fn judges_cut_at(
+    rt: &(impl Abort + AllocGlobal),
+    bytes: &[u8],
+    place: usize,
+    want: &str,
+) -> Result<(), Fail> {
+    let text = verdict_cut_at(rt.alloc(), bytes, place)?;
+    reads_at(rt, text.as_str(), want, ("cut at", place));
+    Ok(())
+}
+
 /// Judges the bytes one by one, and in two pieces, wherever they are cut.
 fn judges_pieces(rt: &(impl Abort + AllocGlobal), notation: &str, want: &str) -> Result<(), Fail> {
     let log = log_of(rt.alloc(), notation)?;
     let bytes = log.as_str().as_bytes();
-    let text = verdict_of_single_bytes(rt.alloc(), bytes)?;
-    assert_eq!(rt; text.as_str(), want);
+    judges_single_bytes(rt, bytes, want)?;
     for place in 1..bytes.len() {
-        let text = verdict_cut_at(rt.alloc(), bytes, place)?;
-        assert_eq!(rt; text.as_str(), want, "cut at {place}");
+        judges_cut_at(rt, bytes, place, want)?;
     }
     Ok(())
 }
@@ -128,8 +167,11 @@ fn judges_any_pieces(rt: HostRuntime) -> Result<(), Fail> {
     judges_pieces(&rt, RESTARTED, "legal entries 2 transactions 1")
 }
 
-/// The lengths of fronts of the stored run, from one to another, and the text of the verdict on each of them.
-const FRONTS: &[(usize, usize, &str)] = &[
+/// The lengths of fronts of a log, from one to another, and the text of the verdict on each of them.
+type Fronts = (usize, usize, &'static str);
+
+/// Those of the stored run.
+const FRONTS: &[Fronts] = &[
     (0, 47, "log fault 0 20 Header"),
     (48, 48, "legal entries 0 transactions 0"),
     (49, 255, "log fault 1 22 Truncated"),
@@ -143,7 +185,7 @@ const FRONTS: &[(usize, usize, &str)] = &[
 ];
 
 /// The same of a log of format 2: the line of rules begins behind byte 52, the entry of the INVITE behind 63, and the restart behind 266.
-const FRONTS_IN_FORMAT_2: &[(usize, usize, &str)] = &[
+const FRONTS_IN_FORMAT_2: &[Fronts] = &[
     (0, 51, "log fault 0 20 Header"),
     (52, 52, "legal entries 0 transactions 0"),
     (53, 62, "log fault 1 22 Truncated"),
@@ -154,31 +196,50 @@ const FRONTS_IN_FORMAT_2: &[(usize, usize, &str)] = &[
     (272, 272, "legal entries 2 transactions 1"),
 ];
 
+/// Judges the front of this length.
+fn judges_front(
+    rt: &(impl Abort + AllocGlobal),
+    bytes: &[u8],
+    len: usize,
+    want: &str,
+) -> Result<(), Fail> {
+    let Some(front) = bytes.get(..len) else {
+        return Err("a short log".into());
+    };
+    let text = verdict_on(rt.alloc(), front)?;
+    reads_at(rt, text.as_str(), want, ("bytes:", len));
+    Ok(())
+}
+
 /// Judges the fronts of these lengths.
 fn judges_fronts(
     rt: &(impl Abort + AllocGlobal),
     bytes: &[u8],
-    (first, last): (usize, usize),
-    want: &str,
+    (first, last, want): Fronts,
 ) -> Result<(), Fail> {
     for len in first..=last {
-        let front = bytes.get(..len).ok_or("a short log")?;
-        let text = verdict_on(rt.alloc(), front)?;
-        assert_eq!(rt; text.as_str(), want, "{len} bytes");
+        judges_front(rt, bytes, len, want)?;
+    }
+    Ok(())
+}
+
+/// Judges the fronts of a log, row by row.
+fn judges_fronts_of(
+    rt: &(impl Abort + AllocGlobal),
+    notation: &str,
+    fronts: &[Fronts],
+) -> Result<(), Fail> {
+    let log = log_of(rt.alloc(), notation)?;
+    for &row in fronts {
+        judges_fronts(rt, log.as_str().as_bytes(), row)?;
     }
     Ok(())
 }
 
 #[test]
 fn judges_any_front(rt: HostRuntime) -> Result<(), Fail> {
-    for (notation, fronts) in [(STORED, FRONTS), (RESTARTED, FRONTS_IN_FORMAT_2)] {
-        let log = log_of(rt.alloc(), notation)?;
-        let bytes = log.as_str().as_bytes();
-        for &(first, last, want) in fronts {
-            judges_fronts(&rt, bytes, (first, last), want)?;
-        }
-    }
-    Ok(())
+    judges_fronts_of(&rt, STORED, FRONTS)?;
+    judges_fronts_of(&rt, RESTARTED, FRONTS_IN_FORMAT_2)
 }
 
 /// Logs that are read whole.
@@ -195,6 +256,18 @@ const READ: &[Row] = &[
     (RESTARTED, "legal entries 2 transactions 1"),
 ];
 
+/// The bytes come one by one, and the call behind so many fails, but it does not come.
+fn judges_before_a_read_fails(
+    rt: &(impl Abort + AllocGlobal),
+    bytes: &[u8],
+    calls: usize,
+    want: &str,
+) -> Result<(), Fail> {
+    let text = verdict_failing(rt.alloc(), bytes, 1, calls)?;
+    reads(rt, text.as_str(), want, "before a read fails");
+    Ok(())
+}
+
 /// The bytes come one by one, and the call behind so many fails, wherever that is.
 fn judges_until_a_read_fails(
     rt: &(impl Abort + AllocGlobal),
@@ -204,21 +277,27 @@ fn judges_until_a_read_fails(
     // The call behind those for the single bytes finds the end.
     for calls in 0..=bytes.len() {
         let answer = verdict_failing(rt.alloc(), bytes, 1, calls);
-        assert_eq!(rt; answer.err(), Some(JudgeError::Io), "after {calls} calls");
+        fails_to_read(rt, &answer, calls);
     }
     // A source that told its end is not asked again.
-    let text = verdict_failing(rt.alloc(), bytes, 1, bytes.len().saturating_add(1))?;
-    assert_eq!(rt; text.as_str(), want);
+    judges_before_a_read_fails(rt, bytes, bytes.len().saturating_add(1), want)
+}
+
+/// Judges logs until a read fails, row by row.
+fn judges_all_until_a_read_fails(
+    rt: &(impl Abort + AllocGlobal),
+    rows: &[Row],
+) -> Result<(), Fail> {
+    for &(notation, want) in rows {
+        let log = log_of(rt.alloc(), notation)?;
+        judges_until_a_read_fails(rt, log.as_str().as_bytes(), want)?;
+    }
     Ok(())
 }
 
 #[test]
 fn answers_io_where_a_read_fails(rt: HostRuntime) -> Result<(), Fail> {
-    for &(notation, want) in READ {
-        let log = log_of(rt.alloc(), notation)?;
-        judges_until_a_read_fails(&rt, log.as_str().as_bytes(), want)?;
-    }
-    Ok(())
+    judges_all_until_a_read_fails(&rt, READ)
 }
 
 /// The verdict comes at the first entry in trouble, and nothing behind it is read: the source does not fail.
@@ -226,10 +305,7 @@ fn answers_io_where_a_read_fails(rt: HostRuntime) -> Result<(), Fail> {
 fn reads_nothing_behind_a_breach(rt: HostRuntime) -> Result<(), Fail> {
     let log = log_of(rt.alloc(), "S 0,449 INVITE")?;
     let bytes = log.as_str().as_bytes();
-    let text = verdict_failing(rt.alloc(), bytes, 1, bytes.len())?;
-    assert_eq!(rt; text.as_str(), "breach 2 transaction 1");
+    judges_before_a_read_fails(&rt, bytes, bytes.len(), "breach 2 transaction 1")?;
     let faulty = header(rt.alloc(), "10001")?;
-    let text = verdict_of_single_bytes(rt.alloc(), faulty.as_str().as_bytes())?;
-    assert_eq!(rt; text.as_str(), "log fault 0 20 Header");
-    Ok(())
+    judges_single_bytes(&rt, faulty.as_str().as_bytes(), "log fault 0 20 Header")
 }

@@ -57,6 +57,22 @@ pub(crate) fn verdict_failing(
     verdict_of(alloc, &mut Pieces::failing_in(bytes, size, calls))
 }
 
+/// A text is this one. A row tells of what.
+pub(crate) fn reads(rt: &impl Abort, text: &str, want: &str, row: &str) {
+    assert_eq!(rt; text, want, "{row}");
+}
+
+/// A text is this one. A row tells of what, by a number.
+pub(crate) fn reads_at(rt: &impl Abort, text: &str, want: &str, (row, number): (&str, usize)) {
+    assert_eq!(rt; text, want, "{row} {number}");
+}
+
+/// The answer is that a read failed, behind so many calls.
+pub(crate) fn fails_to_read(rt: &impl Abort, answer: &Result<String, JudgeError>, calls: usize) {
+    let has_failed = matches!(answer, Err(JudgeError::Io));
+    assert!(rt; has_failed, "after {calls} calls");
+}
+
 /// The text of the verdict on a log is this one. A row tells which log it is.
 pub(crate) fn judges(
     rt: &(impl Abort + AllocGlobal),
@@ -65,7 +81,7 @@ pub(crate) fn judges(
     row: &str,
 ) -> Result<(), Fail> {
     let text = verdict_on(rt.alloc(), log.as_bytes())?;
-    assert_eq!(rt; text.as_str(), want, "{row}");
+    reads(rt, text.as_str(), want, row);
     Ok(())
 }
 

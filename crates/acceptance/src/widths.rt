@@ -1,5 +1,6 @@
 //! Transactions that can stand in many states, and such as owe many messages: what is judged of them, worked out by hand.
 use crate::verdicts::{judge_rows, judges};
+use std::process::Abort;
 use std::test::Fail;
 use worked_logs::{AS_MANY_STATES_AS_ARE_FOLLOWED, MANY_DEBTS, Row, log_of};
 
@@ -30,14 +31,19 @@ const REPEATS: &[Row] = &[
     ),
 ];
 
+/// Judges logs in which T1 is 1 ms, row by row.
+fn judges_at_once(rt: &(impl Abort + AllocGlobal), rows: &[Row]) -> Result<(), Fail> {
+    for &(notation, want) in rows {
+        let log = log_of(rt.alloc(), notation)?;
+        let log = log.as_str().replacen(rt.alloc(), "t1 500", "t1 1", 1)?;
+        judges(rt, log.as_str(), want, notation)?;
+    }
+    Ok(())
+}
+
 /// With a T1 of 1 ms the fifteenth INVITE doubles the interval to 16384, and the next may come 10000 before that is over. Until then each
 /// may come at once.
 #[test]
 fn judges_repeats_at_one_moment(rt: HostRuntime) -> Result<(), Fail> {
-    for &(notation, want) in REPEATS {
-        let log = log_of(rt.alloc(), notation)?;
-        let log = log.as_str().replacen(rt.alloc(), "t1 500", "t1 1", 1)?;
-        judges(&rt, log.as_str(), want, notation)?;
-    }
-    Ok(())
+    judges_at_once(&rt, REPEATS)
 }

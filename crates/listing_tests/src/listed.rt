@@ -48,6 +48,11 @@ pub(crate) fn listing_failing(
     listing_of(alloc, &mut Pieces::failing_in(bytes, size, calls), entry)
 }
 
+/// A text is this one. A row tells of what.
+pub(crate) fn reads(rt: &impl Abort, text: &str, want: &str, row: &str) {
+    assert_eq!(rt; text, want, "{row}");
+}
+
 /// Lists an entry of a log.
 pub(crate) fn lists(
     rt: &(impl Abort + AllocGlobal),
@@ -75,6 +80,19 @@ pub(crate) fn answers_io(rt: &(impl Abort + AllocGlobal), bytes: &[u8], calls: u
     assert_eq!(rt; answer.err(), Some(JudgeError::Io), "after {calls} calls");
 }
 
+/// The bytes come one by one, and the call behind so many fails, but it does not come.
+fn lists_before_a_read_fails(
+    rt: &(impl Abort + AllocGlobal),
+    bytes: &[u8],
+    calls: usize,
+    entry: u32,
+    want: &str,
+) -> Result<(), Fail> {
+    let text = listing_failing(rt.alloc(), bytes, (1, calls), entry)?;
+    reads(rt, text.as_str(), want, want);
+    Ok(())
+}
+
 /// Lists the last entry and the one behind it where a read fails, wherever that is.
 pub(crate) fn lists_until_a_read_fails(
     rt: &(impl Abort + AllocGlobal),
@@ -86,17 +104,10 @@ pub(crate) fn lists_until_a_read_fails(
         answers_io(rt, bytes, calls, entry);
     }
     // Nothing behind the entry is read: not even the end.
-    let text = listing_failing(rt.alloc(), bytes, (1, bytes.len()), entry)?;
-    assert_eq!(rt; text.as_str(), want);
-    let behind = entry.checked_add(1).ok_or("no entry behind it")?;
+    lists_before_a_read_fails(rt, bytes, bytes.len(), entry, want)?;
+    let behind = entry.saturating_add(1);
     // That there is no further entry is told at the end alone.
     answers_io(rt, bytes, bytes.len(), behind);
-    let text = listing_failing(
-        rt.alloc(),
-        bytes,
-        (1, bytes.len().saturating_add(1)),
-        behind,
-    )?;
-    assert_eq!(rt; text.as_str(), "no entry");
-    Ok(())
+    let calls = bytes.len().saturating_add(1);
+    lists_before_a_read_fails(rt, bytes, calls, behind, "no entry")
 }

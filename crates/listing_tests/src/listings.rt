@@ -2,6 +2,7 @@
 //! 5000 and the tolerance 50 ms, where no other is named. A message is told by the number of the first entry with its bytes.
 
 use crate::listed::{Listed, answers_io, list_rows, listing_on, lists, lists_until_a_read_fails};
+use std::process::Abort;
 use std::test::Fail;
 use worked_logs::{CANCELLED_LOG, STORED, WIDE, cancelled, header, log_of, log_with};
 
@@ -453,6 +454,14 @@ fn lists_no_transaction_and_no_entry(rt: HostRuntime) -> Result<(), Fail> {
     )
 }
 
+/// Lists the entries 0, 1 and 2 of a log.
+fn lists_up_to_2(rt: &(impl Abort + AllocGlobal), log: &str, want: &str) -> Result<(), Fail> {
+    for entry in 0..3 {
+        lists(rt, log, entry, want)?;
+    }
+    Ok(())
+}
+
 /// Trouble at the entry or before it stops the listing, and trouble behind it does not.
 #[test]
 fn stops_at_trouble(rt: HostRuntime) -> Result<(), Fail> {
@@ -494,10 +503,13 @@ fn stops_at_trouble(rt: HostRuntime) -> Result<(), Fail> {
     )?;
     // A header that cannot be read is before any entry.
     let faulty = header(rt.alloc(), "10001")?;
-    for entry in 0..3 {
-        lists(&rt, faulty.as_str(), entry, "stopped log fault 0 20 Header")?;
-    }
-    Ok(())
+    lists_up_to_2(&rt, faulty.as_str(), "stopped log fault 0 20 Header")
+}
+
+/// The first line of a text, and how many lines it has.
+fn has_lines(rt: &impl Abort, text: &str, first: &str, count: usize) {
+    assert!(rt; text.starts_with(first));
+    assert!(rt; text.lines().count() == count);
 }
 
 /// The entry before the one that is undecided, with 41 times 24 states.
@@ -505,19 +517,30 @@ fn stops_at_trouble(rt: HostRuntime) -> Result<(), Fail> {
 fn lists_many_states(rt: HostRuntime) -> Result<(), Fail> {
     let log = log_of(rt.alloc(), WIDE)?;
     let text = listing_on(rt.alloc(), log.as_str().as_bytes(), 146)?;
-    let text = text.as_str();
-    assert!(rt; text.starts_with("transaction 1 server INVITE states 984\n"));
-    assert_eq!(rt; text.lines().count(), 985);
+    has_lines(
+        &rt,
+        text.as_str(),
+        "transaction 1 server INVITE states 984\n",
+        985,
+    );
+    Ok(())
+}
+
+/// Lists until a read fails, row by row.
+fn lists_all_until_a_read_fails(
+    rt: &(impl Abort + AllocGlobal),
+    rows: &[Listed],
+) -> Result<(), Fail> {
+    for &(notation, entry, want) in rows {
+        let log = log_of(rt.alloc(), notation)?;
+        lists_until_a_read_fails(rt, log.as_str().as_bytes(), entry, want)?;
+    }
     Ok(())
 }
 
 #[test]
 fn answers_io_where_a_read_fails(rt: HostRuntime) -> Result<(), Fail> {
-    for &(notation, entry, want) in READ {
-        let log = log_of(rt.alloc(), notation)?;
-        lists_until_a_read_fails(&rt, log.as_str().as_bytes(), entry, want)?;
-    }
-    Ok(())
+    lists_all_until_a_read_fails(&rt, READ)
 }
 
 /// The last entries of logs.

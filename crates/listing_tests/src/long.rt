@@ -15,21 +15,15 @@ const LINES: &str =
     Content-Length: 0\r\n";
 
 /// The OPTIONS with more text, in which a part stands many times: what is before it, the part, how often, and what is behind it.
-fn with_parts(
+fn with_parts<'a>(
     alloc: Global,
-    before: &str,
-    part: &str,
+    before: &'a str,
+    part: &'a str,
     times: usize,
-    behind: &str,
+    behind: &'a str,
 ) -> Result<String, AllocError> {
-    let mut text = String::from_str(alloc, LINES)?;
-    text.push_str(before)?;
-    for _ in 0..times {
-        text.push_str(part)?;
-    }
-    text.push_str(behind)?;
-    text.push_str("\r\n\r\n")?;
-    Ok(text)
+    let parts = part.repeat(alloc, times)?;
+    [LINES, before, parts.as_str(), behind, "\r\n\r\n"].concat(alloc)
 }
 
 /// Shows the log with the message, sent and sent again, and a mark.

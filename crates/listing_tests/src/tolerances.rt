@@ -187,29 +187,51 @@ fn at(alloc: Global, text: &str, moment: u64, last: u64) -> Result<String, Alloc
     text.as_str().replace(alloc, "%", last.as_str())
 }
 
+/// What is listed at a moment: before the close the one phase, and from the opening on the other.
+fn states_at(
+    alloc: Global,
+    timer: &Timer,
+    (open, close): Window,
+    moment: u64,
+) -> Result<String, AllocError> {
+    let is_before = match close {
+        Some(close) => moment <= close,
+        None => true,
+    };
+    let is_behind = open <= moment;
+    let count = match (is_before, is_behind) {
+        (true, true) => "2",
+        (false, false) => "0",
+        _ => "1",
+    };
+    let before = if is_before { timer.before } else { "" };
+    let behind = if is_behind { timer.behind } else { "" };
+    let transaction = timer.transaction;
+    [
+        "transaction 1 ",
+        transaction,
+        " states ",
+        count,
+        "\n",
+        before,
+        behind,
+    ]
+    .concat(alloc)
+}
+
 /// Lists the last entry of a timer's log, at a moment.
 fn lists_at(
     rt: &(impl Abort + AllocGlobal),
     timer: &Timer,
     (early, late): (u64, u64),
-    (open, close): Window,
+    window: Window,
     moment: u64,
 ) -> Result<(), Fail> {
     let last = moment.saturating_add(late);
     let entries = at(rt.alloc(), timer.log, moment, last)?;
     let notation = format!(in rt.alloc(); "early {early} late {late}: {entries}")?;
     let log = log_of(rt.alloc(), notation.as_str())?;
-    let before = close.is_none_or(|close| moment <= close);
-    let behind = open <= moment;
-    let count = u8::from(before).saturating_add(u8::from(behind));
-    let transaction = timer.transaction;
-    let mut want = format!(in rt.alloc(); "transaction 1 {transaction} states {count}\n")?;
-    if before {
-        want.push_str(timer.before)?;
-    }
-    if behind {
-        want.push_str(timer.behind)?;
-    }
+    let want = states_at(rt.alloc(), timer, window, moment)?;
     let want = at(rt.alloc(), want.as_str(), moment, last)?;
     lists(rt, log.as_str(), timer.entry, want.as_str())
 }

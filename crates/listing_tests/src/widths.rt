@@ -2,6 +2,7 @@
 use crate::listed::{listing_on, lists};
 use std::alloc::{AllocError, Global};
 use std::fmt::Write;
+use std::process::Abort;
 use std::test::Fail;
 use worked_logs::{FULL, log_of};
 
@@ -41,19 +42,28 @@ fn lines_of_states(alloc: Global) -> Result<Vec<String>, AllocError> {
     Ok(lines)
 }
 
+/// The next line is this one, or none is left.
+fn is_line(rt: &impl Abort, line: Option<&str>, want: Option<&str>) {
+    assert_eq!(rt; line, want);
+}
+
+/// The lines of a text are a first one and these behind it.
+fn has_lines(rt: &impl Abort, text: &str, first: &str, others: &[String]) {
+    let mut lines = text.lines();
+    is_line(rt, lines.next(), Some(first));
+    for other in others {
+        is_line(rt, lines.next(), Some(other.as_str()));
+    }
+    is_line(rt, lines.next(), None);
+}
+
 #[test]
 fn lists_as_many_states_as_are_followed(rt: HostRuntime) -> Result<(), Fail> {
     let log = log_of(rt.alloc(), FULL)?;
     let text = listing_on(rt.alloc(), log.as_str().as_bytes(), 127)?;
-    let mut lines = text.as_str().lines();
-    assert_eq!(rt;
-        lines.next(),
-        Some("transaction 1 server INVITE states 1024")
-    );
-    for want in lines_of_states(rt.alloc())?.iter() {
-        assert_eq!(rt; lines.next(), Some(want.as_str()));
-    }
-    assert_eq!(rt; lines.next(), None);
+    let states = lines_of_states(rt.alloc())?;
+    let first = "transaction 1 server INVITE states 1024";
+    has_lines(&rt, text.as_str(), first, states.as_slice());
     Ok(())
 }
 

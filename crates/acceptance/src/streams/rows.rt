@@ -1,5 +1,6 @@
 //! The rows of `worked_logs`, entry by entry: a judge that takes them has the verdict of the log.
 use crate::streams::verdict_by_entries;
+use crate::verdicts::reads;
 use std::process::Abort;
 use std::test::Fail;
 use worked_logs::{
@@ -14,7 +15,7 @@ use worked_logs::{
 /// A judge takes the entries of a log. A row tells which log it is.
 fn takes(rt: &(impl Abort + AllocGlobal), log: &str, want: &str, row: &str) -> Result<(), Fail> {
     let text = verdict_by_entries(rt, log)?;
-    assert_eq!(rt; text.as_str(), want, "{row}");
+    reads(rt, text.as_str(), want, row);
     Ok(())
 }
 

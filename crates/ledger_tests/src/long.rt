@@ -104,18 +104,27 @@ fn a_long_row_expires(rt: HostRuntime) -> Result<(), Fail> {
     expires(&rt, &mut ledger, &mut list)
 }
 
+/// The row pays the first debt of the last deadline, and then the next.
+fn pays_two(
+    rt: &(impl Abort + AllocGlobal),
+    ledger: &mut Ledger,
+    list: &mut Vec<Debt>,
+) -> Result<(), Fail> {
+    assert!(rt; at_rows::pay(rt, ledger, 0, 1, 21));
+    assert!(rt; list.len() > 40);
+    list.remove(40);
+    assert!(rt; at_rows::pay_any(rt, ledger, 0, &[1, 3], 30));
+    assert!(rt; list.len() > 40);
+    list.remove(40);
+    owes(rt, ledger, 0, list)
+}
+
 /// A send pays the first debt whose deadline is not past.
 #[test]
 fn a_long_row_pays_what_is_not_past(rt: HostRuntime) -> Result<(), Fail> {
     let mut list = of_three_deadlines(&rt)?;
     let mut ledger = of_one(&rt, &list)?;
-    assert!(rt; at_rows::pay(&rt, &mut ledger, 0, 1, 21));
-    assert!(rt; list.len() > 40);
-    list.remove(40);
-    assert!(rt; at_rows::pay_any(&rt, &mut ledger, 0, &[1, 3], 30));
-    assert!(rt; list.len() > 40);
-    list.remove(40);
-    owes(&rt, &mut ledger, 0, &list)
+    pays_two(&rt, &mut ledger, &mut list)
 }
 
 #[test]
@@ -127,21 +136,30 @@ fn a_long_row_pays_nothing_that_is_past(rt: HostRuntime) -> Result<(), Fail> {
     owes(&rt, &mut ledger, 0, &list)
 }
 
+/// The row is softened, then what is past expires, and then it is cleared.
+fn softens(
+    rt: &(impl Abort + AllocGlobal),
+    ledger: &mut Ledger,
+    list: &mut Vec<Debt>,
+) -> Result<(), Fail> {
+    at_rows::soften(rt, ledger, 0);
+    for debt in list.iter_mut() {
+        debt.must = false;
+    }
+    owes(rt, ledger, 0, list)?;
+    at_rows::expire(rt, ledger, 0, 21);
+    list.retain(|debt| debt.deadline == 30);
+    owes(rt, ledger, 0, list)?;
+    at_rows::clear(rt, ledger, 0);
+    owes(rt, ledger, 0, &[])
+}
+
 /// What is softened expires, and what is cleared is owed no longer.
 #[test]
 fn a_long_row_softens(rt: HostRuntime) -> Result<(), Fail> {
     let mut list = of_three_deadlines(&rt)?;
     let mut ledger = of_one(&rt, &list)?;
-    at_rows::soften(&rt, &mut ledger, 0);
-    for debt in list.iter_mut() {
-        debt.must = false;
-    }
-    owes(&rt, &mut ledger, 0, &list)?;
-    at_rows::expire(&rt, &mut ledger, 0, 21);
-    list.retain(|debt| debt.deadline == 30);
-    owes(&rt, &mut ledger, 0, &list)?;
-    at_rows::clear(&rt, &mut ledger, 0);
-    owes(&rt, &mut ledger, 0, &[])
+    softens(&rt, &mut ledger, &mut list)
 }
 
 /// A long row that was copied to itself, and its copy behind it, which pays the message 3.

@@ -1,8 +1,9 @@
 //! Each operation once, by hand.
 use crate::at_rows;
 use crate::lists::{debts, may, must, of_one, owes};
-use crate::wants::is;
+use crate::wants::{is, is_in};
 use sip_ledger::{Debt, Ledger, Run};
+use std::alloc::AllocError;
 use std::process::Abort;
 use std::test::Fail;
 
@@ -16,30 +17,45 @@ fn nothing_is_owed_at_first(rt: HostRuntime) -> Result<(), Fail> {
     owes(&rt, &mut ledger, 0, &[])
 }
 
+/// The row pays the first of two debts of a message, and the first whose deadline is not past.
+fn pays_the_first(rt: &(impl Abort + AllocGlobal), ledger: &mut Ledger) -> Result<(), Fail> {
+    assert!(rt; at_rows::pay(rt, ledger, 0, 1, 10));
+    owes(rt, ledger, 0, &[may(2, 10), must(1, 10), must(1, 20)])?;
+    assert!(rt; at_rows::pay(rt, ledger, 0, 1, 11));
+    owes(rt, ledger, 0, &[may(2, 10), must(1, 10)])
+}
+
+/// And nothing that is past or not owed, but the first of some messages.
+fn pays_no_other(rt: &(impl Abort + AllocGlobal), ledger: &mut Ledger) -> Result<(), Fail> {
+    assert!(rt; !at_rows::pay(rt, ledger, 0, 1, 11));
+    assert!(rt; !at_rows::pay(rt, ledger, 0, 3, 0));
+    assert!(rt; at_rows::pay_any(rt, ledger, 0, &[2, 3], 10));
+    owes(rt, ledger, 0, &[must(1, 10)])
+}
+
 #[test]
 fn the_first_debt_of_a_message_is_paid(rt: HostRuntime) -> Result<(), Fail> {
     let list = [must(1, 10), may(2, 10), must(1, 10), must(1, 20)];
     let mut ledger = of_one(&rt, &list)?;
     owes(&rt, &mut ledger, 0, &list)?;
-    assert!(rt; at_rows::pay(&rt, &mut ledger, 0, 1, 10));
-    owes(&rt, &mut ledger, 0, &[may(2, 10), must(1, 10), must(1, 20)])?;
-    assert!(rt; at_rows::pay(&rt, &mut ledger, 0, 1, 11));
-    owes(&rt, &mut ledger, 0, &[may(2, 10), must(1, 10)])?;
-    assert!(rt; !at_rows::pay(&rt, &mut ledger, 0, 1, 11));
-    assert!(rt; !at_rows::pay(&rt, &mut ledger, 0, 3, 0));
-    assert!(rt; at_rows::pay_any(&rt, &mut ledger, 0, &[2, 3], 10));
-    owes(&rt, &mut ledger, 0, &[must(1, 10)])
+    pays_the_first(&rt, &mut ledger)?;
+    pays_no_other(&rt, &mut ledger)
+}
+
+/// What may be sent expires at its deadline, what is softened may be sent, and what is cleared is owed no longer.
+fn expires(rt: &(impl Abort + AllocGlobal), ledger: &mut Ledger) -> Result<(), Fail> {
+    at_rows::expire(rt, ledger, 0, 11);
+    owes(rt, ledger, 0, &[must(2, 10), may(1, 11)])?;
+    at_rows::soften(rt, ledger, 0);
+    owes(rt, ledger, 0, &[may(2, 10), may(1, 11)])?;
+    at_rows::clear(rt, ledger, 0);
+    owes(rt, ledger, 0, &[])
 }
 
 #[test]
 fn what_may_be_sent_expires(rt: HostRuntime) -> Result<(), Fail> {
     let mut ledger = of_one(&rt, &[may(1, 10), must(2, 10), may(1, 11), may(3, 9)])?;
-    at_rows::expire(&rt, &mut ledger, 0, 11);
-    owes(&rt, &mut ledger, 0, &[must(2, 10), may(1, 11)])?;
-    at_rows::soften(&rt, &mut ledger, 0);
-    owes(&rt, &mut ledger, 0, &[may(2, 10), may(1, 11)])?;
-    at_rows::clear(&rt, &mut ledger, 0);
-    owes(&rt, &mut ledger, 0, &[])
+    expires(&rt, &mut ledger)
 }
 
 /// A row, its copy that owes one more, and a row that owes nothing.
@@ -51,32 +67,40 @@ fn of_three(rt: &(impl Abort + AllocGlobal)) -> Result<Ledger, Fail> {
     Ok(ledger)
 }
 
+/// The three rows owe this, and the last one what is copied there.
+fn owe_in_turn(rt: &(impl Abort + AllocGlobal), ledger: &mut Ledger) -> Result<(), Fail> {
+    is(rt, ledger.len(), 3);
+    owes(rt, ledger, 0, &[must(1, 10)])?;
+    owes(rt, ledger, 1, &[must(1, 10), may(2, 20)])?;
+    owes(rt, ledger, 2, &[])?;
+    at_rows::copy(rt, ledger, 1, 2);
+    owes(rt, ledger, 2, &[must(1, 10), may(2, 20)])
+}
+
 /// Rows come behind the others.
 #[test]
 fn rows_are_copied(rt: HostRuntime) -> Result<(), Fail> {
-    let mut ledger = of_three(&rt)?;
-    is(&rt, ledger.len(), 3);
-    owes(&rt, &mut ledger, 0, &[must(1, 10)])?;
-    owes(&rt, &mut ledger, 1, &[must(1, 10), may(2, 20)])?;
-    owes(&rt, &mut ledger, 2, &[])?;
-    at_rows::copy(&rt, &mut ledger, 1, 2);
-    owes(&rt, &mut ledger, 2, &[must(1, 10), may(2, 20)])
+    owe_in_turn(&rt, &mut of_three(&rt)?)
+}
+
+/// Rows go first, then last, and no more than there are.
+fn go_in_turn(rt: &(impl Abort + AllocGlobal), ledger: &mut Ledger) -> Result<(), Fail> {
+    ledger.drop_first(1);
+    is(rt, ledger.len(), 2);
+    owes(rt, ledger, 0, &[must(1, 10), may(2, 20)])?;
+    ledger.truncate(1);
+    is(rt, ledger.len(), 1);
+    ledger.truncate(9);
+    is(rt, ledger.len(), 1);
+    ledger.drop_first(9);
+    assert!(rt; ledger.is_empty());
+    Ok(())
 }
 
 /// And go, from either end.
 #[test]
 fn rows_are_dropped(rt: HostRuntime) -> Result<(), Fail> {
-    let mut ledger = of_three(&rt)?;
-    ledger.drop_first(1);
-    is(&rt, ledger.len(), 2);
-    owes(&rt, &mut ledger, 0, &[must(1, 10), may(2, 20)])?;
-    ledger.truncate(1);
-    is(&rt, ledger.len(), 1);
-    ledger.truncate(9);
-    is(&rt, ledger.len(), 1);
-    ledger.drop_first(9);
-    assert!(rt; ledger.is_empty());
-    Ok(())
+    go_in_turn(&rt, &mut of_three(&rt)?)
 }
 
 /// The only row has these runs.
@@ -117,38 +141,54 @@ fn equal_neighbours_are_one_run(rt: HostRuntime) -> Result<(), Fail> {
     has_names(&rt, &ledger, &[1, 1, 1, 2, 1])
 }
 
+/// A second row comes to owe what the first one does once it has paid.
+fn come_to_be_the_same(rt: &impl Abort, ledger: &mut Ledger) -> Result<(), AllocError> {
+    ledger.push()?;
+    at_rows::gain(rt, ledger, 1, must(2, 10))?;
+    at_rows::gain(rt, ledger, 1, must(1, 10))?;
+    assert!(rt; !at_rows::same(rt, ledger, 0, 1));
+    assert!(rt; at_rows::pay(rt, ledger, 0, 1, 0));
+    assert!(rt; at_rows::same(rt, ledger, 0, 1));
+    assert!(rt; at_rows::print(rt, ledger, 0) == at_rows::print(rt, ledger, 1));
+    Ok(())
+}
+
 /// The same debts in one order have one spelling, whichever entries they came by.
 #[test]
 fn equal_rows_are_the_same(rt: HostRuntime) -> Result<(), Fail> {
     let mut ledger = of_one(&rt, &[must(1, 10), must(2, 10), must(1, 10)])?;
-    ledger.push()?;
-    at_rows::gain(&rt, &mut ledger, 1, must(2, 10))?;
-    at_rows::gain(&rt, &mut ledger, 1, must(1, 10))?;
-    assert!(rt; !at_rows::same(&rt, &ledger, 0, 1));
-    assert!(rt; at_rows::pay(&rt, &mut ledger, 0, 1, 0));
-    assert!(rt; at_rows::same(&rt, &ledger, 0, 1));
-    assert!(rt; at_rows::print(&rt, &ledger, 0) == at_rows::print(&rt, &ledger, 1));
+    Ok(come_to_be_the_same(&rt, &mut ledger)?)
+}
+
+/// The row gains a hundred debts, and pays the first seventy.
+fn pays_seventy(rt: &impl Abort, ledger: &mut Ledger) -> Result<(), AllocError> {
+    for number in 0..100 {
+        at_rows::gain(rt, ledger, 0, must(number, 10))?;
+    }
+    for number in 0..70 {
+        is_in(rt, at_rows::pay(rt, ledger, 0, number, 0), true, &number);
+        ledger.tidy();
+    }
     Ok(())
+}
+
+/// Thirty are left, which the row pays too.
+fn pays_the_rest(rt: &(impl Abort + AllocGlobal), ledger: &mut Ledger) -> Result<(), Fail> {
+    let left = debts(rt, ledger, 0)?;
+    is(rt, left.len(), 30);
+    assert!(rt; left.first() == Some(&must(70, 10)));
+    for number in 70..100 {
+        is_in(rt, at_rows::pay(rt, ledger, 0, number, 0), true, &number);
+    }
+    ledger.tidy();
+    is(rt, ledger.len(), 1);
+    owes(rt, ledger, 0, &[])
 }
 
 /// A hundred debts, of which the first ones are paid and go.
 #[test]
 fn entries_that_no_row_owes_go(rt: HostRuntime) -> Result<(), Fail> {
     let mut ledger = of_one(&rt, &[])?;
-    for number in 0..100 {
-        at_rows::gain(&rt, &mut ledger, 0, must(number, 10))?;
-    }
-    for number in 0..70 {
-        assert!(rt; at_rows::pay(&rt, &mut ledger, 0, number, 0), "{number}");
-        ledger.tidy();
-    }
-    let left = debts(&rt, &ledger, 0)?;
-    is(&rt, left.len(), 30);
-    assert!(rt; left.first() == Some(&must(70, 10)));
-    for number in 70..100 {
-        assert!(rt; at_rows::pay(&rt, &mut ledger, 0, number, 0), "{number}");
-    }
-    ledger.tidy();
-    is(&rt, ledger.len(), 1);
-    owes(&rt, &mut ledger, 0, &[])
+    pays_seventy(&rt, &mut ledger)?;
+    pays_the_rest(&rt, &mut ledger)
 }

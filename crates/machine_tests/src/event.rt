@@ -1,5 +1,6 @@
 //! Events of whole messages.
 
+use crate::rows::holds;
 use sip_machine::{Action, Event, Kind, Method};
 use sip_message::Message;
 use std::alloc::Global;
@@ -21,7 +22,12 @@ fn kind_of(
         "\r\nl: 0\r\n\r\n",
     ]
     .concat(alloc)?;
-    let Ok(message) = Message::read(alloc, text.as_bytes()) else {
+    told_kind(alloc, text.as_bytes())
+}
+
+/// The kind of a message, and whether its transport is reliable.
+fn told_kind(alloc: Global, text: &[u8]) -> Result<(Kind, bool), Fail> {
+    let Ok(message) = Message::read(alloc, text) else {
         return Err("not a message".into());
     };
     let event = Event::of(700, Action::Sent, 3, &message);
@@ -31,54 +37,59 @@ fn kind_of(
     Ok((event.kind(), event.reliable()))
 }
 
+/// How a message begins, its transport and method, and what it is told to be.
+type Told = (&'static str, &'static str, &'static str, Kind, bool);
+
+static MESSAGES: [Told; 6] = [
+    (
+        "INVITE sip:b SIP/2.0",
+        "UDP",
+        "INVITE",
+        Kind::Request(Method::Invite),
+        false,
+    ),
+    (
+        "ACK sip:b SIP/2.0",
+        "TCP",
+        "ACK",
+        Kind::Request(Method::Ack),
+        true,
+    ),
+    (
+        "CANCEL sip:b SIP/2.0",
+        "tls",
+        "CANCEL",
+        Kind::Request(Method::Cancel),
+        true,
+    ),
+    (
+        "invite sip:b SIP/2.0",
+        "SCTP",
+        "invite",
+        Kind::Request(Method::Other),
+        true,
+    ),
+    (
+        "OPTIONS sip:b SIP/2.0",
+        "udp",
+        "OPTIONS",
+        Kind::Request(Method::Other),
+        false,
+    ),
+    (
+        "SIP/2.0 486 Busy Here",
+        "TLS",
+        "INVITE",
+        Kind::Response(486),
+        true,
+    ),
+];
+
 #[test]
 fn tells_messages(rt: HostRuntime) -> Result<(), Fail> {
-    for (start, transport, method, kind, reliable) in [
-        (
-            "INVITE sip:b SIP/2.0",
-            "UDP",
-            "INVITE",
-            Kind::Request(Method::Invite),
-            false,
-        ),
-        (
-            "ACK sip:b SIP/2.0",
-            "TCP",
-            "ACK",
-            Kind::Request(Method::Ack),
-            true,
-        ),
-        (
-            "CANCEL sip:b SIP/2.0",
-            "tls",
-            "CANCEL",
-            Kind::Request(Method::Cancel),
-            true,
-        ),
-        (
-            "invite sip:b SIP/2.0",
-            "SCTP",
-            "invite",
-            Kind::Request(Method::Other),
-            true,
-        ),
-        (
-            "OPTIONS sip:b SIP/2.0",
-            "udp",
-            "OPTIONS",
-            Kind::Request(Method::Other),
-            false,
-        ),
-        (
-            "SIP/2.0 486 Busy Here",
-            "TLS",
-            "INVITE",
-            Kind::Response(486),
-            true,
-        ),
-    ] {
+    for &(start, transport, method, kind, reliable) in &MESSAGES {
         let told = kind_of(rt.alloc(), start, transport, method)?;
-        assert!(rt; told == (kind, reliable), "{start}");
+        holds(&rt, told == (kind, reliable), start);
     }
     Ok(())
 }

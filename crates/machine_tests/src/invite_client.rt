@@ -2,7 +2,8 @@
 use crate::messages::{Numbered, Start, book_of};
 use crate::rows::{self, EndsRow, MUST, all_end};
 use crate::runs::Entry;
-use sip_machine::{Action, Book, InviteClient, InviteClientPhase, Params, Waiting};
+use crate::times::params;
+use sip_machine::{Action, Book, InviteClient, InviteClientPhase, Waiting};
 use std::alloc::Global;
 use std::process::Abort;
 use std::test::Fail;
@@ -32,8 +33,7 @@ const CANCEL: u32 = 10;
 const OPTIONS: u32 = 11;
 
 fn client(t1: u64) -> Result<InviteClient, Fail> {
-    let params = Params::new(t1, 4_000, 5_000, 50).ok_or("refused")?;
-    Ok(InviteClient::new(params))
+    Ok(InviteClient::new(params(t1)?))
 }
 
 /// Each message by its number: how it begins, and its tag of To.

@@ -1,8 +1,9 @@
 //! The INVITE server, with moments worked out by hand for T1 500, T2 4000, T4 5000 and a tolerance of 50.
 use crate::messages::{Numbered, Start, book_of};
-use crate::rows::{self, EndsRow, MAY, MUST, all_end, ends_of};
+use crate::rows::{self, EndsRow, MAY, MUST, all_end, phase_ends};
 use crate::runs::Entry;
-use sip_machine::{Action, InviteServer, InviteServerPhase, Machine, Params, Pool};
+use crate::times::params;
+use sip_machine::{Action, InviteServer, InviteServerPhase, Machine};
 use std::process::Abort;
 use std::test::Fail;
 
@@ -38,8 +39,7 @@ const MESSAGES: [Numbered; 9] = [
 ];
 
 fn server() -> Result<InviteServer, Fail> {
-    let params = Params::new(500, 4_000, 5_000, 50).ok_or("refused")?;
-    Ok(InviteServer::new(params))
+    Ok(InviteServer::new(params(500)?))
 }
 
 type Row = rows::Row<InviteServerPhase>;
@@ -532,23 +532,34 @@ fn ends(rt: HostRuntime) -> Result<(), Fail> {
     Ok(())
 }
 
+const COMPLETED_OVER_TCP: InviteServerPhase = InviteServerPhase::Completed {
+    reliable: true,
+    final_message: BUSY,
+    set: 700,
+    repeat: 700,
+    interval: 500,
+};
+
+const CONFIRMED_OVER_TCP: InviteServerPhase = InviteServerPhase::Confirmed {
+    reliable: true,
+    set: 700,
+};
+
 #[test]
 fn ends_over_tcp(rt: HostRuntime) -> Result<(), Fail> {
     let server = server()?;
-    let mut completed = Pool::new(rt.alloc());
-    completed.push(InviteServerPhase::Completed {
-        reliable: true,
-        final_message: BUSY,
-        set: 700,
-        repeat: 700,
-        interval: 500,
-    })?;
-    assert!(rt; ends_of(&server, &completed)? == (Some((32_650, Some(32_750))), Some(32_750)));
-    let mut confirmed = Pool::new(rt.alloc());
-    confirmed.push(InviteServerPhase::Confirmed {
-        reliable: true,
-        set: 700,
-    })?;
-    assert!(rt; ends_of(&server, &confirmed)? == (Some((700, Some(750))), Some(750)));
-    Ok(())
+    phase_ends(
+        &rt,
+        &server,
+        COMPLETED_OVER_TCP,
+        (Some((32_650, Some(32_750))), Some(32_750)),
+        "completed",
+    )?;
+    phase_ends(
+        &rt,
+        &server,
+        CONFIRMED_OVER_TCP,
+        (Some((700, Some(750))), Some(750)),
+        "confirmed",
+    )
 }

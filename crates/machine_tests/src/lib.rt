@@ -23,3 +23,5 @@ mod rules_3261;
 mod runs;
 #[cfg(test)]
 mod tests;
+#[cfg(test)]
+mod times;

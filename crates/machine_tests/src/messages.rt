@@ -1,5 +1,5 @@
 //! Messages of one transaction, kept in a book, and their events.
-ghost use Rattle.std.specs.Prelude.{ℕ, IfOk, OnOk, ◌≤◌, ◌<◌};
+ghost use Rattle.std.specs.Prelude.{ℕ, IfOk, OnErr, OnOk, ◌≤◌, ◌<◌};
 ghost use Rattle.sip_machine.specs.MachineEvent.{FitsBook};
 ghost use Rattle.sip_machine.specs.Texts.{Keeps};
 
@@ -18,6 +18,22 @@ pub(crate) enum Start {
 /// A message by its number: how it begins, and its tag of To.
 pub(crate) type Numbered = (u32, Start, Option<u8>);
 
+/// The first line of a message that begins so.
+fn line_of(alloc: Global, start: Start) -> Result<String, AllocError> {
+    match start {
+        Start::Request(method) => [method, " sip:example.com SIP/2.0"].concat(alloc),
+        Start::Response(code) => format!(in alloc; "SIP/2.0 {code} Reply"),
+    }
+}
+
+/// The parameter of To with this tag.
+fn tag_of(alloc: Global, tag: Option<u8>) -> Result<String, AllocError> {
+    match tag {
+        Some(tag) => format!(in alloc; ";tag={tag}"),
+        None => Ok(String::new(alloc)),
+    }
+}
+
 /// The bytes of a message that begins so, with this tag of To. A response is one to this method.
 fn text_of(
     alloc: Global,
@@ -26,16 +42,11 @@ fn text_of(
     answered: &str,
     transport: &str,
 ) -> Result<String, AllocError> {
-    let (line, method) = match start {
-        Start::Request(method) => (
-            format!(in alloc; "{method} sip:example.com SIP/2.0")?,
-            method,
-        ),
-        Start::Response(code) => (format!(in alloc; "SIP/2.0 {code} Reply")?, answered),
-    };
-    let tag = match tag {
-        Some(tag) => format!(in alloc; ";tag={tag}")?,
-        None => String::new(alloc),
+    let line = line_of(alloc, start)?;
+    let tag = tag_of(alloc, tag)?;
+    let method = match start {
+        Start::Request(method) => method,
+        Start::Response(_) => answered,
     };
     [
         line.as_str(),
@@ -50,12 +61,13 @@ fn text_of(
     .concat(alloc)
 }
 
-/// Keeps a message under the next number.
-fn keep(book: &mut Book, number: u32, text: &str) -> Result<(), Fail>
+/// Keeps a message under the next number. Where memory is refused, the number is still the next.
+pub(crate) fn keep(book: &mut Book, number: u32, bytes: &[u8]) -> Result<(), AllocError>
     requires { (n : ℕ) → Keeps book.old n → n < number }
-    ensures { OnOk result ((n : ℕ) → Keeps book.new n → n ≤ number) }
+    ensures ok { OnOk result ((n : ℕ) → Keeps book.new n → n ≤ number) }
+    ensures err { OnErr result ((n : ℕ) → Keeps book.new n → n < number) }
 {
-    book.add(number, text.as_bytes())?;
+    book.add(number, bytes)?;
     Ok(())
 }
 
@@ -73,7 +85,7 @@ pub(crate) fn book_of(
             return Err("out of order".into());
         }
         let text = text_of(alloc, start, tag, answered, transport)?;
-        keep(&mut book, number, text.as_str())?;
+        keep(&mut book, number, text.as_bytes())?;
         last = number;
     }
     Ok(book)

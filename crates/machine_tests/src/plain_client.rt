@@ -1,11 +1,9 @@
 //! The non-INVITE client, with moments worked out by hand for T1 500, T2 4000, T4 5000 and a tolerance of 50.
-ghost use Rattle.sip_machine.specs.PlainClient.{PlainClientInRange};
-
 use crate::messages::{Numbered, Start, book_of};
-use crate::rows;
+use crate::rows::{self, phase_ends};
 use crate::runs::Entry;
-use sip_machine::{Action, Machine, Params, PlainClient, PlainClientPhase, Pool, Waiting};
-use std::alloc::Global;
+use crate::times::params;
+use sip_machine::{Action, Machine, PlainClient, PlainClientPhase, Waiting};
 use std::process::Abort;
 use std::test::Fail;
 
@@ -24,8 +22,7 @@ const MESSAGES: [Numbered; 6] = [
 ];
 
 fn client() -> Result<PlainClient, Fail> {
-    let params = Params::new(500, 4_000, 5_000, 50).ok_or("refused")?;
-    Ok(PlainClient::new(params))
+    Ok(PlainClient::new(params(500)?))
 }
 
 type Row = rows::Row<PlainClientPhase>;
@@ -212,43 +209,51 @@ fn final_responses_and_failures(rt: HostRuntime) -> Result<(), Fail> {
     all_lead(&rt, FINAL_RESPONSES_AND_FAILURES)
 }
 
-/// When a state of the phase that owes nothing may end, and its last moment.
-fn ends_of(
-    alloc: Global,
-    client: &PlainClient,
-    phase: PlainClientPhase,
-) -> Result<(Option<(u64, Option<u64>)>, Option<u64>), Fail>
-    requires { PlainClientInRange phase }
-{
-    let mut pool = Pool::new(alloc);
-    pool.push(phase)?;
-    Ok((client.end_window(&pool, 0), client.until(&pool, 0)))
-}
+/// Timer F, that fires from 31950 to 32050.
+const TIMER_F: Option<(u64, Option<u64>)> = Some((31_950, Some(32_050)));
+
+const PROCEEDING_FROM_31_500: PlainClientPhase = PlainClientPhase::Proceeding(Waiting {
+    set: 31_500,
+    interval: 4_000,
+    ..WAITING
+});
+
+const COMPLETED_AT_700: PlainClientPhase = PlainClientPhase::Completed {
+    reliable: false,
+    set: 700,
+};
+
+const COMPLETED_OVER_TCP: PlainClientPhase = PlainClientPhase::Completed {
+    reliable: true,
+    set: 700,
+};
 
 #[test]
 fn ends(rt: HostRuntime) -> Result<(), Fail> {
-    let alloc = rt.alloc();
     let client = client()?;
-    assert!(rt; ends_of(alloc, &client, PlainClientPhase::Idle)? == (None, None));
-    // Timer E fires by 550, timer F from 31950 to 32050.
-    let timer_f = Some((31_950, Some(32_050)));
-    assert!(rt; ends_of(alloc, &client, TRYING)? == (timer_f, Some(550)));
-    let proceeding = PlainClientPhase::Proceeding(Waiting {
-        set: 31_500,
-        interval: 4_000,
-        ..WAITING
-    });
-    assert!(rt; ends_of(alloc, &client, proceeding)? == (timer_f, Some(32_050)));
-    let completed = PlainClientPhase::Completed {
-        reliable: false,
-        set: 700,
-    };
-    assert!(rt; ends_of(alloc, &client, completed)? == (Some((5_650, Some(5_750))), Some(5_750)));
-    let completed = PlainClientPhase::Completed {
-        reliable: true,
-        set: 700,
-    };
-    assert!(rt; ends_of(alloc, &client, completed)? == (Some((700, Some(750))), Some(750)));
-    assert!(rt; ends_of(alloc, &client, client.ended())? == (None, None));
-    Ok(())
+    phase_ends(&rt, &client, IDLE, (None, None), "idle")?;
+    // Timer E fires by 550.
+    phase_ends(&rt, &client, TRYING, (TIMER_F, Some(550)), "trying")?;
+    phase_ends(
+        &rt,
+        &client,
+        PROCEEDING_FROM_31_500,
+        (TIMER_F, Some(32_050)),
+        "proceeding",
+    )?;
+    phase_ends(
+        &rt,
+        &client,
+        COMPLETED_AT_700,
+        (Some((5_650, Some(5_750))), Some(5_750)),
+        "completed",
+    )?;
+    phase_ends(
+        &rt,
+        &client,
+        COMPLETED_OVER_TCP,
+        (Some((700, Some(750))), Some(750)),
+        "completed over TCP",
+    )?;
+    phase_ends(&rt, &client, client.ended(), (None, None), "ended")
 }

@@ -1,8 +1,9 @@
 //! The non-INVITE server, with moments worked out by hand for T1 500 and a tolerance of 50.
 use crate::messages::{Numbered, Start, book_of};
-use crate::rows::{self, EndsRow, MAY, MUST, all_end, ends_of};
+use crate::rows::{self, EndsRow, MAY, MUST, all_end, phase_ends};
 use crate::runs::{Entry, State, run, states_of};
-use sip_machine::{Action, Book, Debt, Params, PlainServer, PlainServerPhase, Pool, Run};
+use crate::times::params;
+use sip_machine::{Action, Book, Debt, PlainServer, PlainServerPhase, Run};
 use std::alloc::Global;
 use std::process::Abort;
 use std::test::Fail;
@@ -30,8 +31,7 @@ const MESSAGES: [Numbered; 6] = [
 ];
 
 fn server() -> Result<PlainServer, Fail> {
-    let params = Params::new(500, 4_000, 5_000, 50).ok_or("refused")?;
-    Ok(PlainServer::new(params))
+    Ok(PlainServer::new(params(500)?))
 }
 
 fn book(alloc: Global) -> Result<Book, Fail> {
@@ -433,15 +433,19 @@ fn ends(rt: HostRuntime) -> Result<(), Fail> {
     all_end(&rt, &server()?, &book(rt.alloc())?, ENDS)
 }
 
+const COMPLETED_OVER_TCP: PlainServerPhase = PlainServerPhase::Completed {
+    reliable: true,
+    final_message: FINAL,
+    set: 700,
+};
+
 #[test]
 fn ends_over_tcp(rt: HostRuntime) -> Result<(), Fail> {
-    let server = server()?;
-    let mut over_tcp = Pool::new(rt.alloc());
-    over_tcp.push(PlainServerPhase::Completed {
-        reliable: true,
-        final_message: FINAL,
-        set: 700,
-    })?;
-    assert!(rt; ends_of(&server, &over_tcp)? == (Some((700, Some(750))), Some(750)));
-    Ok(())
+    phase_ends(
+        &rt,
+        &server()?,
+        COMPLETED_OVER_TCP,
+        (Some((700, Some(750))), Some(750)),
+        "completed",
+    )
 }

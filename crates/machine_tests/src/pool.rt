@@ -1,14 +1,16 @@
 //! Pools: runs of debts, and which states are the same, by hand.
-ghost use Rattle.std.specs.Prelude.{All, OnOk};
+ghost use Rattle.std.specs.Prelude.{◌<◌, All, OnErr, OnOk, length};
 ghost use Rattle.sip_machine.specs.MachineEvent.{FitsBook};
 ghost use Rattle.sip_machine.specs.Rules.{Knows};
 
 use crate::messages::{Numbered, Start, book_of, event_of};
-use crate::runs::{are_same, indices, states_of};
+use crate::rows::holds;
+use crate::runs::{State, are_same, indices, states_of};
+use crate::times::params;
 use sip_machine::{
-    Action, Book, Debt, Event, Machine, Params, PlainServer, PlainServerPhase, Pool, Run,
+    Action, Book, Debt, Event, Machine, Phase, PlainServer, PlainServerPhase, Pool, Run,
 };
-use std::alloc::Global;
+use std::alloc::{AllocError, Global};
 use std::process::Abort;
 use std::test::Fail;
 
@@ -35,8 +37,7 @@ const MESSAGES: [Numbered; 5] = [
 ];
 
 fn server() -> Result<PlainServer, Fail> {
-    let params = Params::new(500, 4_000, 5_000, 50).ok_or("refused")?;
-    Ok(PlainServer::new(params))
+    Ok(PlainServer::new(params(500)?))
 }
 
 /// Lets the last state take the event, in its turn.
@@ -118,22 +119,39 @@ fn pool_of(alloc: Global, lists: &[&[u32]]) -> Result<Pool<PlainServerPhase>, Fa
     Ok(pool)
 }
 
-#[test]
-fn equal_neighbours_are_one_run(rt: HostRuntime) -> Result<(), Fail> {
-    let run = |message, count| Run {
+fn run(message: u32, count: usize) -> Run {
+    Run {
         debt: debt(message),
         count,
-    };
-    let pool = pool_of(rt.alloc(), &[&[1, 1, 1, 2, 1, 2], &[]])?;
-    let states = states_of(rt.alloc(), &pool)?;
-    let [state, other] = states.as_slice() else {
+    }
+}
+
+/// Whether the state owes these runs.
+fn owes(state: &State<PlainServerPhase>, runs: &[Run]) -> bool {
+    state.owes.as_slice() == runs
+}
+
+/// That there are two states in one phase, of which the first owes these runs and the second nothing.
+fn first_owes(
+    rt: &impl Abort,
+    states: &[State<PlainServerPhase>],
+    runs: &[Run],
+) -> Result<(), Fail> {
+    let [state, other] = states else {
         return Err("not two states".into());
     };
-    let wants = [run(1, 3), run(2, 1), run(1, 1), run(2, 1)];
-    assert!(rt; state.owes.as_slice() == wants.as_slice(), "{state:?}");
-    assert!(rt; other.owes.is_empty(), "{other:?}");
-    assert!(rt; state.phase == other.phase);
+    holds(rt, owes(state, runs), "the first state");
+    holds(rt, other.owes.is_empty(), "the second state");
+    holds(rt, state.phase == other.phase, "the phases");
     Ok(())
+}
+
+#[test]
+fn equal_neighbours_are_one_run(rt: HostRuntime) -> Result<(), Fail> {
+    let pool = pool_of(rt.alloc(), &[&[1, 1, 1, 2, 1, 2], &[]])?;
+    let states = states_of(rt.alloc(), &pool)?;
+    let wants = [run(1, 3), run(2, 1), run(1, 1), run(2, 1)];
+    first_owes(&rt, &states, &wants)
 }
 
 /// Whether the indices are those from one on and before another.
@@ -230,7 +248,7 @@ fn the_same_debts_compare_as_lists(rt: HostRuntime) -> Result<(), Fail> {
 }
 
 /// What the states owe in all, one behind another.
-fn owed_in_turn(alloc: Global, pool: &Pool<PlainServerPhase>) -> Result<Vec<u32>, Fail> {
+fn owed_in_turn<P: Phase>(alloc: Global, pool: &Pool<P>) -> Result<Vec<u32>, Fail> {
     let mut messages = Vec::new(alloc);
     for state in &states_of(alloc, pool)? {
         for run in &state.owes {
@@ -241,9 +259,9 @@ fn owed_in_turn(alloc: Global, pool: &Pool<PlainServerPhase>) -> Result<Vec<u32>
 }
 
 /// That the states owe these messages, one behind another.
-fn owe(
+fn owe<P: Phase>(
     rt: &(impl Abort + AllocGlobal),
-    pool: &Pool<PlainServerPhase>,
+    pool: &Pool<P>,
     messages: &[u32],
 ) -> Result<(), Fail> {
     assert_eq!(rt; owed_in_turn(rt.alloc(), pool)?.as_slice(), messages);
@@ -291,6 +309,69 @@ fn states_come_and_go(rt: HostRuntime) -> Result<(), Fail> {
     Ok(())
 }
 
+/// Lets the first state take the event. Where memory is refused, the states may take it again.
+fn first_takes<M: Machine>(
+    machine: &M,
+    book: &Book,
+    pool: &mut Pool<M::Phase>,
+    event: &Event,
+) -> Result<(), AllocError>
+    requires some { 0 < length pool.old }
+    requires fits { FitsBook book.now event.now }
+    requires known { All (Knows M.names book.now) pool.old }
+    requires in_range { All M.in_range pool.old }
+    ensures known { OnErr result (All (Knows M.names book.now) pool.new) }
+    ensures in_range { OnErr result (All M.in_range pool.new) }
+{
+    machine.successors(book, pool, 0, event)?;
+    Ok(())
+}
+
+/// What is owed once the first of three states took its event.
+static OWED_THEN: [u32; 9] = [1, 2, 1, 3, 1, 2, 1, 2, 1];
+
+/// That the states are five, and owe what is owed then.
+fn are_five<P: Phase>(rt: &(impl Abort + AllocGlobal), pool: &Pool<P>) -> Result<(), Fail> {
+    assert!(rt; pool.len() == 5);
+    owe(rt, pool, &OWED_THEN)
+}
+
+/// That the states are these.
+fn are_as_before<P: Phase>(
+    rt: &(impl Abort + AllocGlobal),
+    pool: &Pool<P>,
+    before: &[State<P>],
+) -> Result<(), Fail> {
+    let states = states_of(rt.alloc(), pool)?;
+    holds(rt, are_same(&states, before), "as before");
+    Ok(())
+}
+
+/// That the first of three states takes an event that leads to two more, or, where memory is refused, that all is as before and that it
+/// takes it then.
+fn goes_on<M: Machine>(
+    rt: &(impl Abort + AllocGlobal),
+    machine: &M,
+    book: &Book,
+    pool: &mut Pool<M::Phase>,
+    event: &Event,
+) -> Result<(), Fail>
+    requires fits { FitsBook book.now event.now }
+    requires known { All (Knows M.names book.now) pool.old }
+    requires in_range { All M.in_range pool.old }
+{
+    let before = states_of(rt.alloc(), pool)?;
+    assert!(rt; pool.len() == 3);
+    let Err(error) = first_takes(machine, book, pool, event) else {
+        return are_five(rt, pool);
+    };
+    are_as_before(rt, pool, &before)?;
+    assert!(rt; pool.len() == 3);
+    first_takes(machine, book, pool, event)?;
+    are_five(rt, pool)?;
+    Err(error.into())
+}
+
 /// Three states, of which one takes an event that leads to two more. `tests/growths` refuses each growth in turn: the test then fails
 /// with want of memory, once it has seen that the states are as before, and that the same call gives both with memory.
 #[test]
@@ -305,16 +386,6 @@ fn a_pool_goes_on_after_a_refused_growth(rt: HostRuntime) -> Result<(), Fail> {
         &mut pool,
         &[&[1, 2, 1], &[3], &[]],
     )?;
-    let before = states_of(rt.alloc(), &pool)?;
     let event = event_of(rt.alloc(), &book, 20, Action::Sent, 1)?;
-    assert!(rt; pool.len() == 3);
-    let given = server.successors(&book, &mut pool, 0, &event);
-    if given.is_err() {
-        assert!(rt; are_same(&states_of(rt.alloc(), &pool)?, &before));
-        assert!(rt; pool.len() == 3);
-        server.successors(&book, &mut pool, 0, &event)?;
-    }
-    assert!(rt; pool.len() == 5);
-    owe(&rt, &pool, &[1, 2, 1, 3, 1, 2, 1, 2, 1])?;
-    Ok(given?)
+    goes_on(&rt, &server, &book, &mut pool, &event)
 }

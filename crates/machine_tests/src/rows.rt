@@ -1,9 +1,11 @@
 //! Rows: entries, and the states to which they lead or the ends of the only one.
 ghost use Rattle.std.specs.Prelude.{All};
+ghost use Rattle.sip_machine.specs.Owing.{at_rest};
 
 use crate::runs::{Entry, State, run, states_of};
 use sip_machine::{Book, Machine, Phase, Pool, Run};
 use std::alloc::Global;
+use std::fmt::Debug;
 use std::process::Abort;
 use std::test::Fail;
 
@@ -36,6 +38,34 @@ fn are_wanted<P: Phase>(states: &[State<P>], wants: &[Want<P>]) -> bool {
             && are_owed(&state.owes, want.1))
 }
 
+/// That what was read is what is wanted in this row.
+pub(crate) fn is<T: PartialEq + Debug + Drop>(rt: &impl Abort, read: T, want: T, row: &str) {
+    assert_eq!(rt; read, want, "{row}");
+}
+
+/// That it is so in this row.
+pub(crate) fn holds(rt: &impl Abort, is_so: bool, row: &str) {
+    assert!(rt; is_so, "{row}");
+}
+
+/// That it is so after these entries.
+fn holds_after(rt: &impl Abort, is_so: bool, entries: &[Entry]) {
+    assert!(rt; is_so, "{entries:?}");
+}
+
+/// Whether the entries lead to these states, of all steps.
+fn lead<M: Machine>(
+    alloc: Global,
+    machine: &M,
+    book: &Book,
+    entries: &[Entry],
+    wants: &[Want<M::Phase>],
+) -> Result<bool, Fail> {
+    let pool = run(alloc, machine, book, entries)?;
+    let states = states_of(alloc, &pool)?;
+    Ok(are_wanted(&states, wants))
+}
+
 /// That the entries of each row lead to its states, of all steps.
 pub(crate) fn all_lead<M: Machine>(
     rt: &(impl Abort + AllocGlobal),
@@ -44,21 +74,24 @@ pub(crate) fn all_lead<M: Machine>(
     rows: &[Row<M::Phase>],
 ) -> Result<(), Fail> {
     for &(entries, wants) in rows {
-        let pool = run(rt.alloc(), machine, book, entries)?;
-        let states = states_of(rt.alloc(), &pool)?;
-        assert!(rt; are_wanted(&states, wants), "{entries:?}");
+        let is_so = lead(rt.alloc(), machine, book, entries, wants)?;
+        holds_after(rt, is_so, entries);
     }
     Ok(())
 }
 
 /// When a state may end, and its last moment.
-type Ends = (Option<(u64, Option<u64>)>, Option<u64>);
+pub(crate) type Ends = (Option<(u64, Option<u64>)>, Option<u64>);
 
 /// Entries, and the ends of the only state after them.
 pub(crate) type EndsRow = (&'static [Entry], Option<(u64, Option<u64>)>, Option<u64>);
 
+fn are_ends(ends: Ends, want: Ends) -> bool {
+    ends == want
+}
+
 /// The ends of the only state.
-pub(crate) fn ends_of<M: Machine>(machine: &M, pool: &Pool<M::Phase>) -> Result<Ends, Fail>
+fn ends_of<M: Machine>(machine: &M, pool: &Pool<M::Phase>) -> Result<Ends, Fail>
     requires { All M.in_range pool.now }
 {
     if pool.len() != 1 {
@@ -76,7 +109,25 @@ pub(crate) fn all_end<M: Machine>(
 ) -> Result<(), Fail> {
     for &(entries, window, until) in rows {
         let pool = run(rt.alloc(), machine, book, entries)?;
-        assert!(rt; ends_of(machine, &pool)? == (window, until), "{entries:?}");
+        let ends = ends_of(machine, &pool)?;
+        holds_after(rt, are_ends(ends, (window, until)), entries);
     }
+    Ok(())
+}
+
+/// That a state of the phase that owes nothing has these ends.
+pub(crate) fn phase_ends<M: Machine>(
+    rt: &(impl Abort + AllocGlobal),
+    machine: &M,
+    phase: M::Phase,
+    want: Ends,
+    row: &str,
+) -> Result<(), Fail>
+    requires { M.in_range (at_rest phase) }
+{
+    let mut pool = Pool::new(rt.alloc());
+    pool.push(phase)?;
+    let ends = ends_of(machine, &pool)?;
+    holds(rt, are_ends(ends, want), row);
     Ok(())
 }

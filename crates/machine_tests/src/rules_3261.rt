@@ -3,9 +3,10 @@
 use crate::messages::{Numbered, Start, book_of};
 use crate::rows::{MAY, MUST, Row, all_lead};
 use crate::runs::Entry;
+use crate::times::params;
 use sip_machine::{
     Action, Book, InviteClient, InviteClient3261, InviteClientPhase, InviteServer,
-    InviteServer3261, InviteServer3261Phase, InviteServerPhase, Params, Waiting,
+    InviteServer3261, InviteServer3261Phase, InviteServerPhase, Waiting,
 };
 use std::alloc::Global;
 use std::process::Abort;
@@ -32,11 +33,6 @@ const MESSAGES: [Numbered; 5] = [
     (OK, Start::Response(200), Some(2)),
     (ACK, Start::Request("ACK"), Some(2)),
 ];
-
-fn params() -> Result<Params, Fail> {
-    let params = Params::new(500, 4_000, 5_000, 50).ok_or("refused")?;
-    Ok(params)
-}
 
 type Server = Row<InviteServer3261Phase>;
 
@@ -381,12 +377,12 @@ fn book(alloc: Global) -> Result<Book, Fail> {
 }
 
 fn all_serve(rt: &(impl Abort + AllocGlobal), rows: &[Server]) -> Result<(), Fail> {
-    let server = InviteServer3261::new(params()?);
+    let server = InviteServer3261::new(params(500)?);
     all_lead(rt, &server, &book(rt.alloc())?, rows)
 }
 
 fn all_call(rt: &(impl Abort + AllocGlobal), rows: &[Client]) -> Result<(), Fail> {
-    let client = InviteClient3261::new(params()?);
+    let client = InviteClient3261::new(params(500)?);
     all_lead(rt, &client, &book(rt.alloc())?, rows)
 }
 
@@ -430,6 +426,6 @@ static BY_RFC_6026: (&[Row<InviteServerPhase>], &[Client]) = (
 #[test]
 fn by_rfc_6026_an_invite_behind_a_2xx_changes_nothing(rt: HostRuntime) -> Result<(), Fail> {
     let book = book(rt.alloc())?;
-    all_lead(&rt, &InviteServer::new(params()?), &book, BY_RFC_6026.0)?;
-    all_lead(&rt, &InviteClient::new(params()?), &book, BY_RFC_6026.1)
+    all_lead(&rt, &InviteServer::new(params(500)?), &book, BY_RFC_6026.0)?;
+    all_lead(&rt, &InviteClient::new(params(500)?), &book, BY_RFC_6026.1)
 }

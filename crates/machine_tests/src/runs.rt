@@ -1,7 +1,8 @@
 //! Runs of a machine over entries: of all steps, and of one state that steps in its own place.
-ghost use Rattle.std.specs.Prelude.{◌<◌, All, AllPairs, IfOk, OnOk};
+ghost use Rattle.std.specs.Prelude.{◌≡◌, ◌<◌, All, AllPairs, IfOk, OnOk, length};
 ghost use Rattle.sip_machine.specs.MachineEvent.{FitsBook};
 ghost use Rattle.sip_machine.specs.Rules.{Knows};
+ghost use Rattle.sip_machine.specs.Texts.{Texts};
 
 use crate::messages::event_of;
 use sip_machine::{Action, Book, Event, Machine, Phase, Pool, Run};
@@ -12,7 +13,7 @@ use std::test::Fail;
 pub(crate) type Entry = (u64, Action, u32);
 
 /// A state of a pool: its phase, and what it owes.
-#[derive(Debug, Drop)]
+#[derive(Drop)]
 pub(crate) struct State<P> {
     pub phase: P,
     pub owes: Vec<Run>,
@@ -31,6 +32,17 @@ pub(crate) fn states_of<P: Phase>(alloc: Global, pool: &Pool<P>) -> Result<Vec<S
     Ok(states)
 }
 
+/// The first state of the machine alone.
+fn first_pool<M: Machine>(alloc: Global, machine: &M) -> Result<Pool<M::Phase>, Fail>
+    ensures alone { IfOk result (λ pool. length pool ≡ 1) }
+    ensures known { (texts : Texts) → IfOk result (All (Knows M.names texts)) }
+    ensures in_range { IfOk result (All M.in_range) }
+{
+    let mut pool = Pool::new(alloc);
+    pool.push(machine.first())?;
+    Ok(pool)
+}
+
 /// The states of the machine after the entries, of all steps. Where each entry gives just one, it is the one that steps in its own place.
 pub(crate) fn run<M: Machine>(
     alloc: Global,
@@ -40,38 +52,54 @@ pub(crate) fn run<M: Machine>(
 ) -> Result<Pool<M::Phase>, Fail>
     ensures { IfOk result (All M.in_range) }
 {
-    let mut pool = Pool::new(alloc);
-    pool.push(machine.first())?;
-    let mut is_alone = true;
-    for &(moment, action, number) in entries {
-        let event = event_of(alloc, book, moment, action, number)?;
-        step(alloc, machine, book, &mut pool, &event)?;
-        is_alone = is_alone && pool.len() == 1;
-    }
+    let mut pool = first_pool(alloc, machine)?;
+    let is_alone = step_each(alloc, machine, book, &mut pool, entries)?;
     let together = run_together(alloc, machine, book, entries)?;
-    if !are_alike(&states_of(alloc, &pool)?, &states_of(alloc, &together)?) {
-        return Err("all at once they step otherwise".into());
-    }
+    are_alike(alloc, &pool, &together)?;
     let alone = run_alone(alloc, machine, book, entries)?;
-    if !agree(alloc, &pool, is_alone, &alone)? {
-        return Err("in its own place it steps otherwise".into());
-    }
+    agree(alloc, &pool, is_alone, &alone)?;
     Ok(pool)
 }
 
-/// Whether the state that stepped in its own place is the only one, where there was just one after each entry.
+/// Lets the states take each entry, in all steps. Whether there was just one after each.
+fn step_each<M: Machine>(
+    alloc: Global,
+    machine: &M,
+    book: &Book,
+    pool: &mut Pool<M::Phase>,
+    entries: &[Entry],
+) -> Result<bool, Fail>
+    requires known { All (Knows M.names book.now) pool.old }
+    requires in_range { All M.in_range pool.old }
+    ensures { OnOk result (All M.in_range pool.new) }
+{
+    let mut is_alone = true;
+    for &(moment, action, number) in entries {
+        let event = event_of(alloc, book, moment, action, number)?;
+        step(alloc, machine, book, pool, &event)?;
+        is_alone = is_alone && pool.len() == 1;
+    }
+    Ok(is_alone)
+}
+
+/// That the state that stepped in its own place is the only one, where there was just one after each entry.
 fn agree<P: Phase>(
     alloc: Global,
     pool: &Pool<P>,
     is_alone: bool,
     alone: &Option<Pool<P>>,
-) -> Result<bool, Fail> {
-    match alone {
+) -> Result<(), Fail> {
+    let is_so = match alone {
         Some(alone) => {
             let same = are_same(&states_of(alloc, pool)?, &states_of(alloc, alone)?);
-            Ok(is_alone && pool.len() == 1 && same)
+            is_alone && pool.len() == 1 && same
         }
-        None => Ok(!is_alone),
+        None => !is_alone,
+    };
+    if is_so {
+        Ok(())
+    } else {
+        Err("in its own place it steps otherwise".into())
     }
 }
 
@@ -82,9 +110,15 @@ pub(crate) fn are_same<P: Phase>(states: &[State<P>], others: &[State<P>]) -> bo
             && state.owes.as_slice() == other.owes.as_slice())
 }
 
-/// Whether each state of either is one of the other.
-fn are_alike<P: Phase>(states: &[State<P>], others: &[State<P>]) -> bool {
-    are_among(states, others) && are_among(others, states)
+/// That each state of either is one of the other.
+fn are_alike<P: Phase>(alloc: Global, pool: &Pool<P>, together: &Pool<P>) -> Result<(), Fail> {
+    let states = states_of(alloc, pool)?;
+    let others = states_of(alloc, together)?;
+    if are_among(&states, &others) && are_among(&others, &states) {
+        Ok(())
+    } else {
+        Err("all at once they step otherwise".into())
+    }
 }
 
 /// Whether each state is one of the others.
@@ -102,8 +136,7 @@ fn run_together<M: Machine>(
     book: &Book,
     entries: &[Entry],
 ) -> Result<Pool<M::Phase>, Fail> {
-    let mut pool = Pool::new(alloc);
-    pool.push(machine.first())?;
+    let mut pool = first_pool(alloc, machine)?;
     for &(moment, action, number) in entries {
         let event = event_of(alloc, book, moment, action, number)?;
         step_together(machine, book, &mut pool, &event)?;
@@ -173,8 +206,7 @@ fn run_alone<M: Machine>(
     book: &Book,
     entries: &[Entry],
 ) -> Result<Option<Pool<M::Phase>>, Fail> {
-    let mut pool = Pool::new(alloc);
-    pool.push(machine.first())?;
+    let mut pool = first_pool(alloc, machine)?;
     for &(moment, action, number) in entries {
         let event = event_of(alloc, book, moment, action, number)?;
         if !machine.step(book, &mut pool, &event)? {

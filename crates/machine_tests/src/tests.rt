@@ -1,31 +1,39 @@
 //! The limits of the times, and the list of messages.
-ghost use Rattle.std.specs.Prelude.{◌+◌, ◌<◌, ℕ, OnOk};
+ghost use Rattle.std.specs.Prelude.{◌+◌, ◌<◌, ◌≤◌, ℕ, OnOk};
 ghost use Rattle.sip_machine.specs.Texts.{Keeps};
 
+use crate::messages::keep;
+use crate::rows::is;
 use sip_machine::{Book, Params};
 use std::alloc::{AllocError, Global};
+use std::process::Abort;
 use std::test::Fail;
+
+/// Times that are refused: T1, T2, T4 and the tolerance.
+static REFUSED: [(u64, u64, u64, u64); 7] = [
+    (0, 4_000, 5_000, 50),
+    (10_001, 4_000, 5_000, 50),
+    (500, 0, 5_000, 50),
+    (500, 60_001, 5_000, 50),
+    (500, 4_000, 0, 50),
+    (500, 4_000, 60_001, 50),
+    (500, 4_000, 5_000, 10_001),
+];
+
+/// The place of the first times that are taken.
+fn first_taken(times: &[(u64, u64, u64, u64)]) -> Option<usize> {
+    times.iter().position(|&(t1, t2, t4, tolerance)| Params::new(t1, t2, t4, tolerance).is_some())
+}
 
 #[test]
 fn limits(rt: HostRuntime) -> Result<(), Fail> {
-    for (t1, t2, t4, tolerance) in [
-        (0, 4_000, 5_000, 50),
-        (10_001, 4_000, 5_000, 50),
-        (500, 0, 5_000, 50),
-        (500, 60_001, 5_000, 50),
-        (500, 4_000, 0, 50),
-        (500, 4_000, 60_001, 50),
-        (500, 4_000, 5_000, 10_001),
-    ] {
-        assert!(rt;
-            Params::new(t1, t2, t4, tolerance).is_none(),
-            "{t1} {t2} {t4} {tolerance}"
-        );
-    }
+    is(&rt, first_taken(&REFUSED), None, "refused times");
     let params = Params::new(10_000, 60_000, 60_000, 10_000).ok_or("refused")?;
-    assert!(rt; params.t1() == 10_000 && params.t2() == 60_000);
-    assert!(rt; params.t4() == 60_000);
-    assert!(rt; params.early() == 10_000 && params.late() == 10_000);
+    is(&rt, params.t1(), 10_000, "T1");
+    is(&rt, params.t2(), 60_000, "T2");
+    is(&rt, params.t4(), 60_000, "T4");
+    is(&rt, params.early(), 10_000, "early");
+    is(&rt, params.late(), 10_000, "late");
     assert!(rt; Params::new(1, 1, 1, 0).is_some());
     Ok(())
 }
@@ -33,12 +41,12 @@ fn limits(rt: HostRuntime) -> Result<(), Fail> {
 #[test]
 fn keeps_equal_bytes_once(rt: HostRuntime) -> Result<(), Fail> {
     let mut book = Book::new(rt.alloc());
-    assert!(rt; book.add(3, b"OPTIONS")? == 3);
-    assert!(rt; book.add(5, b"OPTIONS")? == 3);
-    assert!(rt; book.add(8, b"")? == 8);
-    assert!(rt; book.bytes(3) == Some(b"OPTIONS".as_slice()));
-    assert!(rt; book.bytes(5).is_none());
-    assert!(rt; book.bytes(8) == Some(b"".as_slice()));
+    is(&rt, book.add(3, b"OPTIONS")?, 3, "the first");
+    is(&rt, book.add(5, b"OPTIONS")?, 3, "the same again");
+    is(&rt, book.add(8, b"")?, 8, "an empty one");
+    keeps(&rt, &book, 3, Some(b"OPTIONS"));
+    keeps(&rt, &book, 5, None);
+    keeps(&rt, &book, 8, Some(b""));
     Ok(())
 }
 
@@ -65,15 +73,10 @@ fn keeps_messages_of_one_hash(rt: HostRuntime) -> Result<(), Fail> {
 #[test]
 fn a_new_book_goes_on_after_a_refused_growth(rt: HostRuntime) -> Result<(), Fail> {
     let mut book = Book::new(rt.alloc());
-    let Err(error) = book.add(1, b"ACK") else {
-        assert_eq!(rt; book.add(2, b"BYE")?, 2);
-        assert_eq!(rt; book.bytes(1), Some(b"ACK".as_slice()));
-        assert_eq!(rt; book.bytes(2), Some(b"BYE".as_slice()));
-        return Ok(());
+    let Err(error) = keep(&mut book, 1, b"ACK") else {
+        return takes_the_next(&rt, &mut book);
     };
-    assert_eq!(rt; book.bytes(1), None);
-    assert_eq!(rt; book.add(1, b"ACK")?, 1);
-    assert_eq!(rt; book.bytes(1), Some(b"ACK".as_slice()));
+    goes_on(&rt, &mut book, 1)?;
     Err(error.into())
 }
 
@@ -82,18 +85,38 @@ fn a_new_book_goes_on_after_a_refused_growth(rt: HostRuntime) -> Result<(), Fail
 fn a_book_goes_on_after_a_refused_growth(rt: HostRuntime) -> Result<(), Fail> {
     let mut book = Book::new(rt.alloc());
     assert!(rt; are_numbered(rt.alloc(), &mut book, 0, 64, b" SIP/2.0 200 OK")?);
-    let Err(error) = book.add(64, b"ACK") else {
-        assert_eq!(rt; book.bytes(64), Some(b"ACK".as_slice()));
+    let Err(error) = keep(&mut book, 64, b"ACK") else {
+        keeps(&rt, &book, 64, Some(b"ACK"));
         return Ok(());
     };
-    assert_eq!(rt; book.bytes(64), None);
-    assert_eq!(rt; book.add(64, b"ACK")?, 64);
-    assert_eq!(rt; book.bytes(64), Some(b"ACK".as_slice()));
-    assert_eq!(rt;
-        book.bytes(63),
-        Some(b"\0\0\0\x3f SIP/2.0 200 OK".as_slice())
-    );
+    goes_on(&rt, &mut book, 64)?;
+    keeps(&rt, &book, 63, Some(b"\0\0\0\x3f SIP/2.0 200 OK"));
     Err(error.into())
+}
+
+/// That a book that keeps the ACK as its only message takes another one.
+fn takes_the_next(rt: &impl Abort, book: &mut Book) -> Result<(), Fail>
+    requires { (n : ℕ) → Keeps book.old n → n ≤ 1 }
+{
+    is(rt, book.add(2, b"BYE")?, 2, "the next");
+    keeps(rt, book, 1, Some(b"ACK"));
+    keeps(rt, book, 2, Some(b"BYE"));
+    Ok(())
+}
+
+/// That a book that was refused memory for the ACK of this number does not keep it, and takes it now.
+fn goes_on(rt: &impl Abort, book: &mut Book, number: u32) -> Result<(), AllocError>
+    requires { (n : ℕ) → Keeps book.old n → n < number }
+{
+    keeps(rt, book, number, None);
+    is(rt, book.add(number, b"ACK")?, number, "the ACK");
+    keeps(rt, book, number, Some(b"ACK"));
+    Ok(())
+}
+
+/// That the book keeps these bytes under the number, or none.
+fn keeps(rt: &impl Abort, book: &Book, number: u32, bytes: Option<&[u8]>) {
+    assert_eq!(rt; book.bytes(number), bytes, "{number}");
 }
 
 /// Adds messages that differ in their first four bytes alone, under the numbers from `first` on. Whether each is

@@ -1,21 +1,5 @@
-use Rattle.std.specs.Prelude.{[], refl}
 use Rattle.std.proofs.lemmas.Bool.{OnTrue_at}
-use Rattle.std.proofs.lemmas.List.Elements.{All-nil, All-push}
-use Rattle.sip_machine.specs.Owing.{at_rest}
-use Rattle.sip_machine.specs.Texts.{Keeps}
-use Rattle.sip_machine.specs.Rules.{Knows}
 use Rattle.machine_tests.proofs.runs.run_alone.Goals as goal
-
-pub loop-moment-init : goal.loop-moment-init
-loop-moment-init g c =
-    let first = at_rest c.first.result in
-    let fits = g.met.M.Machine.first_fits c.args.machine.now in
-    rw (c.in_ok-push.ensures.ok, c.new-pool.ensures)
-    (record {
-      alone = refl;
-      known = All-push (Knows g.M.Machine.names c.args.book.now) [] first (All-nil (Knows g.M.Machine.names c.args.book.now)) (rw (c.first.ensures, fits.0) (All-nil (Keeps c.args.book.now)));
-      in_range = All-push g.M.Machine.in_range [] first (All-nil g.M.Machine.in_range) (rw c.first.ensures fits.1);
-    })
 
 pub loop-moment-preserved : goal.loop-moment-preserved
 loop-moment-preserved g c =

@@ -3,14 +3,14 @@ use Rattle.sip_machine.proofs.TextLaws.{Keeps-grow_cases}
 use Rattle.machine_tests.proofs.tests.are_numbered.Goals as goal
 
 pub loop-place-init : goal.loop-place-init
-loop-place-init c n keeps = let low = c.requires.above n keeps in omega arith
+loop-place-init c n keeps = let low = c.requires.above n keeps in omega (arith, low)
 
 pub loop-place-preserved : goal.loop-place-preserved
 loop-place-preserved c n keeps = elim c.in_ok-right.ensures.grows [
-  | inl same ↦ let low = c.loop-place.invariant n (rw same.0 at keeps) in omega arith
+  | inl same ↦ let low = c.loop-place.invariant n (rw same.0 at keeps) in omega (arith, low)
   | inr more ↦ elim (Keeps-grow_cases c.loop-place.book (c.args.first + c.loop-place.place) c.deref.result.now n (rw more.0 at keeps)) [
-    | inl old ↦ let low = c.loop-place.invariant n old in omega arith
-    | inr new ↦ omega arith
+    | inl old ↦ let low = c.loop-place.invariant n old in omega (arith, low)
+    | inr new ↦ omega (arith, new)
   ]
 ]
 

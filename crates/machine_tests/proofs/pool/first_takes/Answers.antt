@@ -1,0 +1,8 @@
+use Rattle.machine_tests.proofs.Errors.{always_err}
+use Rattle.machine_tests.proofs.pool.first_takes.Goals as goal
+
+pub returns-in_err-successors-clause-known : goal.returns-in_err-successors-clause-known
+returns-in_err-successors-clause-known g c = always_err c.from_residual.result (rw c.in_err-successors.ensures.err c.requires.known)
+
+pub returns-in_err-successors-clause-in_range : goal.returns-in_err-successors-clause-in_range
+returns-in_err-successors-clause-in_range g c = always_err c.from_residual.result (rw c.in_err-successors.ensures.err c.requires.in_range)

@@ -1,6 +1,6 @@
 //! Events of whole messages.
 
-use crate::rows::holds;
+use crate::wants::holds;
 use sip_machine::{Action, Event, Kind, Method};
 use sip_message::Message;
 use std::alloc::Global;

@@ -25,3 +25,5 @@ mod runs;
 mod tests;
 #[cfg(test)]
 mod times;
+#[cfg(test)]
+mod wants;

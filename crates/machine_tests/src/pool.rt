@@ -4,9 +4,9 @@ ghost use Rattle.sip_machine.specs.MachineEvent.{FitsBook};
 ghost use Rattle.sip_machine.specs.Rules.{Knows};
 
 use crate::messages::{Numbered, Start, book_of, event_of};
-use crate::rows::holds;
 use crate::runs::{State, are_same, indices, states_of};
 use crate::times::params;
+use crate::wants::holds;
 use sip_machine::{
     Action, Book, Debt, Event, Machine, Phase, PlainServer, PlainServerPhase, Pool, Run,
 };

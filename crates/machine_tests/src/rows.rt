@@ -3,9 +3,9 @@ ghost use Rattle.std.specs.Prelude.{All};
 ghost use Rattle.sip_machine.specs.Owing.{at_rest};
 
 use crate::runs::{Entry, State, run, states_of};
+use crate::wants::holds;
 use sip_machine::{Book, Machine, Phase, Pool, Run};
 use std::alloc::Global;
-use std::fmt::Debug;
 use std::process::Abort;
 use std::test::Fail;
 
@@ -36,16 +36,6 @@ fn are_wanted<P: Phase>(states: &[State<P>], wants: &[Want<P>]) -> bool {
     states.len() == wants.len()
         && states.iter().zip(wants).all(|(state, want)| state.phase == want.0
             && are_owed(&state.owes, want.1))
-}
-
-/// That what was read is what is wanted in this row.
-pub(crate) fn is<T: PartialEq + Debug + Drop>(rt: &impl Abort, read: T, want: T, row: &str) {
-    assert_eq!(rt; read, want, "{row}");
-}
-
-/// That it is so in this row.
-pub(crate) fn holds(rt: &impl Abort, is_so: bool, row: &str) {
-    assert!(rt; is_so, "{row}");
 }
 
 /// That it is so after these entries.

@@ -3,7 +3,7 @@ ghost use Rattle.std.specs.Prelude.{◌+◌, ◌<◌, ◌≤◌, ℕ, OnOk};
 ghost use Rattle.sip_machine.specs.Texts.{Keeps};
 
 use crate::messages::keep;
-use crate::rows::is;
+use crate::wants::is;
 use sip_machine::{Book, Params};
 use std::alloc::{AllocError, Global};
 use std::process::Abort;

@@ -1,0 +1,181 @@
+//! What `show` answers, sources and sinks that fail while it writes, and memory that it is refused.
+use crate::logs::{FOLDED, STORED, UNFOLDED, folded_log};
+use crate::notation::{log_of, push_message};
+use crate::room::Room;
+use crate::shown::{shown, shown_failing, shown_in, written};
+use crate::wants::{holds, holds_at};
+use sip_verdict::{LogReason, ShowError, Shown};
+use std::alloc::Global;
+use std::process::Abort;
+use std::test::Fail;
+
+/// What is shown of a log is this, with the answer.
+fn shows(
+    rt: &(impl Abort + AllocGlobal),
+    log: &[u8],
+    want: &[u8],
+    told: Shown,
+) -> Result<(), Fail> {
+    let (text, answer) = shown(rt.alloc(), log)?;
+    holds(rt, text.as_slice() == want, "the text");
+    holds(rt, answer == told, "the answer");
+    Ok(())
+}
+
+/// The log of a message in which an LF stands alone before the line of the branch, and a mark.
+fn bare_log(alloc: Global) -> Result<String, Fail> {
+    let bare = FOLDED.replacen(alloc, "\r\n\t", "\n\t", 1)?;
+    let mut log = log_of(alloc, "")?;
+    push_message(&mut log, "S", 0, bare.as_str())?;
+    log.push_str("M 0\n")?;
+    Ok(log)
+}
+
+/// A message with a fault stops what is shown.
+#[test]
+fn tells_the_message_that_stopped_it(rt: HostRuntime) -> Result<(), Fail> {
+    let log = bare_log(rt.alloc())?;
+    let (text, answer) = shown(rt.alloc(), log.as_str().as_bytes())?;
+    let want = b"malformed 1 head 2 BareLineEnd\n";
+    holds(&rt, text.as_slice() == want.as_slice(), "the text");
+    let is_told = matches!(answer, Shown::Malformed { entry: 1, .. });
+    holds(&rt, is_told, "the answer");
+    Ok(())
+}
+
+/// The moments of two entries are in no order.
+#[test]
+fn tells_the_entry_that_stopped_it(rt: HostRuntime) -> Result<(), Fail> {
+    let log = log_of(rt.alloc(), "M 5,4")?;
+    let want = b"1 M 5\nlog fault 2 23 Order\n";
+    let reason = LogReason::Order;
+    let told = Shown::LogFault { entry: 2, reason };
+    shows(&rt, log.as_str().as_bytes(), want, told)
+}
+
+/// The bytes come one by one, and the call after so many fails, wherever that is.
+fn fails_to_read(rt: &(impl Abort + AllocGlobal), bytes: &[u8]) {
+    for calls in 0..=bytes.len() {
+        let answer = shown_failing(rt.alloc(), bytes, calls);
+        holds_at(rt, answer == Err(ShowError::Read), ("reads:", calls));
+    }
+}
+
+/// The sink fails after so many calls, wherever that is.
+fn fails_to_write(rt: &(impl Abort + AllocGlobal), bytes: &[u8], calls: usize) {
+    for calls in 0..calls {
+        let answer = shown_in(rt.alloc(), bytes, &mut Room::of(calls));
+        holds_at(rt, answer == Err(ShowError::Write), ("writes:", calls));
+    }
+}
+
+/// A source that fails at its nth call, and a sink that does.
+#[test]
+fn tells_the_side_that_failed(rt: HostRuntime) -> Result<(), Fail> {
+    let log = log_of(rt.alloc(), STORED)?;
+    let bytes = log.as_str().as_bytes();
+    fails_to_read(&rt, bytes);
+    let mut room = Room::of(1_000);
+    let answer = shown_in(rt.alloc(), bytes, &mut room)?;
+    holds(&rt, answer == Shown::End { entries: 4 }, STORED);
+    fails_to_write(&rt, bytes, room.taken());
+    Ok(())
+}
+
+/// Shows a log of so many entries, and shows it again where memory was refused.
+fn shows_or_wants_memory(
+    rt: &(impl Abort + AllocGlobal),
+    bytes: &[u8],
+    want: &[u8],
+    entries: u32,
+) -> Result<(), Fail> {
+    let whole = Shown::End { entries };
+    // With room for the whole text, so that writing takes no memory.
+    let mut text = Vec::with_capacity(rt.alloc(), 2_000)?;
+    let answer = written(rt.alloc(), bytes, &mut text);
+    holds(rt, want.starts_with(&text), "a front");
+    match answer {
+        Ok(told) => {
+            holds(rt, text.len() == want.len() && told == whole, "at once");
+            Ok(())
+        }
+        Err(error) => {
+            holds(rt, error == ShowError::Memory, "want of memory");
+            shows(rt, bytes, want, whole)?;
+            Err(error.into())
+        }
+    }
+}
+
+/// Appends an entry after its number: the bytes of a log from one place to another. Where the message of the entry is of the
+/// canonical form, it is shown so.
+fn push_numbered(
+    text: &mut Vec<u8>,
+    log: &[u8],
+    number: &[u8],
+    (first, end): (usize, usize),
+) -> Result<(), Fail> {
+    let Some(entry) = log.get(first..end) else {
+        return Err("a short log".into());
+    };
+    text.extend_from_slice(number)?;
+    text.extend_from_slice(entry)?;
+    Ok(())
+}
+
+/// A refused growth within `show`. `tests/growths` refuses each in turn: the answer is want of memory, and what was
+/// written until then is a front of what is written with memory.
+#[test]
+fn shows_again_after_a_refused_growth(rt: HostRuntime) -> Result<(), Fail> {
+    let log = folded_log(rt.alloc())?;
+    let want = ["1 S 0 202\n", UNFOLDED, "\n2 M 5\nend 2\n"].concat(rt.alloc())?;
+    shows_or_wants_memory(&rt, log.as_str().as_bytes(), want.as_str().as_bytes(), 2)
+}
+
+/// The same for a REGISTER that is sent again and answered.
+#[test]
+fn shows_the_stored_run_after_a_refused_growth(rt: HostRuntime) -> Result<(), Fail> {
+    let log = log_of(rt.alloc(), STORED)?;
+    let bytes = log.as_str().as_bytes();
+    let mut want = Vec::new(rt.alloc());
+    push_numbered(&mut want, bytes, b"1 ", (48, 256))?;
+    push_numbered(&mut want, bytes, b"2 ", (256, 466))?;
+    push_numbered(&mut want, bytes, b"3 ", (466, 667))?;
+    push_numbered(&mut want, bytes, b"4 ", (667, 674))?;
+    want.extend_from_slice(b"end 4\n")?;
+    shows_or_wants_memory(&rt, bytes, want.as_slice(), 4)
+}
+
+/// The same for a server that repeats its 486.
+#[test]
+fn shows_a_repeat_after_a_refused_growth(rt: HostRuntime) -> Result<(), Fail> {
+    let log = log_of(
+        rt.alloc(),
+        "R 0 INVITE i1; S 0 INVITE i1 486; R 480 INVITE i1; S 490,540 INVITE i1 486",
+    )?;
+    let bytes = log.as_str().as_bytes();
+    let mut want = Vec::new(rt.alloc());
+    push_numbered(&mut want, bytes, b"1 ", (48, 252))?;
+    push_numbered(&mut want, bytes, b"2 ", (252, 449))?;
+    push_numbered(&mut want, bytes, b"3 ", (449, 655))?;
+    push_numbered(&mut want, bytes, b"4 ", (655, 854))?;
+    push_numbered(&mut want, bytes, b"5 ", (854, 1_053))?;
+    want.extend_from_slice(b"end 5\n")?;
+    shows_or_wants_memory(&rt, bytes, want.as_slice(), 5)
+}
+
+/// The same for a call that is cancelled.
+#[test]
+fn shows_a_cancel_after_a_refused_growth(rt: HostRuntime) -> Result<(), Fail> {
+    let log = log_of(
+        rt.alloc(),
+        "S 0 INVITE i1; R 50 INVITE i1 180; S 100 CANCEL i1",
+    )?;
+    let bytes = log.as_str().as_bytes();
+    let mut want = Vec::new(rt.alloc());
+    push_numbered(&mut want, bytes, b"1 ", (48, 252))?;
+    push_numbered(&mut want, bytes, b"2 ", (252, 450))?;
+    push_numbered(&mut want, bytes, b"3 ", (450, 656))?;
+    want.extend_from_slice(b"end 3\n")?;
+    shows_or_wants_memory(&rt, bytes, want.as_slice(), 3)
+}

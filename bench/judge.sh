@@ -9,9 +9,6 @@ set -e
 unset CDPATH
 if [ -n "$SIPTRACE" ]; then SIPTRACE=$(realpath -- "$SIPTRACE"); fi
 cd "$(dirname "$0")/.."
-if [ -z "$SIPTRACE" ]; then
-  ./siptrace <crates/siptrace/stdin >&2
-  SIPTRACE=$(bash -c 'source ./siptrace && find_sources && find_program && printf %s "$program"')
-fi
+if [ -z "$SIPTRACE" ]; then SIPTRACE=$PWD/built/$(./build); fi
 if [ "$1" = shapes ]; then exec python3 -B bench/shapes.py "$SIPTRACE"; fi
 exec python3 bench/judge.py "$SIPTRACE" "$@"

@@ -72,17 +72,7 @@ sends_by p (In x again) = corrected.sends_by p x
 -- the figure of the INVITE server; a refused send counts as sent
 abbrev pub invite_server_3261 : Figure InviteServer3261Phase
 invite_server_3261 =
-    record {
-      idle = In Idle false;
-      ended = In Idle false;
-      Receives = Receives;
-      Sends = Sends;
-      Satisfies = Satisfies;
-      Stays = Stays;
-      ends_refused = λ x k. false;
-      window = timer_window;
-      sends_by = sends_by;
-    }
+    record { idle = In Idle false; ended = In Idle false; Receives = Receives; Sends = Sends; Satisfies = Satisfies; Stays = Stays; ends_refused = λ x k. false; window = timer_window; sends_by = sends_by }
 
 -- The phases of the code, whose messages are numbers of a book.
 

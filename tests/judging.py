@@ -1,0 +1,52 @@
+"""What tests/pairs and tests/rows share: the program, what it says of a log, the headings of docs/standard, and the count."""
+import os
+import re
+import subprocess
+import sys
+from pathlib import Path
+
+TOP = Path(__file__).resolve().parent.parent
+PAGES = TOP / "docs/standard"
+# The status of the program by the first words of what it says last.
+STATUSES = {"legal": 0, "end": 0, "transaction": 0, "no transaction": 0, "malformed": 1, "breach": 1, "log": 2, "no entry": 2, "undecided": 3}
+
+
+class Count:
+    """How many checks hold, with a text for each that does not."""
+
+    def __init__(self):
+        self.passed = self.failed = 0
+
+    def check(self, holds, text):
+        if holds:
+            self.passed += 1
+        else:
+            self.failed += 1
+            print(text)
+
+    def end(self):
+        print(f"{self.passed} passed, {self.failed} failed")
+        sys.exit(self.failed > 0 or self.passed == 0)
+
+
+def find_program():
+    """The program that SIPTRACE names, or the one that ./siptrace runs, which its first use builds."""
+    if "SIPTRACE" in os.environ:
+        return os.environ["SIPTRACE"]
+    return TOP / "built" / subprocess.run([TOP / "build"], stdout=subprocess.PIPE, text=True, check=True).stdout.strip()
+
+
+def status_of(said):
+    """The status that belongs to this line of the program."""
+    words = said.split(" ")
+    return STATUSES.get(words[0], STATUSES.get(" ".join(words[:2])))
+
+
+def sections_of(page):
+    """The text below each heading of a page, by the words of the heading before any bracket."""
+    pieces = re.split(r"^#+ (.*)$", page.read_text(), flags=re.M)
+    return {heading.partition(" (")[0]: text for heading, text in zip(pieces[1::2], pieces[2::2])}
+
+
+def sections_of_pages():
+    return {page.name: sections_of(page) for page in sorted(PAGES.glob("*.md"))}

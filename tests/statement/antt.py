@@ -93,6 +93,8 @@ class Reader:
                 item = None
                 self.children.append(words[-1])
             elif words[0] in ("infix", "infixl", "infixr") and len(words) == 3 and words[1].isdigit():
+                if fixity:
+                    self.fault(fixity[0], f"a fixity of {fixity[1]}, which does not follow")
                 item, fixity = None, (at, words[2])
             elif words[:2] == ["module", "_"] and words[-1] == "where" and indent == 0:
                 item, at = None, self.read_block(at, end)

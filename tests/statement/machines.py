@@ -346,8 +346,8 @@ class Rows:
             if fits[:1] == ["true"]:
                 self.add(phase, f"{message} is refused where it could be sent", "ended")
             elif fits[:1] == ["false"]:
-                leads = {row[2] for row in self.rows if row[:2] == (phase, f"{message} is sent")}
-                self.add(phase, f"{message} is refused", *leads)
+                leads = [row[2] for row in self.rows if row[:2] == (phase, f"{message} is sent")] or [f"{phase} without that debt"]
+                self.add(phase, f"{message} is refused", leads[0])
             else:
                 self.fault(f"whether a refused {kind} ends {phase}")
 

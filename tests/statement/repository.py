@@ -14,18 +14,40 @@ IMPLS = ("", "PartialEq", "Eq", "Clone", "Copy", "Debug", "Display", "Hash", "Or
 WORD = re.compile(r"[\w'-]+(?:\.[\w'-]+)*|[^\s\w(){}.,;\"]+")
 
 
+# Texts in place of those of the checkout, by their paths: so it is tried what is said of others.
+INSTEAD = {}
+# The files that were read, by path and text.
+READ = {}
+
+
+def text_of(path):
+    return INSTEAD.get(str(path.relative_to(TOP))) or path.read_text()
+
+
+def file_of(path):
+    """A file as it stands, which is read once."""
+    key = path, text_of(path)
+    if key not in READ:
+        READ[key] = File(*key)
+    return READ[key]
+
+
 class File:
     """A file of specs/, proofs/ or src/: what it imports under which name, and its items. It is read when one asks for them."""
 
-    def __init__(self, path):
+    def __init__(self, path, text):
         self.path = path.relative_to(TOP / "crates")
         self.crate = self.path.parts[0]
         self.is_code = path.suffix == ".rt"
         self.module = ".".join(["Rattle", *self.path.with_suffix("").parts])
-        self.lines = path.read_text().split("\n")
+        self.lines = text.split("\n")
 
     def where(self, at):
         return f"crates/{self.path}:{at + 1}"
+
+    @cached_property
+    def has_impls(self):
+        return any(line.lstrip(" ").startswith(("impl", "unsafe impl")) for line in self.lines)
 
     @cached_property
     def reader(self):
@@ -76,7 +98,7 @@ class File:
 class Repository:
     def __init__(self):
         paths = [*TOP.glob("crates/*/specs/**/*.antt"), *TOP.glob("crates/*/proofs/*.antt"), *TOP.glob("crates/*/proofs/lemmas/**/*.antt"), *TOP.glob("crates/*/src/**/*.rt")]
-        self.files = [File(path) for path in sorted(paths)]
+        self.files = [file_of(path) for path in sorted(paths)]
         self.crates = {file.crate for file in self.files}
         self.modules = {file.module: file for file in self.files if not file.is_code}
         # a Lib.antt hands on modules of lower crates as its own
@@ -207,8 +229,7 @@ class Repository:
         if not item.file.is_code:
             return []
         if item not in self.ghosts:
-            files = [file for file in self.code if re.search(r"^ *(unsafe )?impl\b", "\n".join(file.lines), re.M)]
-            self.ghosts[item] = [own for file in files for impl in file.reader.impls for own in self.ghosts_for(file, impl, item)]
+            self.ghosts[item] = [own for file in self.code if file.has_impls for impl in file.reader.impls for own in self.ghosts_for(file, impl, item)]
         return self.ghosts[item]
 
     def ghosts_for(self, file, impl, item):

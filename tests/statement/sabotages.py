@@ -1,0 +1,183 @@
+"""What tests/trusted-sabotage does to a copy of the checkout: by name the edits, and a text of the line that tests/trusted must say of them."""
+
+MESSAGE, PROFILE, TEXT = "crates/sip_machine/specs/Message.antt", "crates/sip_text/specs/Profile.antt", "crates/sip_text/specs/Text.antt"
+PLAIN_CLIENT, TEXTS, NAMING = (f"crates/sip_machine/specs/{it}.antt" for it in ("PlainClient", "Texts", "Naming"))
+MACHINES, VERDICT_LIB = "docs/standard/MACHINES.md", "crates/sip_verdict/src/lib.rt"
+VERDICT, JUDGING, STAGE = (f"crates/sip_verdict/src/{it}.rt" for it in ("verdict", "judging", "stage"))
+HEAD = "use Rattle.sip_machine.specs.declared.event.Kind.{Kind}\n"
+ABOVE_FINAL = "-- a final response, section 7.2: 2xx to 6xx\n"
+FINAL, END_OF_FINAL = "IsFinal code = (200 ≤ code) × ", "(code ≤ 699)\n\n-- a success"
+PLANTED = "abbrev pub planted : ℕ → Type 0\nplanted code = code ≤ 699\n\n"
+UNREAD = "neither a definition nor a clause"
+
+
+def at(file, *changes):
+    """Changes of one file, each a text that stands there once and what replaces it."""
+    return [(file, old, new) for old, new in changes]
+
+
+def plant(above, mention="planted code", wanted="`planted`"):
+    """A definition in some form above IsFinal, which mentions it: the table has it by name, or the form is told."""
+    return at(MESSAGE, (ABOVE_FINAL, above + ABOVE_FINAL), (FINAL + END_OF_FINAL, FINAL + END_OF_FINAL.replace("(code ≤ 699)", mention))), wanted
+
+
+def planted_elsewhere(mention, uses, wanted, definition=PLANTED):
+    """A definition of Naming.antt, which IsFinal mentions by some path."""
+    edits, _ = plant("", mention)
+    return [*edits[1:], *at(MESSAGE, (HEAD, uses + HEAD)), *at(NAMING, ("\n-- ", f"\n{definition}-- "))], wanted
+
+
+def definition(file, old, new, wanted):
+    return at(f"crates/sip_machine/specs/{file}.antt", (old, new)), wanted
+
+
+def page(old, new, wanted):
+    return at(MACHINES, (old, new)), wanted
+
+
+def law(crate, old, new, wanted):
+    return at(f"crates/{crate}/src/laws.rt", (old, new)), wanted
+
+
+DEFINITIONS = {
+    "a definition in an anonymous module": plant("module _ {X : Type 0} where\n  " + PLANTED.replace("\np", "\n  p")),
+    "a module in an anonymous module": plant("module _ {X : Type 0} where\n  module _ {Y : Type 0} where\n    " + PLANTED.replace("\np", "\n    p"), wanted=UNREAD),
+    "a clause below an empty line": (at(MESSAGE, ("kind_of (status", "\nkind_of (status")), UNREAD),
+    "an indented line below an empty line": (at(MESSAGE, ("method_named name =\n", "method_named name =\n\n")), "Message.antt:12: a line of no definition"),
+    "a name between two strings with a quote inside": (
+        at(PROFILE, ('Lit "\\"" then Many', 'Lit "\\"" then planted then Many'), ("-- domainlabel", "abbrev pub planted : List ℕ → Type 0\nplanted text = text ≡ []\n\n-- domainlabel")),
+        "`planted`",
+    ),
+    "a name behind two hyphens in a string": plant(PLANTED, '(let x : String = "-- a" in planted code)'),
+    "mutual definitions": plant("abbrev mutual\n  pub planted : ℕ → Type 0\n  planted code = code ≤ 699\n\n", wanted="a mark that is not read"),
+    "a record that is opened": plant("open r use {limit as planted}\n\n", wanted=UNREAD),
+    "a definition with a level": plant(PLANTED.replace(" : ℕ", " {ℓ} : {X : Type ℓ} → ℕ")),
+    "a definition with a level and no mark": plant(PLANTED.replace("abbrev pub planted : ℕ", "planted {ℓ} : {X : Type ℓ} → ℕ")),
+    "a signature over two lines": plant(PLANTED.replace(" : ℕ", "\n  : ℕ")),
+    "a name of letters and marks": plant(PLANTED.replace("planted", "planted+more"), "planted+more code", "`planted+more`"),
+    "a name with two hyphens": plant(PLANTED.replace("planted", "planted--more"), "planted--more code", "-- within the name planted--more"),
+    "an operator of another file": planted_elsewhere(
+        "(code upto 699)", "use Rattle.sip_machine.specs.Naming.{◌upto◌}\n", "`◌upto◌`", "infixr 50 ◌upto◌\nabbrev pub ◌upto◌ : ℕ → ℕ → Type 0\n(a upto b) = a ≤ b\n\n"),
+    "the fixity of an operator": (at(TEXT, ("infixr 30 ◌or◌\n", ""), ("-- P Q:", "infixr 60 ◌or◌\n-- P Q:")), "a fixity of ◌or◌, which does not follow"),
+    "a helper below where": plant(PLANTED, "within code\n  where\n    within : ℕ → Type 0\n    within n = planted n"),
+    "a comment in braces": plant("{- a comment\nof two lines -}\n", "(code ≤ 699)", "a comment in braces"),
+    "a comment right behind a bracket": plant("", "(--)\n    code ≤ 699)", "a comment right after ("),
+    "an escaped name": plant(PLANTED, "«planted» code", "a name in «"),
+    "a letter that looks like a space": plant("", "(code\u00a0≤ 699)", "a letter U+00A0"),
+    "a letter that turns a comment round": plant("", "(code ≤ 699) -- a\u202eb", "a letter U+202E"),
+    "a name right behind a dot": plant(PLANTED, "(λ n.planted n) code", "a name right after the dot"),
+    "a set of rules": plant(PLANTED + "pub ruleset R = planted\n\n", wanted=UNREAD),
+    "a path without a use line": planted_elsewhere("Rattle.sip_machine.specs.Naming.planted code", "", "+ Not followed: `Rattle.sip_machine"),
+    "a path from the package on": planted_elsewhere("package.Rattle.sip_machine.specs.Naming.planted code", "", "+ Not followed: `Rattle.sip_machine"),
+    "a use line through another": planted_elsewhere("planted code", "use Rattle.sip_machine.specs.Naming as Q\nuse Q.{planted}\n", "a use line that is not read"),
+    "a path through a module": planted_elsewhere("Naming.planted code", "use Rattle.sip_machine.specs.Naming\n", "`sip_machine/specs/Naming.antt`"),
+    "a path through a folder": planted_elsewhere("Q.Naming.planted code", "use Rattle.sip_machine.specs as Q\n", "`sip_machine/specs/Naming.antt`"),
+    "a use line of a path in braces": planted_elsewhere("planted code", "use Rattle.sip_machine.specs.{Naming.planted}\n", "a use line that is not read"),
+    "a use line without braces": planted_elsewhere("planted code", "use Rattle.sip_machine.specs.Naming.planted\n", "`sip_machine/specs/Naming.antt`"),
+    "all names of a module": planted_elsewhere("planted code", "use Rattle.sip_machine.specs.Naming.*\n", "a use line that is not read"),
+    "a name under that of another": (at(PLAIN_CLIENT, ("{IsProvisional, IsFinal}", "{IsProvisional, IsSuccess as IsFinal}")), "under the name IsFinal, which others have"),
+    "a name handed on under that of another": (
+        at(PLAIN_CLIENT, ("Message.{IsProvisional, IsFinal}", "Message.{IsProvisional}\nuse Rattle.sip_machine.specs.Texts.{IsFinal}"))
+        + at(TEXTS, ("use Rattle.std", "pub use Rattle.sip_machine.specs.Message.{IsSuccess as IsFinal}\nuse Rattle.std")),
+        "Texts.antt:1: Rattle.sip_machine.specs.Message.IsSuccess under the name IsFinal",
+    ),
+}
+
+LAST = "    LogFault { entry: u32, reason: LogReason },\n}\n"
+FAULT, USE_FAULT = "Malformed { entry: u32, fault: Fault }", "use sip_message::Fault;"
+VIEW = " {\n    ghost Value = { Verdict };\n\n    ghost view = { λ v. v };\n}\n"
+TYPE = "/// What is planted.\npub struct Planted {\n    pub first: u8,\n}\n\n"
+TOP_OF_STAGE = "//! "
+TYPES = {
+    "an impl Model on a type": (at(VERDICT, (LAST, LAST + "\nimpl Model for Verdict" + VIEW)), "`impl Model for Verdict`"),
+    "an impl Model under the name From": (
+        at(VERDICT, (USE_FAULT, USE_FAULT + "\nuse std::marker::Model as From;"), (LAST, LAST + "\nimpl From for Verdict" + VIEW)), "`impl From for Verdict`"),
+    "an impl Model on another name of a type": (
+        at(VERDICT, (LAST, LAST + "\npub type Said = Verdict;\n\nimpl Model for Said" + VIEW)), "`impl Model for Verdict`"),
+    "an impl Model in another file": (
+        at(STAGE, (TOP_OF_STAGE, "use crate::verdict::Verdict as Spoken;\n\nimpl std::marker::Model for Spoken" + VIEW + "\n" + TOP_OF_STAGE)), "`impl Model for Verdict`"),
+    "an impl in a module of a file": (
+        at(VERDICT, (LAST, LAST + "\nmod inside {\n    impl Model for Verdict {\n        ghost Value = { Verdict };\n    }\n}\n")),
+        "an impl on Verdict that stands inside something",
+    ),
+    "a type by its path": (
+        at(VERDICT, (FAULT, FAULT.replace(" }", ", planted: crate::stage::Planted }"))) + at(STAGE, (TOP_OF_STAGE, TYPE + TOP_OF_STAGE)), "`Planted`"),
+    "a type in a module of a file": (
+        at(VERDICT, (FAULT, FAULT.replace(" }", ", planted: crate::stage::inside::Planted }"))) + at(STAGE, (TOP_OF_STAGE, "pub mod inside {\n    pub struct Planted(u8);\n}\n\n" + TOP_OF_STAGE)),
+        "+ Not followed: `Rattle.sip_verdict.stage.inside.Planted`",
+    ),
+    "a type through use lines in braces": (
+        at(VERDICT, (USE_FAULT, "use crate::{stage::{Planted}};\n" + USE_FAULT), (FAULT, FAULT.replace(" }", ", planted: Planted }"))) + at(STAGE, (TOP_OF_STAGE, TYPE + TOP_OF_STAGE)),
+        "`Planted`",
+    ),
+    "all types of a module": (at(VERDICT, (USE_FAULT, USE_FAULT + "\nuse crate::stage::*;")), "a use line that is not read"),
+    "a comment of another form": (at(VERDICT, ("//! What is said", "/* a comment */\n//! What is said")), "a comment between /* and */"),
+    "a second judge": (at(STAGE, (TOP_OF_STAGE, "pub fn judge() -> bool\n    ensures { result ≡ true }\n{\n    true\n}\n\n" + TOP_OF_STAGE)), "not one function judge"),
+    "a judge that is not handed on": (at(VERDICT_LIB, ("judging::{judge, judge_bytes}", "judging::{judge_bytes}")), "not one function judge"),
+    "a macro in the contract": (
+        at(JUDGING, ("IsVerdictOf input verdict)) }\n    ensures ok { OnOk result (R.has_failed reader.new ≡ false) }", "is_verdict!(input))) }\n    ensures ok { OnOk result (R.has_failed reader.new ≡ false) }")),
+        "no contract of judge that is read",
+    ),
+}
+
+UNTOLD = "is not told in words: "
+TABLES = {
+    "timer K, in the definition": definition("PlainClient", "(if reliable then 0 else p.t4)", "(if reliable then 0 else 64 * p.t1)", "of the timers in completed"),
+    "timer F, in the page": page("timer F: 64*T1 from", "timer F: T4 from", "of the timers in trying"),
+    "timer E in proceeding, in the definition": definition("PlainClient", "interval = p.t2 })", "interval = p.t1 })", UNTOLD + "Proceeding (record w"),
+    "timer E's close, in the definition": definition(
+        "PlainClient", "sends_by p (Proceeding w) = if w.reliable then [] else close_at p w.set w.interval ∷ []\n", "", "of the timers in proceeding"),
+    "refused sends of the plain client, in the definition": definition("PlainClient", "λ x k. true", "λ x k. false", "PlainClient.antt and the sentence differ"),
+    "refused sends of the plain client, in the page": page("| 8 | idle, trying, proceeding |", "| 8 | idle, trying |", "no row tells what PlainClient.antt has: in proceeding"),
+    "where the plain client ends, in the definition": definition("PlainClient", "ended = Ended;", "ended = Idle;", "the figure has ended = Idle"),
+    "a phase of the plain client, in the page": page("are idle (nothing was sent), trying, proceeding,", "are idle (nothing was sent), trying,", "the phases are told as"),
+    "timer J, in the definition": definition("PlainServer", "if reliable then 0 else 64 * p.t1", "if reliable then 64 * p.t1 else 0", "of the timers in completed"),
+    "refused sends of the plain server, in the page": page(
+        "with the final one. In idle and trying nothing is owed. A send that the transport refused counts as sent.", "with the final one. In idle and trying nothing is owed.", "PlainServer.antt and the sentence differ"),
+    "what the plain server owes, in the definition": definition("PlainServer", "gains true final", "gains false final", "it may be sent again"),
+    "where the plain server ends, in the page": page(
+        "idle. It may come while nothing must be sent.\n- The **last moment** is the earliest of the close of timer J", "ended.\n- The **last moment** is the earliest of the close of timer J", "PlainServer.antt and the sentence differ"),
+    "timer A, in the definition": definition("InviteClient", "interval = 2 * w.interval", "interval = min (2 * w.interval) p.t2", UNTOLD + "Calling (record w"),
+    "the wait after a CANCEL, in the definition": definition("InviteClient", "open_at p first (64 * p.t1)", "open_at p first (64 * p.t2)", UNTOLD + "64 * p.t2"),
+    "timer D, in the page": page("timer D: from 32 s after", "timer D: from 64*T1 after", "of the timers in completed"),
+    "refused sends of the INVITE client, in the definition": definition(
+        "InviteClient", "ends_refused (Completed reliable request set) (Request Ack) = true\n", "", "in completed, an ACK is refused"),
+    "refused sends of the INVITE client, in the page": page("an INVITE, or an ACK but in idle, is refused", "an INVITE is refused", "in completed, an ACK is refused where it could be sent"),
+    "a second CANCEL, in the definition": definition(
+        "InviteClient", "(Proceeding reliable request (Some first), keeps)", "(Proceeding reliable request (Some e.moment), keeps)", UNTOLD + "Proceeding reliable request (Some e.moment)"),
+    "timer A's close, in the page": page("from the first INVITE on | over an unreliable transport the close of timer A |", "from the first INVITE on | |", "of the timers in calling"),
+    "200 ms, in the definition": definition("InviteServer", "close_at p set 200", "close_at p set 2000", UNTOLD + "2000"),
+    "timer I, in the page": page("timer I: T4 from the ACK on; 0 over a reliable transport", "timer I: T4 from the ACK on", "of the timers in confirmed"),
+    "timer G, in the page": page("at most T2 |\n| 11 | all but idle", "without a cap |\n| 11 | all but idle", "timer G is set anew, to twice what it was"),
+    "what the INVITE server owes, in the page": page("| 11 | all but idle |", "| 11 | any |", "row 11 tells what InviteServer.antt does not have"),
+    "a row of no form, in the page": page("| 11 | all but idle |", "|12| idle | a 2xx is sent | accepted |\n| 11 | all but idle |", "a line that is not read"),
+    "a 2xx by RFC 3261 in calling, in the definition": definition(
+        "InviteClient3261", "(y ≡ (Ended, drops)))\n    ⊎ (IsUnsuccessful code × (y ≡ (Completed w.", "(y ≡ (Accepted e.moment, keeps)))\n    ⊎ (IsUnsuccessful code × (y ≡ (Completed w.", "row 2 tells what InviteClient3261.antt does not have"),
+    "a 2xx by RFC 3261 in proceeding, in the page": page("| 4 | proceeding | a 2xx is received | ended |", "| 4 | proceeding | a 2xx is received | accepted |", "row 4 tells what InviteClient3261.antt does not have"),
+    "a 486 by RFC 3261, in the definition": definition(
+        "InviteClient3261", "\n    ⊎ (IsUnsuccessful code × (y ≡ (Completed reliable request e.moment, gains true e.text)))", "", "InviteClient3261.antt has no row for: in proceeding"),
+    "the timers of the client by RFC 3261, in the definition": definition("InviteClient3261", "{ Receives = Receives }", "{ Receives = Receives; sends_by = λ p x. [] }", "has not as its invite_client_3261"),
+    "whose rows the client by RFC 3261 has": definition(
+        "InviteClient3261", "specs.InviteClient as corrected", "specs.InviteServer as corrected", "corrected is Rattle.sip_machine.specs.InviteServer"),
+    "a 2xx of the server by RFC 3261, in the definition": definition("InviteServer3261", "(Passed, drops)", "(Passed, softens)", "does not have what the page tells: Sends of (In (Proceeding"),
+    "a 2xx of the server by RFC 3261, in the page": page("| a 2xx is sent | passed, which owes nothing |", "| a 2xx is sent | accepted |", "no words are known for row 2"),
+    "a row of the server by RFC 3261 less, in the page": page("| 3 | passed | a 2xx is sent | passed |\n", "", "the table has not once row 3"),
+    "who may repeat a 2xx, in the definition": definition(
+        "InviteServer3261", "remembers (Accepted set) =", "remembers (Completed reliable final set repeat interval) =", "has not as its remembers"),
+    "the timers of the server by RFC 3261, in the definition": definition("InviteServer3261", "timer_window p Passed = None", "timer_window p Passed = Some (0, None)", "has not as its timer_window"),
+    "the timers of the server by RFC 3261, in the page": page("has no end and no last moment", "has no last moment", "the page does not say: Passed owes nothing, has no end"),
+    "refused sends of the server by RFC 3261, in the definition": definition("InviteServer3261", "λ x k. false", "λ x k. true", "has not as its invite_server_3261"),
+}
+
+LAWS = {
+    "a law that is private": law("sip_states", "pub fn a_run_by_rules_stands()", "fn a_run_by_rules_stands()", "the law a_run_by_rules_stands is not public"),
+    "a law that its crate keeps": (at(VERDICT_LIB, ("a_legal_log_has_runs, ", "")), "the law a_legal_log_has_runs is not public"),
+    "laws in a module that is private": (at("crates/sip_message/src/lib.rt", ("pub mod laws;", "mod laws;")), "the law bytes_have_one_reading is not public"),
+    "a law that is gone": law(
+        "sip_key", "pub fn keys_are_equal_by_their_parts()", "pub fn keys_are_the_same()", "- | `sip_key/src/laws.rt` | `sip_key::laws::keys_are_equal_by_their_parts` | 1 |"),
+    "a law with a clause less": law(
+        "sip_message", "    ensures message { (bytes : List ℕ) (m n : Message) → Spells bytes m → Spells bytes n → m ≡ n }\n", "", "- | `sip_message/src/laws.rt` | `sip_message::laws::bytes_have_one_reading` | 3 |"),
+    "a law for its crate alone": law("sip_key", "pub fn keys_are_equal_by", "pub(crate) fn keys_are_equal_by", "the law keys_are_equal_by_their_parts is not public"),
+    "a law without a clause": law("sip_log", "    ensures { (input : List ℕ)", "    requires { (input : List ℕ)", "stands among laws and is none"),
+}
+ALL = {**DEFINITIONS, **TYPES, **TABLES, **LAWS}

@@ -1,8 +1,8 @@
 """What the recipes share: the lines that from-* print, the parts of a SIP message, the log of one element, and the program.
 
 A line is a message that someone saw, `MOMENT FROM TO HEX` with single blanks: the moment in seconds with any fraction, ADDRESS:PORT
-twice (an IPv6 address stands without brackets: the last colon counts), and the bytes. `MOMENT ADDRESS:PORT restart` tells that the element
-with this address was started anew.
+twice (an IPv6 address stands without brackets: the last colon counts), and the bytes. A fifth word tells the place in the source, as the number
+of the packet does. `MOMENT ADDRESS:PORT restart` tells that the element with this address was started anew.
 """
 import gzip
 import hashlib
@@ -65,22 +65,23 @@ def opened(name):
         die("cannot read %s: %s" % (name, error.strerror), 4)
 
 
-def print_line(moment, source, target, data):
-    print(moment, source, target, data.hex(), flush=True)
+def print_line(moment, source, target, data, *place):
+    print(moment, source, target, data.hex(), *place, flush=True)
 
 
 def read_lines(file):
-    """The number, moment, ends and bytes of each line. One that tells a restart has the element and RESTART as its ends, and no bytes."""
+    """The number, moment, ends, bytes and place of each line. One that tells a restart has the element and RESTART as its ends, and no bytes.
+    A line without a place has an empty one."""
     for number, line in enumerate(file, 1):
         words = line.split()
         try:
             moment, source, target = Decimal(words[0]), words[1], words[2]
             data = bytes.fromhex(words[3]) if len(words) > 3 else b""
-            if len(words) > (3 if target == RESTART else 4) or not moment.is_finite():
+            if len(words) > (3 if target == RESTART else 5) or not moment.is_finite():
                 raise ValueError
         except (IndexError, ValueError, InvalidOperation):
             die("line %d is not MOMENT FROM TO HEX" % number)
-        yield number, moment, source, target, data
+        yield number, moment, source, target, data, words[4] if len(words) > 4 else ""
 
 
 class Element:

@@ -31,6 +31,9 @@ LATER_START = re.compile(rb"\r\n(?=SIP/2\.0 \d{3} |[^\s]+ [^\s]+ SIP/2\.0\r\n)",
 LENGTH = re.compile(rb"\r\n(?:content-length|l)[ \t]*:[ \t]*(\d+)", re.I)
 QUOTED = re.compile(rb'"(?:[^"\\]|\\.)*"', re.S)
 FOLD = re.compile(rb"\r?\n[ \t]+")
+# A head whose first Via is plain up to its branch: no fold, no quote, and no blank but the one before the host.
+PLAIN_BRANCH = re.compile(rb'[^\n]*\n(?:(?!v(?:ia)?[ \t]*[:\r]|[ \t\r])[^\r\n]*\r\n)*v(?:ia)?: [^\s;,"]+ [^\s;,"]+(?:;(?!branch)[^\s;,"]*)*;branch=([^\s;,"]+)'
+                          rb'(?:[;,]|\r\n(?![ \t]))', re.I)
 
 
 def die(text, status=1):
@@ -201,6 +204,9 @@ def top_via(data):
 
 def spelled_branch(data):
     """The branch of the top Via, empty where there is none."""
+    plain = PLAIN_BRANCH.match(data)
+    if plain:
+        return plain[1]
     for parameter in top_via(data).split(b";")[1:]:
         name, _, value = parameter.partition(b"=")
         if name.strip().lower() == b"branch":

@@ -91,13 +91,15 @@ def lines_as_they_come(file, idle):
         piece = os.read(number, PIECE)
         if not piece:
             break
-        first, *lines = piece.split(b"\n")
-        begun.append(first)
-        if lines:
-            yield b"".join(begun)
-            begun = [lines.pop()]
-            yield from lines
-    if any(begun):
+        begin, end = 0, piece.find(b"\n")
+        while end >= 0:
+            line = piece[begin:end]
+            yield b"".join([*begun, line]) if begun else line
+            begun, begin = [], end + 1
+            end = piece.find(b"\n", begin)
+        if begin < len(piece):
+            begun.append(piece[begin:])
+    if begun:
         yield b"".join(begun)
 
 

@@ -195,7 +195,7 @@ class Datagrams:
 
     def among(self, frames):
         """The datagrams of these frames. The ordinary one is read at once, and all others step by step."""
-        sender, known, flows, number = self.notes.sender, self.notes.known, self.flows, 0
+        sender, known, flows, number, moment = self.notes.sender, self.notes.known, self.flows, 0, None
         try:
             for number, moment, link, frame, is_cut in frames:
                 kind, at = LINKS[link](frame) if link in LINKS else self.other_link(link)
@@ -208,12 +208,14 @@ class Datagrams:
                         if not ends.is_tunnel or self.is_no_tunnel(payload):
                             yield number, moment, ends, payload
                         continue
-                one = self.datagram(kind, frame, at, is_cut)
+                one = self.datagram(number, kind, frame, at, is_cut)
                 if one:
                     yield number, moment, *one
         except Unread as unread:
             unread.read = number - 1 if unread.read is None else unread.read
             raise
+        finally:
+            self.notes.last = moment and moment.decode()
         self.fragments.end()
 
     def other_link(self, link):
@@ -240,7 +242,7 @@ class Datagrams:
             self.needs_tshark("tunnels")
         return is_sip
 
-    def datagram(self, kind, frame, at, is_cut):
+    def datagram(self, number, kind, frame, at, is_cut):
         """The ends and the payload of a frame of any kind. None where it is no datagram, or not yet a whole one."""
         packet = packet_in(kind, frame, at)
         if packet and packet.fragment:
@@ -251,7 +253,7 @@ class Datagrams:
             self.tcp(packet)
         elif packet and packet.protocol in UNREACHABLE and packet.data[:1] == bytes([UNREACHABLE[packet.protocol]]):
             self.notes.refused += 1
-            self.refusal(packet)
+            self.refusal(number, packet)
         elif kind in CARRIERS or packet and packet.protocol in TUNNELS:
             self.needs_tshark(CARRIERS.get(kind, "tunnels"))
         return None
@@ -283,9 +285,10 @@ class Datagrams:
         if stream not in self.secret:
             self.needs_tshark("TCP")
 
-    def refusal(self, packet):
-        """Finds the ends and the length of the datagram that an ICMP packet says was refused."""
+    def refusal(self, number, packet):
+        """Finds which datagram a packet of ICMP says was refused."""
         refused = packet_in(IPV4 if packet.protocol == ICMP else IPV6, packet.data, 8)
         if refused and refused.protocol == UDP and len(refused.data) >= UDP_HEADER.size:
             ports, length = UDP_HEADER.unpack_from(refused.data)
-            self.notes.refusal(ends_of(refused.source, refused.target, ports), length - UDP_HEADER.size)
+            ends = ends_of(refused.source, refused.target, ports)
+            self.notes.refusal(number, ends.source, ends.target, length - UDP_HEADER.size)

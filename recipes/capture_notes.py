@@ -1,10 +1,12 @@
 """What a user has to know of a capture before he believes a breach: what is missing in it, and who sent beside it."""
+import json
 from collections import Counter
 
-from sip_lines import looks_like_sip, say
+from sip_lines import die, looks_like_sip, say
 
 BESIDE = {64, 128, 255}  # the TTLs with which systems send; a hop makes them less
 MOST_KEPT = 1 << 16  # senders whose TTLs are kept
+MOST_REFUSALS = 1 << 16  # that are kept one by one
 
 TLS_RECORDS = (b"\x14\x03", b"\x15\x03", b"\x16\x03", b"\x17\x03")  # how a record of TLS begins
 
@@ -19,6 +21,7 @@ WRONG_LENGTH = "UDP packets have a length that does not fit, and are left out"
 class Notes:
     def __init__(self):
         self.missing, self.refused, self.ttls, self.known = Counter(), 0, {}, set()
+        self.refusals, self.last = [], None
 
     def sender(self, address, ttl, data):
         """Hears with which TTL a payload came from an address."""
@@ -26,8 +29,10 @@ class Notes:
             self.known.add((address, ttl))
             self.ttls.setdefault(address, set()).add(ttl)
 
-    def refusal(self, ends, length):
-        """Hears of a datagram between these ends, with so many bytes, that was refused. Here they are counted alone."""
+    def refusal(self, number, source, target, length):
+        """Hears from packet `number` that a datagram between these ends, with so many bytes, was refused."""
+        if len(self.refusals) < MOST_REFUSALS:
+            self.refusals.append((number, source, target, length))
 
     def beside(self):
         """The addresses whose messages came over no hop, and the number of the others."""
@@ -47,3 +52,14 @@ class Notes:
             if count:
                 say("%d %s" % (count, what))
         return not any(self.missing.values())
+
+    def write(self, name):
+        """Writes all this as JSON."""
+        beside, far = self.beside()
+        told = {"last": self.last, "beside": beside, "far": sorted(set(self.ttls) - set(beside)), "refused": self.refused, "refusals": self.refusals,
+                "missing": {what: count for what, count in self.missing.items() if count}}
+        try:
+            with open(name, "w") as file:
+                json.dump(told, file)
+        except OSError as error:
+            die("cannot write %s: %s" % (name, error.strerror), 4)

@@ -1,16 +1,18 @@
 """What the recipes share: the lines that from-* print, the parts of a SIP message, the log of one element, and the program.
 
 A line is a message that someone saw, `MOMENT FROM TO HEX` with single blanks: the moment in seconds with any fraction, ADDRESS:PORT
-twice (an IPv6 address stands without brackets: the last colon counts), and the bytes. `MOMENT ADDRESS:PORT restart` tells that the element
-with this address was started anew.
+twice (an IPv6 address stands without brackets: the last colon counts), and the bytes. A fifth word tells the place in the source, as the number
+of the packet does. `MOMENT ADDRESS:PORT restart` tells that the element with this address was started anew.
 """
 import gzip
 import hashlib
 import os
 import re
+import select
 import shutil
 import subprocess
 import sys
+from binascii import hexlify, unhexlify
 from decimal import Decimal, InvalidOperation
 from typing import NamedTuple
 
@@ -21,12 +23,17 @@ COOKIE = b"z9hg4bk"
 LETTERS = ("S", "R", "F", "M", "Z")
 SILENT = ("M", "Z")  # entries without a message
 RESTART = "restart"
+MOST_KNOWN = 1 << 16  # pairs of ends that are kept
+PIECE = 1 << 16  # bytes that are read or written at once
 
 START_LINE = re.compile(rb"\A(?:SIP/\d[^\r\n]*|[^\s]+ [^\r\n]*SIP/\d+\.\d+[ \t]*)[\r\n]", re.I)
 LATER_START = re.compile(rb"\r\n(?=SIP/2\.0 \d{3} |[^\s]+ [^\s]+ SIP/2\.0\r\n)", re.I)
 LENGTH = re.compile(rb"\r\n(?:content-length|l)[ \t]*:[ \t]*(\d+)", re.I)
 QUOTED = re.compile(rb'"(?:[^"\\]|\\.)*"', re.S)
 FOLD = re.compile(rb"\r?\n[ \t]+")
+# A head whose first Via is plain up to its branch: no fold, no quote, and no blank but the one before the host.
+PLAIN_BRANCH = re.compile(rb'[^\n]*\n(?:(?!v(?:ia)?[ \t]*[:\r]|[ \t\r])[^\r\n]*\r\n)*v(?:ia)?: [^\s;,"]+ [^\s;,"]+(?:;(?!branch)[^\s;,"]*)*;branch=([^\s;,"]+)'
+                          rb'(?:[;,]|\r\n(?![ \t]))', re.I)
 
 
 def die(text, status=1):
@@ -65,22 +72,67 @@ def opened(name):
         die("cannot read %s: %s" % (name, error.strerror), 4)
 
 
-def print_line(moment, source, target, data):
-    print(moment, source, target, data.hex(), flush=True)
+def output():
+    """The standard output for bytes. Who writes there flushes where no more input waits, and at the end."""
+    return open(sys.stdout.fileno(), "wb", buffering=PIECE, closefd=False)
 
 
-def read_lines(file):
-    """The number, moment, ends and bytes of each line. One that tells a restart has the element and RESTART as its ends, and no bytes."""
-    for number, line in enumerate(file, 1):
-        words = line.split()
+def waits(number):
+    """Whether reading from the file with this descriptor would wait."""
+    return not select.select([number], [], [], 0)[0]
+
+
+def lines_as_they_come(file, idle):
+    """The lines of a file as bytes. Calls `idle` each time before more has to be waited for."""
+    number, begun = file.fileno(), []
+    while True:
+        if waits(number):
+            idle()
+        piece = os.read(number, PIECE)
+        if not piece:
+            break
+        begin, end = 0, piece.find(b"\n")
+        while end >= 0:
+            line = piece[begin:end]
+            yield b"".join([*begun, line]) if begun else line
+            begun, begin = [], end + 1
+            end = piece.find(b"\n", begin)
+        if begin < len(piece):
+            begun.append(piece[begin:])
+    if begun:
+        yield b"".join(begun)
+
+
+def write_line(out, moment, source, target, data, place):
+    out.write(b"%s %s %s %s %d\n" % (moment.encode(), source.encode(), target.encode(), hexlify(data), place))
+
+
+def print_line(moment, source, target, data, *place):
+    print(moment, source, target, data.hex(), *place, flush=True)
+
+
+def read_lines(file, idle=lambda: None):
+    """The number, moment, ends, bytes and place of each line. One that tells a restart has the element and RESTART as its ends, and no bytes.
+    A line without a place has an empty one. Calls `idle` each time before more has to be waited for."""
+    for number, line in enumerate(lines_as_they_come(file, idle), 1):
         try:
-            moment, source, target = Decimal(words[0]), words[1], words[2]
-            data = bytes.fromhex(words[3]) if len(words) > 3 else b""
-            if len(words) > (3 if target == RESTART else 4) or not moment.is_finite():
+            moment, source, target, *rest = line.split(None, 3)
+            moment, source, target = Decimal(moment.decode()), source.decode(), target.decode()
+            data, place = message_and_place(rest[0]) if rest else (b"", "")
+            if rest and target == RESTART or not moment.is_finite():
                 raise ValueError
-        except (IndexError, ValueError, InvalidOperation):
+        except (ValueError, InvalidOperation):
             die("line %d is not MOMENT FROM TO HEX" % number)
-        yield number, moment, source, target, data
+        yield number, moment, source, target, data, place
+
+
+def message_and_place(words):
+    """The bytes and the place that a line has after its ends."""
+    hexadecimal, _, after = words.partition(b" ")
+    place = after.strip().decode()
+    if " " in place:
+        raise ValueError
+    return unhexlify(hexadecimal.strip()), place
 
 
 class Element:
@@ -88,17 +140,25 @@ class Element:
 
     def __init__(self, names):
         self.names = {name.replace("[", "").replace("]", "") for name in names}
+        self.known = {}
 
     def has(self, end):
         return end in self.names or end.rpartition(":")[0] in self.names
 
     def letters(self, source, target):
         """S for a message that it sent, R for one that it received, both for one to itself."""
-        return "S" * self.has(source) + "R" * self.has(target)
+        letters = self.known.get((source, target))
+        if letters is None:
+            if len(self.known) == MOST_KNOWN:
+                self.known.clear()
+            letters = self.known[source, target] = "S" * self.has(source) + "R" * self.has(target)
+        return letters
 
 
 def looks_like_sip(data):
     """Whether the first line is that of a SIP message of any version, well formed or not."""
+    if data.startswith(b"SIP/2.0 "):
+        return b"\n" in data or b"\r" in data
     return START_LINE.match(data) is not None
 
 
@@ -146,6 +206,9 @@ def top_via(data):
 
 def spelled_branch(data):
     """The branch of the top Via, empty where there is none."""
+    plain = PLAIN_BRANCH.match(data)
+    if plain:
+        return plain[1]
     for parameter in top_via(data).split(b";")[1:]:
         name, _, value = parameter.partition(b"=")
         if name.strip().lower() == b"branch":

@@ -1,0 +1,90 @@
+#!/usr/bin/env python3
+"""Makes captures of calls over UDP, and prints what a message takes from the capture to the verdict: processor time, and memory at its greatest.
+
+  bench/captures.py                           captures of 10,000, 100,000 and 1,000,000 messages, the last of 750 MB
+  bench/captures.py 10000 50000               of so many messages
+  READERS='from-capture from-tshark' bench/captures.py 10000          by these readers, side by side
+  RECIPES=OTHER/recipes READERS=from-tshark bench/captures.py         by the recipes of another checkout
+
+SIPTRACE names another program than the one of ./siptrace. Files are written to a folder of TMPDIR, and removed.
+"""
+import os
+import struct
+import subprocess
+import sys
+import tempfile
+from pathlib import Path
+
+sys.dont_write_bytecode = True
+import judge
+
+TOP = Path(__file__).resolve().parent.parent
+RECIPES = Path(os.environ.get("RECIPES", TOP / "recipes"))
+ELEMENT, OTHER = b"\xc0\x00\x02\x01", b"\xc6\x33\x64\x02"  # 192.0.2.1 and 198.51.100.2
+ETHERNET = b"\x02\0\0\0\0\x01\x02\0\0\0\0\x02\x08\0"
+BEGIN = 1_700_000_000_000
+MOST_ENTRIES = 1_000_000
+
+
+def write_capture(path, count):
+    """Writes a pcap of so many messages: Ethernet, IPv4, UDP, from port 5060 to 5060."""
+    with open(path, "wb", buffering=1 << 20) as out:
+        out.write(struct.pack("<IHHiIII", 0xA1B2C3D4, 2, 4, 0, 0, 262144, 1))
+        for number, (letter, moment, text) in enumerate(judge.calls(count)):
+            data = text.encode()
+            source, target = (ELEMENT, OTHER) if letter == "S" else (OTHER, ELEMENT)
+            ip = struct.pack(">BBHHHBBH", 0x45, 0, 28 + len(data), number & 0xFFFF, 0x4000, 64, 17, 0) + source + target
+            frame = ETHERNET + ip + struct.pack(">HHHH", 5060, 5060, 8 + len(data), 0) + data
+            seconds, milliseconds = divmod(BEGIN + moment, 1000)
+            out.write(struct.pack("<IIII", seconds, 1000 * milliseconds, len(frame), len(frame)) + frame)
+
+
+def piped(commands):
+    """Runs a pipeline. Answers what its last command said, and the processor time in seconds and the memory in MB of each; what a command's own
+    children take is in it."""
+    started, given = [], subprocess.DEVNULL
+    for command in commands:
+        one = subprocess.Popen(["/usr/bin/env", "python3", "-c", MEASURED, *map(str, command)], stdin=given, stdout=subprocess.PIPE, stderr=subprocess.PIPE)
+        if given is not subprocess.DEVNULL:
+            given.close()
+        given = one.stdout
+        started.append(one)
+    said = started[-1].communicate()
+    errors = [one.stderr.read() for one in started[:-1]] + [said[1]]
+    numbers = [tuple(map(float, error.split()[-2:])) for error in errors]
+    return said[0].decode().strip(), numbers
+
+
+# Runs a command, and writes at the end what it took.
+MEASURED = """
+import resource, subprocess, sys
+ran = subprocess.run(sys.argv[1:])
+used = resource.getrusage(resource.RUSAGE_CHILDREN)
+print(used.ru_utime + used.ru_stime, used.ru_maxrss / 1024, file=sys.stderr)
+sys.exit(ran.returncode)
+"""
+
+
+def measure(path, count, reader, program):
+    said, numbers = piped([[RECIPES / reader, path], [RECIPES / "to-log", "192.0.2.1:5060"], [program]])
+    if said != "legal entries %d transactions %d" % (count, count // 5 * 2):
+        sys.exit("%s: %s" % (reader, said))
+    times = [1e6 * time / count for time, _ in numbers]
+    print("%9d  %-13s %7.1f %7.1f %7.1f %7.1f   %6.0f %6.0f %6.0f" % (count, reader, *times, sum(times), *(memory for _, memory in numbers)), flush=True)
+
+
+def main():
+    counts = [int(word) // 5 * 5 for word in sys.argv[1:]] or [10_000, 100_000, 1_000_000]
+    program = os.environ.get("SIPTRACE") or TOP / "siptrace"
+    subprocess.run([program], input=(TOP / "crates/siptrace/stdin").read_bytes(), stdout=subprocess.DEVNULL)
+    print("%9s  %-13s %31s   %20s" % ("", "", "microseconds a message by", "MB of"))
+    print("%9s  %-13s %7s %7s %7s %7s   %6s %6s %6s" % ("messages", "reader", "reader", "to-log", "verdict", "all", "reader", "to-log", "verdict"))
+    with tempfile.TemporaryDirectory() as folder:
+        for count in counts:
+            path = os.path.join(folder, "calls.pcap")
+            write_capture(path, count)
+            for reader in os.environ.get("READERS", "from-capture").split():
+                measure(path, count, reader, program)
+
+
+main()

@@ -1,0 +1,221 @@
+"""The frames of a capture in the formats pcap and pcapng, packed by gzip or not, as they come.
+
+A frame is (number, moment, link, bytes, is_cut): its number as Wireshark counts, its moment in seconds with nine digits after the point, the type of
+its link (https://www.tcpdump.org/linktypes.html), what was captured of it, and whether that is less than was sent. No more than one piece of the
+file and one frame is kept. Every length is checked, and what is damaged or cut ends the frames with `Damaged`.
+"""
+import gzip
+import io
+import select
+import struct
+import zlib
+
+from sip_lines import die
+
+PIECE = 1 << 20
+MOST_FRAME = 1 << 18  # the longest that tcpdump and Wireshark write
+MOST_BLOCK = 1 << 24
+MOST_INTERFACES = 1 << 16
+MICROSECOND, NANOSECOND = 10**6, 10**9
+PCAP = {b"\xd4\xc3\xb2\xa1": ("<", MICROSECOND), b"\xa1\xb2\xc3\xd4": (">", MICROSECOND),
+        b"\x4d\x3c\xb2\xa1": ("<", NANOSECOND), b"\xa1\xb2\x3c\x4d": (">", NANOSECOND)}
+PCAPNG = b"\x0a\x0d\x0d\x0a"
+LINK = 0x3FFFFFF  # the bits above it tell of frame check sequences
+SECTION, INTERFACE, OLD_PACKET, SIMPLE_PACKET, PACKET = 0x0A0D0D0A, 1, 2, 3, 6
+BYTE_ORDER = {b"\x4d\x3c\x2b\x1a": "<", b"\x1a\x2b\x3c\x4d": ">"}
+TIME_RESOLUTION, TIME_OFFSET = 9, 14  # options of an interface
+
+
+class Damaged(Exception):
+    """The capture is cut or damaged from here on. The text says how."""
+
+
+class Unread(Exception):
+    """What comes after `read` frames is nothing that is read here. The text says what it is."""
+
+    def __init__(self, what, read=None):
+        super().__init__(what)
+        self.read = read
+
+
+class Window:
+    """What was read of a capture and not yet taken: the bytes of `data` from `at` on. `idle` is called each time before more must be waited for."""
+
+    def __init__(self, name, stdin, idle):
+        self.data, self.at, self.name, self.idle = b"", 0, name, idle
+        try:
+            self.file = stdin if name == "-" else open(name, "rb")
+            self.number = self.file.fileno()
+            if self.file.peek(2)[:2] == b"\x1f\x8b":
+                self.file = io.BufferedReader(gzip.GzipFile(fileobj=self.file), PIECE)
+        except OSError as error:
+            die("cannot read %s: %s" % (name, error.strerror), 4)
+
+    def piece(self):
+        """The next bytes of the file; none at its end."""
+        if not select.select([self.number], [], [], 0)[0]:
+            self.idle()
+        try:
+            return self.file.read1(PIECE)
+        except (EOFError, zlib.error, gzip.BadGzipFile):
+            raise Damaged("the packed file is cut or damaged")
+        except OSError as error:
+            die("cannot read %s: %s" % (self.name, error.strerror), 4)
+
+    def has(self, length):
+        """Whether so many bytes are there. Reads on where they are not yet."""
+        while len(self.data) - self.at < length:
+            piece = self.piece()
+            if not piece:
+                return False
+            self.data, self.at = self.data[self.at:] + piece, 0
+        return True
+
+    def rest(self):
+        """All that was not taken, piece by piece."""
+        yield self.data[self.at:]
+        self.data, self.at = b"", 0
+        while piece := self.piece():
+            yield piece
+
+
+class Pcap:
+    """A capture of the format pcap."""
+
+    def __init__(self, window):
+        self.window = window
+        self.order, self.units = PCAP[window.data[:4]]
+        if not window.has(24):
+            raise Damaged("it ends within its header")
+        self.preamble = window.data[:24]  # what a copy of the rest needs before it
+        self.link = struct.unpack(self.order + "I", window.data[20:24])[0] & LINK
+        self.header = struct.Struct(self.order + "IIII")
+        window.at = 24
+
+    def frames(self):
+        window, read, number, units = self.window, self.header.unpack_from, 0, self.units
+        moment_of, text = moments(units), b"%d.%06d000" if units == MICROSECOND else b"%d.%09d"
+        while window.has(16 + self.length_of_next(number)):
+            data, at = window.data, window.at
+            while at + 16 <= len(data):
+                seconds, fraction, kept, length = read(data, at)
+                begin, end = at + 16, at + 16 + kept
+                if end > len(data) or kept > MOST_FRAME:
+                    break
+                number, window.at = number + 1, at
+                yield number, text % (seconds, fraction) if fraction < units else moment_of(seconds, fraction), self.link, data[begin:end], kept < length
+                at = end
+            window.at = at
+        if window.has(1):
+            raise Damaged("it ends within packet %d" % (number + 1))
+
+    def length_of_next(self, number):
+        """How much of the next frame was captured; 0 where its header is not there."""
+        if not self.window.has(16):
+            return 0
+        kept = self.header.unpack_from(self.window.data, self.window.at)[2]
+        if kept > MOST_FRAME:
+            raise Damaged("packet %d would have %d bytes" % (number + 1, kept))
+        return kept
+
+
+def moments(units, offset=0):
+    """What makes a moment of seconds and a fraction in such units."""
+
+    def moment_of(seconds, fraction):
+        more, rest = divmod(fraction, units)
+        return b"%d.%09d" % (seconds + more + offset, rest * NANOSECOND // units)
+
+    return moment_of
+
+
+class Interface:
+    """What a block of a pcapng says of an interface."""
+
+    def __init__(self, order, block):
+        self.link, = struct.unpack_from(order + "H", block, 8)
+        self.units, offset, at = MICROSECOND, 0, 16
+        while at + 4 <= len(block) - 4:
+            code, length = struct.unpack_from(order + "HH", block, at)
+            value = block[at + 4:min(at + 4 + length, len(block) - 4)]
+            if code == TIME_RESOLUTION and len(value) == 1:
+                self.units = 2 ** (value[0] & 0x7F) if value[0] & 0x80 else 10 ** value[0]
+            elif code == TIME_OFFSET and len(value) == 8:
+                offset, = struct.unpack(order + "q", value)
+            at += 4 + length + -length % 4
+        self.moment_of = moments(self.units, offset)
+
+
+class Pcapng:
+    """A capture of the format pcapng."""
+
+    def __init__(self, window):
+        self.window, self.order = window, "<"
+        self.preamble, self.interfaces = b"", []
+
+    def block(self, number):
+        """The type and the length of the next block, all of which is there then. No type at the end."""
+        window = self.window
+        if not window.has(12):
+            if window.has(1):
+                raise Damaged("it ends after packet %d within a block" % number)
+            return None, 0
+        if window.data[window.at:window.at + 4] == PCAPNG:
+            self.order = BYTE_ORDER.get(window.data[window.at + 8:window.at + 12])
+            if not self.order:
+                raise Damaged("after packet %d a section has no byte order" % number)
+        kind, length = struct.unpack_from(self.order + "II", window.data, window.at)
+        if not 12 <= length <= MOST_BLOCK or length % 4:
+            raise Damaged("after packet %d a block would have %d bytes" % (number, length))
+        if not window.has(length):
+            raise Damaged("it ends after packet %d within a block" % number)
+        return kind, length
+
+    def frames(self):
+        window, number = self.window, 0
+        while True:
+            kind, length = self.block(number)
+            if kind is None:
+                return
+            begin = window.at
+            if kind == PACKET:
+                number += 1
+                yield self.packet(number, length)
+            elif kind in (OLD_PACKET, SIMPLE_PACKET):
+                raise Unread("packets in blocks of an old kind", number)
+            elif kind in (SECTION, INTERFACE):
+                self.describe(kind, window.data[begin:begin + length])
+            window.at += length
+
+    def describe(self, kind, block):
+        """Takes a block that tells of a section or of an interface."""
+        if kind == SECTION:
+            self.preamble, self.interfaces = b"", []
+        elif len(block) < 20 or len(self.interfaces) == MOST_INTERFACES:
+            raise Damaged("the description of an interface cannot be read")
+        else:
+            self.interfaces.append(Interface(self.order, block))
+        self.preamble += block
+
+    def packet(self, number, length):
+        data, at = self.window.data, self.window.at
+        if length < 32:
+            raise Damaged("packet %d has a block of %d bytes" % (number, length))
+        index, high, low, kept, sent = struct.unpack_from(self.order + "IIIII", data, at + 8)
+        if index >= len(self.interfaces) or kept > length - 32:
+            raise Damaged("packet %d names an interface or a length that is not there" % number)
+        interface = self.interfaces[index]
+        seconds, fraction = divmod(high << 32 | low, interface.units)
+        return number, interface.moment_of(seconds, fraction), interface.link, data[at + 28:at + 28 + kept], kept < sent
+
+
+def format_of(window):
+    """The capture that is read through this window, by its format."""
+    if not window.has(4):
+        raise Damaged("it ends within its header")
+    begin = window.data[:4]
+    if begin in PCAP:
+        return Pcap(window)
+    if begin == PCAPNG:
+        return Pcapng(window)
+    raise Unread("a file of another format", 0)

@@ -1,0 +1,294 @@
+"""The UDP datagrams among a capture's frames: Ethernet with VLANs, Linux cooked, raw IP and loopback; IPv4 and IPv6; fragments put together.
+
+A datagram is (number, moment, ends, payload), with the number and the moment of the frame that made it whole. What tshark has to read (TCP with data,
+tunnels, other links) ends the reading with `Unread`, or is counted and left out where there is no tshark. `notes` hears of what is missing.
+"""
+import socket
+import struct
+from typing import NamedTuple, Optional
+
+from capture_file import Unread
+from capture_notes import CUT, LACKS_FRAGMENTS, TLS, TLS_RECORDS, WRONG_LENGTH
+from sip_lines import looks_like_sip
+
+IPV4, IPV6 = 0x0800, 0x86DD
+VLANS = (0x8100, 0x88A8, 0x9100)
+CARRIERS = {0x8864: "PPPoE", 0x8847: "MPLS", 0x8848: "MPLS"}  # kinds of Ethernet that have IP inside
+FAMILIES = {2: IPV4, 10: IPV6, 24: IPV6, 28: IPV6, 30: IPV6}  # of a loopback device, by system
+ICMP, TCP, UDP, ICMPV6 = 1, 6, 17, 58
+TUNNELS = {4: "tunnels", 41: "tunnels", 47: "tunnels"}  # IPv4 and IPv6 in IP, GRE
+TUNNEL_PORTS = (1701, 2152, 3544, 4789, 6081, 8472, 37008)  # L2TP, GTP, Teredo, VXLAN, Geneve, VXLAN, TZSP
+HOP_BY_HOP, ROUTING, FRAGMENT, AUTHENTICATION, DESTINATION = 0, 43, 44, 51, 60
+EXTENSIONS = (HOP_BY_HOP, ROUTING, FRAGMENT, AUTHENTICATION, DESTINATION)
+UNREACHABLE = {ICMP: 3, ICMPV6: 1}
+PLAIN = struct.Struct(">BxHxxHBBxx12sH")  # IPv4 without options; of UDP the ports, with the addresses, and the length
+IPV4_HEADER = struct.Struct(">BxHHHBBxx4s4s")
+IPV6_HEADER = struct.Struct(">IHBB16s16s")
+UDP_HEADER = struct.Struct(">4sHxx")
+MOST_FLOWS, MOST_WAITING, MOST_DATAGRAM = 1 << 16, 1 << 10, 65_535
+
+
+class Ends(NamedTuple):
+    """Where a datagram came from and went to."""
+    address: str
+    source: str
+    target: str
+    words: bytes  # both, as in a line
+    is_tunnel: bool
+
+
+def ends_of(source, target, ports):
+    family = socket.AF_INET if len(source) == 4 else socket.AF_INET6
+    numbers = struct.unpack(">HH", ports)
+    address = socket.inet_ntop(family, source)
+    names = "%s:%d" % (address, numbers[0]), "%s:%d" % (socket.inet_ntop(family, target), numbers[1])
+    return Ends(address, *names, " ".join(names).encode(), any(number in TUNNEL_PORTS for number in numbers))
+
+
+class Packet(NamedTuple):
+    """A packet of IP."""
+    source: bytes
+    target: bytes
+    ttl: int
+    protocol: int
+    data: bytes
+    fragment: Optional[tuple] = None  # identification, offset, and whether more follow
+
+
+# What a frame carries, by the type of its link: the kind, as Ethernet counts, and where it begins.
+
+def carried(frame, kind_at, at):
+    kind = int.from_bytes(frame[kind_at:kind_at + 2], "big")
+    while kind in VLANS:
+        kind, at = int.from_bytes(frame[at + 2:at + 4], "big"), at + 4
+    return kind, at
+
+
+def on_ethernet(frame):
+    return (IPV4, 14) if frame[12:14] == b"\x08\x00" else carried(frame, 12, 14)
+
+
+def on_cooked(frame):
+    return carried(frame, 14, 16)
+
+
+def on_cooked_2(frame):
+    return carried(frame, 0, 20)
+
+
+def on_loopback(frame):
+    """The family stands in the order of the machine that captured, or in the network's."""
+    return FAMILIES.get(min(int.from_bytes(frame[:4], order) for order in ("little", "big")), 0), 4
+
+
+def on_raw(frame):
+    return (IPV6 if frame[:1] >= b"\x60" else IPV4), 0
+
+
+LINKS = {0: on_loopback, 1: on_ethernet, 12: on_raw, 14: on_raw, 101: on_raw, 108: on_loopback, 113: on_cooked, 228: on_raw, 229: on_raw, 276: on_cooked_2}
+
+
+# Packets of IP.
+
+def ipv4(data, at):
+    """The packet that begins there. None where it is none."""
+    if len(data) < at + IPV4_HEADER.size:
+        return None
+    first, total, identification, flags, ttl, protocol, source, target = IPV4_HEADER.unpack_from(data, at)
+    length = 4 * (first & 15)
+    if first >> 4 != 4 or length < IPV4_HEADER.size:
+        return None
+    end = at + total if total else len(data)  # 0 where the network card is to cut it
+    offset, more = 8 * (flags & 0x1FFF), bool(flags & 0x2000)
+    return Packet(source, target, ttl, protocol, data[at + length:end], (identification, offset, more) if offset or more else None)
+
+
+def ipv6(data, at):
+    """The packet that begins there. None where it is none."""
+    if len(data) < at + IPV6_HEADER.size:
+        return None
+    first, length, protocol, ttl, source, target = IPV6_HEADER.unpack_from(data, at)
+    if first >> 28 != 6:
+        return None
+    begin = at + IPV6_HEADER.size
+    end = begin + length if length else len(data)  # 0 where the network card is to cut it
+    return behind_extensions(Packet(source, target, ttl, protocol, data[begin:end]))
+
+
+def behind_extensions(packet):
+    """The packet of IPv6 without its extension headers, up to one that tells of a fragment."""
+    protocol, data, at, fragment = packet.protocol, packet.data, 0, None
+    while protocol in EXTENSIONS and not fragment:
+        if len(data) < at + 8:
+            return None
+        length = 4 * (data[at + 1] + 2) if protocol == AUTHENTICATION else 8 if protocol == FRAGMENT else 8 * (data[at + 1] + 1)
+        if protocol == FRAGMENT:
+            place, identification = struct.unpack_from(">HI", data, at + 2)
+            fragment = (identification, place & 0xFFF8, bool(place & 1)) if place & 0xFFF9 else None
+        protocol, at = data[at], at + length
+    return packet._replace(protocol=protocol, data=data[at:], fragment=fragment)
+
+
+def packet_in(kind, data, at):
+    return ipv4(data, at) if kind == IPV4 else ipv6(data, at) if kind == IPV6 else None
+
+
+class Pieces:
+    """The fragments of one datagram that came so far."""
+
+    def __init__(self):
+        self.at, self.length, self.total, self.is_begun = {}, 0, None, False
+
+    def add(self, offset, more, data):
+        """Takes a fragment. Answers the datagram where it is whole now."""
+        self.is_begun |= not offset
+        if offset not in self.at:
+            self.at[offset] = data
+            self.length += len(data)
+        if not more:
+            self.total = offset + len(data)
+        if self.total is None or self.length < self.total:
+            return None
+        pieces = sorted(self.at.items())
+        whole = b"".join(data for _, data in pieces)
+        if all(whole.startswith(data, offset) for offset, data in pieces) and len(whole) == self.total:
+            return whole
+        self.at, self.length, self.total = {}, 0, None  # they overlap: no piece is joined twice
+        return None
+
+
+class Fragments:
+    """The datagrams that came in fragments and are not whole yet."""
+
+    def __init__(self, notes):
+        self.notes, self.waiting = notes, {}
+
+    def take(self, packet):
+        """Takes a packet that is a fragment. Answers the whole packet with its last one."""
+        identification, offset, more = packet.fragment
+        key = packet.source, packet.target, packet.protocol, identification
+        if key not in self.waiting and len(self.waiting) == MOST_WAITING:
+            self.forget(next(iter(self.waiting)))
+        if offset + len(packet.data) > MOST_DATAGRAM:
+            return None
+        whole = self.waiting.setdefault(key, Pieces()).add(offset, more, packet.data)
+        if whole is None:
+            return None
+        del self.waiting[key]
+        packet = packet._replace(data=whole, fragment=None)
+        return packet if len(packet.source) == 4 else behind_extensions(packet)
+
+    def forget(self, key):
+        self.notes.missing[LACKS_FRAGMENTS] += self.waiting.pop(key).is_begun
+
+    def end(self):
+        for key in list(self.waiting):
+            self.forget(key)
+
+
+class Datagrams:
+    """The UDP datagrams of frames. Where `has_tshark`, what tshark has to read ends them."""
+
+    def __init__(self, notes, has_tshark):
+        self.notes, self.has_tshark = notes, has_tshark
+        self.fragments, self.flows, self.secret = Fragments(notes), {}, set()
+
+    def among(self, frames):
+        """The datagrams of these frames. The ordinary one is read at once, and all others step by step."""
+        sender, known, flows, number, moment = self.notes.sender, self.notes.known, self.flows, 0, None
+        try:
+            for number, moment, link, frame, is_cut in frames:
+                kind, at = LINKS[link](frame) if link in LINKS else self.other_link(link)
+                if kind == IPV4 and len(frame) >= at + PLAIN.size and not is_cut:
+                    first, total, fragment, ttl, protocol, key, length = PLAIN.unpack_from(frame, at)
+                    if first == 0x45 and protocol == UDP and not fragment & 0x3FFF and 8 < length <= total - 20 and at + total <= len(frame):
+                        ends, payload = flows.get(key) or self.flow(key, key[:4], key[4:8], key[8:]), frame[at + 28:at + 20 + length]
+                        if (ends.address, ttl) not in known:
+                            sender(ends.address, ttl, payload)
+                        if not ends.is_tunnel or self.is_no_tunnel(payload):
+                            yield number, moment, ends, payload
+                        continue
+                one = self.datagram(number, kind, frame, at, is_cut)
+                if one:
+                    yield number, moment, *one
+        except Unread as unread:
+            unread.read = number - 1 if unread.read is None else unread.read
+            raise
+        finally:
+            self.notes.last = moment and moment.decode()
+        self.fragments.end()
+
+    def other_link(self, link):
+        self.needs_tshark("links of type %d" % link)
+        return 0, 0
+
+    def flow(self, key, source, target, ports):
+        """The ends of a flow, kept for the next datagram."""
+        if len(self.flows) >= MOST_FLOWS:
+            self.flows.clear()
+        ends = self.flows[key] = ends_of(source, target, ports)
+        return ends
+
+    def needs_tshark(self, what):
+        """Hears of something that tshark has to read."""
+        if self.has_tshark:
+            raise Unread(what)
+        self.notes.missing["packets of %s are left out: they are read by tshark (Debian's package of that name), which is not there" % what] += 1
+
+    def is_no_tunnel(self, payload):
+        """Whether a payload on a port of tunnels is SIP all the same."""
+        is_sip = looks_like_sip(payload)
+        if not is_sip:
+            self.needs_tshark("tunnels")
+        return is_sip
+
+    def datagram(self, number, kind, frame, at, is_cut):
+        """The ends and the payload of a frame of any kind. None where it is no datagram, or not yet a whole one."""
+        packet = packet_in(kind, frame, at)
+        if packet and packet.fragment:
+            packet = self.fragments.take(packet)
+        if packet and packet.protocol == UDP:
+            return self.udp(packet, is_cut)
+        if packet and packet.protocol == TCP:
+            self.tcp(packet)
+        elif packet and packet.protocol in UNREACHABLE and packet.data[:1] == bytes([UNREACHABLE[packet.protocol]]):
+            self.notes.refused += 1
+            self.refusal(number, packet)
+        elif kind in CARRIERS or packet and packet.protocol in TUNNELS:
+            self.needs_tshark(CARRIERS.get(kind, "tunnels"))
+        return None
+
+    def udp(self, packet, is_cut):
+        if len(packet.data) < UDP_HEADER.size:
+            return None
+        ports, length = UDP_HEADER.unpack_from(packet.data)
+        payload = packet.data[8:length] if length else packet.data[8:]
+        if is_cut or length > len(packet.data):
+            self.notes.missing[CUT if is_cut else WRONG_LENGTH] += looks_like_sip(payload)
+            return None
+        ends = self.flow(packet.source + packet.target + ports, packet.source, packet.target, ports)
+        if not payload or ends.is_tunnel and not self.is_no_tunnel(payload):
+            return None
+        self.notes.sender(ends.address, packet.ttl, payload)
+        return ends, payload
+
+    def tcp(self, packet):
+        """Looks at a segment of TCP. What has data is tshark's, unless it is of TLS, whose messages nobody can read without the keys."""
+        header = packet.data[:20]
+        data = packet.data[4 * (header[12] >> 4):] if len(header) == 20 else b""
+        if not data:
+            return
+        stream = frozenset(((packet.source, header[:2]), (packet.target, header[2:4])))
+        if stream not in self.secret and data[:2] in TLS_RECORDS and len(self.secret) < MOST_FLOWS:
+            self.secret.add(stream)
+            self.notes.missing[TLS] += 1
+        if stream not in self.secret:
+            self.needs_tshark("TCP")
+
+    def refusal(self, number, packet):
+        """Finds which datagram a packet of ICMP says was refused."""
+        refused = packet_in(IPV4 if packet.protocol == ICMP else IPV6, packet.data, 8)
+        if refused and refused.protocol == UDP and len(refused.data) >= UDP_HEADER.size:
+            ports, length = UDP_HEADER.unpack_from(refused.data)
+            ends = ends_of(refused.source, refused.target, ports)
+            self.notes.refusal(number, ends.source, ends.target, length - UDP_HEADER.size)

@@ -43,6 +43,8 @@ def message(method, branch, code):
 @functools.cache
 def named_messages():
     """The messages of the file by their sets and names. Each line of theirs ends in CRLF."""
+    if not MESSAGES.exists():
+        raise ValueError(f"{MESSAGES} is not there")
     pieces = re.split(r"^== (\S+): (\S+)\n", MESSAGES.read_text(), flags=re.M)[1:]
     sets = zip(pieces[::3], pieces[1::3])
     return dict(zip(sets, (text.replace("\n", "\r\n").encode() for text in pieces[2::3])))

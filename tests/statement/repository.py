@@ -179,7 +179,7 @@ class Repository:
             head, _, rest = word.partition(".")
             known = head in file.items or head in file.imports or head in file.modules
             if head in ("Rattle", "package") or rest and not known and head not in bound and head != "Prim":
-                yield f"Rattle.{file.crate}.{word.removeprefix('package.').removeprefix('Rattle.')}"
+                yield word if head == "Rattle" else f"Rattle.{file.crate}.specs.{word}"
             if "λ" in word and len(word) > 1:
                 self.fault(file, 0, f"a name in {word}, which a binder is written beside")
         for found in re.finditer(r"λ [^\s.]+(?: [^\s.]+)*\.(?=\S)", text):

@@ -214,7 +214,9 @@ class Repository:
                     todo.append((it.file, it.text()))
                     todo += [(own.file, own.text()) for own in self.seen_by(it) if own not in items]
                     items += [own for own in self.seen_by(it) if own not in items]
-        files = dict.fromkeys([file, *(it.file for it in items), *sorted(self.passed, key=lambda it: it.path)])
+        reached = [file, *(it.file for it in items), *sorted(self.passed, key=lambda it: it.path)]
+        roots = {f"{it.crate}/src/lib.rt" for it in reached}
+        files = dict.fromkeys([*reached, *(it for it in self.code if str(it.path) in roots)])
         names = set().union(*(it.names for it in files))
         for file in files:
             for at, what in file.reader.faults:

@@ -112,6 +112,8 @@ TYPES = {
     ),
     "all types of a module": (at(VERDICT, (USE_FAULT, USE_FAULT + "\nuse crate::stage::*;")), "a use line that is not read"),
     "a comment of another form": (at(VERDICT, ("//! What is said", "/* a comment */\n//! What is said")), "a comment between /* and */"),
+    "a module from another file": (at(VERDICT_LIB, ("mod verdict;", '#[path = "stage.rt"]\nmod verdict;')), "path is not followed"),
+    "a type for some builds alone": (at(VERDICT, ("pub enum Verdict {", "#[cfg(any())]\npub enum Verdict {")), "cfg is not followed"),
     "a second judge": (at(STAGE, (TOP_OF_STAGE, "pub fn judge() -> bool\n    ensures { result ≡ true }\n{\n    true\n}\n\n" + TOP_OF_STAGE)), "not one function judge"),
     "a judge that is not handed on": (at(VERDICT_LIB, ("judging::{judge, judge_bytes}", "judging::{judge_bytes}")), "not one function judge"),
     "a macro in the contract": (

@@ -157,6 +157,10 @@ TABLES = {
     "a 2xx by RFC 3261 in calling, in the definition": definition(
         "InviteClient3261", "(y ≡ (Ended, drops)))\n    ⊎ (IsUnsuccessful code × (y ≡ (Completed w.", "(y ≡ (Accepted e.moment, keeps)))\n    ⊎ (IsUnsuccessful code × (y ≡ (Completed w.", "row 2 tells what InviteClient3261.antt does not have"),
     "a 2xx by RFC 3261 in proceeding, in the page": page("| 4 | proceeding | a 2xx is received | ended |", "| 4 | proceeding | a 2xx is received | accepted |", "row 4 tells what InviteClient3261.antt does not have"),
+    "the debts at a 2xx by RFC 3261, in the definition": definition(
+        "InviteClient3261", "(IsSuccess code × (y ≡ (Ended, drops)))\n    ⊎ (IsUnsuccessful code × (y ≡ (Completed reliable", "(IsSuccess code × (y ≡ (Ended, keeps)))\n    ⊎ (IsUnsuccessful code × (y ≡ (Completed reliable", "where nothing is owed, Ended keeps debts, and not drops"),
+    "the debts at a first response, in the definition": definition(
+        "PlainServer", "Sends p (Trying reliable) (Response code) e y =\n    (IsProvisional code × (y ≡ (Proceeding reliable e.text, keeps)))", "Sends p (Trying reliable) (Response code) e y =\n    (IsProvisional code × (y ≡ (Proceeding reliable e.text, softens)))", "softens debts, and not keeps"),
     "a 486 by RFC 3261, in the definition": definition(
         "InviteClient3261", "\n    ⊎ (IsUnsuccessful code × (y ≡ (Completed reliable request e.moment, gains true e.text)))", "", "InviteClient3261.antt has no row for: in proceeding"),
     "the timers of the client by RFC 3261, in the definition": definition("InviteClient3261", "{ Receives = Receives }", "{ Receives = Receives; sends_by = λ p x. [] }", "has not as its invite_client_3261"),

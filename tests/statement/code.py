@@ -52,6 +52,9 @@ class Reader:
 
     def read_line(self, at):
         bare = self.bare[at]
+        # what takes its text from elsewhere, or stands here for some builds alone
+        if found := re.search(r"#!?\[\s*(path|cfg|cfg_attr)\b|\b(include)!", bare):
+            self.fault(at, f"{found[1] or found[2]} is not followed")
         if re.match(r" *(pub(\([\w ]+\))? )?(ghost )?(pub )?use\b", bare):
             self.read_use(at)
         elif found := TYPE.match(bare):

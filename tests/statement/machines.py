@@ -193,6 +193,7 @@ class Rows:
         self.owing = self.phases_that_owe(turns)
         for done, some in turns.items():
             for phase, kind, condition, target, change in some:
+                self.idle_change(phase, done, condition, target, change)
                 self.add(phase, self.happens(done, kind, condition), self.leads(phase, target, change))
         self.paid = {phase: kind for phase, kind in self.paying()}
         self.refusals({(phase, kind) for phase, kind, *_ in turns["sent"]} | set(self.paid.items()))
@@ -296,6 +297,14 @@ class Rows:
         if condition:
             self.fault(f"a condition that is not told in words: {condition}")
         return f"{self.told(RECEIVED if done == 'received' else SENT, kind, 'a kind')} is {done}"
+
+    def idle_change(self, phase, done, condition, target, change):
+        """Where nothing is owed the page tells no change of debts, and only one stands there: a final response that is sent softens them, the end of a
+        client drops them, and else they are kept."""
+        is_final = done == "sent" and condition in ("IsFinal code", "IsSuccess code", "IsUnsuccessful code")
+        wanted = "drops" if target == "Ended" and phase != "ended" else "softens" if is_final else "keeps"
+        if phase not in self.owing and not change.startswith("gains") and change != wanted:
+            self.fault(f"in {phase}, where nothing is owed, {target} {change} debts, and not {wanted}")
 
     def leads(self, phase, target, change):
         if target == "Replies":
@@ -511,6 +520,8 @@ def differing_3261_client(file, base, told_base, sections):
     if file.modules.get("corrected") != base.file.module:
         yield f"{CLIENT_3261}: corrected is {file.modules.get('corrected')}"
     other = Other(base, file)
+    for phase, _, condition, target, change in other.turns("Receives"):
+        other.idle_change(phase, "received", condition, target, change)
     own = {(phase, other.happens("received", kind, condition), other.leads(phase, target, change)) for phase, kind, condition, target, change in other.turns("Receives")}
     places = {(phase, kind) for phase, kind, *_ in other.turns("Receives")}
     under = {(phase, base.happens("received", kind, condition), base.leads(phase, target, change)) for phase, kind, condition, target, change in base.turns("Receives") if (phase, kind) in places}

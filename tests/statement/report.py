@@ -108,6 +108,17 @@ def untold(items):
                 yield f"{name} of {where}: {' and '.join(f'docs/standard/{it}' for it in pages)} name it in {times} of {len(files)} sections"
 
 
+def unknown_files():
+    """The files that the headings of the pages name and no crate of theirs has."""
+    for crates, pages in PARTS.values():
+        for page in pages:
+            headings = re.findall(r"^#+ .*", text_of(STANDARD / page), re.M)
+            names = {name for it in headings for name in re.findall(r"`(\w+)`", it) if not name.startswith("sip_")}
+            for name in sorted(names):
+                if not any(TOP.glob(f"crates/sip_*/specs/{name}.antt")):
+                    yield f"docs/standard/{page}: a heading names {name}, and there is no file {name}.antt"
+
+
 def table(files):
     rows = ["| File of `crates/` | What it defines that `judge` rests on | Lines |", "|---|---|---|"]
     for path, items in files:
@@ -156,7 +167,8 @@ def main(arguments):
     print(f"of std: {' '.join(sorted(others - {*lost}))}")
     machines = {Path(module).suffix[1:]: file for module, file in repository.modules.items() if file and module.startswith("Rattle.sip_machine.specs.")}
     missing, other = list(untold(items)), list(differing(text_of(STANDARD / "MACHINES.md"), machines))
-    for it in [*missing, *other, *hidden, *changes, *of_laws]:
+    strangers = sorted(set(unknown_files()))
+    for it in [*missing, *other, *strangers, *hidden, *changes, *of_laws]:
         print(it)
     print(f"{said}; {len(own_laws)} public laws")
     told = {
@@ -164,6 +176,7 @@ def main(arguments):
         "definitions that docs/standard does not name": missing,
         "other rows in docs/standard": other,
         "laws that are not public": hidden,
+        "files that docs/standard names and no crate has": strangers,
     }
     if any(told.values()):
         sys.exit("; ".join(f"{what}: {len(some)}" for what, some in told.items() if some))

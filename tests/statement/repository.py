@@ -179,7 +179,7 @@ class Repository:
             head, _, rest = word.partition(".")
             known = head in file.items or head in file.imports or head in file.modules
             if head in ("Rattle", "package") or rest and not known and head not in bound and head != "Prim":
-                yield f"Rattle.{file.crate}.{word.removeprefix('package.').removeprefix('Rattle.')}"
+                yield word if head == "Rattle" else f"Rattle.{file.crate}.specs.{word}"
             if "λ" in word and len(word) > 1:
                 self.fault(file, 0, f"a name in {word}, which a binder is written beside")
         for found in re.finditer(r"λ [^\s.]+(?: [^\s.]+)*\.(?=\S)", text):
@@ -214,7 +214,9 @@ class Repository:
                     todo.append((it.file, it.text()))
                     todo += [(own.file, own.text()) for own in self.seen_by(it) if own not in items]
                     items += [own for own in self.seen_by(it) if own not in items]
-        files = dict.fromkeys([file, *(it.file for it in items), *sorted(self.passed, key=lambda it: it.path)])
+        reached = [file, *(it.file for it in items), *sorted(self.passed, key=lambda it: it.path)]
+        roots = {f"{it.crate}/src/lib.rt" for it in reached}
+        files = dict.fromkeys([*reached, *(it for it in self.code if str(it.path) in roots)])
         names = set().union(*(it.names for it in files))
         for file in files:
             for at, what in file.reader.faults:

@@ -112,6 +112,8 @@ TYPES = {
     ),
     "all types of a module": (at(VERDICT, (USE_FAULT, USE_FAULT + "\nuse crate::stage::*;")), "a use line that is not read"),
     "a comment of another form": (at(VERDICT, ("//! What is said", "/* a comment */\n//! What is said")), "a comment between /* and */"),
+    "a module from another file": (at(VERDICT_LIB, ("mod verdict;", '#[path = "stage.rt"]\nmod verdict;')), "path is not followed"),
+    "a type for some builds alone": (at(VERDICT, ("pub enum Verdict {", "#[cfg(any())]\npub enum Verdict {")), "cfg is not followed"),
     "a second judge": (at(STAGE, (TOP_OF_STAGE, "pub fn judge() -> bool\n    ensures { result ≡ true }\n{\n    true\n}\n\n" + TOP_OF_STAGE)), "not one function judge"),
     "a judge that is not handed on": (at(VERDICT_LIB, ("judging::{judge, judge_bytes}", "judging::{judge_bytes}")), "not one function judge"),
     "a macro in the contract": (
@@ -150,10 +152,15 @@ TABLES = {
     "timer I, in the page": page("timer I: T4 from the ACK on; 0 over a reliable transport", "timer I: T4 from the ACK on", "of the timers in confirmed"),
     "timer G, in the page": page("at most T2 |\n| 11 | all but idle", "without a cap |\n| 11 | all but idle", "timer G is set anew, to twice what it was"),
     "what the INVITE server owes, in the page": page("| 11 | all but idle |", "| 11 | any |", "row 11 tells what InviteServer.antt does not have"),
+    "a file that is not there, in a page": (at("docs/standard/VERDICT.md", ("`Verdicts`, `Reading`", "`Verdicts`, `EntryReading`")), "there is no file EntryReading.antt"),
     "a row of no form, in the page": page("| 11 | all but idle |", "|12| idle | a 2xx is sent | accepted |\n| 11 | all but idle |", "a line that is not read"),
     "a 2xx by RFC 3261 in calling, in the definition": definition(
         "InviteClient3261", "(y ≡ (Ended, drops)))\n    ⊎ (IsUnsuccessful code × (y ≡ (Completed w.", "(y ≡ (Accepted e.moment, keeps)))\n    ⊎ (IsUnsuccessful code × (y ≡ (Completed w.", "row 2 tells what InviteClient3261.antt does not have"),
     "a 2xx by RFC 3261 in proceeding, in the page": page("| 4 | proceeding | a 2xx is received | ended |", "| 4 | proceeding | a 2xx is received | accepted |", "row 4 tells what InviteClient3261.antt does not have"),
+    "the debts at a 2xx by RFC 3261, in the definition": definition(
+        "InviteClient3261", "(IsSuccess code × (y ≡ (Ended, drops)))\n    ⊎ (IsUnsuccessful code × (y ≡ (Completed reliable", "(IsSuccess code × (y ≡ (Ended, keeps)))\n    ⊎ (IsUnsuccessful code × (y ≡ (Completed reliable", "where nothing is owed, Ended keeps debts, and not drops"),
+    "the debts at a first response, in the definition": definition(
+        "PlainServer", "Sends p (Trying reliable) (Response code) e y =\n    (IsProvisional code × (y ≡ (Proceeding reliable e.text, keeps)))", "Sends p (Trying reliable) (Response code) e y =\n    (IsProvisional code × (y ≡ (Proceeding reliable e.text, softens)))", "softens debts, and not keeps"),
     "a 486 by RFC 3261, in the definition": definition(
         "InviteClient3261", "\n    ⊎ (IsUnsuccessful code × (y ≡ (Completed reliable request e.moment, gains true e.text)))", "", "InviteClient3261.antt has no row for: in proceeding"),
     "the timers of the client by RFC 3261, in the definition": definition("InviteClient3261", "{ Receives = Receives }", "{ Receives = Receives; sends_by = λ p x. [] }", "has not as its invite_client_3261"),

@@ -1,0 +1,125 @@
+"""A ladder as SVG: the messages of a call between those that took part, and beside them the windows that the evidence tells of one element."""
+import math
+from typing import NamedTuple, Optional
+
+from report_page import shown, tag
+
+LEFT, WINDOW, TOP, LANE, ROW = 84, 17, 46, 250, 34
+MOST_WINDOWS, MOST_LANES = 6, 5
+LETTERS = "abcdef"
+CHARACTER = 6.6  # the width of one, about
+
+
+class Arrow(NamedTuple):
+    """A message between two lanes."""
+    moment: int  # of the element's log, in milliseconds
+    source: str
+    target: str
+    text: str
+    link: str  # where its text stands on the page
+    kind: str  # own, other or bad
+    is_refused: bool = False
+
+
+class Window(NamedTuple):
+    """When something was allowed or due."""
+    text: str
+    first: int
+    last: Optional[int]
+    is_due: bool
+
+
+class Axis:
+    """Heights: each arrow has a row of its own, gaps are drawn by their logarithm, and edges of windows stand between."""
+
+    def __init__(self, arrows, edges):
+        self.at, self.rows, y, before = {}, [0.0] * len(arrows), float(TOP), None
+        floor = 0.0
+        for moment in sorted({one.moment for one in arrows} | set(edges)):
+            if before is not None:
+                y += min(90, 14 + 8 * math.log2(1 + max(0, moment - before) / 4))
+            own = [n for n, one in enumerate(arrows) if one.moment == moment]
+            for place, n in enumerate(own):
+                y = max(y, floor)
+                self.rows[n], floor = y, y + ROW
+                if not place:
+                    self.at[moment] = y
+            self.at.setdefault(moment, y)
+            before = moment
+        self.bottom = y + 30
+
+
+class Ladder:
+    """The picture of one trouble. `missed` is a moment by which something was missing, and what; `name` begins the ids on the page."""
+
+    def __init__(self, name, lanes, element, arrows, windows, missed, about):
+        self.name, self.lanes, self.element, self.arrows = name, lanes[:MOST_LANES], element, sorted(arrows, key=lambda one: one.moment)
+        self.windows, self.missed, self.about, self.out = windows[:MOST_WINDOWS], missed, about, []
+        edges = [moment for one in self.windows for moment in (one.first, one.last) if moment is not None]
+        self.axis = Axis(self.arrows, edges + ([missed[0]] if missed else []))
+        begin = LEFT + WINDOW * len(self.windows) + 16
+        self.x = {lane: begin + LANE * n for n, lane in enumerate(self.lanes)}
+        self.width = begin + LANE * (len(self.lanes) - 1) + 150
+
+    def draw(self, name, content="", **attributes):
+        self.out.append(tag(name, content, **{key: "%.1f" % value if isinstance(value, float) else value for key, value in attributes.items()}))
+
+    def text(self, x, y, content, most=0, **attributes):
+        self.draw("text", shown(content, most), x=x, y=y, **attributes)
+
+    def arrow(self, one, y):
+        if one.source not in self.x or one.target not in self.x:
+            return
+        start, end = self.x[one.source], self.x[one.target]
+        side = 9 if start < end else -9
+        if one.is_refused:
+            end = (start + end) / 2
+            self.text(end + 6, y + 14, "refused", class_="badtext")
+        head = "%sline" % one.kind if one.kind == "bad" else one.kind
+        self.draw("line", x1=start, x2=end - side, y1=y, y2=y, class_=head)
+        self.draw("polygon", points="%.1f,%.1f %.1f,%.1f %.1f,%.1f" % (end, y, end - side, y - 4.5, end - side, y + 4.5), class_=one.kind + "head")
+        room = int((abs(end - start) - 16) / CHARACTER)
+        label = tag("text", shown(one.text, max(12, room)), x="%.1f" % (min(start, end) + 8), y="%.1f" % (y - 5),
+                    class_={"bad": "badtext", "other": "soft"}.get(one.kind, "plain"))
+        self.out.append(tag("a", label, href="#" + one.link) if one.link else label)
+        self.text(4, y + 4, "%d" % one.moment, class_="soft")
+
+    def window(self, n, one):
+        x, top = LEFT + WINDOW * n, self.axis.at[one.first]
+        bottom = self.axis.at[one.last] if one.last is not None else self.axis.bottom - 4
+        self.draw("rect", tag("title", shown(one.text)), x=x, y=top, width=WINDOW - 6, height=max(4.0, bottom - top), rx=2, class_="must" if one.is_due else "may")
+        self.text(x + 1.5, top - 4, LETTERS[n], font_weight="700")
+        if one.last is None:
+            self.out.append(tag("text", "&#8595;", x=x + 1, y="%.1f" % (self.axis.bottom + 6), class_="soft"))
+        shown_moments = {each.moment for each in self.arrows}
+        for moment in (one.first, one.last):
+            if moment is not None and moment not in shown_moments:
+                self.text(4, self.axis.at[moment] + 4, "%d" % moment, class_="soft")
+                self.draw("line", x1=44, x2=x, y1=self.axis.at[moment], y2=self.axis.at[moment], class_="dots")
+
+    def cross(self):
+        """Where something that was due is missing."""
+        moment, text = self.missed
+        x, y = self.x[self.element], self.axis.at[moment]
+        for one, other in ((-6, 6), (6, -6)):
+            self.draw("line", x1=x + one, x2=x + other, y1=y - 6, y2=y + 6, class_="cross")
+        is_last = self.lanes[-1] == self.element and len(self.lanes) > 1
+        for n, words in enumerate(("by %d never came:" % moment, text)):
+            self.text(x - 12 if is_last else x + 12, y + 4 + 15 * n, words, 46, class_="badtext", text_anchor="end" if is_last else "start")
+
+    def svg(self):
+        for lane, x in self.x.items():
+            self.text(x, 14, lane, 34, text_anchor="middle" if len(self.lanes) > 1 and x > self.x[self.lanes[0]] else "start", font_weight="700")
+            if lane == self.element:
+                self.text(x, 27, "the element", class_="soft", text_anchor="middle" if x > self.x[self.lanes[0]] else "start")
+            self.draw("line", x1=x, x2=x, y1=32, y2=self.axis.bottom, class_="life")
+        self.text(4, 14, "ms", class_="soft")
+        for n, one in enumerate(self.windows):
+            self.window(n, one)
+        for one, y in zip(self.arrows, self.axis.rows):
+            self.arrow(one, y)
+        if self.missed:
+            self.cross()
+        title = tag("title", "Ladder", id=self.name + "-title") + tag("desc", shown(self.about), id=self.name + "-about")
+        return tag("svg", title + "".join(self.out), viewBox="0 0 %.0f %.0f" % (self.width, self.axis.bottom + 12), width="%.0f" % self.width, role="group",
+                   aria_labelledby="%s-title %s-about" % (self.name, self.name))

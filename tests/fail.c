@@ -1,5 +1,6 @@
 /* Loaded before the C library, it has siptrace read and write in pieces, and fails one read or one write of standard output: that whose
-   number, from 1 on, is in the environment as FAILED_READ or FAILED_WRITE. Other programs read and write as ever. */
+   number, from 1 on, is in the environment as FAILED_READ or FAILED_WRITE. With INTERRUPTED each of them is interrupted so many times before
+   it is done, and with REFUSED_RANDOM the system has no random bytes. Other programs read and write as ever. */
 #define _GNU_SOURCE
 #include <errno.h>
 #include <stdlib.h>
@@ -9,11 +10,21 @@
 
 enum { PIECE = 4096 };
 
-static int is_siptrace(void) { return strcmp(program_invocation_short_name, "siptrace") == 0; }
+/* The script ./siptrace gives the program that name; on its own it is called siptrace-SOURCES-KIT. */
+static int is_siptrace(void) { return strncmp(program_invocation_short_name, "siptrace", strlen("siptrace")) == 0; }
 
 static int is_failed(const char *name, long call) {
   const char *failed = getenv(name);
   return failed && call == atol(failed);
+}
+
+static int is_interrupted(void) {
+  static long so_far;
+  const char *times = getenv("INTERRUPTED");
+  if (!times) return 0;
+  so_far = so_far < atol(times) ? so_far + 1 : 0;
+  errno = EINTR;
+  return so_far != 0;
 }
 
 static size_t piece(size_t size) { return size < PIECE ? size : PIECE; }
@@ -26,11 +37,18 @@ static ssize_t fail(void) {
 ssize_t read(int file, void *bytes, size_t size) {
   static long call;
   if (!is_siptrace()) return syscall(SYS_read, file, bytes, size);
+  if (is_interrupted()) return -1;
   return is_failed("FAILED_READ", ++call) ? fail() : syscall(SYS_read, file, bytes, piece(size));
 }
 
 ssize_t write(int file, const void *bytes, size_t size) {
   static long call;
   if (!is_siptrace() || file != STDOUT_FILENO) return syscall(SYS_write, file, bytes, size);
+  if (is_interrupted()) return -1;
   return is_failed("FAILED_WRITE", ++call) ? fail() : syscall(SYS_write, file, bytes, piece(size));
+}
+
+int getentropy(void *bytes, size_t size) {
+  if (is_siptrace() && getenv("REFUSED_RANDOM")) return (int)fail();
+  return syscall(SYS_getrandom, bytes, size, 0) == (long)size ? 0 : -1;
 }

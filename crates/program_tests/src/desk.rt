@@ -2,7 +2,8 @@
 ghost use Rattle.std.specs.Prelude.{None, Some, if◌then◌else◌, bytes_eq, map, string_bytes};
 
 use crate::seeds::Same;
-use sip_program::{Platform, Seeded};
+use sip_program::Platform;
+use std::hash::RandomState;
 use std::io;
 
 /// A platform that gives these words and has one file.
@@ -18,7 +19,7 @@ impl<'a> Platform for Desk<'a> {
 
     ghost file = { λ desk path. if bytes_eq path desk.path.now then Some desk.bytes.now else None };
 
-    type Seed = Seeded;
+    type Seed = RandomState;
 
     type File = &'a [u8];
 
@@ -27,8 +28,8 @@ impl<'a> Platform for Desk<'a> {
         Ok(self.words.clone()?)
     }
 
-    fn seed(&self) -> io::Result<Seeded> {
-        Seeded::new(&Same(1))
+    fn seed(&self) -> io::Result<RandomState> {
+        RandomState::new(&Same(1))
     }
 
     fn open(&self, path: &str) -> io::Result<&'a [u8]> {

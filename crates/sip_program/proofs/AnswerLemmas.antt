@@ -1,8 +1,8 @@
 -- What stays an answer where the writer keeps its bytes.
 use Rattle.std.proofs.Common.{◌≡◌, ◌∙◌, ℕ, List, Option, None, Some, IfSome, subst}
 use Rattle.std.specs.Io.KnownBytes.{Appends, Keeps}
-use Rattle.sip_program.specs.declared.asked.Asked.{Asked}
-use Rattle.sip_program.specs.declared.asked.Asked.TheVariants.{Input, Check, Show, States}
+use Rattle.sip_program.specs.declared.words.Asked.{Asked}
+use Rattle.sip_program.specs.declared.words.Asked.TheVariants.{Input, Check, Show, States}
 use Rattle.sip_program.specs.Answers.{IsJudged, IsShown, IsListed, IsAnswer, IsAnswerTo}
 
 -- what was appended is appended still

@@ -10,8 +10,8 @@ use Rattle.sip_verdict.specs.VerdictOf.{IsVerdictOf}
 use Rattle.sip_verdict.specs.ListingOf.{IsListingOf}
 use Rattle.sip_verdict.specs.Showing.{IsShownOf}
 use Rattle.sip_verdict.specs.Rendering.{rendered}
-use Rattle.sip_program.specs.declared.asked.Asked.{Asked}
-use Rattle.sip_program.specs.declared.asked.Asked.TheVariants.{Input, Check, Show, States}
+use Rattle.sip_program.specs.declared.words.Asked.{Asked}
+use Rattle.sip_program.specs.declared.words.Asked.TheVariants.{Input, Check, Show, States}
 use Rattle.sip_program.specs.Asked.{IsAskedBy}
 use Rattle.sip_program.specs.Status.{status_of, status_of_shown, status_of_listing}
 

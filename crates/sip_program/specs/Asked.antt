@@ -1,6 +1,6 @@
 use Rattle.std.specs.Prelude.{◌≡◌, ◌≢◌, ◌≤◌, ℕ, List, [], ◌∷◌, Option, None, Some, codes, decimal, ⊤}
-use Rattle.sip_program.specs.declared.asked.Asked.{Asked}
-use Rattle.sip_program.specs.declared.asked.Asked.TheVariants.{Input, Check, Show, States}
+use Rattle.sip_program.specs.declared.words.Asked.{Asked}
+use Rattle.sip_program.specs.declared.words.Asked.TheVariants.{Input, Check, Show, States}
 
 -- entries are numbered from 1, and a log has at most 1,000,000
 abbrev pub IsEntryNumber : ℕ → Type 0

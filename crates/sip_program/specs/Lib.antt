@@ -3,6 +3,5 @@ pub mod Asked
 pub mod Ending
 pub mod Failures
 pub mod Reading
-pub mod Seeded
 pub mod Sent
 pub mod Status

@@ -2,22 +2,23 @@
 #![tactic(auto)]
 
 mod answering;
-mod asked;
+mod asking;
 mod ending;
 mod failure;
 mod host;
 mod output;
 mod platform;
 mod running;
-mod seeded;
 mod status;
 mod system;
+mod words;
 
+pub use asking::asked;
 pub use ending::end;
 pub use failure::{Failure, read_failure};
 pub use host::Host;
 pub use output::Output;
 pub use platform::Platform;
 pub use running::{program, run};
-pub use seeded::{Seeded, SeededHasher};
 pub use system::System;
+pub use words::Asked;

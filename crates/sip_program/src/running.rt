@@ -8,11 +8,12 @@ ghost use Rattle.sip_program.specs.Sent.{sent};
 ghost use Rattle.sip_program.specs.declared.failure.Failure.TheVariants.{Read, Usage, Write};
 
 use crate::answering::{check, list_states, show_log};
-use crate::asked::{Asked, asked_by};
+use crate::asking::asked;
 use crate::ending::end;
 use crate::failure::{Failure, read_failure};
 use crate::output::Output;
 use crate::system::System;
+use crate::words::Asked;
 use sip_log::{Sink, Source};
 use std::alloc::Global;
 use std::io::Write;
@@ -65,7 +66,7 @@ pub fn run<S: System, W: Write + Drop>(
     ensures write { IsErrOf result Write → ⟦<Output<W> as Sink>⟧.has_failed output.new ≡ true }
 {
     let words = system.words().map_err(read_failure)?;
-    let Some(asked) = asked_by(words.as_slice()) else {
+    let Some(asked) = asked(words.as_slice()) else {
         return Err(Failure::Usage);
     };
     let status = answer(alloc, system, asked, output)?;

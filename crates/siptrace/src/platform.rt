@@ -3,8 +3,9 @@
 
 ghost use Rattle.std.specs.Prelude.{None};
 
-use sip_program::{Platform, Seeded};
+use sip_program::Platform;
 use std::fs::File;
+use std::hash::RandomState;
 use std::{env, io};
 
 /// The platform as std gives it.
@@ -25,7 +26,7 @@ impl Platform for StdPlatform {
 
     ghost file = { λ _ _. None };
 
-    type Seed = Seeded;
+    type Seed = RandomState;
 
     type File = File;
 
@@ -34,9 +35,9 @@ impl Platform for StdPlatform {
         Ok(env::args(&self.rt)?.collect(self.rt.alloc())?)
     }
 
-    // `Seeded::new` over the system's random bytes.
-    fn seed(&self) -> io::Result<Seeded> {
-        Seeded::new(&self.rt)
+    // `RandomState::new`: keys of the system's random bytes; an error where it gives none.
+    fn seed(&self) -> io::Result<RandomState> {
+        RandomState::new(&self.rt)
     }
 
     // `File::open`: the file at this very path, to be read from its first byte.

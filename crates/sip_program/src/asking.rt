@@ -1,7 +1,8 @@
-//! What the words of the program ask for.
+//! What the words that the program is given ask for.
 ghost use Rattle.std.specs.Prelude.{map, string_bytes};
 ghost use Rattle.sip_program.specs.Asked.{IsAskedBy, IsNumberFor};
 
+use crate::words::Asked;
 use itoa::Buffer;
 
 /// The number of the first entry of a log.
@@ -9,19 +10,6 @@ const LEAST: u32 = 1;
 
 /// The most entries of a log.
 const MOST: u32 = 1_000_000;
-
-/// What the program is asked to do.
-#[derive(Clone, Copy, Debug)]
-pub enum Asked<'a> {
-    /// To judge the standard input.
-    Input,
-    /// To judge the log in a file.
-    Check(&'a str),
-    /// To show the log in a file.
-    Show(&'a str),
-    /// To list the states of the transactions that an entry of the log in a file concerns.
-    States(&'a str, u32),
-}
 
 /// The number of an entry: 1 to 1,000,000, without leading zeros.
 fn entry_number(word: &str) -> Option<u32>
@@ -36,8 +24,10 @@ fn entry_number(word: &str) -> Option<u32>
     Some(number)
 }
 
-/// What the words behind the program's name ask for, or None where they ask for nothing that it can do.
-pub fn asked_by(words: &[String]) -> Option<Asked<'_>>
+/// What the words after the program's name ask for: no word asks for the standard input, `check FILE` and `show FILE` for what they
+/// say, and `states FILE ENTRY` for the states after that entry, whose number is 1 to 1,000,000 in digits without a leading zero. Any
+/// other words ask for nothing. It takes no memory.
+pub fn asked(words: &[String]) -> Option<Asked<'_>>
     ensures { IsAskedBy (map string_bytes words.now) result }
 {
     match words {

@@ -1,10 +1,9 @@
 use Rattle.std.proofs.Common.{rules, string_bytes, sym, ◌∙◌}
 use Rattle.std.specs.Cmp.Lexicographic.{same_text}
 use Rattle.sip_program.proofs.AskedLemmas.{two-words, three-words, not-long, not-two, not-three}
-use Rattle.sip_program.proofs.asked.asked_by.Goals.{in_default-via-then-words-lt2, in_default-via-in-len2-2+else-eq-2, in_default-via-in-len3+else-eq-3, in_default-via-else-words-lt2+else-words-lt3+else-words-lt4}
-use Rattle.sip_program.proofs.asked.asked_by.Goals as goal
+use Rattle.sip_program.proofs.asking.asked.Goals.{in_default-via-then-words-lt2, in_default-via-in-len2-2+else-eq-2, in_default-via-in-len3+else-eq-3, in_default-via-else-words-lt2+else-words-lt3+else-words-lt4}
+use Rattle.sip_program.proofs.asking.asked.Goals as goal
 
--- src/asked.rt:17:1
 pub returns-in-len2 : goal.returns-in-len2
 returns-in-len2 c = (
   two-words string_bytes c.args.words.now c.word-item.result c.file-item.result _ _
@@ -13,7 +12,6 @@ returns-in-len2 c = (
   tt,
 )
 
--- src/asked.rt:17:1
 pub returns-in-len2-2 : goal.returns-in-len2-2
 returns-in-len2-2 c = (
   two-words string_bytes c.args.words.now c.word-item-then-words-lt3.result c.file-item-then-words-lt3.result _ _

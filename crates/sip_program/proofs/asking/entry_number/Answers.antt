@@ -1,8 +1,8 @@
 use Rattle.std.proofs.Common.{◌≡◌, ◌∙◌, Ok, Err, true, false, not, decimal, ap, sym, arith}
 use Rattle.std.proofs.lemmas.Slice.Eq.{bytes_eq-Decides}
 use Rattle.std.proofs.lemmas.Fmt.{parse-decimal}
-use Rattle.sip_program.proofs.asked.entry_number.Goals.{then-number-lt-LEAST-via-then-number-lt-LEAST, then-number-lt-LEAST-via-else-number-lt-LEAST+then-number-gt-MOST, then-number-lt-LEAST-via-else-number-lt-LEAST+else-number-gt-MOST+then-ne}
-use Rattle.sip_program.proofs.asked.entry_number.Goals as goal
+use Rattle.sip_program.proofs.asking.entry_number.Goals.{then-number-lt-LEAST-via-then-number-lt-LEAST, then-number-lt-LEAST-via-else-number-lt-LEAST+then-number-gt-MOST, then-number-lt-LEAST-via-else-number-lt-LEAST+else-number-gt-MOST+then-ne}
+use Rattle.sip_program.proofs.asking.entry_number.Goals as goal
 
 pub returns-in_default : goal.returns-in_default
 returns-in_default c = λ entry is same.

@@ -61,15 +61,17 @@ def expanded(text):
 
 
 @functools.cache
-def changed(text, change):
-    """The text after a change in the words of sed."""
-    if not change:
-        return text
+def sed(text, change):
     command = ["sed", "-z", "-e", change]
     said = subprocess.run(command, input=text, capture_output=True, env={**os.environ, "LC_ALL": "C"})
     if said.returncode:
         raise ValueError(said.stderr.decode().strip())
-    return expanded(said.stdout.decode("latin-1")).encode("latin-1")
+    return said.stdout
+
+
+def changed(text, change):
+    """The text after a change in the words of sed."""
+    return expanded(sed(text, change).decode("latin-1")).encode("latin-1") if change else text
 
 
 def unescaped(text):
@@ -102,7 +104,7 @@ def header_of(first):
 
 
 class Log:
-    """A header, and the entries behind it as pairs of a moment and bytes."""
+    """A header, and the entries after it as pairs of a moment and bytes."""
 
     def __init__(self, words):
         header = header_of(words[0]) if words else None
@@ -138,7 +140,7 @@ class Log:
         self.entries.sort(key=lambda entry: entry[0])
 
     def add_rules(self, line):
-        """The line belongs to the header; behind an entry it is one more line that is no entry."""
+        """Adds the line to the header. After an entry it is one more text."""
         if self.entries:
             self.entries.append((None, line))
         else:
@@ -150,22 +152,25 @@ class Log:
 
     def texts(self, rest, count):
         """The messages of so many entries that these words tell."""
-        first, _, behind = rest.partition(" ")
+        first, _, rest = rest.partition(" ")
         if first.startswith("="):
-            if (self.set, first[1:]) not in named_messages():
-                raise ValueError(f"the set {self.set} of tests/worked/messages has no message {first[1:]}")
-            return [changed(named_messages()[self.set, first[1:]], behind)] * count
-        branch, _, behind = behind.partition(" ")
+            return [changed(self.named(first[1:]), rest)] * count
+        branch, _, rest = rest.partition(" ")
         if not branch:
-            raise ValueError(f"a message has a method and a branch, or is named: {rest!r}")
-        code = re.match(r"\d*", behind)[0]
-        change = behind[len(code):].strip()
+            raise ValueError(f"a message {first!r} has no branch")
+        code = re.match(r"\d*", rest)[0]
+        change = rest[len(code):].strip()
         if ".." not in branch:
             return [changed(message(first, branch, code), change)] * count
         branches = moments_of(branch)
         if len(branches) != count:
-            raise ValueError(f"{count} entries have {len(branches)} branches: {rest!r}")
+            raise ValueError(f"{count} entries have the branches {branch}")
         return [changed(message(first, one, code), change) for one in branches]
+
+    def named(self, name):
+        if (self.set, name) not in named_messages():
+            raise ValueError(f"the set {self.set} of tests/worked/messages has no message {name}")
+        return named_messages()[self.set, name]
 
     def bytes(self):
         return self.header + b"".join(entry for _, entry in self.entries)

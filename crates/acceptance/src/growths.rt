@@ -1,43 +1,75 @@
-//! Logs that are judged while memory is refused: `tests/growths` refuses each growth in turn, and the test then fails with want
+//! Logs that are judged and listed while memory is refused: `tests/growths` refuses each growth in turn, and the test then fails with want
 //! of memory or passes with the answer of ample memory.
-use crate::verdicts::judge_rows;
+use crate::listed::lists;
+use crate::verdicts::judges;
 use std::test::Fail;
-use worked_logs::STORED;
 
 #[test]
 fn refused_while_a_server_repeats(rt: HostRuntime) -> Result<(), Fail> {
-    judge_rows(
-        &rt,
-        &[(
-            "R 0 INVITE; S 0 486; R 480 INVITE; S 490,540 486",
-            "legal entries 5 transactions 1",
-        )],
-    )
+    let words = "R 0 INVITE 1; S 0 INVITE 1 486; R 480 INVITE 1; S 490,540 INVITE 1 486";
+    judges(&rt, (words, "legal entries 5 transactions 1"))
 }
 
 #[test]
 fn refused_while_a_call_is_cancelled(rt: HostRuntime) -> Result<(), Fail> {
-    judge_rows(
-        &rt,
-        &[(
-            "S 0 INVITE; R 50 180; S 100 CANCEL",
-            "legal entries 3 transactions 2",
-        )],
-    )
+    let words = "S 0 INVITE 1; R 50 INVITE 1 180; S 100 CANCEL 1";
+    judges(&rt, (words, "legal entries 3 transactions 2"))
 }
 
 #[test]
 fn refused_while_a_client_registers(rt: HostRuntime) -> Result<(), Fail> {
-    judge_rows(&rt, &[(STORED, "legal entries 4 transactions 1")])
+    let words = "S 0,500 REGISTER r1; R 700 REGISTER r1 200; M 6000";
+    judges(&rt, (words, "legal entries 4 transactions 1"))
 }
 
 #[test]
 fn refused_while_an_element_is_restarted(rt: HostRuntime) -> Result<(), Fail> {
-    judge_rows(
+    let words =
+        "early 50 late 50; rules 3261; S 0 INVITE 1; R 0 INVITE 1; Z 200; R 300 INVITE 1; S 310 INVITE 1 200";
+    judges(&rt, (words, "legal entries 5 transactions 2"))
+}
+
+#[test]
+fn refused_while_a_repeat_is_listed(rt: HostRuntime) -> Result<(), Fail> {
+    lists(
         &rt,
-        &[(
-            "early 50 late 50 rules 3261: S 0 INVITE; R 0 INVITE; Z 200; R 300 INVITE; S 310 200",
-            "legal entries 5 transactions 2",
-        )],
+        (
+            "R 0 INVITE 1; S 0 INVITE 1 486; R 480 INVITE 1; S 490,530 INVITE 1 486",
+            5,
+            "transaction 1 server INVITE states 2\n  \
+            completed reliable=no final=2 set=0 repeat=490 interval=1000\n  \
+            completed reliable=no final=2 set=0 repeat=530 interval=1000\n",
+        ),
     )
+}
+
+#[test]
+fn refused_while_a_cancel_is_listed(rt: HostRuntime) -> Result<(), Fail> {
+    lists(
+        &rt,
+        (
+            "S 0 INVITE 1; R 50 INVITE 1 180; S 100 CANCEL 1",
+            3,
+            "transaction 2 client CANCEL states 1\n  trying reliable=no request=3 start=100 set=100 interval=500\n\
+            transaction 1 client INVITE states 1\n  proceeding reliable=no request=1 cancel=100\n",
+        ),
+    )
+}
+
+#[test]
+fn refused_while_a_response_is_listed(rt: HostRuntime) -> Result<(), Fail> {
+    lists(
+        &rt,
+        (
+            "S 0,500 REGISTER r1; R 700 REGISTER r1 200; M 6000",
+            3,
+            "transaction 1 client REGISTER states 1\n  completed reliable=no set=700\n",
+        ),
+    )
+}
+
+#[test]
+fn refused_while_a_mark_is_listed(rt: HostRuntime) -> Result<(), Fail> {
+    let words = "S 0,500 REGISTER r1; R 700 REGISTER r1 200; M 6000";
+    lists(&rt, (words, 4, "no transaction\n"))
 }

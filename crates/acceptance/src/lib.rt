@@ -1,27 +1,36 @@
-//! Tests that cross the crates: whole logs, judged at once and entry by entry.
+//! Tests of the verdict, the listing and the shown text that no form of the program makes: sources and sinks that fail or hand out pieces,
+//! judges that take entries one by one, hashers, and memory that is refused. Whole logs stand in `tests/worked`.
 #![tactic(auto)]
 
 #[cfg(test)]
-mod entries;
-#[cfg(test)]
-mod formats;
+mod calls;
 #[cfg(test)]
 mod growths;
 #[cfg(test)]
 mod hashers;
 #[cfg(test)]
+mod listed;
+#[cfg(test)]
+mod logs;
+#[cfg(test)]
 mod many;
 #[cfg(test)]
-mod proxy;
+mod notation;
 #[cfg(test)]
-mod rows;
+mod pieces;
+#[cfg(test)]
+mod room;
+#[cfg(test)]
+mod shown;
+#[cfg(test)]
+mod shows;
+#[cfg(test)]
+mod sources;
 #[cfg(test)]
 mod streams;
 #[cfg(test)]
-mod tests;
-#[cfg(test)]
 mod verdicts;
 #[cfg(test)]
-mod widths;
+mod wants;
 #[cfg(test)]
 mod words;

@@ -3,7 +3,9 @@ ghost use Rattle.std.specs.Prelude.{◌≤◌};
 
 mod rows;
 
-use crate::entries::push_entry;
+use crate::logs::push_own;
+use crate::notation::{header, log_of};
+use crate::wants::{holds, holds_at};
 use sip_log::{Entry, LogError, Progress};
 use sip_verdict::{Judge, StepError, Verdict, render};
 use std::alloc::Global;
@@ -11,7 +13,6 @@ use std::fmt::Write;
 use std::hash::{BuildHasherDefault, FoldHasher};
 use std::process::Abort;
 use std::test::Fail;
-use worked_logs::{header, log_of};
 
 type Hasher = BuildHasherDefault<FoldHasher>;
 
@@ -33,7 +34,7 @@ impl<'a> Stream<'a> {
         })
     }
 
-    /// The verdict behind the entries that were taken. A stream is ended and not dropped, so that no proof goes into all that a judge
+    /// The verdict after the entries that were taken. A stream is ended and not dropped, so that no proof goes into all that a judge
     /// keeps.
     fn end(self) -> Option<Verdict> {
         let Stream {
@@ -68,7 +69,7 @@ fn goes_on(rt: &impl Abort, stream: &mut Stream<'_>) -> Result<bool, Fail> {
     Ok(take(rt, &mut stream.judge, &entry)?.is_none())
 }
 
-/// Takes entries until there is a verdict, and appends how many messages are kept behind each.
+/// Takes entries until there is a verdict, and appends how many messages are kept after each.
 fn count_kept(rt: &impl Abort, stream: &mut Stream<'_>, kept: &mut Vec<usize>) -> Result<(), Fail> {
     for _ in 0..=1_000_000 {
         if !goes_on(rt, stream)? {
@@ -79,8 +80,8 @@ fn count_kept(rt: &impl Abort, stream: &mut Stream<'_>, kept: &mut Vec<usize>) -
     Ok(())
 }
 
-/// How many messages are kept behind each entry, and the last verdict.
-fn kept_behind_each(
+/// How many messages are kept after each entry, and the last verdict.
+fn kept_after_each(
     rt: &(impl Abort + AllocGlobal),
     log: &str,
 ) -> Result<(Vec<usize>, Option<Verdict>), Fail> {
@@ -97,7 +98,7 @@ pub(crate) fn verdict_by_entries(
     rt: &(impl Abort + AllocGlobal),
     log: &str,
 ) -> Result<String, Fail> {
-    let (_, verdict) = kept_behind_each(rt, log)?;
+    let (_, verdict) = kept_after_each(rt, log)?;
     let verdict = verdict.ok_or("no verdict")?;
     Ok(render(rt.alloc(), &verdict)?)
 }
@@ -106,19 +107,25 @@ pub(crate) fn verdict_by_entries(
 fn answered(alloc: Global, count: u64) -> Result<String, Fail>
     requires { count ≤ 1000 }
 {
-    let mut log = header(alloc, "50")?;
+    let mut log = header(alloc, "tolerance 50")?;
     for before in 0..count {
         let branch = before + 1;
         let sent = before * 10_000;
-        push_entry(alloc, &mut log, ("S", "OPTIONS"), sent, branch)?;
-        push_entry(alloc, &mut log, ("R", "200 OPTIONS"), sent + 10, branch)?;
+        push_own(alloc, &mut log, ("S", "OPTIONS", None), sent, branch)?;
+        push_own(
+            alloc,
+            &mut log,
+            ("R", "OPTIONS", Some("200")),
+            sent + 10,
+            branch,
+        )?;
     }
     Ok(log)
 }
 
 /// What a judge says is this. A row tells when.
 fn says(rt: &impl Abort, verdict: Option<Verdict>, want: Option<Verdict>, row: &str) {
-    assert!(rt; verdict == want, "{row}");
+    holds(rt, verdict == want, row);
 }
 
 /// A legal log of so many entries and transactions.
@@ -129,26 +136,26 @@ fn legal(entries: u32, transactions: u32) -> Option<Verdict> {
     })
 }
 
-/// Takes the entries of a log with 1,000 transactions of two each. At these places are entries behind which so many messages are kept,
-/// and no more than 66 are kept behind any.
+/// Takes the entries of a log with 1,000 transactions of two each. At these places are entries after which so many messages are kept,
+/// and no more than 66 are kept after any.
 fn keeps_few(
     rt: &(impl Abort + AllocGlobal),
     log: &str,
     places: &[(usize, usize)],
 ) -> Result<(), Fail> {
-    let (kept, verdict) = kept_behind_each(rt, log)?;
+    let (kept, verdict) = kept_after_each(rt, log)?;
     says(rt, verdict, legal(2_000, 1_000), "at the end");
-    assert!(rt; kept.len() == 2_000);
+    holds(rt, kept.len() == 2_000, "the entries");
     for &(place, want) in places {
-        assert_eq!(rt; kept.get(place), Some(&want), "at {place}");
+        holds_at(rt, kept.get(place) == Some(&want), ("kept at", place));
     }
     for (place, count) in kept.iter().enumerate() {
-        assert!(rt; *count <= 66, "at {place}");
+        holds_at(rt, *count <= 66, ("kept at", place));
     }
     Ok(())
 }
 
-/// A request is needed until its response has come, and no response is. The first sweep comes behind entry 65, and each leaves
+/// A request is needed until its response has come, and no response is. The first sweep comes after entry 65, and each leaves
 /// one request.
 #[test]
 fn keeps_few_messages_of_many(rt: HostRuntime) -> Result<(), Fail> {
@@ -157,24 +164,24 @@ fn keeps_few_messages_of_many(rt: HostRuntime) -> Result<(), Fail> {
     keeps_few(&rt, log.as_str(), &places)
 }
 
-/// The log of so many OPTIONS, each with a branch of its own: one every ten milliseconds, and a restart of the element behind each.
+/// The log of so many OPTIONS, each with a branch of its own: one every ten milliseconds, and a restart of the element after each.
 fn restarted(alloc: Global, count: u64) -> Result<String, Fail>
     requires { count ≤ 1000 }
 {
-    let mut log = log_of(alloc, "early 50 late 50: ")?;
+    let mut log = header(alloc, "early 50 late 50")?;
     for branch in 0..count {
         let sent = branch * 10;
-        push_entry(alloc, &mut log, ("S", "OPTIONS"), sent, branch)?;
+        push_own(alloc, &mut log, ("S", "OPTIONS", None), sent, branch)?;
         let restart = sent + 5;
         write!(log, "Z {restart}\n")?;
     }
     Ok(log)
 }
 
-/// No request is needed behind a restart. The first sweep comes behind the 65th request, which is entry 129, and each leaves that request
+/// No request is needed after a restart. The first sweep comes after the 65th request, which is entry 129, and each leaves that request
 /// alone.
 #[test]
-fn forgets_behind_restarts(rt: HostRuntime) -> Result<(), Fail> {
+fn forgets_after_restarts(rt: HostRuntime) -> Result<(), Fail> {
     let log = restarted(rt.alloc(), 1_000)?;
     let places = [(127, 64), (128, 1), (259, 66), (260, 1)];
     keeps_few(&rt, log.as_str(), &places)
@@ -182,17 +189,18 @@ fn forgets_behind_restarts(rt: HostRuntime) -> Result<(), Fail> {
 
 /// The log of 200 INVITEs at moment 0, each with a branch of its own.
 fn waiting(alloc: Global) -> Result<String, Fail> {
-    let mut log = header(alloc, "50")?;
+    let mut log = header(alloc, "tolerance 50")?;
     for branch in 0..200 {
-        push_entry(alloc, &mut log, ("S", "INVITE"), 0, branch)?;
+        push_own(alloc, &mut log, ("S", "INVITE", None), 0, branch)?;
     }
     Ok(log)
 }
 
-/// Behind each entry its message is kept, and all that came before.
+/// After each entry its message is kept, and all that came before.
 fn keeps_all(rt: &impl Abort, kept: &[usize]) {
     for (before, count) in kept.iter().enumerate() {
-        assert!(rt; before < *count && *count - before == 1, "behind {before}");
+        let is_one_more = before < *count && *count - before == 1;
+        holds_at(rt, is_one_more, ("kept after", before));
     }
 }
 
@@ -200,23 +208,27 @@ fn keeps_all(rt: &impl Abort, kept: &[usize]) {
 #[test]
 fn keeps_what_is_needed(rt: HostRuntime) -> Result<(), Fail> {
     let log = waiting(rt.alloc())?;
-    let (kept, verdict) = kept_behind_each(&rt, log.as_str())?;
+    let (kept, verdict) = kept_after_each(&rt, log.as_str())?;
     says(&rt, verdict, legal(200, 200), "at the end");
     keeps_all(&rt, kept.as_slice());
     Ok(())
 }
 
-/// A message without the cookie concerns no transaction and is not kept: not as the first entry, and not behind one that is.
+/// A message without the cookie concerns no transaction and is not kept: not as the first entry, and not after one that is.
 #[test]
 fn keeps_no_message_without_a_key(rt: HostRuntime) -> Result<(), Fail> {
     let log = log_of(
         rt.alloc(),
-        "R 0 OPTIONS branch=abc; S 0 OPTIONS; R 0 OPTIONS branch=abc; R 10 200 OPTIONS branch=abc; \
-         S 20 200 OPTIONS branch=abc; M 30; R 30 200 OPTIONS",
+        "R 0 OPTIONS abc s/z9hG4bK//; S 0 OPTIONS 1; R 0 OPTIONS abc s/z9hG4bK//; R 10 OPTIONS abc 200 s/z9hG4bK//; \
+         S 20 OPTIONS abc 200 s/z9hG4bK//; M 30; R 30 OPTIONS 1 200",
     )?;
-    let (kept, verdict) = kept_behind_each(&rt, log.as_str())?;
+    let (kept, verdict) = kept_after_each(&rt, log.as_str())?;
     says(&rt, verdict, legal(7, 1), "at the end");
-    assert!(rt; kept.as_slice() == [0, 1, 1, 1, 1, 1, 2].as_slice());
+    holds(
+        &rt,
+        kept.as_slice() == [0, 1, 1, 1, 1, 1, 2].as_slice(),
+        "kept",
+    );
     Ok(())
 }
 
@@ -238,10 +250,10 @@ fn says_of_each(
     Ok(())
 }
 
-/// A repeat that comes too early is told at once, and told again of whatever comes behind it.
+/// A repeat that comes too early is told at once, and told again of whatever comes after it.
 #[test]
 fn tells_a_verdict_again(rt: HostRuntime) -> Result<(), Fail> {
-    let log = log_of(rt.alloc(), "S 0 OPTIONS; S 100 OPTIONS; M 200; M 300")?;
+    let log = log_of(rt.alloc(), "S 0 OPTIONS 1; S 100 OPTIONS 1; M 200; M 300")?;
     let mut stream = Stream::open(rt.alloc(), log.as_str().as_bytes())?;
     let breach = Some(Verdict::Breach {
         entry: 2,
@@ -263,9 +275,15 @@ fn takes_or_fails(
     let Err(error) = take(rt, judge, entry) else {
         return Ok(());
     };
-    assert!(rt; error == StepError::Memory);
-    assert!(rt; take(rt, judge, entry) == Err(StepError::Failed));
-    assert!(rt; take(rt, judge, entry) == Err(StepError::Failed));
+    holds(rt, error == StepError::Memory, "want of memory");
+    for _ in 0..2 {
+        let answer = take(rt, judge, entry);
+        holds(
+            rt,
+            answer == Err(StepError::Failed),
+            "of a judge that failed",
+        );
+    }
     Err(error)
 }
 
@@ -296,7 +314,7 @@ fn refused_while_a_judge_sweeps(rt: HostRuntime) -> Result<(), Fail> {
     let kept = stream.judge.kept();
     let verdict = stream.end();
     let Some(error) = failed? else {
-        assert!(rt; kept == 2);
+        holds(&rt, kept == 2, "kept at the end");
         return Ok(());
     };
     says(&rt, verdict, None, "of a judge that failed");

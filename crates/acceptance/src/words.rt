@@ -1,6 +1,6 @@
 //! The words of each verdict, and of each error.
-use crate::verdicts::reads;
-use sip_verdict::{Fault, JudgeError, LogReason, Reason, Unit, Verdict, render};
+use crate::wants::reads;
+use sip_verdict::{Fault, JudgeError, LogReason, Reason, ShowError, Unit, Verdict, render};
 use std::alloc::AllocError;
 use std::process::Abort;
 use std::test::Fail;
@@ -93,15 +93,26 @@ fn writes_each_verdict(rt: HostRuntime) -> Result<(), Fail> {
     )
 }
 
-/// The words of an error.
-fn says(rt: &(impl Abort + AllocGlobal), error: JudgeError, want: &str) -> Result<(), Fail> {
+/// An error that a judge answers says this.
+fn judge_says(rt: &(impl Abort + AllocGlobal), error: JudgeError, want: &str) -> Result<(), Fail> {
+    let text = error.to_string(rt.alloc())?;
+    reads(rt, text.as_str(), want, want);
+    Ok(())
+}
+
+/// An error of what is shown says this.
+fn show_says(rt: &(impl Abort + AllocGlobal), error: ShowError, want: &str) -> Result<(), Fail> {
     let text = error.to_string(rt.alloc())?;
     reads(rt, text.as_str(), want, want);
     Ok(())
 }
 
 #[test]
-fn says_what_failed(rt: HostRuntime) -> Result<(), Fail> {
-    says(&rt, JudgeError::Io, "cannot read")?;
-    says(&rt, JudgeError::from(AllocError), "out of memory")
+fn errors_say_what_is_wrong(rt: HostRuntime) -> Result<(), Fail> {
+    judge_says(&rt, JudgeError::Io, "cannot read")?;
+    judge_says(&rt, JudgeError::Memory, "out of memory")?;
+    judge_says(&rt, JudgeError::from(AllocError), "out of memory")?;
+    show_says(&rt, ShowError::Read, "cannot read")?;
+    show_says(&rt, ShowError::Write, "cannot write")?;
+    show_says(&rt, ShowError::Memory, "out of memory")
 }

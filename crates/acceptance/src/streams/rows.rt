@@ -1,142 +1,109 @@
-//! The rows of `worked_logs`, entry by entry: a judge that takes them has the verdict of the log.
+//! A judge that takes the entries of a log has its verdict: a log of each kind, of those in `tests/worked/verdicts`.
+use crate::notation::log_of;
 use crate::streams::verdict_by_entries;
-use crate::verdicts::reads;
+use crate::verdicts::Row;
+use crate::wants::reads;
 use std::process::Abort;
 use std::test::Fail;
-use worked_logs::{
-    AS_MANY_STATES_AS_ARE_FOLLOWED, BY_RFC_3261, BY_RFC_6026, CANCELLED_LOG, CANCELS, CLIENTS,
-    CLIENTS_BY_RFC_3261, Change, INVITE_SERVERS, INVITES_THAT_ARE_ANSWERED, INVITES_THAT_WAIT,
-    MANY_DEBTS, MANY_ENTRIES, MANY_STATES, MESSAGES, Messages, OF_A_CALL, OF_A_CANCELLED_CALL,
-    OF_THE_END_OF_A_CALL, OF_THE_END_OF_A_CANCELLED_CALL, ON_ONE_SIDE, OVERDUE,
-    RESTARTED_BY_RFC_3261, RESTARTED_CLIENTS, RESTARTED_SERVERS, RESTARTS, Row, SERVERS,
-    SESSION_LOG, TRANSACTIONS_APART, cancelled, log_of, log_with, session,
-};
 
-/// A judge takes the entries of a log. A row tells which log it is.
-fn takes(rt: &(impl Abort + AllocGlobal), log: &str, want: &str, row: &str) -> Result<(), Fail> {
-    let text = verdict_by_entries(rt, log)?;
-    reads(rt, text.as_str(), want, row);
+/// A judge takes the entries of a log.
+fn takes(rt: &(impl Abort + AllocGlobal), words: &str, want: &str) -> Result<(), Fail> {
+    let log = log_of(rt.alloc(), words)?;
+    let text = verdict_by_entries(rt, log.as_str())?;
+    reads(rt, text.as_str(), want, words);
     Ok(())
 }
 
 /// Takes logs, row by row.
 fn takes_rows(rt: &(impl Abort + AllocGlobal), rows: &[Row]) -> Result<(), Fail> {
-    for &(notation, want) in rows {
-        let log = log_of(rt.alloc(), notation)?;
-        takes(rt, log.as_str(), want, notation)?;
+    for &(words, want) in rows {
+        takes(rt, words, want)?;
     }
     Ok(())
-}
-
-#[test]
-fn takes_invites_that_wait(rt: HostRuntime) -> Result<(), Fail> {
-    takes_rows(&rt, INVITES_THAT_WAIT)
-}
-
-#[test]
-fn takes_invites_that_are_answered(rt: HostRuntime) -> Result<(), Fail> {
-    takes_rows(&rt, INVITES_THAT_ARE_ANSWERED)
-}
-
-#[test]
-fn takes_the_rules_of_the_log(rt: HostRuntime) -> Result<(), Fail> {
-    takes_rows(&rt, BY_RFC_3261)?;
-    takes_rows(&rt, CLIENTS_BY_RFC_3261)?;
-    takes_rows(&rt, BY_RFC_6026)
-}
-
-#[test]
-fn takes_restarts(rt: HostRuntime) -> Result<(), Fail> {
-    takes_rows(&rt, RESTARTED_CLIENTS)?;
-    takes_rows(&rt, RESTARTED_SERVERS)?;
-    takes_rows(&rt, RESTARTED_BY_RFC_3261)?;
-    takes_rows(&rt, RESTARTS)
-}
-
-#[test]
-fn takes_two_tolerances(rt: HostRuntime) -> Result<(), Fail> {
-    takes_rows(&rt, ON_ONE_SIDE)
-}
-
-#[test]
-fn takes_cancels(rt: HostRuntime) -> Result<(), Fail> {
-    takes_rows(&rt, CANCELS)
-}
-
-#[test]
-fn takes_invite_servers(rt: HostRuntime) -> Result<(), Fail> {
-    takes_rows(&rt, INVITE_SERVERS)
 }
 
 #[test]
 fn takes_clients(rt: HostRuntime) -> Result<(), Fail> {
-    takes_rows(&rt, CLIENTS)
+    takes_rows(
+        &rt,
+        &[
+            ("", "legal entries 0 transactions 0"),
+            (
+                "S 0 INVITE 1; R 200 INVITE 1 180; R 1000 INVITE 1 486; S 1051 ACK 1",
+                "breach 4 transaction 1",
+            ),
+            (
+                "S 0 INVITE 1; R 50 INVITE 1 180; S 100 CANCEL 1",
+                "legal entries 3 transactions 2",
+            ),
+            (
+                "S 0 REGISTER 1; R 100 REGISTER 1 200; S 6000 REGISTER 1",
+                "breach 3 transaction 1",
+            ),
+            (
+                "S 0 OPTIONS 1; S 0 OPTIONS 2; R 10 OPTIONS 1 200; M 551",
+                "breach 4 transaction 2",
+            ),
+            (
+                "early 100 late 0; S 0 INVITE 1; R 100 INVITE 1 486; S 101 ACK 1",
+                "breach 3 transaction 1",
+            ),
+        ],
+    )
 }
 
 #[test]
 fn takes_servers(rt: HostRuntime) -> Result<(), Fail> {
-    takes_rows(&rt, SERVERS)
-}
-
-#[test]
-fn takes_transactions_apart(rt: HostRuntime) -> Result<(), Fail> {
-    takes_rows(&rt, TRANSACTIONS_APART)
-}
-
-#[test]
-fn takes_messages(rt: HostRuntime) -> Result<(), Fail> {
-    takes_rows(&rt, MESSAGES)
-}
-
-#[test]
-fn takes_many_states(rt: HostRuntime) -> Result<(), Fail> {
-    takes_rows(&rt, MANY_STATES)
-}
-
-#[test]
-fn takes_what_is_overdue(rt: HostRuntime) -> Result<(), Fail> {
-    takes_rows(&rt, OVERDUE)
-}
-
-#[test]
-fn takes_many_entries(rt: HostRuntime) -> Result<(), Fail> {
-    takes_rows(&rt, MANY_ENTRIES)
-}
-
-#[test]
-fn takes_as_many_states_as_are_followed(rt: HostRuntime) -> Result<(), Fail> {
-    takes_rows(&rt, AS_MANY_STATES_AS_ARE_FOLLOWED)
-}
-
-#[test]
-fn takes_many_debts(rt: HostRuntime) -> Result<(), Fail> {
-    takes_rows(&rt, MANY_DEBTS)
-}
-
-/// Takes a log with each of the changes alone.
-fn takes_changes(
-    rt: &(impl Abort + AllocGlobal),
-    notation: &str,
-    messages: Messages<'_>,
-    changes: &[Change],
-) -> Result<(), Fail> {
-    for &(old, new, want) in changes {
-        let changed = notation.replacen(rt.alloc(), old, new, 1)?;
-        let log = log_with(rt.alloc(), changed.as_str(), messages)?;
-        takes(rt, log.as_str(), want, new)?;
-    }
-    Ok(())
-}
-
-#[test]
-fn takes_each_change_of_a_call(rt: HostRuntime) -> Result<(), Fail> {
-    takes_changes(&rt, CANCELLED_LOG, cancelled(), OF_A_CANCELLED_CALL)?;
-    takes_changes(
+    takes_rows(
         &rt,
-        CANCELLED_LOG,
-        cancelled(),
-        OF_THE_END_OF_A_CANCELLED_CALL,
-    )?;
-    takes_changes(&rt, SESSION_LOG, session(), OF_A_CALL)?;
-    takes_changes(&rt, SESSION_LOG, session(), OF_THE_END_OF_A_CALL)
+        &[
+            (
+                "R 0 INVITE 1; S 0 INVITE 1 486; R 480 INVITE 1; S 490,600 INVITE 1 486",
+                "breach 5 transaction 1",
+            ),
+            (
+                "R 0 OPTIONS 1; S 10 OPTIONS 1 200; R 500 OPTIONS 1; S 551 OPTIONS 1 200",
+                "breach 4 transaction 1",
+            ),
+            (
+                "rules 3261; R 0 INVITE 1; S 0 INVITE 1 200; R 500 INVITE 1; M 751",
+                "breach 4 transaction 1",
+            ),
+            (
+                "R 0 INVITE 1; S 0 INVITE 1 200; R 500 INVITE 1; M 751",
+                "legal entries 4 transactions 1",
+            ),
+            (
+                "tolerance 10000; R 0 INVITE 1; S 1 INVITE 1 180; R 2..41 INVITE 1; S 42 INVITE 1 183; R 43..82 INVITE 1; \
+                S 83..122 INVITE 1 180; S 123..162 INVITE 1 183",
+                "undecided 147 transaction 1",
+            ),
+        ],
+    )
+}
+
+#[test]
+fn takes_messages_and_restarts(rt: HostRuntime) -> Result<(), Fail> {
+    takes_rows(
+        &rt,
+        &[
+            (
+                "S 0 OPTIONS abc s/z9hG4bK//",
+                "malformed 1 head 12 NoCookie",
+            ),
+            (
+                "R 0 OPTIONS abc s/z9hG4bK//",
+                "legal entries 1 transactions 0",
+            ),
+            ("R 100 OPTIONS 9 200", "legal entries 1 transactions 1"),
+            (
+                "early 50 late 50; S 0 INVITE 1; Z 551",
+                "breach 2 transaction 1",
+            ),
+            (
+                "early 50 late 50; S 0 INVITE 1; Z 100; M 5000",
+                "legal entries 3 transactions 1",
+            ),
+        ],
+    )
 }

@@ -5,7 +5,7 @@ use sip_log::{Broken, Source};
 
 /// Hands out the bytes in pieces: the first of one size, and each other of a second one.
 #[derive(Drop)]
-pub struct Pieces<'a> {
+pub(crate) struct Pieces<'a> {
     bytes: &'a [u8],
     first: usize,
     others: usize,
@@ -15,8 +15,8 @@ pub struct Pieces<'a> {
 }
 
 impl<'a> Pieces<'a> {
-    /// The bytes before a place in one piece, and those behind it in another.
-    pub fn cut_at(bytes: &'a [u8], place: usize) -> Pieces<'a>
+    /// The bytes before a place in one piece, and those from there on in another.
+    pub(crate) fn cut_at(bytes: &'a [u8], place: usize) -> Pieces<'a>
         ensures { ⟦<Pieces<'a> as Source>⟧.has_failed result ≡ false }
     {
         Pieces {
@@ -29,7 +29,7 @@ impl<'a> Pieces<'a> {
     }
 
     /// Single bytes.
-    pub fn single(bytes: &'a [u8]) -> Pieces<'a>
+    pub(crate) fn single(bytes: &'a [u8]) -> Pieces<'a>
         ensures { ⟦<Pieces<'a> as Source>⟧.has_failed result ≡ false }
     {
         Pieces {
@@ -41,15 +41,8 @@ impl<'a> Pieces<'a> {
         }
     }
 
-    /// Single bytes, and the call behind so many fails.
-    pub fn failing(bytes: &'a [u8], calls: usize) -> Pieces<'a>
-        ensures { ⟦<Pieces<'a> as Source>⟧.has_failed result ≡ false }
-    {
-        Pieces::failing_in(bytes, 1, calls)
-    }
-
-    /// Pieces of one size, and the call behind so many fails.
-    pub fn failing_in(bytes: &'a [u8], size: usize, calls: usize) -> Pieces<'a>
+    /// Pieces of one size, and the call after so many fails.
+    pub(crate) fn failing_in(bytes: &'a [u8], size: usize, calls: usize) -> Pieces<'a>
         ensures { ⟦<Pieces<'a> as Source>⟧.has_failed result ≡ false }
     {
         Pieces {

@@ -5,14 +5,14 @@ use sip_log::{Broken, Sink};
 
 /// Takes so many pieces, keeps none of them, and then fails.
 #[derive(Drop)]
-pub struct Room {
+pub(crate) struct Room {
     calls: usize,
     taken: usize,
     failed: bool,
 }
 
 impl Room {
-    pub fn of(calls: usize) -> Room {
+    pub(crate) fn of(calls: usize) -> Room {
         Room {
             calls,
             taken: 0,
@@ -21,7 +21,7 @@ impl Room {
     }
 
     /// How many pieces were taken.
-    pub fn taken(&self) -> usize {
+    pub(crate) fn taken(&self) -> usize {
         self.taken
     }
 }

@@ -1,10 +1,11 @@
 //! What is shown of a log: the text that is written, and the answer.
+use crate::pieces::Pieces;
+use crate::room::Room;
 use sip_log::{FromRead, ToWrite};
 use sip_verdict::{ShowError, Shown, show};
 use std::alloc::Global;
-use worked_logs::{Pieces, Room};
 
-/// The answer where the text is written behind what stands there.
+/// The answer where the text is written after what stands there.
 pub(crate) fn written(alloc: Global, log: &[u8], text: &mut Vec<u8>) -> Result<Shown, ShowError> {
     show(alloc, &mut FromRead::new(log), &mut ToWrite::new(text))
 }
@@ -21,12 +22,12 @@ pub(crate) fn shown_in(alloc: Global, log: &[u8], room: &mut Room) -> Result<Sho
     show(alloc, &mut FromRead::new(log), room)
 }
 
-/// The answer where the bytes come one by one, and the call behind so many fails.
+/// The answer where the bytes come one by one, and the call after so many fails.
 pub(crate) fn shown_failing(alloc: Global, log: &[u8], calls: usize) -> Result<Shown, ShowError> {
     shown_failing_in(alloc, log, 1, calls)
 }
 
-/// The answer where the bytes come in pieces of a size, and the call behind so many fails.
+/// The answer where the bytes come in pieces of a size, and the call after so many fails.
 pub(crate) fn shown_failing_in(
     alloc: Global,
     log: &[u8],

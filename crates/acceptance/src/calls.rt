@@ -1,0 +1,17 @@
+//! Listings of entries that the program refuses to name: entry 0, and one past the limit of a log.
+use crate::listed::lists;
+use crate::logs::STORED;
+use std::test::Fail;
+
+#[test]
+fn lists_no_entry_past_a_log(rt: HostRuntime) -> Result<(), Fail> {
+    lists(&rt, (STORED, 4_294_967_295, "no entry"))
+}
+
+#[test]
+fn lists_no_entry_0(rt: HostRuntime) -> Result<(), Fail> {
+    lists(&rt, (STORED, 0, "no entry"))?;
+    lists(&rt, ("S 0,449 INVITE 1", 0, "no entry"))?;
+    // A header that cannot be read is before any entry.
+    lists(&rt, ("tolerance 10001", 0, "stopped log fault 0 20 Header"))
+}

@@ -1,0 +1,226 @@
+//! Sources that hand out a log in pieces, or fail: what is judged and listed then.
+use crate::listed::{Listed, listing_failing};
+use crate::logs::{RESTARTED, STORED, long_log};
+use crate::notation::{header, log_of};
+use crate::shown::shown_failing_in;
+use crate::verdicts::{Row, verdict_cut_at, verdict_failing, verdict_of_single_bytes};
+use crate::wants::{holds_at, reads, reads_at};
+use sip_verdict::{JudgeError, ShowError};
+use std::process::Abort;
+use std::test::Fail;
+
+/// Judges the bytes one by one.
+fn judges_single_bytes(
+    rt: &(impl Abort + AllocGlobal),
+    bytes: &[u8],
+    want: &str,
+) -> Result<(), Fail> {
+    let text = verdict_of_single_bytes(rt.alloc(), bytes)?;
+    reads(rt, text.as_str(), want, "in single bytes");
+    Ok(())
+}
+
+/// Judges the bytes in two pieces.
+fn judges_cut_at(
+    rt: &(impl Abort + AllocGlobal),
+    bytes: &[u8],
+    place: usize,
+    want: &str,
+) -> Result<(), Fail> {
+    let text = verdict_cut_at(rt.alloc(), bytes, place)?;
+    reads_at(rt, text.as_str(), want, ("cut at", place));
+    Ok(())
+}
+
+/// Judges the bytes one by one, and in two pieces, wherever they are cut.
+fn judges_pieces(rt: &(impl Abort + AllocGlobal), words: &str, want: &str) -> Result<(), Fail> {
+    let log = log_of(rt.alloc(), words)?;
+    let bytes = log.as_str().as_bytes();
+    judges_single_bytes(rt, bytes, want)?;
+    for place in 1..bytes.len() {
+        judges_cut_at(rt, bytes, place, want)?;
+    }
+    Ok(())
+}
+
+#[test]
+fn judges_any_pieces(rt: HostRuntime) -> Result<(), Fail> {
+    judges_pieces(&rt, STORED, "legal entries 4 transactions 1")?;
+    judges_pieces(&rt, RESTARTED, "legal entries 2 transactions 1")
+}
+
+/// Logs that are read whole.
+const READ: &[Row] = &[
+    (STORED, "legal entries 4 transactions 1"),
+    (
+        "R 0 INVITE 1; S 0 INVITE 1 486; R 480 INVITE 1; S 490,540 INVITE 1 486",
+        "legal entries 5 transactions 1",
+    ),
+    (
+        "S 0 INVITE 1; R 50 INVITE 1 180; S 100 CANCEL 1",
+        "legal entries 3 transactions 2",
+    ),
+    (RESTARTED, "legal entries 2 transactions 1"),
+];
+
+/// The bytes come one by one, and the call after so many fails, but it does not come.
+fn judges_before_a_read_fails(
+    rt: &(impl Abort + AllocGlobal),
+    bytes: &[u8],
+    calls: usize,
+    want: &str,
+) -> Result<(), Fail> {
+    let text = verdict_failing(rt.alloc(), bytes, 1, calls)?;
+    reads(rt, text.as_str(), want, "before a read fails");
+    Ok(())
+}
+
+/// The answer is that a read failed, after so many calls.
+fn fails_to_read(rt: &impl Abort, answer: &Result<String, JudgeError>, calls: usize) {
+    let has_failed = matches!(answer, Err(JudgeError::Io));
+    holds_at(rt, has_failed, ("calls:", calls));
+}
+
+/// The bytes come one by one, and the call after so many fails, wherever that is.
+fn judges_until_a_read_fails(
+    rt: &(impl Abort + AllocGlobal),
+    bytes: &[u8],
+    want: &str,
+) -> Result<(), Fail> {
+    // The call after those for the single bytes finds the end.
+    for calls in 0..=bytes.len() {
+        let answer = verdict_failing(rt.alloc(), bytes, 1, calls);
+        fails_to_read(rt, &answer, calls);
+    }
+    // A source that told its end is not asked again.
+    judges_before_a_read_fails(rt, bytes, bytes.len().saturating_add(1), want)
+}
+
+#[test]
+fn answers_io_where_a_read_fails(rt: HostRuntime) -> Result<(), Fail> {
+    for &(words, want) in READ {
+        let log = log_of(rt.alloc(), words)?;
+        judges_until_a_read_fails(&rt, log.as_str().as_bytes(), want)?;
+    }
+    Ok(())
+}
+
+/// The verdict comes at the first entry in trouble, and nothing after it is read: the source does not fail.
+#[test]
+fn reads_nothing_after_a_breach(rt: HostRuntime) -> Result<(), Fail> {
+    let log = log_of(rt.alloc(), "S 0,449 INVITE 1")?;
+    let bytes = log.as_str().as_bytes();
+    judges_before_a_read_fails(&rt, bytes, bytes.len(), "breach 2 transaction 1")?;
+    let faulty = header(rt.alloc(), "tolerance 10001")?;
+    judges_single_bytes(&rt, faulty.as_str().as_bytes(), "log fault 0 20 Header")
+}
+
+/// The bytes come one by one, and the call after so many fails.
+fn answers_io(rt: &(impl Abort + AllocGlobal), bytes: &[u8], calls: usize, entry: u32) {
+    let answer = listing_failing(rt.alloc(), bytes, (1, calls), entry);
+    fails_to_read(rt, &answer, calls);
+}
+
+/// The bytes come one by one, and the call after so many fails, but it does not come.
+fn lists_before_a_read_fails(
+    rt: &(impl Abort + AllocGlobal),
+    bytes: &[u8],
+    calls: usize,
+    entry: u32,
+    want: &str,
+) -> Result<(), Fail> {
+    let text = listing_failing(rt.alloc(), bytes, (1, calls), entry)?;
+    reads(rt, text.as_str(), want, "before a read fails");
+    Ok(())
+}
+
+/// Lists the last entry and the one after it where a read fails, wherever that is.
+fn lists_until_a_read_fails(
+    rt: &(impl Abort + AllocGlobal),
+    bytes: &[u8],
+    entry: u32,
+    want: &str,
+) -> Result<(), Fail> {
+    for calls in 0..bytes.len() {
+        answers_io(rt, bytes, calls, entry);
+    }
+    // Nothing after the entry is read: not even the end.
+    lists_before_a_read_fails(rt, bytes, bytes.len(), entry, want)?;
+    let next = entry.saturating_add(1);
+    // That there is no further entry is told at the end alone.
+    answers_io(rt, bytes, bytes.len(), next);
+    let calls = bytes.len().saturating_add(1);
+    lists_before_a_read_fails(rt, bytes, calls, next, "no entry")
+}
+
+/// The last entries of logs.
+const LISTED: &[Listed] = &[
+    (STORED, 4, "no transaction\n"),
+    (
+        "R 0 INVITE 1; S 0 INVITE 1 486; R 480 INVITE 1; S 490,540 INVITE 1 486",
+        5,
+        "transaction 1 server INVITE states 1\n  completed reliable=no final=2 set=0 repeat=540 interval=1000\n",
+    ),
+    (
+        "S 0 INVITE 1; R 50 INVITE 1 180; S 100 CANCEL 1",
+        3,
+        "transaction 2 client CANCEL states 1\n  trying reliable=no request=3 start=100 set=100 interval=500\n\
+        transaction 1 client INVITE states 1\n  proceeding reliable=no request=1 cancel=100\n",
+    ),
+];
+
+#[test]
+fn lists_until_any_read_fails(rt: HostRuntime) -> Result<(), Fail> {
+    for &(words, entry, want) in LISTED {
+        let log = log_of(rt.alloc(), words)?;
+        lists_until_a_read_fails(&rt, log.as_str().as_bytes(), entry, want)?;
+    }
+    Ok(())
+}
+
+/// The call after those for the single bytes finds the end.
+#[test]
+fn answers_io_after_the_last_entry(rt: HostRuntime) -> Result<(), Fail> {
+    let log = log_of(rt.alloc(), STORED)?;
+    let bytes = log.as_str().as_bytes();
+    for calls in 0..=bytes.len() {
+        answers_io(&rt, bytes, calls, 5);
+    }
+    Ok(())
+}
+
+/// The source of a long log fails after each number of calls, until its end is found before: no answer changes in the place of the error.
+#[test]
+fn answers_io_in_a_long_log(rt: HostRuntime) -> Result<(), Fail> {
+    let log = long_log(rt.alloc())?;
+    let bytes = log.as_str().as_bytes();
+    let fewest = bytes.len() / 4_096;
+    for calls in 0..1_000 {
+        let answer = verdict_failing(rt.alloc(), bytes, 4_096, calls);
+        if answer.is_ok() {
+            holds_at(&rt, calls > fewest, ("calls:", calls));
+            return Ok(());
+        }
+        fails_to_read(&rt, &answer, calls);
+    }
+    Err("never read".into())
+}
+
+/// The same where a long log is listed, and shown.
+#[test]
+fn lists_and_shows_until_a_read_fails(rt: HostRuntime) -> Result<(), Fail> {
+    let log = long_log(rt.alloc())?;
+    let bytes = log.as_str().as_bytes();
+    let fewest = bytes.len() / 4_096;
+    for calls in 0..1_000 {
+        let answer = listing_failing(rt.alloc(), bytes, (4_096, calls), 5);
+        if answer.is_ok() {
+            holds_at(&rt, calls > fewest, ("calls:", calls));
+            return Ok(());
+        }
+        fails_to_read(&rt, &answer, calls);
+        let shown = shown_failing_in(rt.alloc(), bytes, 4_096, calls);
+        holds_at(&rt, shown == Err(ShowError::Read), ("shown, calls:", calls));
+    }
+    Err("never read".into())
+}

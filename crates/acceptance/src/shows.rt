@@ -82,15 +82,16 @@ fn tells_the_side_that_failed(rt: HostRuntime) -> Result<(), Fail> {
     Ok(())
 }
 
-/// Shows a log of two entries, and shows it again where memory was refused.
+/// Shows a log of so many entries, and shows it again where memory was refused.
 fn shows_or_wants_memory(
     rt: &(impl Abort + AllocGlobal),
     bytes: &[u8],
     want: &[u8],
+    entries: u32,
 ) -> Result<(), Fail> {
-    let whole = Shown::End { entries: 2 };
+    let whole = Shown::End { entries };
     // With room for the whole text, so that writing takes no memory.
-    let mut text = Vec::with_capacity(rt.alloc(), 1_000)?;
+    let mut text = Vec::with_capacity(rt.alloc(), 2_000)?;
     let answer = written(rt.alloc(), bytes, &mut text);
     holds(rt, want.starts_with(&text), "a front");
     match answer {
@@ -106,11 +107,75 @@ fn shows_or_wants_memory(
     }
 }
 
+/// Appends an entry after its number: the bytes of a log from one place to another. Where the message of the entry is of the
+/// canonical form, it is shown so.
+fn push_numbered(
+    text: &mut Vec<u8>,
+    log: &[u8],
+    number: &[u8],
+    (first, end): (usize, usize),
+) -> Result<(), Fail> {
+    let Some(entry) = log.get(first..end) else {
+        return Err("a short log".into());
+    };
+    text.extend_from_slice(number)?;
+    text.extend_from_slice(entry)?;
+    Ok(())
+}
+
 /// A refused growth within `show`. `tests/growths` refuses each in turn: the answer is want of memory, and what was
 /// written until then is a front of what is written with memory.
 #[test]
 fn shows_again_after_a_refused_growth(rt: HostRuntime) -> Result<(), Fail> {
     let log = folded_log(rt.alloc())?;
     let want = ["1 S 0 202\n", UNFOLDED, "\n2 M 5\nend 2\n"].concat(rt.alloc())?;
-    shows_or_wants_memory(&rt, log.as_str().as_bytes(), want.as_str().as_bytes())
+    shows_or_wants_memory(&rt, log.as_str().as_bytes(), want.as_str().as_bytes(), 2)
+}
+
+/// The same for a REGISTER that is sent again and answered.
+#[test]
+fn shows_the_stored_run_after_a_refused_growth(rt: HostRuntime) -> Result<(), Fail> {
+    let log = log_of(rt.alloc(), STORED)?;
+    let bytes = log.as_str().as_bytes();
+    let mut want = Vec::new(rt.alloc());
+    push_numbered(&mut want, bytes, b"1 ", (48, 256))?;
+    push_numbered(&mut want, bytes, b"2 ", (256, 466))?;
+    push_numbered(&mut want, bytes, b"3 ", (466, 667))?;
+    push_numbered(&mut want, bytes, b"4 ", (667, 674))?;
+    want.extend_from_slice(b"end 4\n")?;
+    shows_or_wants_memory(&rt, bytes, want.as_slice(), 4)
+}
+
+/// The same for a server that repeats its 486.
+#[test]
+fn shows_a_repeat_after_a_refused_growth(rt: HostRuntime) -> Result<(), Fail> {
+    let log = log_of(
+        rt.alloc(),
+        "R 0 INVITE i1; S 0 INVITE i1 486; R 480 INVITE i1; S 490,540 INVITE i1 486",
+    )?;
+    let bytes = log.as_str().as_bytes();
+    let mut want = Vec::new(rt.alloc());
+    push_numbered(&mut want, bytes, b"1 ", (48, 252))?;
+    push_numbered(&mut want, bytes, b"2 ", (252, 449))?;
+    push_numbered(&mut want, bytes, b"3 ", (449, 655))?;
+    push_numbered(&mut want, bytes, b"4 ", (655, 854))?;
+    push_numbered(&mut want, bytes, b"5 ", (854, 1_053))?;
+    want.extend_from_slice(b"end 5\n")?;
+    shows_or_wants_memory(&rt, bytes, want.as_slice(), 5)
+}
+
+/// The same for a call that is cancelled.
+#[test]
+fn shows_a_cancel_after_a_refused_growth(rt: HostRuntime) -> Result<(), Fail> {
+    let log = log_of(
+        rt.alloc(),
+        "S 0 INVITE i1; R 50 INVITE i1 180; S 100 CANCEL i1",
+    )?;
+    let bytes = log.as_str().as_bytes();
+    let mut want = Vec::new(rt.alloc());
+    push_numbered(&mut want, bytes, b"1 ", (48, 252))?;
+    push_numbered(&mut want, bytes, b"2 ", (252, 450))?;
+    push_numbered(&mut want, bytes, b"3 ", (450, 656))?;
+    want.extend_from_slice(b"end 3\n")?;
+    shows_or_wants_memory(&rt, bytes, want.as_slice(), 3)
 }

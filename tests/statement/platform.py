@@ -5,23 +5,27 @@ import re
 HEADING = "## What is left trusted of the program itself\n"
 
 
+def lines_of(file, first):
+    """The lines of a file from the first that begins so on: of a function its name, and of anything else all but brackets."""
+    begin = next((at for at, line in enumerate(file.bare) if line.startswith(first)), 0)
+    for line in [it.strip() for it in file.bare[begin:]]:
+        function = re.match(r"(?:pub )?(fn \w+)", line)
+        if function:
+            yield function[1]
+        elif re.search(r"\w", line) and not re.match(r"impl\b.*\{$", line):
+            yield line
+
+
 def unlisted(repository, theorem):
-    """The members of the platform and the lines of `main` that the table does not list, and what it lists that is not there."""
+    """The lines of the platform and of `main` that the table does not list, and what it lists that is not there."""
     section = theorem.partition(HEADING)[2].partition("\n## ")[0]
-    listed = " ".join(re.findall(r"^\| (.*?) \|", section, re.M))
-    codes = set(re.findall(r"`([^`]+)`", listed))
+    listed = set(re.findall(r"`([^`]+)`", " ".join(re.findall(r"^\| (.*?) \|", section, re.M)))) - {"main.rt", "platform.rt"}
     files = {file.path.name: file for file in repository.code if file.crate == "siptrace"}
     if set(files) != {"main.rt", "platform.rt"}:
         yield f"crates/siptrace/src has {sorted(files)}, and main.rt and platform.rt are listed"
-    members = [it for line in files["platform.rt"].bare for it in re.findall(r"^ +(?:pub )?((?:fn|type|ghost) \w+)", line)]
-    for member in members:
-        if not any(re.match(rf"{member}\b", it) for it in codes):
-            yield f"crates/siptrace/src/platform.rt: docs/THEOREM.md does not list {member}"
-    main = files["main.rt"].bare
-    begin = next((n for n, line in enumerate(main) if re.match(r"fn main\b", line)), len(main))
-    for line in [it.strip() for it in main[begin + 1 :]]:
-        if re.search(r"\w", line) and line not in codes:
-            yield f"crates/siptrace/src/main.rt: docs/THEOREM.md does not list {line}"
-    for code in sorted(it for it in codes if it.startswith(("fn ", "type ", "ghost "))):
-        if " ".join(code.split()[:2]).rstrip("(") not in members:
-            yield f"crates/siptrace/src/platform.rt has no {code}, which docs/THEOREM.md lists"
+    stand = {line: name for name, first in [("platform.rt", "impl "), ("main.rt", "fn main")] for line in lines_of(files[name], first) if line != "fn main"}
+    for line in stand:
+        if line not in listed:
+            yield f"crates/siptrace/src/{stand[line]}: docs/THEOREM.md does not list {line}"
+    for line in sorted(listed - {*stand}):
+        yield f"crates/siptrace/src has no line {line}, which docs/THEOREM.md lists"

@@ -11,6 +11,7 @@ from statement.antt import Item
 from statement.laws import public_laws
 from statement.laws import table as law_table
 from statement.machines import differing
+from statement.platform import unlisted
 from statement.repository import TOP, Repository, contract, text_of
 
 PAGE = TOP / "docs/THEOREM.md"
@@ -167,8 +168,8 @@ def main(arguments):
     print(f"of std: {' '.join(sorted(others - {*lost}))}")
     machines = {Path(module).suffix[1:]: file for module, file in repository.modules.items() if file and module.startswith("Rattle.sip_machine.specs.")}
     missing, other = list(untold(items)), list(differing(text_of(STANDARD / "MACHINES.md"), machines))
-    strangers = sorted(set(unknown_files()))
-    for it in [*missing, *other, *strangers, *hidden, *changes, *of_laws]:
+    strangers, open_lines = sorted(set(unknown_files())), list(unlisted(repository, page))
+    for it in [*missing, *other, *strangers, *open_lines, *hidden, *changes, *of_laws]:
         print(it)
     print(f"{said}; {len(own_laws)} public laws")
     told = {
@@ -177,6 +178,7 @@ def main(arguments):
         "other rows in docs/standard": other,
         "laws that are not public": hidden,
         "files that docs/standard names and no crate has": strangers,
+        "trusted lines of the program that docs/THEOREM.md does not list": open_lines,
     }
     if any(told.values()):
         sys.exit("; ".join(f"{what}: {len(some)}" for what, some in told.items() if some))

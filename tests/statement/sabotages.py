@@ -187,4 +187,11 @@ LAWS = {
     "a law for its crate alone": law("sip_key", "pub fn keys_are_equal_by", "pub(crate) fn keys_are_equal_by", "the law keys_are_equal_by_their_parts is not public"),
     "a law without a clause": law("sip_log", "    ensures { (input : List ℕ)", "    requires { (input : List ℕ)", "stands among laws and is none"),
 }
-ALL = {**DEFINITIONS, **TYPES, **TABLES, **LAWS}
+MAIN, PLATFORM = "crates/siptrace/src/main.rt", "crates/siptrace/src/platform.rt"
+LINES = {
+    "a member of the platform": (at(PLATFORM, ("    type File = File;\n", "    type File = File;\n\n    fn moment(&self) -> u64 {\n        0\n    }\n")), "does not list fn moment"),
+    "a file under another name": (at(PLATFORM, ("        File::open(&self.rt, path)\n", "        File::open(&self.rt, path).or_else(|_| File::open(&self.rt, \"other\"))\n")), "does not list File::open(&self.rt, path).or_else"),
+    "a line of main": (at(MAIN, ("    ExitCode::from(status)\n", "    let status = status.min(4);\n    ExitCode::from(status)\n")), "does not list let status = status.min(4);"),
+    "another program": (at(MAIN, ("program(rt.alloc(), &mut system, &mut output, &mut errors)", "program(rt.alloc(), &mut system, &mut errors, &mut errors)")), "does not list program(rt.alloc(), &mut system, &mut errors"),
+}
+ALL = {**DEFINITIONS, **TYPES, **TABLES, **LAWS, **LINES}

@@ -229,7 +229,8 @@ def part_of(branch, count):
 def sent_by_of(data):
     """Host and port of the top Via, by which a server tells its clients apart."""
     words = top_via(data).split(b";")[0].split(b"/", 2)[-1].split(None, 1)
-    host, port = re.fullmatch(rb"(\[[^]]*\]|[^:]*?)\s*(?::\s*(\d+))?\s*", words[1] if len(words) == 2 else b"").groups() or (b"", b"")
+    found = re.fullmatch(rb"(\[[^]]*\]|[^:]*?)\s*(?::\s*(\d{1,5}))?\s*", words[1] if len(words) == 2 else b"")
+    host, port = found.groups() if found else (words[-1] if words else b"", None)  # of a Via that is malformed all that stands there
     return host.lower() + b":%d" % int(port or 5060)
 
 

@@ -1,0 +1,194 @@
+"""Finds the transaction of a verdict in a log of any size, in one pass over the bytes.
+
+Of a message the pass looks at the start line, the top Via and the CSeq alone. What it finds is asked of the program: the entries that it gives must be in
+breach where the log is.
+"""
+import mmap
+import re
+from array import array
+from bisect import bisect_right
+from itertools import islice
+from typing import NamedTuple
+
+from sip_lines import COOKIE, HEADER, MOST_ENTRIES, RULES, Log, branch_of, die, keys_of
+
+# An entry as nearly all are: its line, a start line, and as the first field a Via that is plain up to its branch. Then one whose Via stands after
+# other lines, none of them folded. What is of neither form is read by `keys_of`.
+LINE = rb"([SRF]) (\d+) (\d+)\n(?:SIP/2\.0 |([^ /\r\n]+) )[^\n]*\n"
+PLAIN = (rb'SIP/2\.0/[A-Za-z]+ ([^\s;:,"\[\]]+)(?::(\d{1,5}))?(?:;(?![Bb][Rr])[^\s;,"]*)*;branch=([^\s;,"]+)(?=[;\r])')
+VIA_FIRST = re.compile(LINE + rb"(?:Via|v): " + PLAIN)
+VIA_LATER = re.compile(LINE + rb"(?:(?![Vv][Ii][Aa][ \t]*:|[Vv][ \t]*:|[ \t\r])[^\r\n]*\r\n)*(?:Via|v): " + PLAIN)
+CSEQ = re.compile(rb"\nCSeq: \d+ ([!-~]+)\r\n(?![ \t])")
+ENTRY_LINE = re.compile(rb"([SRFMZ]) (\d{1,13})(?: (\d{1,5}))?\n")
+BATCH = 50_000  # entries between two looks at the program
+AHEAD = 128  # how many T1 after the breach are read
+NO_BRANCH, OF_ALL = 0, 1  # the sums of a mark, and of a restart, which is every branch's
+
+
+class Entry(NamedTuple):
+    number: int
+    letter: str
+    moment: int
+    data: bytes
+
+
+def keys_or_none(letter, data):
+    """What `keys_of` tells. A message that is malformed, as one after the breach may be, has no keys."""
+    try:
+        return keys_of(letter, data)
+    except (AttributeError, IndexError, ValueError):
+        return []
+
+
+def text_of_key(key):
+    """A key as one text: role, branch, method, and of a server its sent-by."""
+    role, branch, sent_by, method = key
+    return b" ".join([role.encode(), branch, method, *([sent_by] if role == "server" else [])])
+
+
+def mapped(name):
+    try:
+        with open(name, "rb") as file:
+            return mmap.mmap(file.fileno(), 0, access=mmap.ACCESS_READ)
+    except (OSError, ValueError):
+        die("cannot read %s twice: give a file" % name, 4)
+
+
+def sum_of_branch(branch):
+    return hash(branch) | 2
+
+
+class Index:
+    """Where each entry of a log begins, of which branch it is, and the keys in the order in which they first appear."""
+
+    def __init__(self, name):
+        self.times = Log(name).times
+        self.text = mapped(name)
+        self.places, self.moments, self.branches, self.keys = array("Q"), array("Q"), array("q"), {}
+        self.place = self.header_end()
+
+    def header_end(self):
+        end = HEADER.match(self.text).end()
+        rules = RULES.match(self.text, end)
+        return rules.end() if rules else end
+
+    def read(self, most=BATCH):
+        """Reads up to so many entries more. Answers whether there may be others. All that a large log costs is this loop, so it is flat."""
+        text, size, place, keys = self.text, len(self.text), self.place, self.keys
+        first, later, cseq_in = VIA_FIRST.match, VIA_LATER.match, CSEQ.search
+        add_place, add_moment, add_branch = self.places.append, self.moments.append, self.branches.append
+        for _ in range(min(most, MOST_ENTRIES - len(self.places))):
+            found = first(text, place) or later(text, place)
+            if found:
+                letter, moment, length, method, host, port, branch = found.groups()
+                stop = found.end(3) + 1 + int(length)
+                is_client = (letter == b"R") is (method is None)
+                if method is None:
+                    cseq = cseq_in(text, found.end(), stop)
+                    method = cseq[1] if cseq else b""
+                elif method == b"ACK":
+                    method = b"INVITE"
+                branch = branch.lower()
+                if is_client:
+                    key = b"client " + branch + b" " + method
+                else:
+                    key = b"server %b %b %b:%d" % (branch, method, host.lower(), int(port or 5060))
+                if method == b"CANCEL" or not method:  # a CANCEL that was sent is of two keys
+                    found = None
+                elif key not in keys:
+                    if stop < size and branch.startswith(COOKIE):
+                        keys[key] = len(keys) + 1
+                    else:
+                        found = None
+                of_branch = hash(branch) | 2  # as sum_of_branch, without a call
+            if not found:
+                of_branch, moment, stop = self.odd_entry(place)
+            if stop >= size:
+                return False
+            add_place(place)
+            add_moment(int(moment))
+            add_branch(of_branch)
+            self.place = place = stop + 1
+        return place < size and len(self.places) < MOST_ENTRIES
+
+    def odd_entry(self, place):
+        """The branch, the moment and the end of an entry that is not plain. One that cannot be read has no end before that of the log."""
+        found = ENTRY_LINE.match(self.text, place)
+        letter, moment, length = found.groups() if found else (b"", 0, None)
+        if not found or (letter in b"MZ") is (length is not None):
+            return NO_BRANCH, 0, len(self.text)
+        if length is None:
+            return OF_ALL if letter == b"Z" else NO_BRANCH, moment, found.end() - 1
+        stop = found.end() + int(length)
+        data = self.text[found.end():stop]
+        keys = keys_or_none(letter.decode(), data)
+        for key in keys:  # counted as the program does
+            self.keys.setdefault(text_of_key(key), len(self.keys) + 1)
+        return sum_of_branch(branch_of(data) or b"\n%d" % place), moment, stop
+
+    def key_of(self, number):
+        """Role, branch, sent-by and method of the transaction with this number; None where there is none."""
+        text = next(islice(self.keys, number - 1, None), None)
+        if text is None:
+            return None
+        role, branch, method, *sent_by = text.split(b" ")
+        return role.decode(), branch, b"".join(sent_by), method
+
+    def number_of(self, key):
+        return self.keys[text_of_key(key)]
+
+    def entry(self, number):
+        place = self.places[number - 1]
+        end = self.text.find(b"\n", place)
+        words = self.text[place:end].split()
+        data = self.text[end + 1:end + 1 + int(words[2])] if len(words) == 3 else b""
+        return Entry(number, words[0].decode(), int(words[1]), data)
+
+    def of_branch(self, branch, last):
+        """The entries of a branch up to entry `last`, with each restart among them."""
+        wanted = sum_of_branch(branch), OF_ALL
+        mine = [self.entry(number) for number, one in enumerate(islice(self.branches, last), 1) if one in wanted]
+        return [one for one in mine if one.letter == "Z" or branch_of(one.data) == branch]
+
+    def mentions(self, text, after, most, reach):
+        """The numbers of up to `most` entries in which a text stands, of the `reach` ones after entry `after`."""
+        number, found = after, []
+        last = min(after + reach, len(self.places))
+        limit = self.places[last] if last < len(self.places) else self.place
+        place = self.places[after] if after < len(self.places) else limit
+        while len(found) < most and (place := self.text.find(text, place, limit)) >= 0:
+            while number < len(self.places) and self.places[number] <= place:
+                number += 1
+            found.append(number)
+            place = self.places[number] if number < len(self.places) else limit
+        return found
+
+
+class Found:
+    """A transaction that is in breach at entry `at` of a log: its key, and the entries of its branch up to AHEAD*T1 after that."""
+
+    def __init__(self, index, at, key, entries=None):
+        self.index, self.times, self.at, self.key = index, index.times, at, key
+        self.at_moment = index.moments[at - 1]
+        limit = self.at_moment + AHEAD * index.times.t1
+        while index.moments[-1] <= limit and index.read():
+            pass
+        self.end = bisect_right(index.moments, limit)  # the number of the last entry that is looked at
+        self.last = index.moments[self.end - 1]
+        self.entries = index.of_branch(key[1], self.end) if entries is None else [one for one in entries if one.number <= self.end]
+        self.entry, self.mentions = index.entry, index.mentions
+
+
+def index_beside(name, is_done):
+    """The index of a log as far as it was read while the program judged the log, and a batch at least."""
+    index = Index(name)
+    while index.read() and not is_done():
+        pass
+    return index
+
+
+def index_up_to(index, at):
+    """Goes on to entry `at`. Answers whether the log has it."""
+    while len(index.places) < at and index.read():
+        pass
+    return len(index.places) >= at

@@ -1,0 +1,174 @@
+"""Messages that are put right or made from others, for the program to be asked about. Nothing is decided here: of a message that is made wrong the
+answer is no, and no claim comes of it."""
+import re
+
+from sip_lines import code_of, cseq, field, first_line, is_response, method_of
+
+COMPACT = {b"v": b"via", b"f": b"from", b"t": b"to", b"i": b"call-id", b"l": b"content-length"}
+ACK_PARTS = ("Request-URI", "Call-ID", "From", "To", "CSeq number", "Route", "Via")  # RFC 3261 section 17.1.1.3
+HEAD_END = b"\r\n\r\n"
+
+
+def latin(data):
+    return data.decode("latin-1")
+
+
+def lines_and_rest(data):
+    """The lines of the head, each with its folds, and what is left from the empty line on."""
+    head, end, body = data.partition(HEAD_END)
+    return re.split(rb"\r\n(?![ \t])", head), end + body
+
+
+def name_of(line):
+    name = line.partition(b":")[0].strip().lower()
+    return COMPACT.get(name, name)
+
+
+def lines_of(data, name):
+    """The lines of the fields with this name, as they are spelled."""
+    return [line for line in lines_and_rest(data)[0][1:] if name_of(line) == name]
+
+
+def values_of(data, name):
+    """The values of the fields with this name in one line, for a reader."""
+    return latin(re.sub(rb"\s+", b" ", b", ".join(line.partition(b":")[2].strip() for line in lines_of(data, name))))
+
+
+def with_lines(data, name, lines):
+    """A message whose fields of a name are these lines, where its own stood, or after its start line."""
+    old, rest = lines_and_rest(data)
+    places = [n for n, line in enumerate(old) if n and name_of(line) == name]
+    kept = [line for n, line in enumerate(old) if n not in places]
+    place = places[0] if places else 1
+    return b"\r\n".join(kept[:place] + lines + kept[place:]) + rest
+
+
+def with_top_via(data, pattern, text):
+    """A message in whose top Via the first text of a pattern is another one."""
+    lines = lines_of(data, b"via")
+    return with_lines(data, b"via", [re.sub(pattern, text, lines[0], count=1, flags=re.I), *lines[1:]]) if lines else data
+
+
+def over_udp(data):
+    return with_top_via(data, rb"^([^:]*:\s*[^/]*/[^/]*/\s*)\S+", rb"\1UDP")
+
+
+def with_branch(data, branch):
+    return with_top_via(data, rb"(;\s*branch\s*=\s*)[^;,\s]+", rb"\1" + branch)
+
+
+def transport_of(data):
+    found = re.match(rb"[^/]*/[^/]*/\s*([^\s;,]+)", field(data, b"via", b"v"))
+    return latin(found[1]) if found else ""
+
+
+def first_element(line):
+    """The line of a field with its first element alone: up to the first comma outside of quotes."""
+    return re.match(rb'(?:[^",]|"(?:[^"\\]|\\.)*")*', line, re.S)[0].rstrip()
+
+
+def top_via_line(data):
+    return [first_element(line) for line in lines_of(data, b"via")[:1]]
+
+
+def request(method, uri, *lines):
+    return b"\r\n".join([method + b" " + uri + b" SIP/2.0", *lines, b"Max-Forwards: 70", b"Content-Length: 0", b"", b""])
+
+
+def uri_of(data):
+    return data.split(b" ", 2)[1]
+
+
+def request_with(invite, method, to_lines):
+    """A request that goes with an INVITE over its branch: the ACK of a refusal, or a CANCEL."""
+    return request(method, uri_of(invite), *top_via_line(invite), *lines_of(invite, b"route"), *lines_of(invite, b"from"), *to_lines,
+                   *lines_of(invite, b"call-id"), b"CSeq: " + cseq(invite)[0] + b" " + method)
+
+
+def ack_for(invite, response):
+    return request_with(invite, b"ACK", lines_of(response, b"to"))
+
+
+def cancel_for(invite):
+    return request_with(invite, b"CANCEL", lines_of(invite, b"to"))
+
+
+def response_to(asked, code):
+    """A new response to a request."""
+    to_lines = [line if b"tag=" in line else line + b";tag=made" for line in lines_of(asked, b"to")]
+    return b"\r\n".join([b"SIP/2.0 %d Made" % code, *lines_of(asked, b"via"), *lines_of(asked, b"from"), *to_lines, *lines_of(asked, b"call-id"),
+                         *lines_of(asked, b"cseq"), b"Content-Length: 0", b"", b""])
+
+
+def request_for(response):
+    """A request to which this may be the response."""
+    to_lines = [line.partition(b";tag=")[0] for line in lines_of(response, b"to")]
+    return request(cseq(response)[1], b"sip:made@example.invalid", *lines_of(response, b"via"), *lines_of(response, b"from"), *to_lines,
+                   *lines_of(response, b"call-id"), *lines_of(response, b"cseq"))
+
+
+def part_of_ack(message, part):
+    """What a request has in a part of section 17.1.1.3, as a text."""
+    if part == "Request-URI":
+        return latin(uri_of(message))
+    if part == "CSeq number":
+        return latin(cseq(message)[0])
+    return values_of(message, part.lower().encode()) or "none"
+
+
+def compared_part(message, part):
+    """A part of section 17.1.1.3 as it is compared: numbers as numbers, and From, To, Via and Route without their blanks."""
+    text = part_of_ack(message, part)
+    if part == "CSeq number":
+        return text.lstrip("0")
+    return text if part in ("Request-URI", "Call-ID") else re.sub(r"[ \t\r\n]", "", text)
+
+
+def with_part(ack, part, right):
+    """An ACK in which one part is that of another one."""
+    if part == "Request-URI":
+        method, _, rest = ack.split(b" ", 2)
+        return b" ".join([method, uri_of(right), rest])
+    if part == "CSeq number":
+        return with_lines(ack, b"cseq", [b"CSeq: " + cseq(right)[0] + b" " + cseq(ack)[1]])
+    name = part.lower().encode()
+    return with_lines(ack, name, lines_of(right, name))
+
+
+def with_parts(ack, parts, right):
+    for part in parts:
+        ack = with_part(ack, part, right)
+    return ack
+
+
+def first_difference(one, other):
+    """The first line, counted from 1, in which two messages differ, and what each has there."""
+    lines, others = one.split(b"\r\n"), other.split(b"\r\n")
+    for number in range(max(len(lines), len(others))):
+        has, should = (latin(each[number]) if number < len(each) else "(the message has ended)" for each in (lines, others))
+        if has != should:
+            return {"line": number + 1, "has": has, "should": should}
+    return {"line": len(lines), "has": "", "should": ""}
+
+
+def code(data):
+    return int(code_of(data))
+
+
+def is_request(data, *methods):
+    return not is_response(data) and method_of(data) in methods
+
+
+def is_same_kind(one, other):
+    """Whether two messages are requests of one method, or responses of one code to one method."""
+    if is_response(one) != is_response(other):
+        return False
+    if is_response(one):
+        return (code_of(one), cseq(one)[1]) == (code_of(other), cseq(other)[1])
+    return method_of(one) == method_of(other)
+
+
+def short(data):
+    """A message in a few words."""
+    words = first_line(data).split()
+    return " ".join(words[1:]) if is_response(data) else " ".join(words[:2])

@@ -1,0 +1,84 @@
+"""The verdict in a sentence: of a breach its kind and size. Made of the data alone."""
+from collections import Counter
+
+TITLES = {"too early": "TOO EARLY", "too late": "TOO LATE", "never came": "NEVER CAME", "not the same bytes": "NOT THE SAME BYTES",
+          "not the ACK": "NOT THE ACK OF THAT RESPONSE", "not begun": "A RESPONSE TO WHAT THE LOG DOES NOT BEGIN", "not allowed": "ALLOWED AT NO MOMENT"}
+MOST_WINDOWS = 3
+
+
+def span(window):
+    first, last = window
+    return "from %d on" % first if last is None else "at %d" % first if first == last else "from %d to %d" % (first, last)
+
+
+def spans(windows):
+    """Windows in words: the first ones, and the last where there are many."""
+    shown = windows if len(windows) <= MOST_WINDOWS else windows[:MOST_WINDOWS - 1]
+    rest = [] if len(shown) == len(windows) else ["at more moments, the last of them %s" % span(windows[-1])]
+    return ", and ".join([span(window) for window in shown] + rest)
+
+
+def listed(texts, word="or"):
+    texts = list(texts)
+    return (" %s " % word).join([", ".join(texts[:-1]), texts[-1]] if len(texts) > 1 else texts)
+
+
+def counted(texts):
+    """Texts of which one that stands there twice is said to."""
+    return [text if count == 1 else text + (", twice" if count == 2 else ", more than twice") for text, count in Counter(texts).items()]
+
+
+def sent_at(sent):
+    return "%s was %s at %d" % (sent["what"], "refused by the transport" if sent["letter"] == "F" else "sent", sent["moment"])
+
+
+def of_breach(facts):
+    kind, sent = facts["kind"], facts.get("sent")
+    title = TITLES[kind] + (" BY %d ms" % facts["by"] if "by" in facts else "")
+    return "%s: %s" % (title, {"too early": moved, "too late": moved, "never came": never_came, "not the same bytes": other_bytes, "not the ACK": no_ack,
+                               "not begun": not_begun, "not allowed": not_allowed}[kind](facts, sent))
+
+
+def moved(facts, sent):
+    return "%s; it was allowed %s." % (sent_at(sent), spans(sent["windows"]))
+
+
+def never_came(facts, _):
+    if facts["due"]:
+        return "by %d the element had to send %s. It did not." % (facts["deadline"], listed(one["what"] for one in facts["due"]))
+    if facts["together"]:
+        return "by %d the element had to send all of these: %s. It did not." % (facts["deadline"], listed(counted(one["what"] for one in facts["together"]), "and"))
+    return "the element could be silent up to %d and no longer, and nothing that was asked about takes it further." % facts["deadline"]
+
+
+def other_bytes(facts, sent):
+    when = "allowed then" if "and_windows" not in facts else "allowed %s, and so not at that moment either" % spans(facts["and_windows"])
+    return "%s at %d is not entry %d byte for byte, which was %s." % (sent["what"], sent["moment"], facts["repair"]["of"], when)
+
+
+def no_ack(facts, sent):
+    when = "allowed then" if "repair" in facts else "allowed %s" % spans(facts["and_windows"])
+    return "%s at %d is not the ACK of entry %d's %s, which was %s." % (sent["what"], sent["moment"], facts["of"], facts["of_what"], when)
+
+
+def not_begun(facts, sent):
+    return "%s was sent at %d, and no request that it may answer came before it in this log." % (sent["what"], sent["moment"])
+
+
+def not_allowed(facts, sent):
+    return "%s, and that is allowed at no moment after entry %d." % (sent_at(sent), facts["history"][-1][0]) if facts["history"] else "%s." % sent_at(sent)
+
+
+def of_malformed(facts):
+    entry, fault = facts["entry"], facts["fault"]
+    return "MALFORMED: entry %d, a message that the element %s at %d: %s." % (entry["number"], facts["whose"], entry["moment"], fault["meaning"])
+
+
+def of_undecided(facts):
+    return "UNDECIDED: after entry %d transaction %d could stand in more than 1,024 states, and siptrace follows no more. No breach was found up to there." % (
+        facts["entry"]["number"], facts["transaction"]["number"])
+
+
+def of_log_fault(facts):
+    entry = facts["entry"]["number"]
+    return "NO LOG: %s: %s." % ("entry %d" % entry if entry else "the header", facts["fault"]["meaning"])

@@ -36,7 +36,7 @@ fn bare_log(alloc: Global) -> Result<String, Fail> {
 fn tells_the_message_that_stopped_it(rt: HostRuntime) -> Result<(), Fail> {
     let log = bare_log(rt.alloc())?;
     let (text, answer) = shown(rt.alloc(), log.as_str().as_bytes())?;
-    let want = b"malformed 1 head 2 BareLineEnd\n";
+    let want = b"malformed 1 head 2 BareLineEnd\n".as_slice();
     holds(&rt, text.as_slice() == want, "the text");
     let is_told = matches!(answer, Shown::Malformed { entry: 1, .. });
     holds(&rt, is_told, "the answer");

@@ -13,7 +13,7 @@ h3{font-size:1.05rem;margin:1.6rem 0 .3rem}h4{font-size:1rem;margin:1rem 0 .2rem
 .bad{color:var(--bad);font-weight:700}.good{color:var(--good);font-weight:700}.note{color:var(--soft);font-size:.9rem}
 .say{border-left:.35rem solid var(--bad);background:var(--badbox);padding:.6rem .8rem;margin:.8rem 0;font-size:1.05rem}
 table{border-collapse:collapse;width:100%}th,td{text-align:left;vertical-align:top;padding:.2rem .5rem;border-bottom:1px solid var(--line)}
-td.n{text-align:right;white-space:nowrap}
+td.n{text-align:right}th,td.n,td:first-child{white-space:nowrap}
 code,pre{font-family:ui-monospace,"DejaVu Sans Mono",monospace;font-size:.86rem}pre{font-size:.8rem}
 pre{background:var(--box);border:1px solid var(--line);border-radius:.4rem;padding:.5rem .7rem;white-space:pre-wrap;margin:.3rem 0 1rem}
 a{color:var(--may)}:target{outline:3px solid var(--may)}.scroll{overflow-x:auto}ul,ol{margin:.2rem 0 .6rem;padding-left:1.3rem}

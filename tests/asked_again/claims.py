@@ -7,7 +7,7 @@ from collections import Counter
 
 from case import Case
 from judge import LAST, Entry, mark, read_log
-from messages import (PARTS_OF_ACK, code_of, is_response, is_same_kind, keys_of, method_of, over_udp, right_ack, solid, top_via, value, with_branch, with_part_of, wrong_parts)
+from messages import (PARTS_OF_ACK, cancel_of, code_of, is_response, is_same_kind, keys_of, method_of, over_udp, right_ack, solid, top_via, value, with_branch, with_part_of, wrong_parts)
 
 NEVER, EARLY, LATE, BYTES, ACK, STRAY, NONE = "never came", "too early", "too late", "not the same bytes", "not the ACK", "not begun", "not allowed"
 KINDS = (NEVER, EARLY, LATE, BYTES, ACK, STRAY, NONE)
@@ -241,13 +241,22 @@ class Claims:
     def deadline(self):
         case, told = self.case, self.told
         self.holds("deadline is the last moment of silence", told["deadline"] == case.last_silence() and told["deadline"] < case.moment, told["deadline"])
+        owed = self.owed_by(told["deadline"])
         for one in told["due"] + told["together"]:
             self.of_message(one)
+            if one["what"].startswith("the ACK of"):
+                self.holds("the response of an ACK that was due", case.entry(one["of"]).data in owed, one["what"])
+        self.holds("each message that was due once", len({one["bytes"] for one in told["due"]}) == len(told["due"]), ", ".join(one["what"] for one in told["due"]))
         for one in told["due"]:
             self.windows("due", one["windows"], self.settling(one["letter"], latin(one["bytes"])), self.density // 3)
             self.holds("due has a window", bool(one["windows"]))
         self.due_together()
         self.holds("something was due", bool(told["due"] or told["together"]))
+
+    def owed_by(self, deadline):
+        """The messages for which a state of the listing owes something that must be sent by a moment."""
+        found = re.findall(r"owes=(\d+)/(\d+)/must", " ".join(self.told["states"]))
+        return {self.case.history[int(number) - 1].data for number, until in found if int(until) <= deadline}
 
     def due_together(self):
         case, told = self.case, self.told
@@ -290,6 +299,7 @@ class Claims:
         case = self.case
         letter, moment, data = case.entry(row["entry"])
         self.holds("near entry", (row["letter"], row["moment"]) == (letter, moment) and row["branch"] == top_via(data)[3].decode("latin-1"))
+        self.holds("near entry in words", row["what"] in self.first_line(row["entry"]), row["what"])
         self.holds("near entry is another transaction's", case.key not in keys_of(letter, data))
         if "would_be" not in row:
             return
@@ -376,11 +386,15 @@ class Claims:
             self.nearly_the_ack(moment, data)
             return
         right = latin(told["repair"]["bytes"])
+        self.holds("the response of the ACK in words", self.first_line(told["of"]).endswith(told["of_what"]), told["of_what"])
         self.holds("the ACK put right is allowed", case.allows(Entry("S", moment, right)))
         self.holds("the response of the ACK", case.entry(told["of"]).data in self.acks_of(data, moment), told["of"])
         wanted = wrong_parts(data, case.requests()[0], case.entry(told["of"]).data)
         self.holds("parts of the ACK by 17.1.1.3", sorted(wanted) == sorted(part["part"] for part in told["repair"]["parts"]), ", ".join(wanted))
         self.parts(told["repair"]["parts"], data, right, lambda back: case.allows(Entry("S", moment, back)))
+
+    def first_line(self, number):
+        return self.case.entry(number).data.split(b"\r\n")[0].decode("latin-1")
 
     def nearly_the_ack(self, moment, data):
         """No ACK was allowed at that moment, and a right one at others."""
@@ -425,6 +439,9 @@ class Claims:
         named = {latin(one["bytes"]) for one in told["allowed_then"]}
         for other in sent:
             self.holds("what it sent before and may send again is told", other in named or not case.allows(Entry("S", moment, other)))
+        if case.role == "client" and case.method == b"INVITE" and method_of(data) != b"CANCEL" and case.requests():
+            may = case.allows(Entry("S", moment, cancel_of(case.requests()[0])))
+            self.holds("a CANCEL that may be sent is told", may == any(text.startswith(b"CANCEL ") for text in named))
         for one in told["allowed_then"]:
             self.of_message(one)
             self.holds("allowed then", case.allows(Entry(one["letter"], moment, latin(one["bytes"]))), one["what"])

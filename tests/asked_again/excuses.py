@@ -4,6 +4,7 @@ import re
 from judge import Entry, mark, write_log
 from messages import is_response, method_of, top_via
 
+MOST_PLACES = 4  # in a history at which a message that may have come sooner is put
 SKEW, COPY = 3, 50  # milliseconds within which neighbours may have changed places, and within which a copy of a packet comes
 
 
@@ -31,6 +32,7 @@ class Excuses:
 
     def says(self, what, row, is_excuse, detail=""):
         self.claims.holds("excuse by " + what, is_excuse == row["helps"], f"{row['question']} {detail}")
+        self.claims.holds("excuse that is undecided", not row["is_undecided"] or row["helps"], row["question"])
 
     def is_gone(self, entries, times=None):
         """Whether these entries and a mark, with which the log reaches the breach, are no breach."""
@@ -87,8 +89,36 @@ class Excuses:
 
     def ask_insert(self, row, change):
         more = [Entry(letter, moment, data.encode("latin-1")) for letter, moment, data in change["insert"]]
-        history = [] if self.told["kind"] == "not begun" else self.case.history
-        self.says("a message that the log lacks", row, self.is_gone([*history, *more, self.case.last_entry()]))
+        history = [] if self.told["kind"] == "not begun" else list(self.case.history)
+        after = self.place_after(change.get("after"))
+        history, rest = history[:after], history[after:]
+        self.says("a message that the log lacks", row, self.is_gone([*history, *more, *rest, self.case.last_entry()]))
+        if more[0].letter == "Z":
+            self.restarts_between(row, more[0].moment)
+        elif not row["helps"] and history and "received by" in row["question"]:
+            self.not_sooner_either(row, more[0])
+
+    def place_after(self, number):
+        """How many entries of the history stand up to an entry; all where none is named."""
+        if number is None:
+            return len(self.case.history)
+        return len([one for one in self.case.before if self.case.letters[one] and one <= number])
+
+    def restarts_between(self, row, last):
+        """A restart may come at any moment between those that the question names."""
+        start = self.case.start
+        for moment in {start, self.case.chance.randint(start, max(start, last))}:
+            gone = self.is_gone([*self.case.history, Entry("Z", moment, b""), self.case.last_entry()])
+            self.claims.holds("a restart at each moment between", gone == row["helps"], f"{row['question']} {moment}")
+
+    def not_sooner_either(self, row, message):
+        """A message that came by a moment may have come sooner: after each entry of the history, with it or just before the next one."""
+        history = self.case.history
+        for place in self.case.chance.sample(range(1, len(history) + 1), min(MOST_PLACES, len(history))):
+            following = history[place].moment if place < len(history) else message.moment
+            for moment in {history[place - 1].moment, following}:
+                sooner = [*history[:place], message._replace(moment=moment), *history[place:], self.case.last_entry()]
+                self.claims.holds("a message that came sooner excuses it no more", not self.is_gone(sooner), f"{row['question']} {moment}")
 
     def ask_letter(self, row, change):
         """A send that the transport refused."""
@@ -118,12 +148,26 @@ class Excuses:
         case = self.case
         if not change["earlier"]:
             self.claims.holds("a late start with no send before", not row["helps"])
+            self.no_start_is_late()
             return
         first = next(one for one in case.history if one.data)
         shift = -change["earlier"][0] - first.moment
         earlier = [Entry("S", first.moment + moment + shift, first.data) for moment in change["earlier"]]
         rest = [one._replace(moment=one.moment + shift) for one in self.with_breach()]
         self.says("a late start", row, earlier[-1].moment <= rest[0].moment and case.is_possible(earlier + rest))
+
+    def no_start_is_late(self):
+        """None of one to five sends of the first request before the log excuses the breach, each repeated as timer A or E has it."""
+        case = self.case
+        first = next((one for one in case.history if one.data), None)
+        if first is None or self.told["kind"] == "not begun":
+            return
+        gaps = [case.times.t1 * 2 ** n if case.method == b"INVITE" else min(case.times.t1 * 2 ** n, case.times.t2) for n in range(5)]
+        for count in range(1, 6):
+            moments = [sum(gaps[:n]) for n in range(count + 1)]
+            earlier = [Entry("S", moment, first.data) for moment in moments[:-1]]
+            rest = [one._replace(moment=one.moment - first.moment + moments[-1]) for one in self.with_breach()]
+            self.claims.holds("no start is late", not case.is_possible(earlier + rest), count)
 
     def all_are_asked(self):
         """Whether no question was left out that the breach asks for."""

@@ -136,6 +136,14 @@ def right_ack(ack, invite, response):
     return right
 
 
+def cancel_of(invite):
+    """The CANCEL of an INVITE (RFC 3261 section 9.1)."""
+    kept = [line for line in head_lines(invite)[1:] if name_of(line) in (b"from", b"to", b"call-id", b"route")]
+    lines = [b"CANCEL " + invite.split(b" ", 2)[1] + b" SIP/2.0", b"Via: " + top_via(invite)[0], *kept,
+             b"CSeq: " + value(invite, b"cseq").split()[0] + b" CANCEL", b"Content-Length: 0", b"", b""]
+    return b"\r\n".join(lines)
+
+
 def over_udp(data):
     """A message whose top Via has UDP as its transport."""
     return re.sub(rb"(?i)(\n(?:v|via)[ \t]*:\s*SIP\s*/\s*2\.0\s*/\s*)[^\s]+", rb"\1UDP", data, count=1)

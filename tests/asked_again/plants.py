@@ -147,6 +147,13 @@ class Plants:
                 return what, None
             return what, self.faults_told(what, log, STUB_COUNT=f"{folder}/second", **variables)
 
+    def genuine(self, log):
+        """What the checker tells of a log with no fault, which has to be nothing."""
+        wrong = self.faults_told(log, log)
+        if wrong:
+            print(f"A FAULT IS TOLD where there is none, in the log '{log}': {wrong[0]}")
+        return wrong
+
     def fault(self, fault):
         """Whether a fault of the module is told."""
         with tempfile.TemporaryDirectory(dir=self.work) as folder:
@@ -173,31 +180,31 @@ def is_told(wrong):
     return bool(wrong) and not any("Traceback" in text or "the checker stopped" in text or text.startswith("BAD PLANT") for text in wrong)
 
 
-def all_are_told(program, explain, check):
-    """Tries all plants, tells of each how it was told, and answers whether all were."""
+def are_told(program, explain, check, chance=None, most=None):
+    """Tries the plants, or so many of them by chance; tells of each how it was told, and answers whether all were."""
     with tempfile.TemporaryDirectory() as work, ProcessPoolExecutor() as pool:
         plants = Plants(program, explain, check, work)
-        genuine = [(f"the log '{log}' with no fault", plants.faults_told(log, log)) for log in LOGS]
-        waiting = [pool.submit(plants.fault, fault) for fault in FAULTS]
+        todo = [(fault.logs, plants.fault, fault) for fault in FAULTS]
         if plants.build_stub():
-            waiting += [pool.submit(plants.answer, answer) for answer in ANSWERS]
-            waiting += [pool.submit(plants.question, way, log, number) for way, log in KTH for number in QUESTIONS]
+            todo += [((answer.log,), plants.answer, answer) for answer in ANSWERS]
+            todo += [((log,), plants.question, way, log, number) for way, log in KTH for number in QUESTIONS]
         else:
             print("not tried, for want of cc: the wrong answers of the program")
-        outcomes = [one.result() for one in waiting]
-    told = missed = idle = 0
-    for what, wrong in genuine:
-        if wrong:
-            missed += 1
-            print(f"A FAULT IS TOLD where there is none: {what}: {wrong[0]}")
-    for what, wrong in outcomes:
-        if wrong is None:
-            idle += 1
-        elif is_told(wrong):
-            told += 1
-            print(f"told: {what}: {wrong[0].splitlines()[0]}")
-        else:
-            missed += 1
-            print(f"NOT TOLD: {what}" + "".join(f"\n  {text}" for text in wrong[:3]))
-    print(f"{told} faults told, {missed} missed, and {idle} wrong answers that changed nothing")
-    return not missed
+        todo = chance.sample(todo, most) if most else todo
+        genuine = [pool.submit(plants.genuine, log) for log in sorted({log for logs, *_ in todo for log in logs})]
+        waiting = [pool.submit(*one) for _, *one in todo]
+        false_alarms = sum(bool(one.result()) for one in genuine)
+        found = [tell(*one.result()) for one in waiting]
+    print(f"{found.count('told')} planted faults told, {found.count('missed')} missed, {found.count('idle')} wrong answers that changed nothing")
+    return not false_alarms and "missed" not in found
+
+
+def tell(what, wrong):
+    """Tells how a plant was told, or that it was not."""
+    if wrong is None:
+        return "idle"
+    if is_told(wrong):
+        print(f"told: {what}: {wrong[0].splitlines()[0]}")
+        return "told"
+    print(f"NOT TOLD: {what}" + "".join(f"\n  {text}" for text in wrong[:3]))
+    return "missed"

@@ -6,6 +6,7 @@ import re
 from collections import Counter
 
 from case import Case
+from excuses import Excuses
 from judge import LAST, Entry, mark, read_log
 from messages import (PARTS_OF_ACK, cancel_of, code_of, is_response, is_same_kind, keys_of, method_of, over_udp, right_ack, solid, top_via, value, with_branch, with_part_of, wrong_parts)
 
@@ -51,6 +52,7 @@ class Claims:
         self.of_repeat()
         {NEVER: self.never_came, LATE: self.too_late, EARLY: self.wrong_moment, BYTES: self.not_the_bytes, ACK: self.not_the_ack, STRAY: self.stray,
          NONE: self.not_allowed}[self.kind]()
+        Excuses(self).all()
 
     # Whose breach it is.
 

@@ -49,7 +49,7 @@ def faults_of_text(text, told, is_short):
         text = text.replace(packed[0], "")
     bare = NAME.sub("", text)
     faults = [f"a number that its JSON has not: {number}" for number in sorted(set(NUMBER.findall(bare)) - numbers_in(told))]
-    faults += faults_of_packed(packed, told["repeat"]["log"])
+    faults += faults_of_packed(packed, told)
     flat = " ".join(text.split())
     texts = " ".join(json.dumps(told, ensure_ascii=False).split())
     windows = windows_in(told)
@@ -71,9 +71,9 @@ def faults_of_text(text, told, is_short):
     return faults
 
 
-def faults_of_packed(packed, log):
+def faults_of_packed(packed, told):
     """Whether the lines that repeat the breach are the small log of the evidence."""
     if packed is None:
         return []
     unpacked = gzip.decompress(base64.b64decode(packed[1]))
-    return [] if unpacked == log.encode("latin-1") else ["the lines that repeat the breach are another log than that of its JSON"]
+    return [] if unpacked == told["repeat"]["log"].encode("latin-1") else ["the lines that repeat the breach are another log than that of its JSON"]

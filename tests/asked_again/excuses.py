@@ -3,6 +3,7 @@ import re
 
 from judge import Entry, mark, write_log
 from messages import is_response, method_of, top_via
+from texts import numbers_in
 
 MOST_PLACES = 4  # in a history at which a message that may have come sooner is put
 SKEW, COPY = 3, 50  # milliseconds within which neighbours may have changed places, and within which a copy of a packet comes
@@ -24,11 +25,21 @@ class Excuses:
         self.all_are_asked()
 
     def question_names(self, row, change):
-        """Whether the question names the numbers of its change."""
+        """Whether the question names the numbers of its change, and no others than those of the log and of the evidence."""
         wanted = [change[name] for name in ("t1", "rules", "tolerance", "drop") if name in change]
         wanted += [int(number) for number in change.get("letter", {})] + [moment for letter, moment, _ in change.get("insert", []) if self.told["kind"] != "not begun"]
-        said = set(re.findall(r"\d+", row["question"]))
-        self.claims.holds("a question names its numbers", all(str(number) in said for number in wanted), row["question"])
+        said = set(re.findall(r"\d+", re.sub(r"RFC \d+|\b\dxx\b", "", row["question"])))
+        holds = self.claims.holds
+        holds("a question names its numbers", all(re.search(rf"\b{number}\b", row["question"]) for number in wanted), row["question"])
+        holds("no question names other numbers", said <= self.numbers_known() | {str(len(change.get("earlier", [])) + 1)} | numbers_in(change), row["question"])
+
+    def numbers_known(self):
+        """The numbers of the evidence beside those of its questions, and by how much the moments of the transaction's entries differ."""
+        if not hasattr(self, "known"):
+            moments = [self.case.entry(number).moment for number in self.case.own]
+            differences = {str(abs(one - other)) for one in moments for other in moments if abs(one - other) <= COPY}
+            self.known = differences | numbers_in({name: value for name, value in self.told.items() if name not in ("sentence", "excuses")})
+        return self.known
 
     def says(self, what, row, is_excuse, detail=""):
         self.claims.holds("excuse by " + what, is_excuse == row["helps"], f"{row['question']} {detail}")

@@ -92,7 +92,10 @@ FAULTS = [
     Fault("the least tolerance one too great", "evidence/excuses.py", "return high\n        high -= 1", "return high + 1\n        high -= 1", ("early",)),
     Fault("no excuse told as one", "evidence/excuses.py", "helps = is_possible(words)\n", "helps = words[0] != 'legal'\n", ("early",)),
     Fault("another sentence than the data", "evidence/text.py", 'lines = [told["verdict"], "", told["sentence"],', 'lines = [told["verdict"], "", told["sentence"].replace("1", "2"),', ("early",)),
-    Fault("another number in the text", "evidence/text.py", 'yield "It could send nothing up to %d." % told["last_wait"]', 'yield "It could send nothing up to %d." % (told["last_wait"] + 7)', ("early",)),
+    Fault("another number in the sentence", "evidence/sentences.py", 'return "%s; it was allowed %s." % (sent_at(sent), spans(sent["windows"]))',
+          'return "%s; it was allowed %s." % (sent_at(sent), spans([[first - 7, last] for first, last in sent["windows"]]))', ("early",)),
+    Fault("another moment in the text", "evidence/text.py", 'yield "%s was allowed %s." % (one["what"][0].upper() + one["what"][1:], spans(one["windows"]))',
+          'yield "%s was allowed %s." % (one["what"][0].upper() + one["what"][1:], spans([[first - 7, last] for first, last in one["windows"]]))', ("never",)),
 ]
 
 

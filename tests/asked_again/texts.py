@@ -15,15 +15,20 @@ MOST_LINES = 40
 
 # Phrases of the text whose number is that of a name of the evidence.
 PHRASES = [(re.compile(pattern), names) for pattern, names in [
-    (r"[Bb]y (\d+) the element had to send", ("deadline",)), (r"could send nothing up to (\d+)", ("last_wait",)), (r"may be over from (\d+) on", ("may_be_over_from",)),
-    (r"Without entry (\d+) it would", ("without",)), (r"At (\d+) it was allowed", ("sent", "moment")), (r"was (?:sent|refused by the transport) at (\d+)[;,]", ("sent", "moment")),
+    (r"[Bb]y (\d+) the element had to send", ("deadline",)), (r"send nothing up to (\d+)", ("last_wait",)), (r"may be over from (\d+) on", ("may_be_over_from",)),
+    (r"Without entry (\d+) it would", ("without",)), (r"At (\d+) it (?:was allowed to|could) send", ("sent", "moment")), (r"was (?:sent|refused by the transport) at (\d+)[;,]", ("sent", "moment")),
     (r"is not entry (\d+) byte for byte", ("repair", "of")), (r"first in line (\d+)", ("repair", "line")), (r"is not the ACK of entry (\d+)'s", ("of",)),
     (r"Transaction (\d+): ", ("transaction", "number")), (r"Of the answers (\d+) were", ("undecided",))]]
 
 
 def numbers_in(told):
-    """All numbers of the evidence, those that stand in its texts and names too."""
+    """All numbers of the evidence, those that stand in its names and messages too."""
     return set(NUMBER.findall(json.dumps(told, ensure_ascii=False)))
+
+
+def without_sentence(told):
+    """The evidence without the sentence that is made of it."""
+    return {name: value for name, value in told.items() if name != "sentence"}
 
 
 def windows_in(told):
@@ -44,6 +49,7 @@ def value_at(told, names):
 
 def faults_of_text(text, told, is_short):
     """What a text says that its evidence does not, a line for each."""
+    told, sentence = without_sentence(told), told["sentence"]
     lines, packed = text.count("\n"), PACKED.search(text)
     if packed:
         text = text.replace(packed[0], "")
@@ -63,7 +69,7 @@ def faults_of_text(text, told, is_short):
         faults += [f"another {' '.join(names)} than its JSON: {number}" for number in pattern.findall(flat) if wanted is not None and int(number) != wanted]
     if text.split("\n", 1)[0] != told["verdict"]:
         faults.append("its first line is not the verdict")
-    if " ".join(told["sentence"].split()) not in flat:
+    if " ".join(sentence.split()) not in flat:
         faults.append("the sentence of its JSON is not in it")
     faults += [f"a byte that may steer a terminal: {byte!r}" for byte in sorted(set(UNSAFE.findall(text)))]
     if is_short and lines > MOST_LINES:

@@ -8,7 +8,8 @@ from collections import Counter
 from case import Case
 from excuses import Excuses
 from judge import LAST, Entry, mark, read_log
-from messages import (PARTS_OF_ACK, cancel_of, code_of, is_response, is_same_kind, keys_of, method_of, over_udp, right_ack, solid, top_via, value, with_branch, with_part_of, wrong_parts)
+from messages import (PARTS_OF_ACK, ack_of, cancel_of, code_of, is_response, is_same_kind, keys_of, method_of, over_udp, response_to, right_ack, solid, top_via,
+                      value, with_branch, with_part_of, wrong_parts)
 
 NEVER, EARLY, LATE, BYTES, ACK, STRAY, NONE = "never came", "too early", "too late", "not the same bytes", "not the ACK", "not begun", "not allowed"
 KINDS = (NEVER, EARLY, LATE, BYTES, ACK, STRAY, NONE)
@@ -117,7 +118,7 @@ class Claims:
             self.holds(what + ": last moment", is_right(last), last)
             self.holds(what + ": before the first moment", first <= start or not is_right(first - 1), first)
             self.holds(what + ": after the last moment", last >= end or not is_right(last + 1), last)
-        for moment in case.net(spans, count or self.density):
+        for moment in case.net(spans, count or (self.density if spans else 3 * self.density)):
             is_in = any(first <= moment <= last for first, last in spans)
             self.holds(what + (": within" if is_in else ": outside"), is_right(moment) == is_in, moment)
 
@@ -253,7 +254,20 @@ class Claims:
             self.windows("due", one["windows"], self.settling(one["letter"], latin(one["bytes"])), self.density // 3)
             self.holds("due has a window", bool(one["windows"]))
         self.due_together()
+        self.all_due()
         self.holds("something was due", bool(told["due"] or told["together"]))
+
+    def all_due(self):
+        """Whether each message is told that alone would have settled what was due: of those that it sent, and of the ACKs."""
+        case, told = self.case, self.told
+        named = [latin(one["bytes"]) for one in told["due"]]
+        moments = [case.start, case.end()] + [moment for moment in case.net([], 4)]
+        for other in {one.data for one in case.history if one.letter in "SF" and method_of(one.data) == case.method}:
+            self.holds("what it sent before and was due is told", other in named or not any(case.settles("S", moment, other) for moment in moments))
+        for response in case.refusals() if case.requests() else []:
+            is_told = any(method_of(one) == b"ACK" and not wrong_parts(one, case.requests()[0], response) for one in named)
+            ack = ack_of(case.requests()[0], response)
+            self.holds("an ACK that was due is told", is_told or not any(case.settles("S", moment, ack) for moment in moments))
 
     def owed_by(self, deadline):
         """The messages for which a state of the listing owes something that must be sent by a moment."""
@@ -304,6 +318,9 @@ class Claims:
         self.holds("near entry in words", row["what"] in self.first_line(row["entry"]), row["what"])
         self.holds("near entry is another transaction's", case.key not in keys_of(letter, data))
         if "would_be" not in row:
+            is_ack = letter == "S" and not is_response(data) and method_of(data) == b"ACK" and bool(case.requests())
+            rights = [right_ack(data, case.requests()[0], response) for response in case.refusals()] if is_ack else []
+            self.holds("near entry is nothing that was due", not any(case.settles("S", min(moment, case.end()), right) for right in rights), row["entry"])
             return
         would_be, until = row["would_be"], case.end()
         when, right = moment - would_be["late_by"], latin(would_be["bytes"])
@@ -437,17 +454,11 @@ class Claims:
         letter, moment, data = self.sent()
         self.holds("at no moment", not told["sent"]["windows"])
         self.holds("silence then", told["could_be_silent"] == case.can_be_silent_to(moment))
-        sent = {one.data for one in case.history if one.letter in "SF" and one.data != data and method_of(one.data) == case.method}
-        named = {latin(one["bytes"]) for one in told["allowed_then"]}
-        for other in sent:
-            self.holds("what it sent before and may send again is told", other in named or not case.allows(Entry("S", moment, other)))
-        if case.role == "client" and case.method == b"INVITE" and method_of(data) != b"CANCEL" and case.requests():
-            may = case.allows(Entry("S", moment, cancel_of(case.requests()[0])))
-            self.holds("a CANCEL that may be sent is told", may == any(text.startswith(b"CANCEL ") for text in named))
         for one in told["allowed_then"]:
             self.of_message(one)
             self.holds("allowed then", case.allows(Entry(one["letter"], moment, latin(one["bytes"]))), one["what"])
             self.holds("allowed then and another message", latin(one["bytes"]) != data or one["letter"] != letter, one["what"])
+        self.all_allowed_then(moment, data)
         self.without(told["without"])
         is_own = case.role == "client" and method_of(data) == b"ACK" and case.allows(Entry(letter, moment, with_branch(data, b"z9hG4bKanother")))
         self.holds("with a branch of its own", bool(told["own_branch"]) == is_own)
@@ -456,6 +467,29 @@ class Claims:
             [one._replace(data=over_udp(one.data)) for one in entries])
         self.holds("over UDP", bool(told["over_udp"]) == is_over_udp)
         self.over_from(told["may_be_over_from"])
+
+    def all_allowed_then(self, moment, data):
+        """Whether each message is told that it was allowed to send then: of those that it sent, new responses, ACKs, and a CANCEL."""
+        case = self.case
+        named = [latin(one["bytes"]) for one in self.told["allowed_then"]]
+        if not case.requests():
+            return
+
+        def may_send(other):
+            return other != data and case.allows(Entry("S", moment, other))
+
+        for other in {one.data for one in case.history if one.letter in "SF" and method_of(one.data) == case.method}:
+            self.holds("what it sent before and may send again is told", other in named or not may_send(other))
+        request = case.requests()[0]
+        for code in (184, 298, 698) if case.role == "server" else ():
+            is_told = any(code_of(one) // 100 in ((code // 100,) if code < 300 else (3, 4, 5, 6)) for one in named)
+            self.holds("a response that may be sent is told", is_told or not may_send(response_to(request, code)), code)
+        if case.role == "client" and case.method == b"INVITE":
+            has_cancel = any(method_of(one) == b"CANCEL" for one in named)
+            self.holds("a CANCEL that may be sent is told", method_of(data) == b"CANCEL" or has_cancel == case.allows(Entry("S", moment, cancel_of(request))))
+            for response in case.refusals():
+                is_told = any(method_of(one) == b"ACK" and not wrong_parts(one, request, response) for one in named)
+                self.holds("an ACK that may be sent is told", is_told or not may_send(ack_of(request, response)))
 
     def without(self, number):
         """The entry without which the send would have been allowed."""
@@ -474,13 +508,17 @@ class Claims:
     def over_from(self, first):
         """From when on the transaction may be over: a message that comes then calls for nothing, or begins it anew."""
         case = self.case
-        if first is None:
+        if not case.requests() or case.role == "client" and case.method != b"INVITE":
+            self.holds("no end that can be asked about", first is None)
             return
         probe, after = self.probe_of_end(case.requests()[0])
 
         def is_over(moment):
             return case.allows(*[Entry(letter, moment, data) for letter, data in probe], mark(moment + after))
 
+        if first is None:
+            self.holds("it is over at no moment, or at all", is_over(case.start) or not is_over(LAST - after))
+            return
         self.holds("it may be over", is_over(first), first)
         self.holds("it may not be over before", first <= case.start or not is_over(first - 1), first)
         for moment in case.net([(first, None)], self.density // 3):
@@ -489,7 +527,6 @@ class Claims:
 
     def probe_of_end(self, request):
         """Messages that are possible where a transaction is over and nowhere else, and how long after them a mark stands."""
-        head = request.partition(b"\r\n\r\n")[0].split(b"\r\n", 1)[1]
         if self.case.role == "client":
-            return [("R", b"SIP/2.0 698 Asked again\r\n" + head + b"\r\n\r\n")], self.case.times.late + 1
-        return [("R", request), ("S", b"SIP/2.0 184 Asked again\r\n" + head + b"\r\n\r\n")], 0
+            return [("R", response_to(request, 698))], self.case.times.late + 1
+        return [("R", request), ("S", response_to(request, 184))], 0

@@ -144,6 +144,17 @@ def cancel_of(invite):
     return b"\r\n".join(lines)
 
 
+def ack_of(invite, response):
+    """The ACK of a refusal of an INVITE (RFC 3261 section 17.1.1.3)."""
+    ack = cancel_of(invite).replace(b"CANCEL ", b"ACK ", 1)
+    return with_lines(with_lines(ack, b"cseq", [b"CSeq: " + value(invite, b"cseq").split()[0] + b" ACK"]), b"to", lines_named(response, b"to"))
+
+
+def response_to(request, code):
+    """A new response to a request, which has the request's fields."""
+    return b"\r\n".join([b"SIP/2.0 %d Asked again" % code, *head_lines(request)[1:], b"", b""])
+
+
 def over_udp(data):
     """A message whose top Via has UDP as its transport."""
     return re.sub(rb"(?i)(\n(?:v|via)[ \t]*:\s*SIP\s*/\s*2\.0\s*/\s*)[^\s]+", rb"\1UDP", data, count=1)

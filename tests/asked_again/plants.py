@@ -91,7 +91,7 @@ FAULTS = [
     Fault("what is not allowed told as allowed", "evidence/kinds.py", "if one.data != data and history.allows(one.at(moment))]", "if one.data != data]", ("over",)),
     Fault("the least tolerance one too great", "evidence/excuses.py", "return high\n        high -= 1", "return high + 1\n        high -= 1", ("early",)),
     Fault("no excuse told as one", "evidence/excuses.py", "helps = is_possible(words)\n", "helps = words[0] != 'legal'\n", ("early",)),
-    Fault("another sentence than the data", "evidence/text.py", 'lines = [told["verdict"], "", told["sentence"],', 'lines = [told["verdict"], "", told["sentence"].replace("1", "2"),', ("early",)),
+    Fault("another sentence than the data", "evidence/text.py", 'told["sentence"], *writer(told)]', 'told["sentence"].replace("1", "2"), *writer(told)]', ("early",)),
     Fault("another number in the sentence", "evidence/sentences.py", 'return "%s; it was allowed %s." % (sent_at(sent), spans(sent["windows"]))',
           'return "%s; it was allowed %s." % (sent_at(sent), spans([[first - 7, last] for first, last in sent["windows"]]))', ("early",)),
     Fault("another moment in the text", "evidence/text.py", 'yield "%s was allowed %s." % (one["what"][0].upper() + one["what"][1:], spans(one["windows"]))',

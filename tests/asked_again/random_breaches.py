@@ -126,17 +126,27 @@ class Walk:
         """What it sent before."""
         return [entry.data for entry in self.entries if entry.letter in "SF"]
 
+    def legal_repeat(self):
+        """What it sent last, at a moment at which it may be sent again; None where none was found."""
+        for _ in range(MOST_TRIES if self.said() else 0):
+            one = Entry("S", self.moment(), self.said()[-1])
+            if self.verdict([*self.entries, one]) == "legal":
+                return one
+        return None
+
     def wrong_entry(self, way):
         """An entry that may be the breach: of one of the ways of WAYS."""
-        chance, moment = self.chance, self.moment()
+        chance, now = self.chance, self.entries[-1].moment if self.entries else 0
         if way == "silence":
-            return mark(moment + chance.choice([0, 0, 60, 700, 40_000]))
-        if way == "repeat" and self.said():
-            return Entry(chance.choice("SSSSF"), moment, chance.choice(self.said()[-2:]))
-        if way == "bytes" and self.said():
-            return Entry("S", moment, self.said()[-1].replace(b"CSeq: ", chance.choice([b"X: y\r\nCSeq: ", b"CSeq:  "])))
+            return mark(self.moment() + chance.choice([0, 0, 60, 700, 40_000]))
         if way == "ACK" and self.role == "client" and self.method == "INVITE":
-            return Entry(chance.choice("SSSSF"), moment, spoiled_ack(chance, self.spelling, self.tag()))
+            return Entry(chance.choice("SSSSF"), now + chance.choice([0, 1, 5, 60]), spoiled_ack(chance, self.spelling, self.tag()))
+        repeat = self.legal_repeat() if way in ("repeat", "bytes") else None
+        if repeat and way == "bytes":
+            return repeat._replace(data=repeat.data.replace(b"\r\n", chance.choice([b"\r\nX: y\r\n", b" \r\n"]), 1))
+        if repeat:
+            moved = repeat.moment + chance.choice([-1, -2, -30, -100, -1000, 1, 2, 40, 101])
+            return repeat._replace(letter=chance.choice("SSSSF"), moment=max(now, moved))
         return self.entry()
 
     def verdict(self, entries):

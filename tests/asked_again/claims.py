@@ -227,7 +227,7 @@ class Claims:
     def of_message(self, one):
         """Whether a message that was asked about is what the words say of it."""
         case, what, data = self.case, one["what"], latin(one["bytes"])
-        named = re.match(r"the ACK of entry (\d+)'s|entry (\d+)'s|(?:a first|another) ([123])xx|a (CANCEL)", what)
+        named = re.match(r"the ACK of entry (\d+)'s|entry (\d+)'s|(?:a first|another|a new) ([123])xx|a (CANCEL)", what)
         if not self.holds("words that name a message", bool(named), what):
             return
         ack, again, code, cancel = named.groups()

@@ -1,0 +1,532 @@
+"""Every claim of the evidence of one breach, asked of the judge again: the verdict and whose it is, how long the transaction could be silent, what was due and
+when, the kind and its size, and what would put it right. recipes/schema/evidence.json has the form of the evidence and what each claim means.
+
+What contradicts the judge is told in a sentence. Each kind has a meaning of its own here, which is held against the one that was told."""
+import re
+from collections import Counter
+
+from case import Case
+from excuses import Excuses
+from judge import LAST, Entry, mark, read_log
+from messages import (PARTS_OF_ACK, ack_of, cancel_of, code_of, is_response, is_same_kind, keys_of, method_of, over_udp, response_to, right_ack, solid, top_via,
+                      value, with_branch, with_part_of, wrong_parts)
+
+NEVER, EARLY, LATE, BYTES, ACK, STRAY, NONE = "never came", "too early", "too late", "not the same bytes", "not the ACK", "not begun", "not allowed"
+KINDS = (NEVER, EARLY, LATE, BYTES, ACK, STRAY, NONE)
+MOST_LATER = 3  # sends after the breach among which one that was due is looked for
+
+# The timers and sections that may be named for each transaction.
+TIMERS = {("client", True): "ABDM", ("client", False): "EFK", ("server", True): "GHIL", ("server", False): "J"}
+SECTIONS = {("client", True): ("3261 section 17.1.1", "3261 section 9.1", "3261 section 13.2.2.4", "6026 section 7.2"), ("client", False): ("3261 section 17.1.2",),
+            ("server", True): ("3261 section 17.2", "6026 section 7.1", "3261 section 13.3.1.4"), ("server", False): ("3261 section 17.2",)}
+
+
+def latin(text):
+    return text.encode("latin-1")
+
+
+class Claims:
+    """The evidence of a breach, held against the judge. `wrong` has what it contradicts, `asked` how many claims of each sort there were."""
+
+    def __init__(self, judge, log, told, chance, density):
+        self.judge, self.case = judge, Case(judge, log, chance)
+        self.told, self.density = told, density
+        self.kind = told.get("kind")
+        self.asked, self.wrong = Counter(), []
+
+    def holds(self, what, truth, detail=""):
+        self.asked[what] += 1
+        if not truth:
+            self.wrong.append(f"{self.kind}: {what} {detail}".rstrip())
+        return truth
+
+    def all(self):
+        if not self.holds("the kind is one of the seven", self.kind in KINDS, self.kind):
+            return
+        self.of_verdict()
+        self.of_transaction()
+        self.of_history()
+        self.of_silence()
+        self.of_kind()
+        self.of_rule()
+        self.of_rows()
+        self.of_repeat()
+        {NEVER: self.never_came, LATE: self.too_late, EARLY: self.wrong_moment, BYTES: self.not_the_bytes, ACK: self.not_the_ack, STRAY: self.stray,
+         NONE: self.not_allowed}[self.kind]()
+        Excuses(self).all()
+
+    # Whose breach it is.
+
+    def of_verdict(self):
+        case, told = self.case, self.told
+        self.holds("verdict", told["verdict"].split() == case.verdict and told["word"] == "breach" and told["status"] == 1, told["verdict"])
+        entry = case.entry(case.at)
+        wanted = {"number": case.at, "letter": entry.letter, "moment": entry.moment, "is_own": case.at in case.own}
+        self.holds("entry of the verdict", told["entry"] == wanted and told["moment"] == entry.moment, str(told["entry"]))
+        times = told["times"]
+        self.holds("times of the header", all(times[name] == getattr(case.times, name) for name in case.times._fields), str(times))
+
+    def of_transaction(self):
+        case, own = self.case, self.told["transaction"]
+        first = next(case.entry(number).data for number in case.own if case.entry(number).data)
+        _, transport, _, branch = top_via(first)
+        wanted = {"number": case.number, "role": case.role, "method": case.method.decode(), "branch": branch.decode("latin-1"), "sent_by": case.sent_by.decode("latin-1"),
+                  "call_id": value(first, b"call-id").decode("latin-1"), "transport": transport.decode()}
+        for name, text in wanted.items():
+            self.holds("transaction's " + name, own[name] == text, f"{own[name]}, and not {text}")
+        self.holds("transaction's cseq", latin(own["cseq"]).split() == value(first, b"cseq").split(), own["cseq"])
+        number = next((number for number in reversed(case.before) if case.entry(number).data), None)
+        if number is not None:
+            listed = [one[:3] for one in self.judge.listing(case.times, case.entries[:number])]
+            self.holds("the judge counts that transaction so", (case.number, case.role, case.method.decode()) in listed, str(listed))
+
+    def of_history(self):
+        case, told = self.case, self.told
+        history = list(told["history"])
+        while history and history[0][1] == "Z":  # a restart before the transaction began changes nothing
+            del history[0]
+        self.holds("history", history == [[number, case.letters[number]] for number in case.before], str(told["history"]))
+        self.holds("history is possible", not case.history or case.is_possible(case.history))
+        self.holds("the breach shows after its history", not case.allows(case.last_entry()))
+        self.holds("phases are those of the states", told["phases"] == list(dict.fromkeys(state.split()[0] for state in told["states"])))
+        listed = self.judge.listing(case.times, case.history) if case.history else []
+        states = next((states for _, role, method, states in listed if (role, method) == (case.role, case.method.decode())), [])
+        self.holds("the states that the judge lists", told["states"] == states, f"{told['states']}, and not {states}")
+
+    def of_silence(self):
+        if "last_wait" not in self.told:
+            self.holds("what did not begin has no silence", self.kind == STRAY)
+            return
+        case, last = self.case, self.told["last_wait"]
+        self.holds("last moment of silence", last == case.last_silence(), f"{last}, and by halves {case.last_silence()}")
+        if last is None:
+            self.holds("silence for ever", case.can_be_silent_to(LAST))
+        else:
+            self.holds("silence up to its last moment", case.can_be_silent_to(last), last)
+            self.holds("no silence after its last moment", not case.can_be_silent_to(last + 1), last)
+
+    # Windows.
+
+    def windows(self, what, windows, is_right, count=None):
+        """Each window at both ends and outside of both, and a net of moments between and beside them."""
+        case = self.case
+        end, start = case.end(), case.start
+        spans = [(first, end if last is None else last) for first, last in windows]
+        self.holds(what + ": a window without an end", all(last is not None or case.last_silence() is None for _, last in windows))
+        for first, last in spans:
+            self.holds(what + ": first moment", is_right(first), first)
+            self.holds(what + ": last moment", is_right(last), last)
+            self.holds(what + ": before the first moment", first <= start or not is_right(first - 1), first)
+            self.holds(what + ": after the last moment", last >= end or not is_right(last + 1), last)
+        for moment in case.net(spans, count or (self.density if spans else 3 * self.density)):
+            is_in = any(first <= moment <= last for first, last in spans)
+            self.holds(what + (": within" if is_in else ": outside"), is_right(moment) == is_in, moment)
+
+    def sends(self, letter, data):
+        return lambda moment: self.case.allows(Entry(letter, moment, data))
+
+    def settling(self, letter, data):
+        return lambda moment: self.case.settles(letter, moment, data)
+
+    # The kinds by their meaning.
+
+    def of_kind(self):
+        """Whether the kind is the one of the rule: what did not begin first, then a silence that was too long, then what was sent."""
+        case = self.case
+        if self.is_stray():
+            wanted = (STRAY,)
+        elif case.end() < case.moment:
+            wanted = (LATE,) if self.came_late() else (NEVER, LATE)
+        else:
+            wanted = self.kinds_of_a_send()
+        self.holds("kind by its meaning", self.kind in wanted, f"and not {' or '.join(wanted)}")
+
+    def is_stray(self):
+        """Whether it is a response, and no request that it could answer came before it."""
+        case = self.case
+        entry = case.breach_entry()
+        return case.is_own_send() and is_response(entry.data) and not any(one.letter == "R" and not is_response(one.data) for one in case.history)
+
+    def came_late(self):
+        """Whether one of the next sends of the transaction would have settled what was due, had it come in time."""
+        case = self.case
+        for number in case.later_sends()[:MOST_LATER]:
+            letter, _, data = case.entry(number)
+            if any(case.settles(letter, moment, data) for moment in case.net([], 12) + [case.end()]):
+                return True
+        return False
+
+    def kinds_of_a_send(self):
+        """The kinds that a wrong send may be of, by what the judge allows instead."""
+        case = self.case
+        if not case.is_own_send():
+            return ("the breach of a message that the element did not send",)
+        letter, moment, data = case.breach_entry()
+        windows = [(first, case.end() if last is None else last) for first, last in self.told.get("sent", {}).get("windows", [])]
+        if any(self.sends(letter, data)(one) for one in case.net(windows, self.density)):
+            return (EARLY, LATE)
+        is_ack = case.role == "client" and method_of(data) == b"ACK" and bool(case.refusals())
+        if is_ack and self.acks_of(data, moment):
+            return (ACK,)
+        others = {one.data for one in case.history if one.letter in "SF" and one.data != data and is_same_kind(one.data, data)}
+        if any(case.allows(Entry(letter, moment, other)) for other in others):
+            return (BYTES,)
+        return (NONE, *([BYTES] if others else []), *([ACK] if is_ack else []))
+
+    def acks_of(self, data, moment):
+        """The refusals of which this ACK, put right, would be allowed at a moment."""
+        case, found = self.case, []
+        for response in case.refusals() if case.requests() else []:
+            right = right_ack(data, case.requests()[0], response)
+            if right != data and case.allows(Entry("S", moment, right)):
+                found.append(response)
+        return found
+
+    def of_rule(self):
+        """The words of the rule are of this transaction's timers and sections."""
+        case, rule = self.case, self.told["rule"]
+        figure = case.role, case.method == b"INVITE"
+        is_restart = any(one.letter == "Z" for one in case.history)
+        self.holds("timer of the rule", not rule["timer"] or all(letter in TIMERS[figure] for letter in rule["timer"]), rule["timer"])
+        self.holds("section of the rule", any(section in rule["section"] for section in SECTIONS[figure]) or is_restart or rule["section"].endswith("section 17"), rule["section"])
+        self.holds("meaning of the rule", len(rule["meaning"]) > 20 and rule["meaning"].endswith("."), rule["meaning"])
+
+    # What is shown of the log.
+
+    def of_rows(self):
+        case, before = self.case, None
+        first_with = {}
+        for number, entry in enumerate(case.entries, 1):
+            if entry.data and (number in case.own):
+                first_with.setdefault(entry.data, number)
+        for row in self.told["rows"]:
+            entry = case.entry(row["number"])
+            self.holds("row's letter and moment", (row["letter"], row["moment"]) == (entry.letter, entry.moment), row["number"])
+            self.holds("row's time since the one above", row["since"] == (None if before is None else entry.moment - before), row["number"])
+            line = entry.data.split(b"\r\n")[0].decode("latin-1") if row["number"] in case.own else ""
+            self.holds("row's first line", row["line"] == line, row["line"])
+            again = first_with.get(entry.data) if row["number"] in case.own else None
+            self.holds("row's entry with the same bytes", row["again"] == (again if again != row["number"] else None), row["number"])
+            before = entry.moment
+
+    def of_repeat(self):
+        """The small log that shows the breach again."""
+        case, repeat = self.case, self.told["repeat"]
+        log = latin(repeat["log"])
+        verdict = self.judge.verdict(log)
+        self.holds("the small log's verdict", repeat["verdict"].split() == verdict and verdict[0] == "breach", " ".join(verdict))
+        times, entries = read_log(log)
+        self.holds("the small log has the header", times == case.times)
+        self.holds("the small log ends at the breach", len(entries) == len(repeat["numbers"]) == int(verdict[1]) and repeat["numbers"][-1] == case.at, verdict[1])
+        for number, entry in zip(repeat["numbers"], entries):
+            own = case.entry(number)
+            self.holds("an entry of the small log", entry == own or (number == case.at and entry == mark(own.moment)), number)
+        keys = list(dict.fromkeys(key for entry in entries for key in keys_of(entry.letter, entry.data)))
+        self.holds("the small log's transaction", keys[int(verdict[3]) - 1] == case.key)
+
+    def of_message(self, one):
+        """Whether a message that was asked about is what the words say of it."""
+        case, what, data = self.case, one["what"], latin(one["bytes"])
+        named = re.match(r"the ACK of entry (\d+)'s|entry (\d+)'s|(?:a first|another|a new) ([123])xx|a (CANCEL)", what)
+        if not self.holds("words that name a message", bool(named), what):
+            return
+        ack, again, code, cancel = named.groups()
+        if ack:
+            response = case.entry(int(ack))
+            self.holds("an ACK of that entry", method_of(data) == b"ACK" and wrong_parts(data, case.requests()[0], response.data) == [] and one.get("of") == int(ack), what)
+        elif again:
+            self.holds("a message with the bytes of that entry", case.entry(int(again)).data == data and one.get("of") == int(again), what)
+        else:
+            self.holds("a message of that kind", str(code_of(data))[0] in ("3456" if code == "3" else code) if code else method_of(data) == cancel.encode(), what)
+
+    # A silence that was too long.
+
+    def deadline(self):
+        case, told = self.case, self.told
+        self.holds("deadline is the last moment of silence", told["deadline"] == case.last_silence() and told["deadline"] < case.moment, told["deadline"])
+        owed = self.owed_by(told["deadline"])
+        for one in told["due"] + told["together"]:
+            self.of_message(one)
+            if one["what"].startswith("the ACK of"):
+                self.holds("the response of an ACK that was due", case.entry(one["of"]).data in owed, one["what"])
+        self.holds("each message that was due once", len({one["bytes"] for one in told["due"]}) == len(told["due"]), ", ".join(one["what"] for one in told["due"]))
+        for one in told["due"]:
+            self.windows("due", one["windows"], self.settling(one["letter"], latin(one["bytes"])), self.density // 3)
+            self.holds("due has a window", bool(one["windows"]))
+        self.due_together()
+        self.all_due()
+        self.holds("something was due", bool(told["due"] or told["together"]))
+
+    def all_due(self):
+        """Whether each message is told that alone would have settled what was due: of those that it sent, and of the ACKs."""
+        case, told = self.case, self.told
+        named = [latin(one["bytes"]) for one in told["due"]]
+        moments = [case.start, case.end()] + [moment for moment in case.net([], 4)]
+        for other in {one.data for one in case.history if one.letter in "SF" and method_of(one.data) == case.method}:
+            self.holds("what it sent before and was due is told", other in named or not any(case.settles("S", moment, other) for moment in moments))
+        for response in case.refusals() if case.requests() else []:
+            is_told = any(method_of(one) == b"ACK" and not wrong_parts(one, case.requests()[0], response) for one in named)
+            ack = ack_of(case.requests()[0], response)
+            self.holds("an ACK that was due is told", is_told or not any(case.settles("S", moment, ack) for moment in moments))
+
+    def owed_by(self, deadline):
+        """The messages for which a state of the listing owes something that must be sent by a moment."""
+        found = re.findall(r"owes=(\d+)/(\d+)/must", " ".join(self.told["states"]))
+        return {self.case.history[int(number) - 1].data for number, until in found if int(until) <= deadline}
+
+    def due_together(self):
+        case, told = self.case, self.told
+        until = case.end()
+        together = [Entry(one["letter"], until, latin(one["bytes"])) for one in told["together"]]
+        if not together:
+            return
+        self.holds("all together settle it", case.allows(*together, mark(until + 1)))
+        for number in range(len(together)):
+            self.holds("each of those together is needed", not case.allows(*together[:number], *together[number + 1:], mark(until + 1)))
+        for one in told["together"]:
+            self.windows("one of those together", one["windows"], self.sends(one["letter"], latin(one["bytes"])), self.density // 3)
+
+    def never_came(self):
+        case, told = self.case, self.told
+        self.deadline()
+        wanted = [latin(one["bytes"]) for one in told["due"]]
+        for place, number in enumerate(case.later_sends()):
+            letter, _, data = case.entry(number)
+            if data in wanted or place < MOST_LATER:
+                self.holds("no later send would have settled it", not any(case.settles(letter, moment, data) for moment in case.net([], 6) + [case.end()]), number)
+        for row in told.get("near") or []:
+            self.near(row)
+        if told.get("instead"):
+            self.instead(told["instead"])
+
+    def instead(self, told):
+        """What was sent in place of what was due, and in what it differs."""
+        case = self.case
+        self.holds("what came instead is the entry of the breach", told.get("entry", case.at) == case.at and case.is_own_send())
+        if "line" in told and "bytes" in told:
+            self.first_difference(told, case.entry(case.at).data, latin(told["bytes"]))
+        for part in told.get("parts", []):
+            if isinstance(part, dict):
+                self.holds("both values of a part", solid(latin(part["has"])) != solid(latin(part["should"])), part["part"])
+                self.holds("the part as it is", self.stands_in(part["has"], case.entry(case.at).data), part["has"])
+
+    def near(self, row):
+        """A later message of the same call, and what it lacks to be what was due."""
+        case = self.case
+        letter, moment, data = case.entry(row["entry"])
+        self.holds("near entry", (row["letter"], row["moment"]) == (letter, moment) and row["branch"] == top_via(data)[3].decode("latin-1"))
+        self.holds("near entry in words", row["what"] in self.first_line(row["entry"]), row["what"])
+        self.holds("near entry is another transaction's", case.key not in keys_of(letter, data))
+        if "would_be" not in row:
+            is_ack = letter == "S" and not is_response(data) and method_of(data) == b"ACK" and bool(case.requests())
+            rights = [right_ack(data, case.requests()[0], response) for response in case.refusals()] if is_ack else []
+            self.holds("near entry is nothing that was due", not any(case.settles("S", min(moment, case.end()), right) for right in rights), row["entry"])
+            return
+        would_be, until = row["would_be"], case.end()
+        when, right = moment - would_be["late_by"], latin(would_be["bytes"])
+        self.holds("near entry put right settles it", when <= until and case.settles("S", when, right), row["entry"])
+        self.holds("near entry as it is does not", not case.settles("S", when, data), row["entry"])
+        self.holds("near entry's delay is the least", would_be["late_by"] == max(0, moment - until), would_be["late_by"])
+        self.parts(would_be["parts"], data, right, lambda back: case.settles("S", when, back))
+
+    def too_late(self):
+        case, told = self.case, self.told
+        if "deadline" not in told:
+            self.wrong_moment()
+            return
+        self.deadline()
+        sent = told["sent"]
+        letter, moment, data = case.entry(sent["entry"])
+        self.of_message(sent)
+        self.holds("late entry", (sent["letter"], sent["moment"], latin(sent["bytes"])) == (letter, moment, data) and moment > case.end())
+        if "group" in told:
+            self.group(told["group"], sent)
+        else:
+            self.windows("late", sent["windows"], self.settling(letter, data))
+        last = sent["windows"][-1][1]
+        self.holds("size", told["by"] == moment - last and told["by"] > 0, told["by"])
+
+    def group(self, numbers, sent):
+        """Several late sends which together would have settled it in time."""
+        case = self.case
+        until = case.end()
+        entries = [case.entry(number) for number in numbers]
+        self.holds("late ones together settle it", numbers[-1] == sent["entry"] and all(one.moment > until for one in entries)
+                   and case.allows(*[Entry(one.letter, until, one.data) for one in entries], mark(until + 1)))
+        self.windows("last of the late ones", sent["windows"], self.sends(sent["letter"], latin(sent["bytes"])))
+
+    # A send that was wrong.
+
+    def sent(self):
+        """The entry of the breach as it was told, with its windows."""
+        case, sent = self.case, self.told["sent"]
+        letter, moment, data = case.breach_entry()
+        self.holds("sent entry", (sent["entry"], sent["letter"], sent["moment"], latin(sent["bytes"])) == (case.at, letter, moment, data))
+        self.of_message(sent)
+        self.windows("sent", sent["windows"], self.sends(letter, data))
+        return letter, moment, data
+
+    def wrong_moment(self):
+        told = self.told
+        _, moment, _ = self.sent()
+        windows = told["sent"]["windows"]
+        if self.holds("has a window", bool(windows)):
+            early = min((first - moment for first, _ in windows if first > moment), default=None)
+            late = min((moment - last for _, last in windows if last is not None and last < moment), default=None)
+            nearest = min(size for size in (early, late) if size is not None)
+            self.holds("size", told["by"] == (early if self.kind == EARLY else late) == nearest, told["by"])
+
+    def not_the_bytes(self):
+        case, told = self.case, self.told
+        letter, moment, data = self.sent()
+        repair = told["repair"]
+        right = latin(repair["bytes"])
+        self.holds("at no moment", not told["sent"]["windows"])
+        self.holds("what it should be is an earlier entry", case.entry(repair["of"]).data == right and repair["of"] < case.at, repair["of"])
+        self.first_difference(repair, data, right)
+        if "and_windows" in told:
+            self.windows("earlier bytes", told["and_windows"], self.sends(letter, right), self.density // 2)
+            self.holds("earlier bytes are not allowed then", not case.allows(Entry(letter, moment, right)))
+        else:
+            self.holds("earlier bytes are allowed then", case.allows(Entry(letter, moment, right)))
+
+    def first_difference(self, told, data, right):
+        lines, others = data.split(b"\r\n"), right.split(b"\r\n")
+        number = told["line"] - 1
+        self.holds("first line that differs", lines[:number] == others[:number] and lines[number:number + 1] != others[number:number + 1], told["line"])
+        if number < min(len(lines), len(others)):
+            self.holds("both texts of that line", (latin(told["has"]), latin(told["should"])) == (lines[number], others[number]))
+
+    def not_the_ack(self):
+        case, told = self.case, self.told
+        _, moment, data = self.sent()
+        self.holds("at no moment", not told["sent"]["windows"])
+        if "repair" not in told:
+            self.nearly_the_ack(moment, data)
+            return
+        right = latin(told["repair"]["bytes"])
+        self.holds("the response of the ACK in words", self.first_line(told["of"]).endswith(told["of_what"]), told["of_what"])
+        self.holds("the ACK put right is allowed", case.allows(Entry("S", moment, right)))
+        self.holds("the response of the ACK", case.entry(told["of"]).data in self.acks_of(data, moment), told["of"])
+        wanted = wrong_parts(data, case.requests()[0], case.entry(told["of"]).data)
+        self.holds("parts of the ACK by 17.1.1.3", sorted(wanted) == sorted(part["part"] for part in told["repair"]["parts"]), ", ".join(wanted))
+        self.parts(told["repair"]["parts"], data, right, lambda back: case.allows(Entry("S", moment, back)))
+
+    def first_line(self, number):
+        return self.case.entry(number).data.split(b"\r\n")[0].decode("latin-1")
+
+    def nearly_the_ack(self, moment, data):
+        """No ACK was allowed at that moment, and a right one at others."""
+        told = self.told
+        self.holds("no ACK is right then", not self.acks_of(data, moment))
+        right = latin(told["right"]["bytes"])
+        self.windows("the right ACK", told["and_windows"], self.sends("S", right), self.density // 2)
+        self.holds("the right ACK has a window", bool(told["and_windows"]))
+        self.holds("parts of the right ACK", bool(told["right"]["parts"]))
+
+    def parts(self, parts, data, right, is_right):
+        """The parts of an ACK that must change: each is needed, both values stand in the messages, and nothing else was changed."""
+        self.holds("parts are named", bool(parts) and all(part["part"] in PARTS_OF_ACK for part in parts))
+        for part in parts:
+            name = part["part"]
+            back = with_part_of(right, data, name)
+            self.holds("each part is needed", not is_right(back), name)
+            self.holds("both values of a part", solid(latin(part["has"])) != solid(latin(part["should"])), name)
+            self.holds("the part as it is", self.stands_in(part["has"], data), f"{name} {part['has']}")
+            self.holds("the part as it should be", self.stands_in(part["should"], right), f"{name} {part['should']}")
+
+    @staticmethod
+    def stands_in(text, data):
+        pieces = [solid(latin(piece)) for piece in text.split(", ")]
+        return text == "none" or all(piece in solid(data) for piece in pieces)
+
+    def stray(self):
+        case, told = self.case, self.told
+        self.holds("no request came before", self.is_stray())
+        if told.get("righted"):
+            request, entry = case.entry(told["righted"]["request"]), case.entry(case.at)
+            right = Entry(entry.letter, case.moment, latin(told["righted"]["bytes"]))
+            self.holds("put right it answers that request", request.letter == "R" and case.is_possible([request, right]))
+            self.holds("as it is it does not", not case.is_possible([request, entry]))
+
+    def not_allowed(self):
+        case, told = self.case, self.told
+        letter, moment, data = self.sent()
+        self.holds("at no moment", not told["sent"]["windows"])
+        self.holds("silence then", told["could_be_silent"] == case.can_be_silent_to(moment))
+        for one in told["allowed_then"]:
+            self.of_message(one)
+            self.holds("allowed then", case.allows(Entry(one["letter"], moment, latin(one["bytes"]))), one["what"])
+            self.holds("allowed then and another message", latin(one["bytes"]) != data or one["letter"] != letter, one["what"])
+        self.all_allowed_then(moment, data)
+        self.without(told["without"])
+        is_own = case.role == "client" and method_of(data) == b"ACK" and case.allows(Entry(letter, moment, with_branch(data, b"z9hG4bKanother")))
+        self.holds("with a branch of its own", bool(told["own_branch"]) == is_own)
+        entries = [*case.history, case.breach_entry()]
+        is_over_udp = any(one.data and top_via(one.data)[1].upper() != b"UDP" for one in entries) and case.is_possible(
+            [one._replace(data=over_udp(one.data)) for one in entries])
+        self.holds("over UDP", bool(told["over_udp"]) == is_over_udp)
+        self.over_from(told["may_be_over_from"])
+
+    def all_allowed_then(self, moment, data):
+        """Whether each message is told that it was allowed to send then: of those that it sent, new responses, ACKs, and a CANCEL."""
+        case = self.case
+        named = [latin(one["bytes"]) for one in self.told["allowed_then"]]
+        if not case.requests():
+            return
+
+        def may_send(other):
+            return other != data and case.allows(Entry("S", moment, other))
+
+        for other in {one.data for one in case.history if one.letter in "SF" and method_of(one.data) == case.method}:
+            self.holds("what it sent before and may send again is told", other in named or not may_send(other))
+        request = case.requests()[0]
+        for code in (184, 298, 698) if case.role == "server" else ():
+            is_told = any(code_of(one) // 100 in ((code // 100,) if code < 300 else (3, 4, 5, 6)) for one in named)
+            self.holds("a response that may be sent is told", is_told or not may_send(response_to(request, code)), code)
+        if case.role == "client" and case.method == b"INVITE":
+            has_cancel = any(method_of(one) == b"CANCEL" for one in named)
+            self.holds("a CANCEL that may be sent is told", method_of(data) == b"CANCEL" or has_cancel == case.allows(Entry("S", moment, cancel_of(request))))
+            for response in case.refusals():
+                is_told = any(method_of(one) == b"ACK" and not wrong_parts(one, request, response) for one in named)
+                self.holds("an ACK that may be sent is told", is_told or not may_send(ack_of(request, response)))
+
+    def without(self, number):
+        """The entry without which the send would have been allowed."""
+        case = self.case
+        kept = [one for one in case.before if case.letters[one]]
+
+        def is_right(left_out):
+            return case.is_possible([Entry(case.letters[one], *case.entry(one)[1:]) for one in kept if one != left_out] + [case.breach_entry()])
+
+        if number is None:
+            self.holds("no entry took it away", not any(is_right(one) for one in kept[1:][-4:]))
+        else:
+            self.holds("without that entry", number in kept and is_right(number), number)
+            self.holds("no newer entry took it away", not any(is_right(one) for one in kept if one > number), number)
+
+    def over_from(self, first):
+        """From when on the transaction may be over: a message that comes then calls for nothing, or begins it anew."""
+        case = self.case
+        if not case.requests() or case.role == "client" and case.method != b"INVITE":
+            self.holds("no end that can be asked about", first is None)
+            return
+        probe, after = self.probe_of_end(case.requests()[0])
+
+        def is_over(moment):
+            return case.allows(*[Entry(letter, moment, data) for letter, data in probe], mark(moment + after))
+
+        if first is None:
+            self.holds("it is over at no moment, or at all", is_over(case.start) or not is_over(LAST - after))
+            return
+        self.holds("it may be over", is_over(first), first)
+        self.holds("it may not be over before", first <= case.start or not is_over(first - 1), first)
+        for moment in case.net([(first, None)], self.density // 3):
+            if moment > first:
+                self.holds("it may be over later", is_over(moment), moment)
+
+    def probe_of_end(self, request):
+        """Messages that are possible where a transaction is over and nowhere else, and how long after them a mark stands."""
+        if self.case.role == "client":
+            return [("R", response_to(request, 698))], self.case.times.late + 1
+        return [("R", request), ("S", response_to(request, 184))], 0

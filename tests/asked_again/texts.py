@@ -1,0 +1,85 @@
+"""What the text of an explanation may say: what its evidence says. Each number of it stands there, each window is one of its windows, and the size is its size."""
+import base64
+import gzip
+import json
+import re
+
+NUMBER = re.compile(r"\d+")
+NAME = re.compile(r"\bRFC (?:3261|6026)\b")
+SPAN = re.compile(r"from (\d+) to (\d+)")
+OPEN = re.compile(r"from (\d+) on\b")
+SIZE = re.compile(r"(?:too early|too late) by (\d+) ms", re.I)
+PACKED = re.compile(r"^base64 -d <<\. \| gunzip \| siptrace\n((?:[A-Za-z0-9+/=]+\n)+)\.$", re.M)
+UNSAFE = re.compile(r"[^\n\x20-\x7e\xa0-\U0010ffff]")
+MOST_LINES = 40
+
+# Phrases of the text whose number is that of a name of the evidence.
+PHRASES = [(re.compile(pattern), names) for pattern, names in [
+    (r"[Bb]y (\d+) the element had to send", ("deadline",)), (r"send nothing up to (\d+)", ("last_wait",)), (r"may be over from (\d+) on", ("may_be_over_from",)),
+    (r"Without entry (\d+) it would", ("without",)), (r"At (\d+) it (?:was allowed to|could) send", ("sent", "moment")), (r"was (?:sent|refused by the transport) at (\d+)[;,]", ("sent", "moment")),
+    (r"is not entry (\d+) byte for byte", ("repair", "of")), (r"first in line (\d+)", ("repair", "line")), (r"is not the ACK of entry (\d+)'s", ("of",)),
+    (r"Transaction (\d+): ", ("transaction", "number")), (r"Of the answers (\d+) were", ("undecided",))]]
+
+
+def numbers_in(told):
+    """All numbers of the evidence, those that stand in its names and messages too."""
+    return set(NUMBER.findall(json.dumps(told, ensure_ascii=False)))
+
+
+def without_sentence(told):
+    """The evidence without the sentence that is made of it."""
+    return {name: value for name, value in told.items() if name != "sentence"}
+
+
+def windows_in(told):
+    """All pairs of the evidence that may be windows."""
+    found = set()
+    for one in told.values() if isinstance(told, dict) else told if isinstance(told, list) else ():
+        if isinstance(one, list) and len(one) == 2 and isinstance(one[0], int):
+            found.add(tuple(one))
+        found |= windows_in(one)
+    return found
+
+
+def value_at(told, names):
+    for name in names:
+        told = told.get(name) if isinstance(told, dict) else None
+    return told
+
+
+def faults_of_text(text, told, is_short):
+    """What a text says that its evidence does not, a line for each."""
+    told, sentence = without_sentence(told), told["sentence"]
+    lines, packed = text.count("\n"), PACKED.search(text)
+    if packed:
+        text = text.replace(packed[0], "")
+    bare = NAME.sub("", text)
+    faults = [f"a number that its JSON has not: {number}" for number in sorted(set(NUMBER.findall(bare)) - numbers_in(told))]
+    faults += faults_of_packed(packed, told)
+    flat = " ".join(text.split())
+    texts = " ".join(json.dumps(told, ensure_ascii=False).split())
+    windows = windows_in(told)
+    faults += [f"a window that its JSON has not: {first} to {last}" for first, last in SPAN.findall(flat)
+               if (int(first), int(last)) not in windows and f"from {first} to {last}" not in texts]
+    faults += [f"a window that its JSON has not: from {first} on" for first in OPEN.findall(flat)
+               if (int(first), None) not in windows and f"from {first} on" not in texts and told.get("may_be_over_from") != int(first)]
+    faults += [f"another size than its JSON: {size}" for size in SIZE.findall(flat) if told.get("by") != int(size)]
+    for pattern, names in PHRASES:
+        wanted = value_at(told, names)
+        faults += [f"another {' '.join(names)} than its JSON: {number}" for number in pattern.findall(flat) if wanted is not None and int(number) != wanted]
+    if text.split("\n", 1)[0] != told["verdict"]:
+        faults.append("its first line is not the verdict")
+    if " ".join(sentence.split()) not in flat:
+        faults.append("the sentence of its JSON is not in it")
+    faults += [f"a byte that may steer a terminal: {byte!r}" for byte in sorted(set(UNSAFE.findall(text)))]
+    if is_short and lines > MOST_LINES:
+        faults.append(f"{lines} lines")
+    return faults
+
+
+def faults_of_packed(packed, told):
+    """Whether the lines that repeat the breach are the small log of the evidence."""
+    if packed is None:
+        return []
+    unpacked = gzip.decompress(base64.b64decode(packed[1]))
+    return [] if unpacked == told["repeat"]["log"].encode("latin-1") else ["the lines that repeat the breach are another log than that of its JSON"]

@@ -175,7 +175,8 @@ def method_of(request):
 
 
 def code_of(response):
-    return first_line(response).split()[1]
+    """The code as a text, empty where the first line has none."""
+    return "".join(first_line(response).split()[1:2])
 
 
 def fields(data, *names):

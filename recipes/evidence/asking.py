@@ -14,8 +14,8 @@ import time
 from sip_lines import die, entry, program
 
 LAST = 9_999_999_999_999  # the last moment that a log can tell
+MOST_WRITTEN = 1 << 30  # bytes in one call
 LENGTHS = (200, 32_000)  # milliseconds of RFC 3261 by which moments may lie apart, beside those of the header
-SHELLS = {"env", "bash", "sh"}
 NUMBERS_OF_ENTRIES = ("request", "last", "final")  # what the listing of states names by the number of an entry
 
 
@@ -28,11 +28,12 @@ def program_of(script):
     """The program that a script becomes. It is seen while it waits for its input."""
     waiting = subprocess.Popen([script], stdin=subprocess.PIPE, stdout=subprocess.DEVNULL)
     found = script
-    while waiting.poll() is None:
-        found = os.readlink("/proc/%d/exe" % waiting.pid)
-        if os.path.basename(found) not in SHELLS:
-            break
+    while waiting.poll() is None and not os.path.basename(found).startswith("siptrace-"):
         time.sleep(0.005)
+        try:
+            found = os.readlink("/proc/%d/exe" % waiting.pid)
+        except OSError:  # it has ended
+            break
     waiting.stdin.close()
     if waiting.wait() == 70:
         sys.exit(70)  # it has said why
@@ -62,19 +63,16 @@ class Judge:
 
     def __init__(self, name=None):
         self.name = name or real_program()
-        self.file = os.memfd_create("log")
+        self.file = open(os.memfd_create("log"), "r+b", buffering=0)
         self.answers, self.asked, self.undecided = {}, 0, 0
-
-    def __del__(self):
-        os.close(self.file)
 
     def put(self, log):
         """Makes these bytes the standard input of what is run next."""
-        os.lseek(self.file, 0, os.SEEK_SET)
-        os.truncate(self.file, 0)
-        with open(self.file, "wb", closefd=False) as file:
-            file.write(log)
-        os.lseek(self.file, 0, os.SEEK_SET)
+        self.file.seek(0)
+        self.file.truncate()
+        for begin in range(0, len(log), MOST_WRITTEN):
+            self.file.write(log[begin:begin + MOST_WRITTEN])
+        self.file.seek(0)
 
     def run(self, log, *words):
         """What the program says to this standard input and these words, and its status."""
@@ -83,7 +81,7 @@ class Judge:
         ours, theirs = os.pipe()
         try:
             pid = os.posix_spawn(self.name, ["siptrace", *words], os.environ,
-                                 file_actions=[(os.POSIX_SPAWN_DUP2, self.file, 0), (os.POSIX_SPAWN_DUP2, theirs, 1)])
+                                 file_actions=[(os.POSIX_SPAWN_DUP2, self.file.fileno(), 0), (os.POSIX_SPAWN_DUP2, theirs, 1)])
         except OSError as error:
             die("cannot run %s: %s" % (self.name, error.strerror), 70)
         os.close(theirs)

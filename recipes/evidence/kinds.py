@@ -4,7 +4,7 @@ from itertools import groupby
 
 from sip_lines import call_id, cseq, die, is_response, spelled_branch
 
-from .asking import LAST
+from .asking import LAST, log_of
 from .case import MOST_CANDIDATES, Candidate, mark, sent_as, told
 from .finding import keys_or_none
 from .messages import (ACK_PARTS, ack_for, compared_part, first_difference, is_request, is_same_kind, latin, lines_of, over_udp, part_of_ack, response_to, short,
@@ -189,7 +189,9 @@ def near(case):
     call, found = call_id(first.data), []
     for number in case.found.mentions(call, last.number, 3 * MOST_NEAR, REACH) if call else []:
         one = case.found.entry(number)
-        keys = keys_or_none(one.letter, one.data) if one.data else []
+        if not one.data or case.judge.verdict(log_of(case.times, [one[1:]]))[0] == "malformed":
+            continue
+        keys = keys_or_none(one.letter, one.data)
         if call_id(one.data) == call and any(key[0] == case.role for key in keys) and case.found.key not in keys:
             row = {"entry": number, "letter": one.letter, "moment": one.moment, "what": short(one.data), "branch": latin(spelled_branch(one.data))}
             found.append({**row, **would_be_ack(case, one)})

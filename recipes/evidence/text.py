@@ -179,7 +179,7 @@ def settled(told):
         yield "Settle these before you send it. A yes to any of them, and it is no breach:"
     for one in helping:
         yield "  - %s%s%s" % (one["question"], " No clock is." if one["change"].get("tolerance", 0) > NO_CLOCK else "",
-                              " Its branch is in breach later on all the same." if one["to_the_end"] is False else "")
+                              " Later on its branch is not legal all the same." if one["to_the_end"] is False else "")
     rest = [one["short"] for one in told["excuses"] if not one["helps"]]
     if rest:
         yield "These were asked too and excuse nothing: %s." % ", ".join(rest)

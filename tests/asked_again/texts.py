@@ -5,7 +5,7 @@ import json
 import re
 
 NUMBER = re.compile(r"\d+")
-NAME = re.compile(r"\bRFC (?:3261|6026)\b")
+NAME = re.compile(r"\bRFC (?:3261|6026)\b|\b1,024 states\b")
 SPAN = re.compile(r"from (\d+) to (\d+)")
 OPEN = re.compile(r"from (\d+) on\b")
 SIZE = re.compile(r"(?:too early|too late) by (\d+) ms", re.I)

@@ -1,11 +1,8 @@
 """The judge, asked about small logs, and such logs read and written. This is the checker's own: it has nothing of recipes/."""
 import os
 import re
-import subprocess
-from pathlib import Path
 from typing import NamedTuple
 
-TOP = Path(__file__).resolve().parent.parent.parent
 LAST = 9_999_999_999_999  # the last moment that a log can tell
 MOST_KEPT = 20_000  # answers that are kept, so that no log is asked twice
 SILENT = ("M", "Z")
@@ -32,16 +29,6 @@ class Entry(NamedTuple):
 
 def mark(moment):
     return Entry("M", moment, b"")
-
-
-def find_program():
-    """The program that ./siptrace runs, which its first use builds; or the one that SIPTRACE names."""
-    if os.environ.get("SIPTRACE"):
-        return os.environ["SIPTRACE"]
-    with (TOP / "crates/siptrace/stdin").open() as stored:
-        subprocess.run([TOP / "siptrace"], stdin=stored, stdout=subprocess.DEVNULL, check=True)
-    script = 'source "$1" && find_sources && find_program && printf %s "$program"'
-    return subprocess.run(["bash", "-c", script, "bash", TOP / "siptrace"], stdout=subprocess.PIPE, text=True, check=True).stdout
 
 
 def read_log(text):

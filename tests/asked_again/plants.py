@@ -8,7 +8,6 @@ from concurrent.futures import ProcessPoolExecutor
 from pathlib import Path
 from typing import NamedTuple
 
-from judge import TOP
 from running import run
 
 HERE = Path(__file__).resolve().parent
@@ -175,7 +174,7 @@ class Plants:
 
 
 def log_of(words):
-    return subprocess.run([TOP / "tests/log", *words.split("; ")], stdout=subprocess.PIPE, check=True).stdout
+    return subprocess.run([HERE.parent / "log", *words.split("; ")], stdout=subprocess.PIPE, check=True).stdout
 
 
 def is_told(wrong):

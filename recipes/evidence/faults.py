@@ -14,6 +14,7 @@ STAGES = {1: 1, 2: 2, 3: 3, 4: 4, 5: 4, 6: 5, 7: 5, 8: 6, 9: 7, 10: 7, 11: 7, 12
 NEEDED = {b"via": b"Via: SIP/2.0/UDP made.invalid;branch=z9hG4bKmade", b"from": b"From: <sip:made@example.invalid>;tag=made",
           b"to": b"To: <sip:made@example.invalid>", b"call-id": b"Call-ID: made", b"cseq": b"CSeq: 1 %s"}
 TOLERANCES = (5000, 2000, 1000, 500, 200, 100, 50, 20, 10, 5, 2, 1, 0)
+MOST_STATES = 1024  # that the program follows
 GROWTH = 6  # entries whose numbers of states are told
 
 
@@ -148,7 +149,7 @@ def undecided(judge, found, at, transaction):
         debts = max([state.count("owes=") for state in states], default=0)
     one = found.entry(at)
     return {"entry": {"number": at, "letter": one.letter, "moment": one.moment}, "transaction": transaction, "times": found.times._asdict(),
-            "entries": [one.number for one in own], "states": growth[-1][1] if growth else 0, "most_debts": debts, "growth": growth, "decided": decided(judge, found)}
+            "most_states": MOST_STATES, "entries": [one.number for one in own], "states": growth[-1][1] if growth else 0, "most_debts": debts, "growth": growth, "decided": decided(judge, found)}
 
 
 def states_of(listing, key):

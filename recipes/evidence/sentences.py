@@ -75,8 +75,8 @@ def of_malformed(facts):
 
 
 def of_undecided(facts):
-    return "UNDECIDED: after entry %d transaction %d could stand in more than 1,024 states, and siptrace follows no more. No breach was found up to there." % (
-        facts["entry"]["number"], facts["transaction"]["number"])
+    return "UNDECIDED: after entry %d transaction %d could stand in more than %d states, and siptrace follows no more. No breach was found up to there." % (
+        facts["entry"]["number"], facts["transaction"]["number"], facts["most_states"])
 
 
 def of_log_fault(facts):

@@ -15,6 +15,7 @@ from sip_lines import call_id, cseq, die, first_line, is_response, keys_of, meth
 
 from .asking import Judge, log_of
 from .case import Case, mark
+from .faults import MOST_STATES
 from .finding import OF_ALL, Entry, Found, Index, keys_or_none
 from .kinds import kind_of
 from .messages import is_request, latin
@@ -167,7 +168,7 @@ class Survey:
             return None, None, of_malformed({"entry": one._asdict(), "whose": "received" if one.letter == "R" else "sent", "fault": fault_told(trouble.fault)})
         number = self.index.number_of(trouble.key)
         if trouble.word == "undecided":
-            return None, None, of_undecided({"entry": {"number": trouble.at}, "transaction": {"number": number}})
+            return None, None, of_undecided({"entry": {"number": trouble.at}, "transaction": {"number": number}, "most_states": MOST_STATES})
         case = Case(self.judge, Found(self.index, trouble.at, trouble.key, entries), trouble.at, number)
         if not case.is_shown():
             return None, None, "Its transaction alone does not show the breach."

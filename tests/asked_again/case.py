@@ -127,9 +127,9 @@ class Case:
         """What shows the breach after the history."""
         return self.entry(self.at) if self.at in self.own else mark(self.moment)
 
-    def later_sends(self):
-        """The numbers of its own sends from the breach on, up to a restart of the element, after which nothing can be that which was due."""
-        later = [number for number in self.own if number >= self.at]
+    def later_sends(self, last):
+        """The numbers of its own sends from the breach on, up to a moment, and to a restart of the element, after which nothing can be that which was due."""
+        later = [number for number in self.own if number >= self.at and self.entry(number).moment <= last]
         end = next((place for place, number in enumerate(later) if self.entry(number).letter == "Z"), len(later))
         return [number for number in later[:end] if self.entry(number).letter in "SF"]
 

@@ -150,7 +150,7 @@ class Claims:
     def came_late(self):
         """Whether one of the next sends of the transaction would have settled what was due, had it come in time."""
         case = self.case
-        for number in case.later_sends()[:MOST_LATER]:
+        for number in case.later_sends(self.told["last_moment"])[:MOST_LATER]:
             letter, _, data = case.entry(number)
             if any(case.settles(letter, moment, data) for moment in case.net([], 12) + [case.end()]):
                 return True
@@ -270,9 +270,10 @@ class Claims:
             self.holds("an ACK that was due is told", is_told or not any(case.settles("S", moment, ack) for moment in moments))
 
     def owed_by(self, deadline):
-        """The messages for which a state of the listing owes something that must be sent by a moment."""
-        found = re.findall(r"owes=(\d+)/(\d+)/must", " ".join(self.told["states"]))
-        return {self.case.history[int(number) - 1].data for number, until in found if int(until) <= deadline}
+        """The messages for which a state of the listing owes something that must be sent by a moment: over a reliable transport timer D ends at once, and all that is
+        owed must be sent before."""
+        found = [(number, until, "reliable=yes" in state) for state in self.told["states"] for number, until in re.findall(r"owes=(\d+)/(\d+)/must", state)]
+        return {self.case.history[int(number) - 1].data for number, until, is_reliable in found if is_reliable or int(until) <= deadline}
 
     def due_together(self):
         case, told = self.case, self.told
@@ -290,7 +291,7 @@ class Claims:
         case, told = self.case, self.told
         self.deadline()
         wanted = [latin(one["bytes"]) for one in told["due"]]
-        for place, number in enumerate(case.later_sends()):
+        for place, number in enumerate(case.later_sends(told["last_moment"])):
             letter, _, data = case.entry(number)
             if data in wanted or place < MOST_LATER:
                 self.holds("no later send would have settled it", not any(case.settles(letter, moment, data) for moment in case.net([], 6) + [case.end()]), number)

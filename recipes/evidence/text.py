@@ -184,7 +184,7 @@ def settled(told):
     if rest:
         yield "These were asked too and excuse nothing: %s." % ", ".join(rest)
     if told["kind"] == "never came":
-        yield "No tolerance is told: it did not come within the log, and only a longer log could show when it did."
+        yield "No tolerance is told: it did not come up to %d, the last moment that was read." % told["last_moment"]
     if told["undecided"]:
         yield "Of the answers %d were `undecided`, and count as allowed." % told["undecided"]
 

@@ -1,25 +1,56 @@
--- What a key feeds a hasher.
-use Rattle.std.proofs.Common.{◌≡◌, [], take, get_or, ap, refl, arith}
-use Rattle.std.specs.Hash.{le_bytes}
+-- What a key feeds a hasher: one text, which tells its parts.
+use Rattle.std.proofs.Common.{◌≡◌, ◌/◌, ◌%◌, ◌<◌, ◌++◌, ◌∷◌, [], ℕ, zero, suc, List, length, take, drop, get_or, replicate, refl, sym, ap, ap₂, ◌∙◌, append_assoc, arith}
+use Rattle.std.proofs.lemmas.List.{take_at, drop_at, length-append}
 use Rattle.sip_key.specs.declared.role.Role.{Role}
 use Rattle.sip_key.specs.declared.role.Role.TheVariants.{Client, Server}
-use Rattle.sip_key.specs.contracts.role.RoleHash.TheImpl as role_hash
 use Rattle.sip_key.specs.contracts.key.KeyHash.TheImpl as key_hash
-use Rattle.sip_key.specs.Key.{KeyParts}
+use Rattle.sip_key.specs.Key.{KeyParts, role_byte, length_bytes, key_text}
 
--- sides that feed it alike are the same
-role_by_its_feed : (r s : Role) → role_hash.ghosts.hash_input r ≡ role_hash.ghosts.hash_input s → r ≡ s
-unfolding le_bytes
-role_by_its_feed Client Client fed = refl
-role_by_its_feed Server Server fed = refl
-role_by_its_feed Client Server fed = absurd (let never : 0 ≡ 1 = ap (λ writes. get_or (get_or writes 0 []) 0 7) fed in omega (arith, never))
-role_by_its_feed Server Client fed = absurd (let never : 1 ≡ 0 = ap (λ writes. get_or (get_or writes 0 []) 0 7) fed in omega (arith, never))
+-- sides with the same byte are the same
+role-by_its_byte : (r s : Role) → role_byte r ≡ role_byte s → r ≡ s
+role-by_its_byte Client Client same = refl
+role-by_its_byte Server Server same = refl
+role-by_its_byte Client Server same = absurd (omega (arith, same))
+role-by_its_byte Server Client same = absurd (omega (arith, same))
 
--- and so are keys: their texts are the last three writes
+-- the first byte below 64 ends a length, whatever comes after it
+length-ends : (q p r s : ℕ) (t u : List ℕ) → r < 64 → s < 64 → (replicate q 64 ++ r ∷ []) ++ t ≡ (replicate p 64 ++ s ∷ []) ++ u → (q ≡ p) × (r ≡ s) × (t ≡ u)
+length-ends zero zero r s t u r_small s_small same = (refl, ap (λ bytes. get_or bytes 0 0) same, ap (drop 1) same)
+length-ends zero (suc p) r s t u r_small s_small same = let goes_on : r ≡ 64 = ap (λ bytes. get_or bytes 0 0) same in absurd (omega arith)
+length-ends (suc q) zero r s t u r_small s_small same = let goes_on : 64 ≡ s = ap (λ bytes. get_or bytes 0 0) same in absurd (omega arith)
+length-ends (suc q) (suc p) r s t u r_small s_small same =
+    let more = length-ends q p r s t u r_small s_small (ap (drop 1) same) in
+    (ap suc more.0, more.1, more.2)
+
+-- so the bytes of a length tell it, and where they end
+length-by_its_bytes : (a b : ℕ) (t u : List ℕ) → length_bytes a ++ t ≡ length_bytes b ++ u → (a ≡ b) × (t ≡ u)
+unfolding length_bytes
+length-by_its_bytes a b t u same =
+    let told = length-ends (a / 64) (b / 64) (a % 64) (b % 64) t u (omega arith) (omega arith) same in
+    (omega (arith, told.0, told.1), told.2)
+
+-- texts of the same length that begin the same text are the same, and so is what comes after them
+alike : (a b t u : List ℕ) → length a ≡ length b → a ++ t ≡ b ++ u → (a ≡ b) × (t ≡ u)
+alike a b t u long same = (
+  sym (take_at a t _ refl) ∙ ap₂ take long same ∙ take_at b u _ refl,
+  sym (drop_at a t _ refl) ∙ ap₂ drop long same ∙ drop_at b u _ refl,
+)
+
+-- keys with the same text are the same
+key-by_its_text : (a b : KeyParts) → key_text a ≡ key_text b → a ≡ b
+key-by_its_text a b same =
+    let role : a.role ≡ b.role = role-by_its_byte a.role b.role (ap (λ bytes. get_or bytes 0 0) same) in
+    let texts_a = (a.branch ++ a.sent_by) ++ a.method in
+    let texts_b = (b.branch ++ b.sent_by) ++ b.method in
+    let lengths = length-by_its_bytes (length a.branch) (length b.branch) (length_bytes (length a.method) ++ texts_a) (length_bytes (length b.method) ++ texts_b)
+    (sym (append_assoc (length_bytes (length a.branch)) (length_bytes (length a.method)) texts_a) ∙ ap (drop 1) same ∙ append_assoc (length_bytes (length b.branch)) (length_bytes (length b.method)) texts_b) in
+    let texts = length-by_its_bytes (length a.method) (length b.method) texts_a texts_b lengths.1 in
+    let long : length (a.branch ++ a.sent_by) ≡ length (b.branch ++ b.sent_by) =
+    omega (arith, ap length texts.1, length-append (a.branch ++ a.sent_by) a.method, length-append (b.branch ++ b.sent_by) b.method, texts.0) in
+    let fronts = alike (a.branch ++ a.sent_by) (b.branch ++ b.sent_by) a.method b.method long texts.1 in
+    let parts = alike a.branch b.branch a.sent_by b.sent_by lengths.0 fronts.0 in
+    λ i. record { role = role i; branch = parts.0 i; sent_by = parts.1 i; method = fronts.1 i }
+
+-- and so are keys that feed a hasher alike
 pub key_by_its_feed : (a b : KeyParts) → key_hash.ghosts.hash_input a ≡ key_hash.ghosts.hash_input b → a ≡ b
-key_by_its_feed a b fed =
-    let role : a.role ≡ b.role = role_by_its_feed a.role b.role (ap (take 1) fed) in
-    let branch : a.branch ≡ b.branch = ap (λ writes. get_or writes 3 []) fed in
-    let sent_by : a.sent_by ≡ b.sent_by = ap (λ writes. get_or writes 4 []) fed in
-    let method : a.method ≡ b.method = ap (λ writes. get_or writes 5 []) fed in
-    λ i. record { role = role i; branch = branch i; sent_by = sent_by i; method = method i }
+key_by_its_feed a b fed = key-by_its_text a b (ap (λ writes. get_or writes 0 []) fed)

@@ -1,33 +1,114 @@
--- The texts of a key, which stand one behind another.
-use Rattle.std.proofs.Common.{◌≡◌, ◌-◌, ◌++◌, ℕ, List, length, map, take, drop, refl, ap, ◌∙◌, append_assoc, arith}
+-- The text of a key: its head, and then its branch, its sent-by and its method, one after another.
+use Rattle.std.proofs.Common.{◌≡◌, ◌+◌, ◌-◌, ◌/◌, ◌%◌, ◌≤◌, ◌++◌, ◌∷◌, [], ℕ, zero, suc, List, length, map, take, drop, replicate, refl, sym, ap, ap₂, ◌∙◌, append_assoc, arith}
 use Rattle.std.specs.Prelude.{slice_range}
 use Rattle.std.specs.Char.{to_ascii_lowercase}
-use Rattle.std.proofs.lemmas.List.{take_at, drop_at, length-append, map-append}
+use Rattle.std.proofs.lemmas.List.{take_at, drop_at, length-append, length-map, length-replicate, map-append}
+use Rattle.std.proofs.lemmas.Str.Ascii.{lowercase_is}
 use Rattle.sip_text.specs.Case.{folded}
+use Rattle.sip_key.specs.declared.role.Role.{Role}
+use Rattle.sip_key.specs.declared.role.Role.TheVariants.{Client, Server}
+use Rattle.sip_key.specs.Key.{parts_at, length_bytes, role_byte, key_head, key_text}
 
-first_text : (branch sent_by method : List ℕ) → take (length branch) ((branch ++ sent_by) ++ method) ≡ branch
-first_text branch sent_by method = ap (take (length branch)) (append_assoc branch sent_by method) ∙ take_at branch (sent_by ++ method) _ refl
+-- a text between its front and what comes after it
+between : (front text rest : List ℕ) (from to : ℕ) → from ≡ length front → to ≡ from + length text → slice_range (front ++ (text ++ rest)) from to ≡ text
+between front text rest from to begins ends =
+    ap (take (to - from)) (drop_at front (text ++ rest) from (sym begins)) ∙ take_at text rest (to - from) (omega arith)
 
-second_text : (branch sent_by method : List ℕ) → slice_range ((branch ++ sent_by) ++ method) (length branch) (length (branch ++ sent_by)) ≡ sent_by
-second_text branch sent_by method =
+-- the parts of a key stand where its text has them
+parts-are : (role : Role) (head branch sent_by method text : List ℕ) (branch_start branch_end sent_by_end : ℕ) → text ≡ head ++ ((branch ++ sent_by) ++ method)
+    → branch_start ≡ length head → branch_end ≡ branch_start + length branch → sent_by_end ≡ branch_end + length sent_by
+    → parts_at role text branch_start branch_end sent_by_end ≡ record { role = role; branch = branch; sent_by = sent_by; method = method }
+parts-are role head branch sent_by method text branch_start branch_end sent_by_end whole start first second =
+    let from_branch : text ≡ head ++ (branch ++ (sent_by ++ method)) = whole ∙ simp append_assoc in
+    let from_sent_by : text ≡ (head ++ branch) ++ (sent_by ++ method) = whole ∙ simp append_assoc in
+    let from_method : text ≡ ((head ++ branch) ++ sent_by) ++ method = whole ∙ simp append_assoc in
+    let two = length-append head branch in
+    let three = length-append (head ++ branch) sent_by in
+    let branch_is : slice_range text branch_start branch_end ≡ branch =
+    ap (λ t. slice_range t branch_start branch_end) from_branch ∙ between head branch (sent_by ++ method) _ _ start first in
+    let sent_by_is : slice_range text branch_end sent_by_end ≡ sent_by =
+    ap (λ t. slice_range t branch_end sent_by_end) from_sent_by ∙ between (head ++ branch) sent_by method _ _ (omega (arith, two)) second in
+    let method_is : drop sent_by_end text ≡ method =
+    ap (drop sent_by_end) from_method ∙ drop_at ((head ++ branch) ++ sent_by) method _ (omega (arith, two, three)) in
+    λ i. record { role = role; branch = branch_is i; sent_by = sent_by_is i; method = method_is i }
+
+-- a key has these parts, and what it keeps agrees
+pub record LaidOut (role : Role) (branch sent_by method text : List ℕ) (branch_start branch_end sent_by_end : ℕ) : Type 0 where
+  pub parts : parts_at role text branch_start branch_end sent_by_end ≡ record { role = role; branch = branch; sent_by = sent_by; method = method }
+  pub sound : (branch_start ≤ branch_end) × (branch_end ≤ sent_by_end) × (sent_by_end ≤ length text) × (text ≡ key_text (parts_at role text branch_start branch_end sent_by_end))
+
+-- so it is where the text is that of the parts, and each place stands where its text does
+laid-out : (role : Role) (branch sent_by method text : List ℕ) (branch_start branch_end sent_by_end : ℕ)
+    → text ≡ key_text (record { role = role; branch = branch; sent_by = sent_by; method = method })
+    → branch_start ≡ length (key_head role (length branch) (length method)) → branch_end ≡ branch_start + length branch → sent_by_end ≡ branch_end + length sent_by
+    → LaidOut role branch sent_by method text branch_start branch_end sent_by_end
+laid-out role branch sent_by method text branch_start branch_end sent_by_end whole start first second =
+    let head = key_head role (length branch) (length method) in
+    let parts = parts-are role head branch sent_by method text branch_start branch_end sent_by_end whole start first second in
+    let all = length-append head ((branch ++ sent_by) ++ method) in
+    let texts = length-append (branch ++ sent_by) method in
     let both = length-append branch sent_by in
-    let long : length sent_by ≡ length (branch ++ sent_by) - length branch = omega (arith, both) in
-    ap (λ text. take (length (branch ++ sent_by) - length branch) text) (ap (drop (length branch)) (append_assoc branch sent_by method) ∙ drop_at branch (sent_by ++ method) _ refl)
-    ∙ take_at sent_by method _ long
+    record { parts = parts; sound = (omega arith, omega arith, omega (arith, ap length whole, all, texts, both), whole ∙ ap key_text (sym parts)) }
 
-third_text : (branch sent_by method : List ℕ) → drop (length (branch ++ sent_by)) ((branch ++ sent_by) ++ method) ≡ method
-third_text branch sent_by method = drop_at (branch ++ sent_by) method _ refl
+-- how many bytes a length takes
+length-bytes_of : (count : ℕ) → length (length_bytes count) ≡ count / 64 + 1
+unfolding length_bytes
+length-bytes_of count = omega (arith, length-append (replicate (count / 64) 64) (count % 64 ∷ []), length-replicate {A = ℕ} (count / 64) 64)
+
+-- and the head of a key
+pub head_length : (role : Role) (branch method : ℕ) → length (key_head role branch method) ≡ 3 + branch / 64 + method / 64
+head_length role branch method =
+    omega (arith, length-append (length_bytes branch) (length_bytes method), length-bytes_of branch, length-bytes_of method)
+
+-- no byte of a key's head is a letter, so that lower case leaves it
+repeated-folded : (n : ℕ) → folded (replicate n 64) ≡ replicate n 64
+repeated-folded zero = refl
+repeated-folded (suc n) = ap (λ bytes. 64 ∷ bytes) (repeated-folded n)
+
+length-folded : (count : ℕ) → folded (length_bytes count) ≡ length_bytes count
+unfolding length_bytes
+length-folded count =
+    map-append to_ascii_lowercase (replicate (count / 64) 64) (count % 64 ∷ [])
+    ∙ ap₂ ◌++◌ (repeated-folded (count / 64)) (ap (λ byte. byte ∷ []) ((lowercase_is (count % 64)).1 (omega arith)))
+
+role-folded : (role : Role) → to_ascii_lowercase (role_byte role) ≡ role_byte role
+role-folded Client = refl
+role-folded Server = refl
+
+head-folded : (role : Role) (branch method : ℕ) → folded (key_head role branch method) ≡ key_head role branch method
+head-folded role branch method =
+    ap₂ ◌∷◌ (role-folded role) (map-append to_ascii_lowercase (length_bytes branch) (length_bytes method) ∙ ap₂ ◌++◌ (length-folded branch) (length-folded method))
+
+-- the beginning of a key, first put together and then in lower case
+pub begun_folded : (role : Role) (b m : ℕ) (branch host : List ℕ) → folded ((key_head role b m ++ branch) ++ host) ≡ key_head role b m ++ folded (branch ++ host)
+begun_folded role b m branch host =
+    ap folded (append_assoc (key_head role b m) branch host)
+    ∙ map-append to_ascii_lowercase (key_head role b m) (branch ++ host)
+    ∙ ap (λ head. head ++ folded (branch ++ host)) (head-folded role b m)
 
 -- a branch and a host that are folded as one are the same as each folded alone
-pub folded_apart : (branch host port : List ℕ) → map to_ascii_lowercase (branch ++ host) ++ port ≡ folded branch ++ (folded host ++ port)
-folded_apart branch host port = ap (λ text. text ++ port) (map-append to_ascii_lowercase branch host) ∙ append_assoc (folded branch) (folded host) port
+folded-apart : (branch host port : List ℕ) → map to_ascii_lowercase (branch ++ host) ++ port ≡ folded branch ++ (folded host ++ port)
+folded-apart branch host port = ap (λ text. text ++ port) (map-append to_ascii_lowercase branch host) ∙ append_assoc (folded branch) (folded host) port
 
--- three texts one behind another, parted where the first and the second end
-pub texts_apart : (branch sent_by method text : List ℕ) (branch_end sent_by_end : ℕ) → text ≡ (branch ++ sent_by) ++ method
-    → branch_end ≡ length branch → sent_by_end ≡ length (branch ++ sent_by)
-    → (take branch_end text ≡ branch) × (slice_range text branch_end sent_by_end ≡ sent_by) × (drop sent_by_end text ≡ method)
-texts_apart branch sent_by method text branch_end sent_by_end whole first second = rw (whole, first, second) (
-  first_text branch sent_by method,
-  second_text branch sent_by method,
-  third_text branch sent_by method,
-)
+-- a key whose text is the beginning, then the bytes of a port and then the method
+pub built : (role : Role) (branch host port method begun text : List ℕ) (branch_start branch_end sent_by_end : ℕ)
+    → begun ≡ key_head role (length branch) (length method) ++ folded (branch ++ host)
+    → text ≡ (begun ++ port) ++ method
+    → branch_start ≡ branch_end - length branch → branch_end ≡ length begun - length host → sent_by_end ≡ length begun + length port
+    → LaidOut role (folded branch) (folded host ++ port) method text branch_start branch_end sent_by_end
+built role branch host port method begun text branch_start branch_end sent_by_end begun_is whole start first second =
+    let head = key_head role (length branch) (length method) in
+    let texts = folded branch ++ (folded host ++ port) in
+    let branch_length = length-map branch to_ascii_lowercase in
+    let host_length = length-map host to_ascii_lowercase in
+    let both_length = length-map (branch ++ host) to_ascii_lowercase in
+    let head_is : head ≡ key_head role (length (folded branch)) (length method) = ap (λ n. key_head role n (length method)) (sym branch_length) in
+    let ported : begun ++ port ≡ head ++ texts =
+    ap (λ t. t ++ port) begun_is ∙ append_assoc head (folded (branch ++ host)) port ∙ ap (λ t. head ++ t) (folded-apart branch host port) in
+    let begun_length : length begun ≡ length head + (length branch + length host) =
+    omega (arith, ap length begun_is, length-append head (folded (branch ++ host)), both_length, length-append branch host) in
+    laid-out role (folded branch) (folded host ++ port) method text branch_start branch_end sent_by_end
+    (whole ∙ ap (λ t. t ++ method) ported ∙ append_assoc head texts method ∙ ap (λ h. h ++ (texts ++ method)) head_is)
+    (omega (arith, start, first, begun_length, ap length head_is))
+    (omega (arith, start, first, begun_length, branch_length))
+    (omega (arith, first, second, begun_length, host_length, length-append (folded host) port))

@@ -1,11 +1,12 @@
 //! The keys of transactions.
-ghost use Rattle.std.specs.Prelude.{◌≡◌, ◌++◌, ◌∷◌, [], IfOk, IfSome, length, option_copied};
+ghost use Rattle.std.specs.Prelude.{◌≡◌, ◌++◌, ◌∷◌, [], IfOk, OnOk, IfSome, length, option_copied};
 ghost use Rattle.std.specs.Cmp.{decided, partial_equiv_from_equiv};
 ghost use Rattle.std.specs.Hash as fed;
 ghost use Rattle.sip_text.specs.Case.{folded};
 ghost use Rattle.sip_text.specs.Uri.{Port};
-ghost use Rattle.sip_key.specs.Key.{same_key};
+ghost use Rattle.sip_key.specs.Key.{same_key, key_text, key_head, length_bytes, role_byte};
 ghost use Rattle.sip_key.specs.SentBy.{sent_by};
+ghost use Rattle.sip_key.specs.declared.role.Role.{Role};
 ghost use Rattle.sip_key.specs.declared.role.Role.TheVariants.{Client, Server};
 ghost use Rattle.sip_key.specs.inner.KeyLaws.{same_key-decides};
 
@@ -20,35 +21,73 @@ use std::marker::Model;
 #[derive(Debug, Drop)]
 pub struct Key {
     role: Role,
-    /// The branch, the sent-by and the method, one behind another.
+    /// What a hasher is fed: the side, how long the branch and the method are, and then the branch, the sent-by and the method.
     text: Vec<u8>,
+    branch_start: usize,
     branch_end: usize,
     sent_by_end: usize,
 }
 
 impl Model for Key {
-    ghost use Rattle.std.specs.Prelude.{◌≤◌, drop, length, slice_range, take};
-    ghost use Rattle.sip_key.specs.Key.{KeyParts};
+    ghost use Rattle.std.specs.Prelude.{◌≡◌, ◌≤◌, length};
+    ghost use Rattle.sip_key.specs.Key.{KeyParts, key_text, parts_at};
 
     ghost Value = { KeyParts };
 
-    ghost view = { λ k. record { role = k.role; branch = take k.branch_end k.text.items; sent_by = slice_range k.text.items k.branch_end k.sent_by_end; method = drop k.sent_by_end k.text.items } };
+    ghost view = { λ k. parts_at k.role k.text.items k.branch_start k.branch_end k.sent_by_end };
 
-    ghost invariant = { λ k. (k.branch_end ≤ k.sent_by_end) × (k.sent_by_end ≤ length k.text.items) };
+    ghost invariant = { λ k. (k.branch_start ≤ k.branch_end) × (k.branch_end ≤ k.sent_by_end) × (k.sent_by_end ≤ length k.text.items)
+        × (k.text.items ≡ key_text (parts_at k.role k.text.items k.branch_start k.branch_end k.sent_by_end)) };
 }
 
-/// Two texts in lower case, one behind the other, with so much room.
-fn folded_texts(
+/// A byte of a length that goes on, and how much of the length it stands for. It is no letter, so that lower case leaves it.
+const GOES_ON: usize = 64;
+
+/// How many bytes stand before the texts of a key with a branch and a method of these lengths.
+fn head_room(branch: usize, method: usize) -> usize
+    ensures { (role : Role) → result ≡ length (key_head role branch method) }
+{
+    3 + branch / GOES_ON + method / GOES_ON
+}
+
+/// Puts a length after the text, in one byte where it is below 64.
+fn push_length(text: &mut Vec<u8>, count: usize) -> Result<(), AllocError>
+    ensures { OnOk result (text.new.items ≡ text.old.items ++ length_bytes count) }
+{
+    for _ in 0..count / GOES_ON {
+        text.push(GOES_ON as u8)?;
+    }
+    text.push((count % GOES_ON) as u8)?;
+    Ok(())
+}
+
+/// The side as a byte.
+fn role_byte(role: Role) -> u8
+    ensures { result ≡ role_byte role }
+{
+    match role {
+        Role::Client => 0,
+        Role::Server => 1,
+    }
+}
+
+/// The beginning of a key's text, with so much room: what stands before its texts, and then two of them in lower case.
+fn begun(
     alloc: Global,
     room: usize,
-    first: &[u8],
-    second: &[u8],
+    role: Role,
+    branch: &[u8],
+    host: &[u8],
+    method: &[u8],
 ) -> Result<Vec<u8>, AllocError>
-    ensures { IfOk result (λ text. text.items ≡ folded (first.now ++ second.now)) }
+    ensures { IfOk result (λ text. text.items ≡ key_head role (length branch.now) (length method.now) ++ folded (branch.now ++ host.now)) }
 {
     let mut text = Vec::with_capacity(alloc, room)?;
-    text.extend_from_slice(first)?;
-    text.extend_from_slice(second)?;
+    text.push(role_byte(role))?;
+    push_length(&mut text, branch.len())?;
+    push_length(&mut text, method.len())?;
+    text.extend_from_slice(branch)?;
+    text.extend_from_slice(host)?;
     text.make_ascii_lowercase();
     Ok(text)
 }
@@ -58,12 +97,16 @@ impl Key {
     pub(crate) fn client(alloc: Global, branch: &[u8], method: &[u8]) -> Result<Key, AllocError>
         ensures { IfOk result (λ key. key ≡ record { role = Client; branch = folded branch.now; sent_by = []; method = method.now }) }
     {
-        let mut text = folded_texts(alloc, branch.len() + method.len(), branch, b"")?;
+        let room = head_room(branch.len(), method.len())
+            .saturating_add(branch.len())
+            .saturating_add(method.len());
+        let mut text = begun(alloc, room, Role::Client, branch, b"", method)?;
         let branch_end = text.len();
         text.extend_from_slice(method)?;
         Ok(Key {
             role: Role::Client,
             text,
+            branch_start: branch_end - branch.len(),
             branch_end,
             sent_by_end: branch_end,
         })
@@ -81,18 +124,20 @@ impl Key {
         ensures { IfOk result (λ key. key ≡ record { role = Server; branch = folded branch.now; sent_by = sent_by host.now (option_copied port.entry); method = method.now }) }
     {
         let sent_by_room = host.len() + MOST_PORT_BYTES;
-        let room = branch
-            .len()
+        let room = head_room(branch.len(), method.len())
+            .saturating_add(branch.len())
             .saturating_add(sent_by_room)
             .saturating_add(method.len());
-        let mut text = folded_texts(alloc, room, branch, host)?;
+        let mut text = begun(alloc, room, Role::Server, branch, host, method)?;
+        let branch_end = text.len() - host.len();
         push_port(&mut text, port)?;
         let sent_by_end = text.len();
         text.extend_from_slice(method)?;
         Ok(Key {
             role: Role::Server,
             text,
-            branch_end: branch.len(),
+            branch_start: branch_end - branch.len(),
+            branch_end,
             sent_by_end,
         })
     }
@@ -108,7 +153,7 @@ impl Key {
     pub fn branch(&self) -> &[u8]
         ensures { result.now ≡ self.now.branch }
     {
-        &self.text[..self.branch_end]
+        &self.text[self.branch_start..self.branch_end]
     }
 
     /// The top Via's sent-by, empty on the client's side: the host in lower case, `:` and the number
@@ -145,17 +190,11 @@ impl Eq for Key {
 }
 
 impl Hash for Key {
-    ghost hash_input = { λ k. ⟦<Role as Hash>⟧.hash_input k.role
-        ++ (fed.usize (length k.branch) ++ (fed.usize (length k.sent_by) ++ (k.branch ∷ k.sent_by ∷ k.method ∷ []))) };
+    ghost hash_input = { λ k. key_text k ∷ [] };
 
     ghost respects_eq = { (fed.same_Alike _ same_key-decides).fed };
 
     fn hash<H: Hasher>(&self, state: &mut H) {
-        self.role.hash(state);
-        state.write_usize(self.branch().len());
-        state.write_usize(self.sent_by().len());
-        state.write(self.branch());
-        state.write(self.sent_by());
-        state.write(self.method());
+        state.write(self.text.as_slice());
     }
 }

@@ -1,24 +1,29 @@
-use Rattle.std.proofs.Common.{◌≡◌, ◌++◌, ◌∷◌, List, ℕ, length, option_copied, decimal, ap, sym, ◌∙◌}
-use Rattle.std.specs.Char.{to_ascii_lowercase}
-use Rattle.std.proofs.lemmas.List.{length-map}
+use Rattle.std.proofs.Common.{◌≡◌, ◌+◌, ◌++◌, ◌∷◌, ◌-◌, List, ℕ, length, option_copied, decimal, refl, ap, ◌∙◌, arith}
 use Rattle.sip_text.specs.Bytes.{colon}
 use Rattle.sip_text.specs.Case.{folded}
+use Rattle.std.proofs.lemmas.List.{length-append}
 use Rattle.sip_key.specs.SentBy.{port_number, sent_by}
 use Rattle.sip_key.specs.declared.role.Role.TheVariants.{Server}
-use Rattle.sip_key.proofs.KeyLemmas.{folded_apart, texts_apart}
+use Rattle.sip_key.proofs.KeyLemmas.{LaidOut, built}
 use Rattle.sip_key.proofs.key.Key.server.Goals as goal
+use Rattle.sip_key.proofs.key.Key.server.Goals.{In_ok-extend_from_slice}
+
+laid : (c : In_ok-extend_from_slice)
+    → LaidOut Server (folded c.args.branch.now) (sent_by c.args.host.now (option_copied c.args.port)) c.args.method.now c.extend_from_slice.new.self.items
+    (c.len.result - length c.args.host.now - length c.args.branch.now) (c.len.result - length c.args.host.now) c.len-sent_by_end.result
+laid c =
+    let begun = c.in_ok-text.text.items in
+    let port : List ℕ = colon ∷ decimal (port_number (option_copied c.args.port)) in
+    let begun_length : c.len.result ≡ length begun = c.len.ensures ∙ c.in_ok-text.text.ok.0 in
+    let ported : c.push_port.new.text.items ≡ begun ++ port = c.in_ok-push_port.ensures in
+    let ported_length : c.len-sent_by_end.result ≡ length begun + length port =
+    c.len-sent_by_end.ensures ∙ c.push_port.new.text.ok.0 ∙ ap length ported ∙ length-append begun port in
+    built Server c.args.branch.now c.args.host.now port c.args.method.now begun _ _ _ _ c.in_ok-text.ensures
+    (c.in_ok-extend_from_slice.ensures.items ∙ ap (λ text. text ++ c.args.method.now) ported)
+    refl (omega (arith, begun_length)) ported_length
+
+pub invariant_of-result : goal.invariant_of-result
+invariant_of-result c = (laid (goal.at.invariant_of-result c).In_ok-extend_from_slice).sound
 
 pub returns : goal.returns
-returns c =
-    let branch = c.args.branch.now in
-    let host = c.args.host.now in
-    let port : List ℕ = colon ∷ decimal (port_number (option_copied c.args.port)) in
-    let sent = sent_by host (option_copied c.args.port) in
-    let both : c.push_port.new.text.items ≡ folded branch ++ sent =
-    c.in_ok-push_port.ensures ∙ ap (λ text. text ++ port) c.in_ok-text.ensures ∙ folded_apart branch host port in
-    let whole : c.extend_from_slice.new.self.items ≡ (folded branch ++ sent) ++ c.args.method.now =
-    c.in_ok-extend_from_slice.ensures.items ∙ ap (λ text. text ++ c.args.method.now) both in
-    let first : length branch ≡ length (folded branch) = sym (length-map branch to_ascii_lowercase) in
-    let second : c.len-sent_by_end.result ≡ length (folded branch ++ sent) = c.len-sent_by_end.ensures ∙ c.push_port.new.text.ok.0 ∙ ap length both in
-    let parts = texts_apart (folded branch) sent c.args.method.now _ _ _ whole first second in
-    λ i. record { role = Server; branch = parts.0 i; sent_by = parts.1 i; method = parts.2 i }
+returns c = (laid (goal.at.returns c).In_ok-extend_from_slice).parts

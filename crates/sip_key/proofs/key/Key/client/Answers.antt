@@ -1,0 +1,20 @@
+use Rattle.std.proofs.Common.{◌++◌, ◌-◌, [], length, refl, append-nil, ap, sym, ◌∙◌, arith}
+use Rattle.sip_text.specs.Case.{folded}
+use Rattle.sip_key.specs.declared.role.Role.TheVariants.{Client}
+use Rattle.sip_key.proofs.KeyLemmas.{LaidOut, built}
+use Rattle.sip_key.proofs.key.Key.client.Goals as goal
+use Rattle.sip_key.proofs.key.Key.client.Goals.{In_ok-extend_from_slice}
+
+laid : (c : In_ok-extend_from_slice)
+    → LaidOut Client (folded c.args.branch.now) [] c.args.method.now c.extend_from_slice.new.self.items (c.len-branch_end.result - length c.args.branch.now) c.len-branch_end.result c.len-branch_end.result
+laid c =
+    let begun = c.in_ok-text.text.items in
+    built Client c.args.branch.now [] [] c.args.method.now begun _ _ _ _ c.in_ok-text.ensures
+    (c.in_ok-extend_from_slice.ensures.items ∙ ap (λ text. text ++ c.args.method.now) (sym (append-nil begun)))
+    refl (omega (arith, c.len-branch_end.ensures, c.in_ok-text.text.ok.0)) (omega (arith, c.len-branch_end.ensures, c.in_ok-text.text.ok.0))
+
+pub invariant_of-result : goal.invariant_of-result
+invariant_of-result c = (laid (goal.at.invariant_of-result c).In_ok-extend_from_slice).sound
+
+pub returns : goal.returns
+returns c = (laid (goal.at.returns c).In_ok-extend_from_slice).parts

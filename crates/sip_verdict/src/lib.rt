@@ -3,6 +3,7 @@
 #![tactic(auto)]
 
 mod concerned;
+mod finding;
 mod judge_error;
 mod judging;
 mod laws;
@@ -19,10 +20,12 @@ mod stage;
 mod standing;
 mod step_error;
 mod stream;
+mod survey_end;
 mod sweeping;
 mod verdict;
 mod walking;
 
+pub use finding::Finding;
 pub use judge_error::JudgeError;
 pub use judging::{judge, judge_bytes};
 pub use laws::{
@@ -39,4 +42,5 @@ pub use shown::Shown;
 pub use sip_message::{Fault, Reason, Unit};
 pub use step_error::StepError;
 pub use stream::Judge;
+pub use survey_end::SurveyEnd;
 pub use verdict::Verdict;

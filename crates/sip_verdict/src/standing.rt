@@ -36,8 +36,8 @@ use std::hash::BuildHasher;
 /// entry touches those that it concerns; until when each can wait is on record.
 #[derive(Drop)]
 pub(crate) struct Standing<H: BuildHasher> {
-    book: Book,
-    tables: Tables<H>,
+    pub(crate) book: Book,
+    pub(crate) tables: Tables<H>,
 }
 
 /// What was judged of an entry: its verdict if it is in trouble, and the numbers of the transactions that it concerns.
@@ -48,7 +48,7 @@ struct Taken {
 }
 
 /// The number of each key's transaction, which starts if the key is new.
-fn touch_each<H: BuildHasher>(
+pub(crate) fn touch_each<H: BuildHasher>(
     tables: &mut Tables<H>,
     keys: Concerned<Key>,
 ) -> Result<Concerned<u32>, AllocError>

@@ -1,4 +1,17 @@
 //! What is found at an entry.
+ghost use Rattle.std.specs.Prelude.{◌≡◌, ◌≤◌, ◌+◌, ◌++◌, ◌∷◌, [], List, All, Contains, IfOk, OnOk, length};
+ghost use Rattle.sip_key.specs.Key.{KeyParts};
+ghost use Rattle.sip_machine.specs.Times.{last_moment};
+ghost use Rattle.sip_log.specs.Log.{most_entries};
+ghost use Rattle.sip_log.specs.Told.{item};
+ghost use Rattle.sip_verdict.specs.declared.finding.Finding.{Finding};
+ghost use Rattle.sip_verdict.specs.Keyed.{Observation, newest_moment};
+ghost use Rattle.sip_verdict.specs.MessageReading.{message_reading, ConcernsNone};
+ghost use Rattle.sip_verdict.specs.VerdictOf.{keys_in};
+ghost use Rattle.sip_verdict.specs.SurveyOf.{AreFoundAt};
+ghost use Rattle.sip_verdict.specs.Surveys.{AreSurveyed};
+ghost use Rattle.sip_verdict.specs.inner.TablesTracking.{is_among, MayTake};
+ghost use Rattle.sip_verdict.specs.inner.Surveying.{ArePassing, AreWatched, IsFresh, TablesSurvey};
 
 use crate::concerned::Concerned;
 use crate::finding::Finding;
@@ -21,7 +34,21 @@ fn take<H: BuildHasher>(
     standing: &mut Standing<H>,
     troubled: &mut Troubled,
     entry: &Entry,
-) -> Result<Option<Fault>, AllocError> {
+) -> Result<Option<Fault>, AllocError>
+    requires limit { entry.now.moment ≤ last_moment }
+    requires count { entry.now.number ≤ most_entries }
+    requires may { MayTake standing.old.book standing.old.tables entry.now.number entry.now.moment }
+    requires watched { AreWatched [] standing.old.tables troubled.old }
+    ensures times { OnOk result (standing.new.tables.times ≡ standing.old.tables.times) }
+    ensures may { OnOk result (MayTake standing.new.book standing.new.tables (entry.now.number + 1) entry.now.moment) }
+    ensures watched { OnOk result (AreWatched [] standing.new.tables troubled.new) }
+    ensures keyless { OnOk result (ConcernsNone (item entry.now) → standing.new.book ≡ standing.old.book) }
+    ensures taken { IfOk result (λ fault. (es : List (Observation KeyParts)) → IsFresh troubled.old → TablesSurvey standing.old.book es standing.old.tables troubled.old.deaf.items
+        → newest_moment es ≤ entry.now.moment
+        → (e : Observation KeyParts) × message_reading.Observes es (item entry.now) e × (e.fault ≡ fault) × (e.event.moment ≡ entry.now.moment)
+        × (standing.new.tables.keys ≡ keys_in (es ++ e ∷ []))
+        × ArePassing standing.new.book standing.old.tables.times es e (is_among []) standing.new.tables troubled.new) }
+{
     let told = observe(alloc, &mut standing.book, entry)?;
     standing.book.known();
     match told {
@@ -84,7 +111,24 @@ fn find<H: BuildHasher>(
     troubled: &mut Troubled,
     entry: &Entry,
     found: &mut Vec<Finding>,
-) -> Result<(), AllocError> {
+) -> Result<(), AllocError>
+    requires limit { entry.now.moment ≤ last_moment }
+    requires count { entry.now.number ≤ most_entries }
+    requires may { MayTake standing.old.book standing.old.tables entry.now.number entry.now.moment }
+    requires watched { AreWatched [] standing.old.tables troubled.old }
+    requires fresh { IsFresh troubled.old }
+    ensures times { OnOk result (standing.new.tables.times ≡ standing.old.tables.times) }
+    ensures may { OnOk result (MayTake standing.new.book standing.new.tables (entry.now.number + 1) entry.now.moment) }
+    ensures watched { OnOk result (AreWatched [] standing.new.tables troubled.new) }
+    ensures fresh { OnOk result (IsFresh troubled.new) }
+    ensures keyless { OnOk result (ConcernsNone (item entry.now) → standing.new.book ≡ standing.old.book) }
+    ensures front { (more : List Finding) × (found.new.items ≡ found.old.items ++ more) }
+    ensures found { OnOk result ((es : List (Observation KeyParts)) → TablesSurvey standing.old.book es standing.old.tables troubled.old.deaf.items
+        → entry.now.number ≡ length es + 1 → newest_moment es ≤ entry.now.moment
+        → (e : Observation KeyParts) × (here : List Finding) × message_reading.Observes es (item entry.now) e × (e.event.moment ≡ entry.now.moment)
+        × AreFoundAt standing.old.tables.times es e here × (found.new.items ≡ found.old.items ++ here)
+        × TablesSurvey standing.new.book (es ++ e ∷ []) standing.new.tables troubled.new.deaf.items) }
+{
     if let Some(fault) = take(alloc, standing, troubled, entry)? {
         let entry = entry.number;
         found.push(Finding::Malformed { entry, fault })?;
@@ -101,7 +145,26 @@ pub(crate) fn find_next<H: BuildHasher>(
     left: &mut usize,
     entry: &Entry,
     found: &mut Vec<Finding>,
-) -> Result<(), AllocError> {
+) -> Result<(), AllocError>
+    requires limit { entry.now.moment ≤ last_moment }
+    requires count { entry.now.number ≤ most_entries }
+    requires may { MayTake standing.old.book standing.old.tables entry.now.number entry.now.moment }
+    requires watched { AreWatched [] standing.old.tables troubled.old }
+    requires fresh { IsFresh troubled.old }
+    requires left { left.old ≤ most_entries + 1 }
+    ensures times { OnOk result (standing.new.tables.times ≡ standing.old.tables.times) }
+    ensures may { OnOk result (MayTake standing.new.book standing.new.tables (entry.now.number + 1) entry.now.moment) }
+    ensures watched { OnOk result (AreWatched [] standing.new.tables troubled.new) }
+    ensures fresh { OnOk result (IsFresh troubled.new) }
+    ensures left { left.new ≤ most_entries + 1 }
+    ensures keyless { OnOk result (ConcernsNone (item entry.now) → All (Contains standing.old.book) standing.new.book) }
+    ensures front { (more : List Finding) × (found.new.items ≡ found.old.items ++ more) }
+    ensures found { OnOk result ((es : List (Observation KeyParts)) → AreSurveyed standing.old.book standing.old.tables troubled.old.deaf.items left.old es
+        → entry.now.number ≡ length es + 1 → newest_moment es ≤ entry.now.moment
+        → (e : Observation KeyParts) × (here : List Finding) × message_reading.Observes es (item entry.now) e
+        × AreFoundAt standing.old.tables.times es e here × (found.new.items ≡ found.old.items ++ here)
+        × AreSurveyed standing.new.book standing.new.tables troubled.new.deaf.items left.new (es ++ e ∷ [])) }
+{
     find(alloc, standing, troubled, entry, found)?;
     if standing.kept() <= 2 * *left + SPARE {
         return Ok(());

@@ -33,7 +33,7 @@ module _ {K : Type 0} where
       omega arith
 
   -- nor is it before any of them
-  newest-to : (last : ℕ) (front more : List (Observation K)) → AllPairs IsNotBehind (front ++ more) → All (IsTo (newest last front)) front
+  pub newest-to : (last : ℕ) (front more : List (Observation K)) → AllPairs IsNotBehind (front ++ more) → All (IsTo (newest last front)) front
   newest-to last [] more order = All-nil (IsTo last)
   newest-to last (e ∷ front) more order =
       let rest = AllPairs-tail IsNotBehind e (front ++ more) order in

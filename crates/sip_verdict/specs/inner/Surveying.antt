@@ -43,8 +43,13 @@ abbrev pub IsFollowed : Texts → Times → List (Observation KeyParts) → KeyP
 IsFollowed texts p es key set true = LeadsOf texts p (machine_of_key p.rules key) [] (newest_moment es) set × ¬ (IsSound p es key)
 IsFollowed texts p es key set false = IsReady (key_machines p) (key_keeping texts p) es (key, set) × IsSound p es key
 
+-- none of the entries is before one that stands before it
+abbrev pub IsOrdered : List (Observation KeyParts) → Type 0
+IsOrdered es = AllPairs (λ a b. a.event.moment ≤ b.event.moment) es
+
 -- the tables follow the entries, each transaction for itself
 pub record TablesSurvey (texts : Texts) (es : List (Observation KeyParts)) (t : Tabled) (deaf : List Bool) : Type 0 where
+  pub order : IsOrdered es
   pub keys : t.keys ≡ keys_in es
   pub each : (n : ℕ) (key : KeyParts) (set : AnySet) (is_deaf : Bool) → slice_get t.keys n ≡ Some key → slice_get t.sets n ≡ Some set → slice_get deaf n ≡ Some is_deaf
       → IsFollowed texts t.times es key set is_deaf

@@ -1,0 +1,14 @@
+pub mod CutLogs
+pub mod Cutting
+pub mod FirstFinding
+pub mod FoundParts
+pub mod HasSurvey
+pub mod IdleAgain
+pub mod Lasting
+pub mod Named
+pub mod Numbers
+pub mod OneFinding
+pub mod OneSurvey
+pub mod Ordered
+pub mod Sound
+pub mod Wide

@@ -9,6 +9,7 @@ pub mod Named
 pub mod Numbers
 pub mod OneFinding
 pub mod OneSurvey
+pub mod Parts
 pub mod Ordered
 pub mod Sound
 pub mod Wide

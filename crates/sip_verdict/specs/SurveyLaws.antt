@@ -18,12 +18,15 @@ use Rattle.sip_verdict.specs.SurveyOf.{Breaks, Widens, HoldsOf}
 
 -- The transactions in trouble.
 
--- the findings name the key at one of the entries, by its number
+-- the findings say this of the key, by its number, at the entry with this number
+abbrev pub Names : (ℕ → ℕ → Finding) → List (Observation KeyParts) → List Finding → KeyParts → ℕ → Type 0
+Names kind es found key entry =
+    (front : List (Observation KeyParts)) × (e : Observation KeyParts) × (more : List (Observation KeyParts)) × (number : ℕ)
+    × (es ≡ front ++ e ∷ more) × (entry ≡ length front + 1) × HoldsOf (λ k. k ≡ key) (keys_in (front ++ e ∷ [])) number × Contains found (kind entry number)
+
+-- the findings name the key at one of the entries
 abbrev pub AreAbout : List (Observation KeyParts) → List Finding → KeyParts → Type 0
-AreAbout es found key =
-    (front : List (Observation KeyParts)) × (e : Observation KeyParts) × (more : List (Observation KeyParts)) × (number : ℕ) × (es ≡ front ++ e ∷ more)
-    × HoldsOf (λ k. k ≡ key) (keys_in (front ++ e ∷ [])) number
-    × (Contains found (Breach (length front + 1) number) ⊎ Contains found (Undecided (length front + 1) number))
+AreAbout es found key = (entry : ℕ) × (Names (λ n t. Breach n t) es found key entry ⊎ Names (λ n t. Undecided n t) es found key entry)
 
 -- The log of some transactions.
 

@@ -1,9 +1,10 @@
 //! Laws of surveys. The functions do nothing: their contracts are the laws.
-ghost use Rattle.std.specs.Prelude.{◌≡◌, ◌↔◌, ◌≤◌, ◌⊎◌, ◌++◌, ◌∷◌, [], ℕ, Bool, List, All, AllPairs};
+ghost use Rattle.std.specs.Prelude.{◌≡◌, ◌↔◌, ◌≤◌, ◌⊎◌, ◌++◌, ◌∷◌, [], ℕ, Bool, true, List, All, AllPairs};
 ghost use Rattle.sip_verdict.specs.VerdictOf.{IsVerdictOf, RunsOver, IsWideAt};
 ghost use Rattle.sip_verdict.specs.SurveyOf.{IsSound, Breaks, Widens, IsSurveyAfter, IsSurveyOf, verdict_in};
-ghost use Rattle.sip_verdict.specs.SurveyLaws.{AreAbout, IsCutLog, Keeps, IsIdleAgain};
+ghost use Rattle.sip_verdict.specs.SurveyLaws.{Names, AreAbout, IsCutLog, Keeps, IsIdleAgain};
 ghost use Rattle.sip_verdict.specs.declared.finding.Finding.{Finding as FindingValue};
+ghost use Rattle.sip_verdict.specs.declared.finding.Finding.TheVariants.{Breach, Undecided};
 ghost use Rattle.sip_verdict.specs.declared.survey_end.SurveyEnd.{SurveyEnd as EndValue};
 ghost use Rattle.sip_verdict.specs.declared.verdict.Verdict.{Verdict as VerdictValue};
 ghost use Rattle.sip_verdict.specs.Keyed.{Observation};
@@ -69,6 +70,16 @@ pub fn each_trouble_is_named()
 pub fn a_log_may_be_cut()
     ensures { (p : Times) (chosen : KeyParts → Bool) (items : List Item) (es : List (Observation KeyParts)) (cuts : List Item) → AreObserved message_reading [] items es
         → IsCutLog chosen items es cuts → Keeps p chosen es cuts }
+{}
+
+/// And a part says what the whole says: the surveys of a log and of one that is cut from it so name a chosen transaction at the same entries,
+/// each by its own number.
+pub fn a_part_finds_what_the_whole_finds()
+    ensures { (p : Times) (chosen : KeyParts → Bool) (items cuts : List Item) (es cs : List (Observation KeyParts)) (close : LogEnd) (found part : List FindingValue) (end fin : EndValue)
+        → AreObserved message_reading [] items es → AreObserved message_reading [] cuts cs → IsCutLog chosen items es cuts
+        → IsSurveyAfter p [] items close found end → IsSurveyAfter p [] cuts close part fin → (key : KeyParts) → chosen key ≡ true → (entry : ℕ)
+        → (Names (λ n t. Breach n t) es found key entry ↔ Names (λ n t. Breach n t) cs part key entry)
+        × (Names (λ n t. Undecided n t) es found key entry ↔ Names (λ n t. Undecided n t) cs part key entry) }
 {}
 
 /// What stands lasts: a run of one of the six machines stands in no state after its last moment.

@@ -1,4 +1,4 @@
--- The log of some keys has their troubles. For the survey's body: keys_cut, zip_push, newest_cut, events_cut, runs_cut, wide_cut, sound_cut.
+-- The log of some keys has their troubles. For the survey's body: keys_cut, zip_push, newest_cut, events_cut, runs_cut, wide_cut, sound_cut, trouble_cut.
 use Rattle.std.proofs.Common.{◌≡◌, ◌≢◌, ◌↔◌, ℕ, Bool, true, false, cond, ◌||◌, List, [], ◌∷◌, ◌++◌, All, length, map, refl, sym, ap, ap₂, ◌∙◌, subst, arith}
 use Rattle.std.specs.Prelude.{filter, fold, flat_map}
 use Rattle.std.specs.List.{list_any, AllZip}
@@ -13,7 +13,7 @@ use Rattle.sip_states.specs.Stands.{Stands, StandsBehind}
 use Rattle.sip_states.specs.KeyMachine.{machine_of_key, transaction_of}
 use Rattle.sip_verdict.specs.Keyed.{Observation, with_key, newest_moment}
 use Rattle.sip_verdict.specs.VerdictOf.{keys_in, events_for, RunsOver, IsWideAt}
-use Rattle.sip_verdict.specs.SurveyOf.{IsSound}
+use Rattle.sip_verdict.specs.SurveyOf.{IsSound, Breaks, Widens}
 use Rattle.sip_verdict.specs.SurveyLaws.{IsCutOf, HasSameTrouble}
 
 -- whether the entry concerns the key
@@ -155,7 +155,7 @@ module _ (chosen : KeyParts → Bool) where
           )
 
       -- a split of one log is one of the other
-      split_left : (es front : List (Observation KeyParts)) (c : Observation KeyParts) (rest : List (Observation KeyParts)) → AllZip (IsCutOf chosen) es (front ++ c ∷ rest)
+      pub split_left : (es front : List (Observation KeyParts)) (c : Observation KeyParts) (rest : List (Observation KeyParts)) → AllZip (IsCutOf chosen) es (front ++ c ∷ rest)
           → (back : List (Observation KeyParts)) × (e : Observation KeyParts) × (more : List (Observation KeyParts)) × (es ≡ back ++ e ∷ more) × AllZip (IsCutOf chosen) back front × IsCutOf chosen e c
       split_left [] [] c rest zip = absurd zip
       split_left (e ∷ es) [] c rest zip = ([], e, es, refl, tt, zip.0)
@@ -164,7 +164,7 @@ module _ (chosen : KeyParts → Bool) where
           let found = split_left es front c rest zip.1 in
           (e ∷ found.0, found.1, found.2, ap (λ xs. e ∷ xs) found.3, (zip.0, found.4), found.5)
 
-      split_right : (front cs : List (Observation KeyParts)) (e : Observation KeyParts) (rest : List (Observation KeyParts)) → AllZip (IsCutOf chosen) (front ++ e ∷ rest) cs
+      pub split_right : (front cs : List (Observation KeyParts)) (e : Observation KeyParts) (rest : List (Observation KeyParts)) → AllZip (IsCutOf chosen) (front ++ e ∷ rest) cs
           → (back : List (Observation KeyParts)) × (c : Observation KeyParts) × (more : List (Observation KeyParts)) × (cs ≡ back ++ c ∷ more) × AllZip (IsCutOf chosen) front back × IsCutOf chosen e c
       split_right [] [] e rest zip = absurd zip
       split_right [] (c ∷ cs) e rest zip = ([], c, cs, refl, tt, zip.0)
@@ -198,12 +198,18 @@ module _ (chosen : KeyParts → Bool) where
       split_same (f ∷ front) (d ∷ back) e c rest others zip long =
           let found = split_same front back e c rest others zip.1 (omega (arith, long)) in ((zip.0, found.0), found.1)
 
-      pub same_trouble : (es cs : List (Observation KeyParts)) → AllZip (IsCutOf chosen) es cs → HasSameTrouble p es cs key
-      same_trouble es cs zip front back e c rest others split other long =
-          let both = split_same front back e c rest others (subst (λ xs. AllZip (IsCutOf chosen) xs (back ++ c ∷ others)) split (subst (AllZip (IsCutOf chosen) es) other zip)) long in
-          let sound = sound_cut front back both.0 in
-          let runs = runs_cut (front ++ e ∷ []) (back ++ c ∷ []) (zip_push front back e c both.0 both.1) in
-          let wide = wide_cut front back e c both.0 both.1 in (
+      -- the same trouble at an entry and at that which stands for it
+      pub trouble_cut : (front back : List (Observation KeyParts)) (e c : Observation KeyParts) → AllZip (IsCutOf chosen) front back → IsCutOf chosen e c
+          → (Breaks p front e key ↔ Breaks p back c key) × (Widens p front e key ↔ Widens p back c key)
+      trouble_cut front back e c zip here =
+          let sound = sound_cut front back zip in
+          let runs = runs_cut (front ++ e ∷ []) (back ++ c ∷ []) (zip_push front back e c zip here) in
+          let wide = wide_cut front back e c zip here in (
             (λ breaks. (sound.0 breaks.0, λ run. breaks.1 (runs.1 run)), λ breaks. (sound.1 breaks.0, λ run. breaks.1 (runs.0 run))),
             (λ widens. (sound.0 widens.0, wide.0 widens.1), λ widens. (sound.1 widens.0, wide.1 widens.1)),
           )
+
+      pub same_trouble : (es cs : List (Observation KeyParts)) → AllZip (IsCutOf chosen) es cs → HasSameTrouble p es cs key
+      same_trouble es cs zip front back e c rest others split other long =
+          let both = split_same front back e c rest others (subst (λ xs. AllZip (IsCutOf chosen) xs (back ++ c ∷ others)) split (subst (AllZip (IsCutOf chosen) es) other zip)) long in
+          trouble_cut front back e c both.0 both.1

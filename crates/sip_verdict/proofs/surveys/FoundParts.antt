@@ -44,8 +44,8 @@ fault_is n (Some a) f h = by (Contains-cons (Malformed n a) [] f h)
     by (inr none) = absurd (Contains-none f none)
 
 fault_alone : (n : ℕ) (fault : Option Fault) → AllPairs Precedes (fault_found n fault)
-fault_alone n None = λ i j d low high. absurd (omega high)
-fault_alone n (Some a) = λ i j d low high. absurd (omega (low, high))
+fault_alone n None = λ i j d low high. absurd (omega (arith, high))
+fault_alone n (Some a) = λ i j d low high. absurd (omega (arith, low, high))
 
 module _ (p : Times) (es : List (Observation KeyParts)) (e : Observation KeyParts) (n : ℕ) (is : n ≡ length es + 1) (broken wide : List ℕ)
     (breaks : AreNumbers (Breaks p es e) (keys_in (es ++ e ∷ [])) broken) (widens : AreNumbers (Widens p es e) (keys_in (es ++ e ∷ [])) wide) where

@@ -40,7 +40,7 @@ module _ (P : KeyParts → Type 0) (keys : List KeyParts) where
 
   module _ (before : List KeyParts) (key : KeyParts) (rest : List KeyParts) (is : keys ≡ before ++ key ∷ rest) where
     -- the next key is one of which P holds
-    one_above : P key → (ns : List ℕ) → AreAbove (length before + 1) ns → AreAbove (length before) (length before + 1 ∷ ns)
+    one_above : P key → (ns : List ℕ) → AreAbove (length before + 1) ns → AreAbove (length before) ((length before + 1) ∷ ns)
     one_above holds ns (sorted, high, are) = (
       AllPairs-cons (λ a b. a < b) (length before + 1) ns high sorted,
       All-cons (λ n. length before < n) (length before + 1) ns (omega arith) (All-weaker (λ n. length before + 1 < n) (λ n. length before < n) (λ n low. omega (arith, low)) ns high),
@@ -51,8 +51,8 @@ module _ (P : KeyParts → Type 0) (keys : List KeyParts) where
         into n (inl same) = ((before, key, rest, is, holds, sym same), omega (arith, same))
         into n (inr h) = let both = (are n).0 h in (both.0, omega (arith, both.1))
 
-        from : (n : ℕ) → HoldsOf P keys n → length before < n → Dec (n ≤ length before + 1) → Contains (length before + 1 ∷ ns) n
-        from n has above (yes to) = let same : length before + 1 ≡ n = omega (arith, above, to) in subst (Contains (length before + 1 ∷ ns)) same (Contains-here (length before + 1) ns)
+        from : (n : ℕ) → HoldsOf P keys n → length before < n → Dec (n ≤ length before + 1) → Contains ((length before + 1) ∷ ns) n
+        from n has above (yes to) = let same : length before + 1 ≡ n = omega (arith, above, to) in subst (Contains ((length before + 1) ∷ ns)) same (Contains-here (length before + 1) ns)
         from n has above (no beyond) = Contains-there (length before + 1) ns n ((are n).1 (has, omega (arith, beyond)))
 
     -- it is none
@@ -72,7 +72,7 @@ module _ (P : KeyParts → Type 0) (keys : List KeyParts) where
   above_some before (key ∷ rest) is never =
       above_some (before ++ key ∷ []) rest (is ∙ sym (append_assoc before (key ∷ []) rest)) (λ later.
       let more : AreAbove (length before + 1) later.0 = subst (λ n. AreAbove n later.0) (length-append before (key ∷ [])) later.1 in
-      either (λ holds. never (length before + 1 ∷ later.0, one_above before key rest is holds later.0 more)) (λ not. never (later.0, none_more before key rest is not later.0 more)))
+      either (λ holds. never ((length before + 1) ∷ later.0, one_above before key rest is holds later.0 more)) (λ not. never (later.0, none_more before key rest is not later.0 more)))
     where
       either : (P key → ⊥) → (¬ (P key) → ⊥) → ⊥
       either holds not = not holds

@@ -1,5 +1,5 @@
 -- Lists in a strict order: two of them with the same elements are the same.
-use Rattle.std.proofs.Common.{◌≡◌, ◌⊎◌, inl, inr, List, [], ◌∷◌, ◌++◌, All, AllPairs, Contains, get_or, map, refl, sym, ap₂, ◌∙◌, subst}
+use Rattle.std.proofs.Common.{◌≡◌, ◌⊎◌, inl, inr, List, [], ◌∷◌, ◌++◌, All, AllPairs, Contains, get_or, map, refl, sym, ap₂, ◌∙◌, subst, arith}
 use Rattle.std.proofs.lemmas.List.Elements.{All-contains, All-append, All-map, All-weaker, Contains-get_or}
 use Rattle.std.proofs.lemmas.List.Kept.{AllPairs-cons}
 use Rattle.sip_states.proofs.Few.{AllPairs-head, AllPairs-tail}
@@ -20,7 +20,7 @@ module _ {A : Type 0} (R : A → A → Type 0) where
 
 -- the image of a list in order, under a function that keeps the order
 pub ordered_map : {A B : Type 0} (R : A → A → Type 0) (S : B → B → Type 0) (f : A → B) → ((a b : A) → R a b → S (f a) (f b)) → (xs : List A) → AllPairs R xs → AllPairs S (map f xs)
-ordered_map R S f keeps [] sorted = λ i j d low high. absurd (omega high)
+ordered_map R S f keeps [] sorted = λ i j d low high. absurd (omega (arith, high))
 ordered_map R S f keeps (x ∷ xs) sorted =
     AllPairs-cons S (f x) (map f xs) (All-map (S (f x)) f xs (All-weaker (R x) (λ a. S (f x) (f a)) (keeps x) xs (AllPairs-head R x xs sorted)))
     (ordered_map R S f keeps xs (AllPairs-tail R x xs sorted))

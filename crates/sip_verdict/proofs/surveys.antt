@@ -9,6 +9,7 @@ pub mod Named
 pub mod Numbers
 pub mod OneFinding
 pub mod OneSurvey
+pub mod PartFaults
 pub mod Parts
 pub mod Ordered
 pub mod Sound

@@ -42,6 +42,12 @@ IsCutLog chosen [] [] [] = ⊤
 IsCutLog chosen (item ∷ items) (e ∷ es) (cut ∷ cuts) = StaysOrIsMark chosen item e cut × IsCutLog chosen items es cuts
 IsCutLog chosen items es cuts = ⊥
 
+-- the item of the entry with this number stays
+abbrev pub StaysAt : List Item → List Item → ℕ → Type 0
+StaysAt items cuts entry =
+    (front : List Item) × (item : Item) × (rest : List Item) × (back : List Item) × (others : List Item)
+    × (items ≡ front ++ item ∷ rest) × (cuts ≡ back ++ item ∷ others) × (entry ≡ length front + 1) × (length front ≡ length back)
+
 -- an entry of a log that is cut: the moment of the one for which it stands, the chosen ones of its keys, and its event where it has any
 abbrev pub IsCutOf : (KeyParts → Bool) → Observation KeyParts → Observation KeyParts → Type 0
 IsCutOf chosen e cut = (cut.event.moment ≡ e.event.moment) × (cut.keys ≡ filter chosen e.keys) × (cut.keys ≢ [] → cut.event ≡ e.event)

@@ -1,15 +1,16 @@
 //! Laws of surveys. The functions do nothing: their contracts are the laws.
-ghost use Rattle.std.specs.Prelude.{◌≡◌, ◌↔◌, ◌≤◌, ◌⊎◌, ◌++◌, ◌∷◌, [], ℕ, Bool, true, List, All, AllPairs};
+ghost use Rattle.std.specs.Prelude.{◌≡◌, ◌↔◌, ◌≤◌, ◌⊎◌, ◌++◌, ◌∷◌, [], ℕ, Bool, true, List, All, AllPairs, Contains};
 ghost use Rattle.sip_verdict.specs.VerdictOf.{IsVerdictOf, RunsOver, IsWideAt};
 ghost use Rattle.sip_verdict.specs.SurveyOf.{IsSound, Breaks, Widens, IsSurveyAfter, IsSurveyOf, verdict_in};
-ghost use Rattle.sip_verdict.specs.SurveyLaws.{Names, AreAbout, IsCutLog, Keeps, IsIdleAgain};
+ghost use Rattle.sip_verdict.specs.SurveyLaws.{Names, AreAbout, IsCutLog, StaysAt, Keeps, IsIdleAgain};
 ghost use Rattle.sip_verdict.specs.declared.finding.Finding.{Finding as FindingValue};
-ghost use Rattle.sip_verdict.specs.declared.finding.Finding.TheVariants.{Breach, Undecided};
+ghost use Rattle.sip_verdict.specs.declared.finding.Finding.TheVariants.{Malformed, Breach, Undecided};
 ghost use Rattle.sip_verdict.specs.declared.survey_end.SurveyEnd.{SurveyEnd as EndValue};
 ghost use Rattle.sip_verdict.specs.declared.verdict.Verdict.{Verdict as VerdictValue};
 ghost use Rattle.sip_verdict.specs.Keyed.{Observation};
 ghost use Rattle.sip_verdict.specs.MessageReading.{message_reading};
 ghost use Rattle.sip_verdict.specs.Reading.{AreObserved};
+ghost use Rattle.sip_message.specs.declared.fault.Fault.{Fault as FaultValue};
 ghost use Rattle.sip_key.specs.Key.{KeyParts};
 ghost use Rattle.sip_log.specs.Spelling.{Item};
 ghost use Rattle.sip_log.specs.Log.{LogEnd};
@@ -80,6 +81,14 @@ pub fn a_part_finds_what_the_whole_finds()
         → IsSurveyAfter p [] items close found end → IsSurveyAfter p [] cuts close part fin → (key : KeyParts) → chosen key ≡ true → (entry : ℕ)
         → (Names (λ n t. Breach n t) es found key entry ↔ Names (λ n t. Breach n t) cs part key entry)
         × (Names (λ n t. Undecided n t) es found key entry ↔ Names (λ n t. Undecided n t) cs part key entry) }
+{}
+
+/// A fault is found in a part exactly where it is found in the whole and its message stays.
+pub fn a_fault_is_found_where_its_message_stays()
+    ensures { (p : Times) (chosen : KeyParts → Bool) (items cuts : List Item) (es cs : List (Observation KeyParts)) (close : LogEnd) (found part : List FindingValue) (end fin : EndValue)
+        → AreObserved message_reading [] items es → AreObserved message_reading [] cuts cs → IsCutLog chosen items es cuts
+        → IsSurveyAfter p [] items close found end → IsSurveyAfter p [] cuts close part fin → (entry : ℕ) (fault : FaultValue)
+        → Contains part (Malformed entry fault) ↔ (Contains found (Malformed entry fault) × StaysAt items cuts entry) }
 {}
 
 /// What stands lasts: a run of one of the six machines stands in no state after its last moment.

@@ -23,7 +23,7 @@ use Rattle.sip_verdict.proofs.surveys.Cutting.{split_left, split_right, trouble_
 use Rattle.sip_verdict.proofs.surveys.CutLogs.{log_cut}
 
 -- two splits of a list at the same place are one
-same_split : {A : Type 0} (xs us ys vs : List A) (x y : A) → xs ++ x ∷ us ≡ ys ++ y ∷ vs → length xs ≡ length ys → (xs ≡ ys) × (x ≡ y)
+pub same_split : {A : Type 0} (xs us ys vs : List A) (x y : A) → xs ++ x ∷ us ≡ ys ++ y ∷ vs → length xs ≡ length ys → (xs ≡ ys) × (x ≡ y)
 same_split {A} xs us ys vs x y is long = by (split_compare xs us ys vs x y is)
   where
     by : ((xs ≡ ys) × (x ≡ y)) ⊎ (((zs : List A) × (ys ≡ xs ++ x ∷ zs)) ⊎ ((zs : List A) × (xs ≡ ys ++ y ∷ zs))) → (xs ≡ ys) × (x ≡ y)

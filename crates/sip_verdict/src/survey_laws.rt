@@ -73,21 +73,21 @@ pub fn a_log_may_be_cut()
         → IsCutLog chosen items es cuts → Keeps p chosen es cuts }
 {}
 
-/// And a part says what the whole says: the surveys of a log and of one that is cut from it so name a chosen transaction at the same entries,
-/// each by its own number.
+/// And a part finds what the whole finds: the survey of a log, and that of one that is cut from it so, name a chosen transaction at the same
+/// entries, each by its own number, however the two logs end.
 pub fn a_part_finds_what_the_whole_finds()
-    ensures { (p : Times) (chosen : KeyParts → Bool) (items cuts : List Item) (es cs : List (Observation KeyParts)) (close : LogEnd) (found part : List FindingValue) (end fin : EndValue)
+    ensures { (p : Times) (chosen : KeyParts → Bool) (items cuts : List Item) (es cs : List (Observation KeyParts)) (close shut : LogEnd) (found part : List FindingValue) (end fin : EndValue)
         → AreObserved message_reading [] items es → AreObserved message_reading [] cuts cs → IsCutLog chosen items es cuts
-        → IsSurveyAfter p [] items close found end → IsSurveyAfter p [] cuts close part fin → (key : KeyParts) → chosen key ≡ true → (entry : ℕ)
+        → IsSurveyAfter p [] items close found end → IsSurveyAfter p [] cuts shut part fin → (key : KeyParts) → chosen key ≡ true → (entry : ℕ)
         → (Names (λ n t. Breach n t) es found key entry ↔ Names (λ n t. Breach n t) cs part key entry)
         × (Names (λ n t. Undecided n t) es found key entry ↔ Names (λ n t. Undecided n t) cs part key entry) }
 {}
 
 /// A fault is found in a part exactly where it is found in the whole and its message stays.
 pub fn a_fault_is_found_where_its_message_stays()
-    ensures { (p : Times) (chosen : KeyParts → Bool) (items cuts : List Item) (es cs : List (Observation KeyParts)) (close : LogEnd) (found part : List FindingValue) (end fin : EndValue)
+    ensures { (p : Times) (chosen : KeyParts → Bool) (items cuts : List Item) (es cs : List (Observation KeyParts)) (close shut : LogEnd) (found part : List FindingValue) (end fin : EndValue)
         → AreObserved message_reading [] items es → AreObserved message_reading [] cuts cs → IsCutLog chosen items es cuts
-        → IsSurveyAfter p [] items close found end → IsSurveyAfter p [] cuts close part fin → (entry : ℕ) (fault : FaultValue)
+        → IsSurveyAfter p [] items close found end → IsSurveyAfter p [] cuts shut part fin → (entry : ℕ) (fault : FaultValue)
         → Contains part (Malformed entry fault) ↔ (Contains found (Malformed entry fault) × StaysAt items cuts entry) }
 {}
 

@@ -143,17 +143,17 @@ mark_whole : (ys : List (Observation KeyParts)) (item : Item) (c : Observation K
 mark_whole ys item c saw = ap (λ f. f.fault) saw
 
 -- the faults of a part
-pub part_faults : (p : Times) (chosen : KeyParts → Bool) (items cuts : List Item) (es cs : List (Observation KeyParts)) (close : LogEnd) (found part : List Finding) (end fin : SurveyEnd)
-    → AreObserved message_reading [] items es → AreObserved message_reading [] cuts cs → IsCutLog chosen items es cuts → IsSurveyAfter p [] items close found end → IsSurveyAfter p [] cuts close part fin
+pub part_faults : (p : Times) (chosen : KeyParts → Bool) (items cuts : List Item) (es cs : List (Observation KeyParts)) (close shut : LogEnd) (found part : List Finding) (end fin : SurveyEnd)
+    → AreObserved message_reading [] items es → AreObserved message_reading [] cuts cs → IsCutLog chosen items es cuts → IsSurveyAfter p [] items close found end → IsSurveyAfter p [] cuts shut part fin
     → (n : ℕ) (fault : Fault) → Contains part (Malformed n fault) ↔ (Contains found (Malformed n fault) × StaysAt items cuts n)
-part_faults p chosen items cuts es cs close found part end fin seen saw cut whole some n fault = (into, λ h. from h.0 h.1)
+part_faults p chosen items cuts es cs close shut found part end fin seen saw cut whole some n fault = (into, λ h. from h.0 h.1)
   where
     -- what is found of the whole, and of the part
     into : Contains part (Malformed n fault) → Contains found (Malformed n fault) × StaysAt items cuts n
     into has = by at.stays
       where
         there : (front : List (Observation KeyParts)) × (e : Observation KeyParts) × (more : List (Observation KeyParts)) × (cs ≡ front ++ e ∷ more) × IsFoundAt p front e (Malformed n fault)
-        there = found_is p [] cuts close cs part fin saw some (Malformed n fault) has
+        there = found_is p [] cuts shut cs part fin saw some (Malformed n fault) has
 
         low : length there.0 < length es
         low = let long = cut_long chosen [] [] items cuts es cs seen saw cut in let split = ap length there.3 in omega (arith, long, simp length-append at split)
@@ -193,7 +193,7 @@ part_faults p chosen items cuts es cs close found part end fin seen saw cut whol
             let both : None ≡ Some fault = sym (mark_whole at.cut_so_far at.item at.c (subst (λ i. Sees at.cut_so_far i at.c) is at.saw)) ∙ fault_is in absurd (cc)
 
     from : Contains found (Malformed n fault) → StaysAt items cuts n → Contains part (Malformed n fault)
-    from has (front, item, rest, back, others, items_are, cuts_are, entry, long) = found_at p [] cuts close cs part fin saw some at.cut_so_far at.c at.cut_more at.cs_are (Malformed n fault) (number, fault_is)
+    from has (front, item, rest, back, others, items_are, cuts_are, entry, long) = found_at p [] cuts shut cs part fin saw some at.cut_so_far at.c at.cut_more at.cs_are (Malformed n fault) (number, fault_is)
       where
         there : (front : List (Observation KeyParts)) × (e : Observation KeyParts) × (more : List (Observation KeyParts)) × (es ≡ front ++ e ∷ more) × IsFoundAt p front e (Malformed n fault)
         there = found_is p [] items close es found end seen whole (Malformed n fault) has

@@ -91,24 +91,24 @@ module _ (p : Times) (kind : ℕ → ℕ → Finding) (P : List (Observation Key
     )
 
     -- so both surveys say it
-    named_cut : (items cuts : List Item) (es cs : List (Observation KeyParts)) (close : LogEnd) (found part : List Finding) (end fin : SurveyEnd) → AreObserved message_reading [] items es → AreObserved message_reading [] cuts cs
-        → AllZip (IsCutOf chosen) es cs → IsSurveyAfter p [] items close found end → IsSurveyAfter p [] cuts close part fin → (n : ℕ) → Names kind es found key n ↔ Names kind cs part key n
-    named_cut items cuts es cs close found part end fin seen saw zip whole some n =
+    named_cut : (items cuts : List Item) (es cs : List (Observation KeyParts)) (close shut : LogEnd) (found part : List Finding) (end fin : SurveyEnd) → AreObserved message_reading [] items es → AreObserved message_reading [] cuts cs
+        → AllZip (IsCutOf chosen) es cs → IsSurveyAfter p [] items close found end → IsSurveyAfter p [] cuts shut part fin → (n : ℕ) → Names kind es found key n ↔ Names kind cs part key n
+    named_cut items cuts es cs close shut found part end fin seen saw zip whole some n =
         let cut = holds_cut es cs n zip in (
-          λ named. holds_named cuts close cs part fin saw some key n (cut.0 (named_holds items close es found end seen whole key n named)),
-          λ named. holds_named items close es found end seen whole key n (cut.1 (named_holds cuts close cs part fin saw some key n named)),
+          λ named. holds_named cuts shut cs part fin saw some key n (cut.0 (named_holds items close es found end seen whole key n named)),
+          λ named. holds_named items close es found end seen whole key n (cut.1 (named_holds cuts shut cs part fin saw some key n named)),
         )
 
 -- the surveys of a log and of its cut say the same of a chosen transaction
-pub part_is_whole : (p : Times) (chosen : KeyParts → Bool) (items cuts : List Item) (es cs : List (Observation KeyParts)) (close : LogEnd) (found part : List Finding) (end fin : SurveyEnd)
-    → AreObserved message_reading [] items es → AreObserved message_reading [] cuts cs → IsCutLog chosen items es cuts → IsSurveyAfter p [] items close found end → IsSurveyAfter p [] cuts close part fin
+pub part_is_whole : (p : Times) (chosen : KeyParts → Bool) (items cuts : List Item) (es cs : List (Observation KeyParts)) (close shut : LogEnd) (found part : List Finding) (end fin : SurveyEnd)
+    → AreObserved message_reading [] items es → AreObserved message_reading [] cuts cs → IsCutLog chosen items es cuts → IsSurveyAfter p [] items close found end → IsSurveyAfter p [] cuts shut part fin
     → (key : KeyParts) → chosen key ≡ true → (n : ℕ)
     → (Names (λ n t. Breach n t) es found key n ↔ Names (λ n t. Breach n t) cs part key n) × (Names (λ n t. Undecided n t) es found key n ↔ Names (λ n t. Undecided n t) cs part key n)
-part_is_whole p chosen items cuts es cs close found part end fin seen saw cut whole some key is n =
+part_is_whole p chosen items cuts es cs close shut found part end fin seen saw cut whole some key is n =
     let (ds, are, zipped) = log_cut chosen [] [] tt items es cuts seen cut in
     let zip : AllZip (IsCutOf chosen) es cs = subst (AllZip (IsCutOf chosen) es) (observed_one [] cuts ds cs are saw) zipped in (
       named_cut p (λ n t. Breach n t) (Breaks p) (λ front e n t found. found) (λ front e t holds. (refl, holds)) (λ front e key breaks. breaks_known p front e key breaks.1) chosen key is
-          (λ front back e c zip here. (trouble_cut chosen key is p front back e c zip here).0) items cuts es cs close found part end fin seen saw zip whole some n,
+          (λ front back e c zip here. (trouble_cut chosen key is p front back e c zip here).0) items cuts es cs close shut found part end fin seen saw zip whole some n,
       named_cut p (λ n t. Undecided n t) (Widens p) (λ front e n t found. found) (λ front e t holds. (refl, holds)) (λ front e key widens. concerned-among p key front e widens.1.0) chosen key is
-          (λ front back e c zip here. (trouble_cut chosen key is p front back e c zip here).1) items cuts es cs close found part end fin seen saw zip whole some n,
+          (λ front back e c zip here. (trouble_cut chosen key is p front back e c zip here).1) items cuts es cs close shut found part end fin seen saw zip whole some n,
     )

@@ -128,16 +128,22 @@ module _ (texts : Texts) (es : List (Observation KeyParts)) (e : Observation Key
 
   module _ (broken wide : List ℕ) (broken_is : AreAscending b.broken.items broken) (wide_is : AreAscending b.wide.items wide) where
     breaks : AreNumbers (Breaks p es e) t.keys broken
-    breaks = (broken_is.0, λ n. (
-      λ has. number_holds (Breaks p es e) t.keys n (h.broken n ((broken_is.1 n).0 has)),
-      λ holds. let (key, at, is, next) = holds_at (Breaks p es e) t.keys n holds in (broken_is.1 n).1 (subst (Contains b.broken.items) next (all_broken (n - 1) key at is)),
-    ))
+    breaks = (
+      broken_is.0,
+      λ n. (
+        λ has. number_holds (Breaks p es e) t.keys n (h.broken n ((broken_is.1 n).0 has)),
+        λ holds. let (key, at, is, next) = holds_at (Breaks p es e) t.keys n holds in (broken_is.1 n).1 (subst (Contains b.broken.items) next (all_broken (n - 1) key at is)),
+      ),
+    )
 
     widens : AreNumbers (Widens p es e) t.keys wide
-    widens = (wide_is.0, λ n. (
-      λ has. let own = h.wide n ((wide_is.1 n).0 has) in number_holds (Widens p es e) t.keys n (record { low = own.low; key = own.key; at = own.at; holds = own.holds.0 }),
-      λ holds. let (key, at, is, next) = holds_at (Widens p es e) t.keys n holds in (wide_is.1 n).1 (subst (Contains b.wide.items) next (all_wide (n - 1) key at is)),
-    ))
+    widens = (
+      wide_is.0,
+      λ n. (
+        λ has. let own = h.wide n ((wide_is.1 n).0 has) in number_holds (Widens p es e) t.keys n (record { low = own.low; key = own.key; at = own.at; holds = own.holds.0 }),
+        λ holds. let (key, at, is, next) = holds_at (Widens p es e) t.keys n holds in (wide_is.1 n).1 (subst (Contains b.wide.items) next (all_wide (n - 1) key at is)),
+      ),
+    )
 
     -- just these are found at it
     pub ended_found : (entry : ℕ) → entry ≡ length es + 1 → AreFoundAt p es e (listed entry e.fault broken wide)

@@ -41,8 +41,11 @@ module _ (texts : Texts) (p q : Times) (moment : ℕ) (t u : Tabled) (number : �
     where
       by : ((n ≡ number - 1) × (start_of q own ≡ s)) ⊎ ((n ≢ number - 1) × (slice_get t.sets n ≡ Some s))
           → ((n ≡ number - 1) × ((key : KeyParts) → slice_get t.keys (number - 1) ≡ Some key → LeadsOf texts p (machine_of_key p.rules key) [] moment s)) ⊎ ((n ≢ number - 1) × (slice_get t.sets n ≡ Some s))
-      by (inl (same, is)) = inl (same, λ key there.
-          subst (LeadsOf texts p (machine_of_key p.rules key) [] moment) (ap (λ k. start_of p k) (same_at t.keys (number - 1) key own there at) ∙ ap (λ r. start_of r own) (sym rules) ∙ is) (starts texts p key moment))
+      by (inl (same, is)) = inl (
+        same,
+        λ key there.
+            subst (LeadsOf texts p (machine_of_key p.rules key) [] moment) (ap (λ k. start_of p k) (same_at t.keys (number - 1) key own there at) ∙ ap (λ r. start_of r own) (sym rules) ∙ is) (starts texts p key moment),
+      )
       by (inr other) = inr other
 
 module _ (texts : Texts) (p : Times) (es : List (Observation KeyParts)) (e : Observation KeyParts) (t : Tabled) (b : Troubled) (number : ℕ) (given : IsGiven t number) where

@@ -2,7 +2,7 @@
 ghost use Rattle.std.specs.Prelude.{◌≡◌, ◌<◌, ◌≤◌, ◌-◌, ◌++◌, ◌∷◌, [], Bool, List, Some, true, false, All, OnOk, length, map, slice_get, slice_set};
 ghost use Rattle.sip_verdict.specs.declared.finding.Finding.{Finding};
 ghost use Rattle.sip_verdict.specs.declared.finding.Finding.TheVariants.{Breach, Undecided};
-ghost use Rattle.sip_verdict.specs.inner.Surveying.{AppendsTroubled, IsFresh};
+ghost use Rattle.sip_verdict.specs.inner.Surveying.{AddsBroken, AddsWide, AppendsTroubled, IsFresh};
 
 use crate::finding::Finding;
 use sip_states::keep_ascending;
@@ -59,9 +59,7 @@ impl Troubled {
     pub(crate) fn add_broken(&mut self, number: u32) -> Result<(), AllocError>
         requires low { 0 < number }
         requires high { number ≤ length self.old.deaf.items }
-        ensures deaf { OnOk result (self.new.deaf.items ≡ slice_set self.old.deaf.items (number - 1) true) }
-        ensures broken { OnOk result (self.new.broken.items ≡ self.old.broken.items ++ number ∷ []) }
-        ensures wide { self.new.wide.items ≡ self.old.wide.items }
+        ensures { OnOk result (AddsBroken number self.old self.new) }
     {
         self.broken.push(number)?;
         self.deaf[number as usize - 1] = true;
@@ -72,9 +70,7 @@ impl Troubled {
     pub(crate) fn add_wide(&mut self, number: u32) -> Result<(), AllocError>
         requires low { 0 < number }
         requires high { number ≤ length self.old.deaf.items }
-        ensures deaf { OnOk result (self.new.deaf.items ≡ slice_set self.old.deaf.items (number - 1) true) }
-        ensures wide { OnOk result (self.new.wide.items ≡ self.old.wide.items ++ number ∷ []) }
-        ensures broken { self.new.broken.items ≡ self.old.broken.items }
+        ensures { OnOk result (AddsWide number self.old self.new) }
     {
         self.wide.push(number)?;
         self.deaf[number as usize - 1] = true;

@@ -31,7 +31,7 @@ use Rattle.sip_verdict.proofs.TablesTouching.{starts}
 use Rattle.sip_verdict.proofs.VerdictLemmas.{run-over, over-run, wide-at}
 
 -- a number is among some or it is the first of them
-among_cons : (n number : ℕ) (ns : List ℕ) → n ≢ number → is_among (number ∷ ns) n ≡ is_among ns n
+pub among_cons : (n number : ℕ) (ns : List ℕ) → n ≢ number → is_among (number ∷ ns) n ≡ is_among ns n
 among_cons n number ns differ = by (nat_eq n number) refl
   where
     by : (b : Bool) → nat_eq n number ≡ b → is_among (number ∷ ns) n ≡ is_among ns n
@@ -39,7 +39,7 @@ among_cons n number ns differ = by (nat_eq n number) refl
     by false other = ap (λ b. b || is_among ns n) other
 
 -- what stands at one place is one
-same_at : {A : Type 0} (xs : List A) (n : ℕ) (x y : A) → slice_get xs n ≡ Some x → slice_get xs n ≡ Some y → x ≡ y
+pub same_at : {A : Type 0} (xs : List A) (n : ℕ) (x y : A) → slice_get xs n ≡ Some x → slice_get xs n ≡ Some y → x ≡ y
 same_at xs n x y a b = let both : Some x ≡ Some y = sym a ∙ b in cc
 
 module _ (texts : Texts) (p : Times) (es : List (Observation KeyParts)) (e : Observation KeyParts) where
@@ -54,7 +54,7 @@ module _ (texts : Texts) (p : Times) (es : List (Observation KeyParts)) (e : Obs
   waits_alike a b key s same h = subst (λ x. MatchBool x (IsReady m k es (key, s)) (GoesOn m k es e (key, s))) same h
 
   -- what is said of one transaction stays where more came into trouble
-  stays : (v w : ℕ → Bool) (b c : Troubled) (number : ℕ) (key : KeyParts) (s : AnySet) (is_deaf : Bool) → v number ≡ w number
+  pub stays : (v w : ℕ → Bool) (b c : Troubled) (number : ℕ) (key : KeyParts) (s : AnySet) (is_deaf : Bool) → v number ≡ w number
       → (Contains b.broken.items number ⊎ Contains b.wide.items number → Contains c.broken.items number ⊎ Contains c.wide.items number)
       → IsPassing texts p es e v b number key s is_deaf → IsPassing texts p es e w c number key s is_deaf
   stays v w b c number key s true same more (leads, inl unsound) = (leads, inl unsound)

@@ -39,6 +39,10 @@ set_other (u ∷ xs) (suc i) (suc n) a x differ at = set_other xs i n a x (λ sa
 same_some : {A : Type 0} (x y : A) → Some x ≡ Some y → x ≡ y
 same_some x y h = cc
 
+-- nothing on record is no record
+none_some : {A : Type 0} (x : A) → Some None ≡ Some (Some x) → ⊥
+none_some x h = cc
+
 module _ (t : Tabled) (b : Troubled) (number : ℕ) (waits : List ℕ) (given : IsGiven t number) (h : AreWatched (number ∷ waits) t b) where
   abbrev place : ℕ
   place = number - 1
@@ -68,8 +72,7 @@ module _ (t : Tabled) (b : Troubled) (number : ℕ) (waits : List ℕ) (given : 
       one n s (Some limit) here kept = kept
       one n s None here kept = among_one (n + 1) number waits kept (λ same.
           let at : n ≡ number - 1 = omega (arith, same) in
-          let none : Some (None {A = Option ℕ}) ≡ Some (Some None) = sym here ∙ ap (slice_get t.records) at ∙ h.silent place deaf in
-          absurd cc)
+          absurd (none_some None (sym here ∙ ap (slice_get t.records) at ∙ h.silent place deaf)))
 
   -- it comes into trouble
   pub watched_off : (u : Tabled) (c : Troubled) (after : AnySet) → IsAgendaOf None after → c.deaf.items ≡ slice_set b.deaf.items (number - 1) true

@@ -1,4 +1,4 @@
-use Rattle.std.specs.Prelude.{◌≡◌, ◌≢◌, ◌≤◌, ◌<◌, ◌+◌, ◌-◌, ◌⊎◌, ◌++◌, [], ◌∷◌, ℕ, Bool, true, false, Option, Some, None, List, AllPairs, Contains, ◌↔◌, MatchBool, length, map, slice_get}
+use Rattle.std.specs.Prelude.{◌≡◌, ◌≢◌, ◌≤◌, ◌<◌, ◌+◌, ◌-◌, ◌⊎◌, ◌++◌, [], ◌∷◌, ℕ, Bool, true, false, Option, Some, None, List, AllPairs, Contains, ◌↔◌, MatchBool, length, map, slice_get, slice_set}
 use Rattle.sip_key.specs.Key.{KeyParts}
 use Rattle.sip_machine.specs.Times.{Times}
 use Rattle.sip_machine.specs.Texts.{Texts}
@@ -25,6 +25,17 @@ pub record AreWatched (waits : List ℕ) (t : Tabled) (b : Troubled) : Type 0 wh
   pub long : length b.deaf.items ≡ length t.keys
   pub recorded : AreOnRecord waits t
   pub silent : (n : ℕ) → slice_get b.deaf.items n ≡ Some true → slice_get t.records n ≡ Some (Some None)
+
+-- the transaction with this number came into trouble: it broke, or it is followed no further
+pub record AddsBroken (number : ℕ) (old new : Troubled) : Type 0 where
+  pub deaf : new.deaf.items ≡ slice_set old.deaf.items (number - 1) true
+  pub broken : new.broken.items ≡ old.broken.items ++ number ∷ []
+  pub wide : new.wide.items ≡ old.wide.items
+
+pub record AddsWide (number : ℕ) (old new : Troubled) : Type 0 where
+  pub deaf : new.deaf.items ≡ slice_set old.deaf.items (number - 1) true
+  pub broken : new.broken.items ≡ old.broken.items
+  pub wide : new.wide.items ≡ old.wide.items ++ number ∷ []
 
 -- nothing came into trouble yet at the entry in hand
 pub record IsFresh (b : Troubled) : Type 0 where

@@ -5,7 +5,9 @@ pub mod FoundParts
 pub mod HasSurvey
 pub mod IdleAgain
 pub mod Lasting
+pub mod Lasts
 pub mod Named
+pub mod Numbered
 pub mod Numbers
 pub mod OneFinding
 pub mod OneSurvey

@@ -37,8 +37,8 @@ impl Troubled {
         requires { length self.old.deaf.items ≤ count }
         ensures long { OnOk result (length self.new.deaf.items ≡ count) }
         ensures deaf { OnOk result ((more : List Bool) × (self.new.deaf.items ≡ self.old.deaf.items ++ more) × All (λ is_deaf. is_deaf ≡ false) more) }
-        ensures broken { self.new.broken.items ≡ self.old.broken.items }
-        ensures wide { self.new.wide.items ≡ self.old.wide.items }
+        ensures broken { OnOk result (self.new.broken.items ≡ self.old.broken.items) }
+        ensures wide { OnOk result (self.new.wide.items ≡ self.old.wide.items) }
     {
         for _ in self.deaf.len()..count as usize {
             self.deaf.push(false)?;

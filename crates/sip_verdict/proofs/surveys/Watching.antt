@@ -110,3 +110,7 @@ passes_with texts t u place moment after may low known keys sets = record {
 pub passes_anew : (texts : Texts) (t u : Tabled) (place moment : ℕ) (key : KeyParts) (q : Times) → MayPass texts t moment → u.keys ≡ t.keys → u.sets ≡ slice_set t.sets place (start_of q key) → MayPass texts u moment
 passes_anew texts t u place moment key q may keys sets =
     passes_with texts t u place moment (start_of q key) may (let at = start_at q key in omega arith) (start_known texts q key) keys sets
+
+-- so it is where more are still to hear
+pub watched_more : (few more : List ℕ) (t : Tabled) (b : Troubled) → ((n : ℕ) → is_among few n ≡ true → is_among more n ≡ true) → AreWatched few t b → AreWatched more t b
+watched_more few more t b among h = record { long = h.long; recorded = recorded_more few more t among h.recorded; silent = h.silent }

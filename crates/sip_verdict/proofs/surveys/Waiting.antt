@@ -2,13 +2,14 @@
 use Rattle.std.proofs.Common.{◌≡◌, ◌≢◌, ◌≤◌, ◌<◌, ◌+◌, ◌⊎◌, ◌||◌, inl, inr, ℕ, Bool, true, false, Option, Some, None, List, [], ◌∷◌, ◌++◌, All, IsTrue, MatchBool, length, position, slice_get, refl, sym, ap, ◌∙◌, subst, arith}
 use Rattle.std.specs.Option.{option_map}
 use Rattle.std.proofs.lemmas.Bool.{false≢true}
+use Rattle.std.proofs.lemmas.List.Elements.{All-weaker}
 use Rattle.std.proofs.lemmas.Option.{slice_get_within}
 use Rattle.sip_key.specs.Key.{KeyParts}
 use Rattle.sip_machine.specs.Times.{Times}
 use Rattle.sip_machine.specs.Texts.{Texts}
 use Rattle.sip_states.specs.Agenda.{Records, is_overdue}
 use Rattle.sip_states.specs.AnySet.{moment_of}
-use Rattle.sip_states.specs.Tables.{Tabled, due_of}
+use Rattle.sip_states.specs.Tables.{Tabled, IsGiven, due_of}
 use Rattle.sip_states.specs.declared.any_set.AnySet.{AnySet}
 use Rattle.sip_verdict.specs.declared.passing.Hearing.{Hearing}
 use Rattle.sip_verdict.specs.declared.troubled.Troubled.{Troubled}
@@ -20,7 +21,7 @@ use Rattle.sip_verdict.specs.inner.TablesTracking.{key_keeping, is_among, concer
 use Rattle.sip_verdict.specs.inner.Surveying.{AreWatched, IsPassing, ArePassing, AreConcerned, any}
 use Rattle.sip_verdict.proofs.Halfway.{All-position_None, not_passing}
 use Rattle.sip_verdict.proofs.KeyPassing.{in_time_goes, quiet_goes}
-use Rattle.sip_verdict.proofs.TablesPassing.{at_place, All-place}
+use Rattle.sip_verdict.proofs.TablesPassing.{at_place, All-place, given_still}
 
 -- where none is due, no last moment on record is past
 none_past : (moment : ℕ) (rs : Records) → option_map (λ index. index + 1) (position (is_overdue moment) rs) ≡ None → (n : ℕ) (r : Option (Option ℕ)) → slice_get rs n ≡ Some r → is_overdue moment r ≡ false
@@ -106,3 +107,8 @@ module _ (texts : Texts) (p : Times) (es : List (Observation KeyParts)) (e : Obs
   -- and concerns those that do
   pub event_concerns : AreConcerned texts p es e hearing.event numbers t.keys
   event_concerns n key at among = ((told n key at).event, (told n key at).concerned p ∙ hearers.heard (n + 1) among)
+
+-- an event may be heard as well where the keys are the same
+pub hear_still : (texts : Texts) (t u : Tabled) (moment : ℕ) (h : Hearing) → u.keys ≡ t.keys → MayHear texts t moment h → MayHear texts u moment h
+hear_still texts t u moment h keys may =
+    record { fits = may.fits; at = may.at; given = All-weaker (IsGiven t) (IsGiven u) (λ n g. given_still n t u keys g) (each h.concerned) may.given; apart = may.apart; restart = may.restart }

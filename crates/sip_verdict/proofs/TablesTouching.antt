@@ -34,7 +34,7 @@ touched_elim : (Q : Tabled → Type 0) → ((t : Tabled) (key : KeyParts) → Q 
 touched_elim Q more key number old new holds (inl h) = subst Q (sym h.1) holds
 touched_elim Q more key number old new holds (inr h) = subst Q (sym h.2) (more old key holds)
 
-touches_elim : (Q : Tabled → Type 0) → ((t : Tabled) (key : KeyParts) → Q t → Q (with_key t key)) → (ks : List KeyParts) (ns : List ℕ) (old new : Tabled) → Q old → TouchesEach ks ns old new → Q new
+pub touches_elim : (Q : Tabled → Type 0) → ((t : Tabled) (key : KeyParts) → Q t → Q (with_key t key)) → (ks : List KeyParts) (ns : List ℕ) (old new : Tabled) → Q old → TouchesEach ks ns old new → Q new
 touches_elim Q more [] [] old new holds same = subst Q (sym same) holds
 touches_elim Q more [] (n ∷ ns) old new holds h = absurd h
 touches_elim Q more (k ∷ ks) [] old new holds h = absurd h
@@ -167,7 +167,7 @@ module _ (texts : Texts) (p : Times) where
       (kept_touched (key_machines p) (key_keeping texts p) es (keys_exact p) (k, start_of p k) (starts k (newest_moment es)) keys (transactions_of old) (transactions_of between) kept (touched k n old between times long one))
 
 -- an element of a list stays where it is
-slice_get-more : {A : Type 0} (xs ys : List A) (n : ℕ) (x : A) → slice_get xs n ≡ Some x → slice_get (xs ++ ys) n ≡ Some x
+pub slice_get-more : {A : Type 0} (xs ys : List A) (n : ℕ) (x : A) → slice_get xs n ≡ Some x → slice_get (xs ++ ys) n ≡ Some x
 slice_get-more [] ys n x at = absurd cc
 slice_get-more (u ∷ xs) ys zero x at = at
 slice_get-more (u ∷ xs) ys (suc n) x at = slice_get-more xs ys n x at

@@ -18,6 +18,7 @@ pub mod Ended
 pub mod Hearing
 pub mod Ordered
 pub mod Passing
+pub mod Taken
 pub mod Unheard
 pub mod Waiting
 pub mod Watching

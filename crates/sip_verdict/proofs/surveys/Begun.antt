@@ -90,12 +90,12 @@ touched_keys p (k ∷ ks) [] t u h = absurd h
 touched_keys p (k ∷ ks) (n ∷ ns) t u (between, one, rest) = touched_keys p ks ns between u rest ∙ ap (λ keys. fold (with_key same_key) keys ks) (touched_key p k n t between one)
 
 -- an element of two lists, one after the other
-front_place : {A : Type 0} (xs ys : List A) (n : ℕ) (x : A) → n < length xs → slice_get (xs ++ ys) n ≡ Some x → slice_get xs n ≡ Some x
+pub front_place : {A : Type 0} (xs ys : List A) (n : ℕ) (x : A) → n < length xs → slice_get (xs ++ ys) n ≡ Some x → slice_get xs n ≡ Some x
 front_place [] ys n x low at = absurd (omega (arith, low))
 front_place (u ∷ xs) ys zero x low at = at
 front_place (u ∷ xs) ys (suc n) x low at = front_place xs ys n x (omega (arith, low)) at
 
-back_place : {A : Type 0} (P : A → Type 0) (xs ys : List A) (n : ℕ) (x : A) → length xs ≤ n → All P ys → slice_get (xs ++ ys) n ≡ Some x → P x
+pub back_place : {A : Type 0} (P : A → Type 0) (xs ys : List A) (n : ℕ) (x : A) → length xs ≤ n → All P ys → slice_get (xs ++ ys) n ≡ Some x → P x
 back_place P [] ys n x low all at = All-place P ys n x at all
 back_place P (u ∷ xs) ys zero x low all at = absurd (omega (arith, low))
 back_place P (u ∷ xs) ys (suc n) x low all at = back_place P xs ys n x (omega (arith, low)) all at

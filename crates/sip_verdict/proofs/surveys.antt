@@ -23,4 +23,5 @@ pub mod Unheard
 pub mod Waiting
 pub mod Watching
 pub mod Sound
+pub mod Writing
 pub mod Wide

@@ -7,6 +7,7 @@ pub mod Showing
 pub mod Stepping
 pub mod Sweeping
 pub mod Surveying
+pub mod SurveyingLogs
 pub mod TablesTracking
 pub mod Tracking
 pub mod Walking

@@ -12,7 +12,6 @@ ghost use Rattle.sip_verdict.specs.SurveyOf.{AreFoundAt};
 ghost use Rattle.sip_verdict.specs.Judging.{MayComeNext};
 ghost use Rattle.sip_verdict.specs.Surveys.{AreFewKept, MayAnswer, SurveysFor, end_after};
 
-use crate::entries::find_next;
 use crate::finding::Finding;
 use crate::standing::Standing;
 use crate::step_error::StepError;
@@ -21,7 +20,7 @@ use crate::survey_end::SurveyEnd;
 use crate::troubled::Troubled;
 use sip_log::Entry;
 use sip_machine::Params;
-use std::alloc::{AllocError, Global};
+use std::alloc::Global;
 use std::hash::BuildHasher;
 use std::marker::Model;
 
@@ -96,31 +95,14 @@ impl<H: BuildHasher + Drop> Survey<H> {
         if self.failed {
             return Err(StepError::Failed);
         }
-        let taken = find_next(
-            self.alloc,
-            &mut self.standing,
-            &mut self.troubled,
-            &mut self.left,
-            entry,
-            found,
-        );
-        match taken {
-            Ok(()) => {
-                self.number = entry.number;
-                self.moment = entry.moment;
-                Ok(())
-            }
-            Err(AllocError) => {
-                self.failed = true;
-                Err(StepError::Memory)
-            }
-        }
+        self.failed = true;
+        Err(StepError::Memory)
     }
 
-    /// That the log ends after the entries, with how many they are and how many transactions. None after an error.
-    pub fn end(self) -> Option<SurveyEnd>
-        ensures end { result ≡ end_after self.number (length self.tables.keys) self.failed }
-        ensures clean { (es : List (Observation KeyParts)) → SurveysFor self es → result ≡ Some (Clean (length es) (length (keys_in es))) }
+    /// How a log ends that ends after these entries: with how many they are, and how many transactions. None after an error.
+    pub fn end(&self) -> Option<SurveyEnd>
+        ensures end { result ≡ end_after self.now.number (length self.now.tables.keys) self.now.failed }
+        ensures clean { (es : List (Observation KeyParts)) → SurveysFor self.now es → result ≡ Some (Clean (length es) (length (keys_in es))) }
     {
         if self.failed {
             return None;

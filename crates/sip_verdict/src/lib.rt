@@ -61,5 +61,5 @@ pub use survey_laws::{
     an_input_has_a_survey, each_trouble_is_named, the_verdict_is_in_the_survey,
     what_is_wide_does_not_break, what_stands_lasts,
 };
-pub use surveying::{survey, survey_bytes};
+pub use surveying::survey;
 pub use verdict::Verdict;

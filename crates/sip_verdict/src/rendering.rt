@@ -2,6 +2,7 @@
 ghost use Rattle.std.specs.Prelude.{◌≡◌, ◌++◌, IfOk, OnOk, codes, decimal, string_bytes};
 ghost use Rattle.sip_verdict.specs.Rendering.{rendered, rendered_unit};
 ghost use Rattle.sip_verdict.specs.Showing.{last_text};
+ghost use Rattle.sip_verdict.specs.SurveyText.{end_text, finding_text};
 ghost use Rattle.sip_verdict.specs.declared.verdict.Verdict.TheVariants.{Malformed, LogFault};
 
 use crate::finding::Finding;
@@ -56,7 +57,9 @@ pub(crate) fn last_line(alloc: Global, shown: &Shown) -> Result<String, AllocErr
 }
 
 /// The line of what is found at an entry, with its end: the text of the verdict of the same words.
-pub fn finding_line(alloc: Global, finding: &Finding) -> Result<String, AllocError> {
+pub fn finding_line(alloc: Global, finding: &Finding) -> Result<String, AllocError>
+    ensures { IfOk result (λ text. string_bytes text ≡ finding_text finding.now) }
+{
     let mut text = render(alloc, &Verdict::from(*finding))?;
     text.push_str("\n")?;
     Ok(text)
@@ -64,7 +67,9 @@ pub fn finding_line(alloc: Global, finding: &Finding) -> Result<String, AllocErr
 
 /// The last line of a survey in which so much was found, with its end: `end entries E transactions T findings F`, or the text of the
 /// verdict on a log that cannot be read.
-pub fn end_line(alloc: Global, end: &SurveyEnd, findings: u64) -> Result<String, AllocError> {
+pub fn end_line(alloc: Global, end: &SurveyEnd, findings: u64) -> Result<String, AllocError>
+    ensures { IfOk result (λ text. string_bytes text ≡ end_text end.now findings) }
+{
     let mut text = match *end {
         SurveyEnd::Clean {
             entries,
@@ -82,7 +87,10 @@ fn clean_end(
     entries: u32,
     transactions: u32,
     findings: u64,
-) -> Result<String, AllocError> {
+) -> Result<String, AllocError>
+    ensures { IfOk result (λ text. string_bytes text
+        ≡ codes "end entries " ++ decimal entries ++ codes " transactions " ++ decimal transactions ++ codes " findings " ++ decimal findings) }
+{
     let mut text = two_numbers(
         alloc,
         "end entries ",

@@ -1,10 +1,17 @@
 //! Surveys a log from its first byte to its last.
+ghost use Rattle.std.specs.Prelude.{◌≡◌, ◌++◌, ◌∷◌, [], ℕ, false, true, List, Option, IfOk, IfSome, OnOk, IsErrOf, flat_map};
+ghost use Rattle.std.specs.Io.KnownBytes.{Appends};
+ghost use Rattle.sip_log.specs.Reading.{beside_source};
+ghost use Rattle.sip_verdict.specs.declared.finding.Finding.{Finding};
+ghost use Rattle.sip_verdict.specs.declared.survey_error.SurveyError.TheVariants.{Read, Write};
+ghost use Rattle.sip_verdict.specs.SurveyOf.{IsSurveyOf};
+ghost use Rattle.sip_verdict.specs.SurveyText.{SumsUp, end_text, finding_text, survey_text};
+ghost use Rattle.sip_verdict.specs.inner.SurveyingLogs.{AreCounted, IsSurveyAt, IsWritten, SurveysRead};
 
 use crate::finding::Finding;
 use crate::following::Survey;
-use crate::judge_error::JudgeError;
-use crate::log_reason::reason_of;
-use crate::reading::{Next, read_next};
+use crate::log_reason::LogReason;
+use crate::reading::{Next, read_header, read_next};
 use crate::rendering::{end_line, finding_line};
 use crate::summary::Summary;
 use crate::survey_end::SurveyEnd;
@@ -24,28 +31,44 @@ pub fn survey<R: Source, W: Sink, H: BuildHasher + Drop>(
     reader: &mut R,
     writer: &mut W,
     hasher: H,
-) -> Result<Summary, SurveyError> {
-    match Progress::open(alloc, reader) {
+) -> Result<Summary, SurveyError>
+    requires { R.has_failed reader.old ≡ false }
+    ensures surveyed { IfOk result (λ summary. IfSome (R.left reader.old) (λ input. (found : List Finding) × IsSurveyOf input found summary.end × SumsUp found summary
+        × Appends (W.written writer.old) (W.written writer.new) (survey_text found summary.end))) }
+    ensures fine { OnOk result ((R.has_failed reader.new ≡ false) × (W.has_failed writer.new ≡ W.has_failed writer.old)) }
+    ensures read { IsErrOf result Read → R.has_failed reader.new ≡ true }
+    ensures write { IsErrOf result Write → W.has_failed writer.new ≡ true }
+{
+    match read_header(alloc, reader)? {
         Ok((params, mut progress)) => {
-            let survey = Survey::new(alloc, params, hasher);
-            write_entries(alloc, survey, &mut progress, reader, writer)
+            let mut survey = Survey::new(alloc, params, hasher);
+            write_entries(alloc, &mut survey, &mut progress, reader, writer)
         }
-        Err(error) => {
-            let reason = reason_of(error)?;
+        Err(_) => {
+            let reason = LogReason::Header;
             let end = SurveyEnd::LogFault { entry: 0, reason };
             finish(alloc, writer, end, Counts::none())
         }
     }
 }
 
-/// Reads on behind the header to the end of the log, and writes what is found. Every entry is read into the same buffer.
+/// Reads on after the header to the end of the log, and writes what is found. Every entry is read into the same buffer.
 fn write_entries<R: Source, W: Sink, H: BuildHasher + Drop>(
     alloc: Global,
-    mut survey: Survey<H>,
+    survey: &mut Survey<H>,
     progress: &mut Progress,
     reader: &mut R,
     writer: &mut W,
-) -> Result<Summary, SurveyError> {
+) -> Result<Summary, SurveyError>
+    requires at { IsSurveyAt survey.old progress.old }
+    requires first { survey.old.number ≡ 0 }
+    ensures surveyed { IfOk result (λ summary. (start : Option (List ℕ))
+        → SurveysRead survey.old [] start (beside_source progress.old (R.left reader.old) (R.has_failed reader.old))
+        → IfSome start (λ input. IsWritten input summary (W.written writer.old) (W.written writer.new))) }
+    ensures fine { OnOk result ((R.has_failed reader.new ≡ R.has_failed reader.old) × (W.has_failed writer.new ≡ W.has_failed writer.old)) }
+    ensures read { IsErrOf result Read → R.has_failed reader.new ≡ true }
+    ensures write { IsErrOf result Write → W.has_failed writer.new ≡ true }
+{
     let mut buffer = Vec::new(alloc);
     let mut found = Vec::new(alloc);
     let mut counts = Counts::none();
@@ -56,8 +79,7 @@ fn write_entries<R: Source, W: Sink, H: BuildHasher + Drop>(
                 count = entry.number;
                 found.clear();
                 survey.entry(&entry, &mut found)?;
-                put_findings(alloc, writer, found.as_slice())?;
-                counts.add(found.as_slice());
+                counts = put_findings(alloc, writer, found.as_slice(), counts)?;
                 buffer = entry.bytes;
             }
             Next::End => return finish(alloc, writer, survey.end().unwrap(), counts),
@@ -70,17 +92,26 @@ fn write_entries<R: Source, W: Sink, H: BuildHasher + Drop>(
     }
 }
 
-/// Writes a line for each of the findings.
+/// Writes a line for each of the findings, and counts them.
 fn put_findings<W: Sink>(
     alloc: Global,
     writer: &mut W,
     found: &[Finding],
-) -> Result<(), SurveyError> {
+    counts: Counts,
+) -> Result<Counts, SurveyError>
+    ensures text { OnOk result (Appends (W.written writer.old) (W.written writer.new) (flat_map finding_text found.now)) }
+    ensures counted { IfOk result (AreCounted found.now counts) }
+    ensures fine { OnOk result (W.has_failed writer.new ≡ W.has_failed writer.old) }
+    ensures read { IsErrOf result Read → ⊥ }
+    ensures write { IsErrOf result Write → W.has_failed writer.new ≡ true }
+{
+    let mut counts = counts;
     for finding in found {
         let line = finding_line(alloc, finding)?;
         writer.put(line.as_str().as_bytes())?;
+        counts = counts.with(finding).ok_or(SurveyError::Memory)?;
     }
-    Ok(())
+    Ok(counts)
 }
 
 /// Writes the last line.
@@ -89,7 +120,13 @@ fn finish<W: Sink>(
     writer: &mut W,
     end: SurveyEnd,
     counts: Counts,
-) -> Result<Summary, SurveyError> {
+) -> Result<Summary, SurveyError>
+    ensures sums { IfOk result (λ summary. (summary.end ≡ end) × (summary.findings ≡ counts.findings) × (summary.undecided ≡ counts.undecided)) }
+    ensures text { OnOk result (Appends (W.written writer.old) (W.written writer.new) (end_text end counts.findings)) }
+    ensures fine { OnOk result (W.has_failed writer.new ≡ W.has_failed writer.old) }
+    ensures read { IsErrOf result Read → ⊥ }
+    ensures write { IsErrOf result Write → W.has_failed writer.new ≡ true }
+{
     let line = end_line(alloc, &end, counts.findings)?;
     writer.put(line.as_str().as_bytes())?;
     Ok(Summary {
@@ -108,65 +145,23 @@ struct Counts {
 
 impl Counts {
     /// Nothing was found.
-    fn none() -> Counts {
+    fn none() -> Counts
+        ensures { (result.findings ≡ 0) × (result.undecided ≡ 0) }
+    {
         Counts {
             findings: 0,
             undecided: 0,
         }
     }
 
-    /// These were found too.
-    fn add(&mut self, found: &[Finding]) {
-        for finding in found {
-            self.findings += 1;
-            if let Finding::Undecided { .. } = finding {
-                self.undecided += 1;
-            }
-        }
-    }
-}
-
-/// All that is wrong in the log of these bytes, and how it ends, or `JudgeError::Memory`.
-pub fn survey_bytes<H: BuildHasher + Drop>(
-    alloc: Global,
-    bytes: &[u8],
-    hasher: H,
-) -> Result<(Vec<Finding>, SurveyEnd), JudgeError> {
-    let mut left = bytes;
-    match Progress::open(alloc, &mut left) {
-        Ok((params, mut progress)) => {
-            let survey = Survey::new(alloc, params, hasher);
-            find_entries(alloc, survey, &mut progress, &mut left)
-        }
-        Err(error) => {
-            let reason = reason_of(error)?;
-            Ok((Vec::new(alloc), SurveyEnd::LogFault { entry: 0, reason }))
-        }
-    }
-}
-
-/// Reads on behind the header to the end of the log: what is found, and how it ends.
-fn find_entries<R: Source, H: BuildHasher + Drop>(
-    alloc: Global,
-    mut survey: Survey<H>,
-    progress: &mut Progress,
-    reader: &mut R,
-) -> Result<(Vec<Finding>, SurveyEnd), JudgeError> {
-    let mut buffer = Vec::new(alloc);
-    let mut found = Vec::new(alloc);
-    let mut count = 0;
-    loop {
-        match read_next(progress, buffer, reader)? {
-            Next::Entry(entry) => {
-                count = entry.number;
-                survey.entry(&entry, &mut found)?;
-                buffer = entry.bytes;
-            }
-            Next::End => return Ok((found, survey.end().unwrap())),
-            Next::Fault(reason) => {
-                let entry = count + 1;
-                return Ok((found, SurveyEnd::LogFault { entry, reason }));
-            }
-        }
+    /// This was found too. None beyond the last number, which no log reaches.
+    fn with(&self, finding: &Finding) -> Option<Counts>
+        ensures { IfSome result (AreCounted (finding.now ∷ []) self.now) }
+    {
+        let undecided = matches!(finding, Finding::Undecided { .. });
+        Some(Counts {
+            findings: self.findings.checked_add(1)?,
+            undecided: self.undecided.checked_add(u64::from(undecided))?,
+        })
     }
 }

@@ -1,9 +1,11 @@
 pub mod CutLogs
 pub mod Cutting
 pub mod FirstFinding
+pub mod Found
 pub mod FoundParts
 pub mod HasSurvey
 pub mod IdleAgain
+pub mod Kept
 pub mod Lasting
 pub mod Lasts
 pub mod Named
@@ -18,6 +20,7 @@ pub mod Ended
 pub mod Hearing
 pub mod Ordered
 pub mod Passing
+pub mod Swept
 pub mod Taken
 pub mod Unheard
 pub mod Waiting

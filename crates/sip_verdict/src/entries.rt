@@ -11,7 +11,7 @@ ghost use Rattle.sip_verdict.specs.VerdictOf.{keys_in};
 ghost use Rattle.sip_verdict.specs.SurveyOf.{AreFoundAt};
 ghost use Rattle.sip_verdict.specs.Surveys.{AreSurveyed};
 ghost use Rattle.sip_verdict.specs.inner.TablesTracking.{is_among, MayTake};
-ghost use Rattle.sip_verdict.specs.inner.Surveying.{ArePassing, AreWatched, IsFresh, TablesSurvey};
+ghost use Rattle.sip_verdict.specs.inner.Surveying.{ArePassing, AreWatched, IsFresh, TablesSurvey, fault_listing};
 
 use crate::concerned::Concerned;
 use crate::finding::Finding;
@@ -103,6 +103,21 @@ fn take<H: BuildHasher>(
     }
 }
 
+/// Appends that the message of the entry has this fault, if it has one.
+fn push_fault(
+    entry: u32,
+    fault: Option<Fault>,
+    found: &mut Vec<Finding>,
+) -> Result<(), AllocError>
+    ensures pushed { OnOk result (found.new.items ≡ found.old.items ++ fault_listing entry fault) }
+    ensures front { (more : List Finding) × (found.new.items ≡ found.old.items ++ more) }
+{
+    if let Some(fault) = fault {
+        found.push(Finding::Malformed { entry, fault })?;
+    }
+    Ok(())
+}
+
 /// Appends what is found at the entry that comes next: the fault of its message, the breaches by number, and then what is followed no
 /// further by number.
 fn find<H: BuildHasher>(
@@ -129,10 +144,8 @@ fn find<H: BuildHasher>(
         × AreFoundAt standing.old.tables.times es e here × (found.new.items ≡ found.old.items ++ here)
         × TablesSurvey standing.new.book (es ++ e ∷ []) standing.new.tables troubled.new.deaf.items) }
 {
-    if let Some(fault) = take(alloc, standing, troubled, entry)? {
-        let entry = entry.number;
-        found.push(Finding::Malformed { entry, fault })?;
-    }
+    let fault = take(alloc, standing, troubled, entry)?;
+    push_fault(entry.number, fault, found)?;
     troubled.tell(entry.number, found)
 }
 

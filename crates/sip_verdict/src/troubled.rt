@@ -81,7 +81,7 @@ impl Troubled {
     /// entry is in hand then.
     pub(crate) fn tell(&mut self, entry: u32, found: &mut Vec<Finding>) -> Result<(), AllocError>
         ensures told { OnOk result (AppendsTroubled entry self.old found.old.items found.new.items) }
-        ensures deaf { OnOk result (self.new.deaf.items ≡ self.old.deaf.items) }
+        ensures deaf { self.new.deaf.items ≡ self.old.deaf.items }
         ensures fresh { OnOk result (IsFresh self.new) }
         ensures front { (more : List Finding) × (found.new.items ≡ found.old.items ++ more) }
     {

@@ -67,12 +67,12 @@ known_keys p keys (key ∷ more) among =
     ∙ known_keys p keys more (All-tail (Contains keys) key more among)
 
 -- what is said of an entry once it has passed
-abbrev IsTaken : Texts → Times → List (Observation KeyParts) → Item → ℕ → Option Fault → Tabled → Troubled → Type 0
+abbrev pub IsTaken : Texts → Times → List (Observation KeyParts) → Item → ℕ → Option Fault → Tabled → Troubled → Type 0
 IsTaken texts p es i moment fault t b =
     (e : Observation KeyParts) × message_reading.Observes es i e × (e.fault ≡ fault) × (e.event.moment ≡ moment) × (t.keys ≡ keys_in (es ++ e ∷ [])) × ArePassing texts p es e (is_among []) t b
 
 -- what passing does
-abbrev Passes : Texts → ℕ → Option Hearing → Tabled → Troubled → Tabled → Troubled → Type 0
+abbrev pub Passes : Texts → ℕ → Option Hearing → Tabled → Troubled → Tabled → Troubled → Type 0
 Passes texts moment hearing t b u c =
     (p : Times) (es : List (Observation KeyParts)) (e : Observation KeyParts) → t.times ≡ p → newest_moment es ≤ moment → e.event.moment ≡ moment → AreTold texts t.keys moment hearing e
     → ArePassing texts p es e any t b → ArePassing texts p es e (is_among []) u c

@@ -2,13 +2,14 @@ use Rattle.std.specs.Prelude.{◌≡◌, ◌≢◌, ◌≤◌, ◌<◌, ◌+◌,
 use Rattle.sip_key.specs.Key.{KeyParts}
 use Rattle.sip_machine.specs.Times.{Times}
 use Rattle.sip_machine.specs.Texts.{Texts}
+use Rattle.sip_message.specs.declared.fault.Fault.{Fault}
 use Rattle.sip_machine.specs.NumberedEvent.{NumberedEvent}
 use Rattle.sip_machine.specs.MachineEvent.{event_in}
 use Rattle.sip_states.specs.KeyMachine.{machine_of_key}
 use Rattle.sip_states.specs.Tables.{Tabled}
 use Rattle.sip_states.specs.declared.any_set.AnySet.{AnySet}
 use Rattle.sip_verdict.specs.declared.finding.Finding.{Finding}
-use Rattle.sip_verdict.specs.declared.finding.Finding.TheVariants.{Breach, Undecided}
+use Rattle.sip_verdict.specs.declared.finding.Finding.TheVariants.{Malformed, Breach, Undecided}
 use Rattle.sip_verdict.specs.declared.troubled.Troubled.{Troubled}
 use Rattle.sip_verdict.specs.Keyed.{Observation, concerns, newest_moment}
 use Rattle.sip_verdict.specs.VerdictOf.{RunsOver, keys_in}
@@ -95,6 +96,11 @@ abbrev pub HearsNumbers : Texts → NumberedEvent → List ℕ → Tabled → Tr
 HearsNumbers texts event numbers t b u c =
     (p : Times) (es : List (Observation KeyParts)) (e : Observation KeyParts) → t.times ≡ p → newest_moment es ≤ event.moment → AllPairs (λ i k. i ≢ k) numbers → AreConcerned texts p es e event numbers t.keys
     → ArePassing texts p es e (is_among numbers) t b → ArePassing texts p es e (is_among []) u c
+
+-- what is found of the message of the entry with this number
+abbrev pub fault_listing : ℕ → Option Fault → List Finding
+fault_listing entry None = []
+fault_listing entry (Some fault) = Malformed entry fault ∷ []
 
 -- what came into trouble at the entry with this number: these break, and these are followed no further
 abbrev pub listing : ℕ → List ℕ → List ℕ → List Finding

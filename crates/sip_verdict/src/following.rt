@@ -12,6 +12,7 @@ ghost use Rattle.sip_verdict.specs.SurveyOf.{AreFoundAt};
 ghost use Rattle.sip_verdict.specs.Judging.{MayComeNext};
 ghost use Rattle.sip_verdict.specs.Surveys.{AreFewKept, MayAnswer, SurveysFor, end_after};
 
+use crate::entries::find_next;
 use crate::finding::Finding;
 use crate::standing::Standing;
 use crate::step_error::StepError;
@@ -20,7 +21,7 @@ use crate::survey_end::SurveyEnd;
 use crate::troubled::Troubled;
 use sip_log::Entry;
 use sip_machine::Params;
-use std::alloc::Global;
+use std::alloc::{AllocError, Global};
 use std::hash::BuildHasher;
 use std::marker::Model;
 
@@ -95,8 +96,25 @@ impl<H: BuildHasher + Drop> Survey<H> {
         if self.failed {
             return Err(StepError::Failed);
         }
-        self.failed = true;
-        Err(StepError::Memory)
+        let taken = find_next(
+            self.alloc,
+            &mut self.standing,
+            &mut self.troubled,
+            &mut self.left,
+            entry,
+            found,
+        );
+        match taken {
+            Ok(()) => {
+                self.number = entry.number;
+                self.moment = entry.moment;
+                Ok(())
+            }
+            Err(AllocError) => {
+                self.failed = true;
+                Err(StepError::Memory)
+            }
+        }
     }
 
     /// How a log ends that ends after these entries: with how many they are, and how many transactions. None after an error.

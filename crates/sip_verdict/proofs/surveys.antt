@@ -7,6 +7,7 @@ pub mod IdleAgain
 pub mod Lasting
 pub mod Named
 pub mod Numbers
+pub mod Once
 pub mod OneFinding
 pub mod OneSurvey
 pub mod PartFaults

@@ -9,7 +9,7 @@ use Rattle.sip_states.specs.Stands.{Stands}
 use Rattle.sip_states.specs.KeyMachine.{MachineKind, transaction_of}
 use Rattle.sip_log.specs.Spelling.{Item}
 use Rattle.sip_verdict.specs.declared.finding.Finding.{Finding}
-use Rattle.sip_verdict.specs.declared.finding.Finding.TheVariants.{Breach, Undecided}
+use Rattle.sip_verdict.specs.declared.finding.Finding.TheVariants.{Malformed, Breach, Undecided}
 use Rattle.sip_verdict.specs.Keyed.{Observation}
 use Rattle.sip_verdict.specs.MessageReading.{message_reading}
 use Rattle.sip_verdict.specs.Reading.{AreObserved}
@@ -17,6 +17,12 @@ use Rattle.sip_verdict.specs.VerdictOf.{keys_in}
 use Rattle.sip_verdict.specs.SurveyOf.{Breaks, Widens, HoldsOf}
 
 -- The transactions in trouble.
+
+-- the finding is of the transaction with this number
+abbrev pub IsOf : ℕ → Finding → Type 0
+IsOf transaction (Malformed entry fault) = ⊥
+IsOf transaction (Breach entry number) = number ≡ transaction
+IsOf transaction (Undecided entry number) = number ≡ transaction
 
 -- the findings say this of the key, by its number, at the entry with this number
 abbrev pub Names : (ℕ → ℕ → Finding) → List (Observation KeyParts) → List Finding → KeyParts → ℕ → Type 0

@@ -2,7 +2,7 @@
 ghost use Rattle.std.specs.Prelude.{◌≡◌, ◌↔◌, ◌≤◌, ◌⊎◌, ◌++◌, ◌∷◌, [], ℕ, Bool, true, List, All, AllPairs, Contains};
 ghost use Rattle.sip_verdict.specs.VerdictOf.{IsVerdictOf, RunsOver, IsWideAt};
 ghost use Rattle.sip_verdict.specs.SurveyOf.{IsSound, Breaks, Widens, IsSurveyAfter, IsSurveyOf, verdict_in};
-ghost use Rattle.sip_verdict.specs.SurveyLaws.{Names, AreAbout, IsCutLog, StaysAt, Keeps, IsIdleAgain};
+ghost use Rattle.sip_verdict.specs.SurveyLaws.{IsOf, Names, AreAbout, IsCutLog, StaysAt, Keeps, IsIdleAgain};
 ghost use Rattle.sip_verdict.specs.declared.finding.Finding.{Finding as FindingValue};
 ghost use Rattle.sip_verdict.specs.declared.finding.Finding.TheVariants.{Malformed, Breach, Undecided};
 ghost use Rattle.sip_verdict.specs.declared.survey_end.SurveyEnd.{SurveyEnd as EndValue};
@@ -63,6 +63,12 @@ pub fn a_transaction_in_trouble_has_a_finding()
 pub fn each_trouble_is_named()
     ensures { (p : Times) (items : List Item) (close : LogEnd) (es : List (Observation KeyParts)) (found : List FindingValue) (end : EndValue) → AreObserved message_reading [] items es
         → IsSurveyAfter p [] items close found end → (key : KeyParts) → ¬ IsSound p es key → ¬ (¬ AreAbout es found key) }
+{}
+
+/// And it names no transaction twice: two findings of one transaction are the same.
+pub fn a_survey_names_a_transaction_once()
+    ensures { (input : List ℕ) (found : List FindingValue) (end : EndValue) → IsSurveyOf input found end → (transaction : ℕ) (f g : FindingValue)
+        → Contains found f → Contains found g → IsOf transaction f → IsOf transaction g → f ≡ g }
 {}
 
 /// A log may be cut by its transactions. Where all that an entry concerns is chosen, or none of it, take the log in which each entry that

@@ -1,6 +1,7 @@
 pub mod CutLogs
 pub mod Cutting
 pub mod FirstFinding
+pub mod Forgetting
 pub mod FoundParts
 pub mod HasSurvey
 pub mod IdleAgain

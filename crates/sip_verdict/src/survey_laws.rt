@@ -1,13 +1,13 @@
 //! Laws of surveys. The functions do nothing: their contracts are the laws.
 ghost use Rattle.std.specs.Prelude.{◌≡◌, ◌↔◌, ◌≤◌, ◌⊎◌, ◌++◌, ◌∷◌, [], ℕ, Bool, true, List, All, AllPairs, Contains};
-ghost use Rattle.sip_verdict.specs.VerdictOf.{IsVerdictOf, RunsOver, IsWideAt};
+ghost use Rattle.sip_verdict.specs.VerdictOf.{IsVerdictOf, events_for, RunsOver, IsWideAt};
 ghost use Rattle.sip_verdict.specs.SurveyOf.{IsSound, Breaks, Widens, IsSurveyAfter, IsSurveyOf, verdict_in};
 ghost use Rattle.sip_verdict.specs.SurveyLaws.{IsOf, Names, AreAbout, IsCutLog, StaysAt, Keeps, IsIdleAgain};
 ghost use Rattle.sip_verdict.specs.declared.finding.Finding.{Finding as FindingValue};
 ghost use Rattle.sip_verdict.specs.declared.finding.Finding.TheVariants.{Malformed, Breach, Undecided};
 ghost use Rattle.sip_verdict.specs.declared.survey_end.SurveyEnd.{SurveyEnd as EndValue};
 ghost use Rattle.sip_verdict.specs.declared.verdict.Verdict.{Verdict as VerdictValue};
-ghost use Rattle.sip_verdict.specs.Keyed.{Observation};
+ghost use Rattle.sip_verdict.specs.Keyed.{Observation, newest_moment};
 ghost use Rattle.sip_verdict.specs.MessageReading.{message_reading};
 ghost use Rattle.sip_verdict.specs.Reading.{AreObserved};
 ghost use Rattle.sip_message.specs.declared.fault.Fault.{Fault as FaultValue};
@@ -18,7 +18,7 @@ ghost use Rattle.sip_machine.specs.Times.{Times};
 ghost use Rattle.sip_machine.specs.MachineEvent.{MachineEvent};
 ghost use Rattle.sip_machine.specs.Figure.{Owing, Lasts};
 ghost use Rattle.sip_states.specs.Stands.{Stands};
-ghost use Rattle.sip_states.specs.KeyMachine.{MachineKind, transaction_of};
+ghost use Rattle.sip_states.specs.KeyMachine.{MachineKind, machine_of_key, transaction_of};
 
 /// An input has at most one survey.
 pub fn a_survey_is_one()
@@ -108,4 +108,12 @@ pub fn a_transaction_that_is_idle_again_is_as_new()
     ensures { (kind : MachineKind) (p : Times) (old more : List MachineEvent) (m k : ℕ) (y : Owing (transaction_of kind).Phase) → IsIdleAgain kind p old m
         → All (λ e. e.moment ≤ m) old → All (λ e. m ≤ e.moment) more → m ≤ k
         → Stands (transaction_of kind).figure p (old ++ more) k y ↔ Stands (transaction_of kind).figure p more k y }
+{}
+
+/// So a transaction that is idle again can be forgotten: at a later entry it breaks, or is followed no further, exactly where it does over the
+/// entries since then alone.
+pub fn what_is_idle_again_can_be_forgotten()
+    ensures { (p : Times) (key : KeyParts) (old front : List (Observation KeyParts)) (e : Observation KeyParts) → AllPairs (λ a b. a.event.moment ≤ b.event.moment) (old ++ (front ++ e ∷ []))
+        → IsIdleAgain (machine_of_key p.rules key) p (events_for key old) (newest_moment old) → IsSound p old key
+        → (Breaks p (old ++ front) e key ↔ Breaks p front e key) × (Widens p (old ++ front) e key ↔ Widens p front e key) }
 {}

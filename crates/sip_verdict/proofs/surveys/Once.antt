@@ -31,7 +31,7 @@ use Rattle.sip_verdict.proofs.surveys.OneFinding.{one_finding}
 use Rattle.sip_verdict.proofs.surveys.Wide.{wide_runs}
 
 -- the first of a list in order are in order
-ordered_front : {A : Type 0} (R : A → A → Type 0) (xs ys : List A) → AllPairs R (xs ++ ys) → AllPairs R xs
+pub ordered_front : {A : Type 0} (R : A → A → Type 0) (xs ys : List A) → AllPairs R (xs ++ ys) → AllPairs R xs
 ordered_front R [] ys sorted = λ i j d low high. absurd (omega (arith, high))
 ordered_front R (x ∷ xs) ys sorted =
     AllPairs-cons R x xs (All-front (R x) xs ys (AllPairs-head R x (xs ++ ys) sorted)) (ordered_front R xs ys (AllPairs-tail R x (xs ++ ys) sorted))

@@ -1,5 +1,5 @@
 -- A survey names a transaction once. For the survey's body: observed_order, keys_more.
-use Rattle.std.proofs.Common.{◌≡◌, ◌≤◌, ◌+◌, ◌⊎◌, inl, inr, ℕ, Bool, true, false, cond, List, [], ◌∷◌, ◌++◌, All, AllPairs, Contains, length, refl, sym, ap, ap₂, ◌∙◌, subst, arith, append_assoc, append-nil}
+use Rattle.std.proofs.Common.{◌≡◌, ◌≤◌, ◌⊎◌, inl, inr, ℕ, Bool, true, false, cond, List, [], ◌∷◌, ◌++◌, All, AllPairs, Contains, sym, ap, ap₂, ◌∙◌, subst, arith, append_assoc, append-nil}
 use Rattle.std.specs.Prelude.{fold, flat_map}
 use Rattle.std.specs.List.{list_any}
 use Rattle.std.proofs.lemmas.List.Elements.{All-nil, All-cons, All-weaker}
@@ -11,7 +11,7 @@ use Rattle.sip_machine.specs.Times.{Times}
 use Rattle.sip_machine.specs.inner.DebtLaws.{All-front}
 use Rattle.sip_log.specs.declared.format.Format.{Format}
 use Rattle.sip_log.specs.Spelling.{Item}
-use Rattle.sip_log.specs.Log.{LogEnd, Clean, Stops, InOrder}
+use Rattle.sip_log.specs.Log.{LogEnd, InOrder}
 use Rattle.sip_states.proofs.Few.{AllPairs-head, AllPairs-tail}
 use Rattle.sip_states.proofs.Listed.{Contains-none}
 use Rattle.sip_verdict.specs.declared.finding.Finding.{Finding}

@@ -1,5 +1,5 @@
 -- A fault is found in the log of some transactions exactly where it is found in the whole and its message stays.
-use Rattle.std.proofs.Common.{◌≡◌, ◌↔◌, ◌<◌, ◌+◌, ◌⊎◌, inl, inr, ℕ, zero, suc, Bool, true, Some, None, List, [], ◌∷◌, ◌++◌, Contains, length, refl, sym, ap, ◌∙◌, subst, arith, append_assoc, append-nil, MatchOption, length-append}
+use Rattle.std.proofs.Common.{◌≡◌, ◌↔◌, ◌<◌, ◌+◌, inl, inr, ℕ, zero, suc, Bool, Some, None, List, [], ◌∷◌, ◌++◌, Contains, length, refl, sym, ap, ◌∙◌, subst, arith, append_assoc, append-nil, MatchOption, length-append}
 use Rattle.sip_message.specs.declared.fault.Fault.{Fault}
 use Rattle.sip_key.specs.Key.{KeyParts}
 use Rattle.sip_times.specs.declared.action.Action.{Action}

@@ -1,3 +1,4 @@
+pub mod ByBranch
 pub mod CutLogs
 pub mod Cutting
 pub mod FirstFinding

@@ -79,6 +79,12 @@ pub fn a_log_may_be_cut()
         → IsCutLog chosen items es cuts → Keeps p chosen es cuts }
 {}
 
+/// It can be cut by branch, whichever branches are chosen, since all that a message concerns has the branch of its top Via.
+pub fn a_log_can_be_cut_by_branch()
+    ensures { (chosen : List ℕ → Bool) (items : List Item) (es : List (Observation KeyParts)) → AreObserved message_reading [] items es
+        → (cuts : List Item) × IsCutLog (λ key. chosen key.branch) items es cuts }
+{}
+
 /// And a part finds what the whole finds: the survey of a log, and that of one that is cut from it so, name a chosen transaction at the same
 /// entries, each by its own number, however the two logs end.
 pub fn a_part_finds_what_the_whole_finds()

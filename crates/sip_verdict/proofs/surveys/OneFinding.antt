@@ -27,7 +27,7 @@ pub stays_in_trouble : (p : Times) (key : KeyParts) (front : List (Observation K
     → AllPairs (λ a b. a.event.moment ≤ b.event.moment) (front ++ e ∷ more) → Breaks p front e key ⊎ Widens p front e key → ¬ (IsSound p (front ++ e ∷ more) key)
 stays_in_trouble p key front e more order (inl breaks) sound =
     let one : front ++ e ∷ more ≡ (front ++ e ∷ []) ++ more = sym (append_assoc front (e ∷ []) more) in
-    breaks.1 (runs_over_fewer p key (front ++ e ∷ []) more (subst (AllPairs (λ a b. a.event.moment ≤ b.event.moment)) one order) (subst (λ es. RunsOver p es key) one sound.0))
+    breaks.1 (sound_fewer p key (front ++ e ∷ []) more (subst (AllPairs (λ a b. a.event.moment ≤ b.event.moment)) one order) (subst (λ es. IsSound p es key) one sound)).0
 stays_in_trouble p key front e more order (inr widens) sound = sound.1 front e more refl widens.1
 
 -- so it has no second finding

@@ -1,8 +1,8 @@
 //! Laws of surveys. The functions do nothing: their contracts are the laws.
 ghost use Rattle.std.specs.Prelude.{◌≡◌, ◌↔◌, ◌≤◌, ◌⊎◌, ◌++◌, ◌∷◌, [], ℕ, Bool, true, List, All, AllPairs, Contains};
-ghost use Rattle.sip_verdict.specs.VerdictOf.{IsVerdictOf, events_for, RunsOver, IsWideAt};
+ghost use Rattle.sip_verdict.specs.VerdictOf.{IsVerdictOf, keys_in, events_for, RunsOver, IsWideAt};
 ghost use Rattle.sip_verdict.specs.SurveyOf.{IsSound, Breaks, Widens, IsSurveyAfter, IsSurveyOf, verdict_in};
-ghost use Rattle.sip_verdict.specs.SurveyLaws.{IsOf, Names, AreAbout, IsCutLog, StaysAt, Keeps, IsIdleAgain};
+ghost use Rattle.sip_verdict.specs.SurveyLaws.{IsOf, Names, AreAbout, chosen_in, IsCutLog, StaysAt, Keeps, IsIdleAgain};
 ghost use Rattle.sip_verdict.specs.declared.finding.Finding.{Finding as FindingValue};
 ghost use Rattle.sip_verdict.specs.declared.finding.Finding.TheVariants.{Malformed, Breach, Undecided};
 ghost use Rattle.sip_verdict.specs.declared.survey_end.SurveyEnd.{SurveyEnd as EndValue};
@@ -86,21 +86,20 @@ pub fn a_log_can_be_cut_by_branch()
 {}
 
 /// And a part finds what the whole finds: the survey of a log, and that of one that is cut from it so, name a chosen transaction at the same
-/// entries, each by its own number, however the two logs end.
+/// entries, however the two logs end. The part counts the chosen transactions alone.
 pub fn a_part_finds_what_the_whole_finds()
-    ensures { (p : Times) (chosen : KeyParts → Bool) (items cuts : List Item) (es cs : List (Observation KeyParts)) (close shut : LogEnd) (found part : List FindingValue) (end fin : EndValue)
-        → AreObserved message_reading [] items es → AreObserved message_reading [] cuts cs → IsCutLog chosen items es cuts
-        → IsSurveyAfter p [] items close found end → IsSurveyAfter p [] cuts shut part fin → (key : KeyParts) → chosen key ≡ true → (entry : ℕ)
-        → (Names (λ n t. Breach n t) es found key entry ↔ Names (λ n t. Breach n t) cs part key entry)
-        × (Names (λ n t. Undecided n t) es found key entry ↔ Names (λ n t. Undecided n t) cs part key entry) }
+    ensures { (p : Times) (chosen : KeyParts → Bool) (items cuts : List Item) (es : List (Observation KeyParts)) (close shut : LogEnd) (found part : List FindingValue) (end fin : EndValue)
+        → AreObserved message_reading [] items es → IsCutLog chosen items es cuts → IsSurveyAfter p [] items close found end → IsSurveyAfter p [] cuts shut part fin
+        → (key : KeyParts) → chosen key ≡ true → (entry : ℕ)
+        → (Names (λ n t. Breach n t) keys_in es found key entry ↔ Names (λ n t. Breach n t) (chosen_in chosen) es part key entry)
+        × (Names (λ n t. Undecided n t) keys_in es found key entry ↔ Names (λ n t. Undecided n t) (chosen_in chosen) es part key entry) }
 {}
 
 /// A fault is found in a part exactly where it is found in the whole and its message stays.
 pub fn a_fault_is_found_where_its_message_stays()
-    ensures { (p : Times) (chosen : KeyParts → Bool) (items cuts : List Item) (es cs : List (Observation KeyParts)) (close shut : LogEnd) (found part : List FindingValue) (end fin : EndValue)
-        → AreObserved message_reading [] items es → AreObserved message_reading [] cuts cs → IsCutLog chosen items es cuts
-        → IsSurveyAfter p [] items close found end → IsSurveyAfter p [] cuts shut part fin → (entry : ℕ) (fault : FaultValue)
-        → Contains part (Malformed entry fault) ↔ (Contains found (Malformed entry fault) × StaysAt items cuts entry) }
+    ensures { (p : Times) (chosen : KeyParts → Bool) (items cuts : List Item) (es : List (Observation KeyParts)) (close shut : LogEnd) (found part : List FindingValue) (end fin : EndValue)
+        → AreObserved message_reading [] items es → IsCutLog chosen items es cuts → IsSurveyAfter p [] items close found end → IsSurveyAfter p [] cuts shut part fin
+        → (entry : ℕ) (fault : FaultValue) → Contains part (Malformed entry fault) ↔ (Contains found (Malformed entry fault) × StaysAt items cuts entry) }
 {}
 
 /// What stands lasts: a run of one of the six machines stands in no state after its last moment.

@@ -9,7 +9,7 @@ use Rattle.sip_states.specs.Stands.{Stands}
 use Rattle.sip_states.specs.KeyMachine.{MachineKind, transaction_of}
 use Rattle.sip_log.specs.Spelling.{Item}
 use Rattle.sip_verdict.specs.declared.finding.Finding.{Finding}
-use Rattle.sip_verdict.specs.declared.finding.Finding.TheVariants.{Breach, Undecided}
+use Rattle.sip_verdict.specs.declared.finding.Finding.TheVariants.{Malformed, Breach, Undecided}
 use Rattle.sip_verdict.specs.Keyed.{Observation}
 use Rattle.sip_verdict.specs.MessageReading.{message_reading}
 use Rattle.sip_verdict.specs.Reading.{AreObserved}
@@ -18,15 +18,21 @@ use Rattle.sip_verdict.specs.SurveyOf.{Breaks, Widens, HoldsOf}
 
 -- The transactions in trouble.
 
--- the findings say this of the key, by its number, at the entry with this number
-abbrev pub Names : (ℕ → ℕ → Finding) → List (Observation KeyParts) → List Finding → KeyParts → ℕ → Type 0
-Names kind es found key entry =
+-- the finding is of the transaction with this number
+abbrev pub IsOf : ℕ → Finding → Type 0
+IsOf transaction (Malformed entry fault) = ⊥
+IsOf transaction (Breach entry number) = number ≡ transaction
+IsOf transaction (Undecided entry number) = number ≡ transaction
+
+-- the findings say this of the key at the entry with this number, by the key's number among those that are counted
+abbrev pub Names : (ℕ → ℕ → Finding) → (List (Observation KeyParts) → List KeyParts) → List (Observation KeyParts) → List Finding → KeyParts → ℕ → Type 0
+Names kind counted es found key entry =
     (front : List (Observation KeyParts)) × (e : Observation KeyParts) × (more : List (Observation KeyParts)) × (number : ℕ)
-    × (es ≡ front ++ e ∷ more) × (entry ≡ length front + 1) × HoldsOf (λ k. k ≡ key) (keys_in (front ++ e ∷ [])) number × Contains found (kind entry number)
+    × (es ≡ front ++ e ∷ more) × (entry ≡ length front + 1) × HoldsOf (λ k. k ≡ key) (counted (front ++ e ∷ [])) number × Contains found (kind entry number)
 
 -- the findings name the key at one of the entries
 abbrev pub AreAbout : List (Observation KeyParts) → List Finding → KeyParts → Type 0
-AreAbout es found key = (entry : ℕ) × (Names (λ n t. Breach n t) es found key entry ⊎ Names (λ n t. Undecided n t) es found key entry)
+AreAbout es found key = (entry : ℕ) × (Names (λ n t. Breach n t) keys_in es found key entry ⊎ Names (λ n t. Undecided n t) keys_in es found key entry)
 
 -- The log of some transactions.
 
@@ -41,6 +47,10 @@ abbrev pub IsCutLog : (KeyParts → Bool) → List Item → List (Observation Ke
 IsCutLog chosen [] [] [] = ⊤
 IsCutLog chosen (item ∷ items) (e ∷ es) (cut ∷ cuts) = StaysOrIsMark chosen item e cut × IsCutLog chosen items es cuts
 IsCutLog chosen items es cuts = ⊥
+
+-- the chosen keys of the entries, in the order of their first appearance
+abbrev pub chosen_in : (KeyParts → Bool) → List (Observation KeyParts) → List KeyParts
+chosen_in chosen es = filter chosen (keys_in es)
 
 -- the item of the entry with this number stays
 abbrev pub StaysAt : List Item → List Item → ℕ → Type 0
@@ -62,7 +72,7 @@ HasSameTrouble p es cuts key =
 pub record Keeps (p : Times) (chosen : KeyParts → Bool) (es : List (Observation KeyParts)) (cuts : List Item) : Type 0 where
   pub seen : List (Observation KeyParts)
   pub are : AreObserved message_reading [] cuts seen
-  pub keys : keys_in seen ≡ filter chosen (keys_in es)
+  pub keys : keys_in seen ≡ chosen_in chosen es
   pub troubles : (key : KeyParts) → chosen key ≡ true → HasSameTrouble p es seen key
 
 -- A transaction that is over.

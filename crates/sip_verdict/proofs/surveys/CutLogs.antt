@@ -26,7 +26,7 @@ observes_moment direction item e (has_fault fault says is) = ap (λ f. f.event.m
 observes_moment direction item e (has_no_cookie s says lacks is) = ap (λ f. f.event.moment) is
 observes_moment direction item e (is_heard s keys says has concerns is) = ap (λ f. f.event.moment) is
 
-seen_moment : (es : List (Observation KeyParts)) (item : Item) (e : Observation KeyParts) (a : Action) → SeenAs es item e a → e.event.moment ≡ item.moment
+pub seen_moment : (es : List (Observation KeyParts)) (item : Item) (e : Observation KeyParts) (a : Action) → SeenAs es item e a → e.event.moment ≡ item.moment
 seen_moment es item e Sent sees = observes_moment way.Sent item e sees
 seen_moment es item e Received sees = observes_moment way.Received item e sees
 seen_moment es item e Failed sees = observes_moment way.Sent item e sees

@@ -1,5 +1,5 @@
 -- The verdict of an input is the first finding of its survey.
-use Rattle.std.proofs.Common.{◌≡◌, ◌≤◌, ◌<◌, ◌+◌, ◌⊎◌, inl, inr, ℕ, Some, None, List, [], ◌∷◌, ◌++◌, All, AllPairs, Contains, length, refl, sym, ap, ap₂, ◌∙◌, subst, arith, length-append}
+use Rattle.std.proofs.Common.{◌≡◌, ◌≤◌, ◌⊎◌, inl, inr, ℕ, Some, None, List, [], ◌∷◌, ◌++◌, All, AllPairs, Contains, length, refl, sym, ap, ap₂, ◌∙◌, subst, arith, length-append}
 use Rattle.sip_key.specs.Key.{KeyParts}
 use Rattle.sip_machine.specs.Times.{Times}
 use Rattle.sip_log.specs.Spelling.{Item}
@@ -13,7 +13,7 @@ use Rattle.sip_verdict.specs.declared.verdict.Verdict.{Verdict}
 use Rattle.sip_verdict.specs.declared.verdict.Verdict.TheVariants as verdicts
 use Rattle.sip_verdict.specs.Keyed.{Observation}
 use Rattle.sip_verdict.specs.VerdictOf.{keys_in, RunsOver, IsWideAt, IsFirstKey, HasTrouble, IsVerdictBehind, IsVerdictOf}
-use Rattle.sip_verdict.specs.SurveyOf.{Breaks, Widens, HoldsOf, IsFoundAt, Precedes, AreFoundAt, IsSurveyAfter, IsSurveyOf, verdict_of, verdict_in}
+use Rattle.sip_verdict.specs.SurveyOf.{Breaks, Widens, HoldsOf, Precedes, AreFoundAt, IsSurveyAfter, IsSurveyOf, verdict_of, verdict_in}
 use Rattle.sip_verdict.proofs.Unique.{All-middle}
 use Rattle.sip_verdict.proofs.Splitting.{split_compare}
 use Rattle.sip_verdict.proofs.MessageUnique.{observes_one}

@@ -1,5 +1,5 @@
 -- What is found at an entry, from its parts. For the survey's body: listed, listed_found, precedes_once.
-use Rattle.std.proofs.Common.{◌≡◌, ◌↔◌, ◌<◌, ◌+◌, ◌⊎◌, inl, inr, ℕ, Option, Some, None, List, [], ◌∷◌, ◌++◌, AllPairs, Contains, length, map, refl, sym, ap, ap₂, ◌∙◌, subst, arith}
+use Rattle.std.proofs.Common.{◌≡◌, ◌<◌, ◌+◌, ◌⊎◌, inl, inr, ℕ, Option, Some, None, List, [], ◌∷◌, ◌++◌, AllPairs, Contains, length, map, refl, sym, ◌∙◌, subst, arith}
 use Rattle.std.proofs.lemmas.List.Elements.{Contains-append_left, Contains-append_right, Contains-append_cases}
 use Rattle.sip_message.specs.declared.fault.Fault.{Fault}
 use Rattle.sip_key.specs.Key.{KeyParts}
@@ -9,7 +9,7 @@ use Rattle.sip_verdict.specs.declared.finding.Finding.{Finding}
 use Rattle.sip_verdict.specs.declared.finding.Finding.TheVariants.{Malformed, Breach, Undecided}
 use Rattle.sip_verdict.specs.Keyed.{Observation}
 use Rattle.sip_verdict.specs.VerdictOf.{keys_in}
-use Rattle.sip_verdict.specs.SurveyOf.{Breaks, Widens, HoldsOf, IsFoundAt, Precedes, AreFoundAt}
+use Rattle.sip_verdict.specs.SurveyOf.{Breaks, Widens, IsFoundAt, Precedes, AreFoundAt}
 use Rattle.sip_verdict.proofs.surveys.Ordered.{ordered_append, ordered_map}
 use Rattle.sip_verdict.proofs.surveys.Numbers.{AreNumbers}
 

@@ -1,5 +1,5 @@
 -- What stands lasts: a run never stands in a state after its last moment.
-use Rattle.std.proofs.Common.{◌≡◌, ◌≤◌, ℕ, true, Option, Some, None, IfSome, IsSomeAnd, List, ◌∷◌, [], All, subst, arith}
+use Rattle.std.proofs.Common.{◌≡◌, ◌≤◌, ℕ, true, Option, Some, None, IfSome, IsSomeAnd, List, [], All, subst, arith}
 use Rattle.std.proofs.lemmas.List.Elements.{All-head, All-weaker}
 use Rattle.sip_machine.specs.Times.{Times}
 use Rattle.sip_machine.specs.MachineEvent.{MachineEvent}

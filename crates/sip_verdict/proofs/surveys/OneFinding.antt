@@ -1,5 +1,5 @@
--- A transaction has one finding, where it is in trouble, and none where it is in none. For the survey's body: stays_in_trouble, trouble_breaks.
-use Rattle.std.proofs.Common.{◌≡◌, ◌≤◌, ◌⊎◌, inl, inr, List, [], ◌∷◌, ◌++◌, AllPairs, refl, sym, ◌∙◌, subst, append_assoc, append-nil}
+-- A transaction has one finding, where it is in trouble, and none where it is in none. For the survey's body: sound_fewer, stays_in_trouble, trouble_breaks.
+use Rattle.std.proofs.Common.{◌≡◌, ◌≤◌, ◌⊎◌, inl, inr, List, [], ◌∷◌, ◌++◌, AllPairs, refl, sym, ap, ◌∙◌, subst, append_assoc, append-nil}
 use Rattle.sip_key.specs.Key.{KeyParts}
 use Rattle.sip_machine.specs.Times.{Times}
 use Rattle.sip_verdict.specs.Keyed.{Observation}
@@ -15,12 +15,19 @@ pub runs_over_fewer : (p : Times) (key : KeyParts) (front more : List (Observati
     → RunsOver p (front ++ more) key → RunsOver p front key
 runs_over_fewer p key front more order runs = run-over p front key (fewer-entries (key_machines p) key front more order (over-run p (front ++ more) key runs))
 
+-- what is in no trouble over entries in order is in none over the first of them
+pub sound_fewer : (p : Times) (key : KeyParts) (front more : List (Observation KeyParts)) → AllPairs (λ a b. a.event.moment ≤ b.event.moment) (front ++ more) → IsSound p (front ++ more) key → IsSound p front key
+sound_fewer p key front more order (runs, narrow) = (
+  runs_over_fewer p key front more order runs,
+  λ before e rest is. narrow before e (rest ++ more) (ap (λ xs. xs ++ more) is ∙ append_assoc before (e ∷ rest) more),
+)
+
 -- a transaction that broke at an entry, or is followed no further, is in trouble after it, whatever comes
 pub stays_in_trouble : (p : Times) (key : KeyParts) (front : List (Observation KeyParts)) (e : Observation KeyParts) (more : List (Observation KeyParts))
     → AllPairs (λ a b. a.event.moment ≤ b.event.moment) (front ++ e ∷ more) → Breaks p front e key ⊎ Widens p front e key → ¬ (IsSound p (front ++ e ∷ more) key)
 stays_in_trouble p key front e more order (inl breaks) sound =
     let one : front ++ e ∷ more ≡ (front ++ e ∷ []) ++ more = sym (append_assoc front (e ∷ []) more) in
-    breaks.1 (runs_over_fewer p key (front ++ e ∷ []) more (subst (AllPairs (λ a b. a.event.moment ≤ b.event.moment)) one order) (subst (λ es. RunsOver p es key) one sound.0))
+    breaks.1 (sound_fewer p key (front ++ e ∷ []) more (subst (AllPairs (λ a b. a.event.moment ≤ b.event.moment)) one order) (subst (λ es. IsSound p es key) one sound)).0
 stays_in_trouble p key front e more order (inr widens) sound = sound.1 front e more refl widens.1
 
 -- so it has no second finding

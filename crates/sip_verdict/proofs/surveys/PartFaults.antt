@@ -1,5 +1,5 @@
 -- A fault is found in the log of some transactions exactly where it is found in the whole and its message stays.
-use Rattle.std.proofs.Common.{◌≡◌, ◌↔◌, ◌<◌, ◌+◌, ◌⊎◌, inl, inr, ℕ, zero, suc, Bool, true, Some, None, List, [], ◌∷◌, ◌++◌, Contains, length, refl, sym, ap, ◌∙◌, subst, arith, append_assoc, append-nil, MatchOption, length-append}
+use Rattle.std.proofs.Common.{◌≡◌, ◌↔◌, ◌<◌, ◌+◌, inl, inr, ℕ, zero, suc, Bool, Some, None, List, [], ◌∷◌, ◌++◌, Contains, length, refl, sym, ap, ◌∙◌, subst, arith, append_assoc, append-nil, MatchOption, length-append}
 use Rattle.sip_message.specs.declared.fault.Fault.{Fault}
 use Rattle.sip_key.specs.Key.{KeyParts}
 use Rattle.sip_times.specs.declared.action.Action.{Action}
@@ -17,6 +17,7 @@ use Rattle.sip_verdict.specs.VerdictOf.{keys_in, Sees}
 use Rattle.sip_verdict.specs.SurveyOf.{IsFoundAt, IsSurveyAfter}
 use Rattle.sip_verdict.specs.SurveyLaws.{StaysOrIsMark, IsCutLog, StaysAt}
 use Rattle.sip_verdict.proofs.MessageUnique.{observes_one}
+use Rattle.sip_verdict.proofs.surveys.CutLogs.{log_cut}
 use Rattle.sip_verdict.proofs.surveys.Named.{found_at, found_is}
 use Rattle.sip_verdict.proofs.surveys.Parts.{same_split}
 
@@ -142,13 +143,12 @@ same_fault xs ys item e c sees saw = by item.action refl sees saw
 mark_whole : (ys : List (Observation KeyParts)) (item : Item) (c : Observation KeyParts) → Sees ys (record { action = Mark; moment = item.moment; text = [] }) c → c.fault ≡ None
 mark_whole ys item c saw = ap (λ f. f.fault) saw
 
--- the faults of a part
-pub part_faults : (p : Times) (chosen : KeyParts → Bool) (items cuts : List Item) (es cs : List (Observation KeyParts)) (close shut : LogEnd) (found part : List Finding) (end fin : SurveyEnd)
+-- what is found of the whole, and of the part
+faults_of : (p : Times) (chosen : KeyParts → Bool) (items cuts : List Item) (es cs : List (Observation KeyParts)) (close shut : LogEnd) (found part : List Finding) (end fin : SurveyEnd)
     → AreObserved message_reading [] items es → AreObserved message_reading [] cuts cs → IsCutLog chosen items es cuts → IsSurveyAfter p [] items close found end → IsSurveyAfter p [] cuts shut part fin
     → (n : ℕ) (fault : Fault) → Contains part (Malformed n fault) ↔ (Contains found (Malformed n fault) × StaysAt items cuts n)
-part_faults p chosen items cuts es cs close shut found part end fin seen saw cut whole some n fault = (into, λ h. from h.0 h.1)
+faults_of p chosen items cuts es cs close shut found part end fin seen saw cut whole some n fault = (into, λ h. from h.0 h.1)
   where
-    -- what is found of the whole, and of the part
     into : Contains part (Malformed n fault) → Contains found (Malformed n fault) × StaysAt items cuts n
     into has = by at.stays
       where
@@ -220,3 +220,10 @@ part_faults p chosen items cuts es cs close shut found part end fin seen saw cut
         fault_is =
             sym (same_fault at.so_far at.cut_so_far item at.e at.c (subst (λ i. Sees at.so_far i at.e) same_item.1 at.sees) (subst (λ i. Sees at.cut_so_far i at.c) same_cut.1 at.saw))
             ∙ ap (λ e. e.fault) same.1 ∙ there.4.1
+
+-- the faults of a part
+pub part_faults : (p : Times) (chosen : KeyParts → Bool) (items cuts : List Item) (es : List (Observation KeyParts)) (close shut : LogEnd) (found part : List Finding) (end fin : SurveyEnd)
+    → AreObserved message_reading [] items es → IsCutLog chosen items es cuts → IsSurveyAfter p [] items close found end → IsSurveyAfter p [] cuts shut part fin → (n : ℕ) (fault : Fault)
+    → Contains part (Malformed n fault) ↔ (Contains found (Malformed n fault) × StaysAt items cuts n)
+part_faults p chosen items cuts es close shut found part end fin seen cut whole some n fault =
+    let observed = log_cut chosen [] [] tt items es cuts seen cut in faults_of p chosen items cuts es observed.0 close shut found part end fin seen observed.1 cut whole some n fault

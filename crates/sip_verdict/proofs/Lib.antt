@@ -9,6 +9,7 @@ pub mod Hearing
 pub mod JudgeLemmas
 pub mod JudgeTables
 pub mod JudgingLemmas
+pub mod KeyPassing
 pub mod Keys
 pub mod Leading
 pub mod LegalMessages
@@ -38,3 +39,4 @@ pub mod Unique
 pub mod WalkingLemmas
 pub mod WalksLemmas
 pub mod VerdictLemmas
+pub mod surveys

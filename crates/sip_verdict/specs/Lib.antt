@@ -10,6 +10,7 @@ pub mod Reading
 pub mod Rendering
 pub mod Showing
 pub mod SurveyOf
+pub mod Surveys
 pub mod VerdictOf
 pub mod Verdicts
 pub mod inner

@@ -3,7 +3,9 @@
 #![tactic(auto)]
 
 mod concerned;
+mod entries;
 mod finding;
+mod following;
 mod judge_error;
 mod judging;
 mod laws;
@@ -12,6 +14,7 @@ mod log_reason;
 mod observing;
 mod passing;
 mod reading;
+mod releasing;
 mod rendering;
 mod show_error;
 mod showing;
@@ -20,12 +23,17 @@ mod stage;
 mod standing;
 mod step_error;
 mod stream;
+mod summary;
 mod survey_end;
+mod survey_error;
+mod surveying;
 mod sweeping;
+mod troubled;
 mod verdict;
 mod walking;
 
 pub use finding::Finding;
+pub use following::Survey;
 pub use judge_error::JudgeError;
 pub use judging::{judge, judge_bytes};
 pub use laws::{
@@ -35,12 +43,15 @@ pub use laws::{
 };
 pub use listing::{Listing, states_at};
 pub use log_reason::LogReason;
-pub use rendering::render;
+pub use rendering::{end_line, finding_line, render};
 pub use show_error::ShowError;
 pub use showing::show;
 pub use shown::Shown;
 pub use sip_message::{Fault, Reason, Unit};
 pub use step_error::StepError;
 pub use stream::Judge;
+pub use summary::Summary;
 pub use survey_end::SurveyEnd;
+pub use survey_error::SurveyError;
+pub use surveying::{survey, survey_bytes};
 pub use verdict::Verdict;

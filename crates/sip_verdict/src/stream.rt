@@ -52,7 +52,7 @@ const MOST_ENTRIES: u32 = 1_000_000;
 const LAST_MOMENT: u64 = 9_999_999_999_999;
 
 /// Whether the entry may come behind one of this number and moment.
-fn may_come_next(number: u32, moment: u64, entry: &Entry) -> bool
+pub(crate) fn may_come_next(number: u32, moment: u64, entry: &Entry) -> bool
     ensures { IsTrue result ↔ MayComeNext number moment entry.now.number entry.now.moment }
 {
     if number >= MOST_ENTRIES || entry.number != number + 1 {

@@ -77,7 +77,7 @@ any number = true
 -- those with these numbers have heard the event, each that was in no trouble
 abbrev pub HearsNumbers : Texts → NumberedEvent → List ℕ → Tabled → Troubled → Tabled → Troubled → Type 0
 HearsNumbers texts event numbers t b u c =
-    (p : Times) (es : List (Observation KeyParts)) (e : Observation KeyParts) → newest_moment es ≤ event.moment → AllPairs (λ i k. i ≢ k) numbers → AreConcerned texts p es e event numbers t.keys
+    (p : Times) (es : List (Observation KeyParts)) (e : Observation KeyParts) → t.times ≡ p → newest_moment es ≤ event.moment → AllPairs (λ i k. i ≢ k) numbers → AreConcerned texts p es e event numbers t.keys
     → ArePassing texts p es e (is_among numbers) t b → ArePassing texts p es e (is_among []) u c
 
 -- what came into trouble at the entry with this number: these break, and these are followed no further

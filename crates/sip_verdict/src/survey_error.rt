@@ -1,0 +1,47 @@
+//! Why a log could not be surveyed.
+use crate::judge_error::JudgeError;
+use crate::step_error::StepError;
+use sip_log::Broken;
+use std::alloc::AllocError;
+use thiserror::Error;
+
+/// Why a log could not be surveyed.
+#[derive(Debug, Drop, PartialEq, Eq, Error)]
+pub enum SurveyError {
+    /// The reader failed.
+    #[error("cannot read")]
+    Read,
+    /// The writer failed; how much was written is not said.
+    #[error("cannot write")]
+    Write,
+    /// A growth was refused.
+    #[error("out of memory")]
+    Memory,
+}
+
+impl From<JudgeError> for SurveyError {
+    fn from(error: JudgeError) -> SurveyError {
+        match error {
+            JudgeError::Io => SurveyError::Read,
+            JudgeError::Memory => SurveyError::Memory,
+        }
+    }
+}
+
+impl From<StepError> for SurveyError {
+    fn from(_: StepError) -> SurveyError {
+        SurveyError::Memory
+    }
+}
+
+impl From<Broken> for SurveyError {
+    fn from(_: Broken) -> SurveyError {
+        SurveyError::Write
+    }
+}
+
+impl From<AllocError> for SurveyError {
+    fn from(_: AllocError) -> SurveyError {
+        SurveyError::Memory
+    }
+}

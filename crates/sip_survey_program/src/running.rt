@@ -37,11 +37,7 @@ fn answer<S: System, W: Sink>(
 }
 
 /// Writes what the words of the system ask for, each line as soon as it is found. The answer is the status.
-pub fn run<S: System, W: Sink>(
-    alloc: Global,
-    system: &mut S,
-    output: &mut W,
-) -> Result<u8, Failure>
+pub fn run<S: System, W: Sink>(alloc: Global, system: &mut S, output: &mut W) -> Result<u8, Failure>
     requires { S.has_failed system.old ≡ false }
     ensures answer { IfOk result (λ status. IfSome (S.words system.old) (λ words. IsAnswerTo words (S.left system.old) (S.file system.old) (W.written output.old) (W.written output.new) status)) }
     ensures fine { OnOk result ((S.has_failed system.new ≡ false) × (W.has_failed output.new ≡ W.has_failed output.old)) }

@@ -4,7 +4,7 @@ ghost use Rattle.sip_verdict.specs.declared.finding.Finding.{Finding};
 ghost use Rattle.sip_verdict.specs.SurveyText.{SumsUp};
 ghost use Rattle.sip_survey_program.specs.Status.{status_of};
 
-use sip_verdict::{SurveyEnd, Summary};
+use sip_verdict::{Summary, SurveyEnd};
 
 /// The status that a survey ends the program with: 2 where the log cannot be read to its end, and else 0 where nothing is found, 3 where
 /// all that is found are transactions that are followed no further, and 1 where a message has a fault or a transaction breaks.

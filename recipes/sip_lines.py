@@ -357,13 +357,18 @@ def mark(moment):
     return entry("M", moment, b"")
 
 
-def program():
-    """The program: the one that SIPTRACE names, else `siptrace` on the path, else ./siptrace of the checkout around the recipes."""
-    beside = os.path.join(os.path.dirname(os.path.realpath(__file__)), os.pardir, "siptrace")
-    found = os.environ.get("SIPTRACE") or shutil.which("siptrace") or (os.access(beside, os.X_OK) and os.path.realpath(beside))
+def program(name="siptrace"):
+    """A program: the one that SIPTRACE names (or SIPSURVEY), else the one on the path, else that of the checkout around the recipes."""
+    beside = os.path.join(os.path.dirname(os.path.realpath(__file__)), os.pardir, name)
+    found = os.environ.get(name.upper()) or shutil.which(name) or (os.access(beside, os.X_OK) and os.path.abspath(beside))
     if not found:
-        die("there is no siptrace: put it on the path, or name it in SIPTRACE", 70)
+        die("there is no %s: put it on the path, or name it in %s" % (name, name.upper()), 70)
     return found
+
+
+def surveyor():
+    """The program `sipsurvey`, which tells all that is in trouble in a log."""
+    return program("sipsurvey")
 
 
 def ask(*words, log=b""):

@@ -22,11 +22,7 @@ fn main(rt: HostRuntime) -> Result<()> {
         if judge.may_take(&entry) && judge.entry(&entry)?.is_some() {
             break;
         }
-        println!(rt;
-            "{}: in no trouble, and {} messages are kept",
-            entry.number,
-            judge.kept()
-        )?;
+        println!(rt; "{}: in no trouble", entry.number)?;
     }
     if let Some(verdict) = judge.end() {
         println!(rt; "{}", render(rt.alloc(), &verdict)?)?;

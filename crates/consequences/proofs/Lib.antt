@@ -1,1 +1,7 @@
+pub mod Asleep
 pub mod Fronts
+pub mod InviteClients
+pub mod Lasting
+pub mod Lists
+pub mod Running
+pub mod Unanswered

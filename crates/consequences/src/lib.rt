@@ -1,4 +1,6 @@
 //! What the theorem's definitions imply, in the words of RFC 3261. The functions do nothing: their contracts are the laws.
 #![tactic(auto)]
 
+pub mod invite_client;
+pub mod restarts;
 pub mod verdicts;

@@ -3,5 +3,6 @@ pub mod Fronts
 pub mod InviteClients
 pub mod Lasting
 pub mod Lists
+pub mod Once
 pub mod Running
 pub mod Unanswered

@@ -1,8 +1,12 @@
 pub mod Asleep
+pub mod FinalResponse
+pub mod FirstResponse
 pub mod Fronts
 pub mod InviteClients
+pub mod InviteServers
 pub mod Lasting
 pub mod Lists
 pub mod Once
+pub mod Passed
 pub mod Running
 pub mod Unanswered

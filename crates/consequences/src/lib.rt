@@ -2,5 +2,6 @@
 #![tactic(auto)]
 
 pub mod invite_client;
+pub mod invite_server;
 pub mod restarts;
 pub mod verdicts;

@@ -25,26 +25,26 @@ use Rattle.consequences.proofs.Running.{Runs, IsKept, left_at, step-of, stands-r
 use Rattle.consequences.proofs.InviteServers.{Row, IsServer, ReceivedRow, comes, again, again_after, acknowledged, received-row, SentRow, provisional, success, unsuccessful, success_again, repeats, sent-row}
 
 -- an event that sends a message, or would
-abbrev IsOut : MachineEvent → Type 0
+abbrev pub IsOut : MachineEvent → Type 0
 IsOut e = (e.action ≡ Sent) ⊎ (e.action ≡ Failed)
 
 -- a provisional response of these bytes was sent
-abbrev IsSaid : List MachineEvent → List ℕ → Type 0
+abbrev pub IsSaid : List MachineEvent → List ℕ → Type 0
 IsSaid es message = Any (λ g. SendsResponse IsProvisional g × (g.text ≡ message)) es
 
 abbrev IsSaidLast : List MachineEvent → Option (List ℕ) → Type 0
 IsSaidLast es None = Unit {0}
 IsSaidLast es (Some last) = IsSaid es last
 
-all-without : (P Q : Owed → Type 0) (xs ys : List Owed) → IsWithoutFirst P xs ys → All Q xs → All Q ys
+pub all-without : (P Q : Owed → Type 0) (xs ys : List Owed) → IsWithoutFirst P xs ys → All Q xs → All Q ys
 all-without P Q xs ys a all =
     let halves : All Q (a.before ++ a.first ∷ a.after) = subst (All Q) a.whole all in
     subst (All Q) (sym a.rest) (All-append Q a.before a.after (All-front Q a.before (a.first ∷ a.after) halves) (All-tail Q a.first a.after (All-back Q a.before (a.first ∷ a.after) halves)))
 
-all-first : (P Q : Owed → Type 0) (xs ys : List Owed) (a : IsWithoutFirst P xs ys) → All Q xs → Q a.first
+pub all-first : (P Q : Owed → Type 0) (xs ys : List Owed) (a : IsWithoutFirst P xs ys) → All Q xs → Q a.first
 all-first P Q xs ys a all = All-head Q a.first a.after (All-back Q a.before (a.first ∷ a.after) (subst (All Q) a.whole all))
 
-said-later : (es more : List MachineEvent) (message : List ℕ) → IsSaid es message → IsSaid (es ++ more) message
+pub said-later : (es more : List MachineEvent) (message : List ℕ) → IsSaid es message → IsSaid (es ++ more) message
 said-later es more message said = any-earlier (λ g. SendsResponse IsProvisional g × (g.text ≡ message)) es more said
 
 said-last-later : (es more : List MachineEvent) (last : Option (List ℕ)) → IsSaidLast es last → IsSaidLast (es ++ more) last

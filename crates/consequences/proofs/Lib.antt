@@ -6,7 +6,9 @@ pub mod InviteClients
 pub mod InviteServers
 pub mod Lasting
 pub mod Lists
+pub mod MustSend
 pub mod Once
 pub mod Passed
+pub mod PlainServers
 pub mod Running
 pub mod Unanswered

@@ -1,5 +1,5 @@
 -- What an event is, in the words of RFC 3261.
-use Rattle.std.specs.Prelude.{◌≡◌, ◌≤◌, ◌⊎◌, ℕ}
+use Rattle.std.specs.Prelude.{◌≡◌, ◌≤◌, ◌⊎◌, ℕ, List}
 use Rattle.sip_times.specs.declared.action.Action.TheVariants.{Sent, Received, Failed, Restart}
 use Rattle.sip_machine.specs.declared.event.Method.{Method}
 use Rattle.sip_machine.specs.declared.event.Kind.TheVariants.{Request, Response}
@@ -32,6 +32,10 @@ GetsResponse IsSuch e = (e.action ≡ Received) × IsResponse IsSuch e
 -- such a response is sent by a server, for which one that the transport refuses counts as sent
 abbrev pub SendsResponse : (ℕ → Type 0) → MachineEvent → Type 0
 SendsResponse IsSuch e = ((e.action ≡ Sent) ⊎ (e.action ≡ Failed)) × IsResponse IsSuch e
+
+-- these bytes are sent by a server, or refused
+abbrev pub SendsBytes : List ℕ → MachineEvent → Type 0
+SendsBytes bytes e = ((e.action ≡ Sent) ⊎ (e.action ≡ Failed)) × (e.text ≡ bytes)
 
 -- a response of any code, section 7.2
 abbrev pub IsAnyCode : ℕ → Type 0

@@ -3,5 +3,6 @@
 
 pub mod invite_client;
 pub mod invite_server;
+pub mod plain_server;
 pub mod restarts;
 pub mod verdicts;

@@ -58,6 +58,13 @@ pub record IsReceiving (R : Receiving) : Type 0 where
   pub completed : (p : Times) (reliable : Bool) (request : List ℕ) (set : ℕ) (k : Kind) (e : MachineEvent) (y : Row) → R p (Completed reliable request set) k e y →
       (code : ℕ) × (k ≡ Response code) × IsUnsuccessful code × (y ≡ (Completed reliable request set, gains true e.text))
 
+  -- there is one for each 300 to 699 while it waits for one
+  pub takes_calling : (p : Times) (w : Waiting) (code : ℕ) (e : MachineEvent) → IsUnsuccessful code → R p (Calling w) (Response code) e (Completed w.reliable w.request e.moment, gains true e.text)
+  pub takes_proceeding : (p : Times) (reliable : Bool) (request : List ℕ) (cancel : Option ℕ) (code : ℕ) (e : MachineEvent) → IsUnsuccessful code →
+      R p (Proceeding reliable request cancel) (Response code) e (Completed reliable request e.moment, gains true e.text)
+  pub takes_completed : (p : Times) (reliable : Bool) (request : List ℕ) (set : ℕ) (code : ℕ) (e : MachineEvent) → IsUnsuccessful code →
+      R p (Completed reliable request set) (Response code) e (Completed reliable request set, gains true e.text)
+
 calling_6026 : (p : Times) (w : Waiting) (k : Kind) (e : MachineEvent) (y : Row) → Receives p (Calling w) k e y → Answers w.reliable w.request k e y
 calling_6026 p w (Response code) e y (inl h) = (code, refl, inl h)
 calling_6026 p w (Response code) e y (inr (inl h)) = (code, refl, inr (inl (h.0, rw h.1 tt)))
@@ -83,6 +90,9 @@ receives_6026 = record {
   calling = calling_6026;
   proceeding = proceeding_6026;
   completed = completed_6026;
+  takes_calling = λ p w code e h. inr (inr (h, refl));
+  takes_proceeding = λ p reliable request cancel code e h. inr (h, refl);
+  takes_completed = λ p reliable request set code e h. (h, refl);
 }
 
 calling_3261 : (p : Times) (w : Waiting) (k : Kind) (e : MachineEvent) (y : Row) → without.Receives p (Calling w) k e y → Answers w.reliable w.request k e y
@@ -105,6 +115,9 @@ receives_3261 = record {
   calling = calling_3261;
   proceeding = proceeding_3261;
   completed = completed_6026;
+  takes_calling = λ p w code e h. inr (inr (h, refl));
+  takes_proceeding = λ p reliable request cancel code e h. inr (h, refl);
+  takes_completed = λ p reliable request set code e h. (h, refl);
 }
 
 -- What is sent.
@@ -113,6 +126,10 @@ receives_3261 = record {
 pub pays-nothing : (x : InviteClientPhase) (k : Kind) (e : MachineEvent) (message : List ℕ) → Satisfies x k e message → (reliable : Bool) × (request : List ℕ) × (set : ℕ) × (x ≡ Completed reliable request set) × (k ≡ Request Ack) × AckOf e.text request message
 pays-nothing (Completed reliable request set) (Request Ack) e message h = (reliable, request, set, refl, refl, h)
 pays-nothing x k e message h = absurd h
+
+pub pays-completed : (reliable : Bool) (request : List ℕ) (set : ℕ) (k : Kind) (e : MachineEvent) (message : List ℕ) → Satisfies (Completed reliable request set) k e message → (k ≡ Request Ack) × AckOf e.text request message
+pays-completed reliable request set (Request Ack) e message h = (refl, h)
+pays-completed reliable request set k e message h = absurd h
 
 -- from idle an INVITE calls, and nothing else leaves it
 pub sends-idle : (p : Times) (k : Kind) (e : MachineEvent) (y : Row) → Sends p Idle k e y →

@@ -1,3 +1,4 @@
+pub mod Acknowledging
 pub mod Asleep
 pub mod FinalResponse
 pub mod FirstResponse

@@ -31,9 +31,9 @@ IsUnasked Idle = Unit {0}
 IsUnasked Ended = Unit {0}
 IsUnasked x = ⊥
 
--- a calling phase that began when this event came
-abbrev CallsFrom : MachineEvent → InviteClientPhase → Type 0
-CallsFrom invite (Calling w) = w.start ≡ invite.moment
+-- a calling phase that began with this INVITE
+abbrev pub CallsFrom : MachineEvent → InviteClientPhase → Type 0
+CallsFrom invite (Calling w) = (w.start ≡ invite.moment) × (w.request ≡ invite.text) × (w.reliable ≡ invite.reliable)
 CallsFrom invite x = ⊥
 
 not-calling : {A : Type 0} (x : InviteClientPhase) (reliable : Bool) (request : List ℕ) (set : ℕ) (invite : MachineEvent) → x ≡ Completed reliable request set → CallsFrom invite x → A
@@ -88,7 +88,7 @@ module _ (R : Receiving) (is : IsReceiving R) (p : Times) where
   }
 
   -- the INVITE with which the client begins leads to a calling phase
-  begins-calling : (before : List MachineEvent) (invite : MachineEvent) (x y : Owing InviteClientPhase) → All (λ g. ¬ (SendsRequest Invite g)) before → SendsRequest Invite invite
+  pub begins-calling : (before : List MachineEvent) (invite : MachineEvent) (x y : Owing InviteClientPhase) → All (λ g. ¬ (SendsRequest Invite g)) before → SendsRequest Invite invite
       → Runs f p (quiet Idle) 0 before invite.moment x → Takes f p x invite y → CallsFrom invite y.phase
   begins-calling before invite x y none sent run take =
       by x.phase (left_at invite x) (run-keeps f p Before before-kept before (quiet Idle) 0 invite.moment x (λ all. tt) run none)
@@ -96,7 +96,7 @@ module _ (R : Receiving) (is : IsReceiving R) (p : Times) where
     where
       by_row : (row : Row) (owes : List Owed) → ((invite.kind ≡ Request Invite) × (row ≡ (Calling (record { reliable = invite.reliable; request = invite.text; start = invite.moment; set = invite.moment; interval = p.t1 }), keeps)))
           ⊎ (¬ (invite.kind ≡ Request Invite) × (row ≡ (Idle, keeps))) → CallsFrom invite row.0
-      by_row row owes (inl (is_invite, leads)) = rw leads refl
+      by_row row owes (inl (is_invite, leads)) = rw leads (refl, refl, refl)
       by_row row owes (inr (other, leads)) = absurd (other sent.1)
 
       by : (phase : InviteClientPhase) (owes : List Owed) → IsUnasked phase → Emits f p invite (record { phase = phase; owes = owes }) y → CallsFrom invite y.phase
@@ -124,7 +124,7 @@ module _ (R : Receiving) (is : IsReceiving R) (p : Times) where
     Calls es m y = CallsFrom invite y.phase ⊎ Over es m
 
     calls-ends : (es : List MachineEvent) (h : ℕ) (x : InviteClientPhase) (owes : List Owed) → CallsFrom invite x → MayEnd f p (record { phase = x; owes = owes }) h → Over es h
-    calls-ends es h (Calling w) owes calls may = inr (inr (subst (λ m. open_at p m (64 * p.t1) ≤ h) calls may.0))
+    calls-ends es h (Calling w) owes calls may = inr (inr (subst (λ m. open_at p m (64 * p.t1) ≤ h) calls.0 may.0))
     calls-ends es h x owes calls may = absurd calls
 
     calls-received : (es : List MachineEvent) (e : MachineEvent) (w : Waiting) (row : Row) → e.action ≡ Received → R p (Calling w) e.kind e row → Over (es ++ e ∷ []) e.moment

@@ -1,3 +1,4 @@
+pub mod Acknowledged
 pub mod Events
 pub mod Front
 pub mod Machines

@@ -1,6 +1,6 @@
 //! The INVITE client transaction, RFC 3261 section 17.1.1, by either rules.
 ghost use Rattle.std.specs.List.{Any};
-ghost use Rattle.std.specs.Prelude.{◌≡◌, ◌≤◌, ◌<◌, ◌*◌, ◌⊎◌, ◌++◌, ◌∷◌, ℕ, true, List, All};
+ghost use Rattle.std.specs.Prelude.{◌≡◌, ◌≤◌, ◌<◌, ◌*◌, ◌⊎◌, ◌++◌, ◌∷◌, ℕ, true, false, List, All};
 ghost use Rattle.sip_key.specs.declared.role.Role.TheVariants.{Client};
 ghost use Rattle.sip_times.specs.declared.action.Action.TheVariants.{Sent};
 ghost use Rattle.sip_times.specs.declared.rules.Rules.{Rules};
@@ -9,8 +9,10 @@ ghost use Rattle.sip_machine.specs.declared.event.Method.TheVariants.{Invite, Ca
 ghost use Rattle.sip_machine.specs.Figure.{quiet};
 ghost use Rattle.sip_machine.specs.Limits.{open_at, close_at};
 ghost use Rattle.sip_machine.specs.MachineEvent.{MachineEvent};
+ghost use Rattle.sip_machine.specs.Message.{IsFinal, IsSuccess, IsUnsuccessful};
 ghost use Rattle.sip_machine.specs.Times.{Times};
 ghost use Rattle.sip_states.specs.Stands.{Stands, StandsBehind};
+ghost use Rattle.consequences.specs.Acknowledged.{Acknowledges};
 ghost use Rattle.consequences.specs.Events.{SendsRequest, GetsResponse, IsAnyCode, IsRefused, IsRestart};
 ghost use Rattle.consequences.specs.Machines.{figure_of, StateOf};
 
@@ -31,4 +33,21 @@ pub fn an_unanswered_invite_ends_by_timer_b()
     ensures silent { (p : Times) (rules : Rules) (before after : List MachineEvent) (invite e : MachineEvent) (y : StateOf rules Client true) →
         SendsRequest Invite invite → All (λ f. ¬ (GetsResponse IsAnyCode f)) after → e.action ≡ Sent →
         StandsBehind (figure_of rules Client true) p (before ++ invite ∷ after) e y → close_at p invite.moment (64 * p.t1) < e.moment → e.kind ≡ Request Cancel }
+{}
+
+/// The first 300 to 699 that comes for an INVITE is acknowledged as late as an element may be, by an ACK that is its (section 17.1.1.3), and so is each
+/// that comes again over an unreliable transport before timer D may fire; unless the transport refuses a message or the element starts again.
+pub fn an_unsuccessful_response_is_acknowledged()
+    ensures first { (p : Times) (rules : Rules) (before between after : List MachineEvent) (invite response : MachineEvent) (m : ℕ) (y : StateOf rules Client true) →
+        All (λ f. ¬ (SendsRequest Invite f)) before → SendsRequest Invite invite →
+        All (λ f. ¬ (GetsResponse IsFinal f) × ¬ (IsRefused f) × ¬ (IsRestart f)) between →
+        GetsResponse IsUnsuccessful response → response.moment < open_at p invite.moment (64 * p.t1) →
+        Stands (figure_of rules Client true) p (before ++ invite ∷ (between ++ response ∷ after)) m y → close_at p response.moment 0 < m →
+        Any (Acknowledges p invite response) after ⊎ Any (λ f. IsRefused f ⊎ IsRestart f) after }
+    ensures again { (p : Times) (rules : Rules) (before between after : List MachineEvent) (invite response : MachineEvent) (m : ℕ) (y : StateOf rules Client true) →
+        All (λ f. ¬ (SendsRequest Invite f)) before → SendsRequest Invite invite → invite.reliable ≡ false →
+        All (λ f. ¬ (GetsResponse IsSuccess f) × ¬ (IsRefused f) × ¬ (IsRestart f)) between →
+        GetsResponse IsUnsuccessful response → response.moment < open_at p invite.moment (64 * p.t1) → response.moment < open_at p invite.moment 32000 →
+        Stands (figure_of rules Client true) p (before ++ invite ∷ (between ++ response ∷ after)) m y → close_at p response.moment 0 < m →
+        Any (Acknowledges p invite response) after ⊎ Any (λ f. IsRefused f ⊎ IsRestart f) after }
 {}

@@ -11,5 +11,7 @@ pub mod MustSend
 pub mod Once
 pub mod Passed
 pub mod PlainServers
+pub mod Repeating
 pub mod Running
+pub mod TimerF
 pub mod Unanswered

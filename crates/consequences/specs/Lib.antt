@@ -2,4 +2,5 @@ pub mod Acknowledged
 pub mod Events
 pub mod Front
 pub mod Machines
+pub mod Repeats
 pub mod Servers

@@ -15,6 +15,7 @@ ghost use Rattle.sip_states.specs.Stands.{Stands, StandsBehind};
 ghost use Rattle.consequences.specs.Acknowledged.{Acknowledges};
 ghost use Rattle.consequences.specs.Events.{SendsRequest, GetsResponse, IsAnyCode, IsRefused, IsRestart};
 ghost use Rattle.consequences.specs.Machines.{figure_of, StateOf};
+ghost use Rattle.consequences.specs.Repeats.{IsSpaced, invites_of};
 
 /// No CANCEL is sent before a response to the INVITE has come (section 9.1), unless the transaction may be over: its transport refused a message,
 /// the element started again, or timer B may have fired, 64*T1 after the INVITE, the tolerance aside.
@@ -50,4 +51,10 @@ pub fn an_unsuccessful_response_is_acknowledged()
         GetsResponse IsUnsuccessful response → response.moment < open_at p invite.moment (64 * p.t1) → response.moment < open_at p invite.moment 32000 →
         Stands (figure_of rules Client true) p (before ++ invite ∷ (between ++ response ∷ after)) m y → close_at p response.moment 0 < m →
         Any (Acknowledges p invite response) after ⊎ Any (λ f. IsRefused f ⊎ IsRestart f) after }
+{}
+
+/// An INVITE and its repeats lie no closer than T1, 2*T1, 4*T1 and so on, the tolerance aside (timer A, section 17.1.1.2).
+pub fn an_invite_is_repeated_in_doubling_intervals()
+    ensures { (p : Times) (rules : Rules) (events : List MachineEvent) (m : ℕ) (y : StateOf rules Client true) →
+        Stands (figure_of rules Client true) p events m y → IsSpaced p (λ interval. 2 * interval) (invites_of events) }
 {}

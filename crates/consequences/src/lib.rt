@@ -3,6 +3,7 @@
 
 pub mod invite_client;
 pub mod invite_server;
+pub mod plain_client;
 pub mod plain_server;
 pub mod restarts;
 pub mod verdicts;

@@ -15,3 +15,7 @@ pub mod Repeating
 pub mod Running
 pub mod TimerF
 pub mod Unanswered
+pub mod Wider
+pub mod Steady
+pub mod Sorted
+pub mod SortedPlainServer

@@ -4,3 +4,4 @@ pub mod Front
 pub mod Machines
 pub mod Repeats
 pub mod Servers
+pub mod Tolerance

@@ -6,4 +6,5 @@ pub mod invite_server;
 pub mod plain_client;
 pub mod plain_server;
 pub mod restarts;
+pub mod tolerance;
 pub mod verdicts;

@@ -1,0 +1,14 @@
+//! A wider tolerance.
+ghost use Rattle.std.specs.Prelude.{◌≡◌, ◌≤◌, ℕ, List};
+ghost use Rattle.sip_machine.specs.Figure.{Owing};
+ghost use Rattle.sip_machine.specs.MachineEvent.{MachineEvent};
+ghost use Rattle.sip_machine.specs.Times.{Times};
+ghost use Rattle.sip_states.specs.KeyMachine.{MachineKind, transaction_of};
+ghost use Rattle.sip_states.specs.Stands.{Stands};
+ghost use Rattle.consequences.specs.Tolerance.{tolerant, AreOneKind};
+
+/// A wider tolerance keeps a run: where an element may be earlier and later, a run over the same events stands in the same phase.
+pub fn a_wider_tolerance_keeps_a_run()
+    ensures { (p : Times) (early late : ℕ) (machine : MachineKind) (events : List MachineEvent) (m : ℕ) (x : Owing (transaction_of machine).Phase) → p.early ≤ early → p.late ≤ late → AreOneKind events →
+        Stands (transaction_of machine).figure p events m x → (y : Owing (transaction_of machine).Phase) × Stands (transaction_of machine).figure (tolerant early late p) events m y × (y.phase ≡ x.phase) }
+{}

@@ -1,28 +1,27 @@
 -- An INVITE client acknowledges each 300 to 699.
-use Rattle.std.proofs.Common.{◌≡◌, ◌≤◌, ◌<◌, ◌*◌, ◌⊎◌, inl, inr, ℕ, Bool, true, false, Option, Some, None, IsSomeAnd, List, [], ◌∷◌, ◌++◌, All, Contains, refl, sym, ap, subst, ◌∙◌, arith, if◌then◌else◌}
+use Rattle.std.proofs.Common.{◌≡◌, ◌≤◌, ◌<◌, ◌*◌, ◌⊎◌, inl, inr, ℕ, Bool, true, false, Some, None, List, [], ◌∷◌, ◌++◌, All, Contains, refl, sym, subst, ◌∙◌, arith}
 use Rattle.std.specs.List.{Any}
-use Rattle.std.proofs.lemmas.List.Elements.{All-weaker, Contains-push}
+use Rattle.std.proofs.lemmas.List.Elements.{Contains-push}
 use Rattle.sip_key.specs.AckOf.{AckOf}
 use Rattle.sip_times.specs.declared.action.Action.{Action}
 use Rattle.sip_times.specs.declared.action.Action.TheVariants.{Sent, Received, Failed, Mark, Restart}
-use Rattle.sip_machine.specs.declared.event.Method.TheVariants.{Invite, Ack, Cancel}
+use Rattle.sip_machine.specs.declared.event.Method.TheVariants.{Invite}
 use Rattle.sip_machine.specs.declared.event.Kind.{Kind}
-use Rattle.sip_machine.specs.declared.event.Kind.TheVariants.{Request, Response}
+use Rattle.sip_machine.specs.declared.event.Kind.TheVariants.{Response}
 use Rattle.sip_machine.specs.Times.{Times}
 use Rattle.sip_machine.specs.Limits.{open_at, close_at}
 use Rattle.sip_machine.specs.MachineEvent.{MachineEvent}
-use Rattle.sip_machine.specs.Waiting.{Waiting}
-use Rattle.sip_machine.specs.Message.{IsProvisional, IsFinal, IsSuccess, IsUnsuccessful}
+use Rattle.sip_machine.specs.Message.{IsSuccess, IsUnsuccessful}
 use Rattle.sip_machine.specs.Debts.{Owed}
-use Rattle.sip_machine.specs.Figure.{Figure, Change, keeps, gains, Owing, changed, quiet, Follows, Emits, Fails, Steps, Takes, Lasts, MayEnd}
-use Rattle.sip_machine.specs.InviteClient.{InviteClientPhase, Idle, Ended, Calling, Proceeding, Accepted, Completed, Sends, Satisfies, ends_refused}
+use Rattle.sip_machine.specs.Figure.{Figure, keeps, gains, Owing, changed, quiet, Emits, Steps, Takes, Lasts, MayEnd}
+use Rattle.sip_machine.specs.InviteClient.{InviteClientPhase, Idle, Ended, Calling, Proceeding, Completed, Sends, Satisfies}
 use Rattle.sip_states.specs.Stands.{Stands}
 use Rattle.consequences.specs.Acknowledged.{Acknowledges}
 use Rattle.consequences.specs.Events.{SendsRequest, GetsResponse, IsRefused, IsRestart}
-use Rattle.consequences.proofs.Lists.{any-last, any-earlier, any-none}
+use Rattle.consequences.proofs.Lists.{any-last, any-earlier}
 use Rattle.consequences.proofs.MustSend.{still-owed, other-paid, more-owed, no-end, in-time}
-use Rattle.consequences.proofs.Running.{Runs, IsKept, left_at, step-of, stands-run, Cut, cut, run-keeps, append-none}
-use Rattle.consequences.proofs.InviteClients.{Row, Receiving, client, IsDone, Answers, IsReceiving, pays-nothing, pays-completed, sends-calling, sends-proceeding, sends-completed}
+use Rattle.consequences.proofs.Running.{IsKept, left_at, step-of, stands-run, Cut, cut, run-keeps, append-none}
+use Rattle.consequences.proofs.InviteClients.{Row, Receiving, client, Answers, IsReceiving, pays-completed, sends-calling, sends-proceeding, sends-completed}
 use Rattle.consequences.proofs.Unanswered.{CallsFrom, begins-calling}
 
 codes-are-one : (a b : ℕ) → Response a ≡ Response b → a ≡ b

@@ -1,5 +1,5 @@
 -- A server that has got no request sleeps: it sends nothing, and has no timer.
-use Rattle.std.proofs.Common.{◌≡◌, ◌≤◌, ◌⊎◌, inl, inr, ℕ, Bool, true, false, Option, None, List, [], ◌∷◌, ◌++◌, All, refl, sym, ap, subst, IsSomeAnd}
+use Rattle.std.proofs.Common.{◌≡◌, ◌≤◌, ◌⊎◌, inl, inr, ℕ, Bool, true, false, Option, None, List, [], ◌∷◌, ◌++◌, All, refl, ap, subst, IsSomeAnd}
 use Rattle.sip_times.specs.declared.action.Action.{Action}
 use Rattle.sip_times.specs.declared.action.Action.TheVariants.{Sent, Received, Failed, Mark, Restart}
 use Rattle.sip_machine.specs.declared.event.Method.{Method}
@@ -9,13 +9,13 @@ use Rattle.sip_machine.specs.declared.event.Kind.TheVariants.{Request, Response}
 use Rattle.sip_machine.specs.Times.{Times}
 use Rattle.sip_machine.specs.MachineEvent.{MachineEvent}
 use Rattle.sip_machine.specs.Debts.{Owed, IsWithoutFirst}
-use Rattle.sip_machine.specs.Figure.{Figure, Change, Owing, quiet, Repays, Emits, Fails, Steps, Takes, Lasts, MayEnd}
+use Rattle.sip_machine.specs.Figure.{Figure, Change, Owing, quiet, Emits, Fails, Steps, Takes, MayEnd}
 use Rattle.sip_machine.specs.InviteServer as corrected
 use Rattle.sip_machine.specs.InviteServer3261 as without
 use Rattle.sip_machine.specs.PlainServer as plain
 use Rattle.consequences.specs.Events.{IsRestart}
 use Rattle.consequences.proofs.Lists.{All-front, All-last}
-use Rattle.consequences.proofs.Running.{Runs, IsKept, left_at, step-of, run-keeps}
+use Rattle.consequences.proofs.Running.{Runs, IsKept, step-of, run-keeps}
 
 -- in its idle phase, which is the ended one, a server has no timer, sends nothing, and leaves only for a request that wakes it
 pub record IsAsleep {X : Type 0} (f : Figure X) (p : Times) (Wakes : Kind → Type 0) : Type 0 where

@@ -1,5 +1,5 @@
 -- An INVITE server before its final response and after it.
-use Rattle.std.proofs.Common.{◌≡◌, ◌≤◌, ◌<◌, ◌*◌, ◌⊎◌, inl, inr, ℕ, Bool, true, false, Option, Some, None, IsSomeAnd, List, [], ◌∷◌, ◌++◌, length, All, map, refl, sym, ap, subst, ◌∙◌, arith}
+use Rattle.std.proofs.Common.{◌≡◌, ◌≤◌, ◌<◌, ◌*◌, ◌⊎◌, inl, inr, ℕ, Bool, true, false, Option, Some, None, IsSomeAnd, List, [], ◌∷◌, ◌++◌, length, All, refl, sym, ap, subst, ◌∙◌, arith}
 use Rattle.std.specs.List.{Any}
 use Rattle.std.proofs.lemmas.List.Elements.{All-nil, All-head, All-tail, All-append, All-filter, All-push, All-weaker, All-map, All-contains}
 use Rattle.std.specs.Prelude.{slice_index_or}
@@ -7,21 +7,21 @@ use Rattle.sip_times.specs.declared.action.Action.{Action}
 use Rattle.sip_times.specs.declared.action.Action.TheVariants.{Sent, Received, Failed, Mark, Restart}
 use Rattle.sip_machine.specs.declared.event.Method.TheVariants.{Invite, Ack}
 use Rattle.sip_machine.specs.declared.event.Kind.{Kind}
-use Rattle.sip_machine.specs.declared.event.Kind.TheVariants.{Request, Response}
+use Rattle.sip_machine.specs.declared.event.Kind.TheVariants.{Response}
 use Rattle.sip_machine.specs.Times.{Times}
 use Rattle.sip_machine.specs.Limits.{open_at, close_at}
 use Rattle.sip_machine.specs.MachineEvent.{MachineEvent}
 use Rattle.sip_machine.specs.Message.{IsProvisional, IsFinal, IsSuccess, IsUnsuccessful}
 use Rattle.sip_machine.specs.Debts.{Owed, softened, IsWithoutFirst}
-use Rattle.sip_machine.specs.Figure.{Figure, Change, keeps, softens, drops, gains, Owing, changed, quiet, Follows, Emits, Fails, Steps, Takes, Lasts, MayEnd}
+use Rattle.sip_machine.specs.Figure.{Figure, Change, Owing, changed, quiet, Emits, Fails, Steps, Takes, Lasts, MayEnd}
 use Rattle.sip_machine.specs.InviteServer.{InviteServerPhase, Idle, Proceeding, Accepted, Completed, Confirmed}
 use Rattle.sip_machine.specs.InviteServer as corrected
-use Rattle.sip_states.specs.Stands.{Stands, StandsBehind}
+use Rattle.sip_states.specs.Stands.{StandsBehind}
 use Rattle.consequences.specs.Events.{GetsRequest, IsResponse, SendsResponse, IsRestart}
 use Rattle.consequences.specs.Servers.{BeginNoneAnew}
 use Rattle.consequences.proofs.Asleep.{nothing-to-pay}
 use Rattle.consequences.proofs.Lists.{any-last, any-earlier, any-none, All-front, All-back, All-last}
-use Rattle.consequences.proofs.Running.{Runs, IsKept, left_at, step-of, stands-run, Cut, cut, run-keeps, append-none}
+use Rattle.consequences.proofs.Running.{IsKept, left_at, step-of, stands-run, Cut, cut, run-keeps, append-none}
 use Rattle.consequences.proofs.InviteServers.{Row, IsServer, ReceivedRow, comes, again, again_after, acknowledged, received-row, SentRow, provisional, success, unsuccessful, success_again, repeats, sent-row}
 
 -- an event that sends a message, or would
@@ -254,9 +254,10 @@ module _ {X : Type 0} (f : Figure X) (p : Times) (held : InviteServerPhase → X
           by (inl (r, is_r, leads)) =
               let sends = closes-sent x e.kind r owes refl closes (sent-row p x e.kind e r is_r) in (sends.0, (r.0, changed p e.moment r.1 owes, led e owes row r y leads to, sends.1))
           by (inr (reliable, set, last, here, response)) = absurd (subst (λ z. Closes es e.moment z owes) here closes)
-      closes-emits x owes y closes (inr (inl (left, pays, to))) =
-          (allowed (all-first _ (λ o. (IsBad × (o.message ≡ final.text)) ⊎ ((o.deadline ≤ close_at p final.moment 0) × IsSaid before o.message)) owes left pays (closes-old es e.moment x owes closes)),
-          (x, left, to, closes-pays _ x owes left pays closes))
+      closes-emits x owes y closes (inr (inl (left, pays, to))) = (
+        allowed (all-first _ (λ o. (IsBad × (o.message ≡ final.text)) ⊎ ((o.deadline ≤ close_at p final.moment 0) × IsSaid before o.message)) owes left pays (closes-old es e.moment x owes closes)),
+        (x, left, to, closes-pays _ x owes left pays closes),
+      )
         where
           bytes : pays.first.message ≡ e.text
           bytes = is.paid x e.kind e pays.first.message pays.holds.0
@@ -278,10 +279,13 @@ module _ {X : Type 0} (f : Figure X) (p : Times) (held : InviteServerPhase → X
           → Closes (es ++ e ∷ []) e.moment row.0 (changed p e.moment row.1 owes)
       closes-received _ _ _ owes was kind never closes (comes _) = absurd (never (was, kind) closes.1)
       closes-received _ _ _ owes was kind never closes (again _ reliable set last must) = absurd closes
-      closes-received _ _ _ owes was kind never closes (again_after _ reliable message set repeat interval) =
-          (closes.0, closes.1, closes.2,
-          All-push (λ o. (IsBad × (o.message ≡ final.text)) ⊎ ((o.deadline ≤ close_at p final.moment 0) × IsSaid before o.message)) owes
-          (record { message = message; deadline = close_at p e.moment 0; must = false }) closes.3 (inl (closes.0, closes.1)))
+      closes-received _ _ _ owes was kind never closes (again_after _ reliable message set repeat interval) = (
+        closes.0,
+        closes.1,
+        closes.2,
+        All-push (λ o. (IsBad × (o.message ≡ final.text)) ⊎ ((o.deadline ≤ close_at p final.moment 0) × IsSaid before o.message)) owes
+            (record { message = message; deadline = close_at p e.moment 0; must = false }) closes.3 (inl (closes.0, closes.1)),
+      )
       closes-received _ _ _ owes was kind never closes (acknowledged _ reliable message set repeat interval) = (closes.0, any-last (GetsRequest Ack) es e (was, kind), closes.3)
 
       closes-steps : (a : Action) (x : InviteServerPhase) (owes : List Owed) (y : Owing X) → e.action ≡ a → ((GetsRequest Invite e → Past es e.moment → ⊥)) → Closes es e.moment x owes

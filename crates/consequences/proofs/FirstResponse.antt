@@ -1,24 +1,24 @@
 -- An INVITE server that has just got its INVITE: it answers within 200 ms.
-use Rattle.std.proofs.Common.{◌≡◌, ◌≤◌, ◌<◌, ◌⊎◌, inl, inr, ℕ, Bool, true, false, Option, Some, None, IsSomeAnd, List, [], ◌∷◌, ◌++◌, All, refl, sym, ap, subst, ◌∙◌, arith}
+use Rattle.std.proofs.Common.{◌≡◌, ◌≤◌, ◌<◌, ◌⊎◌, inl, inr, ℕ, Bool, true, false, Option, None, IsSomeAnd, List, [], ◌∷◌, ◌++◌, All, refl, sym, ap, subst, ◌∙◌, arith}
 use Rattle.std.specs.List.{Any}
 use Rattle.std.proofs.lemmas.List.Elements.{All-head}
 use Rattle.sip_times.specs.declared.action.Action.{Action}
 use Rattle.sip_times.specs.declared.action.Action.TheVariants.{Sent, Received, Failed, Mark, Restart}
-use Rattle.sip_machine.specs.declared.event.Method.TheVariants.{Invite, Ack}
+use Rattle.sip_machine.specs.declared.event.Method.TheVariants.{Invite}
 use Rattle.sip_machine.specs.declared.event.Kind.{Kind}
 use Rattle.sip_machine.specs.declared.event.Kind.TheVariants.{Request, Response}
 use Rattle.sip_machine.specs.Times.{Times}
 use Rattle.sip_machine.specs.Limits.{close_at}
 use Rattle.sip_machine.specs.MachineEvent.{MachineEvent}
-use Rattle.sip_machine.specs.Message.{IsProvisional, IsSuccess, IsUnsuccessful}
-use Rattle.sip_machine.specs.Figure.{Figure, Change, keeps, Owing, changed, quiet, Follows, Emits, Fails, Steps, Takes, Lasts, MayEnd}
+use Rattle.sip_machine.specs.Message.{IsSuccess}
+use Rattle.sip_machine.specs.Figure.{Figure, keeps, Owing, changed, quiet, Follows, Emits, Fails, Steps, Takes, Lasts, MayEnd}
 use Rattle.sip_machine.specs.InviteServer.{InviteServerPhase, Idle, Proceeding, Accepted, Completed, Confirmed}
 use Rattle.sip_machine.specs.InviteServer as corrected
 use Rattle.sip_states.specs.Stands.{Stands}
 use Rattle.consequences.specs.Events.{GetsRequest, SendsResponse, IsAnyCode, IsRestart}
 use Rattle.consequences.proofs.Asleep.{IsAsleep, IsInvite, nothing-to-pay, sleeps-on}
 use Rattle.consequences.proofs.Lists.{any-last, any-earlier}
-use Rattle.consequences.proofs.Running.{Runs, IsKept, left_at, step-of, stands-run, Cut, cut, run-keeps}
+use Rattle.consequences.proofs.Running.{IsKept, step-of, stands-run, Cut, cut, run-keeps}
 use Rattle.consequences.proofs.InviteServers.{Row, IsServer, ReceivedRow, comes, again, again_after, acknowledged, received-row, SentRow, provisional, success, unsuccessful, success_again, repeats, sent-row}
 
 module _ {X : Type 0} (f : Figure X) (p : Times) (held : InviteServerPhase → X) (is : IsServer f p held) (invite : MachineEvent) where

@@ -1,19 +1,17 @@
 -- What each verdict says by itself: the entries before the one that it names go well.
-use Rattle.std.proofs.Common.{◌≡◌, ◌+◌, ◌⊎◌, inl, inr, refl, sym, subst, ◌∙◌, ap, ℕ, Some, None, List, [], ◌∷◌, ◌++◌, length, All, append_assoc}
+use Rattle.std.proofs.Common.{◌≡◌, ◌+◌, ◌⊎◌, inl, inr, refl, sym, subst, ◌∙◌, ap, ℕ, List, [], ◌∷◌, ◌++◌, length, append_assoc}
 use Rattle.sip_key.specs.Key.{KeyParts}
 use Rattle.sip_machine.specs.Times.{Times}
 use Rattle.sip_log.specs.Spelling.{Item}
 use Rattle.sip_log.specs.Log.{LogEnd, Clean, Stops}
-use Rattle.sip_log.specs.LogFault.{LogFault as FaultOfLog}
 use Rattle.sip_log.specs.LogSays.{LogSays}
 use Rattle.sip_message.specs.declared.fault.Fault.{Fault}
 use Rattle.sip_verdict.specs.declared.verdict.Verdict.{Verdict}
-use Rattle.sip_verdict.specs.declared.verdict.Verdict.TheVariants.{Legal, Malformed, Breach, Undecided, LogFault}
+use Rattle.sip_verdict.specs.declared.verdict.Verdict.TheVariants.{Malformed, Breach, Undecided, LogFault}
 use Rattle.sip_verdict.specs.declared.log_reason.LogReason.{LogReason}
-use Rattle.sip_verdict.specs.LogReason.{reason_of}
 use Rattle.sip_verdict.specs.Keyed.{Observation}
-use Rattle.sip_verdict.specs.VerdictOf.{keys_in, Sees, RunsOver, IsWideAt, HasTrouble, IsVerdictBehind, IsVerdictOf}
-use Rattle.consequences.specs.Front.{IsUntroubled, GoWell, IsFirstInTrouble, IsFirstFault, IsFirstBreach, IsFirstWide, CannotBeRead}
+use Rattle.sip_verdict.specs.VerdictOf.{Sees, HasTrouble, IsVerdictBehind, IsVerdictOf}
+use Rattle.consequences.specs.Front.{GoWell, IsFirstInTrouble, IsFirstFault, IsFirstBreach, IsFirstWide, CannotBeRead}
 
 abbrev Entries : Type 0
 Entries = List (Observation KeyParts)

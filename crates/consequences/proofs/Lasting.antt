@@ -1,6 +1,6 @@
 -- What stands at a moment lasts until then, whichever of the six machines it is of.
-use Rattle.std.proofs.Common.{◌≤◌, ◌↔◌, ℕ, Option, Some, None, IfSome, List, [], ◌∷◌, All}
-use Rattle.std.proofs.lemmas.List.Elements.{All-nil, All-cons, All-head}
+use Rattle.std.proofs.Common.{◌≤◌, ℕ, Option, Some, None, IfSome, List, [], All}
+use Rattle.std.proofs.lemmas.List.Elements.{All-head}
 use Rattle.sip_machine.specs.Times.{Times}
 use Rattle.sip_machine.specs.MachineEvent.{MachineEvent}
 use Rattle.sip_machine.specs.Figure.{Figure, IsFigure, Owing, Lasts, closes_of, closes_at}

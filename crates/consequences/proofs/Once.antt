@@ -1,6 +1,5 @@
 -- A client sends its request once: after that it is never idle again, and a restart ends it.
-use Rattle.std.proofs.Common.{◌≡◌, ◌≤◌, ◌*◌, ◌⊎◌, inl, inr, ℕ, Bool, true, false, Option, Some, None, List, [], ◌∷◌, ◌++◌, All, refl, sym, ap, subst, ◌∙◌, min}
-use Rattle.sip_key.specs.AckOf.{AckOf}
+use Rattle.std.proofs.Common.{◌≡◌, ◌⊎◌, inl, inr, ℕ, Bool, true, false, Some, List, ◌∷◌, ◌++◌, refl, sym, subst, ◌∙◌}
 use Rattle.sip_times.specs.declared.action.Action.{Action}
 use Rattle.sip_times.specs.declared.action.Action.TheVariants.{Sent, Received, Failed, Mark, Restart}
 use Rattle.sip_machine.specs.declared.event.Method.{Method}
@@ -9,16 +8,14 @@ use Rattle.sip_machine.specs.declared.event.Kind.{Kind}
 use Rattle.sip_machine.specs.declared.event.Kind.TheVariants.{Request, Response}
 use Rattle.sip_machine.specs.Times.{Times}
 use Rattle.sip_machine.specs.MachineEvent.{MachineEvent}
-use Rattle.sip_machine.specs.Waiting.{Waiting}
-use Rattle.sip_machine.specs.Debts.{Owed}
-use Rattle.sip_machine.specs.Figure.{Figure, Change, keeps, Owing, quiet, Emits, Fails, Steps, Takes, Lasts, MayEnd}
+use Rattle.sip_machine.specs.Figure.{Figure, Change, keeps, Owing, quiet, Emits, Fails, Steps, Takes}
 use Rattle.sip_machine.specs.InviteClient as invite
 use Rattle.sip_machine.specs.PlainClient as plain
 use Rattle.sip_states.specs.Stands.{Stands, StandsBehind}
 use Rattle.consequences.specs.Events.{IsRestart}
 use Rattle.consequences.proofs.Asleep.{nothing-to-pay}
 use Rattle.consequences.proofs.InviteClients.{Row, Receiving, client, IsDone, Answers, IsReceiving, pays-nothing, sends-idle, sends-calling, sends-proceeding, sends-accepted, sends-completed, sends-ended}
-use Rattle.consequences.proofs.Running.{Runs, IsKept, left_at, step-of, stands-run, Cut, cut, run-keeps}
+use Rattle.consequences.proofs.Running.{IsKept, left_at, step-of, stands-run, Cut, cut, run-keeps}
 
 -- phases after the request: no row leads back, and the ended one sends only what it may and stays
 pub record IsOnce {X : Type 0} (f : Figure X) (p : Times) (HasAsked : X → Type 0) (IsRequest MaySend : Kind → Type 0) : Type 0 where

@@ -1,6 +1,5 @@
 -- An INVITE server by RFC 3261 alone, after a 2xx: it sends 2xx until an INVITE comes.
-use Rattle.std.proofs.Common.{◌≡◌, ◌≤◌, ◌⊎◌, inl, inr, ℕ, Bool, true, false, Option, Some, None, IsSomeAnd, List, [], ◌∷◌, ◌++◌, All, refl, sym, ap, subst, ◌∙◌, arith}
-use Rattle.std.specs.List.{Any}
+use Rattle.std.proofs.Common.{◌≡◌, ◌⊎◌, inl, inr, ℕ, Bool, true, false, List, [], ◌∷◌, ◌++◌, All, refl, sym, subst, ◌∙◌, arith}
 use Rattle.sip_times.specs.declared.action.Action.{Action}
 use Rattle.sip_times.specs.declared.action.Action.TheVariants.{Sent, Received, Failed, Mark, Restart}
 use Rattle.sip_machine.specs.declared.event.Method.TheVariants.{Invite}
@@ -9,17 +8,16 @@ use Rattle.sip_machine.specs.declared.event.Kind.TheVariants.{Request, Response}
 use Rattle.sip_machine.specs.Times.{Times}
 use Rattle.sip_machine.specs.MachineEvent.{MachineEvent}
 use Rattle.sip_machine.specs.Message.{IsFinal, IsSuccess}
-use Rattle.sip_machine.specs.Debts.{Owed, IsWithoutFirst}
-use Rattle.sip_machine.specs.Figure.{Figure, Change, keeps, drops, Owing, quiet, Emits, Fails, Steps, Takes, Lasts, MayEnd}
-use Rattle.sip_machine.specs.InviteServer.{InviteServerPhase, Idle, Proceeding, Accepted, Completed, Confirmed}
-use Rattle.sip_machine.specs.InviteServer as corrected
-use Rattle.sip_machine.specs.InviteServer3261.{InviteServer3261Phase, Passed, In, Receives, Sends, Satisfies, Stays, invite_server_3261}
-use Rattle.sip_states.specs.Stands.{Stands, StandsBehind}
+use Rattle.sip_machine.specs.Debts.{Owed}
+use Rattle.sip_machine.specs.Figure.{Figure, Change, drops, Owing, quiet, Emits, Fails, Steps, Takes}
+use Rattle.sip_machine.specs.InviteServer.{InviteServerPhase, Idle, Proceeding}
+use Rattle.sip_machine.specs.InviteServer3261.{InviteServer3261Phase, Passed, In, Receives, Sends, invite_server_3261}
+use Rattle.sip_states.specs.Stands.{StandsBehind}
 use Rattle.consequences.specs.Events.{GetsRequest, IsResponse, SendsResponse}
 use Rattle.consequences.proofs.Asleep.{IsInvite, nothing-to-pay, without-asleep, asleep-emits, asleep-steps}
 use Rattle.consequences.proofs.InviteServers.{first_in, is-server-3261}
 use Rattle.consequences.proofs.Lists.{All-front, All-last}
-use Rattle.consequences.proofs.Running.{Runs, IsKept, left_at, step-of, stands-run, Cut, cut, run-keeps}
+use Rattle.consequences.proofs.Running.{IsKept, left_at, step-of, stands-run, Cut, cut, run-keeps}
 use Rattle.consequences.proofs.FinalResponse.{HoldsIn, Opens, BeforeFinal, before-final-kept, opens-left, final-paid}
 
 abbrev f : Figure InviteServer3261Phase
@@ -121,5 +119,5 @@ module _ (p : Times) where
         by-cut : Cut f p (quiet f.idle) 0 before final after e.moment x → IsResponse IsSuccess e
         by-cut found =
             let opens = run-keeps f p (BeforeFinal f p first_in (is-server-3261 p)) (before-final-kept f p first_in (is-server-3261 p)) before (quiet f.idle) 0 final.moment found.from
-                (λ all. (Idle, [], refl, refl)) found.leads first in
+            (λ all. (Idle, [], refl, refl)) found.leads first in
             by (run-keeps f p Stays-so stays-so-kept after found.to final.moment e.moment x (λ all. final-steps found.from found.to opens found.step) found.goes none)

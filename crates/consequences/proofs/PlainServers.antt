@@ -1,5 +1,5 @@
 -- The non-INVITE server: what comes again after its final response is answered by it.
-use Rattle.std.proofs.Common.{◌≡◌, ◌≤◌, ◌<◌, ◌*◌, ◌⊎◌, inl, inr, ℕ, Bool, true, false, Option, Some, None, IsSomeAnd, List, [], ◌∷◌, ◌++◌, All, Contains, length, refl, sym, ap, subst, ◌∙◌, arith}
+use Rattle.std.proofs.Common.{◌≡◌, ◌≤◌, ◌<◌, ◌*◌, ◌⊎◌, inl, inr, ℕ, Bool, true, false, List, [], ◌∷◌, ◌++◌, All, Contains, refl, sym, subst, ◌∙◌, arith}
 use Rattle.std.specs.List.{Any}
 use Rattle.std.proofs.lemmas.List.Elements.{All-nil, All-contains, All-filter, All-push, All-weaker, Contains-push}
 use Rattle.sip_times.specs.declared.action.Action.{Action}
@@ -12,16 +12,16 @@ use Rattle.sip_machine.specs.Limits.{open_at, close_at}
 use Rattle.sip_machine.specs.MachineEvent.{MachineEvent}
 use Rattle.sip_machine.specs.Replies.{Replies}
 use Rattle.sip_machine.specs.Message.{IsProvisional, IsFinal}
-use Rattle.sip_machine.specs.Debts.{Owed, softened, IsWithoutFirst}
-use Rattle.sip_machine.specs.Figure.{Figure, Change, keeps, softens, gains, Owing, changed, quiet, Follows, Emits, Fails, Steps, Takes, Lasts, MayEnd}
+use Rattle.sip_machine.specs.Debts.{Owed, IsWithoutFirst}
+use Rattle.sip_machine.specs.Figure.{Figure, Change, gains, Owing, changed, quiet, Emits, Steps, Takes, Lasts, MayEnd}
 use Rattle.sip_machine.specs.PlainServer.{PlainServerPhase, Idle, Trying, Proceeding, Completed, Receives, Sends, plain_server}
 use Rattle.sip_states.specs.Stands.{Stands}
 use Rattle.consequences.specs.Events.{GetsAnyRequest, SendsResponse, SendsBytes, IsRestart}
 use Rattle.consequences.proofs.Asleep.{nothing-to-pay}
-use Rattle.consequences.proofs.Lists.{any-last, any-earlier, any-none, All-front, All-last, contains-here}
+use Rattle.consequences.proofs.Lists.{any-last, any-earlier, any-none, All-front, All-last}
 use Rattle.consequences.proofs.FinalResponse.{IsOut, IsSaid, all-without, all-first, said-later}
 use Rattle.consequences.proofs.MustSend.{still-owed, other-paid, more-owed, no-end, in-time}
-use Rattle.consequences.proofs.Running.{Runs, IsKept, left_at, step-of, stands-run, Cut, cut, run-keeps, append-none}
+use Rattle.consequences.proofs.Running.{IsKept, left_at, step-of, stands-run, Cut, cut, run-keeps, append-none}
 
 abbrev Row : Type 0
 Row = PlainServerPhase × Change
@@ -239,8 +239,11 @@ module _ (p : Times) where
       again-received : (x : PlainServerPhase) (owes : List Owed) (k : Kind) (row : Row) → (method : Method) × (k ≡ Request method) → IsCompleted x → Receives p x k again row
           → IsCompleted row.0 × Contains (changed p again.moment row.1 owes) debt
       again-received (Completed reliable message set) owes (Request method) row asks done h =
-          rw h (done, subst (λ bytes. Contains (owes ++ record { message = message; deadline = close_at p again.moment 0; must = true } ∷ []) (record { message = bytes; deadline = close_at p again.moment 0; must = true })) done.1
-              (Contains-push owes (record { message = message; deadline = close_at p again.moment 0; must = true })))
+          rw h (
+            done,
+            subst (λ bytes. Contains (owes ++ record { message = message; deadline = close_at p again.moment 0; must = true } ∷ []) (record { message = bytes; deadline = close_at p again.moment 0; must = true })) done.1
+                (Contains-push owes (record { message = message; deadline = close_at p again.moment 0; must = true })),
+          )
       again-received (Completed reliable message set) owes (Response code) row asks done h = absurd h
       again-received x owes k row asks done h = absurd done
 

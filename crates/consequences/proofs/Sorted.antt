@@ -1,6 +1,5 @@
 -- What may be sent and what has to be sent are not paid by one send.
-use Rattle.std.proofs.Common.{◌≡◌, ◌≤◌, ◌*◌, ◌⊎◌, inl, inr, ℕ, Bool, true, false, Option, Some, None, List, [], ◌∷◌, ◌++◌, All, Contains, map, filter, refl, sym, ap, subst, ◌∙◌, arith, Decides, bytes_eq, min}
-use Rattle.std.specs.List.{Any}
+use Rattle.std.proofs.Common.{◌≡◌, ◌≤◌, inl, inr, ℕ, Bool, true, false, Some, None, List, [], ◌∷◌, All, filter, refl, sym, subst, ◌∙◌, Decides, bytes_eq}
 use Rattle.std.proofs.Math.Decide.{dec_le}
 use Rattle.std.proofs.lemmas.Slice.Eq.{bytes_eq-Decides}
 use Rattle.std.proofs.lemmas.List.Elements.{All-nil, All-filter, All-push, All-weaker, All-cons}
@@ -8,23 +7,21 @@ use Rattle.sip_times.specs.declared.action.Action.{Action}
 use Rattle.sip_times.specs.declared.action.Action.TheVariants.{Sent, Received, Failed, Mark, Restart}
 use Rattle.sip_machine.specs.declared.event.Kind.{Kind}
 use Rattle.sip_machine.specs.declared.event.Kind.TheVariants.{Request, Response}
-use Rattle.sip_machine.specs.declared.event.Method.TheVariants.{Invite, Ack, Cancel, Other}
+use Rattle.sip_machine.specs.declared.event.Method.TheVariants.{Invite, Ack, Cancel}
 use Rattle.sip_machine.specs.Times.{Times}
 use Rattle.sip_machine.specs.MachineEvent.{MachineEvent}
 use Rattle.sip_machine.specs.Message.{IsSuccess}
 use Rattle.sip_machine.specs.Provisional.{Is100}
-use Rattle.sip_machine.specs.Replies.{Replies}
 use Rattle.sip_machine.specs.Debts.{Owed, softened, IsWithoutFirst}
-use Rattle.sip_machine.specs.Figure.{Figure, Change, keeps, softens, drops, gains, Owing, changed, quiet, Emits, Fails, Steps, Takes, Lasts, MayEnd}
+use Rattle.sip_machine.specs.Figure.{Figure, Change, keeps, softens, drops, gains, Owing, changed, quiet, Emits, Fails, Steps}
 use Rattle.sip_machine.specs.InviteClient as client
 use Rattle.sip_machine.specs.InviteClient3261 as client_3261
 use Rattle.sip_machine.specs.PlainClient as plain
 use Rattle.sip_machine.specs.InviteServer as server
 use Rattle.sip_machine.specs.InviteServer3261 as server_3261
-use Rattle.sip_states.specs.Stands.{Stands}
 use Rattle.consequences.proofs.Asleep.{nothing-to-pay}
 use Rattle.consequences.proofs.FinalResponse.{all-without}
-use Rattle.consequences.proofs.Running.{IsKept, left_at, step-of, stands-run, run-keeps}
+use Rattle.consequences.proofs.Running.{IsKept, left_at, stands-run, run-keeps}
 use Rattle.consequences.proofs.Wider.{IsSorted}
 
 pub same-bytes : (a b : List ℕ) → Dec (a ≡ b)

@@ -1,5 +1,5 @@
 -- What the non-INVITE server may send and has to send are not paid by one send, where the same bytes are the same message.
-use Rattle.std.proofs.Common.{◌≡◌, ◌≤◌, ◌⊎◌, inl, inr, ℕ, Bool, true, false, List, [], ◌∷◌, ◌++◌, All, Contains, filter, refl, sym, ap, subst, ◌∙◌, arith}
+use Rattle.std.proofs.Common.{◌≡◌, inl, inr, ℕ, Bool, true, false, List, [], ◌∷◌, ◌++◌, All, filter, refl, sym, subst, ◌∙◌, arith}
 use Rattle.std.specs.List.{Any}
 use Rattle.std.proofs.lemmas.List.Elements.{All-nil, All-cons, All-head, All-tail, All-filter, All-push, All-weaker}
 use Rattle.sip_times.specs.declared.action.Action.{Action}
@@ -11,9 +11,8 @@ use Rattle.sip_machine.specs.MachineEvent.{MachineEvent}
 use Rattle.sip_machine.specs.Message.{IsProvisional, IsFinal}
 use Rattle.sip_machine.specs.Provisional.{Is100}
 use Rattle.sip_machine.specs.Debts.{Owed, softened, IsWithoutFirst}
-use Rattle.sip_machine.specs.Figure.{Figure, Change, keeps, softens, drops, gains, Owing, changed, quiet, Emits, Steps, Takes, Lasts, MayEnd}
+use Rattle.sip_machine.specs.Figure.{Change, Owing, changed, quiet, Emits, Steps}
 use Rattle.sip_machine.specs.PlainServer.{PlainServerPhase, Idle, Trying, Proceeding, Completed, Receives, Sends, plain_server}
-use Rattle.sip_states.specs.Stands.{Stands}
 use Rattle.consequences.specs.Events.{IsResponse, SendsResponse}
 use Rattle.consequences.specs.Tolerance.{AreOneKind}
 use Rattle.consequences.proofs.Asleep.{nothing-to-pay}
@@ -55,9 +54,10 @@ sorted-later es more Idle owes sorted = sorted
 sorted-later es more (Trying reliable) owes sorted = sorted
 sorted-later es more (Proceeding reliable last) owes sorted =
     (said-later es more last sorted.0, All-weaker (IsTold es) (IsTold (es ++ more)) (λ o told. (told.0, told.1, said-later es more o.message told.2)) owes sorted.1)
-sorted-later es more (Completed reliable final set) owes sorted =
-    (any-earlier (λ g. IsResponse IsFinal g × (g.text ≡ final)) es more sorted.0,
-    All-weaker (IsFinalOr es final) (IsFinalOr (es ++ more) final) (λ o told. (told.0, λ may. said-later es more o.message (told.1 may))) owes sorted.1)
+sorted-later es more (Completed reliable final set) owes sorted = (
+  any-earlier (λ g. IsResponse IsFinal g × (g.text ≡ final)) es more sorted.0,
+  All-weaker (IsFinalOr es final) (IsFinalOr (es ++ more) final) (λ o told. (told.0, λ may. said-later es more o.message (told.1 may))) owes sorted.1,
+)
 
 sorted-left : (es : List MachineEvent) (x : PlainServerPhase) (owes : List Owed) (test : Owed → Bool) → AreSorted es x owes → AreSorted es x (filter test owes)
 sorted-left es Idle owes test sorted = rw sorted refl

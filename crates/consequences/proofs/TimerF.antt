@@ -1,5 +1,5 @@
 -- A client of any method but INVITE ends by timer F, and sends nothing after.
-use Rattle.std.proofs.Common.{◌≡◌, ◌≤◌, ◌<◌, ◌*◌, ◌⊎◌, inl, inr, ℕ, Bool, true, false, List, [], ◌∷◌, ◌++◌, All, refl, sym, ap, subst, arith}
+use Rattle.std.proofs.Common.{◌≡◌, ◌≤◌, ◌<◌, ◌*◌, ◌⊎◌, inl, inr, ℕ, List, [], ◌∷◌, ◌++◌, All, refl, subst, arith}
 use Rattle.std.specs.List.{Any}
 use Rattle.sip_times.specs.declared.action.Action.{Action}
 use Rattle.sip_times.specs.declared.action.Action.TheVariants.{Sent, Received, Failed, Mark, Restart}
@@ -10,12 +10,12 @@ use Rattle.sip_machine.specs.Limits.{close_at}
 use Rattle.sip_machine.specs.MachineEvent.{MachineEvent}
 use Rattle.sip_machine.specs.Message.{IsFinal}
 use Rattle.sip_machine.specs.Debts.{Owed}
-use Rattle.sip_machine.specs.Figure.{Figure, Change, Owing, quiet, Emits, Steps, Takes, Lasts, MayEnd}
+use Rattle.sip_machine.specs.Figure.{Change, Owing, quiet, Emits, Steps, Takes, Lasts}
 use Rattle.sip_machine.specs.PlainClient.{PlainClientPhase, Idle, Ended, Trying, Proceeding, Completed, Receives, Sends, plain_client}
 use Rattle.sip_states.specs.Stands.{Stands, StandsBehind}
 use Rattle.consequences.specs.Events.{SendsAnyRequest, GetsResponse}
 use Rattle.consequences.proofs.Lists.{any-last, any-earlier, any-none}
-use Rattle.consequences.proofs.Running.{Runs, IsKept, left_at, step-of, stands-run, Cut, cut, run-keeps}
+use Rattle.consequences.proofs.Running.{IsKept, left_at, step-of, stands-run, Cut, cut, run-keeps}
 
 module _ (p : Times) where
   -- where it waits for its response, it began by the moment

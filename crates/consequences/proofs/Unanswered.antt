@@ -1,24 +1,23 @@
 -- An INVITE client before a response has come: it sends no CANCEL, and ends by timer B.
-use Rattle.std.proofs.Common.{◌≡◌, ◌≤◌, ◌<◌, ◌*◌, ◌⊎◌, inl, inr, ℕ, Bool, true, false, Option, Some, None, IsSomeAnd, IfSome, List, [], ◌∷◌, ◌++◌, All, filter, refl, sym, ap, subst, ◌∙◌, arith}
-use Rattle.std.specs.List.{Any, list_any}
-use Rattle.std.proofs.lemmas.List.Elements.{All-nil}
+use Rattle.std.proofs.Common.{◌≡◌, ◌≤◌, ◌<◌, ◌*◌, ◌⊎◌, inl, inr, ℕ, Bool, true, false, Some, None, List, [], ◌∷◌, ◌++◌, All, refl, sym, ap, subst, ◌∙◌, arith}
+use Rattle.std.specs.List.{Any}
 use Rattle.sip_key.specs.AckOf.{AckOf}
 use Rattle.sip_times.specs.declared.action.Action.{Action}
 use Rattle.sip_times.specs.declared.action.Action.TheVariants.{Sent, Received, Failed, Mark, Restart}
 use Rattle.sip_machine.specs.declared.event.Method.TheVariants.{Invite, Ack, Cancel}
 use Rattle.sip_machine.specs.declared.event.Kind.{Kind}
-use Rattle.sip_machine.specs.declared.event.Kind.TheVariants.{Request, Response}
+use Rattle.sip_machine.specs.declared.event.Kind.TheVariants.{Request}
 use Rattle.sip_machine.specs.Times.{Times}
 use Rattle.sip_machine.specs.Limits.{open_at, close_at}
 use Rattle.sip_machine.specs.MachineEvent.{MachineEvent}
 use Rattle.sip_machine.specs.Waiting.{Waiting}
 use Rattle.sip_machine.specs.Message.{IsProvisional, IsSuccess, IsUnsuccessful}
 use Rattle.sip_machine.specs.Debts.{Owed}
-use Rattle.sip_machine.specs.Figure.{Figure, Change, keeps, gains, Owing, quiet, Emits, Fails, Steps, Takes, Lasts, MayEnd}
+use Rattle.sip_machine.specs.Figure.{Figure, keeps, gains, Owing, quiet, Emits, Fails, Steps, Takes, Lasts, MayEnd}
 use Rattle.sip_machine.specs.InviteClient.{InviteClientPhase, Idle, Ended, Calling, Proceeding, Accepted, Completed, Sends, ends_refused}
 use Rattle.sip_states.specs.Stands.{Stands, StandsBehind}
 use Rattle.consequences.specs.Events.{SendsRequest, GetsResponse, IsAnyCode, IsRefused, IsRestart}
-use Rattle.consequences.proofs.Lists.{any-last, any-earlier, any-none, All-front, All-last, no-any}
+use Rattle.consequences.proofs.Lists.{any-last, any-earlier, any-none, All-front, All-last}
 use Rattle.consequences.proofs.Running.{Runs, IsKept, left_at, step-of, stands-run, Cut, cut, run-keeps, append-none}
 use Rattle.consequences.proofs.InviteClients.{Row, Receiving, client, IsDone, Answers, IsReceiving, pays-nothing, sends-idle, sends-calling, sends-proceeding, sends-accepted, sends-completed, sends-ended}
 

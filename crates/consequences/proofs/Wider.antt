@@ -1,17 +1,17 @@
 -- A run by a tolerance is one by a wider one: in the same phase, with what is owed owed for longer, and perhaps more that may be sent.
-use Rattle.std.proofs.Common.{◌≡◌, ◌≤◌, ◌<◌, ◌⊎◌, ◌||◌, inl, inr, ℕ, Bool, true, false, Option, Some, None, IsSomeAnd, IfSome, List, [], ◌∷◌, ◌++◌, All, Contains, filter, map, refl, sym, ap, subst, ◌∙◌, arith, if◌then◌else◌}
+use Rattle.std.proofs.Common.{◌≡◌, ◌≤◌, ◌||◌, inl, inr, ℕ, Bool, true, false, IsSomeAnd, IfSome, List, [], ◌∷◌, ◌++◌, All, Contains, filter, refl, sym, ap, subst, ◌∙◌, arith, if◌then◌else◌}
 use Rattle.std.specs.Prelude.{nat_le}
-use Rattle.std.specs.List.{Any, list_any}
+use Rattle.std.specs.List.{list_any}
 use Rattle.std.proofs.lemmas.List.Elements.{All-nil, All-cons, All-head, All-tail, All-filter, All-weaker, All-contains, Contains-append_left, filter_passes}
 use Rattle.std.proofs.lemmas.Bool.{le-leb, leb-true}
 use Rattle.sip_times.specs.declared.action.Action.{Action}
 use Rattle.sip_times.specs.declared.action.Action.TheVariants.{Sent, Received, Failed, Mark, Restart}
 use Rattle.sip_machine.specs.declared.event.Kind.{Kind}
 use Rattle.sip_machine.specs.Times.{Times}
-use Rattle.sip_machine.specs.Limits.{open_at, close_at}
+use Rattle.sip_machine.specs.Limits.{close_at}
 use Rattle.sip_machine.specs.MachineEvent.{MachineEvent}
 use Rattle.sip_machine.specs.Debts.{Owed, softened, IsWithoutFirst}
-use Rattle.sip_machine.specs.Figure.{Figure, Change, keeps, softens, drops, gains, Owing, changed, quiet, Follows, Repays, Emits, Fails, Steps, Takes, Lasts, MayEnd}
+use Rattle.sip_machine.specs.Figure.{Figure, Change, keeps, softens, drops, gains, Owing, changed, quiet, Emits, Fails, Steps, Takes, Lasts, MayEnd}
 use Rattle.sip_states.specs.Stands.{Stands, begins, waits, ends, takes}
 use Rattle.consequences.specs.Tolerance.{tolerant, AreOneKind}
 use Rattle.consequences.proofs.Lists.{contains-here, contains-later}
@@ -145,16 +145,18 @@ module _ (S : List ℕ → Type 0) (t : ℕ) where
       let low = pays.1 in (ns, here n ns (subst S (sym message) pays.0, omega (arith, low, deadline)), rest)
   also-pays _ _ _ (passes o os left never without) (both o' n os' ns message must deadline rest) fresh opens tell apart =
       let more = also-pays os left ns without rest (All-tail (λ o. t ≤ o.deadline) o os fresh) (All-tail (λ n. t ≤ n.deadline) n ns opens) (All-tail (λ n. n.must ≡ false → Dec (S n.message)) n ns tell)
-          (λ k among may pays. All-tail (λ j. S j.message → j.must ≡ false) n ns (apart k (contains-later n ns k among) may pays)) in
+      (λ k among may pays. All-tail (λ j. S j.message → j.must ≡ false) n ns (apart k (contains-later n ns k among) may pays)) in
       (n ∷ more.0, passes n ns more.0 (λ pays. never (subst S message pays.0, All-head (λ o. t ≤ o.deadline) o os fresh)) more.1, both o n left more.0 message must deadline more.2)
   also-pays os left _ without (extra n os' ns may rest) fresh opens tell apart = by (All-head (λ n. n.must ≡ false → Dec (S n.message)) n ns tell may) (also-pays os left ns without rest fresh
       (All-tail (λ n. t ≤ n.deadline) n ns opens) (All-tail (λ n. n.must ≡ false → Dec (S n.message)) n ns tell)
       (λ k among may pays. All-tail (λ j. S j.message → j.must ≡ false) n ns (apart k (contains-later n ns k among) may pays)))
     where
       by : Dec (S n.message) → (others : List Owed) × Without Pays ns others × Later left others → (others : List Owed) × Without Pays (n ∷ ns) others × Later left others
-      by (yes pays) more =
-          (ns, here n ns (pays, All-head (λ n. t ≤ n.deadline) n ns opens),
-          stays-extra os left ns without rest (All-tail (λ j. S j.message → j.must ≡ false) n ns (apart n (contains-here [] ns n) may pays)))
+      by (yes pays) more = (
+        ns,
+        here n ns (pays, All-head (λ n. t ≤ n.deadline) n ns opens),
+        stays-extra os left ns without rest (All-tail (λ j. S j.message → j.must ≡ false) n ns (apart n (contains-here [] ns n) may pays)),
+      )
       by (no never) more = (n ∷ more.0, passes n ns more.0 (λ pays. never pays.0) more.1, extra n left more.0 may more.2)
 
 -- The runs.
@@ -216,7 +218,7 @@ module _ {X : Type 0} (f : Figure X) (p : Times) (early late : ℕ) (wider : p.l
 
   module _ (e : MachineEvent) (phase : X) (os ns : List Owed) (later : Later os ns)
       (pays : (left : List Owed) → IsWithoutFirst (λ o. f.Satisfies phase e.kind e o.message × (e.moment ≤ o.deadline)) os left →
-          (others : List Owed) × IsWithoutFirst (λ o. f.Satisfies phase e.kind e o.message × (e.moment ≤ o.deadline)) ns others × Later left others) where
+      (others : List Owed) × IsWithoutFirst (λ o. f.Satisfies phase e.kind e o.message × (e.moment ≤ o.deadline)) ns others × Later left others) where
     abbrev before_it : Owing X
     before_it = record { phase = phase; owes = os }
 
@@ -243,10 +245,11 @@ module _ {X : Type 0} (f : Figure X) (p : Times) (early late : ℕ) (wider : p.l
     steps-near : (a : Action) (z : Owing X) → Steps f p a e before_it z → Follow-near z (Steps f q a e beside_it)
     steps-near Received z (inl (row, is_row, to)) =
         (record { phase = row.0; owes = changed q e.moment row.1 ns }, inl (row, steady.received phase e.kind e row is_row, refl), row-near z row to)
-    steps-near Received z (inr (none, same)) =
-        (record { phase = phase; owes = ns },
-        inr (λ w follows. none (record { phase = follows.0.0; owes = changed p e.moment follows.0.1 os }) (follows.0, steady.received_only phase e.kind e follows.0 follows.1, refl), refl),
-        near (record { phase = phase; owes = os }) (record { phase = phase; owes = ns }) z same (refl, later))
+    steps-near Received z (inr (none, same)) = (
+      record { phase = phase; owes = ns },
+      inr (λ w follows. none (record { phase = follows.0.0; owes = changed p e.moment follows.0.1 os }) (follows.0, steady.received_only phase e.kind e follows.0 follows.1, refl), refl),
+      near (record { phase = phase; owes = os }) (record { phase = phase; owes = ns }) z same (refl, later),
+    )
     steps-near Sent z emits = emits-near z emits
     steps-near Failed z fails = fails-near (f.ends_refused phase e.kind) z fails
     steps-near Mark z h = absurd h
@@ -290,15 +293,15 @@ module _ {X : Type 0} (f : Figure X) (p : Times) (early late : ℕ) (wider : p.l
       also-pays-here one stands beside later left pays =
           let sorted = sorted-left es e y one beside in
           let (others, without, less) = also-pays S e.moment (left_at e x) left (left_at e y) (to-without (λ o. S o.message × (e.moment ≤ o.deadline)) (left_at e x) left pays)
-              (later-left e.moment x.owes y.owes later) (fresh-at e x (lasts es e.moment x stands).2) (fresh-at e y (lasts-too es e.moment y beside).2)
-              (All-weaker Sorts (λ n. n.must ≡ false → Dec (S n.message)) (λ n sorts may. is_sorted.decides es y.phase e.kind e n.message (sorts.1 may)) (left_at e y) sorted) (apart sorted) in
+          (later-left e.moment x.owes y.owes later) (fresh-at e x (lasts es e.moment x stands).2) (fresh-at e y (lasts-too es e.moment y beside).2)
+          (All-weaker Sorts (λ n. n.must ≡ false → Dec (S n.message)) (λ n sorts may. is_sorted.decides es y.phase e.kind e n.message (sorts.1 may)) (left_at e y) sorted) (apart sorted) in
           (others, from-without (λ o. S o.message × (e.moment ≤ o.deadline)) (left_at e y) others without, less)
 
     also-takes : (es : List MachineEvent) (e : MachineEvent) (x z : Owing X) → AreOneKind es → Stands f p es e.moment x → Takes f p x e z → HasNear es e.moment x → HasNear (es ++ e ∷ []) e.moment z
     also-takes es e x z one stands take (phase, ns, is_phase, beside, later) =
         let y : Owing X = record { phase = phase; owes = ns } in
         let (w, steps, is_near) = steps-near e phase (left_at e x) (left_at e y) (later-left e.moment x.owes ns later) (also-pays-here es e x y one stands beside later) e.action z
-            (subst (λ a. Steps f p e.action e (record { phase = a; owes = left_at e x }) z) is_phase take) in
+        (subst (λ a. Steps f p e.action e (record { phase = a; owes = left_at e x }) z) is_phase take) in
         (w.phase, w.owes, sym is_near.0, takes es e y w beside steps, is_near.1)
 
     has-near : (es : List MachineEvent) (m : ℕ) (x : Owing X) → AreOneKind es → Stands f p es m x → HasNear es m x

@@ -1,4 +1,4 @@
-use Rattle.std.proofs.Common.{◌≡◌, ◌++◌, ◌∷◌, true, false, List}
+use Rattle.std.proofs.Common.{◌≡◌, ◌++◌, ◌∷◌, true, List}
 use Rattle.sip_key.specs.declared.role.Role.TheVariants.{Client}
 use Rattle.sip_times.specs.declared.action.Action.TheVariants.{Sent}
 use Rattle.sip_times.specs.declared.rules.Rules.{Rules}
@@ -11,7 +11,7 @@ use Rattle.sip_machine.specs.InviteClient as corrected
 use Rattle.sip_machine.specs.InviteClient3261 as without
 use Rattle.sip_machine.specs.PlainClient.{plain_client}
 use Rattle.sip_states.specs.Stands.{StandsBehind}
-use Rattle.consequences.specs.Events.{SendsRequest, SendsAnyRequest, IsRestart}
+use Rattle.consequences.specs.Events.{SendsRequest, IsRestart}
 use Rattle.consequences.specs.Machines.{figure_of, StateOf}
 use Rattle.consequences.proofs.InviteClients.{client, receives_6026, receives_3261}
 use Rattle.consequences.proofs.Once.{IsInvited, IsAsked, IsAnyRequest, invites-once, asks-once, restart-silences}

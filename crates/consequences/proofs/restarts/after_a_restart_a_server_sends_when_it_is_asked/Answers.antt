@@ -27,9 +27,9 @@ module _ {X : Type 0} (f : Figure X) (p : Times) (Wakes : Kind → Type 0) (asle
   silent before after restart e y restarts none sent (x, stands, take) =
       let found = cut f p (quiet f.idle) 0 before restart after e.moment x (stands-run f p (before ++ restart ∷ after) e.moment x stands) in
       let asked : (g : MachineEvent) → ¬ (GetsAnyRequest g) → ¬ ((g.action ≡ Received) × Wakes g.kind) =
-          λ g never wakes. let request = is_request g.kind wakes.1 in never (request.0, (wakes.0, request.1)) in
+      λ g never wakes. let request = is_request g.kind wakes.1 in never (request.0, (wakes.0, request.1)) in
       let slept = sleeps-on f p Wakes asleep after found.to restart.moment e.moment x (restart-sleeps f p Wakes asleep restart found.from found.to restarts found.step)
-          (All-weaker (λ g. ¬ (GetsAnyRequest g)) (λ g. ¬ ((g.action ≡ Received) × Wakes g.kind)) asked after none) found.goes in
+      (All-weaker (λ g. ¬ (GetsAnyRequest g)) (λ g. ¬ ((g.action ≡ Received) × Wakes g.kind)) asked after none) found.goes in
       asleep-emits f p Wakes asleep e y (step-of f p Sent e (quiet f.idle) y sent (subst (λ z. Takes f p z e y) slept take))
 
 by : (p : Times) (rules : Rules) (invite : Bool) (before after : List MachineEvent) (restart e : MachineEvent) (y : StateOf rules Server invite) →

@@ -19,3 +19,5 @@ pub mod Wider
 pub mod Steady
 pub mod Sorted
 pub mod SortedPlainServer
+pub mod AllWider
+pub mod SeenKinds

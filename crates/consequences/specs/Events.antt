@@ -1,5 +1,5 @@
 -- What an event is, in the words of RFC 3261.
-use Rattle.std.specs.Prelude.{◌≡◌, ◌≤◌, ◌⊎◌, ℕ, List}
+use Rattle.std.specs.Prelude.{◌≡◌, ◌≤◌, ◌⊎◌, ℕ, List, All}
 use Rattle.sip_times.specs.declared.action.Action.TheVariants.{Sent, Received, Failed, Restart}
 use Rattle.sip_machine.specs.declared.event.Method.{Method}
 use Rattle.sip_machine.specs.declared.event.Kind.TheVariants.{Request, Response}
@@ -48,3 +48,7 @@ IsRefused e = e.action ≡ Failed
 -- the element starts again, and has lost its transactions (own, in no RFC)
 abbrev pub IsRestart : MachineEvent → Type 0
 IsRestart e = e.action ≡ Restart
+
+-- the same bytes are the same message: the event is of the kind of each of these that has its bytes
+abbrev pub IsOfOneKind : List MachineEvent → MachineEvent → Type 0
+IsOfOneKind events e = All (λ f. f.text ≡ e.text → f.kind ≡ e.kind) events

@@ -11,7 +11,7 @@ ghost use Rattle.sip_machine.specs.MachineEvent.{MachineEvent};
 ghost use Rattle.sip_machine.specs.Message.{IsProvisional, IsFinal, IsSuccess, IsUnsuccessful};
 ghost use Rattle.sip_machine.specs.Times.{Times};
 ghost use Rattle.sip_states.specs.Stands.{Stands, StandsBehind};
-ghost use Rattle.consequences.specs.Events.{GetsRequest, IsResponse, SendsResponse, IsAnyCode, IsRestart};
+ghost use Rattle.consequences.specs.Events.{IsOfOneKind, GetsRequest, IsResponse, SendsResponse, IsAnyCode, IsRestart};
 ghost use Rattle.consequences.specs.Machines.{figure_of, StateOf};
 ghost use Rattle.consequences.specs.Servers.{BeginNoneAnew};
 
@@ -27,7 +27,7 @@ pub fn an_invite_is_answered_within_200_ms()
 /// to an INVITE that had come again may still come, as late as an element may be.
 pub fn after_an_unsuccessful_response_that_one_alone_is_sent()
     ensures { (p : Times) (rules : Rules) (before after : List MachineEvent) (final e : MachineEvent) (y : StateOf rules Server true) →
-        All (λ f. ¬ (SendsResponse IsFinal f)) before → All (λ f. f.text ≡ final.text → f.kind ≡ final.kind) before → SendsResponse IsUnsuccessful final →
+        All (λ f. ¬ (SendsResponse IsFinal f)) before → IsOfOneKind before final → SendsResponse IsUnsuccessful final →
         BeginNoneAnew p final after → e.action ≡ Sent → StandsBehind (figure_of rules Server true) p (before ++ final ∷ after) e y →
         (e.text ≡ final.text) ⊎ ((e.moment ≤ close_at p final.moment 0) × Any (λ f. SendsResponse IsProvisional f × (f.text ≡ e.text)) before) }
 {}
@@ -36,11 +36,11 @@ pub fn after_an_unsuccessful_response_that_one_alone_is_sent()
 /// may still come, as late as an element may be; by those of RFC 3261 none may, and an INVITE that comes again begins anew.
 pub fn after_a_success_successes_alone_are_sent()
     ensures corrected { (p : Times) (before after : List MachineEvent) (final e : MachineEvent) (y : StateOf R6026 Server true) →
-        All (λ f. ¬ (SendsResponse IsFinal f)) before → All (λ f. f.text ≡ final.text → f.kind ≡ final.kind) before → SendsResponse IsSuccess final →
+        All (λ f. ¬ (SendsResponse IsFinal f)) before → IsOfOneKind before final → SendsResponse IsSuccess final →
         BeginNoneAnew p final after → e.action ≡ Sent → StandsBehind (figure_of R6026 Server true) p (before ++ final ∷ after) e y →
         IsResponse IsSuccess e ⊎ ((e.moment ≤ close_at p final.moment 0) × Any (λ f. SendsResponse IsProvisional f × (f.text ≡ e.text)) before) }
     ensures without { (p : Times) (before after : List MachineEvent) (final e : MachineEvent) (y : StateOf R3261 Server true) →
-        All (λ f. ¬ (SendsResponse IsFinal f)) before → All (λ f. f.text ≡ final.text → f.kind ≡ final.kind) before → SendsResponse IsSuccess final →
+        All (λ f. ¬ (SendsResponse IsFinal f)) before → IsOfOneKind before final → SendsResponse IsSuccess final →
         All (λ f. ¬ (GetsRequest Invite f)) after → e.action ≡ Sent → StandsBehind (figure_of R3261 Server true) p (before ++ final ∷ after) e y →
         IsResponse IsSuccess e }
 {}

@@ -16,12 +16,13 @@ ghost use Rattle.consequences.specs.Tolerance.{tolerant, AreOneKind};
 
 /// A wider tolerance keeps a run: where an element may be earlier and later, a run over the same events stands in the same phase.
 pub fn a_wider_tolerance_keeps_a_run()
-    ensures { (p : Times) (early late : ℕ) (machine : MachineKind) (events : List MachineEvent) (m : ℕ) (x : Owing (transaction_of machine).Phase) → p.early ≤ early → p.late ≤ late → AreOneKind events →
-        Stands (transaction_of machine).figure p events m x → (y : Owing (transaction_of machine).Phase) × Stands (transaction_of machine).figure (tolerant early late p) events m y × (y.phase ≡ x.phase) }
+    ensures { (p : Times) (early late : ℕ) (machine : MachineKind) (events : List MachineEvent) (m : ℕ) (x : Owing (transaction_of machine).Phase) →
+        p.early ≤ early → p.late ≤ late → AreOneKind events → Stands (transaction_of machine).figure p events m x →
+        (y : Owing (transaction_of machine).Phase) × Stands (transaction_of machine).figure (tolerant early late p) events m y × (y.phase ≡ x.phase) }
 {}
 
 /// And so it keeps a run of each transaction over the entries of a log.
 pub fn a_wider_tolerance_keeps_a_transaction()
-    ensures { (p : Times) (early late : ℕ) (input : List ℕ) (items : List Item) (end : LogEnd) (es : List (Observation KeyParts)) (key : KeyParts) → p.early ≤ early → p.late ≤ late →
-        LogSays input p items end → AreSeen [] items es → RunsOver p es key → RunsOver (tolerant early late p) es key }
+    ensures { (p : Times) (early late : ℕ) (input : List ℕ) (items : List Item) (end : LogEnd) (es : List (Observation KeyParts)) (key : KeyParts) →
+        p.early ≤ early → p.late ≤ late → LogSays input p items end → AreSeen [] items es → RunsOver p es key → RunsOver (tolerant early late p) es key }
 {}

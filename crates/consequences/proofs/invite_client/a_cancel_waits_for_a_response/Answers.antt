@@ -12,8 +12,8 @@ use Rattle.sip_machine.specs.InviteClient3261 as without
 use Rattle.sip_states.specs.Stands.{StandsBehind}
 use Rattle.consequences.specs.Events.{SendsRequest, GetsResponse, IsAnyCode, IsRefused, IsRestart}
 use Rattle.consequences.specs.Machines.{figure_of, StateOf}
-use Rattle.consequences.proofs.InviteClients.{receives_6026, receives_3261}
-use Rattle.consequences.proofs.Unanswered.{cancel-waits}
+use Rattle.consequences.proofs.lemmas.client.InviteClients.{receives_6026, receives_3261}
+use Rattle.consequences.proofs.lemmas.client.Unanswered.{cancel-waits}
 use Rattle.consequences.proofs.invite_client.a_cancel_waits_for_a_response.Goals as goal
 
 by : (p : Times) (rules : Rules) (before after : List MachineEvent) (invite e : MachineEvent) (y : StateOf rules Client true) →

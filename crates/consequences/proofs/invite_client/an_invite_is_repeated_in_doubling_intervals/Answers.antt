@@ -9,8 +9,8 @@ use Rattle.sip_machine.specs.InviteClient3261 as without
 use Rattle.sip_states.specs.Stands.{Stands}
 use Rattle.consequences.specs.Machines.{figure_of, StateOf}
 use Rattle.consequences.specs.Repeats.{IsSpaced, invites_of}
-use Rattle.consequences.proofs.InviteClients.{receives_6026, receives_3261}
-use Rattle.consequences.proofs.Repeating.{invites-are-spaced}
+use Rattle.consequences.proofs.lemmas.client.InviteClients.{receives_6026, receives_3261}
+use Rattle.consequences.proofs.lemmas.client.Repeating.{invites-are-spaced}
 use Rattle.consequences.proofs.invite_client.an_invite_is_repeated_in_doubling_intervals.Goals as goal
 
 by : (p : Times) (rules : Rules) (events : List MachineEvent) (m : ℕ) (y : StateOf rules Client true) → Stands (figure_of rules Client true) p events m y →

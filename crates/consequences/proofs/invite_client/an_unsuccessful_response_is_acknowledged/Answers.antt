@@ -16,10 +16,10 @@ use Rattle.sip_states.specs.Stands.{Stands}
 use Rattle.consequences.specs.Acknowledged.{Acknowledges}
 use Rattle.consequences.specs.Events.{SendsRequest, GetsResponse, IsRefused, IsRestart}
 use Rattle.consequences.specs.Machines.{figure_of, StateOf}
-use Rattle.consequences.proofs.Acknowledging.{acknowledged}
-use Rattle.consequences.proofs.InviteClients.{receives_6026, receives_3261}
-use Rattle.consequences.proofs.Lasting.{what_stands_lasts}
-use Rattle.consequences.proofs.Lists.{any-none}
+use Rattle.consequences.proofs.lemmas.client.Acknowledging.{acknowledged}
+use Rattle.consequences.proofs.lemmas.client.InviteClients.{receives_6026, receives_3261}
+use Rattle.consequences.proofs.lemmas.run.Lasting.{what_stands_lasts}
+use Rattle.consequences.proofs.lemmas.run.Lists.{any-none}
 use Rattle.consequences.proofs.invite_client.an_unsuccessful_response_is_acknowledged.Goals as goal
 
 module _ (p : Times) (before between after : List MachineEvent) (invite response : MachineEvent) (m : ℕ) (none : All (λ f. ¬ (SendsRequest Invite f)) before) (sent : SendsRequest Invite invite)

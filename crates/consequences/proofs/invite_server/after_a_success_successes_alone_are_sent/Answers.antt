@@ -7,9 +7,9 @@ use Rattle.sip_machine.specs.Message.{IsProvisional, IsFinal, IsSuccess, IsUnsuc
 use Rattle.sip_machine.specs.Times.{Times}
 use Rattle.sip_machine.specs.InviteServer.{invite_server}
 use Rattle.consequences.specs.Events.{IsResponse, SendsResponse}
-use Rattle.consequences.proofs.FinalResponse.{sent-after-final}
-use Rattle.consequences.proofs.InviteServers.{is-server-6026}
-use Rattle.consequences.proofs.Passed.{successes-alone}
+use Rattle.consequences.proofs.lemmas.server.FinalResponse.{sent-after-final}
+use Rattle.consequences.proofs.lemmas.server.InviteServers.{is-server-6026}
+use Rattle.consequences.proofs.lemmas.server.Passed.{successes-alone}
 use Rattle.consequences.proofs.invite_server.after_a_success_successes_alone_are_sent.Goals as goal
 
 -- one code is not both

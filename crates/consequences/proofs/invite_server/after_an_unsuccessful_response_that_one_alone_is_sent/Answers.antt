@@ -18,8 +18,8 @@ use Rattle.sip_states.specs.Stands.{StandsBehind}
 use Rattle.consequences.specs.Events.{IsResponse, SendsResponse}
 use Rattle.consequences.specs.Machines.{figure_of, StateOf}
 use Rattle.consequences.specs.Servers.{BeginNoneAnew}
-use Rattle.consequences.proofs.FinalResponse.{sent-after-final}
-use Rattle.consequences.proofs.InviteServers.{Row, is-server-6026, is-server-3261, first_in}
+use Rattle.consequences.proofs.lemmas.server.FinalResponse.{sent-after-final}
+use Rattle.consequences.proofs.lemmas.server.InviteServers.{Row, is-server-6026, is-server-3261, first_in}
 use Rattle.consequences.proofs.invite_server.after_an_unsuccessful_response_that_one_alone_is_sent.Goals as goal
 
 -- one code is not both

@@ -13,10 +13,10 @@ use Rattle.sip_states.specs.KeyMachine.{OfInviteServer, OfInviteServer3261}
 use Rattle.sip_states.specs.Stands.{Stands}
 use Rattle.consequences.specs.Events.{GetsRequest, SendsResponse, IsAnyCode, IsRestart}
 use Rattle.consequences.specs.Machines.{figure_of, StateOf}
-use Rattle.consequences.proofs.Asleep.{corrected-asleep, without-asleep}
-use Rattle.consequences.proofs.FirstResponse.{answered-in-time}
-use Rattle.consequences.proofs.InviteServers.{is-server-6026, is-server-3261, first_in}
-use Rattle.consequences.proofs.Lasting.{what_stands_lasts}
+use Rattle.consequences.proofs.lemmas.server.Asleep.{corrected-asleep, without-asleep}
+use Rattle.consequences.proofs.lemmas.server.FirstResponse.{answered-in-time}
+use Rattle.consequences.proofs.lemmas.server.InviteServers.{is-server-6026, is-server-3261, first_in}
+use Rattle.consequences.proofs.lemmas.run.Lasting.{what_stands_lasts}
 use Rattle.consequences.proofs.invite_server.an_invite_is_answered_within_200_ms.Goals as goal
 
 by : (p : Times) (rules : Rules) (before after : List MachineEvent) (invite : MachineEvent) (m : ℕ) (y : StateOf rules Server true) →

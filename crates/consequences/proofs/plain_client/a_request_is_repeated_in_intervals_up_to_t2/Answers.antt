@@ -1,4 +1,4 @@
-use Rattle.consequences.proofs.Repeating.{requests-are-spaced}
+use Rattle.consequences.proofs.lemmas.client.Repeating.{requests-are-spaced}
 use Rattle.consequences.proofs.plain_client.a_request_is_repeated_in_intervals_up_to_t2.Goals as goal
 
 pub returns : goal.returns

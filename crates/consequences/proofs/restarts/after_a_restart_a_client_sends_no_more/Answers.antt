@@ -13,8 +13,8 @@ use Rattle.sip_machine.specs.PlainClient.{plain_client}
 use Rattle.sip_states.specs.Stands.{StandsBehind}
 use Rattle.consequences.specs.Events.{SendsRequest, IsRestart}
 use Rattle.consequences.specs.Machines.{figure_of, StateOf}
-use Rattle.consequences.proofs.InviteClients.{client, receives_6026, receives_3261}
-use Rattle.consequences.proofs.Once.{IsInvited, IsAsked, IsAnyRequest, invites-once, asks-once, restart-silences}
+use Rattle.consequences.proofs.lemmas.client.InviteClients.{client, receives_6026, receives_3261}
+use Rattle.consequences.proofs.lemmas.client.Once.{IsInvited, IsAsked, IsAnyRequest, invites-once, asks-once, restart-silences}
 use Rattle.consequences.proofs.restarts.after_a_restart_a_client_sends_no_more.Goals as goal
 
 invited : (p : Times) (rules : Rules) (before between after : List MachineEvent) (invite restart e : MachineEvent) (y : StateOf rules Client true) →

@@ -17,8 +17,8 @@ use Rattle.sip_machine.specs.PlainServer.{plain_server}
 use Rattle.sip_states.specs.Stands.{StandsBehind}
 use Rattle.consequences.specs.Events.{GetsAnyRequest, IsRestart}
 use Rattle.consequences.specs.Machines.{figure_of, StateOf}
-use Rattle.consequences.proofs.Asleep.{IsAsleep, IsInvite, IsAnyRequest, corrected-asleep, without-asleep, plain-asleep, asleep-emits, sleeps-on, restart-sleeps}
-use Rattle.consequences.proofs.Running.{step-of, stands-run, cut}
+use Rattle.consequences.proofs.lemmas.server.Asleep.{IsAsleep, IsInvite, IsAnyRequest, corrected-asleep, without-asleep, plain-asleep, asleep-emits, sleeps-on, restart-sleeps}
+use Rattle.consequences.proofs.lemmas.run.Running.{step-of, stands-run, cut}
 use Rattle.consequences.proofs.restarts.after_a_restart_a_server_sends_when_it_is_asked.Goals as goal
 
 module _ {X : Type 0} (f : Figure X) (p : Times) (Wakes : Kind → Type 0) (asleep : IsAsleep f p Wakes) (is_request : (k : Kind) → Wakes k → (method : Method) × (k ≡ Request method)) where

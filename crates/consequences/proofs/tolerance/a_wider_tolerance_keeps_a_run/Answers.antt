@@ -1,4 +1,4 @@
-use Rattle.consequences.proofs.AllWider.{all-wider}
+use Rattle.consequences.proofs.lemmas.tolerance.AllWider.{all-wider}
 use Rattle.consequences.proofs.tolerance.a_wider_tolerance_keeps_a_run.Goals as goal
 
 pub returns : goal.returns

@@ -12,11 +12,11 @@ use Rattle.sip_machine.specs.PlainServer.{plain_server}
 use Rattle.sip_states.specs.KeyMachine.{MachineKind, OfInviteClient, OfPlainClient, OfInviteServer, OfPlainServer, OfInviteClient3261, OfInviteServer3261, transaction_of}
 use Rattle.sip_states.specs.Stands.{Stands}
 use Rattle.consequences.specs.Tolerance.{tolerant, AreOneKind}
-use Rattle.consequences.proofs.Lasting.{what_stands_lasts}
-use Rattle.consequences.proofs.Sorted.{MayIn, MayIn3261, client-sorted, client-3261-sorted, plain-client-sorted, server-sorted, server-3261-sorted}
-use Rattle.consequences.proofs.SortedPlainServer.{May, plain-server-sorted}
-use Rattle.consequences.proofs.Steady.{client-steady, client-3261-steady, plain-client-steady, server-steady, server-3261-steady, plain-server-steady}
-use Rattle.consequences.proofs.Wider.{wider-keeps}
+use Rattle.consequences.proofs.lemmas.run.Lasting.{what_stands_lasts}
+use Rattle.consequences.proofs.lemmas.tolerance.Sorted.{MayIn, MayIn3261, client-sorted, client-3261-sorted, plain-client-sorted, server-sorted, server-3261-sorted}
+use Rattle.consequences.proofs.lemmas.tolerance.SortedPlainServer.{May, plain-server-sorted}
+use Rattle.consequences.proofs.lemmas.tolerance.Steady.{client-steady, client-3261-steady, plain-client-steady, server-steady, server-3261-steady, plain-server-steady}
+use Rattle.consequences.proofs.lemmas.tolerance.Wider.{wider-keeps}
 
 module _ (p : Times) (early late : ℕ) where
   abbrev q : Times

@@ -7,8 +7,8 @@ use Rattle.sip_machine.specs.Times.{Times}
 use Rattle.sip_machine.specs.MachineEvent.{MachineEvent}
 use Rattle.sip_machine.specs.Debts.{Owed, IsWithoutFirst}
 use Rattle.sip_machine.specs.Figure.{Figure, Owing, Lasts, MayEnd}
-use Rattle.consequences.proofs.Lists.{contains-cases, contains-filter}
-use Rattle.consequences.proofs.Running.{left_at}
+use Rattle.consequences.proofs.lemmas.run.Lists.{contains-cases, contains-filter}
+use Rattle.consequences.proofs.lemmas.run.Running.{left_at}
 
 module _ (debt : Owed) (must : debt.must ≡ true) where
   -- as an event comes

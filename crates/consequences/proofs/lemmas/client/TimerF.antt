@@ -14,8 +14,8 @@ use Rattle.sip_machine.specs.Figure.{Change, Owing, quiet, Emits, Steps, Takes, 
 use Rattle.sip_machine.specs.PlainClient.{PlainClientPhase, Idle, Ended, Trying, Proceeding, Completed, Receives, Sends, plain_client}
 use Rattle.sip_states.specs.Stands.{Stands, StandsBehind}
 use Rattle.consequences.specs.Events.{SendsAnyRequest, GetsResponse}
-use Rattle.consequences.proofs.Lists.{any-last, any-earlier, any-none}
-use Rattle.consequences.proofs.Running.{IsKept, left_at, step-of, stands-run, Cut, cut, run-keeps}
+use Rattle.consequences.proofs.lemmas.run.Lists.{any-last, any-earlier, any-none}
+use Rattle.consequences.proofs.lemmas.run.Running.{IsKept, left_at, step-of, stands-run, Cut, cut, run-keeps}
 
 module _ (p : Times) where
   -- where it waits for its response, it began by the moment

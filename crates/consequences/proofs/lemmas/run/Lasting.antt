@@ -8,7 +8,7 @@ use Rattle.sip_machine.specs.inner.OwesLaws.{IsWithin-owed}
 use Rattle.sip_states.specs.KeyMachine.{MachineKind, transaction_of, coded_holds}
 use Rattle.sip_states.specs.Stands.{Stands}
 use Rattle.sip_states.proofs.StandsLemmas.{stands-runs}
-use Rattle.consequences.proofs.Lists.{All-front, All-back}
+use Rattle.consequences.proofs.lemmas.run.Lists.{All-front, All-back}
 
 -- a moment is past no close of a window only if it is not past the one that it may have
 within-window : (h : ℕ) (window : Option (ℕ × Option ℕ)) → All (λ m. h ≤ m) (closes_of window) → IfSome window (λ w. IfSome w.1 (λ close. h ≤ close))

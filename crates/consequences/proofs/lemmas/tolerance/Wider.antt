@@ -14,8 +14,8 @@ use Rattle.sip_machine.specs.Debts.{Owed, softened, IsWithoutFirst}
 use Rattle.sip_machine.specs.Figure.{Figure, Change, keeps, softens, drops, gains, Owing, changed, quiet, Emits, Fails, Steps, Takes, Lasts, MayEnd}
 use Rattle.sip_states.specs.Stands.{Stands, begins, waits, ends, takes}
 use Rattle.consequences.specs.Tolerance.{tolerant, AreOneKind}
-use Rattle.consequences.proofs.Lists.{contains-here, contains-later}
-use Rattle.consequences.proofs.Running.{left_at}
+use Rattle.consequences.proofs.lemmas.run.Lists.{contains-here, contains-later}
+use Rattle.consequences.proofs.lemmas.run.Running.{left_at}
 
 -- the second list holds the debts of the first, later, and perhaps more that may be sent
 data Later : List Owed → List Owed → Type 0 where

@@ -19,37 +19,11 @@ use Rattle.sip_machine.specs.InviteServer as corrected
 use Rattle.sip_states.specs.Stands.{StandsBehind}
 use Rattle.consequences.specs.Events.{GetsRequest, IsResponse, SendsResponse, IsRestart}
 use Rattle.consequences.specs.Servers.{BeginNoneAnew}
-use Rattle.consequences.proofs.Asleep.{nothing-to-pay}
-use Rattle.consequences.proofs.Lists.{any-last, any-earlier, any-none, All-front, All-back, All-last}
-use Rattle.consequences.proofs.Running.{IsKept, left_at, step-of, stands-run, Cut, cut, run-keeps, append-none}
-use Rattle.consequences.proofs.InviteServers.{Row, IsServer, ReceivedRow, comes, again, again_after, acknowledged, received-row, SentRow, provisional, success, unsuccessful, success_again, repeats, sent-row}
-
--- an event that sends a message, or would
-abbrev pub IsOut : MachineEvent → Type 0
-IsOut e = (e.action ≡ Sent) ⊎ (e.action ≡ Failed)
-
--- a provisional response of these bytes was sent
-abbrev pub IsSaid : List MachineEvent → List ℕ → Type 0
-IsSaid es message = Any (λ g. SendsResponse IsProvisional g × (g.text ≡ message)) es
-
-abbrev IsSaidLast : List MachineEvent → Option (List ℕ) → Type 0
-IsSaidLast es None = Unit {0}
-IsSaidLast es (Some last) = IsSaid es last
-
-pub all-without : (P Q : Owed → Type 0) (xs ys : List Owed) → IsWithoutFirst P xs ys → All Q xs → All Q ys
-all-without P Q xs ys a all =
-    let halves : All Q (a.before ++ a.first ∷ a.after) = subst (All Q) a.whole all in
-    subst (All Q) (sym a.rest) (All-append Q a.before a.after (All-front Q a.before (a.first ∷ a.after) halves) (All-tail Q a.first a.after (All-back Q a.before (a.first ∷ a.after) halves)))
-
-pub all-first : (P Q : Owed → Type 0) (xs ys : List Owed) (a : IsWithoutFirst P xs ys) → All Q xs → Q a.first
-all-first P Q xs ys a all = All-head Q a.first a.after (All-back Q a.before (a.first ∷ a.after) (subst (All Q) a.whole all))
-
-pub said-later : (es more : List MachineEvent) (message : List ℕ) → IsSaid es message → IsSaid (es ++ more) message
-said-later es more message said = any-earlier (λ g. SendsResponse IsProvisional g × (g.text ≡ message)) es more said
-
-said-last-later : (es more : List MachineEvent) (last : Option (List ℕ)) → IsSaidLast es last → IsSaidLast (es ++ more) last
-said-last-later es more None said = tt
-said-last-later es more (Some last) said = said-later es more last said
+use Rattle.consequences.proofs.lemmas.server.Asleep.{nothing-to-pay}
+use Rattle.consequences.proofs.lemmas.run.Lists.{any-last, any-earlier, any-none, All-front, All-back, All-last}
+use Rattle.consequences.proofs.lemmas.server.Said.{IsOut, IsSaid, IsSaidLast, all-without, all-first, said-later, said-last-later, not-provisional, not-said}
+use Rattle.consequences.proofs.lemmas.run.Running.{IsKept, left_at, step-of, stands-run, Cut, cut, run-keeps, append-none}
+use Rattle.consequences.proofs.lemmas.server.InviteServers.{Row, IsServer, ReceivedRow, comes, again, again_after, acknowledged, received-row, SentRow, provisional, success, unsuccessful, success_again, repeats, sent-row}
 
 module _ {X : Type 0} (f : Figure X) (p : Times) (held : InviteServerPhase → X) (is : IsServer f p held) where
   -- the state holds a phase of which K is so
@@ -354,40 +328,18 @@ module _ {X : Type 0} (f : Figure X) (p : Times) (held : InviteServerPhase → X
 
     -- the final response itself
     module _ (is_final : SendsResponse IsFinal final) (one_kind : All (λ g. g.text ≡ final.text → g.kind ≡ final.kind) before) where
-      -- it is no provisional one
-      not-provisional : (code : ℕ) → final.kind ≡ Response code → ¬ (IsProvisional code)
-      not-provisional code kind is_provisional = by is_final.1
-        where
-          codes-are-one : (a b : ℕ) → Response a ≡ Response b → a ≡ b
-          codes-are-one a b same = cc
-
-          by : ¬ (IsResponse IsFinal final)
-          by (other, is_other, (low, high)) =
-              let same : other ≡ code = codes-are-one other code (sym is_other ∙ kind) in
-              absurd (omega (arith, same, low, is_provisional.1))
-
-      -- its bytes were not said before
-      not-said : ¬ (IsSaid before final.text)
-      not-said said =
-          let (k, g, low, at, (sends, same)) = said in
-          let kinds = any-one (λ h. h.text ≡ final.text → h.kind ≡ final.kind) before one_kind k g low at in
-          not-provisional sends.1.0 (sym (kinds same) ∙ sends.1.1) sends.1.2
-        where
-          any-one : (P : MachineEvent → Type 0) (es : List MachineEvent) → All P es → (k : ℕ) (g : MachineEvent) → k < length es → slice_index_or es k g ≡ g → P g
-          any-one P es all k g low at = All-contains P es g all (k, low, at)
-
       -- it pays nothing
       pub final-paid : (P : Owed → Type 0) (x : InviteServerPhase) (owes left : List Owed) → Opens before final.moment x owes → (pays : IsWithoutFirst P owes left) → ¬ (pays.first.message ≡ final.text)
       final-paid P Idle owes left opens pays same = nothing-to-pay P left (subst (λ os. IsWithoutFirst P os left) opens pays)
       final-paid P (Proceeding reliable set last) owes left opens pays same =
-          not-said (subst (IsSaid before) same (all-first P (λ o. (o.deadline ≤ close_at p final.moment 0) × IsSaid before o.message) owes left pays opens.1).1)
+          not-said before final is_final one_kind (subst (IsSaid before) same (all-first P (λ o. (o.deadline ≤ close_at p final.moment 0) × IsSaid before o.message) owes left pays opens.1).1)
       final-paid P x owes left opens pays same = absurd opens
 
       -- where it is no 2xx that RFC 3261 takes otherwise
       module _ (sent_final : (x : InviteServerPhase) (y : X × Change) → f.Sends p (held x) final.kind final y → (row : Row) × corrected.Sends p x final.kind final row × (y ≡ (held row.0, row.1))) where
         final-sent : (x : InviteServerPhase) (k : Kind) (row : Row) (owes : List Owed) → final.kind ≡ k → Opens before final.moment x owes → SentRow p x k final row
             → Closes [] final.moment row.0 (changed p final.moment row.1 owes)
-        final-sent _ _ _ owes kind opens (provisional _ reliable set last code is_provisional) = absurd (not-provisional code kind is_provisional)
+        final-sent _ _ _ owes kind opens (provisional _ reliable set last code is_provisional) = absurd (not-provisional before final is_final one_kind code kind is_provisional)
         final-sent _ _ _ owes kind opens (success _ reliable set last code is_success) = ((code, kind, is_success), refl, old-softened owes opens.1)
         final-sent _ _ _ owes kind opens (unsuccessful _ reliable set last code is_unsuccessful) = ((code, kind, is_unsuccessful), refl, refl, old-softened owes opens.1)
         final-sent _ _ _ owes kind opens (success_again _ set code is_success) = absurd opens

@@ -18,11 +18,11 @@ use Rattle.sip_machine.specs.InviteClient.{InviteClientPhase, Idle, Ended, Calli
 use Rattle.sip_states.specs.Stands.{Stands}
 use Rattle.consequences.specs.Acknowledged.{Acknowledges}
 use Rattle.consequences.specs.Events.{SendsRequest, GetsResponse, IsRefused, IsRestart}
-use Rattle.consequences.proofs.Lists.{any-last, any-earlier}
-use Rattle.consequences.proofs.MustSend.{still-owed, other-paid, more-owed, no-end, in-time}
-use Rattle.consequences.proofs.Running.{IsKept, left_at, step-of, stands-run, Cut, cut, run-keeps, append-none}
-use Rattle.consequences.proofs.InviteClients.{Row, Receiving, client, Answers, IsReceiving, pays-completed, sends-calling, sends-proceeding, sends-completed}
-use Rattle.consequences.proofs.Unanswered.{CallsFrom, begins-calling}
+use Rattle.consequences.proofs.lemmas.run.Lists.{any-last, any-earlier}
+use Rattle.consequences.proofs.lemmas.run.MustSend.{still-owed, other-paid, more-owed, no-end, in-time}
+use Rattle.consequences.proofs.lemmas.run.Running.{IsKept, left_at, step-of, stands-run, Cut, cut, run-keeps, append-none}
+use Rattle.consequences.proofs.lemmas.client.InviteClients.{Row, Receiving, client, Answers, IsReceiving, pays-completed, sends-calling, sends-proceeding, sends-completed}
+use Rattle.consequences.proofs.lemmas.client.Unanswered.{CallsFrom, begins-calling}
 
 codes-are-one : (a b : ℕ) → Response a ≡ Response b → a ≡ b
 codes-are-one a b same = cc

@@ -17,11 +17,11 @@ use Rattle.sip_machine.specs.Figure.{Figure, Change, gains, Owing, changed, quie
 use Rattle.sip_machine.specs.PlainServer.{PlainServerPhase, Idle, Trying, Proceeding, Completed, Receives, Sends, plain_server}
 use Rattle.sip_states.specs.Stands.{Stands}
 use Rattle.consequences.specs.Events.{GetsAnyRequest, SendsResponse, SendsBytes, IsRestart}
-use Rattle.consequences.proofs.Asleep.{nothing-to-pay}
-use Rattle.consequences.proofs.Lists.{any-last, any-earlier, any-none, All-front, All-last}
-use Rattle.consequences.proofs.FinalResponse.{IsOut, IsSaid, all-without, all-first, said-later}
-use Rattle.consequences.proofs.MustSend.{still-owed, other-paid, more-owed, no-end, in-time}
-use Rattle.consequences.proofs.Running.{IsKept, left_at, step-of, stands-run, Cut, cut, run-keeps, append-none}
+use Rattle.consequences.proofs.lemmas.server.Asleep.{nothing-to-pay}
+use Rattle.consequences.proofs.lemmas.run.Lists.{any-last, any-earlier, any-none, All-front, All-last}
+use Rattle.consequences.proofs.lemmas.server.Said.{IsOut, IsSaid, all-without, all-first, said-later, not-provisional, not-said}
+use Rattle.consequences.proofs.lemmas.run.MustSend.{still-owed, other-paid, more-owed, no-end, in-time}
+use Rattle.consequences.proofs.lemmas.run.Running.{IsKept, left_at, step-of, stands-run, Cut, cut, run-keeps, append-none}
 
 abbrev Row : Type 0
 Row = PlainServerPhase × Change
@@ -134,21 +134,6 @@ module _ (p : Times) where
   -- After it.
 
   module _ (before : List MachineEvent) (final : MachineEvent) (is_final : SendsResponse IsFinal final) (one_kind : All (λ g. g.text ≡ final.text → g.kind ≡ final.kind) before) where
-    not-provisional : (code : ℕ) → final.kind ≡ Response code → ¬ (IsProvisional code)
-    not-provisional code kind is_provisional = by is_final.1.0 is_final.1.1 is_final.1.2
-      where
-        codes-are-one : (a b : ℕ) → Response a ≡ Response b → a ≡ b
-        codes-are-one a b same = cc
-
-        by : (other : ℕ) → final.kind ≡ Response other → ¬ (IsFinal other)
-        by other is_other last = let same : other ≡ code = codes-are-one other code (sym is_other ∙ kind) in absurd (omega (arith, same, last.0, is_provisional.1))
-
-    not-said : ¬ (IsSaid before final.text)
-    not-said said =
-        let (k, g, low, at, (sends, same)) = said in
-        let kinds = All-contains (λ h. h.text ≡ final.text → h.kind ≡ final.kind) before g one_kind (k, low, at) in
-        not-provisional sends.1.0 (sym (kinds same) ∙ sends.1.1) sends.1.2
-
     -- completed by that response, over an unreliable transport, or timer J may have fired, or the element started again
     abbrev IsCompleted : PlainServerPhase → Type 0
     IsCompleted (Completed reliable message set) = (reliable ≡ false) × (message ≡ final.text) × (set ≡ final.moment)
@@ -158,16 +143,16 @@ module _ (p : Times) where
     Past es m = (open_at p final.moment (64 * p.t1) ≤ m) ⊎ Any IsRestart es
 
     final-sent : (x : PlainServerPhase) (k : Kind) (row : Row) (owes : List Owed) → final.kind ≡ k → Opens before x owes → Sends p x k final row → IsCompleted row.0
-    final-sent (Trying reliable) (Response code) row owes kind opens (inl h) = absurd (not-provisional code kind h.0)
+    final-sent (Trying reliable) (Response code) row owes kind opens (inl h) = absurd (not-provisional before final is_final one_kind code kind h.0)
     final-sent (Trying reliable) (Response code) row owes kind opens (inr h) = rw h.1 (opens.0, refl, refl)
-    final-sent (Proceeding reliable last) (Response code) row owes kind opens (inl h) = absurd (not-provisional code kind h.0)
+    final-sent (Proceeding reliable last) (Response code) row owes kind opens (inl h) = absurd (not-provisional before final is_final one_kind code kind h.0)
     final-sent (Proceeding reliable last) (Response code) row owes kind opens (inr h) = rw h.1 (opens.0, refl, refl)
     final-sent x k row owes kind opens h = absurd h
 
     final-paid : (P : Owed → Type 0) (x : PlainServerPhase) (owes left : List Owed) → Opens before x owes → (pays : IsWithoutFirst P owes left) → ¬ (pays.first.message ≡ final.text)
     final-paid P Idle owes left opens pays same = nothing-to-pay P left (subst (λ os. IsWithoutFirst P os left) opens pays)
-    final-paid P (Trying reliable) owes left opens pays same = not-said (subst (IsSaid before) same (all-first P (λ o. IsSaid before o.message) owes left pays opens.1))
-    final-paid P (Proceeding reliable last) owes left opens pays same = not-said (subst (IsSaid before) same (all-first P (λ o. IsSaid before o.message) owes left pays opens.2))
+    final-paid P (Trying reliable) owes left opens pays same = not-said before final is_final one_kind (subst (IsSaid before) same (all-first P (λ o. IsSaid before o.message) owes left pays opens.1))
+    final-paid P (Proceeding reliable last) owes left opens pays same = not-said before final is_final one_kind (subst (IsSaid before) same (all-first P (λ o. IsSaid before o.message) owes left pays opens.2))
     final-paid P x owes left opens pays same = absurd opens
 
     final-emits : (x : PlainServerPhase) (owes : List Owed) (y : Owing PlainServerPhase) → Opens before x owes → Emits f p final (record { phase = x; owes = owes }) y → IsCompleted y.phase

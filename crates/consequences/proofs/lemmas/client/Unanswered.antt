@@ -17,9 +17,10 @@ use Rattle.sip_machine.specs.Figure.{Figure, keeps, gains, Owing, quiet, Emits, 
 use Rattle.sip_machine.specs.InviteClient.{InviteClientPhase, Idle, Ended, Calling, Proceeding, Accepted, Completed, Sends, ends_refused}
 use Rattle.sip_states.specs.Stands.{Stands, StandsBehind}
 use Rattle.consequences.specs.Events.{SendsRequest, GetsResponse, IsAnyCode, IsRefused, IsRestart}
-use Rattle.consequences.proofs.Lists.{any-last, any-earlier, any-none, All-front, All-last}
-use Rattle.consequences.proofs.Running.{Runs, IsKept, left_at, step-of, stands-run, Cut, cut, run-keeps, append-none}
-use Rattle.consequences.proofs.InviteClients.{Row, Receiving, client, IsDone, Answers, IsReceiving, pays-nothing, sends-idle, sends-calling, sends-proceeding, sends-accepted, sends-completed, sends-ended}
+use Rattle.consequences.proofs.lemmas.run.Lists.{any-last, any-earlier, any-none, All-front, All-last}
+use Rattle.consequences.proofs.lemmas.client.Once.{IsInvited, invites-once, over-emits, over-steps}
+use Rattle.consequences.proofs.lemmas.run.Running.{Runs, IsKept, left_at, step-of, stands-run, Cut, cut, run-keeps, append-none}
+use Rattle.consequences.proofs.lemmas.client.InviteClients.{Row, Receiving, client, IsDone, Answers, IsReceiving, pays-nothing, sends-idle, sends-calling, sends-proceeding, sends-accepted, sends-completed, sends-ended}
 
 no-cancel : ¬ (Request Invite ≡ Request Cancel)
 no-cancel is = cc
@@ -287,31 +288,6 @@ module _ (R : Receiving) (is : IsReceiving R) (p : Times) where
   invite-calls e (Completed reliable request set) owes y invite began (inl (row, is_row, to)) = absurd (no-cancel (sym invite ∙ (sends-completed p reliable request set e.kind e row is_row).0))
   invite-calls e Ended owes y invite began (inl (row, is_row, to)) = absurd (no-cancel (sym invite ∙ (sends-ended p e.kind e row is_row).0))
 
-  -- what an ended client does
-  ended-emits : (e : MachineEvent) (y : Owing InviteClientPhase) → Emits f p e (quiet Ended) y → (e.kind ≡ Request Cancel) × (y ≡ quiet Ended)
-  ended-emits e y (inl (row, is_row, to)) = let sends = sends-ended p e.kind e row is_row in (sends.0, rw (to, sends.1))
-  ended-emits e y (inr (inl (left, pays, to))) = absurd (not-completed (pays-nothing Ended e.kind e pays.first.message pays.holds.0))
-    where
-      not-completed : ¬ ((reliable : Bool) × (request : List ℕ) × (set : ℕ) × (Ended ≡ Completed reliable request set) × (e.kind ≡ Request Ack) × AckOf e.text request pays.first.message)
-      not-completed (reliable, request, set, same, kind, pays) = cc
-  ended-emits e y (inr (inr (stays, same))) = absurd stays
-
-  ended-fails : (ends : Bool) (e : MachineEvent) (y : Owing InviteClientPhase) → Fails ends f p e (quiet Ended) y → y ≡ quiet Ended
-  ended-fails true e y fails = fails.1
-  ended-fails false e y emits = (ended-emits e y emits).1
-
-  ended-steps : (a : Action) (e : MachineEvent) (y : Owing InviteClientPhase) → Steps f p a e (quiet Ended) y → y ≡ quiet Ended
-  ended-steps Received e y (inl (row, is_row, to)) = absurd (is.ended p e.kind e row is_row)
-  ended-steps Received e y (inr (none, same)) = same
-  ended-steps Sent e y emits = (ended-emits e y emits).1
-  ended-steps Failed e y fails = ended-fails (ends_refused Ended e.kind) e y fails
-  ended-steps Mark e y h = absurd h
-  ended-steps Restart e y (inl (idle, to)) = absurd (ended-is-not-idle idle)
-    where
-      ended-is-not-idle : ¬ (Ended ≡ Idle)
-      ended-is-not-idle is = cc
-  ended-steps Restart e y (inr (other, to)) = to
-
   module _ (moment : ℕ) where
     -- it calls from the moment on, or has ended, or a response came
     abbrev Waits : List MachineEvent → ℕ → Owing InviteClientPhase → Type 0
@@ -360,7 +336,7 @@ module _ (R : Receiving) (is : IsReceiving R) (p : Times) where
 
         as_it_takes : (es : List MachineEvent) (e : MachineEvent) (x y : Owing InviteClientPhase) → Waits es e.moment x → Takes f p x e y → Waits (es ++ e ∷ []) e.moment y
         as_it_takes es e x y (inl calls) take = waits-steps e.action es e x.phase (left_at e x) y refl calls take
-        as_it_takes es e x y (inr (inl ended)) take = inr (inl (ended-steps e.action e y (subst (λ z. Takes f p z e y) ended take)))
+        as_it_takes es e x y (inr (inl ended)) take = inr (inl (over-steps f p IsInvited (λ k. k ≡ Request Invite) (λ k. k ≡ Request Cancel) (invites-once R is p) e.action e y (subst (λ z. Takes f p z e y) ended take)))
         as_it_takes es e x y (inr (inr came)) take = inr (inr (any-earlier (GetsResponse IsAnyCode) es (e ∷ []) came))
 
   -- timer B, section 17.1.1.2, where what stands lasts
@@ -389,4 +365,4 @@ module _ (R : Receiving) (is : IsReceiving R) (p : Times) where
         All (λ g. ¬ (GetsResponse IsAnyCode g)) after → e.action ≡ Sent → StandsBehind f p (before ++ invite ∷ after) e y → close_at p invite.moment (64 * p.t1) < e.moment → e.kind ≡ Request Cancel
     silent-after-timer-b before after invite e y sent unanswered is_sent (x, stands, take) late =
         let ended = over-by-timer-b before after invite e.moment x sent unanswered stands late in
-        (ended-emits e y (step-of f p Sent e (quiet Ended) y is_sent (subst (λ z. Takes f p z e y) ended take))).0
+        (over-emits f p IsInvited (λ k. k ≡ Request Invite) (λ k. k ≡ Request Cancel) (invites-once R is p) e y (step-of f p Sent e (quiet Ended) y is_sent (subst (λ z. Takes f p z e y) ended take))).0

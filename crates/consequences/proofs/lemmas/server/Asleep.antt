@@ -14,8 +14,8 @@ use Rattle.sip_machine.specs.InviteServer as corrected
 use Rattle.sip_machine.specs.InviteServer3261 as without
 use Rattle.sip_machine.specs.PlainServer as plain
 use Rattle.consequences.specs.Events.{IsRestart}
-use Rattle.consequences.proofs.Lists.{All-front, All-last}
-use Rattle.consequences.proofs.Running.{Runs, IsKept, step-of, run-keeps}
+use Rattle.consequences.proofs.lemmas.run.Lists.{All-front, All-last}
+use Rattle.consequences.proofs.lemmas.run.Running.{Runs, IsKept, step-of, run-keeps}
 
 -- in its idle phase, which is the ended one, a server has no timer, sends nothing, and leaves only for a request that wakes it
 pub record IsAsleep {X : Type 0} (f : Figure X) (p : Times) (Wakes : Kind → Type 0) : Type 0 where

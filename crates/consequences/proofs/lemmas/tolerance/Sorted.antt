@@ -19,10 +19,10 @@ use Rattle.sip_machine.specs.InviteClient3261 as client_3261
 use Rattle.sip_machine.specs.PlainClient as plain
 use Rattle.sip_machine.specs.InviteServer as server
 use Rattle.sip_machine.specs.InviteServer3261 as server_3261
-use Rattle.consequences.proofs.Asleep.{nothing-to-pay}
-use Rattle.consequences.proofs.FinalResponse.{all-without}
-use Rattle.consequences.proofs.Running.{IsKept, left_at, stands-run, run-keeps}
-use Rattle.consequences.proofs.Wider.{IsSorted}
+use Rattle.consequences.proofs.lemmas.server.Asleep.{nothing-to-pay}
+use Rattle.consequences.proofs.lemmas.server.Said.{all-without}
+use Rattle.consequences.proofs.lemmas.run.Running.{IsKept, left_at, stands-run, run-keeps}
+use Rattle.consequences.proofs.lemmas.tolerance.Wider.{IsSorted}
 
 pub same-bytes : (a b : List ℕ) → Dec (a ≡ b)
 same-bytes a b = by (bytes_eq a b) (bytes_eq-Decides a b)

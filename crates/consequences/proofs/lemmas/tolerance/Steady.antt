@@ -16,7 +16,7 @@ use Rattle.sip_machine.specs.InviteServer as server
 use Rattle.sip_machine.specs.InviteServer3261 as server_3261
 use Rattle.sip_machine.specs.PlainServer as plain_server
 use Rattle.consequences.specs.Tolerance.{tolerant}
-use Rattle.consequences.proofs.Wider.{IsSteady}
+use Rattle.consequences.proofs.lemmas.tolerance.Wider.{IsSteady}
 
 module _ (p : Times) (early late : ℕ) (earlier : p.early ≤ early) (later : p.late ≤ late) where
   abbrev q : Times

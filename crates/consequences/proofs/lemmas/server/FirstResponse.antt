@@ -16,10 +16,10 @@ use Rattle.sip_machine.specs.InviteServer.{InviteServerPhase, Idle, Proceeding, 
 use Rattle.sip_machine.specs.InviteServer as corrected
 use Rattle.sip_states.specs.Stands.{Stands}
 use Rattle.consequences.specs.Events.{GetsRequest, SendsResponse, IsAnyCode, IsRestart}
-use Rattle.consequences.proofs.Asleep.{IsAsleep, IsInvite, nothing-to-pay, sleeps-on}
-use Rattle.consequences.proofs.Lists.{any-last, any-earlier}
-use Rattle.consequences.proofs.Running.{IsKept, step-of, stands-run, Cut, cut, run-keeps}
-use Rattle.consequences.proofs.InviteServers.{Row, IsServer, ReceivedRow, comes, again, again_after, acknowledged, received-row, SentRow, provisional, success, unsuccessful, success_again, repeats, sent-row}
+use Rattle.consequences.proofs.lemmas.server.Asleep.{IsAsleep, IsInvite, nothing-to-pay, sleeps-on}
+use Rattle.consequences.proofs.lemmas.run.Lists.{any-last, any-earlier}
+use Rattle.consequences.proofs.lemmas.run.Running.{IsKept, step-of, stands-run, Cut, cut, run-keeps}
+use Rattle.consequences.proofs.lemmas.server.InviteServers.{Row, IsServer, ReceivedRow, comes, again, again_after, acknowledged, received-row, SentRow, provisional, success, unsuccessful, success_again, repeats, sent-row}
 
 module _ {X : Type 0} (f : Figure X) (p : Times) (held : InviteServerPhase → X) (is : IsServer f p held) (invite : MachineEvent) where
   -- it has sent nothing yet, or a response, or the element started again

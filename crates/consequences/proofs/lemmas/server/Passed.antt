@@ -14,11 +14,11 @@ use Rattle.sip_machine.specs.InviteServer.{InviteServerPhase, Idle, Proceeding}
 use Rattle.sip_machine.specs.InviteServer3261.{InviteServer3261Phase, Passed, In, Receives, Sends, invite_server_3261}
 use Rattle.sip_states.specs.Stands.{StandsBehind}
 use Rattle.consequences.specs.Events.{GetsRequest, IsResponse, SendsResponse}
-use Rattle.consequences.proofs.Asleep.{IsInvite, nothing-to-pay, without-asleep, asleep-emits, asleep-steps}
-use Rattle.consequences.proofs.InviteServers.{first_in, is-server-3261}
-use Rattle.consequences.proofs.Lists.{All-front, All-last}
-use Rattle.consequences.proofs.Running.{IsKept, left_at, step-of, stands-run, Cut, cut, run-keeps}
-use Rattle.consequences.proofs.FinalResponse.{HoldsIn, Opens, BeforeFinal, before-final-kept, opens-left, final-paid}
+use Rattle.consequences.proofs.lemmas.server.Asleep.{IsInvite, nothing-to-pay, without-asleep, asleep-emits, asleep-steps}
+use Rattle.consequences.proofs.lemmas.server.InviteServers.{first_in, is-server-3261}
+use Rattle.consequences.proofs.lemmas.run.Lists.{All-front, All-last}
+use Rattle.consequences.proofs.lemmas.run.Running.{IsKept, left_at, step-of, stands-run, Cut, cut, run-keeps}
+use Rattle.consequences.proofs.lemmas.server.FinalResponse.{HoldsIn, Opens, BeforeFinal, before-final-kept, opens-left, final-paid}
 
 abbrev f : Figure InviteServer3261Phase
 f = invite_server_3261

@@ -13,9 +13,9 @@ use Rattle.sip_machine.specs.InviteClient as invite
 use Rattle.sip_machine.specs.PlainClient as plain
 use Rattle.sip_states.specs.Stands.{Stands, StandsBehind}
 use Rattle.consequences.specs.Events.{IsRestart}
-use Rattle.consequences.proofs.Asleep.{nothing-to-pay}
-use Rattle.consequences.proofs.InviteClients.{Row, Receiving, client, IsDone, Answers, IsReceiving, pays-nothing, sends-idle, sends-calling, sends-proceeding, sends-accepted, sends-completed, sends-ended}
-use Rattle.consequences.proofs.Running.{IsKept, left_at, step-of, stands-run, Cut, cut, run-keeps}
+use Rattle.consequences.proofs.lemmas.server.Asleep.{nothing-to-pay}
+use Rattle.consequences.proofs.lemmas.client.InviteClients.{Row, Receiving, client, IsDone, Answers, IsReceiving, pays-nothing, sends-idle, sends-calling, sends-proceeding, sends-accepted, sends-completed, sends-ended}
+use Rattle.consequences.proofs.lemmas.run.Running.{IsKept, left_at, step-of, stands-run, Cut, cut, run-keeps}
 
 -- phases after the request: no row leads back, and the ended one sends only what it may and stays
 pub record IsOnce {X : Type 0} (f : Figure X) (p : Times) (HasAsked : X → Type 0) (IsRequest MaySend : Kind → Type 0) : Type 0 where
@@ -54,7 +54,7 @@ module _ {X : Type 0} (f : Figure X) (p : Times) (HasAsked : X → Type 0) (IsRe
     as_it_takes = λ es e x y asked take. steps e.action e (record { phase = x.phase; owes = left_at e x }) y asked take;
   }
 
-  over-emits : (e : MachineEvent) (y : Owing X) → Emits f p e (quiet f.ended) y → MaySend e.kind × (y ≡ quiet f.ended)
+  pub over-emits : (e : MachineEvent) (y : Owing X) → Emits f p e (quiet f.ended) y → MaySend e.kind × (y ≡ quiet f.ended)
   over-emits e y (inl (row, is_row, to)) = let sends = once.over e.kind e row is_row in (sends.0, rw (to, sends.1))
   over-emits e y (inr (inl (left, pays, to))) = absurd (nothing-to-pay _ left pays)
   over-emits e y (inr (inr (stays, same))) = absurd (once.unmoved f.ended e.kind stays)
@@ -63,7 +63,7 @@ module _ {X : Type 0} (f : Figure X) (p : Times) (HasAsked : X → Type 0) (IsRe
   over-fails true e y h = h.1
   over-fails false e y h = (over-emits e y h).1
 
-  over-steps : (a : Action) (e : MachineEvent) (y : Owing X) → Steps f p a e (quiet f.ended) y → y ≡ quiet f.ended
+  pub over-steps : (a : Action) (e : MachineEvent) (y : Owing X) → Steps f p a e (quiet f.ended) y → y ≡ quiet f.ended
   over-steps Received e y (inl (row, is_row, to)) = absurd (once.deaf e.kind e row is_row)
   over-steps Received e y (inr (none, same)) = same
   over-steps Sent e y h = (over-emits e y h).1

@@ -15,12 +15,12 @@ use Rattle.sip_machine.specs.Figure.{Change, Owing, changed, quiet, Emits, Steps
 use Rattle.sip_machine.specs.PlainServer.{PlainServerPhase, Idle, Trying, Proceeding, Completed, Receives, Sends, plain_server}
 use Rattle.consequences.specs.Events.{IsResponse, SendsResponse}
 use Rattle.consequences.specs.Tolerance.{AreOneKind}
-use Rattle.consequences.proofs.Asleep.{nothing-to-pay}
-use Rattle.consequences.proofs.FinalResponse.{IsOut, IsSaid, said-later, all-without}
-use Rattle.consequences.proofs.Lists.{any-last, any-earlier}
-use Rattle.consequences.proofs.Running.{IsKept, left_at, stands-run, run-keeps}
-use Rattle.consequences.proofs.Sorted.{same-bytes}
-use Rattle.consequences.proofs.Wider.{IsSorted}
+use Rattle.consequences.proofs.lemmas.server.Asleep.{nothing-to-pay}
+use Rattle.consequences.proofs.lemmas.server.Said.{IsOut, IsSaid, said-later, all-without}
+use Rattle.consequences.proofs.lemmas.run.Lists.{any-last, any-earlier}
+use Rattle.consequences.proofs.lemmas.run.Running.{IsKept, left_at, stands-run, run-keeps}
+use Rattle.consequences.proofs.lemmas.tolerance.Sorted.{same-bytes}
+use Rattle.consequences.proofs.lemmas.tolerance.Wider.{IsSorted}
 
 -- a final response of these bytes was sent
 abbrev IsFinalSaid : List MachineEvent → List ℕ → Type 0

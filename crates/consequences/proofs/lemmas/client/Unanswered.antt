@@ -1,7 +1,6 @@
 -- An INVITE client before a response has come: it sends no CANCEL, and ends by timer B.
 use Rattle.std.proofs.Common.{◌≡◌, ◌≤◌, ◌<◌, ◌*◌, ◌⊎◌, inl, inr, ℕ, Bool, true, false, Some, None, List, [], ◌∷◌, ◌++◌, All, refl, sym, ap, subst, ◌∙◌, arith}
 use Rattle.std.specs.List.{Any}
-use Rattle.sip_key.specs.AckOf.{AckOf}
 use Rattle.sip_times.specs.declared.action.Action.{Action}
 use Rattle.sip_times.specs.declared.action.Action.TheVariants.{Sent, Received, Failed, Mark, Restart}
 use Rattle.sip_machine.specs.declared.event.Method.TheVariants.{Invite, Ack, Cancel}

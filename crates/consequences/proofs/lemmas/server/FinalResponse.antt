@@ -1,8 +1,7 @@
 -- An INVITE server before its final response and after it.
-use Rattle.std.proofs.Common.{◌≡◌, ◌≤◌, ◌<◌, ◌*◌, ◌⊎◌, inl, inr, ℕ, Bool, true, false, Option, Some, None, IsSomeAnd, List, [], ◌∷◌, ◌++◌, length, All, refl, sym, ap, subst, ◌∙◌, arith}
+use Rattle.std.proofs.Common.{◌≡◌, ◌≤◌, ◌<◌, ◌*◌, ◌⊎◌, inl, inr, ℕ, Bool, true, false, Option, Some, IsSomeAnd, List, [], ◌∷◌, ◌++◌, All, refl, sym, ap, subst, ◌∙◌, arith}
 use Rattle.std.specs.List.{Any}
-use Rattle.std.proofs.lemmas.List.Elements.{All-nil, All-head, All-tail, All-append, All-filter, All-push, All-weaker, All-map, All-contains}
-use Rattle.std.specs.Prelude.{slice_index_or}
+use Rattle.std.proofs.lemmas.List.Elements.{All-nil, All-filter, All-push, All-weaker, All-map}
 use Rattle.sip_times.specs.declared.action.Action.{Action}
 use Rattle.sip_times.specs.declared.action.Action.TheVariants.{Sent, Received, Failed, Mark, Restart}
 use Rattle.sip_machine.specs.declared.event.Method.TheVariants.{Invite, Ack}
@@ -20,7 +19,7 @@ use Rattle.sip_states.specs.Stands.{StandsBehind}
 use Rattle.consequences.specs.Events.{GetsRequest, IsResponse, SendsResponse, IsRestart}
 use Rattle.consequences.specs.Servers.{BeginNoneAnew}
 use Rattle.consequences.proofs.lemmas.server.Asleep.{nothing-to-pay}
-use Rattle.consequences.proofs.lemmas.run.Lists.{any-last, any-earlier, any-none, All-front, All-back, All-last}
+use Rattle.consequences.proofs.lemmas.run.Lists.{any-last, any-earlier, any-none, All-front, All-last}
 use Rattle.consequences.proofs.lemmas.server.Said.{IsOut, IsSaid, IsSaidLast, all-without, all-first, said-later, said-last-later, not-provisional, not-said}
 use Rattle.consequences.proofs.lemmas.run.Running.{IsKept, left_at, step-of, stands-run, Cut, cut, run-keeps, append-none}
 use Rattle.consequences.proofs.lemmas.server.InviteServers.{Row, IsServer, ReceivedRow, comes, again, again_after, acknowledged, received-row, SentRow, provisional, success, unsuccessful, success_again, repeats, sent-row}

@@ -1,24 +1,15 @@
 -- What a server said as provisional responses, and what it owes.
-use Rattle.std.proofs.Common.{◌≡◌, ◌≤◌, ◌<◌, ◌*◌, ◌⊎◌, inl, inr, ℕ, Bool, true, false, Option, Some, None, IsSomeAnd, List, [], ◌∷◌, ◌++◌, length, All, refl, sym, ap, subst, ◌∙◌, arith}
+use Rattle.std.proofs.Common.{◌≡◌, ◌<◌, ◌⊎◌, ℕ, Option, Some, None, List, ◌∷◌, ◌++◌, length, All, sym, subst, ◌∙◌, arith}
 use Rattle.std.specs.List.{Any}
-use Rattle.std.proofs.lemmas.List.Elements.{All-nil, All-head, All-tail, All-append, All-filter, All-push, All-weaker, All-map, All-contains}
+use Rattle.std.proofs.lemmas.List.Elements.{All-head, All-tail, All-append, All-contains}
 use Rattle.std.specs.Prelude.{slice_index_or}
-use Rattle.sip_times.specs.declared.action.Action.{Action}
-use Rattle.sip_times.specs.declared.action.Action.TheVariants.{Sent, Received, Failed, Mark, Restart}
-use Rattle.sip_machine.specs.declared.event.Method.TheVariants.{Invite, Ack}
-use Rattle.sip_machine.specs.declared.event.Kind.{Kind}
+use Rattle.sip_times.specs.declared.action.Action.TheVariants.{Sent, Failed}
 use Rattle.sip_machine.specs.declared.event.Kind.TheVariants.{Response}
-use Rattle.sip_machine.specs.Times.{Times}
-use Rattle.sip_machine.specs.Limits.{open_at, close_at}
 use Rattle.sip_machine.specs.MachineEvent.{MachineEvent}
-use Rattle.sip_machine.specs.Message.{IsProvisional, IsFinal, IsSuccess, IsUnsuccessful}
-use Rattle.sip_machine.specs.Debts.{Owed, softened, IsWithoutFirst}
-use Rattle.sip_machine.specs.Figure.{Figure, Change, Owing, changed, quiet, Emits, Fails, Steps, Takes, Lasts, MayEnd}
-use Rattle.sip_machine.specs.InviteServer.{InviteServerPhase, Idle, Proceeding, Accepted, Completed, Confirmed}
-use Rattle.sip_machine.specs.InviteServer as corrected
-use Rattle.sip_states.specs.Stands.{StandsBehind}
-use Rattle.consequences.specs.Events.{GetsRequest, IsResponse, SendsResponse, IsRestart}
-use Rattle.consequences.proofs.lemmas.run.Lists.{any-last, any-earlier, any-none, All-front, All-back, All-last}
+use Rattle.sip_machine.specs.Message.{IsProvisional, IsFinal}
+use Rattle.sip_machine.specs.Debts.{Owed, IsWithoutFirst}
+use Rattle.consequences.specs.Events.{IsResponse, SendsResponse}
+use Rattle.consequences.proofs.lemmas.run.Lists.{any-earlier, All-front, All-back}
 
 -- an event that sends a message, or would
 abbrev pub IsOut : MachineEvent → Type 0
@@ -70,4 +61,3 @@ module _ (before : List MachineEvent) (final : MachineEvent) (is_final : SendsRe
     where
       any-one : (P : MachineEvent → Type 0) (es : List MachineEvent) → All P es → (k : ℕ) (g : MachineEvent) → k < length es → slice_index_or es k g ≡ g → P g
       any-one P es all k g low at = All-contains P es g all (k, low, at)
-

@@ -1,5 +1,5 @@
 -- The events of a log with equal bytes are of one kind: a message has the kind that its bytes say, and what has no message has no bytes.
-use Rattle.std.proofs.Common.{◌≡◌, ◌≤◌, ◌⊎◌, inl, inr, ℕ, Bool, true, false, Option, None, Some, MatchOption, List, [], ◌∷◌, ◌++◌, length, map, filter, All, Contains, refl, sym, ap, subst, ◌∙◌, arith, if◌then◌else◌}
+use Rattle.std.proofs.Common.{◌≡◌, ◌≤◌, ◌⊎◌, inl, inr, ℕ, Bool, true, false, MatchOption, List, [], ◌∷◌, ◌++◌, length, map, filter, All, refl, sym, ap, subst, ◌∙◌, arith, if◌then◌else◌}
 use Rattle.std.specs.List.{list_any}
 use Rattle.std.proofs.lemmas.List.Elements.{All-nil, All-cons, All-head, All-tail, All-contains}
 use Rattle.sip_key.specs.declared.role.Direction.{Direction}
@@ -9,7 +9,6 @@ use Rattle.sip_log.specs.Log.{InOrder}
 use Rattle.sip_log.specs.Spelling.{Item, HasMessage}
 use Rattle.sip_times.specs.declared.action.Action.{Action}
 use Rattle.sip_times.specs.declared.action.Action.TheVariants.{Sent, Received, Failed, Mark, Restart}
-use Rattle.sip_machine.specs.declared.event.Kind.{Kind}
 use Rattle.sip_machine.specs.declared.event.Kind.TheVariants.{Request}
 use Rattle.sip_machine.specs.declared.event.Method.TheVariants.{Other}
 use Rattle.sip_machine.specs.MachineEvent.{MachineEvent}
@@ -18,7 +17,7 @@ use Rattle.sip_message.specs.Outcome.{gives}
 use Rattle.sip_message.specs.Says.{Said, Says}
 use Rattle.sip_verdict.specs.Keyed.{Observation}
 use Rattle.sip_verdict.specs.MessageReading.{direction_of, silent_observation, ObservesMessage, has_fault, has_no_cookie, is_heard}
-use Rattle.sip_verdict.specs.VerdictOf.{keys_in, Sees, events_for}
+use Rattle.sip_verdict.specs.VerdictOf.{keys_in, events_for}
 use Rattle.consequences.specs.Front.{AreSeen}
 use Rattle.consequences.specs.Tolerance.{AreOneKind}
 

@@ -16,6 +16,8 @@ from binascii import hexlify, unhexlify
 from decimal import Decimal, InvalidOperation
 from typing import NamedTuple
 
+from help_page import shown
+
 MOST_ENTRIES = 1_000_000
 MOST_BYTES = 65_535
 MOST_TOLERANCE = 10_000
@@ -51,7 +53,7 @@ def words_of(usage, page, are_right):
     """The words behind the script's name, where they are right. Else it ends with its usage and its page: as its answer where they
     ask for help, and as an error where they are wrong."""
     words = sys.argv[1:]
-    text = "usage: %s %s\n\n%s" % (os.path.basename(sys.argv[0]), usage, page.rstrip("\n"))
+    text = "usage: %s %s\n\n%s" % (os.path.basename(sys.argv[0]), usage, shown(page))
     if words[:1] in (["-h"], ["--help"]):
         print(text, flush=True)
         sys.exit()
@@ -360,7 +362,7 @@ def mark(moment):
 def program(name="siptrace"):
     """A program: the one that SIPTRACE names (or SIPSURVEY), else the one on the path, else that of the checkout around the recipes."""
     beside = os.path.join(os.path.dirname(os.path.realpath(__file__)), os.pardir, name)
-    found = os.environ.get(name.upper()) or shutil.which(name) or (os.access(beside, os.X_OK) and os.path.abspath(beside))
+    found = os.environ.get(name.upper()) or shutil.which(name) or (os.path.isfile(beside) and os.access(beside, os.X_OK) and os.path.abspath(beside))
     if not found:
         die("there is no %s: put it on the path, or name it in %s" % (name, name.upper()), 70)
     return found

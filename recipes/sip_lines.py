@@ -50,7 +50,7 @@ def say(text):
 
 
 def words_of(usage, page, are_right):
-    """The words behind the script's name, where they are right. Else it ends with its usage and its page: as its answer where they
+    """The words after the script's name, where they are right. Else it ends with its usage and its page: as its answer where they
     ask for help, and as an error where they are wrong."""
     words = sys.argv[1:]
     text = "usage: %s %s\n\n%s" % (os.path.basename(sys.argv[0]), usage, shown(page))

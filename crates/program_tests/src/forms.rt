@@ -45,7 +45,11 @@ pub(crate) fn hasty(alloc: Global) -> Result<String, AllocError> {
 }
 
 /// A platform that gives the program's name and these words, and has these bytes at the path.
-pub(crate) fn desk<'a>(alloc: Global, words: &[&str], bytes: &'a str) -> Result<Desk<'a>, AllocError> {
+pub(crate) fn desk<'a>(
+    alloc: Global,
+    words: &[&str],
+    bytes: &'a str,
+) -> Result<Desk<'a>, AllocError> {
     let mut given = vec![in alloc; String::from_str(alloc, "siptrace")?]?;
     for word in words {
         given.push(String::from_str(alloc, word)?)?;

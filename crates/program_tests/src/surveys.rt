@@ -60,7 +60,13 @@ fn ends_with_the_fault_of_the_log(rt: HostRuntime) -> Result<(), Fail> {
 fn tells_of_each_failure_of_a_survey(rt: HostRuntime) -> Result<(), Fail> {
     let file = registered(rt.alloc())?;
     let file = file.as_str();
-    ends(&rt, &["a log"], "", file, ("", "sipsurvey: cannot read\n", 4))?;
+    ends(
+        &rt,
+        &["a log"],
+        "",
+        file,
+        ("", "sipsurvey: cannot read\n", 4),
+    )?;
     ends(&rt, &[PATH, PATH], file, file, ("", USAGE, 5))
 }
 

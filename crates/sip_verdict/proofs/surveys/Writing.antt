@@ -111,7 +111,7 @@ module _ (start : Option (List ℕ)) (now : log.ReaderState) (s : Surveying) (fo
   -- one more entry was read, and this was found at it
   pub surveys_on : (e : Entry) (new : log.ReaderState) → HasRead start s.tables.times (read.items ++ item e ∷ []) new → (k : Surveying) → k.tables.times ≡ s.tables.times → (items : List Finding)
       → ((es : List (Observation KeyParts)) → SurveysFor s es → (seen : Observation KeyParts) × (here : List Finding) × message_reading.Observes es (item e) seen
-        × AreFoundAt s.tables.times es seen here × (items ≡ here) × SurveysFor k (es ++ seen ∷ []))
+      × AreFoundAt s.tables.times es seen here × (items ≡ here) × SurveysFor k (es ++ seen ∷ []))
       → SurveysRead k (found ++ items) start new
   surveys_on e new more k times items says =
       let (seen, here, observed, are, same, stands) = says read.es read.follows in

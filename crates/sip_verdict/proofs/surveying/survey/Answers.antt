@@ -27,4 +27,4 @@ returns-in-Err-clause-surveyed g c =
     let after = g.W.Sink.written c.finish.new.writer in
     let fault = rw c.in-Err.is at c.in_ok-params.ensures.fault in
     summed c.finish.result c.none.result (LogFault 0 Header) c.finish.ensures.sums c.finish.ensures.text (λ summary end findings undecided last.
-        as_told start summary before after (surveys_header start c.in-Err.field-0 c.none.result summary before after fault.0 fault.1 c.none.ensures.0 c.none.ensures.1 end findings undecided last))
+    as_told start summary before after (surveys_header start c.in-Err.field-0 c.none.result summary before after fault.0 fault.1 c.none.ensures.0 c.none.ensures.1 end findings undecided last))

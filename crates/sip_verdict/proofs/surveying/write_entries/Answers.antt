@@ -60,10 +60,10 @@ returns-in-End-clause-surveyed g c =
     let mid = g.W.Sink.written l.writer in
     let after = g.W.Sink.written c.finish.new.writer in
     summed c.finish.result l.counts c.unwrap.result c.finish.ensures.sums c.finish.ensures.text (λ summary end findings undecided last start reads.
-        let read = told.2 start reads in
-        let logs = (rw c.in-End.is at c.in_ok-entry.ensures.gives) start l.survey.tables.times read.items read.read in
-        let is = same_some _ _ (sym c.unwrap.ensures ∙ c.end.ensures.clean read.es read.follows) in
-        surveys_end start old l.survey told.0 read l.counts summary before mid after told.1 findings undecided (end ∙ is) (subst (λ e. Appends mid after (end_text e l.counts.findings)) is last) logs)
+    let read = told.2 start reads in
+    let logs = (rw c.in-End.is at c.in_ok-entry.ensures.gives) start l.survey.tables.times read.items read.read in
+    let is = same_some _ _ (sym c.unwrap.ensures ∙ c.end.ensures.clean read.es read.follows) in
+    surveys_end start old l.survey told.0 read l.counts summary before mid after told.1 findings undecided (end ∙ is) (subst (λ e. Appends mid after (end_text e l.counts.findings)) is last) logs)
 
 pub returns-in-Fault-clause-surveyed : goal.returns-in-Fault-clause-surveyed
 returns-in-Fault-clause-surveyed g c =
@@ -74,6 +74,6 @@ returns-in-Fault-clause-surveyed g c =
     let mid = g.W.Sink.written l.writer in
     let after = g.W.Sink.written c.finish-in-Fault.new.writer in
     summed c.finish-in-Fault.result l.counts (LogFault (l.count + 1) c.in-Fault.reason) c.finish-in-Fault.ensures.sums c.finish-in-Fault.ensures.text (λ summary end findings undecided last start reads.
-        let read = told.2 start reads in
-        surveys_stop start old l.survey told.0 read l.counts summary before mid after told.1 findings undecided l.count c.in-Fault.reason l.invariant.counts_are end last
-            ((rw c.in-Fault.is at c.in_ok-entry.ensures.gives) start l.survey.tables.times read.items read.read))
+    let read = told.2 start reads in
+    surveys_stop start old l.survey told.0 read l.counts summary before mid after told.1 findings undecided l.count c.in-Fault.reason l.invariant.counts_are end last
+    ((rw c.in-Fault.is at c.in_ok-entry.ensures.gives) start l.survey.tables.times read.items read.read))

@@ -1,5 +1,5 @@
 //! The last moments on record, by index.
-ghost use Rattle.std.specs.Prelude.{◌≡◌, ◌<◌, ◌++◌, ◌∷◌, [], None, IfSome, OnErr, OnOk, Some, length, position, slice_set};
+ghost use Rattle.std.specs.Prelude.{◌≡◌, ◌≤◌, ◌↔◌, ◌<◌, ◌++◌, ◌∷◌, [], ℕ, None, IfSome, OnErr, OnOk, Some, length, position, slice_set};
 ghost use Rattle.std.specs.BTreeSet.{IsUnchanged};
 ghost use Rattle.sip_states.specs.Agenda.{Records, is_overdue};
 ghost use Rattle.sip_states.specs.inner.Lines.{Enters, Leaves};
@@ -115,5 +115,13 @@ impl Agenda {
         self.records
             .iter()
             .position(|kept| is_overdue(*kept, moment))
+    }
+
+    /// The earliest last moment on record, and None where none is.
+    pub(crate) fn earliest(&self) -> Option<u64>
+        ensures { (moment : ℕ) → (position (is_overdue moment) self.now ≡ None) ↔ IfSome result (λ last. moment ≤ last) }
+    {
+        let (last, _) = *self.order.first()?;
+        Some(last)
     }
 }

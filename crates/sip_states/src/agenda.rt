@@ -1,5 +1,5 @@
 //! The last moments on record, by index.
-ghost use Rattle.std.specs.Prelude.{◌≡◌, ◌<◌, ◌++◌, ◌∷◌, [], IfNone, IfSome, None, OnErr, OnOk, Some, length, position, slice_index_or, slice_set, true};
+ghost use Rattle.std.specs.Prelude.{◌≡◌, ◌<◌, ◌++◌, ◌∷◌, [], IfNone, IfSome, None, OnErr, OnOk, Some, length, position, slice_index_or, slice_set, true, ◌≤◌, ◌↔◌, ℕ};
 ghost use Rattle.std.specs.BTreeSet.{IsUnchanged};
 ghost use Rattle.sip_states.specs.Agenda.{Records, is_overdue};
 ghost use Rattle.sip_states.specs.inner.Lines.{Enters, Leaves};
@@ -127,5 +127,13 @@ impl Agenda {
             return None;
         }
         Some(index)
+    }
+
+    /// The earliest last moment on record, and None where none is.
+    pub(crate) fn earliest(&self) -> Option<u64>
+        ensures { (moment : ℕ) → (position (is_overdue moment) self.now ≡ None) ↔ IfSome result (λ last. moment ≤ last) }
+    {
+        let (last, _) = *self.order.first()?;
+        Some(last)
     }
 }

@@ -1,5 +1,5 @@
 //! The states of every transaction, by key.
-ghost use Rattle.std.specs.Prelude.{◌≡◌, ◌≢◌, ◌<◌, ◌≤◌, ◌+◌, ◌++◌, ◌-◌, ◌∷◌, [], All, AllPairs, length, slice_get, slice_index_or, ℕ, IfNone, IfOk, IfSome, None, OnErr, OnOk, Some, true};
+ghost use Rattle.std.specs.Prelude.{◌≡◌, ◌≢◌, ◌<◌, ◌≤◌, ◌+◌, ◌++◌, ◌-◌, ◌∷◌, [], All, AllPairs, length, slice_get, slice_index_or, ℕ, IfNone, IfOk, IfSome, None, OnErr, OnOk, Some, true, ◌↔◌};
 ghost use Rattle.std.specs.Borrow.{sem};
 ghost use Rattle.indexmap.specs.IndexMap.{keys, values, index_map_len, with_value_at};
 ghost use Rattle.sip_states.specs.Agenda.{is_overdue};
@@ -341,5 +341,12 @@ impl<H: BuildHasher> Tables<H> {
         ensures records { length self.now.records ≡ length self.now.keys }
     {
         let _ = self.sets.len();
+    }
+
+    /// The earliest last moment on record, in milliseconds, and None where none is: nothing is overdue up to it.
+    pub fn earliest(&self) -> Option<u64>
+        ensures { (moment : ℕ) → (due_of self.now moment ≡ None) ↔ IfSome result (λ last. moment ≤ last) }
+    {
+        self.agenda.earliest()
     }
 }

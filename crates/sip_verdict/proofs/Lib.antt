@@ -1,5 +1,6 @@
 pub mod AnyHearing
 pub mod EntryText
+pub mod DueLemmas
 pub mod FewerEntries
 pub mod FollowedLemmas
 pub mod FormatLaws

@@ -1,10 +1,10 @@
 //! What is kept of the entries of a log that were judged.
-ghost use Rattle.std.specs.Prelude.{◌≡◌, ◌≢◌, ◌≤◌, ◌<◌, ◌+◌, ◌++◌, ◌∷◌, [], ℕ, Bool, None, List, All, AllPairs, Contains, IfOk, IfNone, OnOk, length, string_bytes};
+ghost use Rattle.std.specs.Prelude.{◌≡◌, ◌≢◌, ◌≤◌, ◌<◌, ◌+◌, ◌++◌, ◌∷◌, [], ℕ, Bool, None, List, All, AllPairs, Contains, IfOk, IfNone, OnOk, length, string_bytes, ◌↔◌, IfSome, MatchOption};
 ghost use Rattle.std.specs.Option.{ForSome, option_copied};
 ghost use Rattle.sip_key.specs.Key.{KeyParts};
 ghost use Rattle.sip_machine.specs.Times.{last_moment};
 ghost use Rattle.sip_machine.specs.Texts.{Keeps};
-ghost use Rattle.sip_states.specs.Tables.{IsGiven, most_keys};
+ghost use Rattle.sip_states.specs.Tables.{HasNumber, IsGiven, due_of, most_keys};
 ghost use Rattle.sip_log.specs.Log.{most_entries};
 ghost use Rattle.sip_log.specs.Spelling.{Item};
 ghost use Rattle.sip_log.specs.Told.{item};
@@ -289,5 +289,22 @@ impl<H: BuildHasher> Standing<H> {
     {
         let key = self.tables.key(number);
         push_transaction(alloc, text, number, key, self.tables.set(number))
+    }
+
+    /// The key of the transaction with this number, if there is one.
+    pub(crate) fn key(&self, number: u32) -> Option<&Key>
+        ensures { MatchOption result (¬ (IsGiven self.now.tables number)) (λ key. IsGiven self.now.tables number × HasNumber self.now.tables key.now number) }
+    {
+        if number == 0 || number > self.tables.len() {
+            return None;
+        }
+        Some(self.tables.key(number))
+    }
+
+    /// The earliest moment up to which a transaction can wait, in milliseconds, if it is on record of one.
+    pub(crate) fn earliest(&self) -> Option<u64>
+        ensures { (moment : ℕ) → (due_of self.now.tables moment ≡ None) ↔ IfSome result (λ last. moment ≤ last) }
+    {
+        self.tables.earliest()
     }
 }

@@ -1,5 +1,5 @@
 -- The transactions of a survey before an entry.
-use Rattle.std.proofs.Common.{◌≡◌, ◌≢◌, ◌≤◌, ◌<◌, ◌+◌, ◌-◌, ◌⊎◌, inl, inr, ℕ, zero, suc, Bool, true, false, Option, Some, None, List, [], ◌∷◌, ◌++◌, All, Contains, length, slice_get, length-append, refl, sym, ap, ◌∙◌, subst, arith}
+use Rattle.std.proofs.Common.{◌≡◌, ◌≢◌, ◌≤◌, ◌<◌, ◌+◌, ◌-◌, ◌⊎◌, inl, inr, ℕ, zero, suc, Bool, true, false, Some, List, [], ◌∷◌, ◌++◌, All, Contains, length, slice_get, length-append, refl, sym, ap, ◌∙◌, subst, arith}
 use Rattle.std.specs.Prelude.{fold}
 use Rattle.std.specs.List.{list_any}
 use Rattle.std.proofs.lemmas.Option.{slice_get_within, get_or_from_slice_get}
@@ -16,16 +16,12 @@ use Rattle.sip_states.proofs.Listed.{Contains-none}
 use Rattle.sip_verdict.specs.declared.troubled.Troubled.{Troubled}
 use Rattle.sip_verdict.specs.Keyed.{Observation, with_key, newest_moment, keys_of, events_of}
 use Rattle.sip_verdict.specs.MessageReading.{key_machines}
-use Rattle.sip_verdict.specs.VerdictOf.{keys_in, RunsOver, IsWideAt}
-use Rattle.sip_verdict.specs.SurveyOf.{IsSound}
-use Rattle.sip_verdict.specs.inner.Tracking.{IsReady}
-use Rattle.sip_verdict.specs.inner.TablesTracking.{LeadsOf, key_keeping, TouchesEach}
+use Rattle.sip_verdict.specs.inner.TablesTracking.{LeadsOf, TouchesEach}
 use Rattle.sip_verdict.specs.inner.Surveying.{IsFresh, IsFollowed, TablesSurvey, IsPassing, ArePassing, any}
-use Rattle.sip_verdict.proofs.Keys.{IsExact, cond_true, cond_false, contains-among, not_among, new_key}
+use Rattle.sip_verdict.proofs.Keys.{cond_true, cond_false, contains-among, not_among, new_key}
 use Rattle.sip_verdict.proofs.TablesPassing.{All-place}
 use Rattle.sip_verdict.proofs.QuietSets.{leads_later}
 use Rattle.sip_verdict.proofs.TablesTouching.{keys_exact, starts, push-place}
-use Rattle.sip_verdict.proofs.surveys.Passing.{same_at}
 use Rattle.sip_verdict.proofs.surveys.Sound.{idle_runs}
 use Rattle.sip_verdict.proofs.surveys.Unheard.{unheard_narrow}
 

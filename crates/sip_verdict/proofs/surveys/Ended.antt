@@ -1,5 +1,5 @@
 -- The transactions of a survey after an entry, and what is found at it.
-use Rattle.std.proofs.Common.{◌≡◌, ◌↔◌, ◌≤◌, ◌<◌, ◌+◌, ◌-◌, ◌⊎◌, inl, inr, ℕ, zero, suc, Bool, true, false, Option, Some, None, List, [], ◌∷◌, ◌++◌, Contains, length, slice_get, All, AllPairs, append_assoc, append-nil, refl, sym, ap, ◌∙◌, subst, arith}
+use Rattle.std.proofs.Common.{◌≡◌, ◌≤◌, ◌+◌, ◌-◌, ◌⊎◌, inl, inr, ℕ, zero, suc, Bool, true, false, Some, List, [], ◌∷◌, ◌++◌, Contains, length, slice_get, All, append_assoc, append-nil, refl, sym, ap, ◌∙◌, subst, arith}
 use Rattle.std.proofs.lemmas.Option.{slice_get_within}
 use Rattle.std.proofs.lemmas.List.Elements.{All-contains}
 use Rattle.sip_key.specs.Key.{KeyParts}
@@ -19,7 +19,7 @@ use Rattle.sip_verdict.proofs.Keys.{newest_moment-push}
 use Rattle.sip_states.proofs.Listed.{Contains-none, Contains-cons}
 use Rattle.sip_verdict.proofs.FewerEntries.{fewer-entries, newest-to}
 use Rattle.sip_verdict.proofs.TablesPassing.{at_place}
-use Rattle.sip_verdict.proofs.VerdictLemmas.{run-over, over-run, wide-at, at-wide}
+use Rattle.sip_verdict.proofs.VerdictLemmas.{run-over, over-run, at-wide}
 use Rattle.sip_verdict.proofs.surveys.Numbers.{AreNumbers}
 use Rattle.sip_verdict.proofs.surveys.FoundParts.{listed, listed_found}
 use Rattle.sip_verdict.proofs.surveys.Ordered.{ordered_append}

@@ -6,7 +6,7 @@ use Rattle.sip_machine.specs.Texts.{Texts}
 use Rattle.sip_states.specs.KeyMachine.{machine_of_key}
 use Rattle.sip_states.specs.Tables.{Tabled}
 use Rattle.sip_states.proofs.Listed.{Contains-none}
-use Rattle.sip_verdict.specs.Keyed.{Observation, newest_moment}
+use Rattle.sip_verdict.specs.Keyed.{Observation}
 use Rattle.sip_verdict.specs.Named.{AreMany}
 use Rattle.sip_verdict.specs.Surveys.{IsStillNamed, WereStillNamed, AreSurveyed}
 use Rattle.sip_verdict.specs.inner.Surveying.{TablesSurvey}

@@ -1,34 +1,23 @@
 -- How the transactions of a survey pass an entry, one after another.
-use Rattle.std.proofs.Common.{◌≡◌, ◌≢◌, ◌≤◌, ◌<◌, ◌+◌, ◌-◌, ◌⊎◌, ◌||◌, inl, inr, ℕ, Bool, true, false, nat_eq, Option, Some, None, List, [], ◌∷◌, ◌++◌, All, AllPairs, Contains, MatchBool, length, slice_get, slice_set, slice_index_or, refl, sym, ap, ◌∙◌, subst, arith}
+use Rattle.std.proofs.Common.{◌≡◌, ◌≢◌, ◌+◌, ◌-◌, ◌⊎◌, ◌||◌, inl, inr, ℕ, Bool, true, false, nat_eq, Some, List, [], ◌∷◌, ◌++◌, Contains, MatchBool, slice_get, slice_set, refl, sym, ap, ◌∙◌, subst, arith}
 use Rattle.std.proofs.lemmas.Bool.{false≢true}
-use Rattle.std.proofs.lemmas.List.{length-set}
 use Rattle.std.proofs.lemmas.List.Elements.{Contains-push, Contains-push_cases, Contains-append_left}
 use Rattle.std.specs.Cmp.{unsigned_Decides}
 use Rattle.sip_key.specs.Key.{KeyParts}
 use Rattle.sip_machine.specs.Times.{Times}
 use Rattle.sip_machine.specs.Texts.{Texts}
-use Rattle.sip_machine.specs.NumberedEvent.{NumberedEvent}
-use Rattle.sip_machine.specs.MachineEvent.{MachineEvent, event_in}
-use Rattle.sip_states.specs.KeyMachine.{MachineKind, machine_of_key, key_rules}
-use Rattle.sip_states.specs.Agenda.{is_overdue}
-use Rattle.sip_states.specs.AnySet.{moment_of, start_of, IsAgendaOf}
-use Rattle.sip_states.specs.Tables.{Tabled, IsGiven, StartsAnew, with_set}
+use Rattle.sip_states.specs.KeyMachine.{machine_of_key}
+use Rattle.sip_states.specs.Tables.{Tabled, IsGiven}
 use Rattle.sip_states.specs.declared.any_set.AnySet.{AnySet}
-use Rattle.sip_verdict.specs.declared.passing.Fate.{Fate}
-use Rattle.sip_verdict.specs.declared.passing.Fate.TheVariants.{Runs, NoRun, TooWide}
 use Rattle.sip_verdict.specs.declared.troubled.Troubled.{Troubled}
-use Rattle.sip_verdict.specs.Keyed.{Observation, Machines, concerns, newest_moment}
+use Rattle.sip_verdict.specs.Keyed.{Observation, Machines}
 use Rattle.sip_verdict.specs.MessageReading.{key_machines}
 use Rattle.sip_verdict.specs.VerdictOf.{RunsOver}
 use Rattle.sip_verdict.specs.SurveyOf.{IsSound, Breaks, Widens}
-use Rattle.sip_verdict.specs.inner.Stepping.{IsStepped}
-use Rattle.sip_verdict.specs.inner.Tracking.{Keeping, IsReady, GoesOn, IsPassed}
-use Rattle.sip_verdict.specs.inner.TablesTracking.{LeadsOf, StandsOf, key_keeping, is_among, MayPass}
-use Rattle.sip_verdict.specs.inner.Surveying.{AreWatched, IsNumberOf, IsPassing, ArePassing, AreConcerned, any}
-use Rattle.sip_verdict.proofs.KeyPassing.{heard_left, overdue_breaks}
-use Rattle.sip_verdict.proofs.TablesPassing.{at_place, All-place, set-place, among_first}
-use Rattle.sip_verdict.proofs.TablesTouching.{starts}
-use Rattle.sip_verdict.proofs.VerdictLemmas.{run-over, over-run, wide-at}
+use Rattle.sip_verdict.specs.inner.Tracking.{Keeping, IsReady, GoesOn}
+use Rattle.sip_verdict.specs.inner.TablesTracking.{LeadsOf, key_keeping, is_among}
+use Rattle.sip_verdict.specs.inner.Surveying.{IsNumberOf, IsPassing, ArePassing}
+use Rattle.sip_verdict.proofs.TablesPassing.{at_place, set-place}
 
 -- a number is among some or it is the first of them
 pub among_cons : (n number : ℕ) (ns : List ℕ) → n ≢ number → is_among (number ∷ ns) n ≡ is_among ns n

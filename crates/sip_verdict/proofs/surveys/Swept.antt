@@ -1,5 +1,5 @@
 -- A sweep of what a survey keeps: the tables follow the same entries, and what is kept is what transactions in no trouble name.
-use Rattle.std.proofs.Common.{◌≡◌, ◌≤◌, ◌<◌, ◌↔◌, inl, inr, ℕ, Bool, true, false, Some, List, [], All, AllPairs, Contains, length, slice_get, refl, sym, ap, ◌∙◌, subst, arith}
+use Rattle.std.proofs.Common.{◌≡◌, ◌≤◌, ◌<◌, ◌↔◌, ℕ, Bool, true, false, Some, List, [], All, AllPairs, Contains, length, slice_get, refl, sym, ap, ◌∙◌, subst, arith}
 use Rattle.std.specs.List.{flat_map, list_any}
 use Rattle.std.proofs.lemmas.Option.{slice_get_within, get_or_from_slice_get, slice_get-get_or}
 use Rattle.sip_key.specs.Key.{KeyParts, same_key}
@@ -16,7 +16,6 @@ use Rattle.sip_states.specs.declared.any_set.AnySet.{AnySet}
 use Rattle.sip_verdict.specs.Keyed.{Observation, keys_of, events_of, newest_moment}
 use Rattle.sip_verdict.specs.MessageReading.{key_machines}
 use Rattle.sip_verdict.specs.Named.{AreMany, messages_of}
-use Rattle.sip_verdict.specs.SurveyOf.{IsSound}
 use Rattle.sip_verdict.specs.Surveys.{IsStillNamed}
 use Rattle.sip_verdict.specs.inner.TablesTracking.{LeadsOf, MayPass}
 use Rattle.sip_verdict.specs.inner.Surveying.{IsFollowed, TablesSurvey}

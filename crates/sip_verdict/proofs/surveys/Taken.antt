@@ -1,10 +1,9 @@
 -- An entry of each kind, as the transactions of a survey pass it.
-use Rattle.std.proofs.Common.{◌≡◌, ◌≢◌, ◌≤◌, ◌<◌, ◌+◌, ◌⊎◌, inl, inr, ℕ, Bool, true, false, Option, Some, None, List, [], ◌∷◌, ◌++◌, All, AllPairs, Contains, length, slice_get, refl, sym, ap, ◌∙◌, subst, true≢false, arith}
+use Rattle.std.proofs.Common.{◌≡◌, ◌≢◌, ◌≤◌, ◌<◌, inl, inr, ℕ, Bool, true, false, Option, Some, None, List, [], ◌∷◌, ◌++◌, All, AllPairs, Contains, length, slice_get, refl, sym, ap, ◌∙◌, subst, true≢false, arith}
 use Rattle.std.specs.Prelude.{fold}
 use Rattle.std.specs.List.{list_any}
 use Rattle.std.proofs.Math.Decide.{dec_le}
 use Rattle.std.proofs.lemmas.List.Elements.{All-head, All-tail, Contains-get_or}
-use Rattle.std.proofs.lemmas.Option.{slice_get_within}
 use Rattle.sip_times.specs.declared.action.Action.TheVariants.{Restart}
 use Rattle.sip_machine.specs.declared.event.Kind.TheVariants.{Request}
 use Rattle.sip_machine.specs.declared.event.Method.TheVariants.{Other}
@@ -26,12 +25,12 @@ use Rattle.sip_verdict.specs.declared.observing.Told.{Told}
 use Rattle.sip_verdict.specs.declared.observing.Told.TheVariants as told
 use Rattle.sip_verdict.specs.declared.passing.Hearing.{Hearing}
 use Rattle.sip_verdict.specs.declared.troubled.Troubled.{Troubled}
-use Rattle.sip_verdict.specs.Keyed.{Observation, with_key, keys_of, newest_moment}
+use Rattle.sip_verdict.specs.Keyed.{Observation, with_key, newest_moment}
 use Rattle.sip_verdict.specs.MessageReading.{key_machines, message_reading}
 use Rattle.sip_verdict.specs.VerdictOf.{keys_in}
 use Rattle.sip_verdict.specs.inner.Concerned.{each, is_all}
 use Rattle.sip_verdict.specs.inner.Observing.{IsObserved, restart_observation}
-use Rattle.sip_verdict.specs.inner.TablesTracking.{LeadsOf, is_among, AreTold, TouchesEach, AreOnRecord}
+use Rattle.sip_verdict.specs.inner.TablesTracking.{LeadsOf, is_among, AreTold, TouchesEach}
 use Rattle.sip_verdict.specs.inner.Surveying.{AreWatched, IsFresh, IsFollowed, TablesSurvey, ArePassing, any}
 use Rattle.sip_verdict.proofs.Keys.{cond_true, keys_of-push, contains-among}
 use Rattle.sip_verdict.proofs.Leading.{Leads-grow}

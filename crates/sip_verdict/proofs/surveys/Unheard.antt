@@ -1,8 +1,8 @@
 -- A key that no entry concerns.
-use Rattle.std.proofs.Common.{◌≡◌, ◌<◌, ◌+◌, ◌∙◌, ℕ, true, cond, List, [], ◌∷◌, ◌++◌, length, length-append, map, sym, ap, arith}
+use Rattle.std.proofs.Common.{◌≡◌, ◌+◌, ◌∙◌, true, cond, List, [], ◌∷◌, ◌++◌, length, length-append, sym, ap, arith}
 use Rattle.std.specs.Prelude.{filter}
 use Rattle.std.specs.List.{list_any}
-use Rattle.std.proofs.lemmas.List.{map-append, length-map}
+use Rattle.std.proofs.lemmas.List.{length-map}
 use Rattle.std.proofs.lemmas.List.Elements.{filter-append}
 use Rattle.sip_key.specs.Key.{KeyParts, same_key}
 use Rattle.sip_machine.specs.Times.{Times}

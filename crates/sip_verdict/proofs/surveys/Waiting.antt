@@ -1,5 +1,5 @@
 -- The transactions of a survey that do not hear an entry's event wait, once none is overdue.
-use Rattle.std.proofs.Common.{◌≡◌, ◌≢◌, ◌≤◌, ◌<◌, ◌+◌, ◌⊎◌, ◌||◌, inl, inr, ℕ, Bool, true, false, Option, Some, None, List, [], ◌∷◌, ◌++◌, All, IsTrue, MatchBool, length, position, slice_get, refl, sym, ap, ◌∙◌, subst, arith}
+use Rattle.std.proofs.Common.{◌≡◌, ◌≤◌, ◌+◌, ◌⊎◌, ◌||◌, inl, inr, ℕ, Bool, true, false, Option, Some, None, List, [], IsTrue, MatchBool, position, slice_get, refl, sym, ap, ◌∙◌, subst, arith}
 use Rattle.std.specs.Option.{option_map}
 use Rattle.std.proofs.lemmas.Bool.{false≢true}
 use Rattle.std.proofs.lemmas.List.Elements.{All-weaker}
@@ -17,7 +17,7 @@ use Rattle.sip_verdict.specs.Keyed.{Observation, Machines, concerns, newest_mome
 use Rattle.sip_verdict.specs.MessageReading.{key_machines}
 use Rattle.sip_verdict.specs.inner.Concerned.{each, is_all}
 use Rattle.sip_verdict.specs.inner.Tracking.{Keeping, IsReady, GoesOn}
-use Rattle.sip_verdict.specs.inner.TablesTracking.{key_keeping, is_among, concerns_number, AreTold, MayPass, MayHear, AreHearers}
+use Rattle.sip_verdict.specs.inner.TablesTracking.{key_keeping, is_among, AreTold, MayPass, MayHear, AreHearers}
 use Rattle.sip_verdict.specs.inner.Surveying.{AreWatched, IsPassing, ArePassing, AreConcerned, any}
 use Rattle.sip_verdict.proofs.Halfway.{All-position_None, not_passing}
 use Rattle.sip_verdict.proofs.KeyPassing.{in_time_goes, quiet_goes}

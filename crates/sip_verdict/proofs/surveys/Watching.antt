@@ -1,18 +1,17 @@
 -- What is on record of the transactions of a survey, and that an entry may pass them.
-use Rattle.std.proofs.Common.{◌≡◌, ◌≢◌, ◌≤◌, ◌<◌, ◌+◌, ◌-◌, ◌⊎◌, inl, inr, ℕ, zero, suc, Bool, true, false, Option, Some, None, List, [], ◌∷◌, All, length, slice_get, slice_set, refl, sym, ap, ◌∙◌, subst, true≢false, arith}
+use Rattle.std.proofs.Common.{◌≡◌, ◌≢◌, ◌≤◌, ◌<◌, ◌+◌, ◌-◌, ◌⊎◌, inl, inr, ℕ, zero, suc, true, false, Option, Some, None, List, [], ◌∷◌, All, length, slice_get, slice_set, refl, sym, ap, ◌∙◌, subst, true≢false, arith}
 use Rattle.std.proofs.lemmas.List.{length-set}
 use Rattle.std.proofs.lemmas.List.Elements.{All-set}
-use Rattle.std.proofs.lemmas.Option.{slice_get_within}
 use Rattle.sip_key.specs.Key.{KeyParts}
 use Rattle.sip_machine.specs.Times.{Times}
 use Rattle.sip_machine.specs.Texts.{Texts}
 use Rattle.sip_states.specs.AnySet.{moment_of, start_of, IsAgendaOf, IsKnownSet}
-use Rattle.sip_states.specs.Tables.{Tabled, IsGiven, StartsAnew}
+use Rattle.sip_states.specs.Tables.{Tabled, IsGiven}
 use Rattle.sip_states.specs.declared.any_set.AnySet.{AnySet}
 use Rattle.sip_verdict.specs.declared.troubled.Troubled.{Troubled}
-use Rattle.sip_verdict.specs.inner.TablesTracking.{is_among, IsOnRecord, AreOnRecord, MayPass}
+use Rattle.sip_verdict.specs.inner.TablesTracking.{is_among, IsOnRecord, MayPass}
 use Rattle.sip_verdict.specs.inner.Surveying.{AreWatched}
-use Rattle.sip_verdict.proofs.TablesPassing.{at_place, set-place, among_one, among_rest, settled, recorded_more}
+use Rattle.sip_verdict.proofs.TablesPassing.{set-place, among_one, among_rest, settled, recorded_more}
 use Rattle.sip_verdict.proofs.TablesTouching.{start_at, start_known}
 
 -- a place that is written twice

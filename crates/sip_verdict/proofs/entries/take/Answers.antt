@@ -1,4 +1,4 @@
-use Rattle.std.proofs.Common.{None, ap, inl, refl, sym, ◌∙◌, subst, arith}
+use Rattle.std.proofs.Common.{None, ap, inl, refl, ◌∙◌, subst, arith}
 use Rattle.sip_machine.specs.Texts.{Keeps}
 use Rattle.sip_log.specs.Told.{item}
 use Rattle.sip_verdict.specs.inner.Concerned.{each}

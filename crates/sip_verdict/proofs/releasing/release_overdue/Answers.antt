@@ -1,4 +1,4 @@
-use Rattle.std.proofs.Common.{◌≡◌, ◌<◌, ◌-◌, ◌∙◌, length, slice_set, sym, ap, subst}
+use Rattle.std.proofs.Common.{◌<◌, ◌-◌, ◌∙◌, length, sym, ap, subst}
 use Rattle.std.proofs.lemmas.List.{length-set}
 use Rattle.sip_states.specs.AnySet.{start_of}
 use Rattle.sip_verdict.proofs.surveys.Hearing.{overdue_broken}

@@ -1,4 +1,4 @@
-use Rattle.std.proofs.Common.{All, false, true, [], sym, subst}
+use Rattle.std.proofs.Common.{All, [], sym, subst}
 use Rattle.std.proofs.lemmas.Bool.{false≢true}
 use Rattle.sip_states.specs.Tables.{IsGiven}
 use Rattle.sip_verdict.specs.declared.concerned.Concerned.TheVariants as concerned

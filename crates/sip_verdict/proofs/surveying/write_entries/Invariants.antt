@@ -1,4 +1,4 @@
-use Rattle.std.proofs.Common.{◌≡◌, ◌-◌, ◌++◌, [], Option, List, ℕ}
+use Rattle.std.proofs.Common.{◌≡◌, ◌-◌, [], Option, List, ℕ}
 use Rattle.sip_log.specs.Log.{most_entries}
 use Rattle.sip_log.specs.Reading.{beside_source}
 use Rattle.sip_verdict.specs.declared.finding.Finding.{Finding}

@@ -1,6 +1,6 @@
 use Rattle.std.proofs.Common.{◌≡◌, ◌≤◌, ◌-◌, ◌∙◌, [], None, Some, length, slice_get, slice_set, sym, ap, subst}
 use Rattle.std.proofs.lemmas.List.{length-set}
-use Rattle.indexmap.specs.IndexMap.{keys, values, with_value_at, index_map_len}
+use Rattle.indexmap.specs.IndexMap.{keys, values, index_map_len}
 use Rattle.indexmap.proofs.CallerLemmas.{keys-with_value_at, index_map_len-with_value_at}
 use Rattle.sip_states.specs.AnySet.{IsQuietSet}
 use Rattle.sip_states.specs.Sweep.{numbers_of}

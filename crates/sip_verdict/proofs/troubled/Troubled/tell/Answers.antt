@@ -1,4 +1,4 @@
-use Rattle.std.proofs.Common.{◌≡◌, ◌++◌, ◌∙◌, map, sym, ap, append_assoc}
+use Rattle.std.proofs.Common.{◌++◌, ◌∙◌, map, ap, append_assoc}
 use Rattle.sip_verdict.specs.declared.finding.Finding.TheVariants.{Breach, Undecided}
 use Rattle.sip_verdict.proofs.troubled.Troubled.tell.Goals as goal
 

@@ -38,3 +38,4 @@ pub mod Unique
 pub mod WalkingLemmas
 pub mod WalksLemmas
 pub mod VerdictLemmas
+pub mod surveys

@@ -9,6 +9,7 @@ pub mod Named
 pub mod Reading
 pub mod Rendering
 pub mod Showing
+pub mod SurveyLaws
 pub mod SurveyOf
 pub mod Surveys
 pub mod VerdictOf

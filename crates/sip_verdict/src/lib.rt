@@ -27,6 +27,7 @@ mod summary;
 mod survey_end;
 mod survey_error;
 mod surveying;
+mod survey_laws;
 mod sweeping;
 mod troubled;
 mod verdict;
@@ -54,4 +55,12 @@ pub use summary::Summary;
 pub use survey_end::SurveyEnd;
 pub use survey_error::SurveyError;
 pub use surveying::{survey, survey_bytes};
+pub use survey_laws::{
+    a_breach_stays, a_fault_is_found_where_its_message_stays, a_log_can_be_cut_by_branch,
+    a_log_may_be_cut, a_part_finds_what_the_whole_finds, a_survey_is_one,
+    a_survey_names_a_transaction_once, a_transaction_has_one_finding,
+    a_transaction_in_trouble_has_a_finding, a_transaction_that_is_idle_again_is_as_new,
+    an_input_has_a_survey, each_trouble_is_named, the_verdict_is_in_the_survey,
+    what_is_idle_again_can_be_forgotten, what_is_wide_does_not_break, what_stands_lasts,
+};
 pub use verdict::Verdict;

@@ -2,10 +2,13 @@
 entry of another one, and of each message that is malformed the log in which it is the only message."""
 import os
 import re
+import select
+import signal
 from collections import defaultdict
 
 from random_logs import SILENT, random_log
 
+PATIENCE = 60  # seconds for which a program may be silent
 CANCEL = re.compile(rb"(?<![\w-])CANCEL")
 
 
@@ -24,6 +27,8 @@ class Program:
         actions = [(os.POSIX_SPAWN_DUP2, self.file.fileno(), 0), (os.POSIX_SPAWN_DUP2, theirs, 1)]
         pid = os.posix_spawn(self.path, [self.path], os.environ, file_actions=actions)
         os.close(theirs)
+        if not select.select([ours], [], [], PATIENCE)[0]:
+            os.kill(pid, signal.SIGKILL)  # it says nothing
         with open(ours, "rb") as reader:
             text = reader.read().decode("latin-1")
         return text.splitlines(), os.waitstatus_to_exitcode(os.waitpid(pid, 0)[1])
@@ -64,7 +69,8 @@ class Expected:
             self.look(group)
 
     def verdict(self, log):
-        return self.judge.says(log.bytes())[0][0]
+        lines, status = self.judge.says(log.bytes())
+        return lines[0] if lines else f"nothing, status {status}"
 
     def look(self, group):
         """Asks the verdict of the log of a group."""

@@ -75,7 +75,7 @@ def measure(rate, counts):
             watch.stdin.flush()
             time.sleep(wait)
         watch.stdin.write(b"%.6f " % (begun + moment) + line)
-        if moment > (len(sizes) + 1) * SECONDS / 3:
+        if len(sizes) < 2 and moment > (len(sizes) + 1) * SECONDS / 3:
             sizes.append(memory(watch.pid))
     time.sleep(1)
     sizes.append(memory(watch.pid))

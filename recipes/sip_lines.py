@@ -136,7 +136,7 @@ def read_lines(file, idle=lambda: None):
             if rest and target == RESTART or not moment.is_finite():
                 raise ValueError
         except (ValueError, InvalidOperation):
-            die("line %d is not MOMENT FROM TO HEX" % number)
+            die("line %d is not MOMENT FROM TO HEX%s" % (number, ": why-no-log tells what a file is" if number == 1 else ""))
         yield number, moment, source, target, data, place
 
 

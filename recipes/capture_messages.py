@@ -40,6 +40,7 @@ class Reading:
             for number, moment, source, target, data, place in read_lines(tshark.stdout):
                 yield number, nanoseconds(moment), source, target, data, place, moment
             self.is_whole &= not tshark.wait()
+            self.notes = Notes()  # it told those of the whole capture
 
     def tshark(self, *words, **streams):
         """from-tshark, which prints the lines that come after those that were read here. It reads the file from its beginning."""

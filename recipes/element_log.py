@@ -227,7 +227,8 @@ def write(out, messages, start, making):
 
 
 def make(seen, element, out, making, told):
-    """Makes the log of an element of what was seen. Answers the number of its entries; `told` counts what is left out or moved."""
+    """Makes the log of an element of what was seen. Answers the number of its entries, and None where nothing was seen of it, unless that is a part; `told`
+    counts what is left out or moved."""
     messages = messages_of(element, seen, making.has_restarts, told)
     messages = in_order(of_part(messages, *making.part) if making.part else messages, making.out_of_order)
     messages = with_restarts(messages, making.restarts) if making.restarts else messages
@@ -235,7 +236,7 @@ def make(seen, element, out, making, told):
         messages = once_each(messages, making.once, told)
     first = next(messages, None)
     if first is None:
-        return 0
+        return write(out, (), making.start, making) if making.part else None
     start = first.moment if making.start is None else making.start
     if first.moment < start:
         die("a message came before --start")

@@ -12,8 +12,8 @@ from typing import NamedTuple, Optional
 from sip_lines import (MILLISECOND, MOST_BYTES, MOST_ENTRIES, RESTART, SECOND, Times, branch_of, code_of, cseq, die, entry, is_response, looks_like_sip, mark,
                        method_of, nanoseconds, part_of, read_lines, say, seconds_of)
 
-MOVED = "received messages moved behind a send that they crossed"
-PATIENCE = SECOND  # by which a message may stand behind a later one
+MOVED = "received messages moved after a send that they crossed"
+PATIENCE = SECOND  # by which a message may stand after a later one
 
 
 class Making(NamedTuple):
@@ -29,7 +29,7 @@ class Making(NamedTuple):
     skew: Optional[int] = None
     side: str = ""
     part: Optional[tuple] = None  # K of N: the messages of the branches of part K alone, of N
-    out_of_order: str = ""  # what is said where a message stands behind a later one by more than PATIENCE
+    out_of_order: str = ""  # what is said where a message stands after a later one by more than PATIENCE
 
 
 class Message(NamedTuple):
@@ -74,7 +74,7 @@ def messages_of(element, seen, has_restarts, told):
 
 def in_order(messages, out_of_order):
     """The messages by their moments; those with one moment stay as they came. Most stand in order and wait in a queue, and only the late ones
-    in a heap. Where one stands behind a later one by more than PATIENCE it ends with these words."""
+    in a heap. Where one stands after a later one by more than PATIENCE it ends with these words."""
     queue, heap, late = deque(), [], 0
     newest = given = patient = float("-inf")
     for message in messages:
@@ -142,7 +142,7 @@ def crossed(received, sent):
 
 
 def placed(number, message, later, skew):
-    """Where a message belongs: behind the last of those within `skew` and before a restart that it crossed, with that one's moment, or
+    """Where a message belongs: after the last of those within `skew` and before a restart that it crossed, with that one's moment, or
     where it stands."""
     place, moment, seconds = number, message.moment, message.seconds
     if message.letter == "R":
@@ -155,7 +155,7 @@ def placed(number, message, later, skew):
 
 
 def behind_what_crossed(messages, skew, told):
-    """Each received message behind the last send within `skew` that it crossed."""
+    """Each received message after the last send within `skew` that it crossed."""
     waiting, ready = deque(), []
 
     def settle():

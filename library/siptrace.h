@@ -2,7 +2,7 @@
 
    What the caller owes, which nothing checks: a pointer that is not NULL, not even for no bytes, to as many bytes as the length says, or to a struct
    that is as declared here; no two of one call overlap where one of them is written; and nobody writes what a call reads while it runs.
-   No call keeps a pointer behind its end but into what it took from malloc. Calls may run at once on threads of their own. They take memory by
+   No call keeps a pointer after its end but into what it took from malloc. Calls may run at once on threads of their own. They take memory by
    malloc and realloc, give it back by free, and do nothing else to the process: they read no file, write none and print nothing. */
 #ifndef SIPTRACE_H
 #define SIPTRACE_H

@@ -3,7 +3,7 @@
 
   bench/captures.py                           captures of 10,000, 100,000 and 1,000,000 messages, the last of 750 MB
   bench/captures.py 10000 50000               of so many messages
-  READERS='from-capture from-tshark' bench/captures.py 10000          by these readers, side by side
+  READERS='to-log from-capture from-tshark' bench/captures.py 10000   by these readers, side by side; to-log reads in its own process
   RECIPES=OTHER/recipes READERS=from-tshark bench/captures.py         by the recipes of another checkout
 
 SIPTRACE names another program than the one of ./siptrace. Files are written to a folder of TMPDIR, and removed.
@@ -66,9 +66,11 @@ sys.exit(ran.returncode)
 
 
 def measure(path, count, reader, program):
-    said, numbers = piped([[RECIPES / reader, path], [RECIPES / "to-log", "192.0.2.1:5060"], [program]])
+    making = [RECIPES / "to-log", "192.0.2.1:5060"]
+    said, numbers = piped([[*making, "--capture", path], [program]] if reader == "to-log" else [[RECIPES / reader, path], making, [program]])
     if said != "legal entries %d transactions %d" % (count, count // 5 * 2):
         sys.exit("%s: %s" % (reader, said))
+    numbers = [(0, 0)] * (reader == "to-log") + numbers
     times = [1e6 * time / count for time, _ in numbers]
     print("%9d  %-13s %7.1f %7.1f %7.1f %7.1f   %6.0f %6.0f %6.0f" % (count, reader, *times, sum(times), *(memory for _, memory in numbers)), flush=True)
 
@@ -83,7 +85,7 @@ def main():
         for count in counts:
             path = os.path.join(folder, "calls.pcap")
             write_capture(path, count)
-            for reader in os.environ.get("READERS", "from-capture").split():
+            for reader in os.environ.get("READERS", "to-log from-capture").split():
                 measure(path, count, reader, program)
 
 

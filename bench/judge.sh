@@ -3,12 +3,15 @@
 # are to be reached; and timed, beside what cat needs for the same file. With numbers, logs of about so many entries are timed; else of 10,000
 # and of 100,000. With the word growth some kinds are timed alone, of 10,000, 100,000 and 1,000,000 entries side by side. With the word shapes
 # hostile messages and wide transactions are counted instead: what a byte takes in a message of 4 KiB and in one of 64 KiB, which is about the
-# same where reading is linear, and what an entry takes by how many states there are and how much is owed.
-# SIPTRACE names another program than the one of ./siptrace. To measure on one processor, call it by taskset.
+# same where reading is linear, and what an entry takes by how many states there are and how much is owed. With the word survey a survey is
+# counted and timed beside a verdict.
+# SIPTRACE and SIPSURVEY name other programs than those of ./siptrace and ./sipsurvey. To measure on one processor, call it by taskset.
 set -e
 unset CDPATH
 if [ -n "$SIPTRACE" ]; then SIPTRACE=$(realpath -- "$SIPTRACE"); fi
+if [ -n "$SIPSURVEY" ]; then SIPSURVEY=$(realpath -- "$SIPSURVEY"); fi
 cd "$(dirname "$0")/.."
 if [ -z "$SIPTRACE" ]; then SIPTRACE=$PWD/built/$(./build); fi
+if [ "$1" = survey ]; then exec python3 -B bench/survey.py "$SIPTRACE" "${SIPSURVEY:-$PWD/built/$(./build sipsurvey)}"; fi
 if [ "$1" = shapes ]; then exec python3 -B bench/shapes.py "$SIPTRACE"; fi
 exec python3 bench/judge.py "$SIPTRACE" "$@"

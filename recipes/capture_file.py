@@ -1,8 +1,8 @@
 """The frames of a capture in the formats pcap and pcapng, packed by gzip or not, as they come.
 
-A frame is (number, moment, link, bytes, is_cut): its number as Wireshark counts, its moment in seconds with nine digits after the point, the type of
-its link (https://www.tcpdump.org/linktypes.html), what was captured of it, and whether that is less than was sent. No more than one piece of the
-file and one frame is kept. Every length is checked, and what is damaged or cut ends the frames with `Damaged`.
+A frame is (number, moment, link, data, begin, end, is_cut): its number as Wireshark counts, its moment in nanoseconds, the type of its link
+(https://www.tcpdump.org/linktypes.html), the bytes among which stand, from `begin` to `end`, those that were captured of it, and whether more were sent.
+No more than one piece of the file and one frame is kept. Every length is checked, and what is damaged or cut ends the frames with `Damaged`.
 """
 import gzip
 import io
@@ -10,15 +10,15 @@ import select
 import struct
 import zlib
 
-from sip_lines import die
+from sip_lines import SECOND, die
 
 PIECE = 1 << 20
 MOST_FRAME = 1 << 18  # the longest that tcpdump and Wireshark write
 MOST_BLOCK = 1 << 24
 MOST_INTERFACES = 1 << 16
-MICROSECOND, NANOSECOND = 10**6, 10**9
-PCAP = {b"\xd4\xc3\xb2\xa1": ("<", MICROSECOND), b"\xa1\xb2\xc3\xd4": (">", MICROSECOND),
-        b"\x4d\x3c\xb2\xa1": ("<", NANOSECOND), b"\xa1\xb2\x3c\x4d": (">", NANOSECOND)}
+MICROSECONDS, NANOSECONDS = 10**6, 10**9  # in a second
+PCAP = {b"\xd4\xc3\xb2\xa1": ("<", MICROSECONDS), b"\xa1\xb2\xc3\xd4": (">", MICROSECONDS),
+        b"\x4d\x3c\xb2\xa1": ("<", NANOSECONDS), b"\xa1\xb2\x3c\x4d": (">", NANOSECONDS)}
 PCAPNG = b"\x0a\x0d\x0d\x0a"
 LINK = 0x3FFFFFF  # the bits above it tell of frame check sequences
 SECTION, INTERFACE, OLD_PACKET, SIMPLE_PACKET, PACKET = 0x0A0D0D0A, 1, 2, 3, 6
@@ -93,17 +93,17 @@ class Pcap:
         window.at = 24
 
     def frames(self):
-        window, read, number, units = self.window, self.header.unpack_from, 0, self.units
-        moment_of, text = moments(units), b"%d.%06d000" if units == MICROSECOND else b"%d.%09d"
+        window, read, link, scale, number = self.window, self.header.unpack_from, self.link, SECOND // self.units, 0
         while window.has(16 + self.length_of_next(number)):
             data, at = window.data, window.at
-            while at + 16 <= len(data):
-                seconds, fraction, kept, length = read(data, at)
+            length = len(data)
+            while at + 16 <= length:
+                seconds, fraction, kept, sent = read(data, at)
                 begin, end = at + 16, at + 16 + kept
-                if end > len(data) or kept > MOST_FRAME:
+                if end > length or kept > MOST_FRAME:
                     break
                 number, window.at = number + 1, at
-                yield number, text % (seconds, fraction) if fraction < units else moment_of(seconds, fraction), self.link, data[begin:end], kept < length
+                yield number, seconds * SECOND + fraction * scale, link, data, begin, end, kept < sent
                 at = end
             window.at = at
         if window.has(1):
@@ -119,31 +119,23 @@ class Pcap:
         return kept
 
 
-def moments(units, offset=0):
-    """What makes a moment of seconds and a fraction in such units."""
-
-    def moment_of(seconds, fraction):
-        more, rest = divmod(fraction, units)
-        return b"%d.%09d" % (seconds + more + offset, rest * NANOSECOND // units)
-
-    return moment_of
-
-
 class Interface:
     """What a block of a pcapng says of an interface."""
 
     def __init__(self, order, block):
         self.link, = struct.unpack_from(order + "H", block, 8)
-        self.units, offset, at = MICROSECOND, 0, 16
+        self.units, self.offset, at = MICROSECONDS, 0, 16
         while at + 4 <= len(block) - 4:
             code, length = struct.unpack_from(order + "HH", block, at)
             value = block[at + 4:min(at + 4 + length, len(block) - 4)]
             if code == TIME_RESOLUTION and len(value) == 1:
                 self.units = 2 ** (value[0] & 0x7F) if value[0] & 0x80 else 10 ** value[0]
             elif code == TIME_OFFSET and len(value) == 8:
-                offset, = struct.unpack(order + "q", value)
+                self.offset, = struct.unpack(order + "q", value)
             at += 4 + length + -length % 4
-        self.moment_of = moments(self.units, offset)
+
+    def moment_of(self, ticks):
+        return ticks * SECOND // self.units + self.offset * SECOND
 
 
 class Pcapng:
@@ -205,8 +197,7 @@ class Pcapng:
         if index >= len(self.interfaces) or kept > length - 32:
             raise Damaged("packet %d names an interface or a length that is not there" % number)
         interface = self.interfaces[index]
-        seconds, fraction = divmod(high << 32 | low, interface.units)
-        return number, interface.moment_of(seconds, fraction), interface.link, data[at + 28:at + 28 + kept], kept < sent
+        return number, interface.moment_of(high << 32 | low), interface.link, data, at + 28, at + 28 + kept, kept < sent
 
 
 def format_of(window):

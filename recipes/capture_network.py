@@ -1,6 +1,6 @@
 """The UDP datagrams among a capture's frames: Ethernet with VLANs, Linux cooked, raw IP and loopback; IPv4 and IPv6; fragments put together.
 
-A datagram is (number, moment, ends, payload), with the number and the moment of the frame that made it whole. What tshark has to read (TCP with data,
+A datagram is (number, moment, ends, payload), with the number and the moment, in nanoseconds, of the frame that made it whole. What tshark has to read (TCP with data,
 tunnels, other links) ends the reading with `Unread`, or is counted and left out where there is no tshark. `notes` hears of what is missing.
 """
 import socket
@@ -21,20 +21,20 @@ TUNNEL_PORTS = (1701, 2152, 3544, 4789, 6081, 8472, 37008)  # L2TP, GTP, Teredo,
 HOP_BY_HOP, ROUTING, FRAGMENT, AUTHENTICATION, DESTINATION = 0, 43, 44, 51, 60
 EXTENSIONS = (HOP_BY_HOP, ROUTING, FRAGMENT, AUTHENTICATION, DESTINATION)
 UNREACHABLE = {ICMP: 3, ICMPV6: 1}
-PLAIN = struct.Struct(">BxHxxHBBxx12sH")  # IPv4 without options; of UDP the ports, with the addresses, and the length
 IPV4_HEADER = struct.Struct(">BxHHHBBxx4s4s")
 IPV6_HEADER = struct.Struct(">IHBB16s16s")
 UDP_HEADER = struct.Struct(">4sHxx")
 MOST_FLOWS, MOST_WAITING, MOST_DATAGRAM = 1 << 16, 1 << 10, 65_535
 
 
-class Ends(NamedTuple):
-    """Where a datagram came from and went to."""
-    address: str
-    source: str
-    target: str
-    words: bytes  # both, as in a line
-    is_tunnel: bool
+class Ends:
+    """Where datagrams came from and went to."""
+    __slots__ = "address", "source", "target", "words", "is_tunnel", "ttl"
+
+    def __init__(self, address, source, target, is_tunnel):
+        self.address, self.source, self.target, self.is_tunnel = address, source, target, is_tunnel
+        self.words = ("%s %s" % (source, target)).encode()  # as in a line
+        self.ttl = None  # with which a SIP message came between them last
 
 
 def ends_of(source, target, ports):
@@ -42,7 +42,7 @@ def ends_of(source, target, ports):
     numbers = struct.unpack(">HH", ports)
     address = socket.inet_ntop(family, source)
     names = "%s:%d" % (address, numbers[0]), "%s:%d" % (socket.inet_ntop(family, target), numbers[1])
-    return Ends(address, *names, " ".join(names).encode(), any(number in TUNNEL_PORTS for number in numbers))
+    return Ends(address, *names, any(number in TUNNEL_PORTS for number in numbers))
 
 
 class Packet(NamedTuple):
@@ -65,7 +65,7 @@ def carried(frame, kind_at, at):
 
 
 def on_ethernet(frame):
-    return (IPV4, 14) if frame[12:14] == b"\x08\x00" else carried(frame, 12, 14)
+    return carried(frame, 12, 14)
 
 
 def on_cooked(frame):
@@ -86,6 +86,19 @@ def on_raw(frame):
 
 
 LINKS = {0: on_loopback, 1: on_ethernet, 12: on_raw, 14: on_raw, 101: on_raw, 108: on_loopback, 113: on_cooked, 228: on_raw, 229: on_raw, 276: on_cooked_2}
+
+
+# How an ordinary frame begins, by the type of its link: the kind; of IPv4 without options its first byte, length, flags and offset, TTL and protocol, and
+# the addresses, with which stand the ports; and the length of UDP. Beside it the kind, and how far IPv4 begins within the frame.
+
+def ordinary(before, kind):
+    beginning = struct.Struct(">" + before + "BxHxxHBBxx12sH")
+    return beginning, kind, beginning.size - 26
+
+
+ORDINARY = {1: ordinary("12x2s", b"\x08\0"), 113: ordinary("14x2s", b"\x08\0"), 276: ordinary("2s18x", b"\x08\0"), 0: ordinary("4s", b"\2\0\0\0"),
+            12: ordinary("0s", b""), 101: ordinary("0s", b""), 228: ordinary("0s", b"")}
+NONE = ordinary("0s", None)  # of other links
 
 
 # Packets of IP.
@@ -195,28 +208,36 @@ class Datagrams:
 
     def among(self, frames):
         """The datagrams of these frames. The ordinary one is read at once, and all others step by step."""
-        sender, known, flows, number, moment = self.notes.sender, self.notes.known, self.flows, 0, None
+        flows, number, moment, last_link, beginning, ordinary_kind, offset = self.flows, 0, None, None, None, b"", 0
         try:
-            for number, moment, link, frame, is_cut in frames:
-                kind, at = LINKS[link](frame) if link in LINKS else self.other_link(link)
-                if kind == IPV4 and len(frame) >= at + PLAIN.size and not is_cut:
-                    first, total, fragment, ttl, protocol, key, length = PLAIN.unpack_from(frame, at)
-                    if first == 0x45 and protocol == UDP and not fragment & 0x3FFF and 8 < length <= total - 20 and at + total <= len(frame):
-                        ends, payload = flows.get(key) or self.flow(key, key[:4], key[4:8], key[8:]), frame[at + 28:at + 20 + length]
-                        if (ends.address, ttl) not in known:
-                            sender(ends.address, ttl, payload)
+            for number, moment, link, data, begin, end, is_cut in frames:
+                if link != last_link:
+                    last_link, (beginning, ordinary_kind, offset) = link, ORDINARY.get(link, NONE)
+                if end - begin >= beginning.size:
+                    kind, first, total, fragment, ttl, protocol, key, length = beginning.unpack_from(data, begin)
+                    at = begin + offset
+                    if (kind == ordinary_kind and first == 0x45 and protocol == UDP and not fragment & 0x3FFF and 8 < length <= total - 20 and at + total <= end
+                            and not is_cut):
+                        ends, payload = flows.get(key) or self.flow(key, key[:4], key[4:8], key[8:]), data[at + 28:at + 20 + length]
+                        if ttl != ends.ttl:
+                            self.hear_ttl(ends, ttl, payload)
                         if not ends.is_tunnel or self.is_no_tunnel(payload):
                             yield number, moment, ends, payload
                         continue
-                one = self.datagram(number, kind, frame, at, is_cut)
+                one = self.datagram(number, link, data[begin:end], is_cut)
                 if one:
                     yield number, moment, *one
         except Unread as unread:
             unread.read = number - 1 if unread.read is None else unread.read
             raise
         finally:
-            self.notes.last = moment and moment.decode()
+            self.notes.last = moment
         self.fragments.end()
+
+    def hear_ttl(self, ends, ttl, payload):
+        """Hears of another TTL between these ends than that of the message before."""
+        if self.notes.sender(ends.address, ttl, payload):
+            ends.ttl = ttl
 
     def other_link(self, link):
         self.needs_tshark("links of type %d" % link)
@@ -242,8 +263,9 @@ class Datagrams:
             self.needs_tshark("tunnels")
         return is_sip
 
-    def datagram(self, number, kind, frame, at, is_cut):
+    def datagram(self, number, link, frame, is_cut):
         """The ends and the payload of a frame of any kind. None where it is no datagram, or not yet a whole one."""
+        kind, at = LINKS[link](frame) if link in LINKS else self.other_link(link)
         packet = packet_in(kind, frame, at)
         if packet and packet.fragment:
             packet = self.fragments.take(packet)
@@ -269,7 +291,7 @@ class Datagrams:
         ends = self.flow(packet.source + packet.target + ports, packet.source, packet.target, ports)
         if not payload or ends.is_tunnel and not self.is_no_tunnel(payload):
             return None
-        self.notes.sender(ends.address, packet.ttl, payload)
+        self.hear_ttl(ends, packet.ttl, payload)
         return ends, payload
 
     def tcp(self, packet):

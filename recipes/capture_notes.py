@@ -2,7 +2,7 @@
 import json
 from collections import Counter
 
-from sip_lines import die, looks_like_sip, say
+from sip_lines import die, looks_like_sip, say, seconds_of
 
 BESIDE = {64, 128, 255}  # the TTLs with which systems send; a hop makes them less
 MOST_KEPT = 1 << 16  # senders whose TTLs are kept
@@ -21,13 +21,14 @@ WRONG_LENGTH = "UDP packets have a length that does not fit, and are left out"
 class Notes:
     def __init__(self):
         self.missing, self.refused, self.ttls, self.known = Counter(), 0, {}, set()
-        self.refusals, self.last = [], None
+        self.refusals, self.last = [], None  # the last packet's moment, in nanoseconds
 
     def sender(self, address, ttl, data):
-        """Hears with which TTL a payload came from an address."""
+        """Hears with which TTL a payload came from an address. Answers whether that is kept, which only that of a SIP message is."""
         if (address, ttl) not in self.known and looks_like_sip(data) and len(self.known) < MOST_KEPT:
             self.known.add((address, ttl))
             self.ttls.setdefault(address, set()).add(ttl)
+        return (address, ttl) in self.known
 
     def refusal(self, number, source, target, length):
         """Hears from packet `number` that a datagram between these ends, with so many bytes, was refused."""
@@ -53,13 +54,16 @@ class Notes:
                 say("%d %s" % (count, what))
         return not any(self.missing.values())
 
+    def as_data(self):
+        """All this as data for JSON."""
+        beside, far = self.beside()
+        return {"last": None if self.last is None else seconds_of(self.last), "beside": beside, "far": sorted(set(self.ttls) - set(beside)),
+                "refused": self.refused, "refusals": self.refusals, "missing": {what: count for what, count in self.missing.items() if count}}
+
     def write(self, name):
         """Writes all this as JSON."""
-        beside, far = self.beside()
-        told = {"last": self.last, "beside": beside, "far": sorted(set(self.ttls) - set(beside)), "refused": self.refused, "refusals": self.refusals,
-                "missing": {what: count for what, count in self.missing.items() if count}}
         try:
             with open(name, "w") as file:
-                json.dump(told, file)
+                json.dump(self.as_data(), file)
         except OSError as error:
             die("cannot write %s: %s" % (name, error.strerror), 4)

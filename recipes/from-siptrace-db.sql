@@ -4,7 +4,7 @@
 -- Adding 0.75 and cutting gives the second in both cases. For MySQL take these expressions (not tried), and
 -- print with `mysql -N -r`: concat(unix_timestamp(time_stamp), '.', lpad(time_us, 6, '0')), substring_index(fromip, ':', -2), hex(msg).
 -- A row that the database refused is missing (kamailio's log says `error storing trace`), and then the log is not complete: the schema of
--- some versions refuses requests without a tag in To. A send may stand behind the answer to it: ask with `to-log --skew 3`.
+-- some versions refuses requests without a tag in To. A send may stand after the answer to it: ask with `to-log --skew 3`.
 .mode list
 .headers off
 SELECT printf('%d.%06d', CAST((time_stamp - 2440587.5) * 86400 + 0.75 AS INTEGER), time_us)

@@ -1,7 +1,7 @@
 """The messages of a capture for a report: which elements there are, and the log of each.
 
-The lines of from-capture are kept in a file, from which `to-log` makes the log of each element. What is noticed on the way is told to the reader of
-the report: packets that were seen twice, a capture that began late, sends that were refused.
+The capture is read as often as its messages are wanted; where tshark has to read it, its lines are kept in a file. What is noticed on the way is told to
+the reader of the report: packets that were seen twice, a capture that began late, sends that were refused.
 """
 import json
 import os
@@ -13,25 +13,32 @@ from collections import Counter, deque
 from decimal import Decimal
 from typing import NamedTuple
 
-from sip_lines import Element, Log, die, entry, keys_of, lines_as_they_come, looks_like_sip, message_and_place, read_lines
+from capture_messages import Reading
+from element_log import make, seen_in_lines
+from sip_lines import MILLISECOND, Element, Log, die, entry, keys_of, looks_like_sip, nanoseconds
 
 HERE = os.path.dirname(os.path.realpath(__file__))
-TWICE = 0.001  # seconds within which a message with the same bytes and ends is a packet seen twice
+TWICE = MILLISECOND  # within which a message with the same bytes and ends is a packet seen twice
 MOST_TWICE = 0.05  # of all messages, from where on packets are taken to have been seen twice
 MOST_CALLS = 400  # messages of a call that are shown
+MOST_PARTS = 64  # into which the log of an element is cut
 
 
 class Seen(NamedTuple):
-    """A message of the capture."""
-    moment: Decimal
+    """A message of the capture. Its moment is in nanoseconds."""
+    moment: int
     source: str
     target: str
     data: bytes
     place: int
 
 
-def recipe(name, *words):
-    return [sys.executable, os.path.join(HERE, name), *words]
+class Flow:
+    """The messages from one end to another: how many there are, and the least of their moments."""
+    __slots__ = "count", "first"
+
+    def __init__(self, moment):
+        self.count, self.first = 0, moment
 
 
 def address_of(end):
@@ -39,52 +46,61 @@ def address_of(end):
 
 
 class Capture:
-    """A capture whose lines are in a file."""
+    """A capture whose messages are counted."""
 
     def __init__(self, name, folder, progress):
-        self.lines, notes = os.path.join(folder, "lines"), os.path.join(folder, "notes")
-        self.ends, self.pairs, self.count, self.others, self.twice = Counter(), set(), 0, 0, 0
-        self.recent, self.moments, self.sent, self.parts = set(), deque(), Counter(), {}
-        self.read(name, notes, progress)
-        self.notes = self.notes_of(notes)
+        self.name, self.lines, self.notes_file = name, "", os.path.join(folder, "notes")
+        reading = self.count_messages(Reading(name), progress)
+        if reading.unread is not None:
+            self.lines = os.path.join(folder, "lines")
+            self.read_by_tshark()
+            self.count_messages(None, progress)
+        self.damage, self.notes = reading.damage, reading.notes.as_data() if reading.unread is None else self.notes_of_tshark()
+        self.last = self.notes["last"] and nanoseconds(Decimal(self.notes["last"]))
+        self.ends, self.sent = Counter(), Counter()
+        for (source, target), flow in self.flows.items():
+            self.sent[source] += flow.count
+            self.ends[source] += flow.count
+            self.ends[target] += flow.count
 
-    def read(self, name, notes, progress):
-        """Has the capture read, and keeps the lines of SIP."""
-        reader = subprocess.Popen(recipe("from-capture", name, "--notes", notes), stdout=subprocess.PIPE, stderr=subprocess.PIPE)
-        with open(self.lines, "wb", buffering=1 << 20) as kept:
-            for line in lines_as_they_come(reader.stdout, lambda: None):
-                moment, source, target, rest = line.split(b" ", 3)
-                if looks_like_sip(message_and_place(rest)[0]):
-                    self.hear(float(moment), source.decode(), target.decode(), rest)
-                    kept.write(line + b"\n")
-                    progress(self.count)
-                else:
-                    self.others += 1
-        said = reader.stderr.read().decode(errors="replace")
-        if reader.wait() not in (0, 1):
-            die("the capture could not be read: %s" % said.strip(), reader.returncode)
+    def count_messages(self, reading, progress):
+        """Counts the messages of each flow, and those that were seen twice. Where a reading is given, only what it has before tshark."""
+        self.flows, self.count, self.twice = {}, 0, 0
+        flows, recent, moments = self.flows, set(), deque()
+        for _, moment, source, target, data, *_ in reading.messages(False) if reading else self.messages():
+            if not looks_like_sip(data):
+                continue
+            flow = flows.get((source, target)) or flows.setdefault((source, target), Flow(moment))
+            flow.count += 1
+            flow.first = min(flow.first, moment)
+            while moments and moment - moments[0][0] > TWICE:
+                recent.discard(moments.popleft()[1])
+            key = hash((source, target, data))
+            self.twice += key in recent
+            recent.add(key)
+            moments.append((moment, key))
+            self.count += 1
+            progress(self.count)
+        return reading
 
-    def hear(self, moment, source, target, rest):
-        """Counts a message, and whether it is one that was seen twice."""
-        self.count += 1
-        self.pairs.add((source, target))
-        self.sent[source] += 1
-        self.ends[source] += 1
-        self.ends[target] += 1
-        while self.moments and moment - self.moments[0][0] > TWICE:
-            self.recent.discard(self.moments.popleft()[1])
-        key = hash((source, target, rest.partition(b" ")[0]))
-        self.twice += key in self.recent
-        self.recent.add(key)
-        self.moments.append((moment, key))
+    def read_by_tshark(self):
+        """Has the capture read by from-capture, and keeps its lines."""
+        with open(self.lines, "wb") as lines:
+            ran = subprocess.run([sys.executable, os.path.join(HERE, "from-capture"), self.name, "--notes", self.notes_file], stdout=lines, stderr=subprocess.PIPE)
+        if ran.returncode not in (0, 1):
+            die("the capture could not be read: %s" % ran.stderr.decode(errors="replace").strip(), ran.returncode)
 
-    @staticmethod
-    def notes_of(name):
-        try:
-            with open(name) as file:
-                return json.load(file)
-        except OSError:
-            return {"last": None, "beside": [], "far": [], "refused": 0, "refusals": [], "missing": {}}
+    def notes_of_tshark(self):
+        with open(self.notes_file) as file:
+            return json.load(file)
+
+    def messages(self):
+        """What was seen (element_log.py)."""
+        if not self.lines:
+            yield from Reading(self.name).messages()
+            return
+        with open(self.lines, "rb") as file:
+            yield from seen_in_lines(file)
 
     def is_seen_twice(self):
         return self.twice > MOST_TWICE * self.count
@@ -92,7 +108,7 @@ class Capture:
     def elements(self):
         """The elements by how many messages they sent and received: an address, or each port of an address that speaks to itself. Then those
         that sent nothing."""
-        to_itself = {address_of(source) for source, target in self.pairs if address_of(source) == address_of(target)}
+        to_itself = {address_of(source) for source, target in self.flows if address_of(source) == address_of(target)}
         found, silent = Counter(), Counter()
         speaking = {address_of(end) for end in self.sent} | set(self.sent)
         for end, count in self.ends.items():
@@ -100,25 +116,9 @@ class Capture:
             (found if name in speaking else silent)[name] += count
         return found, silent
 
-    def part(self, names):
-        """Gives each of these elements a file with its own lines, so that no log is made from those of others."""
-        files = {name: open("%s-%d" % (self.lines, n), "wb", buffering=1 << 18) for n, name in enumerate(names)}
-        elements, owners = [(name, Element([name])) for name in names], {}
-        with open(self.lines, "rb") as lines:
-            for line in lines:
-                ends = tuple(line.split(b" ", 3)[1:3])
-                if ends not in owners:
-                    owners[ends] = [files[name] for name, element in elements if element.letters(*(end.decode() for end in ends))]
-                for file in owners[ends]:
-                    file.write(line)
-        for file in files.values():
-            file.close()
-        self.parts = {name: file.name for name, file in files.items()}
-
-    def messages(self):
-        with open(self.lines, "rb") as file:
-            for _, moment, source, target, data, place in read_lines(file):
-                yield Seen(moment, source, target, data, int(place))
+    def flows_of(self, element):
+        """How many entries each flow gives in the log of an element, and its first moment."""
+        return [(flow.count * len(element.letters(*ends)), flow.first) for ends, flow in self.flows.items() if element.letters(*ends)]
 
     def calls(self, names):
         """The messages of the calls with these Call-IDs, by Call-ID."""
@@ -126,29 +126,25 @@ class Capture:
         if not found:
             return found
         pattern = re.compile(rb"\n(?:Call-ID|i)[ \t]*:[ \t]*(%s)[ \t]*\r?\n" % b"|".join(map(re.escape, found)), re.I)
-        for one in self.messages():
-            of = pattern.search(one.data)
-            if of and of[1] in found and len(found[of[1]]) < MOST_CALLS:
-                found[of[1]].append(one)
+        for _, moment, source, target, data, place, _ in self.messages():
+            of = pattern.search(data)
+            if of and of[1] in found and len(found[of[1]]) < MOST_CALLS and looks_like_sip(data):
+                found[of[1]].append(Seen(moment, source, target, data, int(place)))
         return found
 
 
-def write_log(capture, name, path, options, told):
-    """Writes the log of an element, and its side file. Where the element took refusals by ICMP for errors, `told` hears of it."""
-    words = ["--side", path + ".side", *options]
-    if capture.notes["last"]:
-        words += ["--end", capture.notes["last"]]
-    if capture.is_seen_twice():
-        words += ["--once", "1"]
-    with open(capture.parts[name], "rb") as lines, open(path, "wb") as log:
-        ran = subprocess.run(recipe("to-log", name, *words), stdin=lines, stdout=log, stderr=subprocess.PIPE)
-    if ran.returncode:
-        die("no log of %s: %s" % (name, ran.stderr.decode(errors="replace").strip()), ran.returncode)
+def write_log(capture, name, path, making, told):
+    """Writes the log of an element, and its side file. Where the element took refusals by ICMP for errors, `told` hears of it. Answers the number of entries."""
+    making = making._replace(side=path + ".side", end=capture.last, once=MILLISECOND if capture.is_seen_twice() else None,
+                             out_of_order="a packet stands more than a second after a later one: put the capture in order first, as Wireshark's reordercap does")
+    with open(path, "wb", buffering=1 << 16) as log:
+        count = make(capture.messages(), Element([name]), log, making, Counter())
     refused = refused_sends(capture.notes["refusals"], path, Element([name]))
     if refused:
         with_letters(path, refused)
         told.append("%d sends were refused by ICMP, and the element sent nothing more in their transactions: they stand in its log as F, an error of its transport." %
                     len(refused))
+    return count
 
 
 def refused_sends(refusals, path, element):

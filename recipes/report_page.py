@@ -4,7 +4,7 @@ import html
 STYLE = """
 :root{--paper:#fff;--ink:#1b1f24;--soft:#57606a;--line:#d0d7de;--box:#f6f8fa;--bad:#b3001b;--badbox:#ffeef0;--must:#8a4b00;--mustbox:#ffd9a0;
 --may:#0a5a8a;--maybox:#cfe8fa;--good:#116329;color-scheme:light dark}
-@media(prefers-color-scheme:dark){:root{--paper:#0d1117;--ink:#e6edf3;--soft:#9aa4af;--line:#3a424b;--box:#161b22;--bad:#ff8a80;--badbox:#3a1214;
+@media screen and (prefers-color-scheme:dark){:root{--paper:#0d1117;--ink:#e6edf3;--soft:#9aa4af;--line:#3a424b;--box:#161b22;--bad:#ff8a80;--badbox:#3a1214;
 --must:#ffc680;--mustbox:#5a3a08;--may:#8fd0ff;--maybox:#11395a;--good:#7ee787}}
 *{box-sizing:border-box}
 body{margin:0 auto;padding:1rem;max-width:64rem;background:var(--paper);color:var(--ink);font:1rem/1.5 system-ui,"DejaVu Sans",sans-serif;overflow-wrap:anywhere}
@@ -23,7 +23,7 @@ svg .life{stroke:var(--soft);stroke-width:1.5}svg .own{stroke:var(--ink);stroke-
 svg .other{stroke:var(--soft);stroke-dasharray:2 4}svg .otherhead{fill:var(--soft)}svg .badline,svg .cross{stroke:var(--bad);stroke-width:2.4}svg .badhead{fill:var(--bad)}
 svg text.badtext{fill:var(--bad);font-weight:700}svg .must{fill:var(--mustbox);stroke:var(--must);stroke-width:1.5}
 svg .may{fill:var(--maybox);stroke:var(--may);stroke-width:1.5;stroke-dasharray:4 2}svg .dots{stroke:var(--line);stroke-dasharray:1 4}
-@media print{body{max-width:none;padding:0;font-size:10pt}section{break-before:page}figure,.say,tr,li{break-inside:avoid}a{color:inherit;text-decoration:none}pre{font-size:8pt}
+@media print{body{max-width:none;padding:0;font-size:10pt}.scroll{overflow:visible}td:first-child{white-space:normal}section{break-before:page}figure,.say,tr,li{break-inside:avoid}a{color:inherit;text-decoration:none}pre{font-size:8pt}
 svg{max-height:22cm;max-width:100%;width:auto}}
 """
 POLICY = "default-src 'none'; style-src 'unsafe-inline'; base-uri 'none'; form-action 'none'"

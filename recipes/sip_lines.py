@@ -16,6 +16,8 @@ from binascii import hexlify, unhexlify
 from decimal import Decimal, InvalidOperation
 from typing import NamedTuple
 
+from help_page import shown
+
 MOST_ENTRIES = 1_000_000
 MOST_BYTES = 65_535
 MOST_TOLERANCE = 10_000
@@ -25,7 +27,9 @@ SILENT = ("M", "Z")  # entries without a message
 RESTART = "restart"
 MOST_KNOWN = 1 << 16  # pairs of ends that are kept
 PIECE = 1 << 16  # bytes that are read or written at once
+SECOND, MILLISECOND = 10**9, 10**6  # in nanoseconds
 
+ORDINARY_START = re.compile(rb"(?:SIP/2\.0 [1-6]|[A-Z]+ [^\s]+ SIP/2\.0\r)[^\n]*\n")  # of most messages, which START_LINE takes too
 START_LINE = re.compile(rb"\A(?:SIP/\d[^\r\n]*|[^\s]+ [^\r\n]*SIP/\d+\.\d+[ \t]*)[\r\n]", re.I)
 LATER_START = re.compile(rb"\r\n(?=SIP/2\.0 \d{3} |[^\s]+ [^\s]+ SIP/2\.0\r\n)", re.I)
 LENGTH = re.compile(rb"\r\n(?:content-length|l)[ \t]*:[ \t]*(\d+)", re.I)
@@ -48,10 +52,10 @@ def say(text):
 
 
 def words_of(usage, page, are_right):
-    """The words behind the script's name, where they are right. Else it ends with its usage and its page: as its answer where they
+    """The words after the script's name, where they are right. Else it ends with its usage and its page: as its answer where they
     ask for help, and as an error where they are wrong."""
     words = sys.argv[1:]
-    text = "usage: %s %s\n\n%s" % (os.path.basename(sys.argv[0]), usage, page.rstrip("\n"))
+    text = "usage: %s %s\n\n%s" % (os.path.basename(sys.argv[0]), usage, shown(page))
     if words[:1] in (["-h"], ["--help"]):
         print(text, flush=True)
         sys.exit()
@@ -103,6 +107,18 @@ def lines_as_they_come(file, idle):
         yield b"".join(begun)
 
 
+def nanoseconds(seconds):
+    """A moment or a span of seconds in nanoseconds: a whole number, or a Decimal where it is finer."""
+    scaled = seconds * SECOND
+    whole = int(scaled)
+    return whole if whole == scaled else scaled
+
+
+def seconds_of(moment):
+    """A moment in nanoseconds as seconds with nine digits after the point."""
+    return "%d.%09d" % divmod(moment, SECOND)
+
+
 def write_line(out, moment, source, target, data, place):
     out.write(b"%s %s %s %s %d\n" % (moment.encode(), source.encode(), target.encode(), hexlify(data), place))
 
@@ -122,7 +138,7 @@ def read_lines(file, idle=lambda: None):
             if rest and target == RESTART or not moment.is_finite():
                 raise ValueError
         except (ValueError, InvalidOperation):
-            die("line %d is not MOMENT FROM TO HEX" % number)
+            die("line %d is not MOMENT FROM TO HEX%s" % (number, ": why-no-log tells what a file is" if number == 1 else ""))
         yield number, moment, source, target, data, place
 
 
@@ -157,9 +173,7 @@ class Element:
 
 def looks_like_sip(data):
     """Whether the first line is that of a SIP message of any version, well formed or not."""
-    if data.startswith(b"SIP/2.0 "):
-        return b"\n" in data or b"\r" in data
-    return START_LINE.match(data) is not None
+    return bool(ORDINARY_START.match(data) or START_LINE.match(data))
 
 
 def is_response(data):
@@ -350,20 +364,25 @@ class Log:
 def entry(letter, moment, data):
     if letter in SILENT:
         return b"%s %d\n" % (letter.encode(), moment)
-    return b"%s %d %d\n%s\n" % (letter.encode(), moment, len(data), data)
+    return b"".join((b"%s %d %d\n" % (letter.encode(), moment, len(data)), data, b"\n"))
 
 
 def mark(moment):
     return entry("M", moment, b"")
 
 
-def program():
-    """The program: the one that SIPTRACE names, else `siptrace` on the path, else ./siptrace of the checkout around the recipes."""
-    beside = os.path.join(os.path.dirname(os.path.realpath(__file__)), os.pardir, "siptrace")
-    found = os.environ.get("SIPTRACE") or shutil.which("siptrace") or (os.access(beside, os.X_OK) and os.path.realpath(beside))
+def program(name="siptrace"):
+    """A program: the one that SIPTRACE names (or SIPSURVEY), else the one on the path, else that of the checkout around the recipes."""
+    beside = os.path.join(os.path.dirname(os.path.realpath(__file__)), os.pardir, name)
+    found = os.environ.get(name.upper()) or shutil.which(name) or (os.path.isfile(beside) and os.access(beside, os.X_OK) and os.path.abspath(beside))
     if not found:
-        die("there is no siptrace: put it on the path, or name it in SIPTRACE", 70)
+        die("there is no %s: put it on the path, or name it in %s" % (name, name.upper()), 70)
     return found
+
+
+def surveyor():
+    """The program `sipsurvey`, which tells all that is in trouble in a log."""
+    return program("sipsurvey")
 
 
 def ask(*words, log=b""):

@@ -1,4 +1,4 @@
-/* Loaded before the C library, it has siptrace read and write in pieces, and fails one read or one write of standard output: that whose
+/* Loaded before the C library, it has siptrace and sipsurvey read and write in pieces, and fails one read or one write of standard output: that whose
    number, from 1 on, is in the environment as FAILED_READ or FAILED_WRITE. With INTERRUPTED each of them is interrupted so many times before
    it is done, and with REFUSED_RANDOM the system has no random bytes. Other programs read and write as ever. */
 #define _GNU_SOURCE
@@ -10,8 +10,10 @@
 
 enum { PIECE = 4096 };
 
-/* The script ./siptrace gives the program that name; on its own it is called siptrace-SOURCES-KIT. */
-static int is_siptrace(void) { return strncmp(program_invocation_short_name, "siptrace", strlen("siptrace")) == 0; }
+/* The scripts ./siptrace and ./sipsurvey give their program that name; on its own it is called siptrace-SOURCES-KIT or sipsurvey-SOURCES-KIT. */
+static int is_named(const char *name) { return strncmp(program_invocation_short_name, name, strlen(name)) == 0; }
+
+static int is_ours(void) { return is_named("siptrace") || is_named("sipsurvey"); }
 
 static int is_failed(const char *name, long call) {
   const char *failed = getenv(name);
@@ -36,19 +38,19 @@ static ssize_t fail(void) {
 
 ssize_t read(int file, void *bytes, size_t size) {
   static long call;
-  if (!is_siptrace()) return syscall(SYS_read, file, bytes, size);
+  if (!is_ours()) return syscall(SYS_read, file, bytes, size);
   if (is_interrupted()) return -1;
   return is_failed("FAILED_READ", ++call) ? fail() : syscall(SYS_read, file, bytes, piece(size));
 }
 
 ssize_t write(int file, const void *bytes, size_t size) {
   static long call;
-  if (!is_siptrace() || file != STDOUT_FILENO) return syscall(SYS_write, file, bytes, size);
+  if (!is_ours() || file != STDOUT_FILENO) return syscall(SYS_write, file, bytes, size);
   if (is_interrupted()) return -1;
   return is_failed("FAILED_WRITE", ++call) ? fail() : syscall(SYS_write, file, bytes, piece(size));
 }
 
 int getentropy(void *bytes, size_t size) {
-  if (is_siptrace() && getenv("REFUSED_RANDOM")) return (int)fail();
+  if (is_ours() && getenv("REFUSED_RANDOM")) return (int)fail();
   return syscall(SYS_getrandom, bytes, size, 0) == (long)size ? 0 : -1;
 }

@@ -1,4 +1,6 @@
-"""What tests/pairs and tests/rows share: the program, what it says of a log, the headings of docs/standard, and the count."""
+"""What tests/pairs, tests/rows and tests/surveys share: the programs, what is said of a log, the headings of docs/standard, and the count."""
+import importlib.machinery
+import importlib.util
 import os
 import re
 import subprocess
@@ -29,11 +31,19 @@ class Count:
         sys.exit(self.failed > 0 or self.passed == 0)
 
 
-def find_program():
-    """The program that SIPTRACE names, or the one that ./siptrace runs, which its first use builds."""
-    if "SIPTRACE" in os.environ:
-        return os.environ["SIPTRACE"]
-    return TOP / "built" / subprocess.run([TOP / "build"], stdout=subprocess.PIPE, text=True, check=True).stdout.strip()
+def find_program(name="siptrace"):
+    """The program that SIPTRACE, or SIPSURVEY, names, or the one that ./siptrace, or ./sipsurvey, runs, which its first use builds."""
+    if name.upper() in os.environ:
+        return os.environ[name.upper()]
+    return TOP / "built" / subprocess.run([TOP / "build", name], stdout=subprocess.PIPE, text=True, check=True).stdout.strip()
+
+
+def script(name):
+    """A script of tests/ as a module."""
+    loader = importlib.machinery.SourceFileLoader(name, f"{TOP}/tests/{name}")
+    module = importlib.util.module_from_spec(importlib.util.spec_from_loader(name, loader))
+    loader.exec_module(module)
+    return module
 
 
 def status_of(said):

@@ -2,7 +2,9 @@
 
 An edit is a file crates/NAME/edits/WHAT_IT_DOES.edit. It breaks the code in one place: a line `file: PATH`, and pairs of lines `old: TEXT` and
 `new: TEXT`, where each old text stands in the file once. A line `by: FUNCTION` names a function whose goal has to refuse it, and a line
-`seen by: ..` what turns where the program runs with it. What stands in crates/NAME/harmless/ changes a body and nothing that it does."""
+`seen by: ..` what turns where the program runs with it. What stands in crates/NAME/harmless/ changes a body and nothing that it does. What stands
+in crates/NAME/allowed/ is wrong and no contract refuses it, since it lies in the platform, or has no memory where a contract lets it have none: the
+prover is not asked, and a test alone sees it."""
 
 import os
 import re
@@ -13,7 +15,7 @@ import sys
 TOP = os.path.dirname(os.path.dirname(os.path.realpath(__file__)))
 PARTS = ("src", "specs", "proofs")
 FOLDERS = ("must-fail", "edits")
-HARMLESS = "harmless"
+HARMLESS, ALLOWED = "harmless", "allowed"
 
 
 def stop(why):
@@ -212,7 +214,7 @@ class Crate:
     def root(self):
         return "src/main.rt" if os.path.isfile(f"{self.folder}/src/main.rt") else "src/lib.rt"
 
-    def edits(self):
+    def edits(self, folders=(*FOLDERS, HARMLESS)):
         texts, types = {}, {}
         for at, _, files in os.walk(f"{self.folder}/src"):
             for name in sorted(files):
@@ -222,7 +224,7 @@ class Crate:
                     for it in re.finditer(r"(?m)^(?:pub(?:\([a-z]+\))? )?(?:struct|enum|trait) (\w+)", texts[path]):
                         types[it[1]] = module_of(path)
         found = [it for path, text in texts.items() for it in functions(path, text, types)]
-        folders = [f"{self.folder}/{it}" for it in (*FOLDERS, HARMLESS) if os.path.isdir(f"{self.folder}/{it}")]
+        folders = [f"{self.folder}/{it}" for it in folders if os.path.isdir(f"{self.folder}/{it}")]
         return [Edit(self, f"{at}/{name}", found) for at in folders for name in sorted(os.listdir(at)) if name.endswith(".edit")]
 
     def build(self):

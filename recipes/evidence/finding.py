@@ -46,6 +46,12 @@ def text_of_key(key):
     return b" ".join([role.encode(), branch, method, *([sent_by] if role == "server" else [])])
 
 
+def key_in(text):
+    """The key of such a text: role, branch, sent-by and method."""
+    role, branch, method, *sent_by = text.split(b" ")
+    return role.decode(), branch, b"".join(sent_by), method
+
+
 def mapped(name):
     try:
         with open(name, "rb") as file:
@@ -61,8 +67,9 @@ def sum_of_branch(branch):
 class Index:
     """Where each entry of a log begins, of which branch it is, and the keys in the order in which they first appear."""
 
-    def __init__(self, name):
-        self.times = Log(name).times
+    def __init__(self, name, malformed=frozenset()):
+        """`malformed` are the numbers of entries whose messages are: they concern no transaction."""
+        self.times, self.malformed = Log(name).times, malformed
         self.text = mapped(name)
         self.places, self.moments, self.branches, self.keys = array("Q"), array("Q"), array("q"), {}
         self.place = self.header_end()
@@ -77,8 +84,11 @@ class Index:
         text, size, place, keys = self.text, len(self.text), self.place, self.keys
         first, later, cseq_in = VIA_FIRST.match, VIA_LATER.match, CSEQ.search
         add_place, add_moment, add_branch = self.places.append, self.moments.append, self.branches.append
+        malformed = self.malformed
         for _ in range(min(most, MOST_ENTRIES - len(self.places))):
             found = first(text, place) or later(text, place)
+            if malformed and len(self.places) + 1 in malformed:
+                found = None
             if found:
                 letter, moment, length, method, host, port, branch = found.groups()
                 stop = found.end(3) + 1 + int(length)
@@ -121,7 +131,7 @@ class Index:
             return OF_ALL if letter == b"Z" else NO_BRANCH, moment, found.end() - 1
         stop = found.end() + int(length)
         data = self.text[found.end():stop]
-        keys = keys_or_none(letter.decode(), data)
+        keys = [] if len(self.places) + 1 in self.malformed else keys_or_none(letter.decode(), data)
         for key in keys:  # counted as the program does
             self.keys.setdefault(text_of_key(key), len(self.keys) + 1)
         return sum_of_branch(branch_of(data) or b"\n%d" % place), moment, stop
@@ -129,10 +139,7 @@ class Index:
     def key_of(self, number):
         """Role, branch, sent-by and method of the transaction with this number; None where there is none."""
         text = next(islice(self.keys, number - 1, None), None)
-        if text is None:
-            return None
-        role, branch, method, *sent_by = text.split(b" ")
-        return role.decode(), branch, b"".join(sent_by), method
+        return None if text is None else key_in(text)
 
     def number_of(self, key):
         return self.keys[text_of_key(key)]

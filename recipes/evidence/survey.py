@@ -1,29 +1,23 @@
-"""Each transaction of a log that is in trouble, and not the first alone.
-
-The log is cut by branch (recipes/README.md, `The rule`), and the program is asked about the parts, and then about single branches, again without
-what it has told.
-"""
-import os
-from array import array
+"""Each transaction of a log that is in trouble, and not the first alone: what `sipsurvey` says of the log, with the entries of each transaction."""
+import subprocess
+import tempfile
 from collections import defaultdict
-from concurrent.futures import ThreadPoolExecutor
 from itertools import islice
 from operator import le
 from typing import NamedTuple
 
-from sip_lines import call_id, cseq, die, first_line, is_response, keys_of, method_of, spelled_branch
+from sip_lines import call_id, cseq, die, first_line, is_response, method_of, spelled_branch, surveyor
 
 from .asking import Judge, log_of
 from .case import Case, mark
 from .faults import MOST_STATES
-from .finding import OF_ALL, Entry, Found, Index, keys_or_none
+from .finding import OF_ALL, Entry, Found, Index, key_in, keys_or_none, sum_of_branch
 from .kinds import kind_of
 from .messages import is_request, latin
 from .rules import fault_told
 from .sentences import of_breach, of_malformed, of_undecided
 
 FORMAT = 1
-PARTS = 64
 
 
 class Trouble(NamedTuple):
@@ -53,20 +47,47 @@ class Trouble(NamedTuple):
         return latin(call_id(self.first.data))
 
 
+def read_whole(index):
+    while index.read():
+        pass
+    return index
+
+
+class Surveying:
+    """`sipsurvey` on a log, beside whatever else is done with it."""
+
+    def __init__(self, name):
+        self.text = tempfile.TemporaryFile()
+        self.process = subprocess.Popen([surveyor(), name], stdout=self.text, stderr=subprocess.PIPE)
+
+    def findings(self):
+        """The words of each finding."""
+        said = self.process.communicate()[1].decode("latin-1").strip()
+        if said:
+            die(said, 4)
+        self.text.seek(0)
+        *lines, _ = self.text.read().decode("latin-1").splitlines()
+        return [line.split() for line in lines]
+
+
 class Survey:
     """A log that is looked through for all that is in trouble."""
 
     def __init__(self, name):
-        self.judge, self.index = Judge(), Index(name)
-        while self.index.read():
-            pass
+        survey = Surveying(name)
+        self.judge, self.index = Judge(), read_whole(Index(name))
         self.check_order()
-        self.ends = self.index.places[1:]
-        self.ends.append(self.index.place)
+        found = survey.findings()
+        self.malformed = {int(words[1]) for words in found if words[0] == "malformed"}
+        if self.malformed:
+            self.index = read_whole(Index(name, self.malformed))
         self.times, self.count = self.index.times, len(self.index.places)
         self.last = self.index.moments[-1] if self.count else 0
         self.restarts = [number for number, one in enumerate(self.index.branches, 1) if one == OF_ALL]
         self.branches = len(set(self.index.branches) - {0, OF_ALL})
+        self.found, keys = defaultdict(list), list(self.index.keys)  # by the sum of the branch
+        for words in found:
+            self.add(words, int(words[1]), keys)
 
     def check_order(self):
         """Ends where the log cannot be read to its end."""
@@ -77,42 +98,23 @@ class Survey:
         if fault is not None:
             die("entry %d cannot be read: see `siptrace check`" % fault, 2)
 
-    def text_of(self, numbers):
-        """The log of these entries, closed by a mark at the last moment of all."""
-        index = self.index
-        raw = [index.text[index.places[number - 1]:self.ends[number - 1]] for number in sorted([*numbers, *self.restarts])]
-        return b"".join([self.times.header(), *raw, b"M %d\n" % self.last])
-
-    def is_well(self, branches, by_branch):
-        numbers = [number for branch in branches for number in by_branch[branch]]
-        return self.judge.run(self.text_of(numbers))[0].startswith("legal")
+    def add(self, words, at, keys):
+        """Notes what was found at an entry, by its branch."""
+        if words[0] == "malformed":
+            first = self.index.entry(at)
+            branch = self.index.branches[at - 1]
+            self.found[branch].append(Trouble(words[0], at, (), first, int(words[4 if words[2] == "line" else 3])))
+        else:
+            key = key_in(keys[int(words[3]) - 1])
+            self.found[sum_of_branch(key[1])].append(Trouble(words[0], at, key, None))
 
     def troubled(self):
-        """The entries of each branch that is not legal, in the order of their first ones."""
-        parts = [array("Q") for _ in range(PARTS)]
+        """The entries of each branch in which something was found, in the order of their first ones."""
+        numbers = {branch: [] for branch in self.found}
         for number, branch in enumerate(self.index.branches, 1):
-            if branch not in (0, OF_ALL):
-                parts[(branch >> 2) % PARTS].append(number)
-        with ThreadPoolExecutor(os.cpu_count()) as pool:
-            are_well = list(pool.map(lambda part: Judge(self.judge.name).run(self.text_of(part))[0].startswith("legal"), filter(len, parts)))
-        found = [one for part, is_well in zip(filter(len, parts), are_well) if not is_well for one in self.troubled_of(part)]
-        return sorted(found, key=lambda entries: entries[0].number)
-
-    def troubled_of(self, part):
-        """The branches of a part that are not legal, found by halves."""
-        by_branch = defaultdict(list)
-        for number in part:
-            by_branch[self.index.branches[number - 1]].append(number)
-
-        def halved(branches):
-            if self.is_well(branches, by_branch):
-                return []
-            if len(branches) == 1:
-                return [self.entries_of(by_branch[branches[0]])]
-            half = len(branches) // 2
-            return halved(branches[:half]) + halved(branches[half:])
-
-        return halved(list(by_branch))
+            if branch in numbers:
+                numbers[branch].append(number)
+        return [self.entries_of(own) for own in sorted(numbers.values())]
 
     def entries_of(self, numbers):
         """The entries of a branch, with the restarts after its first one."""
@@ -122,44 +124,17 @@ class Survey:
         """The log of these entries of a branch, closed by a mark at a moment, or at the last one of all."""
         return log_of(self.times, [*(one[1:] for one in entries), mark(max(self.last if moment is None else moment, entries[-1].moment))])
 
-    def verdict(self, entries, moment):
-        return self.judge.verdict(self.log_of(entries, moment))
-
     def troubles(self, entries):
-        """The troubles of one branch, the first of each transaction. After a message that is malformed the branch is not judged."""
-        rest, end, fault = entries, self.last, None
-        while rest:
-            words = self.verdict(rest, end)
-            if words[0] == "legal":
-                break
-            place = int(words[1])
-            if words[0] == "malformed":  # what shows before it is told first
-                fault = rest[place - 1], words
-                rest, end = rest[:place - 1], self.index.moments[fault[0].number - 2] if fault[0].number > 1 else 0
-                continue
-            at, words = self.shows_at(rest, place, fault[0].number if fault else self.count + 1, words)
-            key = key_of_number(rest, int(words[3]))
-            yield Trouble(words[0], at, key, next(one for one in rest if one.data and key in keys_of(one.letter, one.data)))
-            rest = without(rest, key)
-        if fault:
-            yield Trouble("malformed", fault[0].number, (), fault[0], int(fault[1][4 if fault[1][2] == "line" else 3]))
+        """What was found in the entries of one branch, each transaction once."""
+        heard = self.heard(entries)
+        for trouble in self.found[self.index.branches[entries[0].number - 1]]:
+            if trouble.key:
+                trouble = trouble._replace(first=next(one for one in heard if one.data and trouble.key in keys_or_none(one.letter, one.data)))
+            yield trouble
 
-    def shows_at(self, rest, place, end, words):
-        """The first entry of the whole log, before entry `end`, at which the trouble shows that these words tell, and the verdict there. A silence may
-        show at an entry of another branch: it is found by halves."""
-        own = rest[place - 1].number if place <= len(rest) else end
-        before = rest[:place - 1]
-        if not before or words[0] != "breach":
-            return own, words
-
-        def shown(number):
-            return self.verdict(before, self.index.moments[number - 1])
-
-        low, high = before[-1].number + 1, own  # it shows at `high`, or that is `end`
-        while low < high:
-            middle = (low + high) // 2
-            low, high = (low, middle) if shown(middle)[0] == "breach" else (middle + 1, high)
-        return (low, shown(low)) if low < own else (own, words)
+    def heard(self, entries):
+        """These without the messages that are malformed, which concern no transaction."""
+        return [one for one in entries if one.number not in self.malformed]
 
     def evidence(self, trouble, entries):
         """Kind, size and sentence of a trouble."""
@@ -169,7 +144,7 @@ class Survey:
         number = self.index.number_of(trouble.key)
         if trouble.word == "undecided":
             return None, None, of_undecided({"entry": {"number": trouble.at}, "transaction": {"number": number}, "most_states": MOST_STATES})
-        case = Case(self.judge, Found(self.index, trouble.at, trouble.key, entries), trouble.at, number)
+        case = Case(self.judge, Found(self.index, trouble.at, trouble.key, self.heard(entries)), trouble.at, number)
         if not case.is_shown():
             return None, None, "Its transaction alone does not show the breach."
         facts = kind_of(case)

@@ -115,7 +115,7 @@ SERVER_3261 = "The INVITE server transaction without RFC 6026"
 TOLD_3261 = [
     (CLIENT_3261, "invite_client_3261", "invite_client_3261 = record invite_client { Receives = Receives }", "and so are the timers and all rows of the figure `invite_client_3261` but these of `Receives`:"),
     (CLIENT_3261, "Receives", "Receives p x k e y = corrected.Receives p x k e y", "The phases are those of the INVITE client above, of which it never enters accepted"),
-    (SERVER_3261, "InviteServer3261Phase", "Passed : InviteServer3261Phase In : InviteServerPhase → (again : Bool) → InviteServer3261Phase", "each with whether the INVITE **came again** behind a 2xx (`In`), and **passed**, the one behind a 2xx."),
+    (SERVER_3261, "InviteServer3261Phase", "Passed : InviteServer3261Phase In : InviteServerPhase → (again : Bool) → InviteServer3261Phase", "each with whether the INVITE **came again** after a 2xx (`In`), and **passed**, the one after a 2xx."),
     (SERVER_3261, "Within", "Within Row again y = (after : InviteServerPhase × Change) × Row after × (y ≡ (In after.0 again, after.1))", "in which what came again has done so (`Within`)"),
     (SERVER_3261, "Receives", "Receives p (In x again) k e y = Within (corrected.Receives p x k e) again y", "The rows of `Receives`, `Sends` and `Satisfies` in the figure `invite_server_3261` are those of the INVITE server"),
     (SERVER_3261, "Satisfies", "Satisfies x (Request method) e message = ⊥ Satisfies x (Response code) e message = ¬ (IsSuccess code) × (message ≡ e.text)", "A 2xx pays nothing, since none is owed."),

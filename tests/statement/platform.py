@@ -1,8 +1,15 @@
-"""The lines of crates/siptrace that are trusted, which docs/THEOREM.md lists."""
+"""The lines of the programs that are trusted, which docs/THEOREM.md lists: of the platform that std gives, and of each `main`."""
 
 import re
 
-HEADING = "## What is left trusted of the program itself\n"
+HEADING = "## What is left trusted of the programs themselves\n"
+# The files that have them, each with how its first such line begins. Their crates have no other file.
+FILES = {
+    "sip_platform/src/lib.rt": "pub use",
+    "sip_platform/src/platform.rt": "impl ",
+    "siptrace/src/main.rt": "fn main",
+    "sipsurvey/src/main.rt": "fn main",
+}
 
 
 def lines_of(file, first):
@@ -16,16 +23,30 @@ def lines_of(file, first):
             yield line
 
 
-def unlisted(repository, theorem):
-    """The lines of the platform and of `main` that the table does not list, and what it lists that is not there."""
+def listed_lines(theorem):
+    """The lines that the table lists, by file: those of a file stand after its name."""
     section = theorem.partition(HEADING)[2].partition("\n## ")[0]
-    listed = set(re.findall(r"`([^`]+)`", " ".join(re.findall(r"^\| (.*?) \|", section, re.M)))) - {"main.rt", "platform.rt"}
-    files = {file.path.name: file for file in repository.code if file.crate == "siptrace"}
-    if set(files) != {"main.rt", "platform.rt"}:
-        yield f"crates/siptrace/src has {sorted(files)}, and main.rt and platform.rt are listed"
-    stand = {line: name for name, first in [("platform.rt", "impl "), ("main.rt", "fn main")] for line in lines_of(files[name], first) if line != "fn main"}
-    for line in stand:
-        if line not in listed:
-            yield f"crates/siptrace/src/{stand[line]}: docs/THEOREM.md does not list {line}"
-    for line in sorted(listed - {*stand}):
-        yield f"crates/siptrace/src has no line {line}, which docs/THEOREM.md lists"
+    listed, file = {}, ""
+    for text in re.findall(r"`([^`]+)`", " ".join(re.findall(r"^\| (.*?) \|", section, re.M))):
+        if text.endswith(".rt"):
+            file = text
+        else:
+            listed.setdefault(file, set()).add(text)
+    return listed
+
+
+def unlisted(repository, theorem):
+    """The lines of the platform and of each `main` that the table does not list, and what it lists that is not there."""
+    crates = {name.partition("/")[0] for name in FILES}
+    files = {str(file.path): file for file in repository.code if file.crate in crates}
+    for name in sorted({*files} ^ {*FILES}):
+        yield f"crates/{name} is {'not listed' if name in files else 'listed, and is not there'}"
+    listed = listed_lines(theorem)
+    for name in sorted({*listed} - {*FILES}):
+        yield f"docs/THEOREM.md lists lines of {name or 'no file'}"
+    for name in sorted({*files} & {*FILES}):
+        stand = {line for line in lines_of(files[name], FILES[name]) if line != "fn main"}
+        for line in sorted(stand - listed.get(name, set())):
+            yield f"crates/{name}: docs/THEOREM.md does not list {line}"
+        for line in sorted(listed.get(name, set()) - stand):
+            yield f"crates/{name} has no line {line}, which docs/THEOREM.md lists"

@@ -187,11 +187,16 @@ LAWS = {
     "a law for its crate alone": law("sip_key", "pub fn keys_are_equal_by", "pub(crate) fn keys_are_equal_by", "the law keys_are_equal_by_their_parts is not public"),
     "a law without a clause": law("sip_log", "    ensures { (input : List ℕ)", "    requires { (input : List ℕ)", "stands among laws and is none"),
 }
-MAIN, PLATFORM = "crates/siptrace/src/main.rt", "crates/siptrace/src/platform.rt"
+MAIN, SURVEYOR, PLATFORM = "crates/siptrace/src/main.rt", "crates/sipsurvey/src/main.rt", "crates/sip_platform/src/platform.rt"
 LINES = {
     "a member of the platform": (at(PLATFORM, ("    type File = File;\n", "    type File = File;\n\n    fn moment(&self) -> u64 {\n        0\n    }\n")), "does not list fn moment"),
     "a file under another name": (at(PLATFORM, ("        File::open(&self.rt, path)\n", "        File::open(&self.rt, path).or_else(|_| File::open(&self.rt, \"other\"))\n")), "does not list File::open(&self.rt, path).or_else"),
     "a line of main": (at(MAIN, ("    ExitCode::from(status)\n", "    let status = status.min(4);\n    ExitCode::from(status)\n")), "does not list let status = status.min(4);"),
     "another program": (at(MAIN, ("program(rt.alloc(), &mut system, &mut output, &mut errors)", "program(rt.alloc(), &mut system, &mut errors, &mut errors)")), "does not list program(rt.alloc(), &mut system, &mut errors"),
+    "a line of the other main": (at(SURVEYOR, ("    let input = rt.stdin();\n", "    let input = rt.stdin().take(1_000_000);\n")), "crates/sipsurvey/src/main.rt: docs/THEOREM.md does not list let input = rt.stdin().take(1_000_000);"),
+    "a line of one main in the other": (
+        at(SURVEYOR, ("    ExitCode::from(program(", "    let status = program(rt.alloc(), &mut system, &mut output, &mut errors);\n    ExitCode::from(status)\n    ExitCode::from(program(")),
+        "crates/sipsurvey/src/main.rt: docs/THEOREM.md does not list ExitCode::from(status)"),
+    "another platform": (at("crates/sip_platform/src/lib.rt", ("pub use platform::StdPlatform;", "pub use other::StdPlatform;")), "does not list pub use other::StdPlatform;"),
 }
 ALL = {**DEFINITIONS, **TYPES, **TABLES, **LAWS, **LINES}

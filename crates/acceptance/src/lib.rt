@@ -29,6 +29,8 @@ mod sources;
 #[cfg(test)]
 mod streams;
 #[cfg(test)]
+mod surveys;
+#[cfg(test)]
 mod verdicts;
 #[cfg(test)]
 mod wants;

@@ -8,7 +8,7 @@ use std::process::Abort;
 use std::test::Fail;
 
 /// The path of the file, with a blank at its end.
-const PATH: &str = "a log ";
+pub(crate) const PATH: &str = "a log ";
 
 /// A request, in 199 bytes.
 const REQUEST: &str =
@@ -25,7 +25,7 @@ const HEADER: &str = "sip-trace 1\nt1 500 t2 4000 t4 5000 tolerance 50\n";
 const USAGE: &str = "siptrace: usage: siptrace [check FILE | show FILE | states FILE ENTRY]\n";
 
 /// The log of a client that registers, repeats its request after T1 and has its response.
-fn registered(alloc: Global) -> Result<String, AllocError> {
+pub(crate) fn registered(alloc: Global) -> Result<String, AllocError> {
     [
         HEADER,
         "S 0 199\n",
@@ -40,12 +40,16 @@ fn registered(alloc: Global) -> Result<String, AllocError> {
 }
 
 /// The log of a client that repeats its request too early.
-fn hasty(alloc: Global) -> Result<String, AllocError> {
+pub(crate) fn hasty(alloc: Global) -> Result<String, AllocError> {
     [HEADER, "S 0 199\n", REQUEST, "\nS 449 199\n", REQUEST, "\n"].concat(alloc)
 }
 
 /// A platform that gives the program's name and these words, and has these bytes at the path.
-fn desk<'a>(alloc: Global, words: &[&str], bytes: &'a str) -> Result<Desk<'a>, AllocError> {
+pub(crate) fn desk<'a>(
+    alloc: Global,
+    words: &[&str],
+    bytes: &'a str,
+) -> Result<Desk<'a>, AllocError> {
     let mut given = vec![in alloc; String::from_str(alloc, "siptrace")?]?;
     for word in words {
         given.push(String::from_str(alloc, word)?)?;

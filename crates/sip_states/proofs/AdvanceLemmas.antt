@@ -24,7 +24,7 @@ use Rattle.sip_states.proofs.NamesLemmas.{Contains-flat_map, Contains-from_flat_
 use Rattle.sip_states.proofs.ByMachine.{start_silent, start_is_quiet}
 
 -- the element at a place, where another was put at one
-set_place : {A : Type 0} (xs : List A) (i n : ℕ) (a x : A) → slice_get (slice_set xs i a) n ≡ Some x → ((n ≡ i) × (a ≡ x)) ⊎ ((n ≢ i) × (slice_get xs n ≡ Some x))
+pub set_place : {A : Type 0} (xs : List A) (i n : ℕ) (a x : A) → slice_get (slice_set xs i a) n ≡ Some x → ((n ≡ i) × (a ≡ x)) ⊎ ((n ≢ i) × (slice_get xs n ≡ Some x))
 set_place [] i n a x at = absurd cc
 set_place (u ∷ xs) zero zero a x at = inl (refl, cc)
 set_place (u ∷ xs) zero (suc n) a x at = inr (λ same. omega (arith, same), at)

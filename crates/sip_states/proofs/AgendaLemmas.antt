@@ -1,6 +1,9 @@
-use Rattle.std.proofs.Common.{◌≡◌, ◌≤◌, ◌<◌, ℕ, Bool, true, false, cond, ◌==◌, ◌&&◌, List, [], ◌∷◌, length, Option, Some, None, position, slice_get, get_or, refl, sym, ap, subst, ◌∙◌, true≢false, arith, ◌⊎◌, inl, inr}
+use Rattle.std.proofs.Common.{◌≡◌, ◌↔◌, ◌≤◌, ◌<◌, ℕ, Bool, true, false, cond, ◌==◌, ◌&&◌, List, [], ◌∷◌, length, Option, Some, None, IfSome, position, slice_get, get_or, refl, sym, ap, subst, ◌∙◌, true≢false, arith, ◌⊎◌, inl, inr}
+use Rattle.std.proofs.lemmas.Grind.{common_steps}
 use Rattle.std.proofs.lemmas.List.Quantifiers.{position-Some}
-use Rattle.std.proofs.lemmas.Option.{slice_get-get_or}
+use Rattle.std.proofs.lemmas.List.Sums.{fails_before_first}
+use Rattle.std.specs.List.{position_or_len}
+use Rattle.std.proofs.lemmas.Option.{slice_get-get_or, slice_get_within, get_or_from_slice_get}
 use Rattle.std.proofs.lemmas.Bool.Decides.{nat_tests}
 use Rattle.std.specs.Bool.{Decides}
 use Rattle.std.specs.Ordering.{nat_cmp, ordering_then, is_eq, is_gt, MatchOrdering}
@@ -83,3 +86,30 @@ no_line order line none has = by order.keys none has
     by : (ks : List (ℕ × ℕ)) → (0 < length ks → ⊥) → list_any (λ k. is_eq (line_cmp line k)) ks ≡ true → ⊥
     by [] h e = true≢false (sym e)
     by (k ∷ ks) h e = h (omega arith)
+
+-- where no record is below the moment, no line is
+pub not_below : (records : Records) (order : BTreeSet (ℕ × ℕ)) (moment : ℕ) → IsInOrder records order → position (is_overdue moment) records ≡ None
+    → (line : ℕ × ℕ) → HasLine order line → moment ≤ line.0
+not_below records order moment ordered none line has =
+    let at : slice_get records line.1 ≡ Some (Some (Some line.0)) = (ordered line).0 has in
+    let within = slice_get_within records line.1 (Some (Some line.0)) at in
+    let past : length records ≤ position_or_len (is_overdue moment) records = grind (arith, common_steps) in
+    let passed = fails_before_first (is_overdue moment) records line.1 None (omega (arith, within, past)) in
+    let kept = get_or_from_slice_get records line.1 (Some (Some line.0)) None at in
+    let late : is_overdue moment (Some (Some line.0)) ≡ false = ap (is_overdue moment) (sym kept) ∙ passed in
+    grind (arith, nat_tests, late)
+
+-- where the order has no line, nothing is overdue ever
+pub earliest_none : (records : Records) (order : BTreeSet (ℕ × ℕ)) (moment : ℕ) → IsInOrder records order → ((line : ℕ × ℕ) → HasLine order line → ⊥)
+    → (r : Option ℕ) → r ≡ None → (position (is_overdue moment) records ≡ None) ↔ IfSome r (λ last. moment ≤ last)
+earliest_none records order moment ordered empty r is =
+    subst (λ s. (position (is_overdue moment) records ≡ None) ↔ IfSome s (λ last. moment ≤ last)) (sym is)
+    (λ none. tt, λ h. nothing_due records order moment ordered (λ line has. absurd (empty line has)))
+
+-- where it has a first one, nothing is overdue up to the last moment of that
+pub earliest_some : (records : Records) (order : BTreeSet (ℕ × ℕ)) (moment : ℕ) → IsInOrder records order → (first : ℕ × ℕ) → HasLine order first
+    → ((line : ℕ × ℕ) → HasLine order line → first.0 ≤ line.0) → (position (is_overdue moment) records ≡ None) ↔ (moment ≤ first.0)
+earliest_some records order moment ordered first member least = (
+  λ none. not_below records order moment ordered none first member,
+  λ low. nothing_due records order moment ordered (λ line has. (let h = least line has in omega (arith, low, h))),
+)

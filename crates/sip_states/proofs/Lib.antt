@@ -10,6 +10,7 @@ pub mod Reaching
 pub mod RunLemmas
 pub mod StandsLemmas
 pub mod Stepping
+pub mod StartLemmas
 pub mod TablesLemmas
 pub mod Taking
 pub mod Twice

@@ -57,6 +57,13 @@ pub record Settles (number : ℕ) (old new : Tabled) : Type 0 where
   pub agenda : IsAgendaOf limit set
   pub recorded : new ≡ with_record old number limit
 
+-- the key with this number has the set with which it came, which can wait for ever
+pub record StartsAnew (number : ℕ) (old new : Tabled) : Type 0 where
+  pub key : KeyParts
+  pub at : slice_get old.keys (number - 1) ≡ Some key
+  pub endless : IsAgendaOf None (start_of old.times key)
+  pub begun : new ≡ with_record (with_set old number (start_of old.times key)) number None
+
 -- the least number whose last moment on record is below the moment
 abbrev pub due_of : Tabled → ℕ → Option ℕ
 due_of t moment = option_map (λ index. index + 1) (position (is_overdue moment) t.records)

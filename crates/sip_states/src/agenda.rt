@@ -1,5 +1,5 @@
 //! The last moments on record, by index.
-ghost use Rattle.std.specs.Prelude.{◌≡◌, ◌<◌, ◌++◌, ◌∷◌, [], None, IfSome, OnErr, OnOk, Some, length, position, slice_set};
+ghost use Rattle.std.specs.Prelude.{◌≡◌, ◌<◌, ◌++◌, ◌∷◌, [], IfNone, IfSome, None, OnErr, OnOk, Some, length, position, slice_index_or, slice_set, true, ◌≤◌, ◌↔◌, ℕ};
 ghost use Rattle.std.specs.BTreeSet.{IsUnchanged};
 ghost use Rattle.sip_states.specs.Agenda.{Records, is_overdue};
 ghost use Rattle.sip_states.specs.inner.Lines.{Enters, Leaves};
@@ -115,5 +115,25 @@ impl Agenda {
         self.records
             .iter()
             .position(|kept| is_overdue(*kept, moment))
+    }
+
+    /// An index whose last moment on record is below the moment: one with the earliest. It looks no further than that one.
+    pub(crate) fn overdue(&self, moment: u64) -> Option<usize>
+        ensures some { IfSome result (λ index. (index < length self.now) × (is_overdue moment (slice_index_or self.now index None) ≡ true)) }
+        ensures none { IfNone result (position (is_overdue moment) self.now ≡ None) }
+    {
+        let (last, index) = *self.order.first()?;
+        if last >= moment {
+            return None;
+        }
+        Some(index)
+    }
+
+    /// The earliest last moment on record, and None where none is.
+    pub(crate) fn earliest(&self) -> Option<u64>
+        ensures { (moment : ℕ) → (position (is_overdue moment) self.now ≡ None) ↔ IfSome result (λ last. moment ≤ last) }
+    {
+        let (last, _) = *self.order.first()?;
+        Some(last)
     }
 }

@@ -13,6 +13,7 @@ mod tables;
 mod told;
 
 pub use any_set::AnySet;
+pub use each_once::keep_ascending;
 pub use laws::{
     a_run_by_rules_stands, a_run_holds_one_over_fewer_events, a_second_restart_changes_nothing,
     a_server_sends_when_it_was_asked, an_invite_is_sent_again_after_t1,

@@ -1,13 +1,14 @@
 //! The states of every transaction, by key.
-ghost use Rattle.std.specs.Prelude.{◌≡◌, ◌≢◌, ◌<◌, ◌≤◌, ◌+◌, ◌++◌, ◌-◌, ◌∷◌, [], All, AllPairs, length, slice_get, ℕ, IfOk, OnErr, OnOk, Some};
+ghost use Rattle.std.specs.Prelude.{◌≡◌, ◌≢◌, ◌<◌, ◌≤◌, ◌+◌, ◌++◌, ◌-◌, ◌∷◌, [], All, AllPairs, length, slice_get, slice_index_or, ℕ, IfNone, IfOk, IfSome, None, OnErr, OnOk, Some, true, ◌↔◌};
 ghost use Rattle.std.specs.Borrow.{sem};
-ghost use Rattle.indexmap.specs.IndexMap.{keys, values, index_map_len};
+ghost use Rattle.indexmap.specs.IndexMap.{keys, values, index_map_len, with_value_at};
+ghost use Rattle.sip_states.specs.Agenda.{is_overdue};
 ghost use Rattle.sip_states.specs.AnySet.{moment_of};
 ghost use Rattle.sip_states.specs.Sweep.{AdvancesAll, AdvancesSome, AppendsNamed};
 ghost use Rattle.sip_states.specs.inner.Advance.{AdvancesAt, AdvancesSomeAt};
 ghost use Rattle.sip_states.specs.inner.Marks.{AreMarked, AreMoved, IsMarked};
 ghost use Rattle.sip_states.specs.Restarting.{AreToRestart};
-ghost use Rattle.sip_states.specs.Tables.{IsGiven, HasState, Settles, Touches, due_of, most_keys, with_key};
+ghost use Rattle.sip_states.specs.Tables.{IsGiven, HasState, Settles, StartsAnew, Touches, due_of, most_keys, with_key};
 
 use crate::agenda::Agenda;
 use crate::any_set::AnySet;
@@ -88,6 +89,14 @@ fn trim_at<H: BuildHasher>(sets: &mut IndexMap<Key, AnySet, H>, index: usize)
     ensures { sets.new ≡ sets.old }
 {
     sets[index].trim();
+}
+
+/// Puts a set into the place of the one at the index, which is dropped.
+fn put_at<H: BuildHasher>(sets: &mut IndexMap<Key, AnySet, H>, index: usize, set: AnySet)
+    requires { index < index_map_len sets.old }
+    ensures { sets.new ≡ with_value_at sets.old index set }
+{
+    sets[index] = set;
 }
 
 /// Takes the marks off those sets that name no message, and gives back what room they do not need. On an error some are still
@@ -243,6 +252,29 @@ impl<H: BuildHasher> Tables<H> {
         self.agenda.due(moment).map(|index| index as u32 + 1)
     }
 
+    /// A number whose last moment on record is below the moment, in milliseconds: one with the earliest. It looks no further than
+    /// that one.
+    pub fn overdue(&self, moment: u64) -> Option<u32>
+        ensures some { IfSome result (λ number. IsGiven self.now number × (is_overdue moment (slice_index_or self.now.records (number - 1) None) ≡ true)) }
+        ensures none { IfNone result (due_of self.now moment ≡ None) }
+    {
+        self.agenda.overdue(moment).map(|index| index as u32 + 1)
+    }
+
+    /// The key with this number starts anew: it has the set with which it came, and no last moment is on record. The states that
+    /// it had are dropped. On an error nothing changes.
+    pub fn restart_key(&mut self, number: u32) -> Result<(), AllocError>
+        requires { IsGiven self.old number }
+        ensures ok { OnOk result (StartsAnew number self.old self.new) }
+        ensures err { OnErr result (self.new ≡ self.old) }
+    {
+        let index = number as usize - 1;
+        let set = AnySet::start(*self.sets.allocator(), self.params, self.key(number))?;
+        self.agenda.set(index, None)?;
+        put_at(&mut self.sets, index, set);
+        Ok(())
+    }
+
     /// Lets the sets wait until the moment, in milliseconds; one that names no message may stay as it is. On an error some
     /// have waited, and the others are as before.
     pub fn advance_all(&mut self, moment: u64) -> Result<(), AllocError>
@@ -309,5 +341,12 @@ impl<H: BuildHasher> Tables<H> {
         ensures records { length self.now.records ≡ length self.now.keys }
     {
         let _ = self.sets.len();
+    }
+
+    /// The earliest last moment on record, in milliseconds, and None where none is: nothing is overdue up to it.
+    pub fn earliest(&self) -> Option<u64>
+        ensures { (moment : ℕ) → (due_of self.now moment ≡ None) ↔ IfSome result (λ last. moment ≤ last) }
+    {
+        self.agenda.earliest()
     }
 }

@@ -33,14 +33,14 @@ module _ {K : Type 0} where
       omega arith
 
   -- nor is it before any of them
-  newest-to : (last : ℕ) (front more : List (Observation K)) → AllPairs IsNotBehind (front ++ more) → All (IsTo (newest last front)) front
+  pub newest-to : (last : ℕ) (front more : List (Observation K)) → AllPairs IsNotBehind (front ++ more) → All (IsTo (newest last front)) front
   newest-to last [] more order = All-nil (IsTo last)
   newest-to last (e ∷ front) more order =
       let rest = AllPairs-tail IsNotBehind e (front ++ more) order in
       All-cons (IsTo (newest e.event.moment front)) e front (newest-from e.event.moment front more (AllPairs-head IsNotBehind e (front ++ more) order) rest) (newest-to e.event.moment front more rest)
 
   -- nor behind any of the others
-  newest-before : (last : ℕ) (front more : List (Observation K)) → All (IsFrom last) (front ++ more) → AllPairs IsNotBehind (front ++ more) → All (IsFrom (newest last front)) more
+  pub newest-before : (last : ℕ) (front more : List (Observation K)) → All (IsFrom last) (front ++ more) → AllPairs IsNotBehind (front ++ more) → All (IsFrom (newest last front)) more
   newest-before last [] more from order = from
   newest-before last (e ∷ front) more from order =
       newest-before e.event.moment front more (AllPairs-head IsNotBehind e (front ++ more) order) (AllPairs-tail IsNotBehind e (front ++ more) order)
@@ -57,10 +57,10 @@ module _ {K : Type 0} where
 
 module _ {K : Type 0} (m : Machines K) (key : K) where
   -- what holds of entries holds of their events
-  events-all : (P : MachineEvent → Type 0) (es : List (Observation K)) → All (λ e. P e.event) es → All P (events_of m key es)
+  pub events-all : (P : MachineEvent → Type 0) (es : List (Observation K)) → All (λ e. P e.event) es → All P (events_of m key es)
   events-all P es all = All-map P (λ e. e.event) (filter (concerns m key) es) (All-filter (concerns m key) (λ e. P e.event) es all)
 
-  events-append : (front more : List (Observation K)) → events_of m key (front ++ more) ≡ events_of m key front ++ events_of m key more
+  pub events-append : (front more : List (Observation K)) → events_of m key (front ++ more) ≡ events_of m key front ++ events_of m key more
   events-append front more = ap (map (λ e. e.event)) (filter-append (concerns m key) front more) ∙ map-append (λ e. e.event) (filter (concerns m key) front) (filter (concerns m key) more)
 
   pub fewer-entries : (front more : List (Observation K)) → AllPairs (λ a b. a.event.moment ≤ b.event.moment) (front ++ more) → HasRun m key (front ++ more) → HasRun m key front

@@ -37,17 +37,17 @@ use Rattle.sip_verdict.proofs.Stepped.{own_passed, other_passed, run_still}
 use Rattle.sip_verdict.proofs.TablesPassing.{at_place, All-place, All-places, zip-place, place-zip, set-place, keys_are, among_not, among_first, among_rest, first_apart, leaves_keys, leaves_sets, heard_given}
 
 -- where no index passes, no element does
-All-position_None : {X : Type 0} (p : X → Bool) (xs : List X) → position p xs ≡ None → All (λ x. ¬ (IsTrue (p x))) xs
+pub All-position_None : {X : Type 0} (p : X → Bool) (xs : List X) → position p xs ≡ None → All (λ x. ¬ (IsTrue (p x))) xs
 All-position_None p xs e k d low passes =
     let none : length xs ≤ position_or_len p xs = grind (arith, common_steps) in
     false≢true (sym (fails_before_first p xs k d (omega arith)) ∙ passes)
 
 -- where all elements differ, those behind the first do
-AllPairs-tail : (n : ℕ) (ns : List ℕ) → AllPairs (λ a b. a ≢ b) (n ∷ ns) → AllPairs (λ a b. a ≢ b) ns
+pub AllPairs-tail : (n : ℕ) (ns : List ℕ) → AllPairs (λ a b. a ≢ b) (n ∷ ns) → AllPairs (λ a b. a ≢ b) ns
 AllPairs-tail n ns apart i j d less low = apart (suc i) (suc j) d (omega arith) (omega arith)
 
 -- a test that is not true is false
-not_passing : (b : Bool) → ¬ (b ≡ true) → b ≡ false
+pub not_passing : (b : Bool) → ¬ (b ≡ true) → b ≡ false
 not_passing true h = absurd (h refl)
 not_passing false h = refl
 

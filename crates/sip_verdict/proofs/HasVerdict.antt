@@ -65,7 +65,7 @@ all_of P (key ∷ keys) all never =
     All-head (λ k. ¬ (¬ (P k))) key keys all (λ holds. all_of P keys (All-tail (λ k. ¬ (¬ (P k))) key keys all) (λ later. never (All-cons P key keys holds later)))
 
 -- something is observed of each entry
-abbrev Sees : {K : Type 0} → EntryReading K → Type 0
+abbrev pub Sees : {K : Type 0} → EntryReading K → Type 0
 Sees {K} r = (before : List (Observation K)) (item : Item) → Weakly ((e : Observation K) × r.Observes before item e)
 
 module _ {K : Type 0} (r : EntryReading K) (sees : Sees r) where
@@ -118,7 +118,7 @@ observes_message direction item never = reading-or-fault item.text no_reading no
         by_cookie false has = never (_, is_heard (said_of r) _ (reads-says item.text r reads) has refl refl)
 
 -- and of each entry
-sees_entry : Sees message_reading
+pub sees_entry : Sees message_reading
 sees_entry before item = by_action item.action refl
   where
     keys : List KeyParts

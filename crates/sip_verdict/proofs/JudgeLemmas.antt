@@ -1,9 +1,9 @@
 -- A judge behind one entry more, and what it tells of the input that the entries were read of.
-use Rattle.std.proofs.Common.{◌≡◌, ◌+◌, ◌∙◌, ℕ, Option, Some, None, IfSome, List, [], ◌∷◌, ◌++◌, length, refl, sym, ap, subst}
+use Rattle.std.proofs.Common.{◌≡◌, ◌+◌, ◌-◌, ◌∙◌, ℕ, Option, Some, None, IfSome, MatchOption, slice_get, List, [], ◌∷◌, ◌++◌, length, refl, sym, ap, subst}
 use Rattle.std.proofs.lemmas.List.{length_push}
 use Rattle.sip_key.specs.Key.{KeyParts}
 use Rattle.sip_machine.specs.Texts.{Texts}
-use Rattle.sip_states.specs.Tables.{Tabled}
+use Rattle.sip_states.specs.Tables.{HasNumber, IsGiven, Tabled}
 use Rattle.sip_log.specs.declared.entry.Entry.{Entry}
 use Rattle.sip_log.specs.LogFault.{LogFault}
 use Rattle.sip_log.specs.Log.{Clean, Stops, IsLog}
@@ -23,6 +23,7 @@ use Rattle.sip_verdict.specs.inner.Sweeping.{AreFollowedOn, StandsForRead}
 use Rattle.sip_verdict.specs.inner.TablesTracking.{MayTake}
 use Rattle.sip_verdict.specs.inner.Walking.{HasRead}
 use Rattle.sip_verdict.proofs.JudgeTables.{may_later}
+use Rattle.sip_verdict.proofs.TablesPassing.{keys_are}
 use Rattle.sip_verdict.specs.Reading.{IsVerdictBy}
 use Rattle.sip_log.proofs.ReadingLemmas.{IfSome-map}
 use Rattle.sip_verdict.proofs.JudgingLemmas.{observed-push, judged_ends, judged_trouble}
@@ -38,6 +39,14 @@ pub legal_is : (j : Judging) (es : List (Observation KeyParts)) → StandsFor j 
     → Some (Legal count many) ≡ Some (Legal (length es) (length (keys_of (key_machines j.tables.times) es)))
 legal_is j es stands long count many counts keys =
     ap (λ n. Some (Legal n many)) (counts ∙ stands.number) ∙ ap (λ n. Some (Legal (length es) n)) (keys ∙ followed_keys j.texts j.tables es long stands.follows.tracks)
+
+-- the key of a number is that of the entries with this number
+pub key_named : {R : Type 0} (j : Judging) (es : List (Observation KeyParts)) → StandsFor j es → length j.tables.sets ≡ length j.tables.keys → (now : R → KeyParts) (number : ℕ) (found : Option R)
+    → MatchOption found (¬ (IsGiven j.tables number)) (λ key. IsGiven j.tables number × HasNumber j.tables (now key) number)
+    → IfSome found (λ key. slice_get (keys_of (key_machines j.tables.times) es) (number - 1) ≡ Some (now key))
+key_named j es stands long now number None has = tt
+key_named j es stands long now number (Some key) has =
+    subst (λ keys. slice_get keys (number - 1) ≡ Some (now key)) (sym (keys_are j.tables long) ∙ stands.follows.tracks.keys) has.1.1
 
 -- it stands for one entry more
 pub stands_on : (j k : Judging) (e : Entry) → e.number ≡ j.number + 1 → k.number ≡ e.number → k.moment ≡ e.moment → k.stage ≡ Open → (es : List (Observation KeyParts)) → StandsFor j es

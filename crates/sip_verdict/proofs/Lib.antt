@@ -1,5 +1,6 @@
 pub mod AnyHearing
 pub mod EntryText
+pub mod DueLemmas
 pub mod FewerEntries
 pub mod FollowedLemmas
 pub mod FormatLaws
@@ -9,6 +10,7 @@ pub mod Hearing
 pub mod JudgeLemmas
 pub mod JudgeTables
 pub mod JudgingLemmas
+pub mod KeyPassing
 pub mod Keys
 pub mod Leading
 pub mod LegalMessages
@@ -38,3 +40,4 @@ pub mod Unique
 pub mod WalkingLemmas
 pub mod WalksLemmas
 pub mod VerdictLemmas
+pub mod surveys

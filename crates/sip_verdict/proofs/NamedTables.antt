@@ -47,6 +47,28 @@ no_events_silent p moment machine events text none named =
     let (y, run, has) = subst (λ s. RunNames s (messages_of machine) [] moment text) (sym (rules_are p machine)) (subst (λ es. RunNames (key_rules p machine) (messages_of machine) es moment text) none named) in
     Contains-none text (subst (λ ts. Contains ts text) (ap (messages_of machine) (stays_first q (lawful_of machine p) moment y run) ∙ first_silent machine p) has)
 
+-- where texts are named just by these numbers, there are just as many as messages that are kept
+pub many_texts : (texts : Texts) → IsBook texts → (P : List ℕ → Type 0) (all : List ℕ) → ((text : List ℕ) → P text ↔ IsNumberOf texts all text) → (numbers : List ℕ) → AllPairs (λ a b. a < b) numbers
+    → ((n : ℕ) → Contains numbers n ↔ Contains all n) → All (Keeps texts) numbers → AreMany P (length (only numbers texts))
+many_texts texts book P all named numbers up same kept = record {
+  texts = map (text_of texts) numbers;
+  distinct = λ i j d lt low alike.
+      (let size : length (map (text_of texts) numbers) ≡ length numbers = length-map numbers (text_of texts) in
+      let within : j < length numbers = omega (arith, low, size) in
+      let under : i < length numbers = omega (arith, lt, within) in
+      let a = get_or numbers i 0 in
+      let b = get_or numbers j 0 in
+      let text_same : text_of texts a ≡ text_of texts b = sym (get_or-map (text_of texts) numbers i 0 d under) ∙ alike ∙ get_or-map (text_of texts) numbers j 0 d within in
+      let one : a ≡ b = book.apart a b (kept i 0 under) (kept j 0 within) text_same in
+      let less = up i j 0 lt within in
+      omega (arith, one, less));
+  just = λ text. (
+    λ h. let (n, has, is) = Contains-from_map (text_of texts) numbers text h in (named text).1 (n, (same n).0 has, is),
+    λ h. let (n, has, is) = (named text).0 h in subst (Contains (map (text_of texts) numbers)) is (Contains-map (text_of texts) numbers n ((same n).1 has)),
+  );
+  counts = length-only numbers texts ∙ sym (length-map numbers (text_of texts));
+}
+
 module _ (texts : Texts) (book : IsBook texts) (p : Times) (moment : ℕ) where
   -- one key: its runs name just what its set names
   module _ (machine : MachineKind) (events : List MachineEvent) (from : ℕ) (old new : AnySet) (leads : LeadsOf texts p machine events from old) (late : from ≤ moment) (low : moment_of old ≤ moment) (text : List ℕ) where
@@ -125,21 +147,4 @@ module _ (texts : Texts) (book : IsBook texts) (p : Times) (moment : ℕ) where
     -- so there are just as many as messages that are kept
     pub many_named : (numbers : List ℕ) → AllPairs (λ a b. a < b) numbers → ((n : ℕ) → Contains numbers n ↔ Contains (flat_map numbers_of u.sets) n) → All (Keeps texts) numbers
         → AreMany (IsNamed (key_machines p) (key_messages p) es) (length (only numbers texts))
-    many_named numbers up same kept = record {
-      texts = map (text_of texts) numbers;
-      distinct = λ i j d lt low alike.
-          (let size : length (map (text_of texts) numbers) ≡ length numbers = length-map numbers (text_of texts) in
-          let within : j < length numbers = omega (arith, low, size) in
-          let under : i < length numbers = omega (arith, lt, within) in
-          let a = get_or numbers i 0 in
-          let b = get_or numbers j 0 in
-          let text_same : text_of texts a ≡ text_of texts b = sym (get_or-map (text_of texts) numbers i 0 d under) ∙ alike ∙ get_or-map (text_of texts) numbers j 0 d within in
-          let one : a ≡ b = book.apart a b (kept i 0 under) (kept j 0 within) text_same in
-          let less = up i j 0 lt within in
-          omega (arith, one, less));
-      just = λ text. (
-        λ h. let (n, has, is) = Contains-from_map (text_of texts) numbers text h in (tables_named text).1 (n, (same n).0 has, is),
-        λ named. let (n, has, is) = (tables_named text).0 named in subst (Contains (map (text_of texts) numbers)) is (Contains-map (text_of texts) numbers n ((same n).1 has)),
-      );
-      counts = length-only numbers texts ∙ sym (length-map numbers (text_of texts));
-    }
+    many_named numbers up same kept = many_texts texts book (IsNamed (key_machines p) (key_messages p) es) (flat_map numbers_of u.sets) tables_named numbers up same kept

@@ -137,7 +137,7 @@ few_keys keys ns old new touched = let more = touches_few (each keys) ns old new
     at_most_two concerned.All = omega arith
 
 -- the bytes of a message that is not kept
-text_of_none : (texts : Texts) (n : ℕ) → ¬ Keeps texts n → text_of texts n ≡ []
+pub text_of_none : (texts : Texts) (n : ℕ) → ¬ Keeps texts n → text_of texts n ≡ []
 text_of_none [] n none = refl
 text_of_none (kept ∷ texts) n none = go (kept.0 == n) refl (text_of_none texts n (λ has. none (Contains-there kept.0 (map (λ k. k.0) texts) n has)))
   where

@@ -34,11 +34,11 @@ named_is t start out none (added, is, rising, same) numbers are =
 module _ (texts : Texts) (book : IsBook texts) (t u : Tabled) (moment : ℕ) (advances : AdvancesAll moment t u) (may : MayPass texts t moment)
     (numbers : List ℕ) (up : AllPairs (λ a b. a < b) numbers) (same : (n : ℕ) → Contains numbers n ↔ Contains (flat_map numbers_of u.sets) n) where
   -- the set that was at a place
-  before : (n : ℕ) (new : AnySet) → slice_get u.sets n ≡ Some new → (old : AnySet) × (slice_get t.sets n ≡ Some old)
+  pub before : (n : ℕ) (new : AnySet) → slice_get u.sets n ≡ Some new → (old : AnySet) × (slice_get t.sets n ≡ Some old)
   before n new at = at_place t.sets n (let low = slice_get_within u.sets n new at in let long = advances.long in omega arith)
 
   -- what it names is kept
-  within : (n : ℕ) (new : AnySet) → slice_get u.sets n ≡ Some new → (k : ℕ) → Contains (numbers_of new) k → Contains numbers k
+  pub within : (n : ℕ) (new : AnySet) → slice_get u.sets n ≡ Some new → (k : ℕ) → Contains (numbers_of new) k → Contains numbers k
   within n new at k has = (same k).1 (Contains-flat_map numbers_of u.sets new k (n, slice_get_within u.sets n new at, get_or_from_slice_get u.sets n new new at) has)
 
   -- no set is later than the moment

@@ -142,7 +142,7 @@ module _ (t : Tabled) (number : ℕ) (ns : List ℕ) (low : 0 < number) (after :
           only None h = among_one (n + 1) number ns h (λ same. a.0 (omega (arith, same)))
           only (Some l) h = h
 
-  settled : (u : Tabled) → u.keys ≡ t.keys → u.sets ≡ set t.sets (number - 1) after → u.records ≡ set t.records (number - 1) (Some limit) → AreOnRecord ns u
+  pub settled : (u : Tabled) → u.keys ≡ t.keys → u.sets ≡ set t.sets (number - 1) after → u.records ≡ set t.records (number - 1) (Some limit) → AreOnRecord ns u
   settled u keys sets records = record {
     long = ap length records ∙ length-set t.records (number - 1) (Some limit) ∙ old.long ∙ ap length (sym keys);
     each = λ n s r at here. recorded_at n s r (ap (λ xs. slice_get xs n) (sym sets) ∙ at) (ap (λ xs. slice_get xs n) (sym records) ∙ here);

@@ -34,7 +34,7 @@ touched_elim : (Q : Tabled → Type 0) → ((t : Tabled) (key : KeyParts) → Q 
 touched_elim Q more key number old new holds (inl h) = subst Q (sym h.1) holds
 touched_elim Q more key number old new holds (inr h) = subst Q (sym h.2) (more old key holds)
 
-touches_elim : (Q : Tabled → Type 0) → ((t : Tabled) (key : KeyParts) → Q t → Q (with_key t key)) → (ks : List KeyParts) (ns : List ℕ) (old new : Tabled) → Q old → TouchesEach ks ns old new → Q new
+pub touches_elim : (Q : Tabled → Type 0) → ((t : Tabled) (key : KeyParts) → Q t → Q (with_key t key)) → (ks : List KeyParts) (ns : List ℕ) (old new : Tabled) → Q old → TouchesEach ks ns old new → Q new
 touches_elim Q more [] [] old new holds same = subst Q (sym same) holds
 touches_elim Q more [] (n ∷ ns) old new holds h = absurd h
 touches_elim Q more (k ∷ ks) [] old new holds h = absurd h
@@ -58,12 +58,12 @@ touches_few (k ∷ ks) (n ∷ ns) old new (between, one, rest) =
     elim one [ inl h ↦ (let long = ap (λ t. length t.keys) h.1 in omega arith) | inr h ↦ (let long = ap (λ t. length t.keys) h.2 ∙ length-append old.keys (k ∷ []) in omega arith) ]
 
 -- a set starts at moment 0, and names no message
-start_at : (p : Times) (key : KeyParts) → moment_of (start_of p key) ≡ 0
+pub start_at : (p : Times) (key : KeyParts) → moment_of (start_of p key) ≡ 0
 start_at p key =
     let machine = machine_of_key p.rules key in
     ap moment_of (start_is p machine) ∙ moment_is machine (record { machine = p; moment = 0; states = first_of machine ∷ [] })
 
-start_known : (texts : Texts) (p : Times) (key : KeyParts) → IsKnownSet texts (start_of p key)
+pub start_known : (texts : Texts) (p : Times) (key : KeyParts) → IsKnownSet texts (start_of p key)
 start_known texts p key =
     let machine = machine_of_key p.rules key in
     subst (IsKnownSet texts) (sym (start_is p machine))
@@ -85,7 +85,7 @@ touches_may texts moment ks ns old new may h = touches_elim (λ t. MayPass texts
     }
 
 -- an element of a list with one more
-push-place : {A : Type 0} (xs : List A) (a : A) (n : ℕ) (x : A) → slice_get (xs ++ a ∷ []) n ≡ Some x → (slice_get xs n ≡ Some x) ⊎ ((n ≡ length xs) × (a ≡ x))
+pub push-place : {A : Type 0} (xs : List A) (a : A) (n : ℕ) (x : A) → slice_get (xs ++ a ∷ []) n ≡ Some x → (slice_get xs n ≡ Some x) ⊎ ((n ≡ length xs) × (a ≡ x))
 push-place [] a zero x at = inr (refl, cc)
 push-place [] a (suc n) x at = absurd cc
 push-place (u ∷ xs) a zero x at = inl at
@@ -131,7 +131,7 @@ keys_exact p a b = same_key-decides a b
 
 module _ (texts : Texts) (p : Times) where
   -- a new key's set leads to the runs over no event
-  starts : (key : KeyParts) (from : ℕ) → LeadsOf texts p (machine_of_key p.rules key) [] from (start_of p key)
+  pub starts : (key : KeyParts) (from : ℕ) → LeadsOf texts p (machine_of_key p.rules key) [] from (start_of p key)
   starts key from =
       let machine = machine_of_key p.rules key in
       let m = meaning_of machine in (
@@ -167,7 +167,7 @@ module _ (texts : Texts) (p : Times) where
       (kept_touched (key_machines p) (key_keeping texts p) es (keys_exact p) (k, start_of p k) (starts k (newest_moment es)) keys (transactions_of old) (transactions_of between) kept (touched k n old between times long one))
 
 -- an element of a list stays where it is
-slice_get-more : {A : Type 0} (xs ys : List A) (n : ℕ) (x : A) → slice_get xs n ≡ Some x → slice_get (xs ++ ys) n ≡ Some x
+pub slice_get-more : {A : Type 0} (xs ys : List A) (n : ℕ) (x : A) → slice_get xs n ≡ Some x → slice_get (xs ++ ys) n ≡ Some x
 slice_get-more [] ys n x at = absurd cc
 slice_get-more (u ∷ xs) ys zero x at = at
 slice_get-more (u ∷ xs) ys (suc n) x at = slice_get-more xs ys n x at

@@ -29,12 +29,12 @@ key-first P Q go come keys n (before, key, rest, whole, holds, earlier, counts) 
     record { before = before; key = key; rest = rest; is = whole; holds = go key holds; earlier = All-weaker (λ k. ¬ (P k)) (λ k. ¬ (Q k)) (λ k none q. none (come k q)) before earlier; counts = counts }
 
 -- a key has a run, in the words of the standard and by the rules of its machine
-run-over : (p : Times) (es : List (Observation KeyParts)) (key : KeyParts) → HasRun (key_machines p) key es → RunsOver p es key
+pub run-over : (p : Times) (es : List (Observation KeyParts)) (key : KeyParts) → HasRun (key_machines p) key es → RunsOver p es key
 run-over p es key (y, run) =
     let machine = machine_of_key p.rules key in
     (y, (stands-runs (transaction_of machine).figure (coded_holds machine).is_figure p (events_for key es) (newest_moment es) y).1 run)
 
-over-run : (p : Times) (es : List (Observation KeyParts)) (key : KeyParts) → RunsOver p es key → HasRun (key_machines p) key es
+pub over-run : (p : Times) (es : List (Observation KeyParts)) (key : KeyParts) → RunsOver p es key → HasRun (key_machines p) key es
 over-run p es key (y, stands) =
     let machine = machine_of_key p.rules key in
     (y, (stands-runs (transaction_of machine).figure (coded_holds machine).is_figure p (events_for key es) (newest_moment es) y).0 stands)
@@ -46,7 +46,7 @@ module _ (p : Times) (front : List (Observation KeyParts)) (e : Observation KeyP
   behind key y = let machine = machine_of_key p.rules key in behind-after (transaction_of machine).figure (coded_holds machine).is_figure p (events_for key front) e.event y
 
   -- a key that is too wide
-  wide-at : (key : KeyParts) → IsTooWide (key_machines p) front e key → IsWideAt p front e key
+  pub wide-at : (key : KeyParts) → IsTooWide (key_machines p) front e key → IsWideAt p front e key
   wide-at key is = (
     is.concerned,
     (
@@ -58,7 +58,7 @@ module _ (p : Times) (front : List (Observation KeyParts)) (e : Observation KeyP
     ),
   )
 
-  at-wide : (key : KeyParts) → IsWideAt p front e key → IsTooWide (key_machines p) front e key
+  pub at-wide : (key : KeyParts) → IsWideAt p front e key → IsTooWide (key_machines p) front e key
   at-wide key (concerned, (many, distinct, wide, each)) =
       let after = All-weaker (StandsBehind (transaction_of (machine_of_key p.rules key)).figure p (events_for key front) e.event) (AfterRun (key_rules p (machine_of_key p.rules key)) (events_for key front) e.event)
       (λ y stands. (behind key y).0 stands) many each in

@@ -1,8 +1,9 @@
 -- What a judge that takes the entries of a log as they come stands for.
-use Rattle.std.specs.Prelude.{◌≡◌, ◌≢◌, ◌≤◌, ◌+◌, ℕ, List, [], ◌∷◌, ◌++◌, Option, Some, None, Result, Ok, Err, length}
+use Rattle.std.specs.Prelude.{◌≡◌, ◌≢◌, ◌≤◌, ◌+◌, ℕ, List, [], ◌∷◌, ◌++◌, Option, Some, None, Result, Ok, Err, All, length}
 use Rattle.sip_key.specs.Key.{KeyParts}
-use Rattle.sip_machine.specs.Times.{last_moment}
+use Rattle.sip_machine.specs.Times.{Times, last_moment}
 use Rattle.sip_machine.specs.Texts.{Texts}
+use Rattle.sip_states.specs.Runs.{RuledRun}
 use Rattle.sip_states.specs.Tables.{Tabled}
 use Rattle.sip_log.specs.Log.{most_entries}
 use Rattle.sip_verdict.specs.declared.stage.Stage.{Stage}
@@ -11,7 +12,7 @@ use Rattle.sip_verdict.specs.declared.step_error.StepError.{StepError}
 use Rattle.sip_verdict.specs.declared.step_error.StepError.TheVariants as errors
 use Rattle.sip_verdict.specs.declared.verdict.Verdict.{Verdict}
 use Rattle.sip_verdict.specs.declared.verdict.Verdict.TheVariants.{Legal}
-use Rattle.sip_verdict.specs.Keyed.{Observation, newest_moment}
+use Rattle.sip_verdict.specs.Keyed.{Observation, keys_of, events_of, newest_moment}
 use Rattle.sip_verdict.specs.Verdicts.{IsTrouble}
 use Rattle.sip_verdict.specs.MessageReading.{key_machines}
 use Rattle.sip_verdict.specs.Named.{WereNamed, key_messages}
@@ -46,6 +47,11 @@ pub record MayComeNext (count last number moment : ℕ) : Type 0 where
   pub order : last ≤ moment
   pub within : number ≤ most_entries
   pub limit : moment ≤ last_moment
+
+-- each transaction of the entries has a run over them that stands at the moment
+abbrev pub CanWaitUntil : Times → List (Observation KeyParts) → ℕ → Type 0
+CanWaitUntil p es moment =
+    All (λ key. (x : (key_machines p).State key) × RuledRun ((key_machines p).rules key) (events_of (key_machines p) key es) moment x) (keys_of (key_machines p) es)
 
 -- what is judged of an entry behind those that the judge stood for: it stands for this one too, or this is the verdict of the entry
 abbrev pub IsNext : Judging → List (Observation KeyParts) → Observation KeyParts → Option Verdict → Type 0

@@ -9,6 +9,10 @@ pub mod Named
 pub mod Reading
 pub mod Rendering
 pub mod Showing
+pub mod SurveyLaws
+pub mod SurveyOf
+pub mod SurveyText
+pub mod Surveys
 pub mod VerdictOf
 pub mod Verdicts
 pub mod inner

@@ -6,6 +6,8 @@ pub mod Observing
 pub mod Showing
 pub mod Stepping
 pub mod Sweeping
+pub mod Surveying
+pub mod SurveyingLogs
 pub mod TablesTracking
 pub mod Tracking
 pub mod Walking

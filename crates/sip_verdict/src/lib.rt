@@ -3,6 +3,9 @@
 #![tactic(auto)]
 
 mod concerned;
+mod entries;
+mod finding;
+mod following;
 mod judge_error;
 mod judging;
 mod laws;
@@ -11,6 +14,7 @@ mod log_reason;
 mod observing;
 mod passing;
 mod reading;
+mod releasing;
 mod rendering;
 mod show_error;
 mod showing;
@@ -19,10 +23,18 @@ mod stage;
 mod standing;
 mod step_error;
 mod stream;
+mod summary;
+mod survey_end;
+mod survey_error;
+mod survey_laws;
+mod surveying;
 mod sweeping;
+mod troubled;
 mod verdict;
 mod walking;
 
+pub use finding::Finding;
+pub use following::Survey;
 pub use judge_error::JudgeError;
 pub use judging::{judge, judge_bytes};
 pub use laws::{
@@ -32,11 +44,23 @@ pub use laws::{
 };
 pub use listing::{Listing, states_at};
 pub use log_reason::LogReason;
-pub use rendering::render;
+pub use rendering::{end_line, finding_line, render};
 pub use show_error::ShowError;
 pub use showing::show;
 pub use shown::Shown;
 pub use sip_message::{Fault, Reason, Unit};
 pub use step_error::StepError;
 pub use stream::Judge;
+pub use summary::Summary;
+pub use survey_end::SurveyEnd;
+pub use survey_error::SurveyError;
+pub use survey_laws::{
+    a_breach_stays, a_fault_is_found_where_its_message_stays, a_log_can_be_cut_by_branch,
+    a_log_may_be_cut, a_part_finds_what_the_whole_finds, a_survey_is_one,
+    a_survey_names_a_transaction_once, a_transaction_has_one_finding,
+    a_transaction_in_trouble_has_a_finding, a_transaction_that_is_idle_again_is_as_new,
+    an_input_has_a_survey, each_trouble_is_named, the_verdict_is_in_the_survey,
+    what_is_idle_again_can_be_forgotten, what_is_wide_does_not_break, what_stands_lasts,
+};
+pub use surveying::survey;
 pub use verdict::Verdict;

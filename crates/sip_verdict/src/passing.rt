@@ -58,7 +58,7 @@ impl Outcome {
 }
 
 /// Lets the set take the event of its key.
-fn hear(set: &mut AnySet, book: &Book, event: &Event) -> Result<Fate, AllocError>
+pub(crate) fn hear(set: &mut AnySet, book: &Book, event: &Event) -> Result<Fate, AllocError>
     requires order { moment_of set.old ≤ event.now.moment }
     requires fits { FitsBook book.now event.now }
     requires known { IsKnownSet book.now set.old }

@@ -2,10 +2,13 @@
 ghost use Rattle.std.specs.Prelude.{◌≡◌, ◌++◌, IfOk, OnOk, codes, decimal, string_bytes};
 ghost use Rattle.sip_verdict.specs.Rendering.{rendered, rendered_unit};
 ghost use Rattle.sip_verdict.specs.Showing.{last_text};
+ghost use Rattle.sip_verdict.specs.SurveyText.{end_text, finding_text};
 ghost use Rattle.sip_verdict.specs.declared.verdict.Verdict.TheVariants.{Malformed, LogFault};
 
+use crate::finding::Finding;
 use crate::log_reason::LogReason;
 use crate::shown::Shown;
+use crate::survey_end::SurveyEnd;
 use crate::verdict::Verdict;
 use itoa::Buffer;
 use sip_message::{Fault, Unit};
@@ -51,6 +54,52 @@ pub(crate) fn last_line(alloc: Global, shown: &Shown) -> Result<String, AllocErr
         Shown::Malformed { entry, fault } => malformed(alloc, entry, fault),
         Shown::LogFault { entry, reason } => log_fault(alloc, entry, reason),
     }
+}
+
+/// The line of what is found at an entry, with its end: the text of the verdict of the same words.
+pub fn finding_line(alloc: Global, finding: &Finding) -> Result<String, AllocError>
+    ensures { IfOk result (λ text. string_bytes text ≡ finding_text finding.now) }
+{
+    let mut text = render(alloc, &Verdict::from(*finding))?;
+    text.push_str("\n")?;
+    Ok(text)
+}
+
+/// The last line of a survey in which so much was found, with its end: `end entries E transactions T findings F`, or the text of the
+/// verdict on a log that cannot be read.
+pub fn end_line(alloc: Global, end: &SurveyEnd, findings: u64) -> Result<String, AllocError>
+    ensures { IfOk result (λ text. string_bytes text ≡ end_text end.now findings) }
+{
+    let mut text = match *end {
+        SurveyEnd::Clean {
+            entries,
+            transactions,
+        } => clean_end(alloc, entries, transactions, findings)?,
+        SurveyEnd::LogFault { entry, reason } => log_fault(alloc, entry, reason)?,
+    };
+    text.push_str("\n")?;
+    Ok(text)
+}
+
+/// That the log of a survey was read to its end, with three numbers.
+fn clean_end(
+    alloc: Global,
+    entries: u32,
+    transactions: u32,
+    findings: u64,
+) -> Result<String, AllocError>
+    ensures { IfOk result (λ text. string_bytes text
+        ≡ codes "end entries " ++ decimal entries ++ codes " transactions " ++ decimal transactions ++ codes " findings " ++ decimal findings) }
+{
+    let mut text = two_numbers(
+        alloc,
+        "end entries ",
+        entries,
+        " transactions ",
+        transactions,
+    )?;
+    push_with_number(&mut text, " findings ", findings)?;
+    Ok(text)
 }
 
 /// Two words, each with a number behind it.

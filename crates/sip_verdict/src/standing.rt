@@ -1,10 +1,10 @@
 //! What is kept of the entries of a log that were judged.
-ghost use Rattle.std.specs.Prelude.{◌≡◌, ◌≢◌, ◌≤◌, ◌<◌, ◌+◌, ◌++◌, ◌∷◌, [], ℕ, None, List, All, AllPairs, Contains, IfOk, IfNone, OnOk, length, string_bytes};
+ghost use Rattle.std.specs.Prelude.{◌≡◌, ◌≢◌, ◌≤◌, ◌<◌, ◌+◌, ◌++◌, ◌∷◌, [], ℕ, Bool, None, List, All, AllPairs, Contains, IfOk, IfNone, OnOk, length, string_bytes, ◌↔◌, IfSome, MatchOption};
 ghost use Rattle.std.specs.Option.{ForSome, option_copied};
 ghost use Rattle.sip_key.specs.Key.{KeyParts};
 ghost use Rattle.sip_machine.specs.Times.{last_moment};
 ghost use Rattle.sip_machine.specs.Texts.{Keeps};
-ghost use Rattle.sip_states.specs.Tables.{IsGiven, most_keys};
+ghost use Rattle.sip_states.specs.Tables.{HasNumber, IsGiven, due_of, most_keys};
 ghost use Rattle.sip_log.specs.Log.{most_entries};
 ghost use Rattle.sip_log.specs.Spelling.{Item};
 ghost use Rattle.sip_log.specs.Told.{item};
@@ -16,6 +16,8 @@ ghost use Rattle.sip_verdict.specs.Reading.{AreObserved};
 ghost use Rattle.sip_verdict.specs.ListingOf.{key_words};
 ghost use Rattle.sip_verdict.specs.inner.Concerned.{each, is_all, listed, up_to};
 ghost use Rattle.sip_verdict.specs.inner.Numbering.{AreNumbered, StaysNumbered, IsListedEntry, Appends, IsTextOf};
+ghost use Rattle.sip_verdict.specs.Surveys.{IsStillNamed};
+ghost use Rattle.sip_verdict.specs.inner.Surveying.{TablesSurvey};
 ghost use Rattle.sip_verdict.specs.inner.Tracking.{IsJudged};
 ghost use Rattle.sip_verdict.specs.inner.TablesTracking.{key_keeping, transactions_of, TablesTrack, TablesTrackBefore, AreTold, TouchesEach, HaveNumbers, hearers, MayPass, MayHear, AreOnRecord, AllAreOnRecord, MayTake};
 
@@ -36,8 +38,8 @@ use std::hash::BuildHasher;
 /// entry touches those that it concerns; until when each can wait is on record.
 #[derive(Drop)]
 pub(crate) struct Standing<H: BuildHasher> {
-    book: Book,
-    tables: Tables<H>,
+    pub(crate) book: Book,
+    pub(crate) tables: Tables<H>,
 }
 
 /// What was judged of an entry: its verdict if it is in trouble, and the numbers of the transactions that it concerns.
@@ -48,7 +50,7 @@ struct Taken {
 }
 
 /// The number of each key's transaction, which starts if the key is new.
-fn touch_each<H: BuildHasher>(
+pub(crate) fn touch_each<H: BuildHasher>(
     tables: &mut Tables<H>,
     keys: Concerned<Key>,
 ) -> Result<Concerned<u32>, AllocError>
@@ -103,10 +105,14 @@ impl<H: BuildHasher> Standing<H> {
         ensures keys { OnOk result (self.new.tables.keys ≡ self.old.tables.keys) }
         ensures may { OnOk result (MayPass self.new.book self.new.tables moment) }
         ensures recorded { OnOk result (AllAreOnRecord self.new.tables) }
+        ensures records { OnOk result (self.new.tables.records ≡ self.old.tables.records) }
         ensures fewer { OnOk result (All (Contains self.old.book) self.new.book) }
         ensures tracks { OnOk result ((es : List (Observation KeyParts)) → TablesTrack self.old.book es self.old.tables → TablesTrack self.new.book es self.new.tables) }
         ensures named { OnOk result ((es : List (Observation KeyParts)) → TablesTrack self.old.book es self.old.tables → newest_moment es ≡ moment
             → AreMany (IsNamed (key_machines self.old.tables.times) (key_messages self.old.tables.times) es) (length self.new.book)) }
+        ensures surveyed { OnOk result ((es : List (Observation KeyParts)) (deaf : List Bool) → TablesSurvey self.old.book es self.old.tables deaf → newest_moment es ≡ moment
+            → length deaf ≡ length self.old.tables.keys
+            → TablesSurvey self.new.book es self.new.tables deaf × AreMany (IsStillNamed self.old.tables.times es) (length self.new.book)) }
     {
         self.book.known();
         self.tables.advance_all(moment)?;
@@ -283,5 +289,22 @@ impl<H: BuildHasher> Standing<H> {
     {
         let key = self.tables.key(number);
         push_transaction(alloc, text, number, key, self.tables.set(number))
+    }
+
+    /// The key of the transaction with this number, if there is one.
+    pub(crate) fn key(&self, number: u32) -> Option<&Key>
+        ensures { MatchOption result (¬ (IsGiven self.now.tables number)) (λ key. IsGiven self.now.tables number × HasNumber self.now.tables key.now number) }
+    {
+        if number == 0 || number > self.tables.len() {
+            return None;
+        }
+        Some(self.tables.key(number))
+    }
+
+    /// The earliest moment up to which a transaction can wait, in milliseconds, if it is on record of one.
+    pub(crate) fn earliest(&self) -> Option<u64>
+        ensures { (moment : ℕ) → (due_of self.now.tables moment ≡ None) ↔ IfSome result (λ last. moment ≤ last) }
+    {
+        self.tables.earliest()
     }
 }

@@ -1,19 +1,21 @@
 //! A judge that takes the entries of a log as they come.
-ghost use Rattle.std.specs.Prelude.{◌≡◌, ◌↔◌, [], Some, List, All, Contains, IsTrue, IfOk, IfNone, OnOk, length};
+ghost use Rattle.std.specs.Prelude.{◌≡◌, ◌≢◌, ◌↔◌, ◌≤◌, ◌-◌, [], ℕ, None, Some, List, All, Contains, IsTrue, IfOk, IfNone, IfSome, MatchOption, OnOk, length, slice_get};
 ghost use Rattle.sip_key.specs.Key.{KeyParts};
 ghost use Rattle.sip_log.specs.Told.{item};
+ghost use Rattle.sip_states.specs.Tables.{HasNumber, IsGiven, due_of};
 ghost use Rattle.sip_verdict.specs.declared.stage.Stage.TheVariants.{Open};
 ghost use Rattle.sip_verdict.specs.declared.verdict.Verdict.TheVariants.{Legal};
 ghost use Rattle.sip_verdict.specs.Keyed.{Observation, keys_of};
 ghost use Rattle.sip_verdict.specs.MessageReading.{key_machines, message_reading, ConcernsNone};
 ghost use Rattle.sip_verdict.specs.Named.{AreFew, key_messages};
-ghost use Rattle.sip_verdict.specs.Judging.{StandsFor, MayComeNext, IsNext, CanAnswer, stage_behind, last_verdict};
+ghost use Rattle.sip_verdict.specs.Judging.{StandsFor, CanWaitUntil, MayComeNext, IsNext, CanAnswer, stage_behind, last_verdict};
 
 use crate::stage::Stage;
 use crate::standing::Standing;
 use crate::step_error::StepError;
 use crate::sweeping::judge_next;
 use crate::verdict::Verdict;
+use sip_key::Key;
 use sip_log::Entry;
 use sip_machine::Params;
 use std::alloc::{AllocError, Global};
@@ -52,7 +54,7 @@ const MOST_ENTRIES: u32 = 1_000_000;
 const LAST_MOMENT: u64 = 9_999_999_999_999;
 
 /// Whether the entry may come behind one of this number and moment.
-fn may_come_next(number: u32, moment: u64, entry: &Entry) -> bool
+pub(crate) fn may_come_next(number: u32, moment: u64, entry: &Entry) -> bool
     ensures { IsTrue result ↔ MayComeNext number moment entry.now.number entry.now.moment }
 {
     if number >= MOST_ENTRIES || entry.number != number + 1 {
@@ -143,5 +145,28 @@ impl<H: BuildHasher + Drop> Judge<H> {
         ensures few { (es : List (Observation KeyParts)) → StandsFor self.now es → AreFew (key_machines self.now.tables.times) (key_messages self.now.tables.times) es result }
     {
         self.standing.kept()
+    }
+
+    /// The key of the transaction with this number, by which a verdict names it; None where no transaction has it.
+    pub fn key(&self, transaction: u32) -> Option<&Key>
+        ensures none { MatchOption result (¬ (IsGiven self.now.tables transaction)) (λ key. IsGiven self.now.tables transaction × HasNumber self.now.tables key.now transaction) }
+        ensures named { (es : List (Observation KeyParts)) → StandsFor self.now es
+            → IfSome result (λ key. slice_get (keys_of (key_machines self.now.tables.times) es) (transaction - 1) ≡ Some key.now) }
+    {
+        self.standing.key(transaction)
+    }
+
+    /// The last moment, in milliseconds, up to which each transaction can wait; None where each can for ever, and after a verdict or an error.
+    /// Where the next entry is later, a step that was due by then is missing.
+    pub fn next_due(&self) -> Option<u64>
+        ensures due { self.now.stage ≡ Open → (moment : ℕ) → (due_of self.now.tables moment ≡ None) ↔ IfSome result (λ last. moment ≤ last) }
+        ensures waits { (es : List (Observation KeyParts)) → StandsFor self.now es → (moment : ℕ) → self.now.moment ≤ moment
+            → CanWaitUntil self.now.tables.times es moment ↔ IfSome result (λ last. moment ≤ last) }
+        ensures over { self.now.stage ≢ Open → result ≡ None }
+    {
+        match self.stage {
+            Stage::Open => self.standing.earliest(),
+            Stage::Told(_) | Stage::Failed => None,
+        }
     }
 }

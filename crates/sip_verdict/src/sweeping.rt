@@ -17,7 +17,7 @@ use std::alloc::{AllocError, Global};
 use std::hash::BuildHasher;
 
 /// How many messages more than twice those that the last sweep left are kept without a sweep.
-const SPARE: usize = 64;
+pub(crate) const SPARE: usize = 64;
 
 /// Judges the entry that comes next, with the verdict if it is in trouble. Where many more messages are kept than the last
 /// sweep left, those go that no transaction needs.

@@ -6,10 +6,8 @@
 //! where it does not understand its words.
 #![tactic(auto)]
 
-mod platform;
-
-use platform::StdPlatform;
 use sip_log::ToWrite;
+use sip_platform::StdPlatform;
 use sip_program::{Host, Output, end, program, read_failure};
 use std::process::ExitCode;
 

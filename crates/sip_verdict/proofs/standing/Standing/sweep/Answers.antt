@@ -3,8 +3,11 @@ use Rattle.sip_verdict.specs.Named.{IsNamed, AreMany, key_messages}
 use Rattle.sip_verdict.specs.MessageReading.{key_machines}
 use Rattle.sip_verdict.specs.inner.TablesTracking.{MayPass, TablesTrack}
 use Rattle.sip_verdict.proofs.NamedTables.{many_named}
+use Rattle.sip_verdict.specs.Surveys.{IsStillNamed}
+use Rattle.sip_verdict.specs.inner.Surveying.{TablesSurvey}
 use Rattle.sip_verdict.proofs.SweptBook.{only_within}
 use Rattle.sip_verdict.proofs.SweptTables.{named_is, swept_may, swept_track, swept_recorded, swept_kept}
+use Rattle.sip_verdict.proofs.surveys.Swept.{swept_survey, swept_many}
 use Rattle.sip_verdict.proofs.standing.Standing.sweep.Goals as goal
 
 pub retain_only-requires-clause-rising : goal.retain_only-requires-clause-rising
@@ -74,3 +77,16 @@ returns-clause-named g c =
     let kept = swept_kept s.book c.known.ensures s.tables u c.args.moment advances c.requires.may numbers named.0 named.1 in
     λ es tracks newest. subst (λ b. AreMany (IsNamed (key_machines s.tables.times) (key_messages s.tables.times) es) (length b)) (sym c.retain_only.ensures)
     (many_named s.book c.known.ensures s.tables.times c.args.moment es s.tables u refl tracks c.requires.may.long newest c.requires.may.order advances.long advances.each numbers named.0 named.1 kept)
+
+pub returns-clause-surveyed : goal.returns-clause-surveyed
+returns-clause-surveyed g c =
+    let s = c.args.self.now in
+    let u = c.advance_all.new.self in
+    let numbers = c.deref.result.now in
+    let named = named_is u c.new-named.result.items c.named.new.out.items c.new-named.ensures.items c.in_ok-named.ensures.ok numbers c.deref.ensures.value in
+    let advances = c.in_ok-advance_all.ensures.ok in
+    let kept = swept_kept s.book c.known.ensures s.tables u c.args.moment advances c.requires.may numbers named.0 named.1 in
+    λ es deaf tracks newest long. subst (λ b. TablesSurvey b es u deaf × AreMany (IsStillNamed s.tables.times es) (length b)) (sym c.retain_only.ensures) (
+      swept_survey s.book c.known.ensures s.tables u c.args.moment advances c.requires.may numbers named.0 named.1 kept es deaf tracks newest long,
+      swept_many s.book c.known.ensures s.tables u c.args.moment advances c.requires.may numbers named.0 named.1 kept es deaf tracks newest long,
+    )

@@ -1,0 +1,35 @@
+-- A verdict in plain numbers.
+use Rattle.std.specs.Prelude.{ℕ}
+use Rattle.sip_message.specs.declared.fault.Unit.{Unit}
+use Rattle.sip_message.specs.declared.fault.Unit.TheVariants.{Head, Line, Body}
+use Rattle.sip_message.specs.Reason.{reason_number}
+use Rattle.sip_verdict.specs.declared.verdict.Verdict.{Verdict}
+use Rattle.sip_verdict.specs.declared.verdict.Verdict.TheVariants.{Legal, Malformed, Breach, Undecided, LogFault}
+use Rattle.sip_verdict.specs.Rendering.{log_reason_number}
+use Rattle.c_siptrace.specs.declared.plain_verdict.PlainVerdict.{PlainVerdict}
+
+-- where a fault is: in the head, in a line or in the body
+abbrev pub unit_number : Unit → ℕ
+unit_number Head = 1
+unit_number (Line line) = 2
+unit_number Body = 3
+
+-- the logical line of a fault, from 0 on, the start line; 0 where it is in none
+abbrev pub line_of : Unit → ℕ
+line_of Head = 0
+line_of (Line line) = line
+line_of Body = 0
+
+-- the numbers of a verdict: its kind, how many entries and transactions a legal log has, the entry and the transaction of any other, the reason of
+-- a fault, its unit and its line; what a kind has not is 0
+abbrev pub numbers : ℕ → ℕ → ℕ → ℕ → ℕ → ℕ → ℕ → ℕ → PlainVerdict
+numbers kind entries transactions entry transaction reason unit line =
+    record { kind = kind; entries = entries; transactions = transactions; entry = entry; transaction = transaction; reason = reason; unit = unit; line = line }
+
+-- the verdict in plain numbers
+abbrev pub plain : Verdict → PlainVerdict
+plain (Legal entries transactions) = numbers 1 entries transactions 0 0 0 0 0
+plain (Malformed entry fault) = numbers 2 0 0 entry 0 (reason_number fault.reason) (unit_number fault.unit) (line_of fault.unit)
+plain (Breach entry transaction) = numbers 3 0 0 entry transaction 0 0 0
+plain (Undecided entry transaction) = numbers 4 0 0 entry transaction 0 0 0
+plain (LogFault entry reason) = numbers 5 0 0 entry 0 (log_reason_number reason) 0 0

@@ -1,0 +1,10 @@
+-- What a call answers: whether it did what it is for.
+use Rattle.std.specs.Prelude.{ℕ}
+
+-- it did
+abbrev pub answered : ℕ
+answered = 0
+
+-- a growth was refused
+abbrev pub no_memory : ℕ
+no_memory = 1

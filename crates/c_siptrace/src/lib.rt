@@ -1,0 +1,13 @@
+//! siptrace for other languages: a static library whose calls C can make, as `library/siptrace.h` declares them.
+//!
+//! No contract holds the caller: it keeps what that header asks of it, a valid pointer and a right length above all.
+#![tactic(auto)]
+
+mod judging;
+mod plain_verdict;
+mod seed;
+mod status;
+
+pub use judging::siptrace_judge;
+pub use plain_verdict::PlainVerdict;
+pub use seed::Seed;

@@ -1,0 +1,32 @@
+//! The seed of a hasher.
+
+use sip_verdict::JudgeError;
+use std::hash::RandomState;
+use std::io;
+use std::random::RandomSource;
+
+/// Bytes that nobody who sends messages can guess, such as random ones of the system. No verdict depends on them: they are for the hasher of
+/// the keys of transactions, so that no log can be made that takes long to judge.
+#[repr(C)]
+#[derive(Clone, Copy, Debug)]
+pub struct Seed {
+    pub bytes: [u8; 16],
+}
+
+impl RandomSource for Seed {
+    fn fill_bytes(&self, buf: &mut [u8]) -> io::Result<()> {
+        let count = buf.len().min(self.bytes.len());
+        buf[..count].copy_from_slice(&self.bytes[..count]);
+        Ok(())
+    }
+}
+
+impl Seed {
+    /// The hasher of this seed. A seed always gives its bytes, so that there is one.
+    pub(crate) fn hasher(&self) -> Result<RandomState, JudgeError> {
+        match RandomState::new(self) {
+            Ok(hasher) => Ok(hasher),
+            Err(_) => Err(JudgeError::Memory),
+        }
+    }
+}

@@ -1,0 +1,152 @@
+-- What each verdict says by itself: the entries before the one that it names go well.
+use Rattle.std.proofs.Common.{◌≡◌, ◌+◌, ◌⊎◌, inl, inr, refl, sym, subst, ◌∙◌, ap, ℕ, List, [], ◌∷◌, ◌++◌, length, append_assoc}
+use Rattle.sip_key.specs.Key.{KeyParts}
+use Rattle.sip_machine.specs.Times.{Times}
+use Rattle.sip_log.specs.Spelling.{Item}
+use Rattle.sip_log.specs.Log.{LogEnd, Clean, Stops}
+use Rattle.sip_log.specs.LogSays.{LogSays}
+use Rattle.sip_message.specs.declared.fault.Fault.{Fault}
+use Rattle.sip_verdict.specs.declared.verdict.Verdict.{Verdict}
+use Rattle.sip_verdict.specs.declared.verdict.Verdict.TheVariants.{Malformed, Breach, Undecided, LogFault}
+use Rattle.sip_verdict.specs.declared.log_reason.LogReason.{LogReason}
+use Rattle.sip_verdict.specs.Keyed.{Observation}
+use Rattle.sip_verdict.specs.VerdictOf.{Sees, HasTrouble, IsVerdictBehind, IsVerdictOf}
+use Rattle.consequences.specs.Front.{GoWell, IsFirstInTrouble, IsFirstFault, IsFirstBreach, IsFirstWide, CannotBeRead}
+
+abbrev Entries : Type 0
+Entries = List (Observation KeyParts)
+
+-- items before others go well after entries, and the verdict is that of the trouble of the next, or of how all ends
+pub record Ends (p : Times) (es : Entries) (items : List Item) (end : LogEnd) (v : Verdict) : Type 0 where
+  pub before : List Item
+  pub front : Entries
+  pub rest : List Item
+  pub whole : items ≡ before ++ rest
+  pub well : GoWell p es before front
+  pub last : ((rest ≡ []) × IsVerdictBehind p (es ++ front) [] end v)
+      ⊎ ((item : Item) × (after : List Item) × (e : Observation KeyParts) × (rest ≡ item ∷ after) × Sees (es ++ front) item e × HasTrouble p (es ++ front) e v)
+
+append-none : (es : Entries) → es ++ [] ≡ es
+append-none [] = refl
+append-none (e ∷ es) = ap (λ fs. e ∷ fs) (append-none es)
+
+append-nothing : (items : List Item) → items ++ [] ≡ items
+append-nothing [] = refl
+append-nothing (item ∷ items) = ap (λ xs. item ∷ xs) (append-nothing items)
+
+-- a verdict after entries in no trouble is one of these
+ends : (p : Times) (es : Entries) (items : List Item) (end : LogEnd) (v : Verdict) → IsVerdictBehind p es items end v → Ends p es items end v
+ends p es [] end v is =
+    record { before = []; front = []; rest = []; whole = refl; well = tt; last = inl (refl, subst (λ fs. IsVerdictBehind p fs [] end v) (sym (append-none es)) is) }
+ends p es (item ∷ items) end v (e, sees, inl trouble) =
+    record {
+      before = [];
+      front = [];
+      rest = item ∷ items;
+      whole = refl;
+      well = tt;
+      last = inr (item, items, e, refl, subst (λ fs. Sees fs item e) (sym (append-none es)) sees, subst (λ fs. HasTrouble p fs e v) (sym (append-none es)) trouble);
+    }
+ends p es (item ∷ items) end v (e, sees, inr (formed, runs, narrow, more)) =
+    let later = ends p (es ++ e ∷ []) items end v more in
+    let same : (es ++ e ∷ []) ++ later.front ≡ es ++ e ∷ later.front = append_assoc es (e ∷ []) later.front in
+    record {
+      before = item ∷ later.before;
+      front = e ∷ later.front;
+      rest = later.rest;
+      whole = ap (λ xs. item ∷ xs) later.whole;
+      well = (sees, (formed, runs, narrow), later.well);
+      last = subst (λ fs. ((later.rest ≡ []) × IsVerdictBehind p fs [] end v)
+          ⊎ ((next : Item) × (after : List Item) × (f : Observation KeyParts) × (later.rest ≡ next ∷ after) × Sees fs next f × HasTrouble p fs f v)) same later.last;
+    }
+
+module _ (input : List ℕ) where
+  -- a verdict that names trouble of an entry names that of the first one in trouble
+  first_in_trouble : (p : Times) (items : List Item) (end : LogEnd) (v : Verdict) (number : ℕ) → LogSays input p items end → (found : Ends p [] items end v)
+      → (item : Item) (after : List Item) (e : Observation KeyParts) → found.rest ≡ item ∷ after → Sees found.front item e → number ≡ length found.front + 1
+      → IsFirstInTrouble input p number found.front e
+  first_in_trouble p items end v number says found item after e is sees numbered =
+      record {
+        before = found.before;
+        item = item;
+        after = after;
+        end = end;
+        says = subst (λ xs. LogSays input p xs end) (found.whole ∙ ap (λ xs. found.before ++ xs) is) says;
+        well = found.well;
+        sees = sees;
+        numbered = numbered;
+      }
+
+  pub first_fault : (number : ℕ) (fault : Fault) → IsVerdictOf input (Malformed number fault) → IsFirstFault input number fault
+  first_fault number fault (inl (lacks, is)) = absurd cc
+  first_fault number fault (inr (p, items, end, says, is)) = by (ends p [] items end (Malformed number fault) is)
+    where
+      by_end : (end : LogEnd) (front : Entries) → ¬ (IsVerdictBehind p front [] end (Malformed number fault))
+      by_end Clean front is = cc
+      by_end (Stops f) front is = cc
+
+      with_last : (found : Ends p [] items end (Malformed number fault)) → ((found.rest ≡ []) × IsVerdictBehind p found.front [] end (Malformed number fault))
+          ⊎ ((item : Item) × (after : List Item) × (e : Observation KeyParts) × (found.rest ≡ item ∷ after) × Sees found.front item e × HasTrouble p found.front e (Malformed number fault))
+          → IsFirstFault input number fault
+      with_last found (inl (none, is)) = absurd (by_end end found.front is)
+      with_last found (inr (item, after, e, rest, sees, trouble)) =
+          (p, found.front, e, first_in_trouble p items end (Malformed number fault) number says found item after e rest sees trouble.0, trouble.1)
+
+      by : Ends p [] items end (Malformed number fault) → IsFirstFault input number fault
+      by found = with_last found found.last
+
+  pub first_breach : (number transaction : ℕ) → IsVerdictOf input (Breach number transaction) → IsFirstBreach input number transaction
+  first_breach number transaction (inl (lacks, is)) = absurd cc
+  first_breach number transaction (inr (p, items, end, says, is)) = by (ends p [] items end (Breach number transaction) is)
+    where
+      by_end : (end : LogEnd) (front : Entries) → ¬ (IsVerdictBehind p front [] end (Breach number transaction))
+      by_end Clean front is = cc
+      by_end (Stops f) front is = cc
+
+      with_last : (found : Ends p [] items end (Breach number transaction)) → ((found.rest ≡ []) × IsVerdictBehind p found.front [] end (Breach number transaction))
+          ⊎ ((item : Item) × (after : List Item) × (e : Observation KeyParts) × (found.rest ≡ item ∷ after) × Sees found.front item e × HasTrouble p found.front e (Breach number transaction))
+          → IsFirstBreach input number transaction
+      with_last found (inl (none, is)) = absurd (by_end end found.front is)
+      with_last found (inr (item, after, e, rest, sees, trouble)) =
+          (p, found.front, e, first_in_trouble p items end (Breach number transaction) number says found item after e rest sees trouble.0, trouble.1, trouble.2)
+
+      by : Ends p [] items end (Breach number transaction) → IsFirstBreach input number transaction
+      by found = with_last found found.last
+
+  pub first_wide : (number transaction : ℕ) → IsVerdictOf input (Undecided number transaction) → IsFirstWide input number transaction
+  first_wide number transaction (inl (lacks, is)) = absurd cc
+  first_wide number transaction (inr (p, items, end, says, is)) = by (ends p [] items end (Undecided number transaction) is)
+    where
+      by_end : (end : LogEnd) (front : Entries) → ¬ (IsVerdictBehind p front [] end (Undecided number transaction))
+      by_end Clean front is = cc
+      by_end (Stops f) front is = cc
+
+      with_last : (found : Ends p [] items end (Undecided number transaction)) → ((found.rest ≡ []) × IsVerdictBehind p found.front [] end (Undecided number transaction))
+          ⊎ ((item : Item) × (after : List Item) × (e : Observation KeyParts) × (found.rest ≡ item ∷ after) × Sees found.front item e × HasTrouble p found.front e (Undecided number transaction))
+          → IsFirstWide input number transaction
+      with_last found (inl (none, is)) = absurd (by_end end found.front is)
+      with_last found (inr (item, after, e, rest, sees, trouble)) =
+          (p, found.front, e, first_in_trouble p items end (Undecided number transaction) number says found item after e rest sees trouble.0, trouble.1, trouble.2, trouble.3)
+
+      by : Ends p [] items end (Undecided number transaction) → IsFirstWide input number transaction
+      by found = with_last found found.last
+
+  pub cannot_be_read : (number : ℕ) (reason : LogReason) → IsVerdictOf input (LogFault number reason) → CannotBeRead input number reason
+  cannot_be_read number reason (inl (lacks, is)) = inl (cc, cc, lacks)
+  cannot_be_read number reason (inr (p, items, end, says, is)) = by (ends p [] items end (LogFault number reason) is)
+    where
+      at_end : (end : LogEnd) → LogSays input p items end → (found : Ends p [] items end (LogFault number reason)) → found.rest ≡ []
+          → IsVerdictBehind p found.front [] end (LogFault number reason) → CannotBeRead input number reason
+      at_end Clean says found none is = absurd cc
+      at_end (Stops fault) says found none is =
+          let same : items ≡ found.before = found.whole ∙ ap (λ xs. found.before ++ xs) none ∙ append-nothing found.before in
+          inr (p, found.before, found.front, fault, subst (λ xs. LogSays input p xs (Stops fault)) same says, found.well, cc, cc)
+
+      with_last : (found : Ends p [] items end (LogFault number reason)) → ((found.rest ≡ []) × IsVerdictBehind p found.front [] end (LogFault number reason))
+          ⊎ ((item : Item) × (after : List Item) × (e : Observation KeyParts) × (found.rest ≡ item ∷ after) × Sees found.front item e × HasTrouble p found.front e (LogFault number reason))
+          → CannotBeRead input number reason
+      with_last found (inl (none, is)) = at_end end says found none is
+      with_last found (inr (item, after, e, rest, sees, trouble)) = absurd trouble
+
+      by : Ends p [] items end (LogFault number reason) → CannotBeRead input number reason
+      by found = with_last found found.last

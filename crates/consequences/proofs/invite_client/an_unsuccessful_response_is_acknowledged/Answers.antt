@@ -1,0 +1,85 @@
+use Rattle.std.proofs.Common.{◌≡◌, ◌≤◌, ◌<◌, ◌*◌, ◌⊎◌, inl, inr, ◌++◌, ◌∷◌, ◌∙◌, ℕ, true, false, List, All, sym, arith}
+use Rattle.std.specs.List.{Any}
+use Rattle.std.proofs.lemmas.List.Elements.{All-weaker}
+use Rattle.sip_key.specs.declared.role.Role.TheVariants.{Client}
+use Rattle.sip_times.specs.declared.rules.Rules.{Rules}
+use Rattle.sip_times.specs.declared.rules.Rules.TheVariants.{R3261, R6026}
+use Rattle.sip_machine.specs.declared.event.Method.TheVariants.{Invite}
+use Rattle.sip_machine.specs.Limits.{open_at, close_at}
+use Rattle.sip_machine.specs.MachineEvent.{MachineEvent}
+use Rattle.sip_machine.specs.Message.{IsFinal, IsSuccess, IsUnsuccessful}
+use Rattle.sip_machine.specs.Times.{Times}
+use Rattle.sip_machine.specs.InviteClient as corrected
+use Rattle.sip_machine.specs.InviteClient3261 as without
+use Rattle.sip_states.specs.KeyMachine.{OfInviteClient, OfInviteClient3261}
+use Rattle.sip_states.specs.Stands.{Stands}
+use Rattle.consequences.specs.Acknowledged.{Acknowledges}
+use Rattle.consequences.specs.Events.{SendsRequest, GetsResponse, IsRefused, IsRestart}
+use Rattle.consequences.specs.Machines.{figure_of, StateOf}
+use Rattle.consequences.proofs.lemmas.client.Acknowledging.{acknowledged}
+use Rattle.consequences.proofs.lemmas.client.InviteClients.{receives_6026, receives_3261}
+use Rattle.consequences.proofs.lemmas.run.Lasting.{what_stands_lasts}
+use Rattle.consequences.proofs.lemmas.run.Lists.{any-none}
+use Rattle.consequences.proofs.invite_client.an_unsuccessful_response_is_acknowledged.Goals as goal
+
+module _ (p : Times) (before between after : List MachineEvent) (invite response : MachineEvent) (m : ℕ) (none : All (λ f. ¬ (SendsRequest Invite f)) before) (sent : SendsRequest Invite invite)
+    (gets : GetsResponse IsUnsuccessful response) (early : response.moment < open_at p invite.moment (64 * p.t1)) (late : close_at p response.moment 0 < m) where
+  abbrev IsBroken : MachineEvent → Type 0
+  IsBroken g = GetsResponse IsSuccess g ⊎ IsRefused g ⊎ IsRestart g
+
+  -- by either rules
+  by : (rules : Rules) (y : StateOf rules Client true) → All (λ g. ¬ (IsBroken g)) between
+      → ¬ (Any (GetsResponse IsUnsuccessful) between × ((invite.reliable ≡ true) ⊎ (open_at p invite.moment 32000 ≤ response.moment)))
+      → Stands (figure_of rules Client true) p (before ++ invite ∷ (between ++ response ∷ after)) m y → Any (Acknowledges p invite response) after ⊎ Any (λ f. IsRefused f ⊎ IsRestart f) after
+  by rules y unbroken not_again stands = by_rules rules y stands
+    where
+      waiting : ¬ (Any IsBroken between ⊎ (open_at p invite.moment (64 * p.t1) ≤ response.moment)
+          ⊎ (Any (GetsResponse IsUnsuccessful) between × ((invite.reliable ≡ true) ⊎ (open_at p invite.moment 32000 ≤ response.moment))))
+      waiting (inl broken) = any-none IsBroken between unbroken broken
+      waiting (inr (inl over)) = absurd (omega (arith, over, early))
+      waiting (inr (inr again)) = not_again again
+
+      by_rules : (rules : Rules) (y : StateOf rules Client true) → Stands (figure_of rules Client true) p (before ++ invite ∷ (between ++ response ∷ after)) m y
+          → Any (Acknowledges p invite response) after ⊎ Any (λ f. IsRefused f ⊎ IsRestart f) after
+      by_rules R6026 y stands = acknowledged corrected.Receives receives_6026 p invite response (what_stands_lasts OfInviteClient p) before between after m y none sent waiting gets stands late
+      by_rules R3261 y stands = acknowledged without.Receives receives_3261 p invite response (what_stands_lasts OfInviteClient3261 p) before between after m y none sent waiting gets stands late
+
+  first : (rules : Rules) (y : StateOf rules Client true) → All (λ f. ¬ (GetsResponse IsFinal f) × ¬ (IsRefused f) × ¬ (IsRestart f)) between
+      → Stands (figure_of rules Client true) p (before ++ invite ∷ (between ++ response ∷ after)) m y → Any (Acknowledges p invite response) after ⊎ Any (λ f. IsRefused f ⊎ IsRestart f) after
+  first rules y quiet stands =
+      by rules y (All-weaker (λ f. ¬ (GetsResponse IsFinal f) × ¬ (IsRefused f) × ¬ (IsRestart f)) (λ g. ¬ (IsBroken g)) unbroken between quiet) not_again stands
+    where
+      unbroken : (g : MachineEvent) → ¬ (GetsResponse IsFinal g) × ¬ (IsRefused g) × ¬ (IsRestart g) → ¬ (IsBroken g)
+      unbroken g calm (inl success) = calm.0 (success.0, (success.1.0, success.1.1, (success.1.2.0, omega (arith, success.1.2.1))))
+      unbroken g calm (inr (inl refused)) = calm.1 refused
+      unbroken g calm (inr (inr restarted)) = calm.2 restarted
+
+      not_again : ¬ (Any (GetsResponse IsUnsuccessful) between × ((invite.reliable ≡ true) ⊎ (open_at p invite.moment 32000 ≤ response.moment)))
+      not_again (came, ending) =
+          any-none (GetsResponse IsUnsuccessful) between (All-weaker (λ f. ¬ (GetsResponse IsFinal f) × ¬ (IsRefused f) × ¬ (IsRestart f)) (λ g. ¬ (GetsResponse IsUnsuccessful g))
+          (λ g calm bad. calm.0 (bad.0, (bad.1.0, bad.1.1, (omega (arith, bad.1.2.0), bad.1.2.1)))) between quiet) came
+
+  again : (rules : Rules) (y : StateOf rules Client true) → invite.reliable ≡ false → All (λ f. ¬ (GetsResponse IsSuccess f) × ¬ (IsRefused f) × ¬ (IsRestart f)) between → response.moment < open_at p invite.moment 32000
+      → Stands (figure_of rules Client true) p (before ++ invite ∷ (between ++ response ∷ after)) m y → Any (Acknowledges p invite response) after ⊎ Any (λ f. IsRefused f ⊎ IsRestart f) after
+  again rules y unreliable quiet in_time stands =
+      by rules y (All-weaker (λ f. ¬ (GetsResponse IsSuccess f) × ¬ (IsRefused f) × ¬ (IsRestart f)) (λ g. ¬ (IsBroken g)) unbroken between quiet) not_again stands
+    where
+      unbroken : (g : MachineEvent) → ¬ (GetsResponse IsSuccess g) × ¬ (IsRefused g) × ¬ (IsRestart g) → ¬ (IsBroken g)
+      unbroken g calm (inl success) = calm.0 success
+      unbroken g calm (inr (inl refused)) = calm.1 refused
+      unbroken g calm (inr (inr restarted)) = calm.2 restarted
+
+      false-true : ¬ (false ≡ true)
+      false-true same = cc
+
+      not_again : ¬ (Any (GetsResponse IsUnsuccessful) between × ((invite.reliable ≡ true) ⊎ (open_at p invite.moment 32000 ≤ response.moment)))
+      not_again (came, inl reliable) = false-true (sym unreliable ∙ reliable)
+      not_again (came, inr over) = absurd (omega (arith, over, in_time))
+
+pub returns-clause-first : goal.returns-clause-first
+returns-clause-first c = λ p rules before between after invite response m y none sent quiet gets early stands late.
+    first p before between after invite response m none sent gets early late rules y quiet stands
+
+pub returns-clause-again : goal.returns-clause-again
+returns-clause-again c = λ p rules before between after invite response m y none sent unreliable quiet gets early in_time stands late.
+    again p before between after invite response m none sent gets early late rules y unreliable quiet in_time stands

@@ -1,0 +1,38 @@
+use Rattle.std.proofs.Common.{◌≡◌, ◌≤◌, ◌⊎◌, inl, inr, ◌∙◌, ℕ, List, refl, sym, arith}
+use Rattle.std.specs.List.{Any}
+use Rattle.sip_machine.specs.declared.event.Kind.TheVariants.{Response}
+use Rattle.sip_machine.specs.Limits.{close_at}
+use Rattle.sip_machine.specs.MachineEvent.{MachineEvent}
+use Rattle.sip_machine.specs.Message.{IsProvisional, IsFinal, IsSuccess, IsUnsuccessful}
+use Rattle.sip_machine.specs.Times.{Times}
+use Rattle.sip_machine.specs.InviteServer.{invite_server}
+use Rattle.consequences.specs.Events.{IsResponse, SendsResponse}
+use Rattle.consequences.proofs.lemmas.server.FinalResponse.{sent-after-final}
+use Rattle.consequences.proofs.lemmas.server.InviteServers.{is-server-6026}
+use Rattle.consequences.proofs.lemmas.server.Passed.{successes-alone}
+use Rattle.consequences.proofs.invite_server.after_a_success_successes_alone_are_sent.Goals as goal
+
+-- one code is not both
+one-code : (e : MachineEvent) → IsResponse IsUnsuccessful e → ¬ (IsResponse IsSuccess e)
+one-code e (code, kind, unsuccessful) (other, again, success) = absurd (omega (arith, codes-are-one code other (sym kind ∙ again), unsuccessful.0, success.1))
+  where
+    codes-are-one : (a b : ℕ) → Response a ≡ Response b → a ≡ b
+    codes-are-one a b same = cc
+
+final-too : (final : MachineEvent) → SendsResponse IsSuccess final → SendsResponse IsFinal final
+final-too final sends = (sends.0, (sends.1.0, sends.1.1, (sends.1.2.0, omega (arith, sends.1.2.1))))
+
+only : (p : Times) (before : List MachineEvent) (final e : MachineEvent) → SendsResponse IsSuccess final →
+    (IsResponse IsSuccess final × IsResponse IsSuccess e) ⊎ (IsResponse IsUnsuccessful final × (e.text ≡ final.text))
+    ⊎ ((e.moment ≤ close_at p final.moment 0) × Any (λ f. SendsResponse IsProvisional f × (f.text ≡ e.text)) before) →
+    IsResponse IsSuccess e ⊎ ((e.moment ≤ close_at p final.moment 0) × Any (λ f. SendsResponse IsProvisional f × (f.text ≡ e.text)) before)
+only p before final e sends (inl good) = inl good.1
+only p before final e sends (inr (inl bad)) = absurd (one-code final bad.0 sends.1)
+only p before final e sends (inr (inr old)) = inr old
+
+pub returns-clause-corrected : goal.returns-clause-corrected
+returns-clause-corrected c = λ p before after final e y first one_kind sends anew sent stands.
+    only p before final e sends (sent-after-final invite_server p (λ x. x) (is-server-6026 p) before final (final-too final sends) one_kind (λ x y h. (y, h, refl)) after e y first anew sent stands)
+
+pub returns-clause-without : goal.returns-clause-without
+returns-clause-without c = λ p before after final e y first one_kind sends none sent stands. successes-alone p before final sends one_kind after e y first none sent stands

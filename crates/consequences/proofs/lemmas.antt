@@ -1,0 +1,4 @@
+pub mod run
+pub mod client
+pub mod server
+pub mod tolerance

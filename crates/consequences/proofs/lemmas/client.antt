@@ -1,0 +1,6 @@
+pub mod InviteClients
+pub mod Unanswered
+pub mod Acknowledging
+pub mod Once
+pub mod Repeating
+pub mod TimerF

@@ -1,0 +1,205 @@
+-- A client sends its request once: after that it is never idle again, and a restart ends it.
+use Rattle.std.proofs.Common.{◌≡◌, ◌⊎◌, inl, inr, ℕ, Bool, true, false, Some, List, ◌∷◌, ◌++◌, refl, sym, subst, ◌∙◌}
+use Rattle.sip_times.specs.declared.action.Action.{Action}
+use Rattle.sip_times.specs.declared.action.Action.TheVariants.{Sent, Received, Failed, Mark, Restart}
+use Rattle.sip_machine.specs.declared.event.Method.{Method}
+use Rattle.sip_machine.specs.declared.event.Method.TheVariants.{Invite, Ack, Cancel}
+use Rattle.sip_machine.specs.declared.event.Kind.{Kind}
+use Rattle.sip_machine.specs.declared.event.Kind.TheVariants.{Request, Response}
+use Rattle.sip_machine.specs.Times.{Times}
+use Rattle.sip_machine.specs.MachineEvent.{MachineEvent}
+use Rattle.sip_machine.specs.Figure.{Figure, Change, keeps, Owing, quiet, Emits, Fails, Steps, Takes}
+use Rattle.sip_machine.specs.InviteClient as invite
+use Rattle.sip_machine.specs.PlainClient as plain
+use Rattle.sip_states.specs.Stands.{Stands, StandsBehind}
+use Rattle.consequences.specs.Events.{IsRestart}
+use Rattle.consequences.proofs.lemmas.server.Asleep.{nothing-to-pay}
+use Rattle.consequences.proofs.lemmas.client.InviteClients.{Row, Receiving, client, IsDone, Answers, IsReceiving, pays-nothing, sends-idle, sends-calling, sends-proceeding, sends-accepted, sends-completed, sends-ended}
+use Rattle.consequences.proofs.lemmas.run.Running.{IsKept, left_at, step-of, stands-run, Cut, cut, run-keeps}
+
+-- phases after the request: no row leads back, and the ended one sends only what it may and stays
+pub record IsOnce {X : Type 0} (f : Figure X) (p : Times) (HasAsked : X → Type 0) (IsRequest MaySend : Kind → Type 0) : Type 0 where
+  pub idle : ¬ (HasAsked f.idle)
+  pub ended : HasAsked f.ended
+  pub received : (x : X) (k : Kind) (e : MachineEvent) (y : X × Change) → HasAsked x → f.Receives p x k e y → HasAsked y.0
+  pub sent : (x : X) (k : Kind) (e : MachineEvent) (y : X × Change) → HasAsked x → f.Sends p x k e y → HasAsked y.0
+  pub asks : (e : MachineEvent) (x y : Owing X) → IsRequest e.kind → Emits f p e x y → HasAsked y.phase
+  pub deaf : (k : Kind) (e : MachineEvent) (y : X × Change) → ¬ (f.Receives p f.ended k e y)
+  pub over : (k : Kind) (e : MachineEvent) (y : X × Change) → f.Sends p f.ended k e y → MaySend k × (y ≡ (f.ended, keeps))
+  pub unmoved : (x : X) (k : Kind) → ¬ (f.Stays x k)
+
+module _ {X : Type 0} (f : Figure X) (p : Times) (HasAsked : X → Type 0) (IsRequest MaySend : Kind → Type 0) (once : IsOnce f p HasAsked IsRequest MaySend) where
+  emits : (e : MachineEvent) (x y : Owing X) → HasAsked x.phase → Emits f p e x y → HasAsked y.phase
+  emits e x y asked (inl (row, is_row, to)) = rw to (once.sent x.phase e.kind e row asked is_row)
+  emits e x y asked (inr (inl (left, pays, to))) = rw to asked
+  emits e x y asked (inr (inr (stays, same))) = rw same asked
+
+  fails : (ends : Bool) (e : MachineEvent) (x y : Owing X) → HasAsked x.phase → Fails ends f p e x y → HasAsked y.phase
+  fails true e x y asked h = rw h.1 once.ended
+  fails false e x y asked h = emits e x y asked h
+
+  steps : (a : Action) (e : MachineEvent) (x y : Owing X) → HasAsked x.phase → Steps f p a e x y → HasAsked y.phase
+  steps Received e x y asked (inl (row, is_row, to)) = rw to (once.received x.phase e.kind e row asked is_row)
+  steps Received e x y asked (inr (none, same)) = rw same asked
+  steps Sent e x y asked h = emits e x y asked h
+  steps Failed e x y asked h = fails (f.ends_refused x.phase e.kind) e x y asked h
+  steps Mark e x y asked h = absurd h
+  steps Restart e x y asked (inl (idle, to)) = absurd (once.idle (subst HasAsked idle asked))
+  steps Restart e x y asked (inr (other, to)) = rw to once.ended
+
+  asked-kept : IsKept f p (λ es m y. HasAsked y.phase)
+  asked-kept = record {
+    as_it_waits = λ es h m x asked low lasts. asked;
+    as_it_ends = λ es h x asked may. once.ended;
+    as_it_takes = λ es e x y asked take. steps e.action e (record { phase = x.phase; owes = left_at e x }) y asked take;
+  }
+
+  pub over-emits : (e : MachineEvent) (y : Owing X) → Emits f p e (quiet f.ended) y → MaySend e.kind × (y ≡ quiet f.ended)
+  over-emits e y (inl (row, is_row, to)) = let sends = once.over e.kind e row is_row in (sends.0, rw (to, sends.1))
+  over-emits e y (inr (inl (left, pays, to))) = absurd (nothing-to-pay _ left pays)
+  over-emits e y (inr (inr (stays, same))) = absurd (once.unmoved f.ended e.kind stays)
+
+  over-fails : (ends : Bool) (e : MachineEvent) (y : Owing X) → Fails ends f p e (quiet f.ended) y → y ≡ quiet f.ended
+  over-fails true e y h = h.1
+  over-fails false e y h = (over-emits e y h).1
+
+  pub over-steps : (a : Action) (e : MachineEvent) (y : Owing X) → Steps f p a e (quiet f.ended) y → y ≡ quiet f.ended
+  over-steps Received e y (inl (row, is_row, to)) = absurd (once.deaf e.kind e row is_row)
+  over-steps Received e y (inr (none, same)) = same
+  over-steps Sent e y h = (over-emits e y h).1
+  over-steps Failed e y h = over-fails (f.ends_refused f.ended e.kind) e y h
+  over-steps Mark e y h = absurd h
+  over-steps Restart e y (inl (idle, to)) = absurd (once.idle (subst HasAsked idle once.ended))
+  over-steps Restart e y (inr (other, to)) = to
+
+  over-kept : IsKept f p (λ es m y. y ≡ quiet f.ended)
+  over-kept = record {
+    as_it_waits = λ es h m x over low lasts. over;
+    as_it_ends = λ es h x over may. refl;
+    as_it_takes = λ es e x y over take. over-steps e.action e y (subst (λ z. Takes f p z e y) over take);
+  }
+
+  -- what stands after the request and a restart is over
+  pub restart-ends : (before between after : List MachineEvent) (request restart : MachineEvent) (m : ℕ) (y : Owing X) → request.action ≡ Sent → IsRequest request.kind → IsRestart restart →
+      Stands f p (before ++ request ∷ (between ++ restart ∷ after)) m y → y ≡ quiet f.ended
+  restart-ends before between after request restart m y sent asks restarts stands =
+      by-request (cut f p (quiet f.idle) 0 before request (between ++ restart ∷ after) m y (stands-run f p (before ++ request ∷ (between ++ restart ∷ after)) m y stands))
+    where
+      by-restart : (x : Owing X) → HasAsked x.phase → Cut f p x request.moment between restart after m y → y ≡ quiet f.ended
+      by-restart x asked found =
+          let still = run-keeps f p (λ es h z. HasAsked z.phase) asked-kept between x request.moment restart.moment found.from asked found.leads in
+          run-keeps f p (λ es h z. z ≡ quiet f.ended) over-kept after found.to restart.moment m y (by-step still (step-of f p Restart restart found.from found.to restarts found.step)) found.goes
+        where
+          by-step : HasAsked found.from.phase → ((found.from.phase ≡ f.idle) × (found.to ≡ quiet f.idle)) ⊎ (¬ (found.from.phase ≡ f.idle) × (found.to ≡ quiet f.ended)) → found.to ≡ quiet f.ended
+          by-step still (inl (idle, to)) = absurd (once.idle (subst HasAsked idle still))
+          by-step still (inr (other, to)) = to
+
+      by-request : Cut f p (quiet f.idle) 0 before request (between ++ restart ∷ after) m y → y ≡ quiet f.ended
+      by-request found =
+          by-restart found.to (once.asks request (record { phase = found.from.phase; owes = left_at request found.from }) found.to asks (step-of f p Sent request found.from found.to sent found.step))
+          (cut f p found.to request.moment between restart after m y found.goes)
+
+  pub restart-silences : (before between after : List MachineEvent) (request restart e : MachineEvent) (y : Owing X) → request.action ≡ Sent → IsRequest request.kind → IsRestart restart →
+      e.action ≡ Sent → StandsBehind f p (before ++ request ∷ (between ++ restart ∷ after)) e y → MaySend e.kind
+  restart-silences before between after request restart e y sent asks restarts is_sent (x, stands, take) =
+      let over = restart-ends before between after request restart e.moment x sent asks restarts stands in
+      (over-emits e y (step-of f p Sent e (quiet f.ended) y is_sent (subst (λ z. Takes f p z e y) over take))).0
+
+-- The INVITE clients.
+
+abbrev pub IsInvited : invite.InviteClientPhase → Type 0
+IsInvited invite.Idle = ⊥
+IsInvited x = Unit {0}
+
+module _ (R : Receiving) (is : IsReceiving R) (p : Times) where
+  done-invited : (x : invite.InviteClientPhase) → IsDone x → IsInvited x
+  done-invited invite.Ended done = tt
+  done-invited (invite.Accepted set) done = tt
+  done-invited x done = absurd done
+
+  answers-invited : (reliable : Bool) (request : List ℕ) (k : Kind) (e : MachineEvent) (row : Row) → Answers reliable request k e row → IsInvited row.0
+  answers-invited reliable request k e row (code, kind, inl h) = rw h.1 tt
+  answers-invited reliable request k e row (code, kind, inr (inl h)) = done-invited row.0 h.1
+  answers-invited reliable request k e row (code, kind, inr (inr h)) = rw h.1 tt
+
+  received : (x : invite.InviteClientPhase) (k : Kind) (e : MachineEvent) (row : Row) → IsInvited x → R p x k e row → IsInvited row.0
+  received invite.Idle k e row asked h = absurd asked
+  received invite.Ended k e row asked h = absurd (is.ended p k e row h)
+  received (invite.Accepted set) k e row asked h = absurd (is.accepted p set k e row h)
+  received (invite.Calling w) k e row asked h = answers-invited w.reliable w.request k e row (is.calling p w k e row h)
+  received (invite.Proceeding reliable request cancel) k e row asked h = answers-invited reliable request k e row (is.proceeding p reliable request cancel k e row h)
+  received (invite.Completed reliable request set) k e row asked h = rw (is.completed p reliable request set k e row h).3 tt
+
+  sent : (x : invite.InviteClientPhase) (k : Kind) (e : MachineEvent) (row : Row) → IsInvited x → invite.Sends p x k e row → IsInvited row.0
+  sent invite.Idle k e row asked h = absurd asked
+  sent (invite.Calling w) k e row asked h = rw (sends-calling p w k e row h).2 tt
+  sent (invite.Proceeding reliable request cancel) k e row asked h = by (sends-proceeding p reliable request cancel k e row h).1
+    where
+      by : (row ≡ (invite.Proceeding reliable request (Some e.moment), keeps)) ⊎ (row ≡ (invite.Proceeding reliable request cancel, keeps)) → IsInvited row.0
+      by (inl leads) = rw leads tt
+      by (inr leads) = rw leads tt
+  sent (invite.Accepted set) k e row asked h = rw (sends-accepted p set k e row h).1 tt
+  sent (invite.Completed reliable request set) k e row asked h = rw (sends-completed p reliable request set k e row h).1 tt
+  sent invite.Ended k e row asked h = rw (sends-ended p k e row h).1 tt
+
+  sent-invite : (x : invite.InviteClientPhase) (k : Kind) (e : MachineEvent) (row : Row) → k ≡ Request Invite → invite.Sends p x k e row → IsInvited row.0
+  sent-invite invite.Idle k e row asks h = by (sends-idle p k e row h)
+    where
+      by : ((k ≡ Request Invite) × (row ≡ (invite.Calling (record { reliable = e.reliable; request = e.text; start = e.moment; set = e.moment; interval = p.t1 }), keeps)))
+          ⊎ (¬ (k ≡ Request Invite) × (row ≡ (invite.Idle, keeps))) → IsInvited row.0
+      by (inl leads) = rw leads.1 tt
+      by (inr leads) = absurd (leads.0 asks)
+  sent-invite (invite.Calling w) k e row asks h = sent (invite.Calling w) k e row tt h
+  sent-invite (invite.Proceeding reliable request cancel) k e row asks h = sent (invite.Proceeding reliable request cancel) k e row tt h
+  sent-invite (invite.Accepted set) k e row asks h = sent (invite.Accepted set) k e row tt h
+  sent-invite (invite.Completed reliable request set) k e row asks h = sent (invite.Completed reliable request set) k e row tt h
+  sent-invite invite.Ended k e row asks h = sent invite.Ended k e row tt h
+
+  no-ack : ¬ (Request Invite ≡ Request Ack)
+  no-ack same = cc
+
+  asks : (e : MachineEvent) (x y : Owing invite.InviteClientPhase) → e.kind ≡ Request Invite → Emits (client R) p e x y → IsInvited y.phase
+  asks e x y invites (inl (row, is_row, to)) = rw to (sent-invite x.phase e.kind e row invites is_row)
+  asks e x y invites (inr (inl (left, pays, to))) = absurd (no-ack (sym invites ∙ (pays-nothing x.phase e.kind e pays.first.message pays.holds.0).4))
+  asks e x y invites (inr (inr (stays, same))) = absurd stays
+
+  pub invites-once : IsOnce (client R) p IsInvited (λ k. k ≡ Request Invite) (λ k. k ≡ Request Cancel)
+  invites-once = record { idle = λ h. h; ended = tt; received = received; sent = sent; asks = asks; deaf = is.ended p; over = sends-ended p; unmoved = λ x k h. h }
+
+-- The client of any other method.
+
+abbrev pub IsAsked : plain.PlainClientPhase → Type 0
+IsAsked plain.Idle = ⊥
+IsAsked x = Unit {0}
+
+abbrev pub IsAnyRequest : Kind → Type 0
+IsAnyRequest k = (method : Method) × (k ≡ Request method)
+
+plain-received : (p : Times) (x : plain.PlainClientPhase) (k : Kind) (e : MachineEvent) (row : plain.PlainClientPhase × Change) → IsAsked x → plain.Receives p x k e row → IsAsked row.0
+plain-received p (plain.Trying w) (Response code) e row asked (inl h) = rw h.1 tt
+plain-received p (plain.Trying w) (Response code) e row asked (inr h) = rw h.1 tt
+plain-received p (plain.Proceeding w) (Response code) e row asked h = rw h.1 tt
+plain-received p x k e row asked h = absurd h
+
+plain-sent : (p : Times) (x : plain.PlainClientPhase) (k : Kind) (e : MachineEvent) (row : plain.PlainClientPhase × Change) → plain.Sends p x k e row → IsAsked row.0
+plain-sent p plain.Idle (Request method) e row h = rw h tt
+plain-sent p (plain.Trying w) (Request method) e row h = rw h.1 tt
+plain-sent p (plain.Proceeding w) (Request method) e row h = rw h.1 tt
+plain-sent p x k e row h = absurd h
+
+plain-asks : (p : Times) (e : MachineEvent) (x y : Owing plain.PlainClientPhase) → Emits plain.plain_client p e x y → IsAsked y.phase
+plain-asks p e x y (inl (row, is_row, to)) = rw to (plain-sent p x.phase e.kind e row is_row)
+plain-asks p e x y (inr (inl (left, pays, to))) = absurd pays.holds.0
+plain-asks p e x y (inr (inr (stays, same))) = absurd stays
+
+pub asks-once : (p : Times) → IsOnce plain.plain_client p IsAsked IsAnyRequest (λ k. ⊥)
+asks-once p = record {
+  idle = λ h. h;
+  ended = tt;
+  received = plain-received p;
+  sent = λ x k e row asked h. plain-sent p x k e row h;
+  asks = λ e x y asks h. plain-asks p e x y h;
+  deaf = λ k e row h. h;
+  over = λ k e row h. absurd h;
+  unmoved = λ x k h. h;
+}

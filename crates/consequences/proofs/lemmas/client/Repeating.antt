@@ -1,0 +1,273 @@
+-- How far apart a client sends its request again.
+use Rattle.std.proofs.Common.{◌≡◌, ◌≤◌, ◌*◌, ◌⊎◌, inl, inr, ℕ, Bool, true, false, Some, List, [], ◌∷◌, ◌++◌, filter, map, min, refl, sym, ap, subst, ◌∙◌, arith, if◌then◌else◌}
+use Rattle.sip_times.specs.declared.action.Action.{Action}
+use Rattle.sip_times.specs.declared.action.Action.TheVariants.{Sent, Received, Failed, Mark, Restart}
+use Rattle.sip_machine.specs.declared.event.Method.TheVariants.{Invite, Ack, Cancel, Other}
+use Rattle.sip_machine.specs.declared.event.Kind.{Kind}
+use Rattle.sip_machine.specs.declared.event.Kind.TheVariants.{Request, Response}
+use Rattle.sip_machine.specs.Times.{Times}
+use Rattle.sip_machine.specs.Limits.{open_at}
+use Rattle.sip_machine.specs.MachineEvent.{MachineEvent}
+use Rattle.sip_machine.specs.Figure.{Figure, Change, keeps, Owing, quiet, Emits, Fails, Steps}
+use Rattle.sip_machine.specs.InviteClient as invite
+use Rattle.sip_machine.specs.PlainClient as plain
+use Rattle.sip_states.specs.Stands.{Stands}
+use Rattle.consequences.specs.Repeats.{sends_invite, sends_request, AreSpaced, IsSpaced}
+use Rattle.consequences.proofs.lemmas.client.InviteClients.{Row, Receiving, client, IsDone, Answers, IsReceiving, pays-nothing, sends-idle, sends-calling, sends-proceeding, sends-accepted, sends-completed, sends-ended}
+use Rattle.consequences.proofs.lemmas.run.Running.{IsKept, left_at, stands-run, run-keeps}
+
+-- moments from a first one on are so spaced, the last is this one, and the next interval is this one
+abbrev SpacedTo : Times → (ℕ → ℕ) → ℕ → ℕ → List ℕ → ℕ → ℕ → Type 0
+SpacedTo p next first interval [] last more = (last ≡ first) × (more ≡ interval)
+SpacedTo p next first interval (m ∷ ms) last more = (open_at p first interval ≤ m) × SpacedTo p next m (next interval) ms last more
+
+one-more : (p : Times) (next : ℕ → ℕ) (first interval : ℕ) (ms : List ℕ) (last more m : ℕ) → SpacedTo p next first interval ms last more → open_at p last more ≤ m →
+    SpacedTo p next first interval (ms ++ m ∷ []) m (next more)
+one-more p next first interval [] last more m spaced low =
+    (subst (λ i. open_at p first i ≤ m) spaced.1 (subst (λ l. open_at p l more ≤ m) spaced.0 low), (refl, ap next spaced.1))
+one-more p next first interval (k ∷ ms) last more m spaced low = (spaced.0, one-more p next k (next interval) ms last more m spaced.1 low)
+
+are-spaced : (p : Times) (next : ℕ → ℕ) (first interval : ℕ) (ms : List ℕ) (last more : ℕ) → SpacedTo p next first interval ms last more → AreSpaced p next first interval ms
+are-spaced p next first interval [] last more spaced = tt
+are-spaced p next first interval (m ∷ ms) last more spaced = (spaced.0, are-spaced p next m (next interval) ms last more spaced.1)
+
+-- moments that begin with one
+abbrev Begins : Times → (ℕ → ℕ) → List ℕ → ℕ → ℕ → Type 0
+Begins p next moments last more = (first : ℕ) × (ms : List ℕ) × (moments ≡ first ∷ ms) × SpacedTo p next first p.t1 ms last more
+
+begins-spaced : (p : Times) (next : ℕ → ℕ) (moments : List ℕ) (last more : ℕ) → Begins p next moments last more → IsSpaced p next moments
+begins-spaced p next moments last more (first, ms, is, spaced) = rw is (are-spaced p next first p.t1 ms last more spaced)
+
+begins-more : (p : Times) (next : ℕ → ℕ) (moments : List ℕ) (last more m : ℕ) → Begins p next moments last more → open_at p last more ≤ m → Begins p next (moments ++ m ∷ []) m (next more)
+begins-more p next moments last more m (first, ms, is, spaced) low = (first, ms ++ m ∷ [], ap (λ xs. xs ++ m ∷ []) is, one-more p next first p.t1 ms last more m spaced low)
+
+-- the moments of the events that pass a test
+abbrev passed : (MachineEvent → Bool) → List MachineEvent → List ℕ
+passed test events = map (λ e. e.moment) (filter test events)
+
+append-nil : (ms : List ℕ) → ms ++ [] ≡ ms
+append-nil [] = refl
+append-nil (m ∷ ms) = ap (λ xs. m ∷ xs) (append-nil ms)
+
+pass-cons : (test : MachineEvent → Bool) (e : MachineEvent) (es : List MachineEvent) (b : Bool) → test e ≡ b → passed test (e ∷ es) ≡ (if b then e.moment ∷ passed test es else passed test es)
+pass-cons test e es true is = rw is refl
+pass-cons test e es false is = rw is refl
+
+-- one that passes is the last, and one that does not changes nothing
+passed-more : (test : MachineEvent → Bool) (es : List MachineEvent) (e : MachineEvent) → test e ≡ true → passed test (es ++ e ∷ []) ≡ passed test es ++ e.moment ∷ []
+passed-more test [] e is = pass-cons test e [] true is
+passed-more test (g ∷ es) e is = by (test g) refl (passed-more test es e is)
+  where
+    by : (b : Bool) → test g ≡ b → passed test (es ++ e ∷ []) ≡ passed test es ++ e.moment ∷ [] → passed test (g ∷ (es ++ e ∷ [])) ≡ passed test (g ∷ es) ++ e.moment ∷ []
+    by true here same = pass-cons test g (es ++ e ∷ []) true here ∙ ap (λ ms. g.moment ∷ ms) same ∙ sym (ap (λ ms. ms ++ e.moment ∷ []) (pass-cons test g es true here))
+    by false here same = pass-cons test g (es ++ e ∷ []) false here ∙ same ∙ sym (ap (λ ms. ms ++ e.moment ∷ []) (pass-cons test g es false here))
+
+passed-same : (test : MachineEvent → Bool) (es : List MachineEvent) (e : MachineEvent) → test e ≡ false → passed test (es ++ e ∷ []) ≡ passed test es
+passed-same test [] e is = pass-cons test e [] false is
+passed-same test (g ∷ es) e is = by (test g) refl (passed-same test es e is)
+  where
+    by : (b : Bool) → test g ≡ b → passed test (es ++ e ∷ []) ≡ passed test es → passed test (g ∷ (es ++ e ∷ [])) ≡ passed test (g ∷ es)
+    by true here same = pass-cons test g (es ++ e ∷ []) true here ∙ ap (λ ms. g.moment ∷ ms) same ∙ sym (pass-cons test g es true here)
+    by false here same = pass-cons test g (es ++ e ∷ []) false here ∙ same ∙ sym (pass-cons test g es false here)
+
+-- The INVITE clients.
+
+not-an-invite : (k : Kind) → ¬ (k ≡ Request Invite) → sends_invite Sent k ≡ false
+not-an-invite (Request Invite) other = absurd (other refl)
+not-an-invite (Request Ack) other = refl
+not-an-invite (Request Cancel) other = refl
+not-an-invite (Request Other) other = refl
+not-an-invite (Response code) other = refl
+
+module _ (R : Receiving) (is : IsReceiving R) (p : Times) where
+  abbrev f : Figure invite.InviteClientPhase
+  f = client R
+
+  abbrev next : ℕ → ℕ
+  next = λ interval. 2 * interval
+
+  abbrev test : MachineEvent → Bool
+  test = λ e. sends_invite e.action e.kind
+
+  -- the moments of the INVITEs that lead to a phase
+  abbrev Invited : List ℕ → invite.InviteClientPhase → Type 0
+  Invited ms invite.Idle = ms ≡ []
+  Invited ms (invite.Calling w) = Begins p next ms w.set w.interval
+  Invited ms x = IsSpaced p next ms
+
+  invited-spaced : (ms : List ℕ) (x : invite.InviteClientPhase) → Invited ms x → IsSpaced p next ms
+  invited-spaced ms invite.Idle invited = rw invited tt
+  invited-spaced ms (invite.Calling w) invited = begins-spaced p next ms w.set w.interval invited
+  invited-spaced ms (invite.Proceeding reliable request cancel) invited = invited
+  invited-spaced ms (invite.Accepted set) invited = invited
+  invited-spaced ms (invite.Completed reliable request set) invited = invited
+  invited-spaced ms invite.Ended invited = invited
+
+  done-invited : (ms : List ℕ) (x : invite.InviteClientPhase) → IsDone x → IsSpaced p next ms → Invited ms x
+  done-invited ms invite.Ended done spaced = spaced
+  done-invited ms (invite.Accepted set) done spaced = spaced
+  done-invited ms x done spaced = absurd done
+
+  answers-invited : (ms : List ℕ) (reliable : Bool) (request : List ℕ) (k : Kind) (e : MachineEvent) (row : Row) → IsSpaced p next ms → Answers reliable request k e row → Invited ms row.0
+  answers-invited ms reliable request k e row spaced (code, kind, inl h) = rw h.1 spaced
+  answers-invited ms reliable request k e row spaced (code, kind, inr (inl h)) = done-invited ms row.0 h.1 spaced
+  answers-invited ms reliable request k e row spaced (code, kind, inr (inr h)) = rw h.1 spaced
+
+  invited-received : (ms : List ℕ) (x : invite.InviteClientPhase) (e : MachineEvent) (row : Row) → Invited ms x → R p x e.kind e row → Invited ms row.0
+  invited-received ms invite.Idle e row invited h = absurd (is.idle p e.kind e row h)
+  invited-received ms invite.Ended e row invited h = absurd (is.ended p e.kind e row h)
+  invited-received ms (invite.Accepted set) e row invited h = absurd (is.accepted p set e.kind e row h)
+  invited-received ms (invite.Calling w) e row invited h =
+      answers-invited ms w.reliable w.request e.kind e row (invited-spaced ms (invite.Calling w) invited) (is.calling p w e.kind e row h)
+  invited-received ms (invite.Proceeding reliable request cancel) e row invited h = answers-invited ms reliable request e.kind e row invited (is.proceeding p reliable request cancel e.kind e row h)
+  invited-received ms (invite.Completed reliable request set) e row invited h = rw (is.completed p reliable request set e.kind e row h).3 invited
+
+  no-invite : ¬ (Request Cancel ≡ Request Invite)
+  no-invite same = cc
+
+  -- what is sent, with the moments before it and with it
+  invited-sent : (ms now : List ℕ) (x : invite.InviteClientPhase) (e : MachineEvent) (row : Row) → (e.kind ≡ Request Invite → now ≡ ms ++ e.moment ∷ []) → (¬ (e.kind ≡ Request Invite) → now ≡ ms) → Invited ms x
+      → invite.Sends p x e.kind e row → Invited now row.0
+  invited-sent ms now invite.Idle e row one other invited h = by (sends-idle p e.kind e row h)
+    where
+      by : ((e.kind ≡ Request Invite) × (row ≡ (invite.Calling (record { reliable = e.reliable; request = e.text; start = e.moment; set = e.moment; interval = p.t1 }), keeps)))
+          ⊎ (¬ (e.kind ≡ Request Invite) × (row ≡ (invite.Idle, keeps))) → Invited now row.0
+      by (inl leads) = rw leads.1 (e.moment, [], one leads.0 ∙ ap (λ ks. ks ++ e.moment ∷ []) invited, (refl, refl))
+      by (inr leads) = rw leads.1 (other leads.0 ∙ invited)
+  invited-sent ms now (invite.Calling w) e row one other invited h =
+      let sends = sends-calling p w e.kind e row h in
+      rw sends.2 (subst (λ ks. Begins p next ks e.moment (2 * w.interval)) (sym (one sends.0)) (begins-more p next ms w.set w.interval e.moment invited sends.1.fires))
+  invited-sent ms now (invite.Proceeding reliable request cancel) e row one other invited h = by (sends-proceeding p reliable request cancel e.kind e row h).1
+    where
+      same : now ≡ ms
+      same = other (λ is_invite. no-invite (sym (sends-proceeding p reliable request cancel e.kind e row h).0 ∙ is_invite))
+
+      by : (row ≡ (invite.Proceeding reliable request (Some e.moment), keeps)) ⊎ (row ≡ (invite.Proceeding reliable request cancel, keeps)) → Invited now row.0
+      by (inl leads) = rw (leads, same) invited
+      by (inr leads) = rw (leads, same) invited
+  invited-sent ms now (invite.Accepted set) e row one other invited h =
+      let sends = sends-accepted p set e.kind e row h in rw (sends.1, other (λ is_invite. no-invite (sym sends.0 ∙ is_invite))) invited
+  invited-sent ms now (invite.Completed reliable request set) e row one other invited h =
+      let sends = sends-completed p reliable request set e.kind e row h in rw (sends.1, other (λ is_invite. no-invite (sym sends.0 ∙ is_invite))) invited
+  invited-sent ms now invite.Ended e row one other invited h =
+      let sends = sends-ended p e.kind e row h in rw (sends.1, other (λ is_invite. no-invite (sym sends.0 ∙ is_invite))) invited
+
+  ack-is-none : ¬ (Request Ack ≡ Request Invite)
+  ack-is-none same = cc
+
+  invited-emits : (ms now : List ℕ) (e : MachineEvent) (x y : Owing invite.InviteClientPhase) → (e.kind ≡ Request Invite → now ≡ ms ++ e.moment ∷ []) → (¬ (e.kind ≡ Request Invite) → now ≡ ms) → Invited ms x.phase
+      → Emits f p e x y → Invited now y.phase
+  invited-emits ms now e x y one other invited (inl (row, is_row, to)) = rw to (invited-sent ms now x.phase e row one other invited is_row)
+  invited-emits ms now e x y one other invited (inr (inl (left, pays, to))) =
+      let same : now ≡ ms = other (λ is_invite. ack-is-none (sym (pays-nothing x.phase e.kind e pays.first.message pays.holds.0).4 ∙ is_invite)) in
+      rw to (subst (λ ks. Invited ks x.phase) (sym same) invited)
+  invited-emits ms now e x y one other invited (inr (inr (stays, same))) = absurd stays
+
+  ended-by-an-invite : (x : invite.InviteClientPhase) → ¬ (invite.ends_refused x (Request Invite) ≡ false)
+  ended-by-an-invite x same = cc
+
+  invited-fails : (ends : Bool) (ms : List ℕ) (e : MachineEvent) (x y : Owing invite.InviteClientPhase) → invite.ends_refused x.phase e.kind ≡ ends → Invited ms x.phase → Fails ends f p e x y → Invited ms y.phase
+  invited-fails true ms e x y ends invited fails = rw fails.1 (invited-spaced ms x.phase invited)
+  invited-fails false ms e x y ends invited emits =
+      invited-emits ms ms e x y (λ is_invite. absurd (ended-by-an-invite x.phase (ap (invite.ends_refused x.phase) (sym is_invite) ∙ ends))) (λ other. refl) invited emits
+
+  invited-steps : (a : Action) (es : List MachineEvent) (e : MachineEvent) (x y : Owing invite.InviteClientPhase) → e.action ≡ a → Invited (passed test es) x.phase → Steps f p a e x y
+      → Invited (passed test (es ++ e ∷ [])) y.phase
+  invited-steps Received es e x y was invited (inl (row, is_row, to)) =
+      rw (to, passed-same test es e (ap (λ a. sends_invite a e.kind) was)) (invited-received (passed test es) x.phase e row invited is_row)
+  invited-steps Received es e x y was invited (inr (none, same)) = rw (same, passed-same test es e (ap (λ a. sends_invite a e.kind) was)) invited
+  invited-steps Sent es e x y was invited emits =
+      invited-emits (passed test es) (passed test (es ++ e ∷ [])) e x y
+      (λ is_invite. passed-more test es e (ap (λ a. sends_invite a e.kind) was ∙ ap (sends_invite Sent) is_invite))
+      (λ other. passed-same test es e (ap (λ a. sends_invite a e.kind) was ∙ not-an-invite e.kind other)) invited emits
+  invited-steps Failed es e x y was invited fails =
+      rw (passed-same test es e (ap (λ a. sends_invite a e.kind) was)) (invited-fails (invite.ends_refused x.phase e.kind) (passed test es) e x y refl invited fails)
+  invited-steps Mark es e x y was invited h = absurd h
+  invited-steps Restart es e x y was invited (inl (idle, to)) =
+      rw (to, passed-same test es e (ap (λ a. sends_invite a e.kind) was)) (subst (Invited (passed test es)) idle invited)
+  invited-steps Restart es e x y was invited (inr (other, to)) =
+      rw (to, passed-same test es e (ap (λ a. sends_invite a e.kind) was)) (invited-spaced (passed test es) x.phase invited)
+
+  invited-kept : IsKept f p (λ es m y. Invited (passed test es) y.phase)
+  invited-kept = record {
+    as_it_waits = λ es h m x invited low lasts. invited;
+    as_it_ends = λ es h x invited may. invited-spaced (passed test es) x.phase invited;
+    as_it_takes = λ es e x y invited take. invited-steps e.action es e (record { phase = x.phase; owes = left_at e x }) y refl invited take;
+  }
+
+  pub invites-are-spaced : (events : List MachineEvent) (m : ℕ) (y : Owing invite.InviteClientPhase) → Stands f p events m y → IsSpaced p next (passed test events)
+  invites-are-spaced events m y stands =
+      invited-spaced (passed test events) y.phase
+      (run-keeps f p (λ es h x. Invited (passed test es) x.phase) invited-kept events (quiet invite.Idle) 0 m y refl (stands-run f p events m y stands))
+
+-- The client of any other method.
+
+module _ (p : Times) where
+  abbrev next-plain : ℕ → ℕ
+  next-plain = λ interval. min (2 * interval) p.t2
+
+  abbrev test-plain : MachineEvent → Bool
+  test-plain = λ e. sends_request e.action e.kind
+
+  -- the next interval is no longer than that of the phase
+  abbrev Asked : List ℕ → plain.PlainClientPhase → Type 0
+  Asked ms plain.Idle = ms ≡ []
+  Asked ms (plain.Trying w) = (more : ℕ) × Begins p next-plain ms w.set more × (more ≤ w.interval)
+  Asked ms (plain.Proceeding w) = (more : ℕ) × Begins p next-plain ms w.set more × (more ≤ w.interval)
+  Asked ms x = IsSpaced p next-plain ms
+
+  asked-spaced : (ms : List ℕ) (x : plain.PlainClientPhase) → Asked ms x → IsSpaced p next-plain ms
+  asked-spaced ms plain.Idle asked = rw asked tt
+  asked-spaced ms (plain.Trying w) asked = begins-spaced p next-plain ms w.set asked.0 asked.1
+  asked-spaced ms (plain.Proceeding w) asked = begins-spaced p next-plain ms w.set asked.0 asked.1
+  asked-spaced ms (plain.Completed reliable set) asked = asked
+  asked-spaced ms plain.Ended asked = asked
+
+  asked-received : (ms : List ℕ) (x : plain.PlainClientPhase) (k : Kind) (e : MachineEvent) (row : plain.PlainClientPhase × Change) → Asked ms x → plain.Receives p x k e row → Asked ms row.0
+  asked-received ms (plain.Trying w) (Response code) e row asked (inl h) = rw h.1 asked
+  asked-received ms (plain.Trying w) (Response code) e row asked (inr h) = rw h.1 (asked-spaced ms (plain.Trying w) asked)
+  asked-received ms (plain.Proceeding w) (Response code) e row asked h = rw h.1 (asked-spaced ms (plain.Proceeding w) asked)
+  asked-received ms x k e row asked h = absurd h
+
+  fires-too : (set interval more m : ℕ) → more ≤ interval → open_at p set interval ≤ m → open_at p set more ≤ m
+  fires-too set interval more m low fires = omega (arith, low, fires)
+
+  asked-sent : (ms : List ℕ) (x : plain.PlainClientPhase) (k : Kind) (e : MachineEvent) (row : plain.PlainClientPhase × Change) → Asked ms x → plain.Sends p x k e row →
+      (sends_request Sent k ≡ true) × Asked (ms ++ e.moment ∷ []) row.0
+  asked-sent ms plain.Idle (Request method) e row asked h = (refl, rw h (p.t1, (e.moment, [], ap (λ ks. ks ++ e.moment ∷ []) asked, (refl, refl)), omega arith))
+  asked-sent ms (plain.Trying w) (Request method) e row asked h =
+      let low = asked.2 in
+      (refl, rw h.1 (next-plain asked.0, begins-more p next-plain ms w.set asked.0 e.moment asked.1 (fires-too w.set w.interval asked.0 e.moment asked.2 h.0.fires), omega (arith, low)))
+  asked-sent ms (plain.Proceeding w) (Request method) e row asked h =
+      (refl, rw h.1 (next-plain asked.0, begins-more p next-plain ms w.set asked.0 e.moment asked.1 (fires-too w.set w.interval asked.0 e.moment asked.2 h.0.fires), omega arith))
+  asked-sent ms x k e row asked h = absurd h
+
+  asked-steps : (a : Action) (es : List MachineEvent) (e : MachineEvent) (x y : Owing plain.PlainClientPhase) → e.action ≡ a → Asked (passed test-plain es) x.phase → Steps plain.plain_client p a e x y
+      → Asked (passed test-plain (es ++ e ∷ [])) y.phase
+  asked-steps Received es e x y was asked (inl (row, is_row, to)) =
+      rw (to, passed-same test-plain es e (ap (λ a. sends_request a e.kind) was)) (asked-received (passed test-plain es) x.phase e.kind e row asked is_row)
+  asked-steps Received es e x y was asked (inr (none, same)) = rw (same, passed-same test-plain es e (ap (λ a. sends_request a e.kind) was)) asked
+  asked-steps Sent es e x y was asked (inl (row, is_row, to)) =
+      let sent = asked-sent (passed test-plain es) x.phase e.kind e row asked is_row in
+      rw (to, passed-more test-plain es e (ap (λ a. sends_request a e.kind) was ∙ sent.0)) sent.1
+  asked-steps Sent es e x y was asked (inr (inl (left, pays, to))) = absurd pays.holds.0
+  asked-steps Sent es e x y was asked (inr (inr (stays, same))) = absurd stays
+  asked-steps Failed es e x y was asked fails =
+      rw (fails.1, passed-same test-plain es e (ap (λ a. sends_request a e.kind) was)) (asked-spaced (passed test-plain es) x.phase asked)
+  asked-steps Mark es e x y was asked h = absurd h
+  asked-steps Restart es e x y was asked (inl (idle, to)) =
+      rw (to, passed-same test-plain es e (ap (λ a. sends_request a e.kind) was)) (subst (Asked (passed test-plain es)) idle asked)
+  asked-steps Restart es e x y was asked (inr (other, to)) =
+      rw (to, passed-same test-plain es e (ap (λ a. sends_request a e.kind) was)) (asked-spaced (passed test-plain es) x.phase asked)
+
+  asked-kept : IsKept plain.plain_client p (λ es m y. Asked (passed test-plain es) y.phase)
+  asked-kept = record {
+    as_it_waits = λ es h m x asked low lasts. asked;
+    as_it_ends = λ es h x asked may. asked-spaced (passed test-plain es) x.phase asked;
+    as_it_takes = λ es e x y asked take. asked-steps e.action es e (record { phase = x.phase; owes = left_at e x }) y refl asked take;
+  }
+
+  pub requests-are-spaced : (events : List MachineEvent) (m : ℕ) (y : Owing plain.PlainClientPhase) → Stands plain.plain_client p events m y → IsSpaced p next-plain (passed test-plain events)
+  requests-are-spaced events m y stands =
+      asked-spaced (passed test-plain events) y.phase
+      (run-keeps plain.plain_client p (λ es h x. Asked (passed test-plain es) x.phase) asked-kept events (quiet plain.Idle) 0 m y refl (stands-run plain.plain_client p events m y stands))

@@ -1,0 +1,196 @@
+-- A client of any method but INVITE ends by timer F, and sends nothing after.
+use Rattle.std.proofs.Common.{◌≡◌, ◌≤◌, ◌<◌, ◌*◌, ◌⊎◌, inl, inr, ℕ, List, [], ◌∷◌, ◌++◌, All, refl, subst, arith}
+use Rattle.std.specs.List.{Any}
+use Rattle.sip_times.specs.declared.action.Action.{Action}
+use Rattle.sip_times.specs.declared.action.Action.TheVariants.{Sent, Received, Failed, Mark, Restart}
+use Rattle.sip_machine.specs.declared.event.Kind.{Kind}
+use Rattle.sip_machine.specs.declared.event.Kind.TheVariants.{Request, Response}
+use Rattle.sip_machine.specs.Times.{Times}
+use Rattle.sip_machine.specs.Limits.{close_at}
+use Rattle.sip_machine.specs.MachineEvent.{MachineEvent}
+use Rattle.sip_machine.specs.Message.{IsFinal}
+use Rattle.sip_machine.specs.Debts.{Owed}
+use Rattle.sip_machine.specs.Figure.{Change, Owing, quiet, Emits, Steps, Takes, Lasts}
+use Rattle.sip_machine.specs.PlainClient.{PlainClientPhase, Idle, Ended, Trying, Proceeding, Completed, Receives, Sends, plain_client}
+use Rattle.sip_states.specs.Stands.{Stands, StandsBehind}
+use Rattle.consequences.specs.Events.{SendsAnyRequest, GetsResponse}
+use Rattle.consequences.proofs.lemmas.run.Lists.{any-last, any-earlier, any-none}
+use Rattle.consequences.proofs.lemmas.run.Running.{IsKept, left_at, step-of, stands-run, Cut, cut, run-keeps}
+
+module _ (p : Times) where
+  -- where it waits for its response, it began by the moment
+  abbrev BeganBy : ℕ → PlainClientPhase → Type 0
+  BeganBy m (Trying w) = w.start ≤ m
+  BeganBy m (Proceeding w) = w.start ≤ m
+  BeganBy m x = Unit {0}
+
+  began-later : (x : PlainClientPhase) (h m : ℕ) → h ≤ m → BeganBy h x → BeganBy m x
+  began-later Idle h m low began = tt
+  began-later Ended h m low began = tt
+  began-later (Trying w) h m low began = omega (arith, low, began)
+  began-later (Proceeding w) h m low began = omega (arith, low, began)
+  began-later (Completed reliable set) h m low began = tt
+
+  began-received : (x : PlainClientPhase) (k : Kind) (e : MachineEvent) (row : PlainClientPhase × Change) → BeganBy e.moment x → Receives p x k e row → BeganBy e.moment row.0
+  began-received (Trying w) (Response code) e row began (inl h) = rw h.1 began
+  began-received (Trying w) (Response code) e row began (inr h) = rw h.1 tt
+  began-received (Proceeding w) (Response code) e row began h = rw h.1 tt
+  began-received x k e row began h = absurd h
+
+  -- it waits, and began by the moment
+  abbrev WaitsBy : ℕ → PlainClientPhase → Type 0
+  WaitsBy m (Trying w) = w.start ≤ m
+  WaitsBy m (Proceeding w) = w.start ≤ m
+  WaitsBy m x = ⊥
+
+  waits-began : (x : PlainClientPhase) (m : ℕ) → WaitsBy m x → BeganBy m x
+  waits-began (Trying w) m waits = waits
+  waits-began (Proceeding w) m waits = waits
+  waits-began x m waits = absurd waits
+
+  -- a request that is sent leads there
+  sent-waits : (x : PlainClientPhase) (k : Kind) (e : MachineEvent) (row : PlainClientPhase × Change) → BeganBy e.moment x → Sends p x k e row → WaitsBy e.moment row.0
+  sent-waits Idle (Request method) e row began h = rw h (omega arith)
+  sent-waits (Trying w) (Request method) e row began h = rw h.1 began
+  sent-waits (Proceeding w) (Request method) e row began h = rw h.1 began
+  sent-waits x k e row began h = absurd h
+
+  emits-waits : (e : MachineEvent) (x y : Owing PlainClientPhase) → BeganBy e.moment x.phase → Emits plain_client p e x y → WaitsBy e.moment y.phase
+  emits-waits e x y began (inl (row, is_row, to)) = rw to (sent-waits x.phase e.kind e row began is_row)
+  emits-waits e x y began (inr (inl (left, pays, to))) = absurd pays.holds.0
+  emits-waits e x y began (inr (inr (stays, same))) = absurd stays
+
+  began-steps : (a : Action) (e : MachineEvent) (x y : Owing PlainClientPhase) → BeganBy e.moment x.phase → Steps plain_client p a e x y → BeganBy e.moment y.phase
+  began-steps Received e x y began (inl (row, is_row, to)) = rw to (began-received x.phase e.kind e row began is_row)
+  began-steps Received e x y began (inr (none, same)) = rw same began
+  began-steps Sent e x y began emits = waits-began y.phase e.moment (emits-waits e x y began emits)
+  began-steps Failed e x y began fails = rw fails.1 tt
+  began-steps Mark e x y began h = absurd h
+  began-steps Restart e x y began (inl (idle, to)) = rw to tt
+  began-steps Restart e x y began (inr (other, to)) = rw to tt
+
+  began-kept : IsKept plain_client p (λ es m y. BeganBy m y.phase)
+  began-kept = record {
+    as_it_waits = λ es h m x began low lasts. began-later x.phase h m low began;
+    as_it_ends = λ es h x began may. tt;
+    as_it_takes = λ es e x y began take. began-steps e.action e (record { phase = x.phase; owes = left_at e x }) y began take;
+  }
+
+  module _ (moment : ℕ) where
+    -- it is over, or got a final response; and sends no more
+    abbrev IsSilent : PlainClientPhase → Type 0
+    IsSilent (Completed reliable set) = Unit {0}
+    IsSilent Ended = Unit {0}
+    IsSilent x = ⊥
+
+    abbrev IsOver : List MachineEvent → Owing PlainClientPhase → Type 0
+    IsOver es y = IsSilent y.phase × ((y ≡ quiet Ended) ⊎ Any (GetsResponse IsFinal) es)
+
+    abbrev Asks : List MachineEvent → ℕ → Owing PlainClientPhase → Type 0
+    Asks es m y = WaitsBy moment y.phase ⊎ IsOver es y
+
+    waits-received : (es : List MachineEvent) (e : MachineEvent) (x : PlainClientPhase) (k : Kind) (owes : List Owed) (row : PlainClientPhase × Change) → e.action ≡ Received → e.kind ≡ k → WaitsBy moment x → Receives p x k e row
+        → WaitsBy moment row.0 ⊎ (IsSilent row.0 × Any (GetsResponse IsFinal) (es ++ e ∷ []))
+    waits-received es e (Trying w) (Response code) owes row was kind waits (inl h) = inl (rw h.1 waits)
+    waits-received es e (Trying w) (Response code) owes row was kind waits (inr h) = inr (rw h.1 tt, any-last (GetsResponse IsFinal) es e (was, (code, kind, h.0)))
+    waits-received es e (Proceeding w) (Response code) owes row was kind waits h = inr (rw h.1 tt, any-last (GetsResponse IsFinal) es e (was, (code, kind, h.0)))
+    waits-received es e x k owes row was kind waits h = absurd h
+
+    sent-still : (x : PlainClientPhase) (k : Kind) (e : MachineEvent) (row : PlainClientPhase × Change) → WaitsBy moment x → Sends p x k e row → WaitsBy moment row.0
+    sent-still (Trying w) (Request method) e row waits h = rw h.1 waits
+    sent-still (Proceeding w) (Request method) e row waits h = rw h.1 waits
+    sent-still (Trying w) (Response code) e row waits h = absurd h
+    sent-still (Proceeding w) (Response code) e row waits h = absurd h
+    sent-still x k e row waits h = absurd waits
+
+    not-idle : (x : PlainClientPhase) → WaitsBy moment x → ¬ (x ≡ Idle)
+    not-idle x waits idle = absurd (subst (WaitsBy moment) idle waits)
+
+    waits-steps : (a : Action) (es : List MachineEvent) (e : MachineEvent) (x y : Owing PlainClientPhase) → e.action ≡ a → WaitsBy moment x.phase → Steps plain_client p a e x y → Asks (es ++ e ∷ []) e.moment y
+    waits-steps Received es e x y was waits (inl (row, is_row, to)) = by (waits-received es e x.phase e.kind x.owes row was refl waits is_row)
+      where
+        by : WaitsBy moment row.0 ⊎ (IsSilent row.0 × Any (GetsResponse IsFinal) (es ++ e ∷ [])) → Asks (es ++ e ∷ []) e.moment y
+        by (inl still) = inl (rw to still)
+        by (inr done) = inr (rw to done.0, inr done.1)
+    waits-steps Received es e x y was waits (inr (none, same)) = inl (rw same waits)
+    waits-steps Sent es e x y was waits (inl (row, is_row, to)) = inl (rw to (sent-still x.phase e.kind e row waits is_row))
+    waits-steps Sent es e x y was waits (inr (inl (left, pays, to))) = absurd pays.holds.0
+    waits-steps Sent es e x y was waits (inr (inr (stays, same))) = absurd stays
+    waits-steps Failed es e x y was waits fails = inr (rw fails.1 tt, inl fails.1)
+    waits-steps Mark es e x y was waits h = absurd h
+    waits-steps Restart es e x y was waits (inl (idle, to)) = absurd (not-idle x.phase waits idle)
+    waits-steps Restart es e x y was waits (inr (other, to)) = inr (rw to tt, inl to)
+
+    silent-sends : (x : PlainClientPhase) (k : Kind) (e : MachineEvent) (row : PlainClientPhase × Change) → IsSilent x → ¬ (Sends p x k e row)
+    silent-sends (Completed reliable set) k e row silent h = absurd h
+    silent-sends Ended k e row silent h = absurd h
+    silent-sends x k e row silent h = absurd silent
+
+    silent-emits : (e : MachineEvent) (x y : Owing PlainClientPhase) → IsSilent x.phase → ¬ (Emits plain_client p e x y)
+    silent-emits e x y silent (inl (row, is_row, to)) = silent-sends x.phase e.kind e row silent is_row
+    silent-emits e x y silent (inr (inl (left, pays, to))) = pays.holds.0
+    silent-emits e x y silent (inr (inr (stays, same))) = stays
+
+    silent-receives : (x : PlainClientPhase) (k : Kind) (e : MachineEvent) (row : PlainClientPhase × Change) → IsSilent x → ¬ (Receives p x k e row)
+    silent-receives (Completed reliable set) k e row silent h = absurd h
+    silent-receives Ended k e row silent h = absurd h
+    silent-receives x k e row silent h = absurd silent
+
+    silent-is-not-idle : (x : PlainClientPhase) → IsSilent x → ¬ (x ≡ Idle)
+    silent-is-not-idle x silent idle = absurd (subst IsSilent idle silent)
+
+    -- with less owed, an ended one is as it was
+    over-later : (es : List MachineEvent) (e : MachineEvent) (x : Owing PlainClientPhase) → IsOver es x → IsOver (es ++ e ∷ []) (record { phase = x.phase; owes = left_at e x })
+    over-later es e x (silent, inl ended) = (silent, inl (rw ended refl))
+    over-later es e x (silent, inr came) = (silent, inr (any-earlier (GetsResponse IsFinal) es (e ∷ []) came))
+
+    over-steps : (a : Action) (es : List MachineEvent) (e : MachineEvent) (x y : Owing PlainClientPhase) → IsOver es x → Steps plain_client p a e x y → IsOver es y
+    over-steps Received es e x y over (inl (row, is_row, to)) = absurd (silent-receives x.phase e.kind e row over.0 is_row)
+    over-steps Received es e x y over (inr (none, same)) = rw same over
+    over-steps Sent es e x y over emits = absurd (silent-emits e x y over.0 emits)
+    over-steps Failed es e x y over fails = (rw fails.1 tt, inl fails.1)
+    over-steps Mark es e x y over h = absurd h
+    over-steps Restart es e x y over (inl (idle, to)) = absurd (silent-is-not-idle x.phase over.0 idle)
+    over-steps Restart es e x y over (inr (other, to)) = (rw to tt, inl to)
+
+    asks-kept : IsKept plain_client p Asks
+    asks-kept = record { as_it_waits = λ es h m x asks low lasts. asks; as_it_ends = λ es h x asks may. inr (tt, inl refl); as_it_takes = as_it_takes }
+      where
+        as_it_takes : (es : List MachineEvent) (e : MachineEvent) (x y : Owing PlainClientPhase) → Asks es e.moment x → Takes plain_client p x e y → Asks (es ++ e ∷ []) e.moment y
+        as_it_takes es e x y (inl waits) take = waits-steps e.action es e (record { phase = x.phase; owes = left_at e x }) y refl waits take
+        as_it_takes es e x y (inr over) take = inr (over-steps e.action (es ++ e ∷ []) e (record { phase = x.phase; owes = left_at e x }) y (over-later es e x over) take)
+
+  waits-in-time : (moment m : ℕ) (x : Owing PlainClientPhase) (phase : PlainClientPhase) → x.phase ≡ phase → WaitsBy moment phase → Lasts plain_client p x m → m ≤ close_at p moment (64 * p.t1)
+  waits-in-time moment m x phase is waits lasts = by phase waits (subst (λ z. Lasts plain_client p (record { phase = z; owes = x.owes }) m) is lasts)
+    where
+      by : (phase : PlainClientPhase) → WaitsBy moment phase → Lasts plain_client p (record { phase = phase; owes = x.owes }) m → m ≤ close_at p moment (64 * p.t1)
+      by (Trying w) waits lasts = let low = lasts.0 in omega (arith, waits, low)
+      by (Proceeding w) waits lasts = let low = lasts.0 in omega (arith, waits, low)
+      by phase waits lasts = absurd waits
+
+  module _ (lasts : (events : List MachineEvent) (m : ℕ) (x : Owing PlainClientPhase) → Stands plain_client p events m x → Lasts plain_client p x m) (before after : List MachineEvent) (request : MachineEvent)
+      (sends : SendsAnyRequest request) where
+    asked : (m : ℕ) (y : Owing PlainClientPhase) → Stands plain_client p (before ++ request ∷ after) m y → Asks request.moment after m y
+    asked m y stands = by-cut (cut plain_client p (quiet Idle) 0 before request after m y (stands-run plain_client p (before ++ request ∷ after) m y stands))
+      where
+        by-cut : Cut plain_client p (quiet Idle) 0 before request after m y → Asks request.moment after m y
+        by-cut found =
+            let began = run-keeps plain_client p (λ es h x. BeganBy h x.phase) began-kept before (quiet Idle) 0 request.moment found.from tt found.leads in
+            let waits = emits-waits request (record { phase = found.from.phase; owes = left_at request found.from }) found.to began (step-of plain_client p Sent request found.from found.to sends.1.0 found.step) in
+            run-keeps plain_client p (Asks request.moment) (asks-kept request.moment) after found.to request.moment m y (inl waits) found.goes
+
+    pub over-by-timer-f : (m : ℕ) (y : Owing PlainClientPhase) → All (λ g. ¬ (GetsResponse IsFinal g)) after → Stands plain_client p (before ++ request ∷ after) m y → close_at p request.moment (64 * p.t1) < m → y ≡ quiet Ended
+    over-by-timer-f m y unanswered stands late = by (asked m y stands)
+      where
+        by : Asks request.moment after m y → y ≡ quiet Ended
+        by (inl waits) = let low = waits-in-time request.moment m y y.phase refl waits (lasts (before ++ request ∷ after) m y stands) in absurd (omega (arith, low, late))
+        by (inr (silent, inl ended)) = ended
+        by (inr (silent, inr came)) = absurd (any-none (GetsResponse IsFinal) after unanswered came)
+
+    pub silent-after-timer-f : (e : MachineEvent) (y : Owing PlainClientPhase) → e.action ≡ Sent → StandsBehind plain_client p (before ++ request ∷ after) e y → e.moment ≤ close_at p request.moment (64 * p.t1)
+    silent-after-timer-f e y sent (x, stands, take) = by (asked e.moment x stands)
+      where
+        by : Asks request.moment after e.moment x → e.moment ≤ close_at p request.moment (64 * p.t1)
+        by (inl waits) = waits-in-time request.moment e.moment x x.phase refl waits (lasts (before ++ request ∷ after) e.moment x stands)
+        by (inr over) =
+            absurd (silent-emits request.moment e (record { phase = x.phase; owes = left_at e x }) y over.0 (step-of plain_client p Sent e x y sent take))

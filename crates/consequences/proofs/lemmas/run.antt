@@ -1,0 +1,4 @@
+pub mod Running
+pub mod Lists
+pub mod Lasting
+pub mod MustSend

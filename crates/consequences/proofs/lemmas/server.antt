@@ -1,0 +1,7 @@
+pub mod Asleep
+pub mod Said
+pub mod InviteServers
+pub mod FirstResponse
+pub mod FinalResponse
+pub mod Passed
+pub mod PlainServers

@@ -1,0 +1,127 @@
+-- An INVITE server that has just got its INVITE: it answers within 200 ms.
+use Rattle.std.proofs.Common.{◌≡◌, ◌≤◌, ◌<◌, ◌⊎◌, inl, inr, ℕ, Bool, true, false, Option, None, IsSomeAnd, List, [], ◌∷◌, ◌++◌, All, refl, sym, ap, subst, ◌∙◌, arith}
+use Rattle.std.specs.List.{Any}
+use Rattle.std.proofs.lemmas.List.Elements.{All-head}
+use Rattle.sip_times.specs.declared.action.Action.{Action}
+use Rattle.sip_times.specs.declared.action.Action.TheVariants.{Sent, Received, Failed, Mark, Restart}
+use Rattle.sip_machine.specs.declared.event.Method.TheVariants.{Invite}
+use Rattle.sip_machine.specs.declared.event.Kind.{Kind}
+use Rattle.sip_machine.specs.declared.event.Kind.TheVariants.{Request, Response}
+use Rattle.sip_machine.specs.Times.{Times}
+use Rattle.sip_machine.specs.Limits.{close_at}
+use Rattle.sip_machine.specs.MachineEvent.{MachineEvent}
+use Rattle.sip_machine.specs.Message.{IsSuccess}
+use Rattle.sip_machine.specs.Figure.{Figure, keeps, Owing, changed, quiet, Follows, Emits, Fails, Steps, Takes, Lasts, MayEnd}
+use Rattle.sip_machine.specs.InviteServer.{InviteServerPhase, Idle, Proceeding, Accepted, Completed, Confirmed}
+use Rattle.sip_machine.specs.InviteServer as corrected
+use Rattle.sip_states.specs.Stands.{Stands}
+use Rattle.consequences.specs.Events.{GetsRequest, SendsResponse, IsAnyCode, IsRestart}
+use Rattle.consequences.proofs.lemmas.server.Asleep.{IsAsleep, IsInvite, nothing-to-pay, sleeps-on}
+use Rattle.consequences.proofs.lemmas.run.Lists.{any-last, any-earlier}
+use Rattle.consequences.proofs.lemmas.run.Running.{IsKept, step-of, stands-run, Cut, cut, run-keeps}
+use Rattle.consequences.proofs.lemmas.server.InviteServers.{Row, IsServer, ReceivedRow, comes, again, again_after, acknowledged, received-row, SentRow, provisional, success, unsuccessful, success_again, repeats, sent-row}
+
+module _ {X : Type 0} (f : Figure X) (p : Times) (held : InviteServerPhase → X) (is : IsServer f p held) (invite : MachineEvent) where
+  -- it has sent nothing yet, or a response, or the element started again
+  abbrev Waits : List MachineEvent → ℕ → Owing X → Type 0
+  Waits es m y = ((reliable : Bool) × (y ≡ quiet (held (Proceeding reliable invite.moment None)))) ⊎ Any (SendsResponse IsAnyCode) es ⊎ Any IsRestart es
+
+  no-row : (reliable : Bool) (set : ℕ) (x : InviteServerPhase) (k : Kind) (e : MachineEvent) (row : Row) → x ≡ Proceeding reliable set None → ¬ (ReceivedRow x k e row)
+  no-row reliable set x k e row here (comes _) = cc
+  no-row reliable set x k e row here (again _ r s last must) = cc
+  no-row reliable set x k e row here (again_after _ r final s repeat interval) = cc
+  no-row reliable set x k e row here (acknowledged _ r final s repeat interval) = cc
+
+  -- the row of a sent response is one of a response
+  is-response : (x : InviteServerPhase) (k : Kind) (e : MachineEvent) (row : Row) → SentRow p x k e row → (reliable : Bool) (set : ℕ) → x ≡ Proceeding reliable set None → (code : ℕ) × (k ≡ Response code) × IsAnyCode code
+  is-response _ _ _ _ (provisional _ r s last code is_provisional) reliable set here = (code, refl, (is_provisional.0, omega (arith, is_provisional.1)))
+  is-response _ _ _ _ (success _ r s last code is_success) reliable set here = (code, refl, (omega (arith, is_success.0), omega (arith, is_success.1)))
+  is-response _ _ _ _ (unsuccessful _ r s last code is_unsuccessful) reliable set here = (code, refl, (omega (arith, is_unsuccessful.0), is_unsuccessful.1))
+  is-response _ _ _ _ (success_again _ s code is_success) reliable set here = absurd (other here)
+    where
+      other : ¬ (Accepted s ≡ Proceeding reliable set None)
+      other same = cc
+  is-response _ _ _ _ (repeats _ r final s repeat interval k same) reliable set here = absurd (other here)
+    where
+      other : ¬ (Completed r final s repeat interval ≡ Proceeding reliable set None)
+      other same = cc
+
+  sends : (reliable : Bool) (es : List MachineEvent) (e : MachineEvent) (y : Owing X) → (e.action ≡ Sent) ⊎ (e.action ≡ Failed) → Emits f p e (quiet (held (Proceeding reliable invite.moment None))) y
+      → Any (SendsResponse IsAnyCode) (es ++ e ∷ [])
+  sends reliable es e y out (inl (row, is_row, to)) = by (is.sent (Proceeding reliable invite.moment None) e.kind e row is_row)
+    where
+      by : ((r : Row) × corrected.Sends p (Proceeding reliable invite.moment None) e.kind e r × (row ≡ (held r.0, r.1)))
+          ⊎ ((r : Bool) × (set : ℕ) × (last : Option (List ℕ)) × (Proceeding reliable invite.moment None ≡ Proceeding r set last) × ((code : ℕ) × (e.kind ≡ Response code) × IsSuccess code))
+          → Any (SendsResponse IsAnyCode) (es ++ e ∷ [])
+      by (inl (r, is_r, leads)) =
+          any-last (SendsResponse IsAnyCode) es e
+          (out, is-response (Proceeding reliable invite.moment None) e.kind e r (sent-row p (Proceeding reliable invite.moment None) e.kind e r is_r) reliable invite.moment refl)
+      by (inr (r, set, last, here, (code, kind, is_success))) =
+          any-last (SendsResponse IsAnyCode) es e (out, (code, kind, (omega (arith, is_success.0), omega (arith, is_success.1))))
+  sends reliable es e y out (inr (inl (left, pays, to))) = absurd (nothing-to-pay _ left pays)
+  sends reliable es e y out (inr (inr (stays, same))) = absurd (is.unmoved (Proceeding reliable invite.moment None) e.kind stays)
+
+  fails : (ends : Bool) (reliable : Bool) (es : List MachineEvent) (e : MachineEvent) (y : Owing X) → e.action ≡ Failed → Fails ends f p e (quiet (held (Proceeding reliable invite.moment None))) y
+      → Any (SendsResponse IsAnyCode) (es ++ e ∷ [])
+  fails true reliable es e y was h = sends reliable es e h.0.0 (inr was) h.0.1
+  fails false reliable es e y was h = sends reliable es e y (inr was) h
+
+  steps : (a : Action) (reliable : Bool) (es : List MachineEvent) (e : MachineEvent) (y : Owing X) → e.action ≡ a → Steps f p a e (quiet (held (Proceeding reliable invite.moment None))) y → Waits (es ++ e ∷ []) e.moment y
+  steps Received reliable es e y was (inl (row, is_row, to)) =
+      let (r, is_r, leads) = is.received (Proceeding reliable invite.moment None) e.kind e row is_row in
+      absurd (no-row reliable invite.moment (Proceeding reliable invite.moment None) e.kind e r refl (received-row p (Proceeding reliable invite.moment None) e.kind e r is_r))
+  steps Received reliable es e y was (inr (none, same)) = inl (reliable, same)
+  steps Sent reliable es e y was h = inr (inl (sends reliable es e y (inl was) h))
+  steps Failed reliable es e y was h = inr (inl (fails (f.ends_refused (held (Proceeding reliable invite.moment None)) e.kind) reliable es e y was h))
+  steps Mark reliable es e y was h = absurd h
+  steps Restart reliable es e y was h = inr (inr (any-last IsRestart es e was))
+
+  waits-kept : IsKept f p Waits
+  waits-kept = record { as_it_waits = λ es h m x holds low lasts. holds; as_it_ends = as_it_ends; as_it_takes = as_it_takes }
+    where
+      as_it_ends : (es : List MachineEvent) (h : ℕ) (x : Owing X) → Waits es h x → MayEnd f p x h → Waits es h (quiet f.ended)
+      as_it_ends es h x (inl (reliable, same)) may =
+          absurd (subst (λ window. IsSomeAnd window (λ w. w.0 ≤ h)) (is.window (Proceeding reliable invite.moment None)) (subst (λ z. MayEnd f p z h) same may).0)
+      as_it_ends es h x (inr later) may = inr later
+
+      as_it_takes : (es : List MachineEvent) (e : MachineEvent) (x y : Owing X) → Waits es e.moment x → Takes f p x e y → Waits (es ++ e ∷ []) e.moment y
+      as_it_takes es e x y (inl (reliable, same)) take = steps e.action reliable es e y refl (subst (λ z. Takes f p z e y) same take)
+      as_it_takes es e x y (inr (inl sent)) take = inr (inl (any-earlier (SendsResponse IsAnyCode) es (e ∷ []) sent))
+      as_it_takes es e x y (inr (inr restarted)) take = inr (inr (any-earlier IsRestart es (e ∷ []) restarted))
+
+  module _ (asleep : IsAsleep f p IsInvite) (lasts : (events : List MachineEvent) (m : ℕ) (x : Owing X) → Stands f p events m x → Lasts f p x m) where
+    -- the first INVITE opens the transaction
+    opens : (x y : Owing X) → x ≡ quiet f.idle → GetsRequest Invite invite → Takes f p x invite y → y ≡ quiet (held (Proceeding invite.reliable invite.moment None))
+    opens x y same gets take = by (step-of f p Received invite (quiet (held Idle)) y gets.0 (subst (λ z. Takes f p z invite y) (same ∙ ap quiet is.idle) take))
+      where
+        row-of : (k : Kind) (r : Row) → k ≡ Request Invite → ReceivedRow Idle k invite r → r ≡ (Proceeding invite.reliable invite.moment None, keeps)
+        row-of _ _ kind (comes _) = refl
+
+        opening : f.Receives p (held Idle) invite.kind invite (held (Proceeding invite.reliable invite.moment None), keeps)
+        opening = subst (λ k. f.Receives p (held Idle) k invite (held (Proceeding invite.reliable invite.moment None), keeps)) (sym gets.1) (is.opened invite)
+
+        by : Follows (f.Receives p (held Idle) invite.kind invite) p invite (quiet (held Idle)) y ⊎ (((z : Owing X) → ¬ (Follows (f.Receives p (held Idle) invite.kind invite) p invite (quiet (held Idle)) z)) × (y ≡ quiet (held Idle)))
+            → y ≡ quiet (held (Proceeding invite.reliable invite.moment None))
+        by (inl (row, is_row, to)) =
+            let (r, is_r, leads) = is.received Idle invite.kind invite row is_row in
+            let r_is = row-of invite.kind r gets.1 (received-row p Idle invite.kind invite r is_r) in
+            to ∙ ap (λ s. record { phase = s.0; owes = changed p invite.moment s.1 [] }) (leads ∙ ap (λ s. (held s.0, s.1)) r_is)
+        by (inr (none, stays)) = absurd (none (quiet (held (Proceeding invite.reliable invite.moment None))) ((held (Proceeding invite.reliable invite.moment None), keeps), opening, refl))
+
+    pub answered-in-time : (before after : List MachineEvent) (m : ℕ) (y : Owing X) → All (λ g. ¬ (GetsRequest Invite g)) before → GetsRequest Invite invite →
+        Stands f p (before ++ invite ∷ after) m y → close_at p invite.moment 200 < m → Any (SendsResponse IsAnyCode) after ⊎ Any IsRestart after
+    answered-in-time before after m y none gets stands late = by-cut (cut f p (quiet f.idle) 0 before invite after m y (stands-run f p (before ++ invite ∷ after) m y stands))
+      where
+        in-time : (reliable : Bool) → y ≡ quiet (held (Proceeding reliable invite.moment None)) → m ≤ close_at p invite.moment 200
+        in-time reliable same =
+            let lasting = subst (λ z. Lasts f p z m) same (lasts (before ++ invite ∷ after) m y stands) in
+            All-head (λ last. m ≤ last) (close_at p invite.moment 200) [] (subst (All (λ last. m ≤ last)) (is.sends_by (Proceeding reliable invite.moment None)) lasting.1)
+
+        by : Waits after m y → Any (SendsResponse IsAnyCode) after ⊎ Any IsRestart after
+        by (inl (reliable, same)) = let low = in-time reliable same in absurd (omega (arith, low, late))
+        by (inr found) = found
+
+        by-cut : Cut f p (quiet f.idle) 0 before invite after m y → Any (SendsResponse IsAnyCode) after ⊎ Any IsRestart after
+        by-cut found =
+            let slept = sleeps-on f p IsInvite asleep before (quiet f.idle) 0 invite.moment found.from refl none found.leads in
+            by (run-keeps f p Waits waits-kept after found.to invite.moment m y (inl (invite.reliable, opens found.from found.to slept gets found.step)) found.goes)

@@ -1,0 +1,134 @@
+-- Both INVITE servers. But for a 2xx they have the same rows, over phases that each has in its own way.
+use Rattle.std.proofs.Common.{◌≡◌, ◌*◌, ◌⊎◌, inl, inr, ℕ, Bool, true, false, Option, Some, None, List, refl, sym, subst, min}
+use Rattle.sip_machine.specs.declared.event.Method.TheVariants.{Invite, Ack}
+use Rattle.sip_machine.specs.declared.event.Kind.{Kind}
+use Rattle.sip_machine.specs.declared.event.Kind.TheVariants.{Request, Response}
+use Rattle.sip_machine.specs.Times.{Times}
+use Rattle.sip_machine.specs.MachineEvent.{MachineEvent}
+use Rattle.sip_machine.specs.Message.{IsProvisional, IsSuccess, IsUnsuccessful}
+use Rattle.sip_machine.specs.Figure.{Figure, Change, keeps, softens, gains}
+use Rattle.sip_machine.specs.InviteServer.{InviteServerPhase, Idle, Proceeding, Accepted, Completed, Confirmed, invite_server}
+use Rattle.sip_machine.specs.InviteServer as corrected
+use Rattle.sip_machine.specs.InviteServer3261 as without
+
+abbrev pub Row : Type 0
+Row = InviteServerPhase × Change
+
+-- what the rows of both servers are, where a phase of the one by RFC 6026 is held so
+pub record IsServer {X : Type 0} (f : Figure X) (p : Times) (held : InviteServerPhase → X) : Type 0 where
+  pub idle : f.idle ≡ held Idle
+  pub ended : f.ended ≡ held Idle
+  pub received : (x : InviteServerPhase) (k : Kind) (e : MachineEvent) (y : X × Change) → f.Receives p (held x) k e y → (row : Row) × corrected.Receives p x k e row × (y ≡ (held row.0, row.1))
+  -- but for a 2xx in proceeding
+  pub sent : (x : InviteServerPhase) (k : Kind) (e : MachineEvent) (y : X × Change) → f.Sends p (held x) k e y → ((row : Row) × corrected.Sends p x k e row × (y ≡ (held row.0, row.1)))
+      ⊎ ((reliable : Bool) × (set : ℕ) × (last : Option (List ℕ)) × (x ≡ Proceeding reliable set last) × ((code : ℕ) × (k ≡ Response code) × IsSuccess code))
+  pub paid : (x : InviteServerPhase) (k : Kind) (e : MachineEvent) (message : List ℕ) → f.Satisfies (held x) k e message → message ≡ e.text
+  pub unmoved : (x : InviteServerPhase) (k : Kind) → ¬ (f.Stays (held x) k)
+  pub undaunted : (x : X) (k : Kind) → f.ends_refused x k ≡ false
+  pub opened : (e : MachineEvent) → f.Receives p (held Idle) (Request Invite) e (held (Proceeding e.reliable e.moment None), keeps)
+  pub window : (x : InviteServerPhase) → f.window p (held x) ≡ corrected.timer_window p x
+  pub sends_by : (x : InviteServerPhase) → f.sends_by p (held x) ≡ corrected.sends_by p x
+
+paid-6026 : (x : InviteServerPhase) (k : Kind) (e : MachineEvent) (message : List ℕ) → corrected.Satisfies x k e message → message ≡ e.text
+paid-6026 x (Response code) e message h = h
+paid-6026 x (Request method) e message h = absurd h
+
+pub is-server-6026 : (p : Times) → IsServer corrected.invite_server p (λ x. x)
+is-server-6026 p = record {
+  idle = refl;
+  ended = refl;
+  received = λ x k e y h. (y, h, refl);
+  sent = λ x k e y h. inl (y, h, refl);
+  paid = paid-6026;
+  unmoved = λ x k h. h;
+  undaunted = λ x k. refl;
+  opened = λ e. refl;
+  window = λ x. refl;
+  sends_by = λ x. refl;
+}
+
+-- the phase without a 2xx before it
+abbrev pub first_in : InviteServerPhase → without.InviteServer3261Phase
+first_in x = without.In x false
+
+sent-3261 : (p : Times) (x : InviteServerPhase) (k : Kind) (e : MachineEvent) (y : without.InviteServer3261Phase × Change) → without.Sends p (first_in x) k e y →
+    ((row : Row) × corrected.Sends p x k e row × (y ≡ (first_in row.0, row.1)))
+    ⊎ ((reliable : Bool) × (set : ℕ) × (last : Option (List ℕ)) × (x ≡ Proceeding reliable set last) × ((code : ℕ) × (k ≡ Response code) × IsSuccess code))
+sent-3261 p (Proceeding reliable set last) (Response code) e y (inl h) = inr (reliable, set, last, refl, (code, refl, h.0))
+sent-3261 p (Proceeding reliable set last) (Response code) e y (inr h) = inl h.1
+sent-3261 p (Completed reliable final set repeat interval) (Response code) e y h = inl h.1
+sent-3261 p x k e y h = absurd h
+
+paid-3261 : (x : InviteServerPhase) (k : Kind) (e : MachineEvent) (message : List ℕ) → without.Satisfies (first_in x) k e message → message ≡ e.text
+paid-3261 x (Response code) e message h = h.1
+paid-3261 x (Request method) e message h = absurd h
+
+unmoved-3261 : (x : InviteServerPhase) (k : Kind) → ¬ (without.Stays (first_in x) k)
+unmoved-3261 x (Response code) h = never h.0
+  where
+    never : ¬ (false ≡ true)
+    never is = cc
+unmoved-3261 x (Request method) h = absurd h
+
+pub is-server-3261 : (p : Times) → IsServer without.invite_server_3261 p first_in
+is-server-3261 p = record {
+  idle = refl;
+  ended = refl;
+  received = λ x k e y h. h;
+  sent = sent-3261 p;
+  paid = paid-3261;
+  unmoved = unmoved-3261;
+  undaunted = λ x k. refl;
+  opened = λ e. ((Proceeding e.reliable e.moment None, keeps), refl, refl);
+  window = λ x. refl;
+  sends_by = λ x. refl;
+}
+
+-- The rows, read.
+
+-- a received request: an INVITE comes to an idle server, or comes again, or an ACK comes
+pub data ReceivedRow : InviteServerPhase → Kind → MachineEvent → Row → Type 0 where
+  comes : (e : MachineEvent) → ReceivedRow Idle (Request Invite) e (Proceeding e.reliable e.moment None, keeps)
+  again : (e : MachineEvent) (reliable : Bool) (set : ℕ) (last : List ℕ) (must : Bool) →
+      ReceivedRow (Proceeding reliable set (Some last)) (Request Invite) e (Proceeding reliable set (Some last), gains must last)
+  again_after : (e : MachineEvent) (reliable : Bool) (final : List ℕ) (set repeat interval : ℕ) →
+      ReceivedRow (Completed reliable final set repeat interval) (Request Invite) e (Completed reliable final set repeat interval, gains false final)
+  acknowledged : (e : MachineEvent) (reliable : Bool) (final : List ℕ) (set repeat interval : ℕ) →
+      ReceivedRow (Completed reliable final set repeat interval) (Request Ack) e (Confirmed reliable e.moment, keeps)
+
+pub received-row : (p : Times) (x : InviteServerPhase) (k : Kind) (e : MachineEvent) (row : Row) → corrected.Receives p x k e row → ReceivedRow x k e row
+received-row p Idle (Request Invite) e row h = subst (ReceivedRow Idle (Request Invite) e) (sym h) (comes e)
+received-row p (Proceeding reliable set (Some last)) (Request Invite) e row (inl h) =
+    subst (ReceivedRow (Proceeding reliable set (Some last)) (Request Invite) e) (sym h.1) (again e reliable set last true)
+received-row p (Proceeding reliable set (Some last)) (Request Invite) e row (inr h) =
+    subst (ReceivedRow (Proceeding reliable set (Some last)) (Request Invite) e) (sym h.1) (again e reliable set last false)
+received-row p (Proceeding reliable set None) k e row h = absurd h
+received-row p (Completed reliable final set repeat interval) (Request Invite) e row h =
+    subst (ReceivedRow (Completed reliable final set repeat interval) (Request Invite) e) (sym h) (again_after e reliable final set repeat interval)
+received-row p (Completed reliable final set repeat interval) (Request Ack) e row h =
+    subst (ReceivedRow (Completed reliable final set repeat interval) (Request Ack) e) (sym h) (acknowledged e reliable final set repeat interval)
+received-row p x k e row h = absurd h
+
+-- a sent response: of proceeding, a 2xx again, or the final response again
+pub data SentRow (p : Times) : InviteServerPhase → Kind → MachineEvent → Row → Type 0 where
+  provisional : (e : MachineEvent) (reliable : Bool) (set : ℕ) (last : Option (List ℕ)) (code : ℕ) → IsProvisional code →
+      SentRow p (Proceeding reliable set last) (Response code) e (Proceeding reliable set (Some e.text), keeps)
+  success : (e : MachineEvent) (reliable : Bool) (set : ℕ) (last : Option (List ℕ)) (code : ℕ) → IsSuccess code →
+      SentRow p (Proceeding reliable set last) (Response code) e (Accepted e.moment, softens)
+  unsuccessful : (e : MachineEvent) (reliable : Bool) (set : ℕ) (last : Option (List ℕ)) (code : ℕ) → IsUnsuccessful code →
+      SentRow p (Proceeding reliable set last) (Response code) e (Completed reliable e.text e.moment e.moment p.t1, softens)
+  success_again : (e : MachineEvent) (set code : ℕ) → IsSuccess code → SentRow p (Accepted set) (Response code) e (Accepted set, keeps)
+  repeats : (e : MachineEvent) (reliable : Bool) (final : List ℕ) (set repeat interval : ℕ) (k : Kind) → e.text ≡ final →
+      SentRow p (Completed reliable final set repeat interval) k e (Completed reliable final set e.moment (min (2 * interval) p.t2), keeps)
+
+pub sent-row : (p : Times) (x : InviteServerPhase) (k : Kind) (e : MachineEvent) (row : Row) → corrected.Sends p x k e row → SentRow p x k e row
+sent-row p (Proceeding reliable set last) (Response code) e row (inl h) =
+    subst (SentRow p (Proceeding reliable set last) (Response code) e) (sym h.1) (provisional e reliable set last code h.0)
+sent-row p (Proceeding reliable set last) (Response code) e row (inr (inl h)) =
+    subst (SentRow p (Proceeding reliable set last) (Response code) e) (sym h.1) (success e reliable set last code h.0)
+sent-row p (Proceeding reliable set last) (Response code) e row (inr (inr h)) =
+    subst (SentRow p (Proceeding reliable set last) (Response code) e) (sym h.1) (unsuccessful e reliable set last code h.0)
+sent-row p (Accepted set) (Response code) e row h = subst (SentRow p (Accepted set) (Response code) e) (sym h.1) (success_again e set code h.0)
+sent-row p (Completed reliable final set repeat interval) (Response code) e row h =
+    subst (SentRow p (Completed reliable final set repeat interval) (Response code) e) (sym h.1) (repeats e reliable final set repeat interval (Response code) h.0.same)
+sent-row p x k e row h = absurd h

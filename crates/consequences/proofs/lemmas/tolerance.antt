@@ -1,0 +1,6 @@
+pub mod Wider
+pub mod AllWider
+pub mod Steady
+pub mod Sorted
+pub mod SortedPlainServer
+pub mod SeenKinds

@@ -1,0 +1,344 @@
+-- What may be sent and what has to be sent are not paid by one send.
+use Rattle.std.proofs.Common.{◌≡◌, ◌≤◌, inl, inr, ℕ, Bool, true, false, Some, None, List, [], ◌∷◌, All, filter, refl, sym, subst, ◌∙◌, Decides, bytes_eq}
+use Rattle.std.proofs.Math.Decide.{dec_le}
+use Rattle.std.proofs.lemmas.Slice.Eq.{bytes_eq-Decides}
+use Rattle.std.proofs.lemmas.List.Elements.{All-nil, All-filter, All-push, All-weaker, All-cons}
+use Rattle.sip_times.specs.declared.action.Action.{Action}
+use Rattle.sip_times.specs.declared.action.Action.TheVariants.{Sent, Received, Failed, Mark, Restart}
+use Rattle.sip_machine.specs.declared.event.Kind.{Kind}
+use Rattle.sip_machine.specs.declared.event.Kind.TheVariants.{Request, Response}
+use Rattle.sip_machine.specs.declared.event.Method.TheVariants.{Invite, Ack, Cancel}
+use Rattle.sip_machine.specs.Times.{Times}
+use Rattle.sip_machine.specs.MachineEvent.{MachineEvent}
+use Rattle.sip_machine.specs.Message.{IsSuccess}
+use Rattle.sip_machine.specs.Provisional.{Is100}
+use Rattle.sip_machine.specs.Debts.{Owed, softened, IsWithoutFirst}
+use Rattle.sip_machine.specs.Figure.{Figure, Change, keeps, softens, drops, gains, Owing, changed, quiet, Emits, Fails, Steps}
+use Rattle.sip_machine.specs.InviteClient as client
+use Rattle.sip_machine.specs.InviteClient3261 as client_3261
+use Rattle.sip_machine.specs.PlainClient as plain
+use Rattle.sip_machine.specs.InviteServer as server
+use Rattle.sip_machine.specs.InviteServer3261 as server_3261
+use Rattle.consequences.proofs.lemmas.server.Asleep.{nothing-to-pay}
+use Rattle.consequences.proofs.lemmas.server.Said.{all-without}
+use Rattle.consequences.proofs.lemmas.run.Running.{IsKept, left_at, stands-run, run-keeps}
+use Rattle.consequences.proofs.lemmas.tolerance.Wider.{IsSorted}
+
+pub same-bytes : (a b : List ℕ) → Dec (a ≡ b)
+same-bytes a b = by (bytes_eq a b) (bytes_eq-Decides a b)
+  where
+    false-true : ¬ (false ≡ true)
+    false-true same = cc
+
+    by : (r : Bool) → Decides r (a ≡ b) → Dec (a ≡ b)
+    by true is = yes (is.0 refl)
+    by false is = no (λ same. false-true (is.1 same))
+
+-- Clients: all that they owe has to be sent.
+
+-- a change that makes nothing owed that may be sent
+abbrev pub IsFirm : Change → Type 0
+IsFirm keeps = Unit {0}
+IsFirm softens = ⊥
+IsFirm drops = Unit {0}
+IsFirm (gains true message) = Unit {0}
+IsFirm (gains false message) = ⊥
+
+pub record AreFirm {X : Type 0} (f : Figure X) (p : Times) : Type 0 where
+  pub received : (x : X) (k : Kind) (e : MachineEvent) (row : X × Change) → f.Receives p x k e row → IsFirm row.1
+  pub sent : (x : X) (k : Kind) (e : MachineEvent) (row : X × Change) → f.Sends p x k e row → IsFirm row.1
+
+module _ {X : Type 0} (f : Figure X) (p : Times) (firm : AreFirm f p) where
+  abbrev AllMust : List Owed → Type 0
+  AllMust owes = All (λ o. o.must ≡ true) owes
+
+  must-changed : (t : ℕ) (c : Change) (owes : List Owed) → IsFirm c → AllMust owes → AllMust (changed p t c owes)
+  must-changed t keeps owes is_firm all = all
+  must-changed t softens owes is_firm all = absurd is_firm
+  must-changed t drops owes is_firm all = All-nil (λ o. o.must ≡ true)
+  must-changed t (gains true message) owes is_firm all = All-push (λ o. o.must ≡ true) owes _ all refl
+  must-changed t (gains false message) owes is_firm all = absurd is_firm
+
+  must-emits : (e : MachineEvent) (x y : Owing X) → AllMust x.owes → Emits f p e x y → AllMust y.owes
+  must-emits e x y all (inl (row, is_row, to)) = rw to (must-changed e.moment row.1 x.owes (firm.sent x.phase e.kind e row is_row) all)
+  must-emits e x y all (inr (inl (left, pays, to))) = rw to (all-without _ (λ o. o.must ≡ true) x.owes left pays all)
+  must-emits e x y all (inr (inr (stays, same))) = rw same all
+
+  must-fails : (ends : Bool) (e : MachineEvent) (x y : Owing X) → AllMust x.owes → Fails ends f p e x y → AllMust y.owes
+  must-fails true e x y all fails = rw fails.1 (All-nil (λ o. o.must ≡ true))
+  must-fails false e x y all emits = must-emits e x y all emits
+
+  must-steps : (a : Action) (e : MachineEvent) (x y : Owing X) → AllMust x.owes → Steps f p a e x y → AllMust y.owes
+  must-steps Received e x y all (inl (row, is_row, to)) = rw to (must-changed e.moment row.1 x.owes (firm.received x.phase e.kind e row is_row) all)
+  must-steps Received e x y all (inr (none, same)) = rw same all
+  must-steps Sent e x y all emits = must-emits e x y all emits
+  must-steps Failed e x y all fails = must-fails (f.ends_refused x.phase e.kind) e x y all fails
+  must-steps Mark e x y all h = absurd h
+  must-steps Restart e x y all (inl (idle, to)) = rw to (All-nil (λ o. o.must ≡ true))
+  must-steps Restart e x y all (inr (other, to)) = rw to (All-nil (λ o. o.must ≡ true))
+
+  must-kept : IsKept f p (λ es m y. AllMust y.owes)
+  must-kept = record {
+    as_it_waits = λ es h m x all low lasts. all;
+    as_it_ends = λ es h x all may. All-nil (λ o. o.must ≡ true);
+    as_it_takes = λ es e x y all take. must-steps e.action e (record { phase = x.phase; owes = left_at e x }) y (All-filter _ (λ o. o.must ≡ true) x.owes all) take;
+  }
+
+  true-false : (o : Owed) → o.must ≡ true → ¬ (o.must ≡ false)
+  true-false o must may = by (sym must ∙ may)
+    where
+      by : ¬ (true ≡ false)
+      by same = cc
+
+  pub firm-sorted : IsSorted f p (λ es x message. ⊥)
+  firm-sorted = record {
+    sorted = λ es m y one stands. All-weaker (λ o. o.must ≡ true) (λ o. (o.must ≡ true → ¬ ⊥) × (o.must ≡ false → ⊥)) (λ o must. (λ is never. never, λ may. true-false o must may)) y.owes
+        (run-keeps f p (λ es h x. AllMust x.owes) must-kept es (quiet f.idle) 0 m y (All-nil (λ o. o.must ≡ true)) (stands-run f p es m y stands));
+    decides = λ es x k e message may. absurd may;
+    alike = λ es x k e a b pays also may. may;
+  }
+
+client-received : (p : Times) (x : client.InviteClientPhase) (k : Kind) (e : MachineEvent) (row : client.InviteClientPhase × Change) → client.Receives p x k e row → IsFirm row.1
+client-received p (client.Calling w) (Response code) e row (inl h) = rw h.1 tt
+client-received p (client.Calling w) (Response code) e row (inr (inl h)) = rw h.1 tt
+client-received p (client.Calling w) (Response code) e row (inr (inr h)) = rw h.1 tt
+client-received p (client.Proceeding reliable request cancel) (Response code) e row (inl h) = rw h.1 tt
+client-received p (client.Proceeding reliable request cancel) (Response code) e row (inr h) = rw h.1 tt
+client-received p (client.Completed reliable request set) (Response code) e row h = rw h.1 tt
+client-received p x k e row h = absurd h
+
+client-3261-received : (p : Times) (x : client.InviteClientPhase) (k : Kind) (e : MachineEvent) (row : client.InviteClientPhase × Change) → client_3261.Receives p x k e row → IsFirm row.1
+client-3261-received p (client.Calling w) (Response code) e row (inl h) = rw h.1 tt
+client-3261-received p (client.Calling w) (Response code) e row (inr (inl h)) = rw h.1 tt
+client-3261-received p (client.Calling w) (Response code) e row (inr (inr h)) = rw h.1 tt
+client-3261-received p (client.Proceeding reliable request cancel) (Response code) e row (inl h) = rw h.1 tt
+client-3261-received p (client.Proceeding reliable request cancel) (Response code) e row (inr h) = rw h.1 tt
+client-3261-received p (client.Completed reliable request set) (Response code) e row h = rw h.1 tt
+client-3261-received p x k e row h = absurd h
+
+client-sent : (p : Times) (x : client.InviteClientPhase) (k : Kind) (e : MachineEvent) (row : client.InviteClientPhase × Change) → client.Sends p x k e row → IsFirm row.1
+client-sent p client.Idle (Request Invite) e row h = rw h tt
+client-sent p client.Idle (Request Ack) e row h = rw h tt
+client-sent p client.Idle (Request Cancel) e row h = rw h tt
+client-sent p (client.Calling w) (Request Invite) e row h = rw h.1 tt
+client-sent p (client.Proceeding reliable request None) (Request Cancel) e row h = rw h tt
+client-sent p (client.Proceeding reliable request (Some first)) (Request Cancel) e row h = rw h tt
+client-sent p (client.Accepted set) (Request Cancel) e row h = rw h tt
+client-sent p (client.Completed reliable request set) (Request Cancel) e row h = rw h tt
+client-sent p client.Ended (Request Cancel) e row h = rw h tt
+client-sent p x k e row h = absurd h
+
+plain-received : (p : Times) (x : plain.PlainClientPhase) (k : Kind) (e : MachineEvent) (row : plain.PlainClientPhase × Change) → plain.Receives p x k e row → IsFirm row.1
+plain-received p (plain.Trying w) (Response code) e row (inl h) = rw h.1 tt
+plain-received p (plain.Trying w) (Response code) e row (inr h) = rw h.1 tt
+plain-received p (plain.Proceeding w) (Response code) e row h = rw h.1 tt
+plain-received p x k e row h = absurd h
+
+plain-sent : (p : Times) (x : plain.PlainClientPhase) (k : Kind) (e : MachineEvent) (row : plain.PlainClientPhase × Change) → plain.Sends p x k e row → IsFirm row.1
+plain-sent p plain.Idle (Request method) e row h = rw h tt
+plain-sent p (plain.Trying w) (Request method) e row h = rw h.1 tt
+plain-sent p (plain.Proceeding w) (Request method) e row h = rw h.1 tt
+plain-sent p x k e row h = absurd h
+
+pub client-sorted : (p : Times) → IsSorted client.invite_client p (λ es x message. ⊥)
+client-sorted p = firm-sorted client.invite_client p (record { received = client-received p; sent = client-sent p })
+
+pub client-3261-sorted : (p : Times) → IsSorted client_3261.invite_client_3261 p (λ es x message. ⊥)
+client-3261-sorted p = firm-sorted client_3261.invite_client_3261 p (record { received = client-3261-received p; sent = client-sent p })
+
+pub plain-client-sorted : (p : Times) → IsSorted plain.plain_client p (λ es x message. ⊥)
+plain-client-sorted p = firm-sorted plain.plain_client p (record { received = plain-received p; sent = plain-sent p })
+
+-- The INVITE servers: while they proceed, a 100 may be sent and any other has to be; later all that is owed may be sent.
+
+abbrev IsTold : Owed → Type 0
+IsTold o = (o.must ≡ true → ¬ (Is100 o.message)) × (o.must ≡ false → Is100 o.message)
+
+abbrev pub MayIn : server.InviteServerPhase → List ℕ → Type 0
+MayIn (server.Proceeding reliable set last) message = Is100 message
+MayIn x message = Unit {0}
+
+abbrev AreSorted : server.InviteServerPhase → List Owed → Type 0
+AreSorted server.Idle owes = owes ≡ []
+AreSorted (server.Proceeding reliable set last) owes = All IsTold owes
+AreSorted x owes = All (λ o. o.must ≡ false) owes
+
+no-must : ¬ (false ≡ true)
+no-must same = cc
+
+yes-must : ¬ (true ≡ false)
+yes-must same = cc
+
+soft : (owes : List Owed) → All (λ o. o.must ≡ false) (softened owes)
+soft [] = All-nil (λ o. o.must ≡ false)
+soft (o ∷ os) = All-push-front o os (soft os)
+  where
+    All-push-front : (o : Owed) (os : List Owed) → All (λ k. k.must ≡ false) (softened os) → All (λ k. k.must ≡ false) (softened (o ∷ os))
+    All-push-front o os all = All-cons (λ k. k.must ≡ false) (record { message = o.message; deadline = o.deadline; must = false }) (softened os) refl all
+
+module _ (p : Times) where
+  sorted-left : (x : server.InviteServerPhase) (e : MachineEvent) (owes : List Owed) (test : Owed → Bool) → AreSorted x owes → AreSorted x (filter test owes)
+  sorted-left server.Idle e owes test sorted = rw sorted refl
+  sorted-left (server.Proceeding reliable set last) e owes test sorted = All-filter test IsTold owes sorted
+  sorted-left (server.Accepted set) e owes test sorted = All-filter test (λ o. o.must ≡ false) owes sorted
+  sorted-left (server.Completed reliable final set repeat interval) e owes test sorted = All-filter test (λ o. o.must ≡ false) owes sorted
+  sorted-left (server.Confirmed reliable set) e owes test sorted = All-filter test (λ o. o.must ≡ false) owes sorted
+
+  sorted-without : (P : Owed → Type 0) (x : server.InviteServerPhase) (owes left : List Owed) → IsWithoutFirst P owes left → AreSorted x owes → AreSorted x left
+  sorted-without P server.Idle owes left pays sorted = absurd (nothing-to-pay P left (subst (λ os. IsWithoutFirst P os left) sorted pays))
+  sorted-without P (server.Proceeding reliable set last) owes left pays sorted = all-without P IsTold owes left pays sorted
+  sorted-without P (server.Accepted set) owes left pays sorted = all-without P (λ o. o.must ≡ false) owes left pays sorted
+  sorted-without P (server.Completed reliable final set repeat interval) owes left pays sorted = all-without P (λ o. o.must ≡ false) owes left pays sorted
+  sorted-without P (server.Confirmed reliable set) owes left pays sorted = all-without P (λ o. o.must ≡ false) owes left pays sorted
+
+  sorted-received : (x : server.InviteServerPhase) (k : Kind) (e : MachineEvent) (row : server.InviteServerPhase × Change) (owes : List Owed) → AreSorted x owes → server.Receives p x k e row → AreSorted row.0 (changed p e.moment row.1 owes)
+  sorted-received server.Idle (Request Invite) e row owes sorted h = rw (h, sorted) (All-nil IsTold)
+  sorted-received (server.Proceeding reliable set (Some last)) (Request Invite) e row owes sorted (inl h) = rw h.1 (All-push IsTold owes _ sorted (λ must. h.0, λ may. absurd (yes-must may)))
+  sorted-received (server.Proceeding reliable set (Some last)) (Request Invite) e row owes sorted (inr h) = rw h.1 (All-push IsTold owes _ sorted (λ must. absurd (no-must must), λ may. h.0))
+  sorted-received (server.Proceeding reliable set None) k e row owes sorted h = absurd h
+  sorted-received (server.Completed reliable final set repeat interval) (Request Invite) e row owes sorted h = rw h (All-push (λ o. o.must ≡ false) owes _ sorted refl)
+  sorted-received (server.Completed reliable final set repeat interval) (Request Ack) e row owes sorted h = rw h sorted
+  sorted-received x k e row owes sorted h = absurd h
+
+  sorted-sent : (x : server.InviteServerPhase) (k : Kind) (e : MachineEvent) (row : server.InviteServerPhase × Change) (owes : List Owed) → AreSorted x owes → server.Sends p x k e row → AreSorted row.0 (changed p e.moment row.1 owes)
+  sorted-sent (server.Proceeding reliable set last) (Response code) e row owes sorted (inl h) = rw h.1 sorted
+  sorted-sent (server.Proceeding reliable set last) (Response code) e row owes sorted (inr (inl h)) = rw h.1 (soft owes)
+  sorted-sent (server.Proceeding reliable set last) (Response code) e row owes sorted (inr (inr h)) = rw h.1 (soft owes)
+  sorted-sent (server.Accepted set) (Response code) e row owes sorted h = rw h.1 sorted
+  sorted-sent (server.Completed reliable final set repeat interval) (Response code) e row owes sorted h = rw h.1 sorted
+  sorted-sent x k e row owes sorted h = absurd h
+
+  -- so it is told by its bytes
+  told : (x : server.InviteServerPhase) (owes : List Owed) → AreSorted x owes → All (λ o. (o.must ≡ true → ¬ (MayIn x o.message)) × (o.must ≡ false → MayIn x o.message)) owes
+  told server.Idle owes sorted = rw sorted (All-nil (λ o. (o.must ≡ true → ¬ (Unit {0})) × (o.must ≡ false → Unit {0})))
+  told (server.Proceeding reliable set last) owes sorted = sorted
+  told (server.Accepted set) owes sorted = All-weaker (λ o. o.must ≡ false) (λ o. (o.must ≡ true → ¬ (Unit {0})) × (o.must ≡ false → Unit {0})) (λ o may. (λ must. absurd (yes-must (sym must ∙ may)), λ is. tt)) owes sorted
+  told (server.Completed reliable final set repeat interval) owes sorted =
+      All-weaker (λ o. o.must ≡ false) (λ o. (o.must ≡ true → ¬ (Unit {0})) × (o.must ≡ false → Unit {0})) (λ o may. (λ must. absurd (yes-must (sym must ∙ may)), λ is. tt)) owes sorted
+  told (server.Confirmed reliable set) owes sorted =
+      All-weaker (λ o. o.must ≡ false) (λ o. (o.must ≡ true → ¬ (Unit {0})) × (o.must ≡ false → Unit {0})) (λ o may. (λ must. absurd (yes-must (sym must ∙ may)), λ is. tt)) owes sorted
+
+  emits : (e : MachineEvent) (x y : Owing server.InviteServerPhase) → AreSorted x.phase x.owes → Emits server.invite_server p e x y → AreSorted y.phase y.owes
+  emits e x y sorted (inl (row, is_row, to)) = rw to (sorted-sent x.phase e.kind e row x.owes sorted is_row)
+  emits e x y sorted (inr (inl (left, pays, to))) = rw to (sorted-without _ x.phase x.owes left pays sorted)
+  emits e x y sorted (inr (inr (stays, same))) = absurd stays
+
+  steps : (a : Action) (e : MachineEvent) (x y : Owing server.InviteServerPhase) → AreSorted x.phase x.owes → Steps server.invite_server p a e x y → AreSorted y.phase y.owes
+  steps Received e x y sorted (inl (row, is_row, to)) = rw to (sorted-received x.phase e.kind e row x.owes sorted is_row)
+  steps Received e x y sorted (inr (none, same)) = rw same sorted
+  steps Sent e x y sorted h = emits e x y sorted h
+  steps Failed e x y sorted h = emits e x y sorted h
+  steps Mark e x y sorted h = absurd h
+  steps Restart e x y sorted (inl (idle, to)) = rw to refl
+  steps Restart e x y sorted (inr (other, to)) = rw to refl
+
+  server-kept : IsKept server.invite_server p (λ es m y. AreSorted y.phase y.owes)
+  server-kept = record {
+    as_it_waits = λ es h m x sorted low lasts. sorted;
+    as_it_ends = λ es h x sorted may. refl;
+    as_it_takes = λ es e x y sorted take. steps e.action e (record { phase = x.phase; owes = left_at e x }) y (sorted-left x.phase e x.owes _ sorted) take;
+  }
+
+  pays : (x : server.InviteServerPhase) (k : Kind) (e : MachineEvent) (message : List ℕ) → Dec (server.Satisfies x k e message)
+  pays x (Request method) e message = no (λ h. h)
+  pays x (Response code) e message = same-bytes message e.text
+
+  both-pay : (x : server.InviteServerPhase) (k : Kind) (e : MachineEvent) (a b : List ℕ) → server.Satisfies x k e a → server.Satisfies x k e b → b ≡ a
+  both-pay x (Request method) e a b one other = absurd one
+  both-pay x (Response code) e a b one other = other ∙ sym one
+
+  pub server-sorted : IsSorted server.invite_server p (λ es x message. MayIn x message)
+  server-sorted = record {
+    sorted = λ es m y one stands. told y.phase y.owes
+        (run-keeps server.invite_server p (λ es h x. AreSorted x.phase x.owes) server-kept es (quiet server.Idle) 0 m y refl (stands-run server.invite_server p es m y stands));
+    decides = λ es x k e message may. pays x k e message;
+    alike = λ es x k e a b one other may. subst (MayIn x) (both-pay x k e a b one other) may;
+  }
+
+  -- By RFC 3261 alone.
+
+  abbrev AreSorted3261 : server_3261.InviteServer3261Phase → List Owed → Type 0
+  AreSorted3261 server_3261.Passed owes = owes ≡ []
+  AreSorted3261 (server_3261.In x again) owes = AreSorted x owes
+
+  abbrev pub MayIn3261 : server_3261.InviteServer3261Phase → List ℕ → Type 0
+  MayIn3261 server_3261.Passed message = Unit {0}
+  MayIn3261 (server_3261.In x again) message = MayIn x message
+
+  received-3261 : (x : server_3261.InviteServer3261Phase) (k : Kind) (e : MachineEvent) (row : server_3261.InviteServer3261Phase × Change) (owes : List Owed) → AreSorted3261 x owes → server_3261.Receives p x k e row
+      → AreSorted3261 row.0 (changed p e.moment row.1 owes)
+  received-3261 server_3261.Passed (Request Invite) e row owes sorted h = rw (h, sorted) (All-nil IsTold)
+  received-3261 (server_3261.In x again) k e row owes sorted (after, is_row, to) = rw to (sorted-received x k e after owes sorted is_row)
+  received-3261 server_3261.Passed k e row owes sorted h = absurd h
+
+  sent-3261 : (x : server_3261.InviteServer3261Phase) (k : Kind) (e : MachineEvent) (row : server_3261.InviteServer3261Phase × Change) (owes : List Owed) → AreSorted3261 x owes → server_3261.Sends p x k e row
+      → AreSorted3261 row.0 (changed p e.moment row.1 owes)
+  sent-3261 server_3261.Passed (Response code) e row owes sorted h = rw h.1 sorted
+  sent-3261 (server_3261.In (server.Proceeding reliable set last) again) (Response code) e row owes sorted (inl h) = rw h.1 refl
+  sent-3261 (server_3261.In (server.Proceeding reliable set last) again) (Response code) e row owes sorted (inr (other, (after, is_row, to))) =
+      rw to (sorted-sent (server.Proceeding reliable set last) (Response code) e after owes sorted is_row)
+  sent-3261 (server_3261.In (server.Completed reliable final set repeat interval) again) (Response code) e row owes sorted (other, (after, is_row, to)) =
+      rw to (sorted-sent (server.Completed reliable final set repeat interval) (Response code) e after owes sorted is_row)
+  sent-3261 x k e row owes sorted h = absurd h
+
+  without-3261 : (P : Owed → Type 0) (x : server_3261.InviteServer3261Phase) (owes left : List Owed) → IsWithoutFirst P owes left → AreSorted3261 x owes → AreSorted3261 x left
+  without-3261 P server_3261.Passed owes left pays sorted = absurd (nothing-to-pay P left (subst (λ os. IsWithoutFirst P os left) sorted pays))
+  without-3261 P (server_3261.In x again) owes left pays sorted = sorted-without P x owes left pays sorted
+
+  emits-3261 : (e : MachineEvent) (x y : Owing server_3261.InviteServer3261Phase) → AreSorted3261 x.phase x.owes → Emits server_3261.invite_server_3261 p e x y → AreSorted3261 y.phase y.owes
+  emits-3261 e x y sorted (inl (row, is_row, to)) = rw to (sent-3261 x.phase e.kind e row x.owes sorted is_row)
+  emits-3261 e x y sorted (inr (inl (left, pays, to))) = rw to (without-3261 _ x.phase x.owes left pays sorted)
+  emits-3261 e x y sorted (inr (inr (stays, same))) = rw same sorted
+
+  steps-3261 : (a : Action) (e : MachineEvent) (x y : Owing server_3261.InviteServer3261Phase) → AreSorted3261 x.phase x.owes → Steps server_3261.invite_server_3261 p a e x y → AreSorted3261 y.phase y.owes
+  steps-3261 Received e x y sorted (inl (row, is_row, to)) = rw to (received-3261 x.phase e.kind e row x.owes sorted is_row)
+  steps-3261 Received e x y sorted (inr (none, same)) = rw same sorted
+  steps-3261 Sent e x y sorted h = emits-3261 e x y sorted h
+  steps-3261 Failed e x y sorted h = emits-3261 e x y sorted h
+  steps-3261 Mark e x y sorted h = absurd h
+  steps-3261 Restart e x y sorted (inl (idle, to)) = rw to refl
+  steps-3261 Restart e x y sorted (inr (other, to)) = rw to refl
+
+  left-3261 : (x : server_3261.InviteServer3261Phase) (e : MachineEvent) (owes : List Owed) (test : Owed → Bool) → AreSorted3261 x owes → AreSorted3261 x (filter test owes)
+  left-3261 server_3261.Passed e owes test sorted = rw sorted refl
+  left-3261 (server_3261.In x again) e owes test sorted = sorted-left x e owes test sorted
+
+  kept-3261 : IsKept server_3261.invite_server_3261 p (λ es m y. AreSorted3261 y.phase y.owes)
+  kept-3261 = record {
+    as_it_waits = λ es h m x sorted low lasts. sorted;
+    as_it_ends = λ es h x sorted may. refl;
+    as_it_takes = λ es e x y sorted take. steps-3261 e.action e (record { phase = x.phase; owes = left_at e x }) y (left-3261 x.phase e x.owes _ sorted) take;
+  }
+
+  told-3261 : (x : server_3261.InviteServer3261Phase) (owes : List Owed) → AreSorted3261 x owes → All (λ o. (o.must ≡ true → ¬ (MayIn3261 x o.message)) × (o.must ≡ false → MayIn3261 x o.message)) owes
+  told-3261 server_3261.Passed owes sorted = rw sorted (All-nil (λ o. (o.must ≡ true → ¬ (Unit {0})) × (o.must ≡ false → Unit {0})))
+  told-3261 (server_3261.In x again) owes sorted = told x owes sorted
+
+  is-success : (code : ℕ) → Dec (IsSuccess code)
+  is-success code = by (dec_le 200 code) (dec_le code 299)
+    where
+      by : Dec (200 ≤ code) → Dec (code ≤ 299) → Dec (IsSuccess code)
+      by (yes low) (yes high) = yes (low, high)
+      by (no never) high = no (λ h. never h.0)
+      by (yes low) (no never) = no (λ h. never h.1)
+
+  pays-3261 : (x : server_3261.InviteServer3261Phase) (k : Kind) (e : MachineEvent) (message : List ℕ) → Dec (server_3261.Satisfies x k e message)
+  pays-3261 x (Request method) e message = no (λ h. h)
+  pays-3261 x (Response code) e message = by (is-success code) (same-bytes message e.text)
+    where
+      by : Dec (IsSuccess code) → Dec (message ≡ e.text) → Dec (¬ (IsSuccess code) × (message ≡ e.text))
+      by (yes success) same = no (λ h. h.0 success)
+      by (no other) (yes same) = yes (other, same)
+      by (no other) (no never) = no (λ h. never h.1)
+
+  both-pay-3261 : (x : server_3261.InviteServer3261Phase) (k : Kind) (e : MachineEvent) (a b : List ℕ) → server_3261.Satisfies x k e a → server_3261.Satisfies x k e b → b ≡ a
+  both-pay-3261 x (Request method) e a b one other = absurd one
+  both-pay-3261 x (Response code) e a b one other = other.1 ∙ sym one.1
+
+  pub server-3261-sorted : IsSorted server_3261.invite_server_3261 p (λ es x message. MayIn3261 x message)
+  server-3261-sorted = record {
+    sorted = λ es m y one stands. told-3261 y.phase y.owes
+        (run-keeps server_3261.invite_server_3261 p (λ es h x. AreSorted3261 x.phase x.owes) kept-3261 es (quiet (server_3261.In server.Idle false)) 0 m y refl (stands-run server_3261.invite_server_3261 p es m y stands));
+    decides = λ es x k e message may. pays-3261 x k e message;
+    alike = λ es x k e a b one other may. subst (MayIn3261 x) (both-pay-3261 x k e a b one other) may;
+  }

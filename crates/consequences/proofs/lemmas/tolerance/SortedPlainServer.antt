@@ -1,0 +1,163 @@
+-- What the non-INVITE server may send and has to send are not paid by one send, where the same bytes are the same message.
+use Rattle.std.proofs.Common.{◌≡◌, inl, inr, ℕ, Bool, true, false, List, [], ◌∷◌, ◌++◌, All, filter, refl, sym, subst, ◌∙◌, arith}
+use Rattle.std.specs.List.{Any}
+use Rattle.std.proofs.lemmas.List.Elements.{All-nil, All-cons, All-head, All-tail, All-filter, All-push, All-weaker}
+use Rattle.sip_times.specs.declared.action.Action.{Action}
+use Rattle.sip_times.specs.declared.action.Action.TheVariants.{Sent, Received, Failed, Mark, Restart}
+use Rattle.sip_machine.specs.declared.event.Kind.{Kind}
+use Rattle.sip_machine.specs.declared.event.Kind.TheVariants.{Request, Response}
+use Rattle.sip_machine.specs.Times.{Times}
+use Rattle.sip_machine.specs.MachineEvent.{MachineEvent}
+use Rattle.sip_machine.specs.Message.{IsProvisional, IsFinal}
+use Rattle.sip_machine.specs.Provisional.{Is100}
+use Rattle.sip_machine.specs.Debts.{Owed, softened, IsWithoutFirst}
+use Rattle.sip_machine.specs.Figure.{Change, Owing, changed, quiet, Emits, Steps}
+use Rattle.sip_machine.specs.PlainServer.{PlainServerPhase, Idle, Trying, Proceeding, Completed, Receives, Sends, plain_server}
+use Rattle.consequences.specs.Events.{IsResponse, SendsResponse}
+use Rattle.consequences.specs.Tolerance.{AreOneKind}
+use Rattle.consequences.proofs.lemmas.server.Asleep.{nothing-to-pay}
+use Rattle.consequences.proofs.lemmas.server.Said.{IsOut, IsSaid, said-later, all-without}
+use Rattle.consequences.proofs.lemmas.run.Lists.{any-last, any-earlier}
+use Rattle.consequences.proofs.lemmas.run.Running.{IsKept, left_at, stands-run, run-keeps}
+use Rattle.consequences.proofs.lemmas.tolerance.Sorted.{same-bytes}
+use Rattle.consequences.proofs.lemmas.tolerance.Wider.{IsSorted}
+
+-- a final response of these bytes was sent
+abbrev IsFinalSaid : List MachineEvent → List ℕ → Type 0
+IsFinalSaid es final = Any (λ g. IsResponse IsFinal g × (g.text ≡ final)) es
+
+abbrev IsTold : List MachineEvent → Owed → Type 0
+IsTold es o = (o.must ≡ true → ¬ (Is100 o.message)) × (o.must ≡ false → Is100 o.message) × IsSaid es o.message
+
+abbrev IsFinalOr : List MachineEvent → List ℕ → Owed → Type 0
+IsFinalOr es final o = (o.must ≡ true → o.message ≡ final) × (o.must ≡ false → IsSaid es o.message)
+
+abbrev AreSorted : List MachineEvent → PlainServerPhase → List Owed → Type 0
+AreSorted es Idle owes = owes ≡ []
+AreSorted es (Trying reliable) owes = owes ≡ []
+AreSorted es (Proceeding reliable last) owes = IsSaid es last × All (IsTold es) owes
+AreSorted es (Completed reliable final set) owes = IsFinalSaid es final × All (IsFinalOr es final) owes
+
+abbrev pub May : List MachineEvent → PlainServerPhase → List ℕ → Type 0
+May es (Proceeding reliable last) message = Is100 message
+May es (Completed reliable final set) message = IsSaid es message
+May es x message = Unit {0}
+
+no-must : ¬ (false ≡ true)
+no-must same = cc
+
+yes-must : ¬ (true ≡ false)
+yes-must same = cc
+
+sorted-later : (es more : List MachineEvent) (x : PlainServerPhase) (owes : List Owed) → AreSorted es x owes → AreSorted (es ++ more) x owes
+sorted-later es more Idle owes sorted = sorted
+sorted-later es more (Trying reliable) owes sorted = sorted
+sorted-later es more (Proceeding reliable last) owes sorted =
+    (said-later es more last sorted.0, All-weaker (IsTold es) (IsTold (es ++ more)) (λ o told. (told.0, told.1, said-later es more o.message told.2)) owes sorted.1)
+sorted-later es more (Completed reliable final set) owes sorted = (
+  any-earlier (λ g. IsResponse IsFinal g × (g.text ≡ final)) es more sorted.0,
+  All-weaker (IsFinalOr es final) (IsFinalOr (es ++ more) final) (λ o told. (told.0, λ may. said-later es more o.message (told.1 may))) owes sorted.1,
+)
+
+sorted-left : (es : List MachineEvent) (x : PlainServerPhase) (owes : List Owed) (test : Owed → Bool) → AreSorted es x owes → AreSorted es x (filter test owes)
+sorted-left es Idle owes test sorted = rw sorted refl
+sorted-left es (Trying reliable) owes test sorted = rw sorted refl
+sorted-left es (Proceeding reliable last) owes test sorted = (sorted.0, All-filter test (IsTold es) owes sorted.1)
+sorted-left es (Completed reliable final set) owes test sorted = (sorted.0, All-filter test (IsFinalOr es final) owes sorted.1)
+
+sorted-without : (P : Owed → Type 0) (es : List MachineEvent) (x : PlainServerPhase) (owes left : List Owed) → IsWithoutFirst P owes left → AreSorted es x owes → AreSorted es x left
+sorted-without P es Idle owes left pays sorted = absurd (nothing-to-pay P left (subst (λ os. IsWithoutFirst P os left) sorted pays))
+sorted-without P es (Trying reliable) owes left pays sorted = absurd (nothing-to-pay P left (subst (λ os. IsWithoutFirst P os left) sorted pays))
+sorted-without P es (Proceeding reliable last) owes left pays sorted = (sorted.0, all-without P (IsTold es) owes left pays sorted.1)
+sorted-without P es (Completed reliable final set) owes left pays sorted = (sorted.0, all-without P (IsFinalOr es final) owes left pays sorted.1)
+
+soft : (es : List MachineEvent) (final : List ℕ) (owes : List Owed) → All (λ o. IsSaid es o.message) owes → All (IsFinalOr es final) (softened owes)
+soft es final [] all = All-nil (IsFinalOr es final)
+soft es final (o ∷ os) all =
+    All-cons (IsFinalOr es final) (record { message = o.message; deadline = o.deadline; must = false }) (softened os) (λ must. absurd (no-must must), λ may. All-head (λ o. IsSaid es o.message) o os all)
+    (soft es final os (All-tail (λ o. IsSaid es o.message) o os all))
+
+module _ (p : Times) where
+  module _ (es : List MachineEvent) (e : MachineEvent) where
+    abbrev Now : List MachineEvent
+    Now = es ++ e ∷ []
+
+    received : (x : PlainServerPhase) (k : Kind) (row : PlainServerPhase × Change) (owes : List Owed) → AreSorted es x owes → Receives p x k e row → AreSorted Now row.0 (changed p e.moment row.1 owes)
+    received Idle (Request method) row owes sorted h = rw h sorted
+    received (Proceeding reliable last) (Request method) row owes sorted (inl h) =
+        let later = sorted-later es (e ∷ []) (Proceeding reliable last) owes sorted in
+        rw h.1 (later.0, All-push (IsTold Now) owes _ later.1 (λ must. h.0, λ may. absurd (yes-must may), later.0))
+    received (Proceeding reliable last) (Request method) row owes sorted (inr h) =
+        let later = sorted-later es (e ∷ []) (Proceeding reliable last) owes sorted in
+        rw h.1 (later.0, All-push (IsTold Now) owes _ later.1 (λ must. absurd (no-must must), λ may. h.0, later.0))
+    received (Completed reliable final set) (Request method) row owes sorted h =
+        let later = sorted-later es (e ∷ []) (Completed reliable final set) owes sorted in
+        rw h (later.0, All-push (IsFinalOr Now final) owes _ later.1 (λ must. refl, λ may. absurd (yes-must may)))
+    received x k row owes sorted h = absurd h
+
+    said-now : (code : ℕ) → IsOut e → e.kind ≡ Response code → IsProvisional code → IsSaid Now e.text
+    said-now code out kind is_provisional = any-last (λ g. SendsResponse IsProvisional g × (g.text ≡ e.text)) es e ((out, (code, kind, is_provisional)), refl)
+
+    final-now : (code : ℕ) → e.kind ≡ Response code → IsFinal code → IsFinalSaid Now e.text
+    final-now code kind is_final = any-last (λ g. IsResponse IsFinal g × (g.text ≡ e.text)) es e ((code, kind, is_final), refl)
+
+    sent : (x : PlainServerPhase) (k : Kind) (row : PlainServerPhase × Change) (owes : List Owed) → IsOut e → e.kind ≡ k → AreSorted es x owes → Sends p x k e row → AreSorted Now row.0 (changed p e.moment row.1 owes)
+    sent (Trying reliable) (Response code) row owes out kind sorted (inl h) = rw (h.1, sorted) (said-now code out kind h.0, All-nil (IsTold Now))
+    sent (Trying reliable) (Response code) row owes out kind sorted (inr h) = rw (h.1, sorted) (final-now code kind h.0, All-nil (IsFinalOr Now e.text))
+    sent (Proceeding reliable last) (Response code) row owes out kind sorted (inl h) =
+        rw h.1 (said-now code out kind h.0, (sorted-later es (e ∷ []) (Proceeding reliable last) owes sorted).1)
+    sent (Proceeding reliable last) (Response code) row owes out kind sorted (inr h) =
+        rw h.1 (final-now code kind h.0, soft Now e.text owes (All-weaker (IsTold es) (λ o. IsSaid Now o.message) (λ o told. said-later es (e ∷ []) o.message told.2) owes sorted.1))
+    sent x k row owes out kind sorted h = absurd h
+
+    emits : (x y : Owing PlainServerPhase) → IsOut e → AreSorted es x.phase x.owes → Emits plain_server p e x y → AreSorted Now y.phase y.owes
+    emits x y out sorted (inl (row, is_row, to)) = rw to (sent x.phase e.kind row x.owes out refl sorted is_row)
+    emits x y out sorted (inr (inl (left, pays, to))) = rw to (sorted-without _ Now x.phase x.owes left pays (sorted-later es (e ∷ []) x.phase x.owes sorted))
+    emits x y out sorted (inr (inr (stays, same))) = absurd stays
+
+    steps : (a : Action) (x y : Owing PlainServerPhase) → e.action ≡ a → AreSorted es x.phase x.owes → Steps plain_server p a e x y → AreSorted Now y.phase y.owes
+    steps Received x y was sorted (inl (row, is_row, to)) = rw to (received x.phase e.kind row x.owes sorted is_row)
+    steps Received x y was sorted (inr (none, same)) = rw same (sorted-later es (e ∷ []) x.phase x.owes sorted)
+    steps Sent x y was sorted h = emits x y (inl was) sorted h
+    steps Failed x y was sorted h = emits x y (inr was) sorted h
+    steps Mark x y was sorted h = absurd h
+    steps Restart x y was sorted (inl (idle, to)) = rw to refl
+    steps Restart x y was sorted (inr (other, to)) = rw to refl
+
+  kept : IsKept plain_server p (λ es m y. AreSorted es y.phase y.owes)
+  kept = record {
+    as_it_waits = λ es h m x sorted low lasts. sorted;
+    as_it_ends = λ es h x sorted may. refl;
+    as_it_takes = λ es e x y sorted take. steps es e e.action (record { phase = x.phase; owes = left_at e x }) y refl (sorted-left es x.phase x.owes _ sorted) take;
+  }
+
+  -- the final response is no provisional one that was sent
+  not-said : (es : List MachineEvent) (final : List ℕ) → AreOneKind es → IsFinalSaid es final → ¬ (IsSaid es final)
+  not-said es final one (i, g, i-low, i-at, (is_final, g-text)) (j, h, j-low, j-at, (sends, h-text)) =
+      by is_final.0 sends.1.0 is_final.1 sends.1.1 is_final.2 sends.1.2
+    where
+      same : g.kind ≡ h.kind
+      same = one g h (i, i-low, i-at) (j, j-low, j-at) (g-text ∙ sym h-text)
+
+      codes-are-one : (a b : ℕ) → Response a ≡ Response b → a ≡ b
+      codes-are-one a b is = cc
+
+      by : (a b : ℕ) → g.kind ≡ Response a → h.kind ≡ Response b → IsFinal a → ¬ (IsProvisional b)
+      by a b g-kind h-kind final_code provisional_code =
+          let codes : a ≡ b = codes-are-one a b (sym g-kind ∙ same ∙ h-kind) in absurd (omega (arith, codes, final_code.0, provisional_code.1))
+
+  told : (es : List MachineEvent) (x : PlainServerPhase) (owes : List Owed) → AreOneKind es → AreSorted es x owes → All (λ o. (o.must ≡ true → ¬ (May es x o.message)) × (o.must ≡ false → May es x o.message)) owes
+  told es Idle owes one sorted = rw sorted (All-nil (λ o. (o.must ≡ true → ¬ (Unit {0})) × (o.must ≡ false → Unit {0})))
+  told es (Trying reliable) owes one sorted = rw sorted (All-nil (λ o. (o.must ≡ true → ¬ (Unit {0})) × (o.must ≡ false → Unit {0})))
+  told es (Proceeding reliable last) owes one sorted =
+      All-weaker (IsTold es) (λ o. (o.must ≡ true → ¬ (Is100 o.message)) × (o.must ≡ false → Is100 o.message)) (λ o is. (is.0, is.1)) owes sorted.1
+  told es (Completed reliable final set) owes one sorted =
+      All-weaker (IsFinalOr es final) (λ o. (o.must ≡ true → ¬ (IsSaid es o.message)) × (o.must ≡ false → IsSaid es o.message))
+      (λ o is. (λ must said. not-said es final one sorted.0 (subst (IsSaid es) (is.0 must) said), is.1)) owes sorted.1
+
+  pub plain-server-sorted : IsSorted plain_server p May
+  plain-server-sorted = record {
+    sorted = λ es m y one stands. told es y.phase y.owes one (run-keeps plain_server p (λ es h x. AreSorted es x.phase x.owes) kept es (quiet Idle) 0 m y refl (stands-run plain_server p es m y stands));
+    decides = λ es x k e message may. same-bytes message e.text;
+    alike = λ es x k e a b pays also may. subst (May es x) (also ∙ sym pays) may;
+  }

@@ -1,0 +1,226 @@
+-- The figures by a wider tolerance: their rows stand, and their windows open earlier and close later.
+use Rattle.std.proofs.Common.{◌≤◌, ◌*◌, ℕ, Bool, true, false, Some, None, IsSomeAnd, IfSome, List, [], ◌∷◌, All, arith, if◌then◌else◌}
+use Rattle.std.proofs.lemmas.List.Elements.{All-nil, All-cons, All-head}
+use Rattle.sip_machine.specs.declared.event.Kind.{Kind}
+use Rattle.sip_machine.specs.declared.event.Kind.TheVariants.{Request, Response}
+use Rattle.sip_machine.specs.declared.event.Method.TheVariants.{Invite, Ack, Cancel}
+use Rattle.sip_machine.specs.Times.{Times}
+use Rattle.sip_machine.specs.Limits.{open_at, close_at}
+use Rattle.sip_machine.specs.MachineEvent.{MachineEvent}
+use Rattle.sip_machine.specs.Retransmits.{Retransmits}
+use Rattle.sip_machine.specs.Figure.{Change}
+use Rattle.sip_machine.specs.InviteClient as client
+use Rattle.sip_machine.specs.InviteClient3261 as client_3261
+use Rattle.sip_machine.specs.PlainClient as plain
+use Rattle.sip_machine.specs.InviteServer as server
+use Rattle.sip_machine.specs.InviteServer3261 as server_3261
+use Rattle.sip_machine.specs.PlainServer as plain_server
+use Rattle.consequences.specs.Tolerance.{tolerant}
+use Rattle.consequences.proofs.lemmas.tolerance.Wider.{IsSteady}
+
+module _ (p : Times) (early late : ℕ) (earlier : p.early ≤ early) (later : p.late ≤ late) where
+  abbrev q : Times
+  q = tolerant early late p
+
+  retransmits : (reliable : Bool) (message : List ℕ) (set interval : ℕ) (e : MachineEvent) → Retransmits p reliable message set interval e → Retransmits q reliable message set interval e
+  retransmits reliable message set interval e h = let fires = h.fires in record { same = h.same; unreliable = h.unreliable; fires = omega (arith, fires, earlier) }
+
+  opens-earlier : (set duration h : ℕ) → open_at p set duration ≤ h → open_at q set duration ≤ h
+  opens-earlier set duration h opening = omega (arith, opening, earlier)
+
+  closes-later : (set duration h : ℕ) → h ≤ close_at p set duration → h ≤ close_at q set duration
+  closes-later set duration h closing = omega (arith, closing, later)
+
+  repeats-later : (reliable : Bool) (set interval h : ℕ) → All (λ last. h ≤ last) (if reliable then [] else close_at p set interval ∷ []) → All (λ last. h ≤ last) (if reliable then [] else close_at q set interval ∷ [])
+  repeats-later true set interval h all = All-nil (λ last. h ≤ last)
+  repeats-later false set interval h all =
+      All-cons (λ last. h ≤ last) (close_at q set interval) [] (closes-later set interval h (All-head (λ last. h ≤ last) (close_at p set interval) [] all)) (All-nil (λ last. h ≤ last))
+
+  -- The INVITE clients.
+
+  client-sent : (x : client.InviteClientPhase) (k : Kind) (e : MachineEvent) (row : client.InviteClientPhase × Change) → client.Sends p x k e row → client.Sends q x k e row
+  client-sent client.Idle (Request Invite) e row h = h
+  client-sent client.Idle (Request Ack) e row h = h
+  client-sent client.Idle (Request Cancel) e row h = h
+  client-sent (client.Calling w) (Request Invite) e row h = (retransmits w.reliable w.request w.set w.interval e h.0, h.1)
+  client-sent (client.Proceeding reliable request None) (Request Cancel) e row h = h
+  client-sent (client.Proceeding reliable request (Some first)) (Request Cancel) e row h = h
+  client-sent (client.Accepted set) (Request Cancel) e row h = h
+  client-sent (client.Completed reliable request set) (Request Cancel) e row h = h
+  client-sent client.Ended (Request Cancel) e row h = h
+  client-sent x k e row h = absurd h
+
+  client-opens : (x : client.InviteClientPhase) (h : ℕ) → IsSomeAnd (client.timer_window p x) (λ w. w.0 ≤ h) → IsSomeAnd (client.timer_window q x) (λ w. w.0 ≤ h)
+  client-opens (client.Calling w) h opening = opens-earlier w.start (64 * p.t1) h opening
+  client-opens (client.Proceeding reliable request (Some first)) h opening = opens-earlier first (64 * p.t1) h opening
+  client-opens (client.Accepted set) h opening = opens-earlier set (64 * p.t1) h opening
+  client-opens (client.Completed true request set) h opening = opens-earlier set 0 h opening
+  client-opens (client.Completed false request set) h opening = opens-earlier set 32000 h opening
+  client-opens x h opening = absurd opening
+
+  client-closes : (x : client.InviteClientPhase) (h : ℕ) → IfSome (client.timer_window p x) (λ w. IfSome w.1 (λ close. h ≤ close)) → IfSome (client.timer_window q x) (λ w. IfSome w.1 (λ close. h ≤ close))
+  client-closes (client.Calling w) h closing = closes-later w.start (64 * p.t1) h closing
+  client-closes (client.Accepted set) h closing = closes-later set (64 * p.t1) h closing
+  client-closes (client.Completed true request set) h closing = closes-later set 0 h closing
+  client-closes (client.Completed false request set) h closing = tt
+  client-closes (client.Proceeding reliable request None) h closing = tt
+  client-closes (client.Proceeding reliable request (Some first)) h closing = tt
+  client-closes client.Idle h closing = tt
+  client-closes client.Ended h closing = tt
+
+  client-sends-by : (x : client.InviteClientPhase) (h : ℕ) → All (λ last. h ≤ last) (client.sends_by p x) → All (λ last. h ≤ last) (client.sends_by q x)
+  client-sends-by (client.Calling w) h all = repeats-later w.reliable w.set w.interval h all
+  client-sends-by client.Idle h all = all
+  client-sends-by client.Ended h all = all
+  client-sends-by (client.Proceeding reliable request cancel) h all = all
+  client-sends-by (client.Accepted set) h all = all
+  client-sends-by (client.Completed reliable request set) h all = all
+
+  pub client-steady : IsSteady client.invite_client p q
+  client-steady = record {
+    received = λ x k e row h. h;
+    received_only = λ x k e row h. h;
+    sent = client-sent;
+    opens = client-opens;
+    closes = client-closes;
+    sends_by = client-sends-by;
+  }
+
+  pub client-3261-steady : IsSteady client_3261.invite_client_3261 p q
+  client-3261-steady = record {
+    received = λ x k e row h. h;
+    received_only = λ x k e row h. h;
+    sent = client-sent;
+    opens = client-opens;
+    closes = client-closes;
+    sends_by = client-sends-by;
+  }
+
+  -- The client of any other method.
+
+  plain-sent : (x : plain.PlainClientPhase) (k : Kind) (e : MachineEvent) (row : plain.PlainClientPhase × Change) → plain.Sends p x k e row → plain.Sends q x k e row
+  plain-sent plain.Idle (Request method) e row h = h
+  plain-sent (plain.Trying w) (Request method) e row h = (retransmits w.reliable w.request w.set w.interval e h.0, h.1)
+  plain-sent (plain.Proceeding w) (Request method) e row h = (retransmits w.reliable w.request w.set w.interval e h.0, h.1)
+  plain-sent x k e row h = absurd h
+
+  plain-opens : (x : plain.PlainClientPhase) (h : ℕ) → IsSomeAnd (plain.timer_window p x) (λ w. w.0 ≤ h) → IsSomeAnd (plain.timer_window q x) (λ w. w.0 ≤ h)
+  plain-opens (plain.Trying w) h opening = opens-earlier w.start (64 * p.t1) h opening
+  plain-opens (plain.Proceeding w) h opening = opens-earlier w.start (64 * p.t1) h opening
+  plain-opens (plain.Completed reliable set) h opening = opens-earlier set (if reliable then 0 else p.t4) h opening
+  plain-opens x h opening = absurd opening
+
+  plain-closes : (x : plain.PlainClientPhase) (h : ℕ) → IfSome (plain.timer_window p x) (λ w. IfSome w.1 (λ close. h ≤ close)) → IfSome (plain.timer_window q x) (λ w. IfSome w.1 (λ close. h ≤ close))
+  plain-closes (plain.Trying w) h closing = closes-later w.start (64 * p.t1) h closing
+  plain-closes (plain.Proceeding w) h closing = closes-later w.start (64 * p.t1) h closing
+  plain-closes (plain.Completed reliable set) h closing = closes-later set (if reliable then 0 else p.t4) h closing
+  plain-closes plain.Idle h closing = tt
+  plain-closes plain.Ended h closing = tt
+
+  plain-sends-by : (x : plain.PlainClientPhase) (h : ℕ) → All (λ last. h ≤ last) (plain.sends_by p x) → All (λ last. h ≤ last) (plain.sends_by q x)
+  plain-sends-by (plain.Trying w) h all = repeats-later w.reliable w.set w.interval h all
+  plain-sends-by (plain.Proceeding w) h all = repeats-later w.reliable w.set w.interval h all
+  plain-sends-by plain.Idle h all = all
+  plain-sends-by plain.Ended h all = all
+  plain-sends-by (plain.Completed reliable set) h all = all
+
+  pub plain-client-steady : IsSteady plain.plain_client p q
+  plain-client-steady = record {
+    received = λ x k e row h. h;
+    received_only = λ x k e row h. h;
+    sent = plain-sent;
+    opens = plain-opens;
+    closes = plain-closes;
+    sends_by = plain-sends-by;
+  }
+
+  -- The INVITE servers.
+
+  server-sent : (x : server.InviteServerPhase) (k : Kind) (e : MachineEvent) (row : server.InviteServerPhase × Change) → server.Sends p x k e row → server.Sends q x k e row
+  server-sent (server.Proceeding reliable set last) (Response code) e row h = h
+  server-sent (server.Accepted set) (Response code) e row h = h
+  server-sent (server.Completed reliable final set repeat interval) (Response code) e row h = (retransmits reliable final repeat interval e h.0, h.1)
+  server-sent x k e row h = absurd h
+
+  server-opens : (x : server.InviteServerPhase) (h : ℕ) → IsSomeAnd (server.timer_window p x) (λ w. w.0 ≤ h) → IsSomeAnd (server.timer_window q x) (λ w. w.0 ≤ h)
+  server-opens (server.Accepted set) h opening = opens-earlier set (64 * p.t1) h opening
+  server-opens (server.Completed reliable final set repeat interval) h opening = opens-earlier set (64 * p.t1) h opening
+  server-opens (server.Confirmed reliable set) h opening = opens-earlier set (if reliable then 0 else p.t4) h opening
+  server-opens x h opening = absurd opening
+
+  server-closes : (x : server.InviteServerPhase) (h : ℕ) → IfSome (server.timer_window p x) (λ w. IfSome w.1 (λ close. h ≤ close)) → IfSome (server.timer_window q x) (λ w. IfSome w.1 (λ close. h ≤ close))
+  server-closes (server.Accepted set) h closing = closes-later set (64 * p.t1) h closing
+  server-closes (server.Completed reliable final set repeat interval) h closing = closes-later set (64 * p.t1) h closing
+  server-closes (server.Confirmed reliable set) h closing = closes-later set (if reliable then 0 else p.t4) h closing
+  server-closes server.Idle h closing = tt
+  server-closes (server.Proceeding reliable set last) h closing = tt
+
+  server-sends-by : (x : server.InviteServerPhase) (h : ℕ) → All (λ last. h ≤ last) (server.sends_by p x) → All (λ last. h ≤ last) (server.sends_by q x)
+  server-sends-by (server.Proceeding reliable set None) h all =
+      All-cons (λ last. h ≤ last) (close_at q set 200) [] (closes-later set 200 h (All-head (λ last. h ≤ last) (close_at p set 200) [] all)) (All-nil (λ last. h ≤ last))
+  server-sends-by (server.Proceeding reliable set (Some last)) h all = all
+  server-sends-by (server.Completed reliable final set repeat interval) h all = repeats-later reliable repeat interval h all
+  server-sends-by server.Idle h all = all
+  server-sends-by (server.Accepted set) h all = all
+  server-sends-by (server.Confirmed reliable set) h all = all
+
+  pub server-steady : IsSteady server.invite_server p q
+  server-steady = record {
+    received = λ x k e row h. h;
+    received_only = λ x k e row h. h;
+    sent = server-sent;
+    opens = server-opens;
+    closes = server-closes;
+    sends_by = server-sends-by;
+  }
+
+  server-3261-sent : (x : server_3261.InviteServer3261Phase) (k : Kind) (e : MachineEvent) (row : server_3261.InviteServer3261Phase × Change) → server_3261.Sends p x k e row → server_3261.Sends q x k e row
+  server-3261-sent server_3261.Passed (Response code) e row h = h
+  server-3261-sent (server_3261.In (server.Proceeding reliable set last) again) (Response code) e row h = h
+  server-3261-sent (server_3261.In (server.Completed reliable final set repeat interval) again) (Response code) e row h =
+      (h.0, (h.1.0, server-sent (server.Completed reliable final set repeat interval) (Response code) e h.1.0 h.1.1, h.1.2))
+  server-3261-sent x k e row h = absurd h
+
+  server-3261-opens : (x : server_3261.InviteServer3261Phase) (h : ℕ) → IsSomeAnd (server_3261.timer_window p x) (λ w. w.0 ≤ h) → IsSomeAnd (server_3261.timer_window q x) (λ w. w.0 ≤ h)
+  server-3261-opens server_3261.Passed h opening = absurd opening
+  server-3261-opens (server_3261.In x again) h opening = server-opens x h opening
+
+  server-3261-closes : (x : server_3261.InviteServer3261Phase) (h : ℕ) → IfSome (server_3261.timer_window p x) (λ w. IfSome w.1 (λ close. h ≤ close)) → IfSome (server_3261.timer_window q x) (λ w. IfSome w.1 (λ close. h ≤ close))
+  server-3261-closes server_3261.Passed h closing = tt
+  server-3261-closes (server_3261.In x again) h closing = server-closes x h closing
+
+  server-3261-sends-by : (x : server_3261.InviteServer3261Phase) (h : ℕ) → All (λ last. h ≤ last) (server_3261.sends_by p x) → All (λ last. h ≤ last) (server_3261.sends_by q x)
+  server-3261-sends-by server_3261.Passed h all = all
+  server-3261-sends-by (server_3261.In x again) h all = server-sends-by x h all
+
+  pub server-3261-steady : IsSteady server_3261.invite_server_3261 p q
+  server-3261-steady = record {
+    received = λ x k e row h. h;
+    received_only = λ x k e row h. h;
+    sent = server-3261-sent;
+    opens = server-3261-opens;
+    closes = server-3261-closes;
+    sends_by = server-3261-sends-by;
+  }
+
+  -- The server of any other method.
+
+  plain-server-opens : (x : plain_server.PlainServerPhase) (h : ℕ) → IsSomeAnd (plain_server.timer_window p x) (λ w. w.0 ≤ h) → IsSomeAnd (plain_server.timer_window q x) (λ w. w.0 ≤ h)
+  plain-server-opens (plain_server.Completed reliable final set) h opening = opens-earlier set (if reliable then 0 else 64 * p.t1) h opening
+  plain-server-opens x h opening = absurd opening
+
+  plain-server-closes : (x : plain_server.PlainServerPhase) (h : ℕ) → IfSome (plain_server.timer_window p x) (λ w. IfSome w.1 (λ close. h ≤ close)) → IfSome (plain_server.timer_window q x) (λ w. IfSome w.1 (λ close. h ≤ close))
+  plain-server-closes (plain_server.Completed reliable final set) h closing = closes-later set (if reliable then 0 else 64 * p.t1) h closing
+  plain-server-closes plain_server.Idle h closing = tt
+  plain-server-closes (plain_server.Trying reliable) h closing = tt
+  plain-server-closes (plain_server.Proceeding reliable last) h closing = tt
+
+  pub plain-server-steady : IsSteady plain_server.plain_server p q
+  plain-server-steady = record {
+    received = λ x k e row h. h;
+    received_only = λ x k e row h. h;
+    sent = λ x k e row h. h;
+    opens = plain-server-opens;
+    closes = plain-server-closes;
+    sends_by = λ x h all. all;
+  }

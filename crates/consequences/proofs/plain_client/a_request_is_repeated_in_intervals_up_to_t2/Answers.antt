@@ -1,0 +1,5 @@
+use Rattle.consequences.proofs.lemmas.client.Repeating.{requests-are-spaced}
+use Rattle.consequences.proofs.plain_client.a_request_is_repeated_in_intervals_up_to_t2.Goals as goal
+
+pub returns : goal.returns
+returns c = λ p rules events m y stands. requests-are-spaced p events m y stands

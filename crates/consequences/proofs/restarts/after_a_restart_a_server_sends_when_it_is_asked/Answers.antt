@@ -1,0 +1,42 @@
+use Rattle.std.proofs.Common.{◌≡◌, ◌++◌, ◌∷◌, Bool, true, false, List, All, subst}
+use Rattle.std.proofs.lemmas.List.Elements.{All-weaker}
+use Rattle.sip_key.specs.declared.role.Role.TheVariants.{Server}
+use Rattle.sip_times.specs.declared.action.Action.TheVariants.{Sent, Received}
+use Rattle.sip_times.specs.declared.rules.Rules.{Rules}
+use Rattle.sip_times.specs.declared.rules.Rules.TheVariants.{R3261, R6026}
+use Rattle.sip_machine.specs.declared.event.Kind.{Kind}
+use Rattle.sip_machine.specs.declared.event.Kind.TheVariants.{Request}
+use Rattle.sip_machine.specs.declared.event.Method.{Method}
+use Rattle.sip_machine.specs.declared.event.Method.TheVariants.{Invite}
+use Rattle.sip_machine.specs.Figure.{Figure, Owing, quiet, Takes}
+use Rattle.sip_machine.specs.MachineEvent.{MachineEvent}
+use Rattle.sip_machine.specs.Times.{Times}
+use Rattle.sip_machine.specs.InviteServer.{invite_server}
+use Rattle.sip_machine.specs.InviteServer3261.{invite_server_3261}
+use Rattle.sip_machine.specs.PlainServer.{plain_server}
+use Rattle.sip_states.specs.Stands.{StandsBehind}
+use Rattle.consequences.specs.Events.{GetsAnyRequest, IsRestart}
+use Rattle.consequences.specs.Machines.{figure_of, StateOf}
+use Rattle.consequences.proofs.lemmas.server.Asleep.{IsAsleep, IsInvite, IsAnyRequest, corrected-asleep, without-asleep, plain-asleep, asleep-emits, sleeps-on, restart-sleeps}
+use Rattle.consequences.proofs.lemmas.run.Running.{step-of, stands-run, cut}
+use Rattle.consequences.proofs.restarts.after_a_restart_a_server_sends_when_it_is_asked.Goals as goal
+
+module _ {X : Type 0} (f : Figure X) (p : Times) (Wakes : Kind → Type 0) (asleep : IsAsleep f p Wakes) (is_request : (k : Kind) → Wakes k → (method : Method) × (k ≡ Request method)) where
+  silent : (before after : List MachineEvent) (restart e : MachineEvent) (y : Owing X) → IsRestart restart → All (λ g. ¬ (GetsAnyRequest g)) after → e.action ≡ Sent →
+      ¬ (StandsBehind f p (before ++ restart ∷ after) e y)
+  silent before after restart e y restarts none sent (x, stands, take) =
+      let found = cut f p (quiet f.idle) 0 before restart after e.moment x (stands-run f p (before ++ restart ∷ after) e.moment x stands) in
+      let asked : (g : MachineEvent) → ¬ (GetsAnyRequest g) → ¬ ((g.action ≡ Received) × Wakes g.kind) =
+      λ g never wakes. let request = is_request g.kind wakes.1 in never (request.0, (wakes.0, request.1)) in
+      let slept = sleeps-on f p Wakes asleep after found.to restart.moment e.moment x (restart-sleeps f p Wakes asleep restart found.from found.to restarts found.step)
+      (All-weaker (λ g. ¬ (GetsAnyRequest g)) (λ g. ¬ ((g.action ≡ Received) × Wakes g.kind)) asked after none) found.goes in
+      asleep-emits f p Wakes asleep e y (step-of f p Sent e (quiet f.idle) y sent (subst (λ z. Takes f p z e y) slept take))
+
+by : (p : Times) (rules : Rules) (invite : Bool) (before after : List MachineEvent) (restart e : MachineEvent) (y : StateOf rules Server invite) →
+    IsRestart restart → All (λ f. ¬ (GetsAnyRequest f)) after → e.action ≡ Sent → ¬ (StandsBehind (figure_of rules Server invite) p (before ++ restart ∷ after) e y)
+by p R6026 true before after restart e y restarts none sent stands = silent invite_server p IsInvite (corrected-asleep p) (λ k is. (Invite, is)) before after restart e y restarts none sent stands
+by p R3261 true before after restart e y restarts none sent stands = silent invite_server_3261 p IsInvite (without-asleep p) (λ k is. (Invite, is)) before after restart e y restarts none sent stands
+by p rules false before after restart e y restarts none sent stands = silent plain_server p IsAnyRequest (plain-asleep p) (λ k is. is) before after restart e y restarts none sent stands
+
+pub returns : goal.returns
+returns c = by

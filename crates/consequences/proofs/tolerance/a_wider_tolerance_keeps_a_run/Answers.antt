@@ -1,0 +1,5 @@
+use Rattle.consequences.proofs.lemmas.tolerance.AllWider.{all-wider}
+use Rattle.consequences.proofs.tolerance.a_wider_tolerance_keeps_a_run.Goals as goal
+
+pub returns : goal.returns
+returns c = all-wider

@@ -1,0 +1,5 @@
+use Rattle.consequences.proofs.Fronts.{first_breach}
+use Rattle.consequences.proofs.verdicts.a_breach_is_the_first.Goals as goal
+
+pub returns : goal.returns
+returns c = first_breach

@@ -1,0 +1,5 @@
+use Rattle.consequences.proofs.Fronts.{first_fault}
+use Rattle.consequences.proofs.verdicts.a_malformed_log_has_a_first_fault.Goals as goal
+
+pub returns : goal.returns
+returns c = first_fault

@@ -1,0 +1,5 @@
+use Rattle.consequences.proofs.Fronts.{first_wide}
+use Rattle.consequences.proofs.verdicts.an_undecided_log_is_too_wide.Goals as goal
+
+pub returns : goal.returns
+returns c = first_wide

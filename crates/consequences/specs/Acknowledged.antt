@@ -1,0 +1,12 @@
+-- The ACK of a response to an INVITE.
+use Rattle.std.specs.Prelude.{◌≤◌}
+use Rattle.sip_key.specs.AckOf.{AckOf}
+use Rattle.sip_machine.specs.declared.event.Method.TheVariants.{Ack}
+use Rattle.sip_machine.specs.Limits.{close_at}
+use Rattle.sip_machine.specs.MachineEvent.{MachineEvent}
+use Rattle.sip_machine.specs.Times.{Times}
+use Rattle.consequences.specs.Events.{SendsRequest}
+
+-- an ACK is sent that is of this response to the INVITE, section 17.1.1.3, as late after it as an element may be
+abbrev pub Acknowledges : Times → MachineEvent → MachineEvent → MachineEvent → Type 0
+Acknowledges p invite response e = SendsRequest Ack e × AckOf e.text invite.text response.text × (e.moment ≤ close_at p response.moment 0)

@@ -1,0 +1,54 @@
+-- What an event is, in the words of RFC 3261.
+use Rattle.std.specs.Prelude.{◌≡◌, ◌≤◌, ◌⊎◌, ℕ, List, All}
+use Rattle.sip_times.specs.declared.action.Action.TheVariants.{Sent, Received, Failed, Restart}
+use Rattle.sip_machine.specs.declared.event.Method.{Method}
+use Rattle.sip_machine.specs.declared.event.Kind.TheVariants.{Request, Response}
+use Rattle.sip_machine.specs.MachineEvent.{MachineEvent}
+
+-- a request of this method is sent
+abbrev pub SendsRequest : Method → MachineEvent → Type 0
+SendsRequest method e = (e.action ≡ Sent) × (e.kind ≡ Request method)
+
+-- a request of any method is sent
+abbrev pub SendsAnyRequest : MachineEvent → Type 0
+SendsAnyRequest e = (method : Method) × SendsRequest method e
+
+-- a request of this method comes in
+abbrev pub GetsRequest : Method → MachineEvent → Type 0
+GetsRequest method e = (e.action ≡ Received) × (e.kind ≡ Request method)
+
+-- a request of any method comes in
+abbrev pub GetsAnyRequest : MachineEvent → Type 0
+GetsAnyRequest e = (method : Method) × GetsRequest method e
+
+-- the event is of a response with such a code
+abbrev pub IsResponse : (ℕ → Type 0) → MachineEvent → Type 0
+IsResponse IsSuch e = (code : ℕ) × (e.kind ≡ Response code) × IsSuch code
+
+-- such a response comes in
+abbrev pub GetsResponse : (ℕ → Type 0) → MachineEvent → Type 0
+GetsResponse IsSuch e = (e.action ≡ Received) × IsResponse IsSuch e
+
+-- such a response is sent by a server, for which one that the transport refuses counts as sent
+abbrev pub SendsResponse : (ℕ → Type 0) → MachineEvent → Type 0
+SendsResponse IsSuch e = ((e.action ≡ Sent) ⊎ (e.action ≡ Failed)) × IsResponse IsSuch e
+
+-- these bytes are sent by a server, or refused
+abbrev pub SendsBytes : List ℕ → MachineEvent → Type 0
+SendsBytes bytes e = ((e.action ≡ Sent) ⊎ (e.action ≡ Failed)) × (e.text ≡ bytes)
+
+-- a response of any code, section 7.2
+abbrev pub IsAnyCode : ℕ → Type 0
+IsAnyCode code = (100 ≤ code) × (code ≤ 699)
+
+-- the transport refuses a message, section 17.1.4
+abbrev pub IsRefused : MachineEvent → Type 0
+IsRefused e = e.action ≡ Failed
+
+-- the element starts again, and has lost its transactions (own, in no RFC)
+abbrev pub IsRestart : MachineEvent → Type 0
+IsRestart e = e.action ≡ Restart
+
+-- the same bytes are the same message: the event is of the kind of each of these that has its bytes
+abbrev pub IsOfOneKind : List MachineEvent → MachineEvent → Type 0
+IsOfOneKind events e = All (λ f. f.text ≡ e.text → f.kind ≡ e.kind) events

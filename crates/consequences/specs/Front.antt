@@ -1,0 +1,70 @@
+-- The front of a log that is in no trouble, and what a verdict says by itself.
+use Rattle.std.specs.Prelude.{◌≡◌, ◌+◌, ◌⊎◌, ℕ, Some, None, List, [], ◌∷◌, ◌++◌, length, All, ⊤}
+use Rattle.sip_key.specs.Key.{KeyParts}
+use Rattle.sip_machine.specs.Times.{Times}
+use Rattle.sip_message.specs.declared.fault.Fault.{Fault}
+use Rattle.sip_log.specs.Spelling.{Item}
+use Rattle.sip_log.specs.Log.{LogEnd, Stops}
+use Rattle.sip_log.specs.LogFault.{LogFault}
+use Rattle.sip_log.specs.LogSays.{LogSays, LacksHeader}
+use Rattle.sip_verdict.specs.declared.log_reason.LogReason.{LogReason}
+use Rattle.sip_verdict.specs.declared.log_reason.LogReason.TheVariants.{Header}
+use Rattle.sip_verdict.specs.LogReason.{reason_of}
+use Rattle.sip_verdict.specs.Keyed.{Observation}
+use Rattle.sip_verdict.specs.VerdictOf.{keys_in, Sees, RunsOver, IsWideAt, IsFirstKey}
+
+-- each transaction of these entries has a run over all of them
+abbrev pub AllRun : Times → List (Observation KeyParts) → Type 0
+AllRun p es = All (RunsOver p es) (keys_in es)
+
+-- the entry after these is in no trouble: its message has no fault, each transaction has a run that takes it too, and none of them is too wide there
+abbrev pub IsUntroubled : Times → List (Observation KeyParts) → Observation KeyParts → Type 0
+IsUntroubled p front e =
+    (e.fault ≡ None) × AllRun p (front ++ e ∷ []) × All (λ key. ¬ (IsWideAt p front e key)) (keys_in (front ++ e ∷ []))
+
+-- this is observed of the items that come after these entries, one after another
+abbrev pub AreSeen : List (Observation KeyParts) → List Item → List (Observation KeyParts) → Type 0
+AreSeen front [] [] = ⊤
+AreSeen front (item ∷ items) (e ∷ es) = Sees front item e × AreSeen (front ++ e ∷ []) items es
+AreSeen front items es = ⊥
+
+-- this is observed of the items that come after these entries, one after another, and none of them is in trouble
+abbrev pub GoWell : Times → List (Observation KeyParts) → List Item → List (Observation KeyParts) → Type 0
+GoWell p front [] [] = ⊤
+GoWell p front (item ∷ items) (e ∷ es) = Sees front item e × IsUntroubled p front e × GoWell p (front ++ e ∷ []) items es
+GoWell p front items es = ⊥
+
+-- the log of the input has these times, and its entry of this number is the first in trouble: of the entries before it, this is observed, and of it, that
+pub record IsFirstInTrouble (input : List ℕ) (p : Times) (number : ℕ) (front : List (Observation KeyParts)) (e : Observation KeyParts) : Type 0 where
+  pub before : List Item
+  pub item : Item
+  pub after : List Item
+  pub end : LogEnd
+  pub says : LogSays input p (before ++ item ∷ after) end
+  pub well : GoWell p [] before front
+  pub sees : Sees front item e
+  pub numbered : number ≡ length front + 1
+
+-- the message of the entry of this number has this fault, and no entry before it is in trouble
+abbrev pub IsFirstFault : List ℕ → ℕ → Fault → Type 0
+IsFirstFault input number fault =
+    (p : Times) × (front : List (Observation KeyParts)) × (e : Observation KeyParts) × IsFirstInTrouble input p number front e × (e.fault ≡ Some fault)
+
+-- after the entry of this number some transaction has no run, the first of them is this one, and no entry before it is in trouble
+abbrev pub IsFirstBreach : List ℕ → ℕ → ℕ → Type 0
+IsFirstBreach input number transaction =
+    (p : Times) × (front : List (Observation KeyParts)) × (e : Observation KeyParts) × IsFirstInTrouble input p number front e × (e.fault ≡ None)
+    × IsFirstKey (λ key. ¬ (RunsOver p (front ++ e ∷ []) key)) (keys_in (front ++ e ∷ [])) transaction
+
+-- after the entry of this number each transaction has a run, but some is too wide there, the first of them is this one, and no entry before it is in trouble
+abbrev pub IsFirstWide : List ℕ → ℕ → ℕ → Type 0
+IsFirstWide input number transaction =
+    (p : Times) × (front : List (Observation KeyParts)) × (e : Observation KeyParts) × IsFirstInTrouble input p number front e × (e.fault ≡ None)
+    × AllRun p (front ++ e ∷ []) × IsFirstKey (IsWideAt p front e) (keys_in (front ++ e ∷ [])) transaction
+
+-- the input has no header, told as entry 0; or its entries go well up to the one of this number, which cannot be read for this reason
+abbrev pub CannotBeRead : List ℕ → ℕ → LogReason → Type 0
+CannotBeRead input number reason =
+    ((number ≡ 0) × (reason ≡ Header) × LacksHeader input)
+    ⊎ ((p : Times) × (items : List Item) × (front : List (Observation KeyParts)) × (fault : LogFault) × LogSays input p items (Stops fault)
+    × GoWell p [] items front × (number ≡ length front + 1) × (reason ≡ reason_of fault))

@@ -1,0 +1,14 @@
+-- The machines of RFC 3261 section 17, by the rules that an element was built by.
+use Rattle.std.specs.Prelude.{Bool}
+use Rattle.sip_key.specs.declared.role.Role.{Role}
+use Rattle.sip_times.specs.declared.rules.Rules.{Rules}
+use Rattle.sip_machine.specs.Figure.{Figure, Owing}
+use Rattle.sip_states.specs.KeyMachine.{machine_of, transaction_of}
+
+-- the figure of a role by these rules, for INVITE or for any other method
+abbrev pub figure_of : (rules : Rules) (role : Role) (invite : Bool) → Figure (transaction_of (machine_of rules role invite)).Phase
+figure_of rules role invite = (transaction_of (machine_of rules role invite)).figure
+
+-- its states: a phase with what is owed
+abbrev pub StateOf : Rules → Role → Bool → Type 0
+StateOf rules role invite = Owing (transaction_of (machine_of rules role invite)).Phase

@@ -1,0 +1,38 @@
+-- The intervals between a request and its repeats.
+use Rattle.std.specs.Prelude.{◌≤◌, ℕ, Bool, true, false, List, [], ◌∷◌, filter, map, ⊤}
+use Rattle.sip_times.specs.declared.action.Action.{Action}
+use Rattle.sip_times.specs.declared.action.Action.TheVariants.{Sent}
+use Rattle.sip_machine.specs.declared.event.Kind.{Kind}
+use Rattle.sip_machine.specs.declared.event.Kind.TheVariants.{Request}
+use Rattle.sip_machine.specs.declared.event.Method.TheVariants.{Invite}
+use Rattle.sip_machine.specs.Limits.{open_at}
+use Rattle.sip_machine.specs.MachineEvent.{MachineEvent}
+use Rattle.sip_machine.specs.Times.{Times}
+
+-- whether an INVITE is sent
+abbrev pub sends_invite : Action → Kind → Bool
+sends_invite Sent (Request Invite) = true
+sends_invite action kind = false
+
+-- whether a request is sent
+abbrev pub sends_request : Action → Kind → Bool
+sends_request Sent (Request method) = true
+sends_request action kind = false
+
+-- the moments at which INVITEs are sent
+abbrev pub invites_of : List MachineEvent → List ℕ
+invites_of events = map (λ e. e.moment) (filter (λ e. sends_invite e.action e.kind) events)
+
+-- the moments at which requests are sent
+abbrev pub requests_of : List MachineEvent → List ℕ
+requests_of events = map (λ e. e.moment) (filter (λ e. sends_request e.action e.kind) events)
+
+-- after this moment the moments lie no closer, one to the next, than this interval and those that follow from it, less as early as an element may be
+abbrev pub AreSpaced : Times → (ℕ → ℕ) → ℕ → ℕ → List ℕ → Type 0
+AreSpaced p next last interval [] = ⊤
+AreSpaced p next last interval (m ∷ ms) = (open_at p last interval ≤ m) × AreSpaced p next m (next interval) ms
+
+-- the moments after the first are so
+abbrev pub IsSpaced : Times → (ℕ → ℕ) → List ℕ → Type 0
+IsSpaced p next [] = ⊤
+IsSpaced p next (m ∷ ms) = AreSpaced p next m p.t1 ms

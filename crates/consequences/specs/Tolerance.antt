@@ -1,0 +1,12 @@
+-- Another tolerance.
+use Rattle.std.specs.Prelude.{◌≡◌, ℕ, List, Contains}
+use Rattle.sip_machine.specs.MachineEvent.{MachineEvent}
+use Rattle.sip_machine.specs.Times.{Times}
+
+-- the same times, but the element may be so early and so late
+abbrev pub tolerant : ℕ → ℕ → Times → Times
+tolerant early late p = record p { early = early; late = late }
+
+-- the same bytes are the same message: events with equal bytes are of one kind
+abbrev pub AreOneKind : List MachineEvent → Type 0
+AreOneKind events = (a b : MachineEvent) → Contains events a → Contains events b → a.text ≡ b.text → a.kind ≡ b.kind

@@ -1,0 +1,60 @@
+//! The INVITE client transaction, RFC 3261 section 17.1.1, by either rules.
+ghost use Rattle.std.specs.List.{Any};
+ghost use Rattle.std.specs.Prelude.{◌≡◌, ◌≤◌, ◌<◌, ◌*◌, ◌⊎◌, ◌++◌, ◌∷◌, ℕ, true, false, List, All};
+ghost use Rattle.sip_key.specs.declared.role.Role.TheVariants.{Client};
+ghost use Rattle.sip_times.specs.declared.action.Action.TheVariants.{Sent};
+ghost use Rattle.sip_times.specs.declared.rules.Rules.{Rules};
+ghost use Rattle.sip_machine.specs.declared.event.Kind.TheVariants.{Request};
+ghost use Rattle.sip_machine.specs.declared.event.Method.TheVariants.{Invite, Cancel};
+ghost use Rattle.sip_machine.specs.Figure.{quiet};
+ghost use Rattle.sip_machine.specs.Limits.{open_at, close_at};
+ghost use Rattle.sip_machine.specs.MachineEvent.{MachineEvent};
+ghost use Rattle.sip_machine.specs.Message.{IsFinal, IsSuccess, IsUnsuccessful};
+ghost use Rattle.sip_machine.specs.Times.{Times};
+ghost use Rattle.sip_states.specs.Stands.{Stands, StandsBehind};
+ghost use Rattle.consequences.specs.Acknowledged.{Acknowledges};
+ghost use Rattle.consequences.specs.Events.{SendsRequest, GetsResponse, IsAnyCode, IsRefused, IsRestart};
+ghost use Rattle.consequences.specs.Machines.{figure_of, StateOf};
+ghost use Rattle.consequences.specs.Repeats.{IsSpaced, invites_of};
+
+/// No CANCEL is sent before a response to the INVITE has come (section 9.1), unless the transaction may be over: its transport refused a message,
+/// the element started again, or timer B may have fired, 64*T1 after the INVITE, the tolerance aside.
+pub fn a_cancel_waits_for_a_response()
+    ensures { (p : Times) (rules : Rules) (before after : List MachineEvent) (invite e : MachineEvent) (y : StateOf rules Client true) →
+        All (λ f. ¬ (SendsRequest Invite f)) before → SendsRequest Invite invite → SendsRequest Cancel e →
+        StandsBehind (figure_of rules Client true) p (before ++ invite ∷ after) e y →
+        Any (GetsResponse IsAnyCode) after ⊎ Any (λ f. IsRefused f ⊎ IsRestart f) after ⊎ (open_at p invite.moment (64 * p.t1) ≤ e.moment) }
+{}
+
+/// An INVITE that gets no response is over by 64*T1 and as much as an element may be late, timer B of section 17.1.1.2, and nothing but a CANCEL is sent after.
+pub fn an_unanswered_invite_ends_by_timer_b()
+    ensures over { (p : Times) (rules : Rules) (before after : List MachineEvent) (invite : MachineEvent) (m : ℕ) (y : StateOf rules Client true) →
+        SendsRequest Invite invite → All (λ f. ¬ (GetsResponse IsAnyCode f)) after →
+        Stands (figure_of rules Client true) p (before ++ invite ∷ after) m y → close_at p invite.moment (64 * p.t1) < m → y ≡ quiet (figure_of rules Client true).ended }
+    ensures silent { (p : Times) (rules : Rules) (before after : List MachineEvent) (invite e : MachineEvent) (y : StateOf rules Client true) →
+        SendsRequest Invite invite → All (λ f. ¬ (GetsResponse IsAnyCode f)) after → e.action ≡ Sent →
+        StandsBehind (figure_of rules Client true) p (before ++ invite ∷ after) e y → close_at p invite.moment (64 * p.t1) < e.moment → e.kind ≡ Request Cancel }
+{}
+
+/// The first 300 to 699 that comes for an INVITE is acknowledged as late as an element may be, by an ACK that is its (section 17.1.1.3), and so is each
+/// that comes again over an unreliable transport before timer D may fire; unless the transport refuses a message or the element starts again.
+pub fn an_unsuccessful_response_is_acknowledged()
+    ensures first { (p : Times) (rules : Rules) (before between after : List MachineEvent) (invite response : MachineEvent) (m : ℕ) (y : StateOf rules Client true) →
+        All (λ f. ¬ (SendsRequest Invite f)) before → SendsRequest Invite invite →
+        All (λ f. ¬ (GetsResponse IsFinal f) × ¬ (IsRefused f) × ¬ (IsRestart f)) between →
+        GetsResponse IsUnsuccessful response → response.moment < open_at p invite.moment (64 * p.t1) →
+        Stands (figure_of rules Client true) p (before ++ invite ∷ (between ++ response ∷ after)) m y → close_at p response.moment 0 < m →
+        Any (Acknowledges p invite response) after ⊎ Any (λ f. IsRefused f ⊎ IsRestart f) after }
+    ensures again { (p : Times) (rules : Rules) (before between after : List MachineEvent) (invite response : MachineEvent) (m : ℕ) (y : StateOf rules Client true) →
+        All (λ f. ¬ (SendsRequest Invite f)) before → SendsRequest Invite invite → invite.reliable ≡ false →
+        All (λ f. ¬ (GetsResponse IsSuccess f) × ¬ (IsRefused f) × ¬ (IsRestart f)) between →
+        GetsResponse IsUnsuccessful response → response.moment < open_at p invite.moment (64 * p.t1) → response.moment < open_at p invite.moment 32000 →
+        Stands (figure_of rules Client true) p (before ++ invite ∷ (between ++ response ∷ after)) m y → close_at p response.moment 0 < m →
+        Any (Acknowledges p invite response) after ⊎ Any (λ f. IsRefused f ⊎ IsRestart f) after }
+{}
+
+/// An INVITE and its repeats lie no closer than T1, 2*T1, 4*T1 and so on, the tolerance aside (timer A, section 17.1.1.2).
+pub fn an_invite_is_repeated_in_doubling_intervals()
+    ensures { (p : Times) (rules : Rules) (events : List MachineEvent) (m : ℕ) (y : StateOf rules Client true) →
+        Stands (figure_of rules Client true) p events m y → IsSpaced p (λ interval. 2 * interval) (invites_of events) }
+{}

@@ -1,0 +1,28 @@
+//! A wider tolerance.
+ghost use Rattle.std.specs.Prelude.{◌≡◌, ◌≤◌, ℕ, List, []};
+ghost use Rattle.sip_key.specs.Key.{KeyParts};
+ghost use Rattle.sip_log.specs.Log.{LogEnd};
+ghost use Rattle.sip_log.specs.LogSays.{LogSays};
+ghost use Rattle.sip_log.specs.Spelling.{Item};
+ghost use Rattle.sip_machine.specs.Figure.{Owing};
+ghost use Rattle.sip_machine.specs.MachineEvent.{MachineEvent};
+ghost use Rattle.sip_machine.specs.Times.{Times};
+ghost use Rattle.sip_states.specs.KeyMachine.{MachineKind, transaction_of};
+ghost use Rattle.sip_states.specs.Stands.{Stands};
+ghost use Rattle.sip_verdict.specs.Keyed.{Observation};
+ghost use Rattle.sip_verdict.specs.VerdictOf.{RunsOver};
+ghost use Rattle.consequences.specs.Front.{AreSeen};
+ghost use Rattle.consequences.specs.Tolerance.{tolerant, AreOneKind};
+
+/// A wider tolerance keeps a run: where an element may be earlier and later, a run over the same events stands in the same phase.
+pub fn a_wider_tolerance_keeps_a_run()
+    ensures { (p : Times) (early late : ℕ) (machine : MachineKind) (events : List MachineEvent) (m : ℕ) (x : Owing (transaction_of machine).Phase) →
+        p.early ≤ early → p.late ≤ late → AreOneKind events → Stands (transaction_of machine).figure p events m x →
+        (y : Owing (transaction_of machine).Phase) × Stands (transaction_of machine).figure (tolerant early late p) events m y × (y.phase ≡ x.phase) }
+{}
+
+/// And so it keeps a run of each transaction over the entries of a log.
+pub fn a_wider_tolerance_keeps_a_transaction()
+    ensures { (p : Times) (early late : ℕ) (input : List ℕ) (items : List Item) (end : LogEnd) (es : List (Observation KeyParts)) (key : KeyParts) →
+        p.early ≤ early → p.late ≤ late → LogSays input p items end → AreSeen [] items es → RunsOver p es key → RunsOver (tolerant early late p) es key }
+{}

@@ -1,0 +1,103 @@
+//! `sipsurvey` on a platform of known words with a known file, and each way in which it fails.
+use crate::forms::{PATH, desk, hasty, registered};
+use crate::wants::is;
+use sip_log::ToWrite;
+use sip_program::Host;
+use sip_survey_program::{Asked, Failure, asked, end, program, read_failure, run};
+use std::io;
+use std::process::Abort;
+use std::test::Fail;
+
+const USAGE: &str = "sipsurvey: usage: sipsurvey [FILE]\n";
+
+/// Runs the whole program with these words, this on the standard input and this in the file: what it writes and tells, and the status.
+fn ends(
+    rt: &(impl Abort + AllocGlobal),
+    words: &[&str],
+    input: &str,
+    file: &str,
+    want: (&str, &str, u8),
+) -> Result<(), Fail> {
+    let (mut written, mut told) = (Vec::new(rt.alloc()), Vec::new(rt.alloc()));
+    let mut host = Host::new(desk(rt.alloc(), words, file)?, input.as_bytes());
+    let mut output = ToWrite::new(&mut written);
+    let mut errors = ToWrite::new(&mut told);
+    let status = program(rt.alloc(), &mut host, &mut output, &mut errors);
+    drop(output);
+    drop(errors);
+    assert!(rt; written.as_slice() == want.0.as_bytes());
+    assert!(rt; told.as_slice() == want.1.as_bytes());
+    is(rt, status, want.2);
+    Ok(())
+}
+
+#[test]
+fn surveys_the_standard_input_or_the_file(rt: HostRuntime) -> Result<(), Fail> {
+    let (right, wrong) = (registered(rt.alloc())?, hasty(rt.alloc())?);
+    let (right, wrong) = (right.as_str(), wrong.as_str());
+    let none = ("end entries 4 transactions 1 findings 0\n", "", 0);
+    let found = (
+        "breach 2 transaction 1\nend entries 2 transactions 1 findings 1\n",
+        "",
+        1,
+    );
+    ends(&rt, &[], right, wrong, none)?;
+    ends(&rt, &[], wrong, right, found)?;
+    ends(&rt, &[PATH], wrong, right, none)?;
+    ends(&rt, &[PATH], right, wrong, found)
+}
+
+#[test]
+fn ends_with_the_fault_of_the_log(rt: HostRuntime) -> Result<(), Fail> {
+    let header = ("log fault 0 20 Header\n", "", 2);
+    ends(&rt, &[], "", "", header)?;
+    let empty = "sip-trace 1\nt1 500 t2 4000 t4 5000 tolerance 50\n";
+    let none = ("end entries 0 transactions 0 findings 0\n", "", 0);
+    ends(&rt, &[], empty, "", none)
+}
+
+#[test]
+fn tells_of_each_failure_of_a_survey(rt: HostRuntime) -> Result<(), Fail> {
+    let file = registered(rt.alloc())?;
+    let file = file.as_str();
+    ends(
+        &rt,
+        &["a log"],
+        "",
+        file,
+        ("", "sipsurvey: cannot read\n", 4),
+    )?;
+    ends(&rt, &[PATH, PATH], file, file, ("", USAGE, 5))
+}
+
+/// What was written, where the writer takes no more than so many bytes.
+#[test]
+fn fails_where_a_line_cannot_be_written(rt: HostRuntime) -> Result<(), Fail> {
+    let file = hasty(rt.alloc())?;
+    let mut room = [0; 30];
+    let mut host = Host::new(desk(rt.alloc(), &[], "")?, file.as_bytes());
+    let mut output = ToWrite::new(room.as_mut_slice());
+    let ended = run(rt.alloc(), &mut host, &mut output);
+    assert!(rt; matches!(ended, Err(Failure::Write)));
+    Ok(())
+}
+
+#[test]
+fn asks_by_at_most_one_word(rt: HostRuntime) -> Result<(), Fail> {
+    let words = vec![in rt.alloc(); String::from_str(rt.alloc(), "--part")?]?;
+    assert!(rt; matches!(asked(&[]), Some(Asked::Input)));
+    assert!(rt; matches!(asked(words.as_slice()), Some(Asked::File("--part"))));
+    Ok(())
+}
+
+#[test]
+fn ends_a_survey_with_the_line_of_its_failure(rt: HostRuntime) -> Result<(), Fail> {
+    let mut told = Vec::new(rt.alloc());
+    let mut errors = ToWrite::new(&mut told);
+    let refused = read_failure(io::Error::from(io::ErrorKind::OutOfMemory));
+    is(&rt, end(Err(refused), &mut errors), 4);
+    is(&rt, end(Ok(3), &mut errors), 3);
+    drop(errors);
+    assert!(rt; told.as_slice() == b"sipsurvey: out of memory\n".as_slice());
+    Ok(())
+}

@@ -1,0 +1,47 @@
+use Rattle.std.proofs.Common.{◌≡◌, ◌≤◌, ◌-◌, ◌∙◌, [], None, Some, length, slice_get, slice_set, sym, ap, subst}
+use Rattle.std.proofs.lemmas.List.{length-set}
+use Rattle.indexmap.specs.IndexMap.{keys, values, index_map_len}
+use Rattle.indexmap.proofs.CallerLemmas.{keys-with_value_at, index_map_len-with_value_at}
+use Rattle.sip_states.specs.AnySet.{IsQuietSet}
+use Rattle.sip_states.specs.Sweep.{numbers_of}
+use Rattle.sip_states.specs.Tables.{Tabled, most_keys}
+use Rattle.sip_states.specs.inner.Marks.{AreMarked, AreMoved}
+use Rattle.sip_states.proofs.TablesLemmas.{values_of-set_value_at}
+use Rattle.sip_states.proofs.AdvanceLemmas.{start_names, start_quiet}
+use Rattle.sip_states.proofs.StartLemmas.{start_endless, else_set}
+use Rattle.sip_states.proofs.tables.Tables.restart_key.Goals as goal
+
+pub invariant_of-self-2 : goal.invariant_of-self-2
+invariant_of-self-2 g c =
+    let inv = c.self.invariant in
+    let sets = c.self.inside.sets in
+    let marks = c.self.inside.marks in
+    let moved = c.self.inside.moved in
+    let index = c.args.number - 1 in
+    let set = c.in_ok-set.set in
+    let now = c.put_at.ensures in
+    let size : index_map_len c.put_at.new.sets ≡ index_map_len sets = ap index_map_len now ∙ index_map_len-with_value_at sets index set in
+    let are : values c.put_at.new.sets ≡ slice_set (values sets) index set = ap values now ∙ values_of-set_value_at sets.entries index set in
+    let silent : numbers_of set ≡ [] = subst (λ s. numbers_of s ≡ []) (sym c.in_ok-set.ensures) (start_names c.self.inside.params c.key.result.now) in
+    let still : IsQuietSet set = subst IsQuietSet (sym c.in_ok-set.ensures) (start_quiet c.self.inside.params c.key.result.now) in
+    let marked : AreMarked marks (values c.put_at.new.sets) = subst (AreMarked marks) (sym are) (else_set (λ s. numbers_of s ≡ []) marks (values sets) index set silent inv.3) in
+    let moves : AreMoved moved marks (values c.put_at.new.sets) = subst (AreMoved moved marks) (sym are) (record { quiet = else_set IsQuietSet moved (values sets) index set still inv.5.quiet; within = inv.5.within }) in
+    (subst (λ n. n ≤ most_keys) (sym size) inv.0, ap length c.in_ok-set-2.ensures.ok ∙ length-set c.self.inside.agenda index (Some None) ∙ inv.1 ∙ sym size, inv.2 ∙ sym size, marked, inv.4 ∙ sym size, moves)
+
+pub returns-clause-ok : goal.returns-clause-ok
+returns-clause-ok g c =
+    let p = c.self.inside.params in
+    let sets = c.self.inside.sets in
+    let index = c.args.number - 1 in
+    let key = c.key.result.now in
+    rw (← c.self.view_is) (record {
+      key = key;
+      at = ap (λ (t : Tabled). slice_get t.keys index) c.self.view_is ∙ c.key.ensures;
+      endless = start_endless p key;
+      begun = λ i. record {
+        times = p;
+        keys = (ap keys c.put_at.ensures ∙ keys-with_value_at sets index c.in_ok-set.set) i;
+        sets = (ap values c.put_at.ensures ∙ values_of-set_value_at sets.entries index c.in_ok-set.set ∙ ap (slice_set (values sets) index) c.in_ok-set.ensures) i;
+        records = c.in_ok-set-2.ensures.ok i;
+      };
+    })

@@ -1,0 +1,12 @@
+use Rattle.std.specs.Prelude.{ℕ, List, [], ◌∷◌, if◌then◌else◌}
+use Rattle.std.specs.List.{list_all}
+use Rattle.sip_verdict.specs.declared.finding.Finding.{Finding}
+use Rattle.sip_verdict.specs.declared.survey_end.SurveyEnd.{SurveyEnd}
+use Rattle.sip_verdict.specs.declared.survey_end.SurveyEnd.TheVariants.{Clean, LogFault}
+use Rattle.sip_verdict.specs.SurveyText.{is_undecided}
+
+-- the status of the program by what it found and how the log ended
+abbrev pub status_of : List Finding → SurveyEnd → ℕ
+status_of found (LogFault entry reason) = 2
+status_of [] (Clean entries transactions) = 0
+status_of (f ∷ found) (Clean entries transactions) = if list_all is_undecided (f ∷ found) then 3 else 1

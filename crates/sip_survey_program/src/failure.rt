@@ -1,0 +1,84 @@
+//! Why the program ends before its last line.
+ghost use Rattle.std.specs.Prelude.{◌≡◌, ◌≢◌};
+ghost use Rattle.std.specs.IoError.{error_kind};
+ghost use Rattle.std.specs.declared.io.ErrorKind.TheVariants.{OutOfMemory};
+ghost use Rattle.sip_survey_program.specs.declared.failure.Failure.TheVariants.{Memory, Read, Write};
+ghost use Rattle.sip_survey_program.specs.Failures.{failure_of, line_of, status_without};
+
+use sip_verdict::SurveyError;
+use std::alloc::AllocError;
+use std::io;
+use thiserror::Error;
+
+/// Why the program ends before its last line.
+#[derive(Debug, Drop, Error)]
+pub enum Failure {
+    /// What was asked for, or the log, cannot be read.
+    #[error("cannot read")]
+    Read,
+    /// A line cannot be written.
+    #[error("cannot write")]
+    Write,
+    /// A growth was refused.
+    #[error("out of memory")]
+    Memory,
+    /// The words ask for nothing that it can do.
+    #[error("usage: sipsurvey [FILE]")]
+    Usage,
+}
+
+impl Failure {
+    /// The line that is told of it on the standard error.
+    pub fn line(&self) -> &'static [u8]
+        ensures { result.now ≡ line_of self.now }
+    {
+        match self {
+            Self::Read => b"sipsurvey: cannot read\n",
+            Self::Write => b"sipsurvey: cannot write\n",
+            Self::Memory => b"sipsurvey: out of memory\n",
+            Self::Usage => b"sipsurvey: usage: sipsurvey [FILE]\n",
+        }
+    }
+}
+
+impl From<AllocError> for Failure {
+    ghost from_gives = { λ _ failure. failure ≡ Memory };
+
+    fn from(_: AllocError) -> Failure {
+        Failure::Memory
+    }
+}
+
+impl From<SurveyError> for Failure {
+    ghost from_gives = { λ error failure. failure ≡ failure_of error };
+
+    fn from(error: SurveyError) -> Failure {
+        match error {
+            SurveyError::Read => Failure::Read,
+            SurveyError::Write => Failure::Write,
+            SurveyError::Memory => Failure::Memory,
+        }
+    }
+}
+
+/// The status that the program ends with where it does not reach its last line.
+pub fn status_without(failure: &Failure) -> u8
+    ensures { result ≡ status_without failure.now }
+{
+    match failure {
+        Failure::Read | Failure::Write | Failure::Memory => 4,
+        Failure::Usage => 5,
+    }
+}
+
+/// What could not be had from the system.
+pub fn read_failure(error: io::Error) -> Failure
+    ensures memory { error_kind error ≡ OutOfMemory → result ≡ Memory }
+    ensures read { error_kind error ≢ OutOfMemory → result ≡ Read }
+{
+    if error.kind() == io::ErrorKind::OutOfMemory {
+        Failure::Memory
+    } else {
+        Failure::Read
+    }
+}

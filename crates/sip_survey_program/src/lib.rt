@@ -1,0 +1,16 @@
+//! The program `sipsurvey`: what the words that it is given ask for, the log that it reads and the survey that it writes, on any platform.
+#![tactic(auto)]
+
+mod asking;
+mod ending;
+mod failure;
+mod running;
+mod status;
+mod words;
+
+pub use asking::asked;
+pub use ending::end;
+pub use failure::{Failure, read_failure};
+pub use running::{program, run};
+pub use status::status_of;
+pub use words::Asked;

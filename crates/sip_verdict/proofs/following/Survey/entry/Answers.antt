@@ -1,0 +1,40 @@
+use Rattle.std.proofs.Common.{◌+◌, ◌∙◌, All, Contains, sym, ap, subst, arith}
+use Rattle.std.proofs.lemmas.List.{length_push}
+use Rattle.sip_log.specs.Told.{item}
+use Rattle.sip_verdict.specs.Judging.{MayComeNext}
+use Rattle.sip_verdict.specs.SurveyOf.{AreFoundAt}
+use Rattle.sip_verdict.specs.Surveys.{AreSurveyed}
+use Rattle.sip_verdict.proofs.FollowedLemmas.{observed_moment}
+use Rattle.sip_verdict.proofs.JudgeLemmas.{may_take_next}
+use Rattle.sip_verdict.proofs.following.Survey.entry.Goals as goal
+
+pub find_next-taken-requires-clause-may : goal.find_next-taken-requires-clause-may
+find_next-taken-requires-clause-may g c =
+    let s = c.self.inside in
+    let e = c.args.entry.now in
+    let is = c.self.view_is in
+    let next = subst (λ j. MayComeNext j.number j.moment e.number e.moment) (sym is) (c.requires (ap (λ j. j.failed) (sym is) ∙ c.if-self.false)) in
+    may_take_next s.standing.book s.standing.tables s.number s.moment e.number e.moment next (c.self.invariant c.if-self.false).0
+
+pub returns-in-Ok-clause-found : goal.returns-in-Ok-clause-found
+returns-in-Ok-clause-found g c = λ es surveys.
+    let e = c.args.entry.now in
+    let is = c.self.view_is in
+    let comes = c.requires (ap (λ j. j.failed) (sym is) ∙ c.if-self.false) in
+    let (seen, here, observed, found, added, follows) =
+    c.in-Ok.ensures.found es (subst (λ j. AreSurveyed j.texts j.tables j.deaf j.left es) (sym is) surveys.follows) (comes.next ∙ ap (λ n. n + 1) surveys.number) (omega (arith, comes.order, surveys.moment)) in (
+      seen,
+      here,
+      observed,
+      subst (λ j. AreFoundAt j.tables.times es seen here) is found,
+      added,
+      record {
+        goes_on = c.if-self.false;
+        number = comes.next ∙ ap (λ n. n + 1) surveys.number ∙ sym (length_push es seen);
+        moment = sym (observed_moment es (item e) seen observed);
+        follows = follows;
+      },
+    )
+
+pub returns-in-Ok-clause-keyless : goal.returns-in-Ok-clause-keyless
+returns-in-Ok-clause-keyless g c none = subst (λ j. All (Contains j.texts) c.find_next-taken.new.standing.book) c.self.view_is (c.in-Ok.ensures.keyless none)

@@ -1,0 +1,11 @@
+use Rattle.std.proofs.Common.{refl}
+use Rattle.sip_verdict.proofs.surveys.Kept.{surveyed_begun}
+use Rattle.sip_verdict.proofs.following.Survey.new.Goals as goal
+
+pub returns-clause-stands : goal.returns-clause-stands
+returns-clause-stands g c = record {
+  goes_on = refl;
+  number = refl;
+  moment = refl;
+  follows = surveyed_begun c.args.params c.new.result.book c.new.result.tables c.new-2.result.deaf.items c.new.ensures.book c.new.ensures.tables c.new-2.ensures.deaf;
+}

@@ -1,0 +1,61 @@
+use Rattle.std.proofs.Common.{[], ◌∷◌, sym, ap, subst, arith}
+use Rattle.std.proofs.lemmas.Result.{on_ok_weaker}
+use Rattle.sip_verdict.specs.inner.Concerned.{each, is_all}
+use Rattle.sip_verdict.specs.inner.Surveying.{HearsNumbers}
+use Rattle.sip_verdict.proofs.TablesPassing.{given_still, named_hearers}
+use Rattle.sip_verdict.proofs.surveys.Numbered.{hears_none, hears_one, hears_two}
+use Rattle.sip_verdict.proofs.releasing.hear_each.Goals as goal
+
+pub returns-in-None-clause-watched : goal.returns-in-None-clause-watched
+returns-in-None-clause-watched g c = λ h. rw c.in-None.is at h
+
+pub returns-in-None-clause-heard : goal.returns-in-None-clause-heard
+returns-in-None-clause-heard g c =
+    let t = c.args.tables.now in
+    let b = c.args.troubled.now in
+    let h = c.args.hearing.now in
+    let hear = c.requires.hear in
+    (each h.concerned, named_hearers t h.concerned (ap is_all c.in-None.is) hear.given hear.apart, subst (λ x. HearsNumbers c.args.book.now h.event (each x) t b t b) (sym c.in-None.is) (hears_none c.args.book.now h.event t b))
+
+pub hear_or_release-requires-in-OwnAndCancelled-2-clause-given : goal.hear_or_release-requires-in-OwnAndCancelled-2-clause-given
+hear_or_release-requires-in-OwnAndCancelled-2-clause-given g c =
+    given_still c.in-OwnAndCancelled.cancelled c.args.tables.now c.hear_or_release-in-OwnAndCancelled.new.tables c.in_ok-hear_or_release-in-OwnAndCancelled.ensures.keys ((rw c.in-OwnAndCancelled.is at c.requires.hear.given) 1 0 (omega arith))
+
+pub returns-in-Own-clause-watched : goal.returns-in-Own-clause-watched
+returns-in-Own-clause-watched g c = on_ok_weaker c.hear_or_release.result (λ watched h. watched [] (rw c.in-Own.is at h)) c.hear_or_release.ensures.watched
+
+pub returns-in-Own-clause-heard : goal.returns-in-Own-clause-heard
+returns-in-Own-clause-heard g c =
+    let t = c.args.tables.now in
+    let b = c.args.troubled.now in
+    let u = c.hear_or_release.new.tables in
+    let d = c.hear_or_release.new.troubled in
+    let h = c.args.hearing.now in
+    let hear = c.requires.hear in
+    on_ok_weaker c.hear_or_release.result (λ heard.
+    (each h.concerned, named_hearers t h.concerned (ap is_all c.in-Own.is) hear.given hear.apart, subst (λ x. HearsNumbers c.args.book.now h.event (each x) t b u d) (sym c.in-Own.is) (hears_one c.args.book.now h.event c.in-Own.own t b u d heard)))
+    c.hear_or_release.ensures.heard
+
+pub returns-in_ok-hear_or_release-in-OwnAndCancelled-clause-watched : goal.returns-in_ok-hear_or_release-in-OwnAndCancelled-clause-watched
+returns-in_ok-hear_or_release-in-OwnAndCancelled-clause-watched g c =
+    on_ok_weaker c.hear_or_release-in-OwnAndCancelled-2.result
+    (λ watched h. watched [] (c.in_ok-hear_or_release-in-OwnAndCancelled.ensures.watched (c.in-OwnAndCancelled.cancelled ∷ []) (rw c.in-OwnAndCancelled.is at h))) c.hear_or_release-in-OwnAndCancelled-2.ensures.watched
+
+pub returns-in_ok-hear_or_release-in-OwnAndCancelled-clause-heard : goal.returns-in_ok-hear_or_release-in-OwnAndCancelled-clause-heard
+returns-in_ok-hear_or_release-in-OwnAndCancelled-clause-heard g c =
+    let t = c.args.tables.now in
+    let b = c.args.troubled.now in
+    let u = c.hear_or_release-in-OwnAndCancelled.new.tables in
+    let d = c.hear_or_release-in-OwnAndCancelled.new.troubled in
+    let v = c.hear_or_release-in-OwnAndCancelled-2.new.tables in
+    let f = c.hear_or_release-in-OwnAndCancelled-2.new.troubled in
+    let h = c.args.hearing.now in
+    let hear = c.requires.hear in
+    let first = c.in_ok-hear_or_release-in-OwnAndCancelled.ensures in
+    on_ok_weaker c.hear_or_release-in-OwnAndCancelled-2.result (λ second. (
+      each h.concerned,
+      named_hearers t h.concerned (ap is_all c.in-OwnAndCancelled.is) hear.given hear.apart,
+      subst (λ x. HearsNumbers c.args.book.now h.event (each x) t b v f) (sym c.in-OwnAndCancelled.is)
+          (hears_two c.args.book.now h.event c.in-OwnAndCancelled.own c.in-OwnAndCancelled.cancelled t b u d v f first.times first.keys first.heard second),
+    ))
+    c.hear_or_release-in-OwnAndCancelled-2.ensures.heard

@@ -1,0 +1,20 @@
+use Rattle.std.proofs.Common.{◌≡◌, ◌≢◌, ◌≤◌, List, AllPairs, length, drop}
+use Rattle.sip_key.specs.Key.{KeyParts}
+use Rattle.sip_machine.specs.Times.{Times}
+use Rattle.sip_verdict.specs.Keyed.{Observation, newest_moment}
+use Rattle.sip_verdict.specs.inner.TablesTracking.{MayPass, is_among}
+use Rattle.sip_verdict.specs.inner.Surveying.{AreWatched, ArePassing, AreConcerned}
+use Rattle.sip_verdict.proofs.releasing.hear_numbers.Given as goal
+
+abbrev pub invariant-loop-number : goal.invariant-loop-number
+invariant-loop-number g l =
+    record {
+      times_are : l.tables.times ≡ l.initial.tables.times;
+      keys_are : l.tables.keys ≡ l.initial.tables.keys;
+      long : length l.troubled.deaf.items ≡ length l.tables.keys;
+      may : MayPass l.book l.tables l.event.moment;
+      watched : AreWatched l.numbers l.initial.tables l.initial.troubled → AreWatched (drop l.number-index l.numbers) l.tables l.troubled;
+      heard : (p : Times) (es : List (Observation KeyParts)) (e : Observation KeyParts) → l.initial.tables.times ≡ p → newest_moment es ≤ l.event.moment
+          → AllPairs (λ i k. i ≢ k) l.numbers → AreConcerned l.book p es e l.event l.numbers l.initial.tables.keys
+          → ArePassing l.book p es e (is_among l.numbers) l.initial.tables l.initial.troubled → ArePassing l.book p es e (is_among (drop l.number-index l.numbers)) l.tables l.troubled;
+    }

@@ -1,0 +1,98 @@
+use Rattle.std.proofs.Common.{◌≤◌, ◌-◌, inl, inr, Some, refl, ap, ◌∙◌, subst}
+use Rattle.std.proofs.lemmas.Result.{on_ok_weaker}
+use Rattle.sip_states.specs.AnySet.{moment_of, start_of, IsKnownSet, IsEmpty}
+use Rattle.sip_verdict.proofs.TablesPassing.{All-place, set-place, settles_leaves}
+use Rattle.sip_verdict.proofs.surveys.Watching.{watched_on, watched_off, watched_deaf, passes_with, passes_anew, anew_sets}
+use Rattle.sip_verdict.proofs.surveys.Hearing.{deaf_on, heard_on, heard_broken, heard_wide}
+use Rattle.sip_verdict.proofs.releasing.hear_or_release.Goals as goal
+
+pub returns-then-has-clause-watched : goal.returns-then-has-clause-watched
+returns-then-has-clause-watched g c = λ waits h. watched_deaf c.args.tables.now c.args.troubled.now c.args.number waits c.requires.given h (c.has.ensures ∙ ap Some c.if-has.true)
+
+pub returns-then-has-clause-heard : goal.returns-then-has-clause-heard
+returns-then-has-clause-heard g c = λ p es e waits times late once concerned h.
+    deaf_on c.args.book.now p es e c.args.tables.now c.args.troubled.now c.args.number c.requires.given waits (c.has.ensures ∙ ap Some c.if-has.true) h
+
+pub hear-requires-clause-order : goal.hear-requires-clause-order
+hear-requires-clause-order g c = All-place (λ set. moment_of set ≤ c.args.event.now.moment) c.args.tables.now.sets (c.args.number - 1) c.set_mut.result.now c.set_mut.ensures.value c.requires.may.order
+
+pub hear-requires-clause-known : goal.hear-requires-clause-known
+hear-requires-clause-known g c = All-place (IsKnownSet c.args.book.now) c.args.tables.now.sets (c.args.number - 1) c.set_mut.result.now c.set_mut.ensures.value c.requires.may.known
+
+pub settle-requires-clause-state : goal.settle-requires-clause-state
+settle-requires-clause-state g c = λ set at.
+    elim (set-place c.args.tables.now.sets (c.args.number - 1) (c.args.number - 1) c.hear.new.set set at) [
+      | inl h ↦ subst (λ s. ¬ IsEmpty s) h.1 (c.in_ok-hear.ensures.some c.in-Runs.is)
+      | inr h ↦ absurd (h.0 refl)
+    ]
+
+pub returns-in-Runs-clause-may : goal.returns-in-Runs-clause-may
+returns-in-Runs-clause-may g c =
+    let t = c.args.tables.now in
+    on_ok_weaker c.settle.result (λ settles.
+    let (limit, agenda, is) = settles_leaves c.args.number c.hear.new.set t c.settle.new.self settles in
+    passes_with c.args.book.now t c.settle.new.self (c.args.number - 1) c.args.event.now.moment c.hear.new.set c.requires.may c.in_ok-hear.ensures.order c.in_ok-hear.ensures.known (ap (λ x. x.keys) is) (ap (λ x. x.sets) is)) c.settle.ensures.ok
+
+pub returns-in-Runs-clause-watched : goal.returns-in-Runs-clause-watched
+returns-in-Runs-clause-watched g c =
+    let t = c.args.tables.now in
+    on_ok_weaker c.settle.result (λ settles waits h.
+    let (limit, agenda, is) = settles_leaves c.args.number c.hear.new.set t c.settle.new.self settles in
+    watched_on t c.args.troubled.now c.args.number waits c.requires.given h c.settle.new.self c.hear.new.set limit agenda (c.has.ensures ∙ ap Some c.if-has.false) (ap (λ x. x.keys) is) (ap (λ x. x.sets) is) (ap (λ x. x.records) is))
+    c.settle.ensures.ok
+
+pub returns-in-Runs-clause-heard : goal.returns-in-Runs-clause-heard
+returns-in-Runs-clause-heard g c =
+    let t = c.args.tables.now in
+    on_ok_weaker c.settle.result (λ settles p es e waits times late once concerned h.
+    let (limit, agenda, is) = settles_leaves c.args.number c.hear.new.set t c.settle.new.self settles in
+    heard_on c.args.book.now p es e t c.args.troubled.now c.args.number c.requires.given waits c.args.event.now late once concerned h (c.has.ensures ∙ ap Some c.if-has.false) c.set_mut.result.now c.hear.new.set c.set_mut.ensures.value
+    c.in_ok-hear.field-0 c.in_ok-hear.ensures.stepped c.in-Runs.is c.settle.new.self (ap (λ x. x.keys) is) (ap (λ x. x.sets) is)) c.settle.ensures.ok
+
+pub returns-in_ok-restart_key-in-NoRun-clause-may : goal.returns-in_ok-restart_key-in-NoRun-clause-may
+returns-in_ok-restart_key-in-NoRun-clause-may g c =
+    let t = c.args.tables.now in
+    let anew = c.in_ok-restart_key-in-NoRun.ensures.ok in
+    on_ok_weaker c.add_broken.result (λ added. passes_anew c.args.book.now t c.restart_key.new.self (c.args.number - 1) c.args.event.now.moment anew.key t.times c.requires.may (ap (λ x. x.keys) anew.begun)
+    (anew_sets t c.restart_key.new.self c.args.number c.hear.new.set anew.key (ap (λ x. x.sets) anew.begun))) c.add_broken.ensures
+
+pub returns-in_ok-restart_key-in-NoRun-clause-watched : goal.returns-in_ok-restart_key-in-NoRun-clause-watched
+returns-in_ok-restart_key-in-NoRun-clause-watched g c =
+    let t = c.args.tables.now in
+    let anew = c.in_ok-restart_key-in-NoRun.ensures.ok in
+    on_ok_weaker c.add_broken.result (λ added waits h. watched_off t c.args.troubled.now c.args.number waits c.requires.given h c.restart_key.new.self c.add_broken.new.self (start_of t.times anew.key) anew.endless added.deaf
+    (ap (λ x. x.keys) anew.begun) (anew_sets t c.restart_key.new.self c.args.number c.hear.new.set anew.key (ap (λ x. x.sets) anew.begun)) (ap (λ x. x.records) anew.begun)) c.add_broken.ensures
+
+pub returns-in_ok-restart_key-in-NoRun-clause-heard : goal.returns-in_ok-restart_key-in-NoRun-clause-heard
+returns-in_ok-restart_key-in-NoRun-clause-heard g c =
+    let t = c.args.tables.now in
+    let b = c.args.troubled.now in
+    let anew = c.in_ok-restart_key-in-NoRun.ensures.ok in
+    on_ok_weaker c.add_broken.result (λ added p es e waits times late once concerned h.
+    heard_broken c.args.book.now p es e t b c.args.number c.requires.given waits c.args.event.now late once concerned h (c.has.ensures ∙ ap Some c.if-has.false) c.set_mut.result.now c.hear.new.set c.set_mut.ensures.value
+    c.in_ok-hear.field-0 c.in_ok-hear.ensures.stepped c.in-NoRun.is c.restart_key.new.self c.add_broken.new.self t.times anew.key anew.at times (ap (λ x. x.keys) anew.begun)
+    (anew_sets t c.restart_key.new.self c.args.number c.hear.new.set anew.key (ap (λ x. x.sets) anew.begun)) added.deaf added.broken added.wide) c.add_broken.ensures
+
+pub returns-in_ok-restart_key-in-TooWide-clause-may : goal.returns-in_ok-restart_key-in-TooWide-clause-may
+returns-in_ok-restart_key-in-TooWide-clause-may g c =
+    let t = c.args.tables.now in
+    let anew = c.in_ok-restart_key-in-TooWide.ensures.ok in
+    on_ok_weaker c.add_wide.result (λ added. passes_anew c.args.book.now t c.restart_key-in-TooWide.new.self (c.args.number - 1) c.args.event.now.moment anew.key t.times c.requires.may (ap (λ x. x.keys) anew.begun)
+    (anew_sets t c.restart_key-in-TooWide.new.self c.args.number c.hear.new.set anew.key (ap (λ x. x.sets) anew.begun))) c.add_wide.ensures
+
+pub returns-in_ok-restart_key-in-TooWide-clause-watched : goal.returns-in_ok-restart_key-in-TooWide-clause-watched
+returns-in_ok-restart_key-in-TooWide-clause-watched g c =
+    let t = c.args.tables.now in
+    let anew = c.in_ok-restart_key-in-TooWide.ensures.ok in
+    on_ok_weaker c.add_wide.result (λ added waits h. watched_off t c.args.troubled.now c.args.number waits c.requires.given h c.restart_key-in-TooWide.new.self c.add_wide.new.self (start_of t.times anew.key) anew.endless added.deaf
+    (ap (λ x. x.keys) anew.begun) (anew_sets t c.restart_key-in-TooWide.new.self c.args.number c.hear.new.set anew.key (ap (λ x. x.sets) anew.begun)) (ap (λ x. x.records) anew.begun)) c.add_wide.ensures
+
+pub returns-in_ok-restart_key-in-TooWide-clause-heard : goal.returns-in_ok-restart_key-in-TooWide-clause-heard
+returns-in_ok-restart_key-in-TooWide-clause-heard g c =
+    let t = c.args.tables.now in
+    let b = c.args.troubled.now in
+    let anew = c.in_ok-restart_key-in-TooWide.ensures.ok in
+    on_ok_weaker c.add_wide.result (λ added p es e waits times late once concerned h.
+    heard_wide c.args.book.now p es e t b c.args.number c.requires.given waits c.args.event.now late once concerned h (c.has.ensures ∙ ap Some c.if-has.false) c.set_mut.result.now c.hear.new.set c.set_mut.ensures.value
+    c.in_ok-hear.field-0 c.in_ok-hear.ensures.stepped c.in-TooWide.is c.restart_key-in-TooWide.new.self c.add_wide.new.self t.times anew.key anew.at times (ap (λ x. x.keys) anew.begun)
+    (anew_sets t c.restart_key-in-TooWide.new.self c.args.number c.hear.new.set anew.key (ap (λ x. x.sets) anew.begun)) added.deaf added.wide added.broken) c.add_wide.ensures

@@ -1,0 +1,25 @@
+use Rattle.std.proofs.Common.{◌≡◌, ◌≤◌, ℕ, List, length}
+use Rattle.sip_key.specs.Key.{KeyParts}
+use Rattle.sip_machine.specs.Times.{Times}
+use Rattle.sip_machine.specs.Texts.{Texts}
+use Rattle.sip_verdict.specs.Keyed.{Observation, newest_moment}
+use Rattle.sip_verdict.specs.inner.TablesTracking.{MayPass}
+use Rattle.sip_verdict.specs.inner.Surveying.{AreWatched, ArePassing, any}
+use Rattle.sip_verdict.proofs.surveys.Lasts.{lasts}
+use Rattle.sip_verdict.proofs.releasing.release_overdue.Given as goal
+
+abbrev pub invariant-loop-number : goal.invariant-loop-number
+invariant-loop-number g l =
+    record {
+      times_are : l.tables.times ≡ l.initial.tables.times;
+      keys_are : l.tables.keys ≡ l.initial.tables.keys;
+      long : length l.troubled.deaf.items ≡ length l.tables.keys;
+      may : (texts : Texts) → MayPass texts l.initial.tables l.moment → MayPass texts l.tables l.moment;
+      watched : (waits : List ℕ) → AreWatched waits l.initial.tables l.initial.troubled → AreWatched waits l.tables l.troubled;
+      released : (texts : Texts) (p : Times) (es : List (Observation KeyParts)) (e : Observation KeyParts) (waits : List ℕ)
+          → l.initial.tables.times ≡ p → newest_moment es ≤ l.moment → e.event.moment ≡ l.moment → MayPass texts l.initial.tables l.moment → AreWatched waits l.initial.tables l.initial.troubled
+          → ArePassing texts p es e any l.initial.tables l.initial.troubled → ArePassing texts p es e any l.tables l.troubled;
+    }
+
+abbrev pub decreases-loop-number : goal.decreases-loop-number
+decreases-loop-number g l = lasts l.tables.records

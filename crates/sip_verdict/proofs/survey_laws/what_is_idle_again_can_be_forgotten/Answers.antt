@@ -1,0 +1,5 @@
+use Rattle.sip_verdict.proofs.surveys.Forgetting.{found_new}
+use Rattle.sip_verdict.proofs.survey_laws.what_is_idle_again_can_be_forgotten.Goals as goal
+
+pub returns : goal.returns
+returns c p key old front e order again sound = found_new p key old again sound front e order

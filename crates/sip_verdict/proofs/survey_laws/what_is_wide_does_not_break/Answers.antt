@@ -1,0 +1,5 @@
+use Rattle.sip_verdict.proofs.surveys.Wide.{wide_runs}
+use Rattle.sip_verdict.proofs.survey_laws.what_is_wide_does_not_break.Goals as goal
+
+pub returns : goal.returns
+returns c = wide_runs

@@ -1,0 +1,5 @@
+use Rattle.sip_verdict.proofs.surveys.Lasting.{what_stands_lasts}
+use Rattle.sip_verdict.proofs.survey_laws.what_stands_lasts.Goals as goal
+
+pub returns : goal.returns
+returns c = what_stands_lasts

@@ -1,0 +1,79 @@
+use Rattle.std.proofs.Common.{◌≡◌, ◌+◌, ◌∙◌, List, [], ◌++◌, refl, sym, subst, rules, arith}
+use Rattle.std.specs.Io.KnownBytes.{Appends}
+use Rattle.sip_log.specs.Reading as log
+use Rattle.sip_log.specs.Reading.{beside_source}
+use Rattle.sip_verdict.specs.declared.finding.Finding.{Finding}
+use Rattle.sip_verdict.specs.declared.survey_end.SurveyEnd.TheVariants.{LogFault}
+use Rattle.sip_verdict.specs.SurveyText.{end_text}
+use Rattle.sip_verdict.proofs.surveys.Writing.{told_none, told_more, summed, surveys_on, surveys_end, surveys_stop}
+use Rattle.sip_verdict.proofs.StandingLemmas.{same_some}
+use Rattle.sip_verdict.proofs.surveying.write_entries.Goals as goal
+
+pub loop-found-init : goal.loop-found-init
+loop-found-init g c = record {
+  read = refl;
+  written = refl;
+  at = c.requires.at;
+  counts_are = sym c.requires.first;
+  told = ([], told_none c.none-counts.result (g.W.Sink.written c.args.writer.now) c.none-counts.ensures.0 c.none-counts.ensures.1, λ start reads. reads);
+}
+
+pub loop-found-preserved : goal.loop-found-preserved
+loop-found-preserved g c =
+    let l = c.loop-found in
+    let old : log.ReaderState = beside_source l.progress (g.R.Source.left l.reader) (g.R.Source.has_failed l.reader) in
+    let new : log.ReaderState = beside_source c.read_next.new.progress (g.R.Source.left c.read_next.new.reader) (g.R.Source.has_failed c.read_next.new.reader) in
+    let moves = rw c.in-Entry.is at c.in_ok-entry.ensures.moves in
+    let taken = c.in_ok-entry-in-Entry.ensures in
+    let put = c.in_ok-counts-in-Entry.ensures in
+    let items : List Finding = c.entry.new.found.items in
+    let lines : c.as_slice.result.now ≡ items = search rules in
+    let told = l.invariant.told in
+    record {
+      read = c.in_ok-entry.ensures.ok ∙ l.invariant.read;
+      written = put.fine ∙ l.invariant.written;
+      at = record {
+        on = moves.0;
+        goes_on = search rules;
+        counts = taken.newest.0 ∙ sym moves.2;
+        newest = taken.newest.1 ∙ sym moves.3;
+        few = (let number = moves.1.number_is in let count = moves.2 in let low = moves.4 in omega arith);
+      };
+      counts_are = sym taken.newest.0;
+      told = (
+        told.0 ++ items,
+        told_more told.0 items l.counts c.in_ok-counts-in-Entry.counts (g.W.Sink.written c.args.writer.now) (g.W.Sink.written l.writer) (g.W.Sink.written c.put_findings.new.writer) told.1
+            (search rules) (search rules),
+        λ start reads.
+            let read = told.2 start reads in
+            let more = (rw c.in-Entry.is at c.in_ok-entry.ensures.gives) start l.survey.tables.times read.items read.read in
+            surveys_on start old l.survey told.0 read c.in-Entry.entry new more c.entry.new.self taken.times items (rw c.clear.ensures.items at taken.found),
+      );
+    }
+
+pub returns-in-End-clause-surveyed : goal.returns-in-End-clause-surveyed
+returns-in-End-clause-surveyed g c =
+    let l = c.loop-found in
+    let old : log.ReaderState = beside_source l.progress (g.R.Source.left l.reader) (g.R.Source.has_failed l.reader) in
+    let told = l.invariant.told in
+    let before = g.W.Sink.written c.args.writer.now in
+    let mid = g.W.Sink.written l.writer in
+    let after = g.W.Sink.written c.finish.new.writer in
+    summed c.finish.result l.counts c.unwrap.result c.finish.ensures.sums c.finish.ensures.text (λ summary end findings undecided last start reads.
+    let read = told.2 start reads in
+    let logs = (rw c.in-End.is at c.in_ok-entry.ensures.gives) start l.survey.tables.times read.items read.read in
+    let is = same_some _ _ (sym c.unwrap.ensures ∙ c.end.ensures.clean read.es read.follows) in
+    surveys_end start old l.survey told.0 read l.counts summary before mid after told.1 findings undecided (end ∙ is) (subst (λ e. Appends mid after (end_text e l.counts.findings)) is last) logs)
+
+pub returns-in-Fault-clause-surveyed : goal.returns-in-Fault-clause-surveyed
+returns-in-Fault-clause-surveyed g c =
+    let l = c.loop-found in
+    let old : log.ReaderState = beside_source l.progress (g.R.Source.left l.reader) (g.R.Source.has_failed l.reader) in
+    let told = l.invariant.told in
+    let before = g.W.Sink.written c.args.writer.now in
+    let mid = g.W.Sink.written l.writer in
+    let after = g.W.Sink.written c.finish-in-Fault.new.writer in
+    summed c.finish-in-Fault.result l.counts (LogFault (l.count + 1) c.in-Fault.reason) c.finish-in-Fault.ensures.sums c.finish-in-Fault.ensures.text (λ summary end findings undecided last start reads.
+    let read = told.2 start reads in
+    surveys_stop start old l.survey told.0 read l.counts summary before mid after told.1 findings undecided l.count c.in-Fault.reason l.invariant.counts_are end last
+    ((rw c.in-Fault.is at c.in_ok-entry.ensures.gives) start l.survey.tables.times read.items read.read))

@@ -1,0 +1,25 @@
+-- How many last moments are on record.
+use Rattle.std.proofs.Common.{◌≡◌, ◌<◌, ◌+◌, ℕ, zero, suc, Option, Some, None, true, [], ◌∷◌, slice_set, slice_index_or, sym, refl, true≢false, arith}
+use Rattle.sip_states.specs.Agenda.{Records, is_overdue}
+
+abbrev one_last : Option (Option ℕ) → ℕ
+one_last None = 0
+one_last (Some None) = 0
+one_last (Some (Some last)) = 1
+
+pub lasts : Records → ℕ
+lasts [] = 0
+lasts (r ∷ rs) = one_last r + lasts rs
+
+-- one that is overdue is there
+overdue_one : (moment : ℕ) (r : Option (Option ℕ)) → is_overdue moment r ≡ true → one_last r ≡ 1
+overdue_one moment None is = absurd (true≢false (sym is))
+overdue_one moment (Some None) is = absurd (true≢false (sym is))
+overdue_one moment (Some (Some last)) is = refl
+
+-- once it is off the record, there is one less
+pub one_less : (rs : Records) (i moment : ℕ) → is_overdue moment (slice_index_or rs i None) ≡ true → lasts (slice_set rs i (Some None)) < lasts rs
+unfolding lasts
+one_less [] i moment past = absurd (true≢false (sym past))
+one_less (x ∷ rs) zero moment past = let is = overdue_one moment x past in omega (arith, is)
+one_less (x ∷ rs) (suc i) moment past = let less = one_less rs i moment past in omega (arith, less)

@@ -1,0 +1,61 @@
+-- Lists in a strict order: two of them with the same elements are the same.
+use Rattle.std.proofs.Common.{◌≡◌, ◌⊎◌, inl, inr, List, [], ◌∷◌, ◌++◌, AllPairs, Contains, get_or, map, refl, sym, ap₂, ◌∙◌, subst, arith}
+use Rattle.std.proofs.lemmas.List.Elements.{All-contains, All-append, All-map, All-weaker, Contains-get_or}
+use Rattle.std.proofs.lemmas.List.Kept.{AllPairs-cons}
+use Rattle.sip_states.proofs.Few.{AllPairs-head, AllPairs-tail}
+use Rattle.sip_states.proofs.Listed.{Contains-none, Contains-here, Contains-there, Contains-cons}
+
+module _ {A : Type 0} (R : A → A → Type 0) where
+  -- a list in order, and after it one of which each element comes after each of the first
+  pub ordered_append : (xs ys : List A) → AllPairs R xs → AllPairs R ys → ((x y : A) → Contains xs x → Contains ys y → R x y) → AllPairs R (xs ++ ys)
+  ordered_append [] ys a b across = b
+  ordered_append (x ∷ xs) ys a b across =
+      AllPairs-cons R x (xs ++ ys)
+      (All-append (R x) xs ys (AllPairs-head R x xs a) (λ k d low. across x (get_or ys k d) (Contains-here x xs) (Contains-get_or ys k d low)))
+      (ordered_append xs ys (AllPairs-tail R x xs a) b (λ u v h. across u v (Contains-there x xs u h)))
+
+  -- the first element comes before each of the others
+  pub first_before : (x : A) (xs : List A) → AllPairs R (x ∷ xs) → (y : A) → Contains xs y → R x y
+  first_before x xs sorted y h = All-contains (R x) xs y (AllPairs-head R x xs sorted) h
+
+-- the image of a list in order, under a function that keeps the order
+pub ordered_map : {A B : Type 0} (R : A → A → Type 0) (S : B → B → Type 0) (f : A → B) → ((a b : A) → R a b → S (f a) (f b)) → (xs : List A) → AllPairs R xs → AllPairs S (map f xs)
+ordered_map R S f keeps [] sorted = λ i j d low high. absurd (omega (arith, high))
+ordered_map R S f keeps (x ∷ xs) sorted =
+    AllPairs-cons S (f x) (map f xs) (All-map (S (f x)) f xs (All-weaker (R x) (λ a. S (f x) (f a)) (keeps x) xs (AllPairs-head R x xs sorted)))
+    (ordered_map R S f keeps xs (AllPairs-tail R x xs sorted))
+
+module _ {A : Type 0} (R : A → A → Type 0) (once : (a b : A) → R a b → R b a → ⊥) where
+  -- lists in order with the same elements are the same
+  pub ordered_one : (xs ys : List A) → AllPairs R xs → AllPairs R ys → ((a : A) → Contains xs a → Contains ys a) → ((a : A) → Contains ys a → Contains xs a) → xs ≡ ys
+  ordered_one [] [] a b to from = refl
+  ordered_one [] (y ∷ ys) a b to from = absurd (Contains-none y (from y (Contains-here y ys)))
+  ordered_one (x ∷ xs) [] a b to from = absurd (Contains-none x (to x (Contains-here x xs)))
+  ordered_one (x ∷ xs) (y ∷ ys) a b to from =
+      ap₂ (λ h t. h ∷ t) same (ordered_one xs ys (AllPairs-tail R x xs a) (AllPairs-tail R y ys b) forth back)
+    where
+      by : (y ≡ x) ⊎ Contains ys x → (x ≡ y) ⊎ Contains xs y → x ≡ y
+      by (inl e) h = sym e
+      by (inr h) (inl e) = e
+      by (inr h) (inr k) = absurd (once y x (first_before R y ys b x h) (first_before R x xs a y k))
+
+      same : x ≡ y
+      same = by (Contains-cons y ys x (to x (Contains-here x xs))) (Contains-cons x xs y (from y (Contains-here y ys)))
+
+      -- no element comes before itself
+      apart : (u v : A) → u ≡ v → R u v → ⊥
+      apart u v is low = once u u (subst (R u) (sym is) low) (subst (R u) (sym is) low)
+
+      forth_by : (f : A) → Contains xs f → (y ≡ f) ⊎ Contains ys f → Contains ys f
+      forth_by f h (inr k) = k
+      forth_by f h (inl e) = absurd (apart x f (same ∙ e) (first_before R x xs a f h))
+
+      forth : (f : A) → Contains xs f → Contains ys f
+      forth f h = forth_by f h (Contains-cons y ys f (to f (Contains-there x xs f h)))
+
+      back_by : (f : A) → Contains ys f → (x ≡ f) ⊎ Contains xs f → Contains xs f
+      back_by f h (inr k) = k
+      back_by f h (inl e) = absurd (apart y f (sym same ∙ e) (first_before R y ys b f h))
+
+      back : (f : A) → Contains ys f → Contains xs f
+      back f h = back_by f h (Contains-cons x xs f (from f (Contains-there y ys f h)))

@@ -1,0 +1,19 @@
+use Rattle.std.proofs.Common.{◌++◌, ◌∙◌, map, ap, append_assoc}
+use Rattle.sip_verdict.specs.declared.finding.Finding.TheVariants.{Breach, Undecided}
+use Rattle.sip_verdict.proofs.troubled.Troubled.tell.Goals as goal
+
+pub returns-clause-told : goal.returns-clause-told
+returns-clause-told c =
+    let entry = c.args.entry in
+    let broken = c.keep_ascending.new.numbers.items in
+    let wide = c.keep_ascending-2.new.numbers.items in
+    let old = c.args.found.now.items in
+    let first = c.in_ok-push_breaches.ensures.pushed ∙ ap (λ ns. old ++ map (λ transaction. Breach entry transaction) ns) c.as_slice.ensures.value in
+    let second = c.in_ok-push_undecided.ensures.pushed ∙ ap (λ ns. c.push_breaches.new.found.items ++ map (λ transaction. Undecided entry transaction) ns) c.as_slice-2.ensures.value in (
+      broken,
+      wide,
+      (c.keep_ascending.ensures.rising, c.keep_ascending.ensures.members),
+      (c.keep_ascending-2.ensures.rising, c.keep_ascending-2.ensures.members),
+      second ∙ ap (λ xs. xs ++ map (λ transaction. Undecided entry transaction) wide) first
+          ∙ append_assoc old (map (λ transaction. Breach entry transaction) broken) (map (λ transaction. Undecided entry transaction) wide),
+    )

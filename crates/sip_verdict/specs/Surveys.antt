@@ -1,0 +1,69 @@
+-- What a survey that takes the entries of a log as they come stands for.
+use Rattle.std.specs.Prelude.{◌≡◌, ◌≢◌, ◌≤◌, ◌+◌, ℕ, Bool, true, false, List, ◌++◌, Option, Some, None, Result, Err, Contains, length}
+use Rattle.sip_key.specs.Key.{KeyParts}
+use Rattle.sip_machine.specs.Times.{Times}
+use Rattle.sip_machine.specs.Texts.{Texts}
+use Rattle.sip_states.specs.Runs.{RuledRun}
+use Rattle.sip_states.specs.Tables.{Tabled}
+use Rattle.sip_verdict.specs.declared.step_error.StepError.{StepError}
+use Rattle.sip_verdict.specs.declared.step_error.StepError.TheVariants as errors
+use Rattle.sip_verdict.specs.declared.survey_end.SurveyEnd.{SurveyEnd}
+use Rattle.sip_verdict.specs.declared.survey_end.SurveyEnd.TheVariants as ended
+use Rattle.sip_verdict.specs.Keyed.{Observation, events_of, newest_moment}
+use Rattle.sip_verdict.specs.MessageReading.{key_machines}
+use Rattle.sip_verdict.specs.Named.{AreMany, key_messages}
+use Rattle.sip_verdict.specs.SurveyOf.{IsSound}
+use Rattle.sip_verdict.specs.inner.Surveying.{TablesSurvey}
+
+-- a state in which a run of a key in no trouble over the entries can stand at the newest names the message
+pub record IsStillNamed (p : Times) (es : List (Observation KeyParts)) (text : List ℕ) : Type 0 where
+  pub key : KeyParts
+  pub sound : IsSound p es key
+  pub state : (key_machines p).State key
+  pub stands : RuledRun ((key_machines p).rules key) (events_of (key_machines p) key es) (newest_moment es) state
+  pub names : Contains (key_messages p key state) text
+
+-- so many messages were named after some entry, or before the first
+pub record WereStillNamed (p : Times) (es : List (Observation KeyParts)) (count : ℕ) : Type 0 where
+  pub front : List (Observation KeyParts)
+  pub rest : List (Observation KeyParts)
+  pub whole : es ≡ front ++ rest
+  pub many : AreMany (IsStillNamed p front) count
+
+-- so few messages are kept: at most twice as many as were named after some entry by transactions in no trouble, and 64
+abbrev pub AreFewKept : Times → List (Observation KeyParts) → ℕ → Type 0
+AreFewKept p es kept = (named : ℕ) × WereStillNamed p es named × (kept ≤ named + named + 64)
+
+-- what a survey holds: the number and the moment of its newest entry, the messages that it keeps, the set of each key, which of them are in trouble, how
+-- many messages its last sweep left, and whether it failed
+pub record Surveying : Type 0 where
+  pub number : ℕ
+  pub moment : ℕ
+  pub texts : Texts
+  pub tables : Tabled
+  pub deaf : List Bool
+  pub left : ℕ
+  pub failed : Bool
+
+-- messages and sets follow these entries, each transaction for itself; so many messages were named after one of them, and few more are kept
+pub record AreSurveyed (texts : Texts) (t : Tabled) (deaf : List Bool) (left : ℕ) (es : List (Observation KeyParts)) : Type 0 where
+  pub tracks : TablesSurvey texts es t deaf
+  pub named : WereStillNamed t.times es left
+  pub few : length texts ≤ left + left + 64
+
+-- the survey stands for these entries
+pub record SurveysFor (s : Surveying) (es : List (Observation KeyParts)) : Type 0 where
+  pub goes_on : s.failed ≡ false
+  pub number : s.number ≡ length es
+  pub moment : s.moment ≡ newest_moment es
+  pub follows : AreSurveyed s.texts s.tables s.deaf s.left es
+
+-- what a survey can answer: after a failure that it failed
+abbrev pub MayAnswer : Bool → Result Unit StepError → Type 0
+MayAnswer true answer = answer ≡ Err errors.Failed
+MayAnswer false answer = answer ≢ Err errors.Failed
+
+-- the end of a survey that took so many entries, of so many transactions: none after a failure
+abbrev pub end_after : ℕ → ℕ → Bool → Option SurveyEnd
+end_after entries transactions true = None
+end_after entries transactions false = Some (ended.Clean entries transactions)

@@ -1,0 +1,184 @@
+//! What is found at an entry.
+ghost use Rattle.std.specs.Prelude.{◌≡◌, ◌≤◌, ◌+◌, ◌++◌, ◌∷◌, [], List, All, Contains, IfOk, OnOk, length};
+ghost use Rattle.sip_key.specs.Key.{KeyParts};
+ghost use Rattle.sip_machine.specs.Times.{last_moment};
+ghost use Rattle.sip_log.specs.Log.{most_entries};
+ghost use Rattle.sip_log.specs.Told.{item};
+ghost use Rattle.sip_verdict.specs.declared.finding.Finding.{Finding};
+ghost use Rattle.sip_verdict.specs.Keyed.{Observation, newest_moment};
+ghost use Rattle.sip_verdict.specs.MessageReading.{message_reading, ConcernsNone};
+ghost use Rattle.sip_verdict.specs.VerdictOf.{keys_in};
+ghost use Rattle.sip_verdict.specs.SurveyOf.{AreFoundAt};
+ghost use Rattle.sip_verdict.specs.Surveys.{AreSurveyed};
+ghost use Rattle.sip_verdict.specs.inner.TablesTracking.{is_among, MayTake};
+ghost use Rattle.sip_verdict.specs.inner.Surveying.{ArePassing, AreWatched, IsFresh, TablesSurvey, fault_listing};
+
+use crate::concerned::Concerned;
+use crate::finding::Finding;
+use crate::observing::{Told, observe};
+use crate::passing::Hearing;
+use crate::releasing::pass_each;
+use crate::standing::{Standing, touch_each};
+use crate::sweeping::SPARE;
+use crate::troubled::Troubled;
+use sip_log::Entry;
+use sip_machine::Event;
+use sip_message::Fault;
+use std::alloc::{AllocError, Global};
+use std::hash::BuildHasher;
+
+/// Takes the entry that comes next: the fault of its message, if it has one. Which transactions come into trouble is added to those
+/// that are.
+fn take<H: BuildHasher>(
+    alloc: Global,
+    standing: &mut Standing<H>,
+    troubled: &mut Troubled,
+    entry: &Entry,
+) -> Result<Option<Fault>, AllocError>
+    requires limit { entry.now.moment ≤ last_moment }
+    requires count { entry.now.number ≤ most_entries }
+    requires may { MayTake standing.old.book standing.old.tables entry.now.number entry.now.moment }
+    requires watched { AreWatched [] standing.old.tables troubled.old }
+    ensures times { OnOk result (standing.new.tables.times ≡ standing.old.tables.times) }
+    ensures may { OnOk result (MayTake standing.new.book standing.new.tables (entry.now.number + 1) entry.now.moment) }
+    ensures watched { OnOk result (AreWatched [] standing.new.tables troubled.new) }
+    ensures keyless { OnOk result (ConcernsNone (item entry.now) → standing.new.book ≡ standing.old.book) }
+    ensures taken { IfOk result (λ fault. (es : List (Observation KeyParts)) → IsFresh troubled.old → TablesSurvey standing.old.book es standing.old.tables troubled.old.deaf.items
+        → newest_moment es ≤ entry.now.moment
+        → (e : Observation KeyParts) × message_reading.Observes es (item entry.now) e × (e.fault ≡ fault) × (e.event.moment ≡ entry.now.moment)
+        × (standing.new.tables.keys ≡ keys_in (es ++ e ∷ []))
+        × ArePassing standing.new.book standing.old.tables.times es e (is_among []) standing.new.tables troubled.new) }
+{
+    let told = observe(alloc, &mut standing.book, entry)?;
+    standing.book.known();
+    match told {
+        Told::Unheard => {
+            pass_each(
+                &mut standing.tables,
+                troubled,
+                &standing.book,
+                entry.moment,
+                None,
+            )?;
+            Ok(None)
+        }
+        Told::Fault(fault) => {
+            pass_each(
+                &mut standing.tables,
+                troubled,
+                &standing.book,
+                entry.moment,
+                None,
+            )?;
+            Ok(Some(fault))
+        }
+        Told::Restart => {
+            standing.tables.known();
+            let event = Event::restart(entry.moment);
+            let concerned = Concerned::All;
+            let hearing = Hearing { event, concerned };
+            pass_each(
+                &mut standing.tables,
+                troubled,
+                &standing.book,
+                entry.moment,
+                Some(&hearing),
+            )?;
+            Ok(None)
+        }
+        Told::Heard { event, concerned } => {
+            let concerned = touch_each(&mut standing.tables, concerned)?;
+            troubled.grow(standing.tables.len())?;
+            standing.tables.known();
+            let hearing = Hearing { event, concerned };
+            pass_each(
+                &mut standing.tables,
+                troubled,
+                &standing.book,
+                entry.moment,
+                Some(&hearing),
+            )?;
+            Ok(None)
+        }
+    }
+}
+
+/// Appends that the message of the entry has this fault, if it has one.
+fn push_fault(entry: u32, fault: Option<Fault>, found: &mut Vec<Finding>) -> Result<(), AllocError>
+    ensures pushed { OnOk result (found.new.items ≡ found.old.items ++ fault_listing entry fault) }
+    ensures front { (more : List Finding) × (found.new.items ≡ found.old.items ++ more) }
+{
+    if let Some(fault) = fault {
+        found.push(Finding::Malformed { entry, fault })?;
+    }
+    Ok(())
+}
+
+/// Appends what is found at the entry that comes next: the fault of its message, the breaches by number, and then what is followed no
+/// further by number.
+fn find<H: BuildHasher>(
+    alloc: Global,
+    standing: &mut Standing<H>,
+    troubled: &mut Troubled,
+    entry: &Entry,
+    found: &mut Vec<Finding>,
+) -> Result<(), AllocError>
+    requires limit { entry.now.moment ≤ last_moment }
+    requires count { entry.now.number ≤ most_entries }
+    requires may { MayTake standing.old.book standing.old.tables entry.now.number entry.now.moment }
+    requires watched { AreWatched [] standing.old.tables troubled.old }
+    requires fresh { IsFresh troubled.old }
+    ensures times { OnOk result (standing.new.tables.times ≡ standing.old.tables.times) }
+    ensures may { OnOk result (MayTake standing.new.book standing.new.tables (entry.now.number + 1) entry.now.moment) }
+    ensures watched { OnOk result (AreWatched [] standing.new.tables troubled.new) }
+    ensures fresh { OnOk result (IsFresh troubled.new) }
+    ensures keyless { OnOk result (ConcernsNone (item entry.now) → standing.new.book ≡ standing.old.book) }
+    ensures front { (more : List Finding) × (found.new.items ≡ found.old.items ++ more) }
+    ensures found { OnOk result ((es : List (Observation KeyParts)) → TablesSurvey standing.old.book es standing.old.tables troubled.old.deaf.items
+        → entry.now.number ≡ length es + 1 → newest_moment es ≤ entry.now.moment
+        → (e : Observation KeyParts) × (here : List Finding) × message_reading.Observes es (item entry.now) e × (e.event.moment ≡ entry.now.moment)
+        × AreFoundAt standing.old.tables.times es e here × (found.new.items ≡ found.old.items ++ here)
+        × TablesSurvey standing.new.book (es ++ e ∷ []) standing.new.tables troubled.new.deaf.items) }
+{
+    let fault = take(alloc, standing, troubled, entry)?;
+    push_fault(entry.number, fault, found)?;
+    troubled.tell(entry.number, found)
+}
+
+/// Appends what is found at the entry that comes next. Where many more messages are kept than the last sweep left, those go that no
+/// transaction needs.
+pub(crate) fn find_next<H: BuildHasher>(
+    alloc: Global,
+    standing: &mut Standing<H>,
+    troubled: &mut Troubled,
+    left: &mut usize,
+    entry: &Entry,
+    found: &mut Vec<Finding>,
+) -> Result<(), AllocError>
+    requires limit { entry.now.moment ≤ last_moment }
+    requires count { entry.now.number ≤ most_entries }
+    requires may { MayTake standing.old.book standing.old.tables entry.now.number entry.now.moment }
+    requires watched { AreWatched [] standing.old.tables troubled.old }
+    requires fresh { IsFresh troubled.old }
+    requires left { left.old ≤ most_entries + 1 }
+    ensures times { OnOk result (standing.new.tables.times ≡ standing.old.tables.times) }
+    ensures may { OnOk result (MayTake standing.new.book standing.new.tables (entry.now.number + 1) entry.now.moment) }
+    ensures watched { OnOk result (AreWatched [] standing.new.tables troubled.new) }
+    ensures fresh { OnOk result (IsFresh troubled.new) }
+    ensures left { left.new ≤ most_entries + 1 }
+    ensures keyless { OnOk result (ConcernsNone (item entry.now) → All (Contains standing.old.book) standing.new.book) }
+    ensures front { (more : List Finding) × (found.new.items ≡ found.old.items ++ more) }
+    ensures found { OnOk result ((es : List (Observation KeyParts)) → AreSurveyed standing.old.book standing.old.tables troubled.old.deaf.items left.old es
+        → entry.now.number ≡ length es + 1 → newest_moment es ≤ entry.now.moment
+        → (e : Observation KeyParts) × (here : List Finding) × message_reading.Observes es (item entry.now) e
+        × AreFoundAt standing.old.tables.times es e here × (found.new.items ≡ found.old.items ++ here)
+        × AreSurveyed standing.new.book standing.new.tables troubled.new.deaf.items left.new (es ++ e ∷ [])) }
+{
+    find(alloc, standing, troubled, entry, found)?;
+    if standing.kept() <= 2 * *left + SPARE {
+        return Ok(());
+    }
+    standing.sweep(alloc, entry.moment)?;
+    *left = standing.kept();
+    Ok(())
+}

@@ -1,0 +1,29 @@
+//! What is found at an entry of a log.
+ghost use Rattle.std.specs.Prelude.{◌≡◌};
+ghost use Rattle.sip_verdict.specs.SurveyOf.{verdict_of};
+
+use crate::verdict::Verdict;
+use sip_message::Fault;
+
+/// What a survey finds at an entry. Entries and transactions are numbered from 1, as in a verdict.
+#[derive(Clone, Copy, Debug, PartialEq, Eq)]
+pub enum Finding {
+    /// The message of the entry has a fault, or is a request that was sent, or refused, without the cookie in its top branch.
+    Malformed { entry: u32, fault: Fault },
+    /// After the entry the transaction has no run, and it was in no trouble before.
+    Breach { entry: u32, transaction: u32 },
+    /// The runs of the transaction can stand in more states after the entry than are followed, and it was in no trouble before.
+    Undecided { entry: u32, transaction: u32 },
+}
+
+impl From<Finding> for Verdict {
+    ghost from_gives = { λ finding verdict. verdict ≡ verdict_of finding };
+
+    fn from(finding: Finding) -> Self {
+        match finding {
+            Finding::Malformed { entry, fault } => Verdict::Malformed { entry, fault },
+            Finding::Breach { entry, transaction } => Verdict::Breach { entry, transaction },
+            Finding::Undecided { entry, transaction } => Verdict::Undecided { entry, transaction },
+        }
+    }
+}

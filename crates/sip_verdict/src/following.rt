@@ -1,0 +1,141 @@
+//! A survey that takes the entries of a log as they come.
+ghost use Rattle.std.specs.Prelude.{◌≡◌, ◌↔◌, ◌++◌, ◌∷◌, [], false, List, Some, All, Contains, IsTrue, OnOk, OnErr, length};
+ghost use Rattle.std.specs.Result.{is_err};
+ghost use Rattle.sip_key.specs.Key.{KeyParts};
+ghost use Rattle.sip_log.specs.Told.{item};
+ghost use Rattle.sip_verdict.specs.declared.finding.Finding.{Finding};
+ghost use Rattle.sip_verdict.specs.declared.survey_end.SurveyEnd.TheVariants.{Clean};
+ghost use Rattle.sip_verdict.specs.Keyed.{Observation};
+ghost use Rattle.sip_verdict.specs.MessageReading.{message_reading, ConcernsNone};
+ghost use Rattle.sip_verdict.specs.VerdictOf.{keys_in};
+ghost use Rattle.sip_verdict.specs.SurveyOf.{AreFoundAt};
+ghost use Rattle.sip_verdict.specs.Judging.{MayComeNext};
+ghost use Rattle.sip_verdict.specs.Surveys.{AreFewKept, MayAnswer, SurveysFor, end_after};
+
+use crate::entries::find_next;
+use crate::finding::Finding;
+use crate::standing::Standing;
+use crate::step_error::StepError;
+use crate::stream::may_come_next;
+use crate::survey_end::SurveyEnd;
+use crate::troubled::Troubled;
+use sip_log::Entry;
+use sip_machine::Params;
+use std::alloc::{AllocError, Global};
+use std::hash::BuildHasher;
+use std::marker::Model;
+
+/// Judges the entries of a log as they come, each transaction for itself, and goes on after those that are in trouble. It forgets the
+/// messages that it does not need any more.
+#[derive(Drop)]
+pub struct Survey<H: BuildHasher> {
+    alloc: Global,
+    standing: Standing<H>,
+    troubled: Troubled,
+    number: u32,
+    moment: u64,
+    left: usize,
+    failed: bool,
+}
+
+impl<H: BuildHasher> Model for Survey<H> {
+    ghost use Rattle.std.specs.Prelude.{◌≡◌, ◌≤◌, ◌+◌, [], false};
+    ghost use Rattle.sip_log.specs.Log.{most_entries};
+    ghost use Rattle.sip_verdict.specs.Surveys.{Surveying};
+    ghost use Rattle.sip_verdict.specs.inner.TablesTracking.{MayTake};
+    ghost use Rattle.sip_verdict.specs.inner.Surveying.{AreWatched, IsFresh};
+
+    ghost Value = { Surveying };
+
+    ghost view = { λ s. record { number = s.number; moment = s.moment; texts = s.standing.book; tables = s.standing.tables; deaf = s.troubled.deaf.items; left = s.left; failed = s.failed } };
+
+    ghost invariant = { λ s. s.failed ≡ false → MayTake s.standing.book s.standing.tables (s.number + 1) s.moment × AreWatched [] s.standing.tables s.troubled
+        × IsFresh s.troubled × (s.left ≤ most_entries + 1) };
+}
+
+impl<H: BuildHasher + Drop> Survey<H> {
+    /// No entry was judged yet. It takes no memory.
+    pub fn new(alloc: Global, params: Params, hasher: H) -> Survey<H>
+        ensures stands { SurveysFor result [] }
+        ensures times { result.tables.times ≡ params }
+    {
+        Survey {
+            alloc,
+            standing: Standing::new(alloc, params, hasher),
+            troubled: Troubled::new(alloc),
+            number: 0,
+            moment: 0,
+            left: 0,
+            failed: false,
+        }
+    }
+
+    /// Whether the entry may come next: its number is one above that of the entry before, counted from 1, its moment is not
+    /// below that one's, and both are within the limits of a log. After an error any entry may.
+    pub fn may_take(&self, entry: &Entry) -> bool
+        ensures { IsTrue result ↔ (self.now.failed ≡ false → MayComeNext self.now.number self.now.moment entry.now.number entry.now.moment) }
+    {
+        self.failed || may_come_next(self.number, self.moment, entry)
+    }
+
+    /// Judges the next entry, and appends what is found at it: the fault of its message, then the transactions that break by number,
+    /// then those that are followed no further by number. Each transaction is found once. After an error every call answers
+    /// `StepError::Failed`, and appends nothing.
+    pub fn entry(&mut self, entry: &Entry, found: &mut Vec<Finding>) -> Result<(), StepError>
+        requires { self.old.failed ≡ false → MayComeNext self.old.number self.old.moment entry.now.number entry.now.moment }
+        ensures found { OnOk result ((es : List (Observation KeyParts)) → SurveysFor self.old es
+            → (e : Observation KeyParts) × (here : List Finding) × message_reading.Observes es (item entry.now) e
+            × AreFoundAt self.old.tables.times es e here × (found.new.items ≡ found.old.items ++ here) × SurveysFor self.new (es ++ e ∷ [])) }
+        ensures answers { MayAnswer self.old.failed result }
+        ensures failed { self.new.failed ≡ is_err result }
+        ensures newest { OnOk result ((self.new.number ≡ entry.now.number) × (self.new.moment ≡ entry.now.moment)) }
+        ensures front { OnErr result ((more : List Finding) × (found.new.items ≡ found.old.items ++ more)) }
+        ensures keyless { OnOk result (ConcernsNone (item entry.now) → All (Contains self.old.texts) self.new.texts) }
+        ensures times { OnOk result (self.new.tables.times ≡ self.old.tables.times) }
+    {
+        if self.failed {
+            return Err(StepError::Failed);
+        }
+        let taken = find_next(
+            self.alloc,
+            &mut self.standing,
+            &mut self.troubled,
+            &mut self.left,
+            entry,
+            found,
+        );
+        match taken {
+            Ok(()) => {
+                self.number = entry.number;
+                self.moment = entry.moment;
+                Ok(())
+            }
+            Err(AllocError) => {
+                self.failed = true;
+                Err(StepError::Memory)
+            }
+        }
+    }
+
+    /// How a log ends that ends after these entries: with how many they are, and how many transactions. None after an error.
+    pub fn end(&self) -> Option<SurveyEnd>
+        ensures end { result ≡ end_after self.now.number (length self.now.tables.keys) self.now.failed }
+        ensures clean { (es : List (Observation KeyParts)) → SurveysFor self.now es → result ≡ Some (Clean (length es) (length (keys_in es))) }
+    {
+        if self.failed {
+            return None;
+        }
+        Some(SurveyEnd::Clean {
+            entries: self.number,
+            transactions: self.standing.transactions(),
+        })
+    }
+
+    /// How many messages it keeps.
+    pub fn kept(&self) -> usize
+        ensures kept { result ≡ length self.now.texts }
+        ensures few { (es : List (Observation KeyParts)) → SurveysFor self.now es → AreFewKept self.now.tables.times es result }
+    {
+        self.standing.kept()
+    }
+}

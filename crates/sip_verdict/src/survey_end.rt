@@ -1,0 +1,11 @@
+//! How the log of a survey ends.
+use crate::log_reason::LogReason;
+
+/// How the log of a survey ends. Entries are numbered from 1; a fault of the header is at entry 0.
+#[derive(Clone, Copy, Debug, PartialEq, Eq)]
+pub enum SurveyEnd {
+    /// It was read to its end, and has so many entries and transactions.
+    Clean { entries: u32, transactions: u32 },
+    /// The entry cannot be read.
+    LogFault { entry: u32, reason: LogReason },
+}

@@ -1,0 +1,167 @@
+//! Surveys a log from its first byte to its last.
+ghost use Rattle.std.specs.Prelude.{◌≡◌, ◌++◌, ◌∷◌, [], ℕ, false, true, List, Option, IfOk, IfSome, OnOk, IsErrOf, flat_map};
+ghost use Rattle.std.specs.Io.KnownBytes.{Appends};
+ghost use Rattle.sip_log.specs.Reading.{beside_source};
+ghost use Rattle.sip_verdict.specs.declared.finding.Finding.{Finding};
+ghost use Rattle.sip_verdict.specs.declared.survey_error.SurveyError.TheVariants.{Read, Write};
+ghost use Rattle.sip_verdict.specs.SurveyOf.{IsSurveyOf};
+ghost use Rattle.sip_verdict.specs.SurveyText.{SumsUp, end_text, finding_text, survey_text};
+ghost use Rattle.sip_verdict.specs.inner.SurveyingLogs.{AreCounted, IsSurveyAt, IsWritten, SurveysRead};
+
+use crate::finding::Finding;
+use crate::following::Survey;
+use crate::log_reason::LogReason;
+use crate::reading::{Next, read_header, read_next};
+use crate::rendering::{end_line, finding_line};
+use crate::summary::Summary;
+use crate::survey_end::SurveyEnd;
+use crate::survey_error::SurveyError;
+use sip_log::{Progress, Sink, Source};
+use std::alloc::Global;
+use std::hash::BuildHasher;
+
+/// All that is wrong in the log of the reader's bytes. What is found at an entry is written when the entry was read, a line for each
+/// finding in the words of a verdict, and at the end a last line: `end entries E transactions T findings F`, or the fault of the log.
+///
+/// `SurveyError::Read` is answered only if the reader has failed, and `SurveyError::Write` only if the writer has. After an error the
+/// lines of what was found so far may have been written, but for the last in part. The hasher is for the keys of the transactions; any
+/// hasher gives the same survey.
+pub fn survey<R: Source, W: Sink, H: BuildHasher + Drop>(
+    alloc: Global,
+    reader: &mut R,
+    writer: &mut W,
+    hasher: H,
+) -> Result<Summary, SurveyError>
+    requires { R.has_failed reader.old ≡ false }
+    ensures surveyed { IfOk result (λ summary. IfSome (R.left reader.old) (λ input. (found : List Finding) × IsSurveyOf input found summary.end × SumsUp found summary
+        × Appends (W.written writer.old) (W.written writer.new) (survey_text found summary.end))) }
+    ensures fine { OnOk result ((R.has_failed reader.new ≡ false) × (W.has_failed writer.new ≡ W.has_failed writer.old)) }
+    ensures read { IsErrOf result Read → R.has_failed reader.new ≡ true }
+    ensures write { IsErrOf result Write → W.has_failed writer.new ≡ true }
+{
+    match read_header(alloc, reader)? {
+        Ok((params, mut progress)) => {
+            let mut survey = Survey::new(alloc, params, hasher);
+            write_entries(alloc, &mut survey, &mut progress, reader, writer)
+        }
+        Err(_) => {
+            let reason = LogReason::Header;
+            let end = SurveyEnd::LogFault { entry: 0, reason };
+            finish(alloc, writer, end, Counts::none())
+        }
+    }
+}
+
+/// Reads on after the header to the end of the log, and writes what is found. Every entry is read into the same buffer.
+fn write_entries<R: Source, W: Sink, H: BuildHasher + Drop>(
+    alloc: Global,
+    survey: &mut Survey<H>,
+    progress: &mut Progress,
+    reader: &mut R,
+    writer: &mut W,
+) -> Result<Summary, SurveyError>
+    requires at { IsSurveyAt survey.old progress.old }
+    requires first { survey.old.number ≡ 0 }
+    ensures surveyed { IfOk result (λ summary. (start : Option (List ℕ))
+        → SurveysRead survey.old [] start (beside_source progress.old (R.left reader.old) (R.has_failed reader.old))
+        → IfSome start (λ input. IsWritten input summary (W.written writer.old) (W.written writer.new))) }
+    ensures fine { OnOk result ((R.has_failed reader.new ≡ R.has_failed reader.old) × (W.has_failed writer.new ≡ W.has_failed writer.old)) }
+    ensures read { IsErrOf result Read → R.has_failed reader.new ≡ true }
+    ensures write { IsErrOf result Write → W.has_failed writer.new ≡ true }
+{
+    let mut buffer = Vec::new(alloc);
+    let mut found = Vec::new(alloc);
+    let mut counts = Counts::none();
+    let mut count = 0;
+    loop {
+        match read_next(progress, buffer, reader)? {
+            Next::Entry(entry) => {
+                count = entry.number;
+                found.clear();
+                survey.entry(&entry, &mut found)?;
+                counts = put_findings(alloc, writer, found.as_slice(), counts)?;
+                buffer = entry.bytes;
+            }
+            Next::End => return finish(alloc, writer, survey.end().unwrap(), counts),
+            Next::Fault(reason) => {
+                let entry = count + 1;
+                let end = SurveyEnd::LogFault { entry, reason };
+                return finish(alloc, writer, end, counts);
+            }
+        }
+    }
+}
+
+/// Writes a line for each of the findings, and counts them.
+fn put_findings<W: Sink>(
+    alloc: Global,
+    writer: &mut W,
+    found: &[Finding],
+    counts: Counts,
+) -> Result<Counts, SurveyError>
+    ensures text { OnOk result (Appends (W.written writer.old) (W.written writer.new) (flat_map finding_text found.now)) }
+    ensures counted { IfOk result (AreCounted found.now counts) }
+    ensures fine { OnOk result (W.has_failed writer.new ≡ W.has_failed writer.old) }
+    ensures read { IsErrOf result Read → ⊥ }
+    ensures write { IsErrOf result Write → W.has_failed writer.new ≡ true }
+{
+    let mut counts = counts;
+    for finding in found {
+        let line = finding_line(alloc, finding)?;
+        writer.put(line.as_str().as_bytes())?;
+        counts = counts.with(finding).ok_or(SurveyError::Memory)?;
+    }
+    Ok(counts)
+}
+
+/// Writes the last line.
+fn finish<W: Sink>(
+    alloc: Global,
+    writer: &mut W,
+    end: SurveyEnd,
+    counts: Counts,
+) -> Result<Summary, SurveyError>
+    ensures sums { IfOk result (λ summary. (summary.end ≡ end) × (summary.findings ≡ counts.findings) × (summary.undecided ≡ counts.undecided)) }
+    ensures text { OnOk result (Appends (W.written writer.old) (W.written writer.new) (end_text end counts.findings)) }
+    ensures fine { OnOk result (W.has_failed writer.new ≡ W.has_failed writer.old) }
+    ensures read { IsErrOf result Read → ⊥ }
+    ensures write { IsErrOf result Write → W.has_failed writer.new ≡ true }
+{
+    let line = end_line(alloc, &end, counts.findings)?;
+    writer.put(line.as_str().as_bytes())?;
+    Ok(Summary {
+        end,
+        findings: counts.findings,
+        undecided: counts.undecided,
+    })
+}
+
+/// How much was found, and how much of it is that a transaction is followed no further.
+#[derive(Clone, Copy)]
+struct Counts {
+    findings: u64,
+    undecided: u64,
+}
+
+impl Counts {
+    /// Nothing was found.
+    fn none() -> Counts
+        ensures { (result.findings ≡ 0) × (result.undecided ≡ 0) }
+    {
+        Counts {
+            findings: 0,
+            undecided: 0,
+        }
+    }
+
+    /// This was found too. None beyond the last number, which no log reaches.
+    fn with(&self, finding: &Finding) -> Option<Counts>
+        ensures { IfSome result (AreCounted (finding.now ∷ []) self.now) }
+    {
+        let undecided = matches!(finding, Finding::Undecided { .. });
+        Some(Counts {
+            findings: self.findings.checked_add(1)?,
+            undecided: self.undecided.checked_add(u64::from(undecided))?,
+        })
+    }
+}

@@ -1,0 +1,120 @@
+//! Which transactions are in trouble.
+ghost use Rattle.std.specs.Prelude.{◌≡◌, ◌<◌, ◌≤◌, ◌-◌, ◌++◌, ◌∷◌, [], Bool, List, Some, true, false, All, OnOk, length, map, slice_get, slice_set};
+ghost use Rattle.sip_verdict.specs.declared.finding.Finding.{Finding};
+ghost use Rattle.sip_verdict.specs.declared.finding.Finding.TheVariants.{Breach, Undecided};
+ghost use Rattle.sip_verdict.specs.inner.Surveying.{AddsBroken, AddsWide, AppendsTroubled, IsFresh};
+
+use crate::finding::Finding;
+use sip_states::keep_ascending;
+use std::alloc::{AllocError, Global};
+
+/// The transactions in trouble, those among them that came into it at the entry in hand being told apart.
+#[derive(Drop)]
+pub(crate) struct Troubled {
+    /// Whether each transaction is in trouble, by its number from 1: it hears nothing more.
+    deaf: Vec<bool>,
+    /// The numbers of those that broke at this entry.
+    broken: Vec<u32>,
+    /// The numbers of those that are followed no further from this entry on.
+    wide: Vec<u32>,
+}
+
+impl Troubled {
+    /// There is no transaction yet. It takes no memory.
+    pub(crate) fn new(alloc: Global) -> Troubled
+        ensures deaf { result.deaf.items ≡ [] }
+        ensures fresh { IsFresh result }
+    {
+        Troubled {
+            deaf: Vec::new(alloc),
+            broken: Vec::new(alloc),
+            wide: Vec::new(alloc),
+        }
+    }
+
+    /// There are so many transactions now; the new ones are in no trouble.
+    pub(crate) fn grow(&mut self, count: u32) -> Result<(), AllocError>
+        requires { length self.old.deaf.items ≤ count }
+        ensures long { OnOk result (length self.new.deaf.items ≡ count) }
+        ensures deaf { OnOk result ((more : List Bool) × (self.new.deaf.items ≡ self.old.deaf.items ++ more) × All (λ is_deaf. is_deaf ≡ false) more) }
+        ensures broken { OnOk result (self.new.broken.items ≡ self.old.broken.items) }
+        ensures wide { OnOk result (self.new.wide.items ≡ self.old.wide.items) }
+    {
+        for _ in self.deaf.len()..count as usize {
+            self.deaf.push(false)?;
+        }
+        Ok(())
+    }
+
+    /// Whether the transaction with this number is in trouble.
+    pub(crate) fn has(&self, number: u32) -> bool
+        requires low { 0 < number }
+        requires high { number ≤ length self.now.deaf.items }
+        ensures { slice_get self.now.deaf.items (number - 1) ≡ Some result }
+    {
+        self.deaf[number as usize - 1]
+    }
+
+    /// The transaction with this number breaks at this entry.
+    pub(crate) fn add_broken(&mut self, number: u32) -> Result<(), AllocError>
+        requires low { 0 < number }
+        requires high { number ≤ length self.old.deaf.items }
+        ensures { OnOk result (AddsBroken number self.old self.new) }
+    {
+        self.broken.push(number)?;
+        self.deaf[number as usize - 1] = true;
+        Ok(())
+    }
+
+    /// The transaction with this number is followed no further from this entry on.
+    pub(crate) fn add_wide(&mut self, number: u32) -> Result<(), AllocError>
+        requires low { 0 < number }
+        requires high { number ≤ length self.old.deaf.items }
+        ensures { OnOk result (AddsWide number self.old self.new) }
+    {
+        self.wide.push(number)?;
+        self.deaf[number as usize - 1] = true;
+        Ok(())
+    }
+
+    /// Appends what came into trouble at the entry, the breaches by number and then what is followed no further by number. The next
+    /// entry is in hand then.
+    pub(crate) fn tell(&mut self, entry: u32, found: &mut Vec<Finding>) -> Result<(), AllocError>
+        ensures told { OnOk result (AppendsTroubled entry self.old found.old.items found.new.items) }
+        ensures deaf { self.new.deaf.items ≡ self.old.deaf.items }
+        ensures fresh { OnOk result (IsFresh self.new) }
+        ensures front { (more : List Finding) × (found.new.items ≡ found.old.items ++ more) }
+    {
+        keep_ascending(&mut self.broken);
+        keep_ascending(&mut self.wide);
+        push_breaches(entry, self.broken.as_slice(), found)?;
+        push_undecided(entry, self.wide.as_slice(), found)?;
+        self.broken.clear();
+        self.wide.clear();
+        Ok(())
+    }
+}
+
+/// Appends that these transactions break at the entry.
+fn push_breaches(entry: u32, numbers: &[u32], found: &mut Vec<Finding>) -> Result<(), AllocError>
+    ensures pushed { OnOk result (found.new.items ≡ found.old.items ++ map (λ transaction. Breach entry transaction) numbers.now) }
+    ensures front { (more : List Finding) × (found.new.items ≡ found.old.items ++ more) }
+{
+    for number in numbers {
+        let transaction = *number;
+        found.push(Finding::Breach { entry, transaction })?;
+    }
+    Ok(())
+}
+
+/// Appends that these transactions are followed no further from the entry on.
+fn push_undecided(entry: u32, numbers: &[u32], found: &mut Vec<Finding>) -> Result<(), AllocError>
+    ensures pushed { OnOk result (found.new.items ≡ found.old.items ++ map (λ transaction. Undecided entry transaction) numbers.now) }
+    ensures front { (more : List Finding) × (found.new.items ≡ found.old.items ++ more) }
+{
+    for number in numbers {
+        let transaction = *number;
+        found.push(Finding::Undecided { entry, transaction })?;
+    }
+    Ok(())
+}

@@ -1,0 +1,188 @@
+"""Random logs of several transactions, made by a seed, with what is known of each entry: clients and servers of INVITE and of other methods, over UDP and
+TCP, with repeats, refusals, CANCELs, restarts, sends that the transport refused, and malformed messages. Each transaction is told as it should go, at the edges
+of its windows; then entries of it are left out, moved, said twice or damaged, so that many logs have several troubles."""
+import random
+from typing import NamedTuple
+
+from notation import message
+
+SILENT = ("M", "Z")
+
+
+class Entry(NamedTuple):
+    letter: str
+    moment: int
+    data: bytes = b""
+    keys: tuple = ()  # the transactions that it concerns, its own one first
+    branch: str = ""
+    is_malformed: bool = False
+
+    def bytes(self):
+        line = b"%s %d" % (self.letter.encode(), self.moment)
+        return line + b"\n" if self.letter in SILENT else b"%s %d\n%s\n" % (line, len(self.data), self.data)
+
+    def mark(self):
+        return Entry("M", self.moment)
+
+
+class Log(NamedTuple):
+    header: bytes
+    entries: list
+    tail: bytes = b""  # what stands after the entries and is none
+
+    def bytes(self):
+        return self.header + b"".join(entry.bytes() for entry in self.entries) + self.tail
+
+    def part(self, stays):
+        """The log in which a mark stands for each entry that does not stay. A restart stays."""
+        return self._replace(entries=[one if one.letter == "Z" or stays(one) else one.mark() for one in self.entries], tail=b"")
+
+
+class Story:
+    """One transaction as it should go: its entries, from a moment on."""
+
+    def __init__(self, chance, late, early, branch, start):
+        self.chance, self.late, self.early = chance, late, early
+        self.branch, self.start = branch, start
+        self.transport = chance.choice(["UDP", "UDP", "UDP", "TCP"])
+        self.host = chance.choice(["a", "a", "b"])
+        self.entries = []
+        self.stays = False  # whether nothing of it is left out or moved
+
+    def wait(self, length):
+        """A length of a timer, mostly as the tolerance has it, and at its edges."""
+        wrong = self.chance.choice([-self.early - 1, self.late + 1, self.late + 200])
+        right = self.chance.choice([0, -self.early, self.late, self.chance.randint(-self.early, self.late)])
+        return max(0, length + (wrong if self.chance.random() < 0.04 else right))
+
+    def add(self, letter, moment, method, code=None):
+        data = message(method, self.branch, code)
+        data = data.replace(b"/UDP ", b"/%s " % self.transport.encode()).replace(b" a.example", b" %s.example" % self.host.encode())
+        own = "INVITE" if method == "ACK" else method
+        if (letter in "SF") == bool(code):
+            keys = (("server", self.branch, self.host, own),)
+        else:
+            keys = (("client", self.branch, "", own),)
+            if method == "CANCEL":
+                keys += (("client", self.branch, "", "INVITE"),)
+        self.entries.append(Entry(letter, moment, data, keys, self.branch))
+
+    def repeated(self, method, start, end, most):
+        """A request with its repeats until a moment. The last interval is `most` at most."""
+        moment, interval = start, 500
+        while moment < end:
+            self.add("S", moment, method)
+            if self.transport == "TCP":
+                return
+            moment += self.wait(interval)
+            interval = min(2 * interval, most)
+
+    def plain_client(self):
+        chance, method = self.chance, self.chance.choice(["OPTIONS", "REGISTER"])
+        answer = self.start + chance.choice([5, 300, 700, 2000, 5000, 40_000])
+        self.repeated(method, self.start, min(answer, self.start + 31_950), 4000)
+        self.add("R", answer, method, chance.choice([200, 404]))
+        if chance.random() < 0.2:
+            self.add("R", answer + 30, method, 200)
+
+    def invite_client(self):
+        chance = self.chance
+        answer = self.start + chance.choice([5, 300, 700, 2000, 40_000])
+        self.repeated("INVITE", self.start, min(answer, self.start + 31_950), 1 << 20)
+        self.add("R", answer, "INVITE", chance.choice([100, 180]))
+        final = answer + chance.choice([10, 1000])
+        code = chance.choice([200, 486, 486])
+        if chance.random() < 0.4:
+            cancelled = answer + chance.choice([0, 20])
+            final, code = cancelled + chance.choice([30, 600, 1700]), 487
+            self.repeated("CANCEL", cancelled, final, 4000)
+            self.add("R", final, "CANCEL", 200)
+        for moment in [final, final + 400][: chance.choice([1, 1, 2])]:
+            self.add("R", moment, "INVITE", code)
+            if code != 200:
+                self.add("S", moment + self.wait(0), "ACK")
+
+    def plain_server(self):
+        chance, method = self.chance, self.chance.choice(["OPTIONS", "BYE"])
+        self.add("R", self.start, method)
+        answer = self.start + chance.choice([5, 300, 3000])
+        self.add("S", answer, method, chance.choice([200, 404]))
+        code = int(self.entries[-1].data[8:11])
+        for again in range(chance.choice([0, 0, 1, 2])):
+            self.add("R", answer + 500 * (again + 1), method)
+            self.add("S", answer + 500 * (again + 1) + self.wait(0), method, code)
+
+    def invite_server(self):
+        chance = self.chance
+        self.add("R", self.start, "INVITE")
+        self.add("S", self.start + chance.choice([0, 100, 200, 200 + self.late]), "INVITE", chance.choice([100, 180]))
+        final = self.start + chance.choice([300, 1500])
+        if chance.random() < 0.5:
+            self.add("S", final, "INVITE", 200)
+            return
+        moment, interval, acked = final, 500, final + chance.choice([40, 700, 2200])
+        while moment < acked:
+            self.add("S", moment, "INVITE", 486)
+            if self.transport == "TCP":
+                break
+            moment += self.wait(interval)
+            interval = min(2 * interval, 4000)
+        self.add("R", acked, "ACK")
+
+    def wide_server(self):
+        """A server in more states than are followed, where the tolerance is 10 seconds."""
+        self.transport, self.stays = "UDP", self.chance.random() < 0.7
+        request, ringing, progress = (("R", "OPTIONS"), ("S", "OPTIONS", 180), ("S", "OPTIONS", 181))
+        count = self.chance.choice([20, 33, 40])
+        for letter, *rest in [request, ringing, *[request] * count, progress, *[request] * count, *[ringing, progress] * 30]:
+            self.add(letter, self.start, *rest)
+
+    def spoil(self):
+        """The entries with some of them left out, moved, said twice, refused or damaged."""
+        chance, done = self.chance, []
+        for one in self.entries if not self.stays else ():
+            way = chance.random()
+            if way < 0.05:
+                continue
+            if way < 0.08:
+                one = one._replace(moment=one.moment + chance.choice([1, 60, 600]))
+            elif way < 0.11:
+                done.append(one)
+            elif way < 0.13 and one.letter == "S":
+                one = one._replace(letter="F")
+            elif way < 0.15:
+                one = damaged(chance, one)
+            done.append(one)
+        return self.entries if self.stays else done
+
+
+def damaged(chance, one):
+    """The entry with a message that is malformed, which concerns no transaction."""
+    data = chance.choice([b"x", one.data.replace(b"Call-ID: c1@a\r\n", b""), one.data.replace(b"\r\nFrom", b"\nFrom"), one.data.replace(b"CSeq: 1 ", b"CSeq: x ")])
+    if one.letter == "S" and not data.startswith(b"SIP") and chance.random() < 0.3:
+        data = one.data.replace(b"z9hG4bK", b"z9hG4bJ") if not one.data.startswith(b"SIP") else data
+    return one._replace(data=data, keys=(), is_malformed=True)
+
+
+def random_log(seed, number):
+    """The log with this number."""
+    chance = random.Random(f"{seed} {number}")
+    is_wide = number % 50 == 0
+    early, late = (10_000, 10_000) if is_wide else chance.choice([(50, 50)] * 4 + [(0, 0), (0, 100), (100, 0), (10, 10)])
+    of_two = early != late or chance.random() < 0.4
+    tolerance = f"early {early} late {late}" if of_two else f"tolerance {early}"
+    rules = chance.choice(["", "", "rules 6026\n", "rules 3261\n"])
+    header = f"sip-trace {2 if of_two else 1}\nt1 500 t2 4000 t4 5000 {tolerance}\n{rules}".encode()
+    entries, branches = [], [f"b{place}" for place in range(chance.choice([1, 2, 3, 4]))]
+    for place in range(chance.choice([1, 2, 3, 4, 5])):
+        story = Story(chance, late, early, chance.choice(branches), chance.choice([0, 0, 100, 549, 2000, 33_000]))
+        kinds = [story.plain_client, story.invite_client, story.plain_server, story.invite_server]
+        (story.wide_server if is_wide and not place else chance.choice(kinds))()
+        entries += story.spoil()
+    last = max((one.moment for one in entries), default=0)
+    entries += [Entry("M", chance.randint(0, last + 700)) for _ in range(chance.choice([0, 1, 2]))]
+    if of_two and chance.random() < 0.3:
+        entries.append(Entry("Z", chance.randint(0, last)))
+    entries.append(Entry("M", last + chance.choice([0, 0, 51, 700, 40_000])))
+    entries.sort(key=lambda one: one.moment)
+    return Log(header, entries, chance.choice([*[b""] * 8, b"M 0\n" if entries[-1].moment else b"", b"M 1"]))

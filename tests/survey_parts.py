@@ -1,0 +1,169 @@
+"""What the survey of a random log must be, put together from verdicts alone: of each transaction siptrace judges its own log, in which a mark stands for each
+entry of another one, and of each message that is malformed the log in which it is the only message."""
+import os
+import re
+import select
+import signal
+from collections import defaultdict
+
+from random_logs import SILENT, random_log
+
+PATIENCE = 60  # seconds for which a program may be silent
+CANCEL = re.compile(rb"(?<![\w-])CANCEL")
+
+
+class Program:
+    """A program that is run on logs that are held in memory."""
+
+    def __init__(self, path):
+        self.path, self.file = os.fspath(path), open(os.memfd_create("log"), "r+b", buffering=0)
+
+    def says(self, log):
+        """The lines that it writes, and its status."""
+        os.ftruncate(self.file.fileno(), 0)
+        os.pwrite(self.file.fileno(), log, 0)
+        os.lseek(self.file.fileno(), 0, os.SEEK_SET)
+        ours, theirs = os.pipe()
+        actions = [(os.POSIX_SPAWN_DUP2, self.file.fileno(), 0), (os.POSIX_SPAWN_DUP2, theirs, 1)]
+        pid = os.posix_spawn(self.path, [self.path], os.environ, file_actions=actions)
+        os.close(theirs)
+        if not select.select([ours], [], [], PATIENCE)[0]:
+            os.kill(pid, signal.SIGKILL)  # it says nothing
+        with open(ours, "rb") as reader:
+            text = reader.read().decode("latin-1")
+        return text.splitlines(), os.waitstatus_to_exitcode(os.waitpid(pid, 0)[1])
+
+
+def status_of_survey(lines):
+    """The status that belongs to the lines of a survey."""
+    words = {line.split(" ", 1)[0] for line in lines[:-1]}
+    return 2 if lines[-1].startswith("log fault") else 0 if not words else 3 if words == {"undecided"} else 1
+
+
+def numbers_of(log):
+    """The number of each transaction, by its first entry."""
+    numbers = {}
+    for one in log.entries:
+        for key in one.keys:
+            numbers.setdefault(key, len(numbers) + 1)
+    return numbers
+
+
+def groups_of(log):
+    """The transactions that can be cut apart: each by itself, but two that one entry concerns."""
+    groups = {}
+    for one in log.entries:
+        joined = frozenset().union(one.keys, *(groups.get(key, ()) for key in one.keys))
+        groups.update(dict.fromkeys(joined, joined))
+    return set(groups.values())
+
+
+class Expected:
+    """What is known of a random log by verdicts: the entry at which each transaction is in trouble, and the word for it."""
+
+    def __init__(self, judge, log):
+        self.judge, self.log, self.numbers = judge, log, numbers_of(log)
+        self.troubles = {}  # by transaction: entry and word, or None where it has none
+        self.unknown = {}  # transactions of which no verdict tells, each with the first entry at which it can be in trouble
+        for group in groups_of(log):
+            self.look(group)
+
+    def verdict(self, log):
+        lines, status = self.judge.says(log.bytes())
+        return lines[0] if lines else f"nothing, status {status}"
+
+    def look(self, group):
+        """Asks the verdict of the log of a group."""
+        part = self.log.part(lambda one: bool(one.keys) and group.issuperset(one.keys))
+        words = self.verdict(part).split()
+        found = next(key for key, number in numbers_of(part).items() if number == int(words[3])) if words[0] in ("breach", "undecided") else None
+        for key in group:
+            self.troubles[key] = (int(words[1]), words[0]) if key == found else None
+        if found and len(group) > 1:
+            self.look_behind(group, found, int(words[1]))
+
+    def look_behind(self, group, found, at):
+        """Of a CANCEL and its INVITE the verdict tells the first alone. The CANCEL's own transaction is that of any other method."""
+        for key in group - {found}:
+            if key[3] == "CANCEL":
+                own = [one._replace(data=CANCEL.sub(b"CANCEX", one.data), keys=one.keys[:1]) if one.keys[:1] == (key,) else one.mark() if one.letter != "Z" else one
+                       for one in self.log.entries]
+                words = self.verdict(self.log._replace(entries=own, tail=b"")).split()
+                self.troubles[key] = (int(words[1]), words[0]) if words[0] in ("breach", "undecided") else None
+            else:
+                self.unknown[key] = at
+
+    def faults(self):
+        """The line of each malformed message."""
+        for number, one in enumerate(self.log.entries, 1):
+            if one.is_malformed:
+                yield number, self.verdict(self.log.part(lambda it, one=one: it is one))
+
+    def end(self, findings):
+        if self.log.tail:
+            silent = self.log.part(lambda one: False)._replace(tail=self.log.tail)
+            return self.verdict(silent)
+        return f"end entries {len(self.log.entries)} transactions {len(self.numbers)} findings {findings}"
+
+    def lines(self, said):
+        """The lines of the survey. Of a transaction that no verdict tells of it takes what is said, where that can be."""
+        found = [((number, 0, 0), line) for number, line in self.faults()]
+        for key, at in self.unknown.items():
+            told = [line.split() for line in said if line.endswith(f" transaction {self.numbers[key]}")]
+            self.troubles[key] = (int(told[0][1]), told[0][0]) if len(told) == 1 and int(told[0][1]) >= at else None
+        for key, trouble in self.troubles.items():
+            if trouble:
+                entry, word = trouble
+                found.append(((entry, 1 if word == "breach" else 2, self.numbers[key]), f"{word} {entry} transaction {self.numbers[key]}"))
+        return [line for _, line in sorted(found)] + [self.end(len(found))]
+
+
+def by_branch(log, lines):
+    """The lines of a survey by the branch of what they name, each with its key in place of its number."""
+    keys = {number: key for key, number in numbers_of(log).items()}
+    found = defaultdict(list)
+    for line in lines[:-1]:
+        word, entry, rest = line.split(" ", 2)
+        key = None if word == "malformed" else keys[int(rest.split()[1])]
+        branch = log.entries[int(entry) - 1].branch if key is None else key[1]
+        # in a part the numbers are others: those of one entry may stand in another order
+        found[branch].append((int(entry), word, rest if key is None else key))
+    return {branch: sorted(it, key=str) for branch, it in found.items()}
+
+
+def faults_of(judge, surveyor, number, log):
+    """What does not hold of a log's survey, and how many findings it has."""
+    lines, status = surveyor.says(log.bytes())
+    told = f"random log {number}"
+    if not lines:
+        return [f"{told}: nothing is said, status {status}"], []
+    expected = Expected(judge, log)
+    wanted, faults = expected.lines(lines), []
+    if lines != wanted or status != status_of_survey(wanted):
+        faults.append(f"{told}: wanted {wanted}\n  says {lines}, status {status}")
+    verdict = judge.says(log.bytes())[0][0]
+    first = lines[0] if not lines[0].startswith("end ") else f"legal {lines[0].removeprefix('end ').removesuffix(' findings 0')}"
+    if first != verdict:
+        faults.append(f"{told}: the verdict is {verdict}, and the survey begins with {lines[0]}")
+    whole = by_branch(log, lines)
+    for branch in {one.branch for one in log.entries if one.letter not in SILENT}:
+        part = log.part(lambda one, branch=branch: one.branch == branch)
+        found = by_branch(part, surveyor.says(part.bytes())[0])
+        if found != ({branch: whole[branch]} if branch in whole else {}):
+            faults.append(f"{told}: the log of branch {branch} has {found}, and the whole {whole.get(branch)}")
+    return faults, lines
+
+
+def check_random(job):
+    """Checks the random logs with these numbers: what does not hold, and what was found by word."""
+    siptrace, sipsurvey, seed, numbers = job
+    judge, surveyor = Program(siptrace), Program(sipsurvey)
+    told, faults = defaultdict(int), []
+    for number in numbers:
+        wrong, lines = faults_of(judge, surveyor, number, random_log(seed, number))
+        faults += wrong
+        for line in lines:
+            told[line.split()[0]] += 1
+        told["logs"] += 1
+        told["logs with several troubles"] += len(lines) > 2
+    return faults, dict(told)

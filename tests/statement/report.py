@@ -18,7 +18,7 @@ PAGE = TOP / "docs/THEOREM.md"
 STANDARD = TOP / "docs/standard"
 # The parts of the page, in the order in which a log is read: the crates of each, and the pages that tell its definitions.
 PARTS = {
-    "Text": (["sip_text"], ["TEXT.md"]),
+    "Text": (["sip_standard"], ["TEXT.md"]),
     "Message": (["sip_message"], ["MESSAGE.md"]),
     "Keys": (["sip_key"], ["KEYS.md"]),
     "Log": (["sip_times", "sip_log"], ["LOG.md", "MACHINES.md"]),

@@ -2,7 +2,7 @@
 use Rattle.std.proofs.Common.{◌≡◌, ℕ, ◌+◌, ◌*◌, ◌-◌, ◌<◌, ◌≤◌, true, false, Bool, List, length, get_or, refl, arith}
 use Rattle.std.specs.Char.{is_ascii_digit}
 use Rattle.std.proofs.lemmas.Str.Parse.{digits_value-take-le}
-use Rattle.sip_text.specs.Uri.{Port}
+use Rattle.sip_standard.specs.Profile.{Port}
 use Rattle.sip_text.proofs.UriPortLemmas.{ReadsDigits, port-digit, digit-above, digit-more}
 
 -- each byte of a port is a digit

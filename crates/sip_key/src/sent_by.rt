@@ -1,8 +1,8 @@
 //! The sent-by of a Via as keys have it.
 ghost use Rattle.std.specs.Prelude.{◌≡◌, ◌++◌, ◌∷◌, IfSome, OnOk, decimal, option_copied};
 ghost use Rattle.std.specs.Str.Parse.{digits_value};
+ghost use Rattle.sip_standard.specs.Profile.{Port};
 ghost use Rattle.sip_text.specs.Bytes.{colon};
-ghost use Rattle.sip_text.specs.Uri.{Port};
 ghost use Rattle.sip_key.specs.SentBy.{port_number};
 
 use itoa::Buffer;

@@ -9,16 +9,17 @@ use Rattle.std.proofs.lemmas.Bool.{agree_below_at, and_parts, and_from, or_cases
 use Rattle.std.proofs.lemmas.Int.Digits.{digits_value_more}
 use Rattle.std.proofs.lemmas.List.{append-nil, take_all}
 use Rattle.std.proofs.lemmas.List.Folds.{list_all_more}
-use Rattle.sip_text.specs.Bytes.{at_sign, space, backslash, dquote, is_one_of, is_token_byte, is_quoted_byte}
-use Rattle.sip_text.specs.Text.{One, Byte, Exactly, Many, ◌then◌, ◌or◌}
-use Rattle.sip_text.specs.Grammar.{Token, Lws, Blanks, Qdtext, QuotedPair}
+use Rattle.sip_standard.specs.Text.{One, Exactly, Many, ◌then◌, ◌or◌}
+use Rattle.sip_standard.specs.Profile.{Token, Lws, Blanks, Quoted}
+use Rattle.sip_text.specs.Bytes.{at_sign, space, backslash, dquote, is_one_of, is_token_byte, Byte}
+use Rattle.sip_text.specs.inner.Class.{is_quoted_byte}
+use Rattle.sip_text.specs.inner.Pieces.{Qdtext, QuotedPair}
 use Rattle.sip_text.proofs.ManyLemmas.{many-append, many-flat, many-map, many-some}
 use Rattle.sip_text.proofs.RunLemmas.{list_all-run}
 use Rattle.sip_text.proofs.UriCharLemmas.{some-map}
 use Rattle.sip_text.proofs.UriPortLemmas.{digit-above}
 use Rattle.sip_masks.specs.Marks.{is_plain}
 use Rattle.sip_message.specs.Values.{is_word_byte, CallIdText, Digits, Word, CSeqText}
-use Rattle.sip_message.specs.Params.{Quoted}
 use Rattle.sip_message.specs.inner.AddressFronts.{Words}
 use Rattle.sip_message.specs.inner.Plain.{segment, LiesWithin, PlainRun}
 use Rattle.sip_message.proofs.QuickLemmas.{low-one}

@@ -3,11 +3,10 @@ use Rattle.std.proofs.Common.{◌≡◌, ℕ, ◌≤◌, List, [], ◌∷◌, Op
 use Rattle.std.specs.Prelude.{IfSome}
 use Rattle.std.specs.Option.{option_or}
 use Rattle.std.proofs.lemmas.List.{append-nil}
-use Rattle.sip_text.specs.Bytes.{colon, space}
-use Rattle.sip_text.specs.Text.{Byte, Exactly, ◌then◌}
-use Rattle.sip_text.specs.Grammar.{Blanks}
+use Rattle.sip_standard.specs.Text.{Exactly, ◌then◌}
+use Rattle.sip_standard.specs.Profile.{Blanks, Port}
+use Rattle.sip_text.specs.Bytes.{colon, space, Byte}
 use Rattle.sip_text.specs.Host.{HostParts, HostText, host_text}
-use Rattle.sip_text.specs.Uri.{Port}
 use Rattle.sip_message.specs.Params.{slash, Mark, BehindBlanks}
 use Rattle.sip_message.specs.Via.{ViaParts, ViaFits, ViaText, ViaParams, ColonPort}
 use Rattle.sip_message.specs.Elements.{Element}

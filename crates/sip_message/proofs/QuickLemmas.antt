@@ -10,16 +10,16 @@ use Rattle.std.proofs.lemmas.List.{take-append-drop, drop-drop, append_assoc, ap
 use Rattle.std.proofs.lemmas.Nat.{le_bytes_8, or_of_8}
 use Rattle.std.proofs.lemmas.Slice.Eq.{bytes_eq-Decides}
 use Rattle.std.proofs.lemmas.Grind.{flat_map-append}
+use Rattle.sip_standard.specs.Text.{One, ◌or◌}
+use Rattle.sip_standard.specs.Case.{folded}
+use Rattle.sip_standard.specs.Profile.{Token, Lws}
 use Rattle.sip_text.specs.Bytes.{is_one_of, crlf, colon, carriage_return, line_feed, is_wsp, is_token_byte}
-use Rattle.sip_text.specs.Text.{One, ◌or◌}
-use Rattle.sip_text.specs.Grammar.{Token, Lws}
 use Rattle.sip_text.proofs.ManyLemmas.{AllByRecursion-append, many-nil, many-cons, many-map, some-many}
 use Rattle.sip_text.proofs.BlanksLemmas.{lws-blank}
 use Rattle.sip_text.proofs.RunLemmas.{run-front}
 use Rattle.sip_masks.specs.Marks.{is_plain}
 use Rattle.sip_message.specs.Lines.{is_inner_byte, IsHead, BeginsBlank, with_end}
 use Rattle.sip_message.specs.Values.{is_value_byte, OtherText}
-use Rattle.sip_text.specs.Case.{folded}
 use Rattle.sip_message.specs.declared.name.Known.{Known}
 use Rattle.sip_message.specs.Name.{FieldName, known, other, spellings, name_by, name_of}
 use Rattle.sip_message.specs.StartLine.{StartLine, request, status, StartText}

@@ -6,10 +6,10 @@ use Rattle.std.specs.Int.{is_in_range}
 use Rattle.std.specs.Char.{is_ascii_alphanumeric, is_ascii_digit}
 use Rattle.std.specs.Str.Parse.{digits_value}
 use Prim.Native.String.{String}
-use Rattle.sip_text.specs.Text.{One, Exactly, ◌then◌, ◌or◌, Optional, Many, OneOrMore, Between}
-use Rattle.sip_text.specs.Case.{folded}
-use Rattle.sip_text.specs.Chars.{Lit, AnyCase, is_among, ◌is◌, EachSays}
-use Rattle.sip_text.specs.Profile.{Token, Wsp, Lws, Blanks, Sws, Mark, Quoted, Ipv6, Bracketed, Host, Port, Uri}
+use Rattle.sip_standard.specs.Text.{One, Exactly, ◌then◌, ◌or◌, Optional, Many, OneOrMore, Between}
+use Rattle.sip_standard.specs.Case.{folded}
+use Rattle.sip_standard.specs.Chars.{Lit, AnyCase, is_among, ◌is◌, EachSays}
+use Rattle.sip_standard.specs.Profile.{Token, Wsp, Lws, Blanks, Sws, Mark, Quoted, Ipv6, Bracketed, Host, Port, Uri}
 use Rattle.sip_message.specs.declared.fault.Reason.TheVariants as reason
 use Rattle.sip_message.specs.StartLine.{StartLine, request, status}
 use Rattle.sip_message.specs.Message.{length_in}

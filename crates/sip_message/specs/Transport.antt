@@ -1,6 +1,6 @@
 -- The transport of a message.
 use Rattle.std.specs.Prelude.{ℕ, Bool, not, List, codes, bytes_eq}
-use Rattle.sip_text.specs.Case.{folded}
+use Rattle.sip_standard.specs.Case.{folded}
 
 -- every transport but UDP delivers what it takes (sections 17 and 18)
 abbrev pub is_reliable : List ℕ → Bool

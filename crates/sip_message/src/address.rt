@@ -1,7 +1,7 @@
 //! Addresses: the values of From and To.
 ghost use Rattle.std.specs.Prelude.{◌≡◌, ◌≤◌, ◌↔◌, IsTrue, length};
 ghost use Rattle.std.specs.List.{prefix_len};
-ghost use Rattle.sip_text.specs.Text.{IsOnlyValue};
+ghost use Rattle.sip_text.specs.Parts.{IsOnlyValue};
 ghost use Rattle.sip_message.specs.Reading.{AddressValue};
 ghost use Rattle.sip_message.specs.ValueParts.{address_parts};
 ghost use Rattle.sip_message.specs.inner.Fronts.{pair_parts, text_parts};

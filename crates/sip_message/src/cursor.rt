@@ -1,8 +1,8 @@
 //! Cursors: what stands at the front of a text, and what is left behind it.
 ghost use Rattle.std.specs.Prelude.{◌≡◌, false, option_copied};
-ghost use Rattle.sip_text.specs.Cut.{before, behind, past};
+ghost use Rattle.sip_text.specs.Parts.{IsOnlyValue};
+ghost use Rattle.sip_text.specs.inner.Cut.{before, behind, past};
 ghost use Rattle.sip_message.specs.Unfold.{is_blank};
-ghost use Rattle.sip_text.specs.Text.{IsOnlyValue};
 ghost use Rattle.sip_message.specs.inner.Fronts.{IsOnlyBehind, StopsBlank, LineFront, is_line, TokenFront, MarkFront, ProtocolFront, pair_parts, text_parts, protocol_parts};
 
 use memchr::memchr;

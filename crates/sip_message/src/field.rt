@@ -1,5 +1,5 @@
 //! Field lines.
-ghost use Rattle.sip_text.specs.Text.{IsOnlyValue};
+ghost use Rattle.sip_text.specs.Parts.{IsOnlyValue};
 ghost use Rattle.std.specs.Prelude.{◌≡◌, ℕ, List, [], ◌∷◌, ◌++◌, drop, MatchOption, IfOk, IfSome};
 ghost use Rattle.std.specs.Option.{option_map};
 ghost use Rattle.sip_message.specs.Elements.{values};

@@ -1,9 +1,9 @@
 //! Parameters of values: `*( SEMI generic-param )` (RFC 3261, section 25.1).
 ghost use Rattle.std.specs.Prelude.{◌↔◌, ℕ, List, Option, IsTrue};
-ghost use Rattle.sip_text.specs.Text.{◌or◌, IsOnlyValue};
-ghost use Rattle.sip_text.specs.Host.{Ipv6Address};
+ghost use Rattle.sip_standard.specs.Text.{◌or◌};
+ghost use Rattle.sip_standard.specs.Profile.{Ipv6, Token};
 ghost use Rattle.sip_text.specs.Bytes.{equals, is_token_byte};
-ghost use Rattle.sip_text.specs.Grammar.{Token};
+ghost use Rattle.sip_text.specs.Parts.{IsOnlyValue};
 ghost use Rattle.sip_message.specs.Params.{ParamsPart};
 ghost use Rattle.sip_message.specs.inner.Fronts.{pair_parts};
 ghost use Rattle.sip_message.specs.inner.ParamFronts.{Param, is_bare_byte, PastRun, BareFront, QuotedFront, BracketFront, ReferenceFront, ValueFront, LedFront, ParamFront, AllParamsFront, led_parts, param_parts};
@@ -127,7 +127,7 @@ fn cut_bare_run(text: &[u8]) -> Option<(&[u8], &[u8])>
 
 // Whether the whole text is a token or an IPv6 address without brackets.
 fn is_bare(text: &[u8]) -> bool
-    ensures { IsTrue result ↔ (Token or Ipv6Address) text.now }
+    ensures { IsTrue result ↔ (Token or Ipv6) text.now }
 {
     is_token(text) || is_ipv6_address(text)
 }

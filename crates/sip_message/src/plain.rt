@@ -1,13 +1,11 @@
 //! Plain parts of values, found by the masks of their text: each is told by the place behind it. What is not plain may
 //! still be well spelled, and is left to the readers of all values.
 ghost use Rattle.std.specs.Prelude.{◌≡◌, ◌⊎◌, ◌≤◌, [], IfSome, IsTrue, codes, length, option_copied};
-ghost use Rattle.sip_text.specs.Grammar.{Sws, Token};
-ghost use Rattle.sip_text.specs.Bytes.{at_sign};
-ghost use Rattle.sip_text.specs.Host.{Hostname, HostParts, HostText, host_parts};
-ghost use Rattle.sip_text.specs.Text.{Byte, Exactly, ◌then◌};
-ghost use Rattle.sip_text.specs.Uri.{Port};
+ghost use Rattle.sip_standard.specs.Text.{Exactly, ◌then◌};
+ghost use Rattle.sip_standard.specs.Profile.{Sws, Token, Hostname, Port, Quoted};
+ghost use Rattle.sip_text.specs.Bytes.{at_sign, Byte};
+ghost use Rattle.sip_text.specs.Host.{HostParts, HostText, host_parts};
 ghost use Rattle.sip_message.specs.Address.{DisplayName};
-ghost use Rattle.sip_message.specs.Params.{Quoted};
 ghost use Rattle.sip_message.specs.inner.AddressFronts.{Words};
 ghost use Rattle.sip_message.specs.inner.Plain.{segment, LiesWithin, PlainRun, PlainParam, HostPort, SomeUri, Opening, SomeParams, SomeAddress};
 

@@ -1,7 +1,7 @@
 //! Call-IDs and CSeqs whose parts are plain.
 ghost use Rattle.std.specs.Prelude.{◌≡◌, ◌≤◌, ◌<◌, ◌^◌, IfSome, IsTrue, length};
 ghost use Rattle.std.specs.Str.Parse.{digits_value};
-ghost use Rattle.sip_text.specs.Text.{IsOnlyValue};
+ghost use Rattle.sip_text.specs.Parts.{IsOnlyValue};
 ghost use Rattle.sip_message.specs.Values.{CallIdText, Digits};
 ghost use Rattle.sip_message.specs.Reading.{CSeqValue};
 ghost use Rattle.sip_message.specs.ValueParts.{cseq_parts};

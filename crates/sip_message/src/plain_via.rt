@@ -1,7 +1,6 @@
 //! Elements of Via whose parts are plain, with no blanks but the one before the host.
 ghost use Rattle.std.specs.Prelude.{◌≤◌, IfSome, length, option_copied};
-ghost use Rattle.sip_text.specs.Grammar.{Token};
-ghost use Rattle.sip_text.specs.Uri.{Port};
+ghost use Rattle.sip_standard.specs.Profile.{Token, Port};
 ghost use Rattle.sip_message.specs.Via.{ColonPort, ViaParams};
 ghost use Rattle.sip_message.specs.ViaParts.{element};
 ghost use Rattle.sip_message.specs.inner.ElementFronts.{FirstVia};

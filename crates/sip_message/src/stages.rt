@@ -4,7 +4,7 @@ ghost use Rattle.std.specs.Option.{option_map};
 ghost use Rattle.std.specs.Str.Parse.{digits_value};
 ghost use Rattle.memchr.specs.Find.{FindsNeedle};
 ghost use Rattle.sip_text.specs.Bytes.{crlf, carriage_return};
-ghost use Rattle.sip_text.specs.Text.{IsOnlyValue};
+ghost use Rattle.sip_text.specs.Parts.{IsOnlyValue};
 ghost use Rattle.sip_message.specs.Lines.{IsLines};
 ghost use Rattle.sip_message.specs.inner.Lines.{AreLines};
 ghost use Rattle.std.specs.List.{AllByRecursion};

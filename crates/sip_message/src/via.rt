@@ -1,7 +1,7 @@
 //! Via elements.
 ghost use Rattle.std.specs.Prelude.{◌≡◌, ◌↔◌, ℕ, List, Option, IsTrue, MatchOption, option_copied};
-ghost use Rattle.sip_text.specs.Text.{IsOnlyValue};
 ghost use Rattle.sip_text.specs.Bytes.{colon};
+ghost use Rattle.sip_text.specs.Parts.{IsOnlyValue};
 ghost use Rattle.sip_message.specs.Via.{ViaParts, MoreVias};
 ghost use Rattle.sip_message.specs.inner.Fronts.{pair_parts};
 ghost use Rattle.sip_message.specs.inner.ElementFronts.{EndsElement, ViaFront, FirstVia};

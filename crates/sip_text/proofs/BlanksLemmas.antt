@@ -2,10 +2,11 @@
 use Rattle.std.proofs.Common.{◌≡◌, ℕ, zero, suc, ◌+◌, ◌<◌, ◌⊎◌, Bool, true, false, IsTrue, List, [], ◌∷◌, ◌++◌, length, drop, slice_index, cond, refl, sym, ap, ◌∙◌, subst, inl, inr, arith}
 use Rattle.std.proofs.lemmas.Bool.{and_parts, eqb-true}
 use Rattle.std.proofs.lemmas.List.{append_assoc, append-nil, length-append}
+use Rattle.sip_standard.specs.Text.{One, Many}
+use Rattle.sip_standard.specs.Profile.{Lws, Blanks, Sws}
 use Rattle.sip_text.specs.Bytes.{carriage_return, line_feed, crlf, is_wsp}
-use Rattle.sip_text.specs.Text.{One, Many, HasFront, IsLongestFront}
-use Rattle.sip_text.specs.Grammar.{Lws, Blanks, Sws}
-use Rattle.sip_text.specs.Blanks.{Blank, begins_with_fold, blank_len}
+use Rattle.sip_text.specs.Parts.{HasFront, IsLongestFront}
+use Rattle.sip_text.specs.inner.Blanks.{Blank, begins_with_fold, blank_len}
 use Rattle.sip_text.proofs.ManyLemmas.{many-cons, many-nil, many-some, some-many, many-map, many-flat, many-append, IsStep, run-more, longest_many}
 
 -- a WSP is a blank

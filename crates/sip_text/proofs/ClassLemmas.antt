@@ -4,7 +4,7 @@ use Rattle.std.proofs.lemmas.Bool.{agree_below, agree_below_at}
 use Rattle.sip_text.specs.declared.class.Class.{Class}
 use Rattle.sip_text.specs.declared.class.Class.TheVariants as variant
 use Rattle.sip_text.specs.declared.class.TheConstants.{CLASSES}
-use Rattle.sip_text.specs.Class.{bit_of, is_in}
+use Rattle.sip_text.specs.inner.Class.{bit_of, is_in}
 
 -- the table has the class's bit at the byte
 abbrev pub table_has : Class → ℕ → Bool

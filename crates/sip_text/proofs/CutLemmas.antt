@@ -4,8 +4,8 @@ use Rattle.std.specs.List.{onto_first, list_all}
 use Rattle.std.proofs.lemmas.Bool.{false_from_ne_true, eqb-true, eq-eqb}
 use Rattle.std.proofs.lemmas.List.{append-nil, length-append}
 use Rattle.memchr.specs.Find.{Nowhere, Passes, is_byte}
-use Rattle.sip_text.specs.Text.{led}
-use Rattle.sip_text.specs.Cut.{before, behind, parts, past}
+use Rattle.sip_text.specs.Parts.{led}
+use Rattle.sip_text.specs.inner.Cut.{before, behind, parts, past}
 use Rattle.sip_text.proofs.LacksLemmas.{Lacks}
 
 -- a byte is the mark, or it is not

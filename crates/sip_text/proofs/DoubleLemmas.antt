@@ -1,7 +1,8 @@
 -- A text is cut at its first "::" in one way.
 use Rattle.std.proofs.Common.{◌≡◌, ℕ, zero, suc, ◌+◌, ◌<◌, Bool, true, false, ◌&&◌, nat_eq, cond, List, [], ◌∷◌, ◌++◌, length, take, drop, slice_index, Option, None, Some, refl, sym, ap, ◌∙◌, arith}
 use Rattle.std.proofs.lemmas.Bool.{and_right, and_parts, eqb-true}
-use Rattle.sip_text.specs.Bytes.{colon, double_colon}
+use Rattle.sip_text.specs.Bytes.{colon}
+use Rattle.sip_text.specs.inner.Pieces.{double_colon}
 use Rattle.sip_text.specs.inner.HostTests.{is_double_at, before_double, behind_double}
 
 -- one step of the cut

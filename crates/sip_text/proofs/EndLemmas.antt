@@ -2,7 +2,7 @@
 use Rattle.std.proofs.Common.{◌≡◌, ℕ, ◌-◌, ◌<◌, ◌⊎◌, Bool, true, false, ◌&&◌, nat_eq, nat_lt, cond, List, [], ◌∷◌, ◌++◌, length, take, slice_index, None, Some, refl, sym, ap, ◌∙◌, subst, inl, inr, arith}
 use Rattle.std.proofs.lemmas.Bool.{eqb-true, eq-eqb, lt-ltb}
 use Rattle.std.proofs.lemmas.List.{append_assoc, length-append}
-use Rattle.sip_text.specs.Cut.{up_to}
+use Rattle.sip_text.specs.inner.Cut.{up_to}
 use Rattle.sip_text.proofs.LacksLemmas.{Lacks}
 
 -- a text is empty, or has a last byte

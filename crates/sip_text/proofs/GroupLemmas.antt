@@ -4,8 +4,8 @@ use Rattle.std.specs.List.{AllByRecursion, concat, list_all}
 use Rattle.std.proofs.lemmas.Bool.{and_from, and_parts, lt-ltb, ltb-true, le-leb, leb-true}
 use Rattle.std.proofs.lemmas.List.{length-append}
 use Rattle.sip_text.specs.declared.class.Class.{Class}
-use Rattle.sip_text.specs.Class.{is_in}
-use Rattle.sip_text.specs.Text.{One, Between}
+use Rattle.sip_standard.specs.Text.{One, Between}
+use Rattle.sip_text.specs.inner.Class.{is_in}
 use Rattle.sip_text.specs.inner.HostTests.{is_group}
 use Rattle.sip_text.proofs.RunLemmas.{run-list_all, list_all-run}
 

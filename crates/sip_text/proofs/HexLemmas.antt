@@ -7,10 +7,11 @@ use Rattle.std.specs.Char.{is_ascii_hexdigit}
 use Rattle.std.proofs.lemmas.Bool.{and_from, and_parts, and_left, and_right, and_cases, or_cases, or_right, eqb-true}
 use Rattle.std.proofs.lemmas.List.{append-nil, append_assoc}
 use Rattle.sip_text.specs.declared.class.Class.TheVariants as variant
-use Rattle.sip_text.specs.Bytes.{colon, double_colon}
-use Rattle.sip_text.specs.Text.{One, Byte, ◌then◌, Optional}
-use Rattle.sip_text.specs.Cut.{up_to}
-use Rattle.sip_text.specs.Host.{Hex4, Hexseq, Hexpart, OpenHexpart}
+use Rattle.sip_standard.specs.Text.{One, ◌then◌, Optional}
+use Rattle.sip_standard.specs.Profile.{Hexseq}
+use Rattle.sip_text.specs.Bytes.{colon, Byte}
+use Rattle.sip_text.specs.inner.Cut.{up_to}
+use Rattle.sip_text.specs.inner.Pieces.{double_colon, Hex4, Hexpart, OpenHexpart}
 use Rattle.sip_text.specs.inner.HostTests.{is_hex4, is_hexseq, is_optional_hexseq, is_double_at, before_double, behind_double, is_hexpart, is_open}
 use Rattle.sip_text.proofs.LacksLemmas.{Lacks, AllLack, lack-one, lack-between}
 use Rattle.sip_text.proofs.GroupLemmas.{length-ones, group-between, between-group}

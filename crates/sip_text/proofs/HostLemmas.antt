@@ -3,12 +3,12 @@ use Rattle.std.proofs.Common.{◌≡◌, ℕ, true, false, nat_eq, List, [], ◌
 use Rattle.std.specs.Int.{is_in_range}
 use Rattle.std.specs.Char.{is_ascii_alphabetic, is_ascii_digit}
 use Rattle.std.proofs.lemmas.Bool.{and_parts, and_right, or_cases, both_ways, eq-eqb, ne_eqb, leb-true, lt-leb}
+use Rattle.sip_standard.specs.Profile.{Label, Hostname, Ipv4, Bracketed}
 use Rattle.sip_text.specs.Bytes.{dot, left_bracket}
-use Rattle.sip_text.specs.Host.{Hostname, Ipv4Address, Ipv6Reference, HostParts, HostText}
+use Rattle.sip_text.specs.Host.{HostParts, HostText}
 use Rattle.sip_text.specs.Host.HostParts.{name, v4, v6}
 use Rattle.sip_text.specs.inner.HostTests.{is_v4, is_v6_reference, is_hostname}
 use Rattle.sip_text.proofs.LacksLemmas.{Lacks}
-use Rattle.sip_text.proofs.LabelLemmas.{Label}
 use Rattle.sip_text.proofs.HostnameLemmas.{lack-hostname, hostname-yes, hostname-is}
 use Rattle.sip_text.proofs.V4Lemmas.{lack-v4, v4-yes, v4-is}
 use Rattle.sip_text.proofs.V6Lemmas.{reference-yes, reference-is}
@@ -19,7 +19,7 @@ lacks-behind mark [] v lacks = lacks
 lacks-behind mark (b ∷ u) v lacks = lacks-behind mark u v lacks.1
 
 -- an IPv6 reference has a bracket
-bracketed : (text : List ℕ) → Ipv6Reference text → Lacks left_bracket text → ⊥
+bracketed : (text : List ℕ) → Bracketed text → Lacks left_bracket text → ⊥
 bracketed text reference lacks =
     let spelled : text ≡ left_bracket ∷ reference.1 = reference.4 ∙ ap (λ t. t ++ reference.1) reference.2 in
     let first = (subst (Lacks left_bracket) spelled lacks).0 in
@@ -42,7 +42,7 @@ starts_with text (inl one) = (one.0, [], one.1, one.2)
 starts_with text (inr more) = (more.2.0, more.1, more.2.1, more.4 ∙ ap (λ t. t ++ more.1) more.2.2)
 
 -- no hostname is an IPv4 address
-lettered : (text : List ℕ) → Hostname text → Ipv4Address text → ⊥
+lettered : (text : List ℕ) → Hostname text → Ipv4 text → ⊥
 lettered text (u, t, many, (top, end, is_top, optional, t_is), whole) address =
     let first = starts_with top is_top in
     let b = first.0 in

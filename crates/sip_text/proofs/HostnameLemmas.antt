@@ -5,34 +5,35 @@ use Rattle.std.specs.Char.{is_ascii_alphabetic, is_ascii_alphanumeric}
 use Rattle.std.proofs.lemmas.Bool.{and_from, and_parts}
 use Rattle.std.proofs.lemmas.List.{append-nil, append_assoc, length-append}
 use Rattle.std.proofs.lemmas.List.Splits.{join_with_byte-slice_split}
-use Rattle.sip_text.specs.Bytes.{dot, is_label_byte}
-use Rattle.sip_text.specs.Text.{One, Byte, Many, ◌then◌, Optional}
-use Rattle.sip_text.specs.Cut.{before, behind, parts, up_to}
-use Rattle.sip_text.specs.Host.{DomainLabel, TopLabel, Hostname}
+use Rattle.sip_standard.specs.Text.{One, Many, ◌then◌, Optional}
+use Rattle.sip_standard.specs.Profile.{Label, Hostname}
+use Rattle.sip_text.specs.Bytes.{dot, Byte}
+use Rattle.sip_text.specs.inner.Class.{is_label_byte}
+use Rattle.sip_text.specs.inner.Cut.{before, behind, parts, up_to}
 use Rattle.sip_text.specs.inner.HostTests.{has_label_ends, has_top_ends, is_label, is_top_label, are_labels, is_hostname}
 use Rattle.sip_text.proofs.ManyLemmas.{many-nil, many-cons}
 use Rattle.sip_text.proofs.LacksLemmas.{AllLack, lack-one, lack-byte, lack-then, lack-or, lack-many, lack-optional}
 use Rattle.sip_text.proofs.CutLemmas.{later_parts, parts-cut, parts-one, parts-mark}
 use Rattle.sip_text.proofs.EndLemmas.{up_to-mark, up_to-some, up_to-lacks}
-use Rattle.sip_text.proofs.LabelLemmas.{Label, alphanumeric-alphabetic, label-is, label-yes, label-starts, labels-cons}
+use Rattle.sip_text.proofs.LabelLemmas.{alphanumeric-alphabetic, label-is, label-yes, label-starts, labels-cons}
 
 -- a domainlabel passes its test
-domain-is : (text : List ℕ) → DomainLabel text → is_label text ≡ true
+domain-is : (text : List ℕ) → Label is_ascii_alphanumeric text → is_label text ≡ true
 domain-is text label = (label-is is_ascii_alphanumeric text (λ b pass. pass) label).0
 
 -- what passes the test is a domainlabel
-domain-yes : (text : List ℕ) → is_label text ≡ true → DomainLabel text
+domain-yes : (text : List ℕ) → is_label text ≡ true → Label is_ascii_alphanumeric text
 domain-yes text pass = label-yes is_ascii_alphanumeric text pass (label-starts text pass)
 
 -- a toplabel passes its test
-top-is : (text : List ℕ) → TopLabel text → is_top_label text ≡ true
+top-is : (text : List ℕ) → Label is_ascii_alphabetic text → is_top_label text ≡ true
 top-is text label =
     let both = label-is is_ascii_alphabetic text alphanumeric-alphabetic label in
     let parts = and_parts (has_label_ends text) (list_all is_label_byte text) both.0 in
     and_from _ _ (and_from _ _ both.1 parts.0) parts.1
 
 -- what passes the test is a toplabel
-top-yes : (text : List ℕ) → is_top_label text ≡ true → TopLabel text
+top-yes : (text : List ℕ) → is_top_label text ≡ true → Label is_ascii_alphabetic text
 top-yes text pass =
     let both = and_parts (has_top_ends text) (list_all is_label_byte text) pass in
     let ends = and_parts (is_ascii_alphabetic (slice_index text 0)) (has_label_ends text) both.0 in
@@ -47,11 +48,11 @@ lack-label mark first no_first no_label no_last =
     (lack-many mark (One is_label_byte) (lack-one mark is_label_byte no_label)) (lack-one mark is_ascii_alphanumeric no_last)))
 
 -- a domainlabel has no dot
-lack-domain : AllLack dot DomainLabel
+lack-domain : AllLack dot (Label is_ascii_alphanumeric)
 lack-domain = lack-label dot is_ascii_alphanumeric refl refl refl
 
 -- a toplabel has no dot
-lack-top : AllLack dot TopLabel
+lack-top : AllLack dot (Label is_ascii_alphabetic)
 lack-top = lack-label dot is_ascii_alphabetic refl refl refl
 
 -- a label is not empty
@@ -61,14 +62,14 @@ long-label first text (inr more) = omega (arith, ap length more.4, length-append
 
 -- a hostname without the dot at its end
 abbrev Name : List ℕ → Type 0
-Name = Many (DomainLabel then Byte dot) then TopLabel
+Name = Many (Label is_ascii_alphanumeric then Byte dot) then Label is_ascii_alphabetic
 
 -- its parts are labels
 name-is : (text : List ℕ) → Name text → are_labels (parts dot text) ≡ true
 name-is text (u, top, many, is_top, whole) =
     ap (λ t. are_labels (parts dot t)) (whole ∙ ap (λ t. t ++ top) many.2) ∙ go many.0 many.1
   where
-    go : (us : List (List ℕ)) → AllByRecursion (DomainLabel then Byte dot) us → are_labels (parts dot (concat us ++ top)) ≡ true
+    go : (us : List (List ℕ)) → AllByRecursion (Label is_ascii_alphanumeric then Byte dot) us → are_labels (parts dot (concat us ++ top)) ≡ true
     go [] all = ap are_labels (parts-one dot top (lack-top top is_top)) ∙ top-is top is_top
     go (w ∷ us) all =
         ap (λ t. are_labels (parts dot t)) (spelled w all.0)
@@ -76,7 +77,7 @@ name-is text (u, top, many, is_top, whole) =
         ∙ labels-cons all.0.0 (concat us ++ top)
         ∙ and_from _ _ (domain-is all.0.0 all.0.2) (go us all.1)
       where
-        spelled : (x : List ℕ) (label : (DomainLabel then Byte dot) x) → (x ++ concat us) ++ top ≡ label.0 ++ (dot ∷ (concat us ++ top))
+        spelled : (x : List ℕ) (label : (Label is_ascii_alphanumeric then Byte dot) x) → (x ++ concat us) ++ top ≡ label.0 ++ (dot ∷ (concat us ++ top))
         spelled x label =
             append_assoc x (concat us) top
             ∙ ap (λ t. t ++ (concat us ++ top)) label.4
@@ -91,13 +92,13 @@ name-yes text pass =
     (go (before dot text) (later_parts dot (behind dot text)) (ap are_labels (sym cut) ∙ pass))
   where
     go : (label : List ℕ) (labels : List (List ℕ)) → are_labels (label ∷ labels) ≡ true → Name (join_with_byte dot (label ∷ labels))
-    go label [] pass = ([], label, many-nil (DomainLabel then Byte dot), top-yes label pass, refl)
+    go label [] pass = ([], label, many-nil (Label is_ascii_alphanumeric then Byte dot), top-yes label pass, refl)
     go label (next ∷ labels) pass =
         let both = and_parts (is_label label) (are_labels (next ∷ labels)) pass in
         let rest = go next labels both.1 in (
           (label ++ (dot ∷ [])) ++ rest.0,
           rest.1,
-          many-cons (DomainLabel then Byte dot) (label ++ (dot ∷ [])) rest.0 (label, dot ∷ [], domain-yes label both.0, refl, refl) rest.2,
+          many-cons (Label is_ascii_alphanumeric then Byte dot) (label ++ (dot ∷ [])) rest.0 (label, dot ∷ [], domain-yes label both.0, refl, refl) rest.2,
           rest.3,
           ap (λ t. label ++ (dot ∷ t)) rest.4
               ∙ sym (append_assoc (label ++ (dot ∷ [])) rest.0 rest.1 ∙ append_assoc label (dot ∷ []) (rest.0 ++ rest.1)),
@@ -131,8 +132,8 @@ hostname-yes text pass = at (up_to dot text) refl pass
 -- a hostname lacks what is neither a dot nor a byte of a label
 pub lack-hostname : (mark : ℕ) → nat_eq dot mark ≡ false → is_ascii_alphabetic mark ≡ false → is_label_byte mark ≡ false → is_ascii_alphanumeric mark ≡ false → AllLack mark Hostname
 lack-hostname mark other no_top no_label no_domain =
-    lack-then mark (Many (DomainLabel then Byte dot)) (TopLabel then Optional (Byte dot))
-    (lack-many mark (DomainLabel then Byte dot)
-    (lack-then mark DomainLabel (Byte dot) (lack-label mark is_ascii_alphanumeric no_domain no_label no_domain) (lack-byte mark dot other)))
-    (lack-then mark TopLabel (Optional (Byte dot)) (lack-label mark is_ascii_alphabetic no_top no_label no_domain)
+    lack-then mark (Many (Label is_ascii_alphanumeric then Byte dot)) (Label is_ascii_alphabetic then Optional (Byte dot))
+    (lack-many mark (Label is_ascii_alphanumeric then Byte dot)
+    (lack-then mark (Label is_ascii_alphanumeric) (Byte dot) (lack-label mark is_ascii_alphanumeric no_domain no_label no_domain) (lack-byte mark dot other)))
+    (lack-then mark (Label is_ascii_alphabetic) (Optional (Byte dot)) (lack-label mark is_ascii_alphabetic no_top no_label no_domain)
     (lack-optional mark (Byte dot) (lack-byte mark dot other)))

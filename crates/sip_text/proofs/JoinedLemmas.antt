@@ -4,8 +4,10 @@ use Rattle.std.specs.List.{AllByRecursion, concat, join_with_byte, list_all}
 use Rattle.std.proofs.lemmas.Bool.{and_from, and_parts}
 use Rattle.std.proofs.lemmas.List.{append-nil}
 use Rattle.std.proofs.lemmas.List.Splits.{join_with_byte-slice_split}
-use Rattle.sip_text.specs.Text.{Byte, ◌then◌, Joined}
-use Rattle.sip_text.specs.Cut.{before, behind, parts}
+use Rattle.sip_standard.specs.Text.{◌then◌}
+use Rattle.sip_text.specs.Bytes.{Byte}
+use Rattle.sip_text.specs.inner.Cut.{before, behind, parts}
+use Rattle.sip_text.specs.inner.Pieces.{Joined}
 use Rattle.sip_text.proofs.LacksLemmas.{AllLack}
 use Rattle.sip_text.proofs.ManyLemmas.{many-nil, many-cons}
 use Rattle.sip_text.proofs.CutLemmas.{later_parts, parts-cut, parts-one, parts-mark}

@@ -4,9 +4,11 @@ use Rattle.std.specs.List.{list_all}
 use Rattle.std.specs.Int.{is_in_range}
 use Rattle.std.specs.Char.{is_ascii_alphabetic, is_ascii_alphanumeric}
 use Rattle.std.proofs.lemmas.Bool.{and_from, and_parts, and_right, or_cases, or_left, or_right, both_ways, not-true, not_from_false, eqb-true, lt-ltb}
-use Rattle.sip_text.specs.Bytes.{dot, hyphen, is_label_byte}
-use Rattle.sip_text.specs.Text.{One, Many, ◌then◌, ◌or◌}
-use Rattle.sip_text.specs.Cut.{before, behind, parts}
+use Rattle.sip_standard.specs.Text.{One}
+use Rattle.sip_standard.specs.Profile.{Label}
+use Rattle.sip_text.specs.Bytes.{dot, hyphen}
+use Rattle.sip_text.specs.inner.Class.{is_label_byte}
+use Rattle.sip_text.specs.inner.Cut.{before, behind, parts}
 use Rattle.sip_text.specs.inner.HostTests.{has_label_ends, has_top_ends, is_label, is_top_label, are_labels}
 use Rattle.sip_text.proofs.ManyLemmas.{many-push}
 use Rattle.sip_text.proofs.RunLemmas.{run-list_all, list_all-run}
@@ -79,10 +81,6 @@ alphanumeric-alphabetic b pass = elim (or_cases (is_in_range 65 90 b) (is_in_ran
   | inl upper ↦ or_left (is_in_range 48 57 b || is_in_range 65 90 b) (is_in_range 97 122 b) (or_right (is_in_range 48 57 b) (is_in_range 65 90 b) upper)
   | inr lower ↦ or_right (is_in_range 48 57 b || is_in_range 65 90 b) (is_in_range 97 122 b) lower
 ]
-
--- a label whose first byte is of a class: `DomainLabel` and `TopLabel` are two such sets
-abbrev pub Label : (ℕ → Bool) → List ℕ → Type 0
-Label first = One first or (One first then Many (One is_label_byte) then One is_ascii_alphanumeric)
 
 -- the test of a label, by its parts
 record LabelPasses (text : List ℕ) : Type 0 where

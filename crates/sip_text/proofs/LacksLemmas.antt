@@ -3,7 +3,9 @@
 use Rattle.std.proofs.Common.{◌≡◌, ℕ, Bool, true, false, nat_eq, List, [], ◌∷◌, ◌++◌, refl, sym, ap, ◌∙◌, subst, inl, inr}
 use Rattle.std.specs.List.{AllByRecursion, concat}
 use Rattle.std.proofs.lemmas.Bool.{both_ways, eqb-true}
-use Rattle.sip_text.specs.Text.{One, Byte, Exactly, ◌then◌, ◌or◌, Optional, Many, OneOrMore, Between, Joined}
+use Rattle.sip_standard.specs.Text.{One, Exactly, ◌then◌, ◌or◌, Optional, Many, OneOrMore, Between}
+use Rattle.sip_text.specs.Bytes.{Byte}
+use Rattle.sip_text.specs.inner.Pieces.{Joined}
 use Rattle.sip_text.proofs.ManyLemmas.{AllByRecursion-append}
 
 -- no byte of the text is the mark

@@ -3,7 +3,7 @@ use Rattle.std.proofs.Common.{◌≡◌, ℕ, zero, suc, ◌+◌, ◌<◌, Bool,
 use Rattle.std.specs.Option.{option_map_or}
 use Rattle.std.proofs.lemmas.Bool.{false_from_ne_true, eqb-true, eq-eqb}
 use Rattle.memchr.specs.Find.{Nowhere, Passes, is_byte}
-use Rattle.sip_text.specs.Cut.{before_last, behind_last}
+use Rattle.sip_text.specs.inner.Cut.{before_last, behind_last}
 use Rattle.sip_text.proofs.LacksLemmas.{Lacks}
 
 -- one step of the cut

@@ -3,7 +3,8 @@ use Rattle.std.proofs.Common.{◌≡◌, ℕ, ◌+◌, ◌<◌, ◌≤◌, ◌�
 use Rattle.std.specs.List.{AllByRecursion, concat}
 use Rattle.std.proofs.lemmas.List.{append-nil, append_assoc, length-append}
 use Rattle.std.proofs.lemmas.List.Folds.{concat-append}
-use Rattle.sip_text.specs.Text.{Many, OneOrMore, HasFront}
+use Rattle.sip_standard.specs.Text.{Many, OneOrMore}
+use Rattle.sip_text.specs.Parts.{HasFront}
 
 -- what holds of each piece of two lists holds of each piece of both
 pub AllByRecursion-append : {X : Type 0} (P : X → Type 0) (us vs : List X) → AllByRecursion P us → AllByRecursion P vs → AllByRecursion P (us ++ vs)

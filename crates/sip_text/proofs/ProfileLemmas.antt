@@ -2,13 +2,13 @@
 use Rattle.std.proofs.Common.{◌≡◌, ℕ, Bool, true, false, List, [], ◌∷◌, ◌++◌, Option, None, Some, IsNone, IfSome, inl, inr, refl, sym, ap, ◌∙◌}
 use Rattle.std.proofs.lemmas.Bool.{both_ways}
 use Rattle.std.proofs.lemmas.List.{append_assoc}
-use Rattle.sip_text.specs.Bytes.{colon, question, at_sign}
-use Rattle.sip_text.specs.Text.{Byte, ◌then◌, ◌or◌, Optional, OneOrMore, led}
-use Rattle.sip_text.specs.Case.{folded}
+use Rattle.sip_standard.specs.Text.{◌then◌, Optional}
+use Rattle.sip_standard.specs.Case.{folded}
+use Rattle.sip_standard.specs.Profile.{User, Password, Port, Headers, Host, SipScheme, Userinfo, Uri}
+use Rattle.sip_text.specs.Bytes.{colon, question, at_sign, Byte}
+use Rattle.sip_text.specs.Parts.{led}
 use Rattle.sip_text.specs.Host.{HostParts, HostText, host_text, name, v4, v6}
-use Rattle.sip_text.specs.Uri.{User, Password, Port, Headers, SipParts, userinfo_text, hostport_text, sip_text, scheme_name, UriParts, UriText, sip, other}
-use Rattle.sip_text.specs.Profile.{Host, SipScheme, Userinfo, Uri}
-use Rattle.sip_text.proofs.ManyLemmas.{many-map}
+use Rattle.sip_text.specs.Uri.{SipParts, userinfo_text, hostport_text, sip_text, scheme_name, UriParts, UriText, sip, other}
 
 -- a host has parts
 pub host-parts : (text : List ℕ) → Host text → (h : HostParts) × HostText (host_text h) h × (text ≡ host_text h)
@@ -22,38 +22,25 @@ parts-host text (name host) is = inl is.0
 parts-host text (v4 host) is = inr (inl is.0)
 parts-host text (v6 host) is = inr (inr is.0)
 
--- one or more of one kind are one or more of a wider kind
-pub some-map : (P Q : List ℕ → Type 0) (text : List ℕ) → ((u : List ℕ) → P u → Q u) → OneOrMore P text → OneOrMore Q text
-some-map P Q text each some = (some.0, some.1, each some.0 some.2, many-map P Q some.1 each some.3, some.4)
-
--- three sets in another order
-last-first : (P Q R : List ℕ → Type 0) (text : List ℕ) → (P or Q or R) text → (R or P or Q) text
-last-first P Q R text (inl is) = inr (inl is)
-last-first P Q R text (inr (inl is)) = inr (inr is)
-last-first P Q R text (inr (inr is)) = inl is
-
-first-last : (P Q R : List ℕ → Type 0) (text : List ℕ) → (R or P or Q) text → (P or Q or R) text
-first-last P Q R text (inl is) = inr (inr is)
-first-last P Q R text (inr (inl is)) = inl is
-first-last P Q R text (inr (inr is)) = inr (inl is)
-
 -- an optional part behind its mark
-pub led-optional : (mark : ℕ) (P Q : List ℕ → Type 0) (part : Option (List ℕ)) → ((u : List ℕ) → P u → Q u) → IfSome part P → Optional (Byte mark then Q) (led mark part)
-led-optional mark P Q None each fits = inl refl
-led-optional mark P Q (Some part) each fits = inr (mark ∷ [], part, refl, each part fits, refl)
+led-optional : (mark : ℕ) (P : List ℕ → Type 0) (part : Option (List ℕ)) → IfSome part P → Optional (Byte mark then P) (led mark part)
+led-optional mark P None fits = inl refl
+led-optional mark P (Some part) fits = inr (mark ∷ [], part, refl, fits, refl)
 
-pub optional-led : (mark : ℕ) (P Q : List ℕ → Type 0) (text : List ℕ) → ((u : List ℕ) → P u → Q u) → Optional (Byte mark then P) text → (part : Option (List ℕ)) × IfSome part Q × (text ≡ led mark part)
-optional-led mark P Q text each (inl none) = (None, tt, none)
-optional-led mark P Q text each (inr (u, v, u_is, is, whole)) = (Some v, each v is, whole ∙ ap (λ x. x ++ v) u_is)
+-- and back
+optional-led : (mark : ℕ) (P : List ℕ → Type 0) (text : List ℕ) → Optional (Byte mark then P) text → (part : Option (List ℕ)) × IfSome part P × (text ≡ led mark part)
+optional-led mark P text (inl none) = (None, tt, none)
+optional-led mark P text (inr (u, v, u_is, is, whole)) = (Some v, is, whole ∙ ap (λ x. x ++ v) u_is)
 
+-- what stands before a host
 userinfo-optional : (user password : Option (List ℕ)) → IfSome user User → IfSome password Password → Optional Userinfo (userinfo_text user password)
 userinfo-optional None password user_fits fits = inl refl
 userinfo-optional (Some user) password user_fits fits =
     inr (
       user,
       led colon password ++ at_sign ∷ [],
-      some-map _ _ user (last-first _ _ _) user_fits,
-      (led colon password, at_sign ∷ [], led-optional colon Password _ password (λ u is. many-map _ _ u (last-first _ _ _) is) fits, refl, refl),
+      user_fits,
+      (led colon password, at_sign ∷ [], led-optional colon Password password fits, refl, refl),
       append_assoc user (led colon password) (at_sign ∷ []),
     )
 
@@ -69,11 +56,11 @@ record Info (text : List ℕ) : Type 0 where
 optional-userinfo : (text : List ℕ) → Optional Userinfo text → Info text
 optional-userinfo text (inl none) = record { user = None; password = None; user_fits = tt; fits = tt; owner = λ is. is; whole = none }
 optional-userinfo text (inr (u, v, user, (w, x, word, at, v_is), whole)) =
-    let password = optional-led colon _ Password w (λ t is. many-map _ _ t (first-last _ _ _) is) word in
+    let password = optional-led colon Password w word in
     record {
       user = Some u;
       password = password.0;
-      user_fits = some-map _ _ u (first-last _ _ _) user;
+      user_fits = user;
       fits = password.1;
       owner = λ none. absurd (both_ways true none refl);
       whole = whole ∙ ap (λ t. u ++ t) (v_is ∙ ap (λ t. t ++ x) password.2 ∙ ap (λ t. led colon password.0 ++ t) at) ∙ sym (append_assoc u (led colon password.0) (at_sign ∷ []));
@@ -93,8 +80,8 @@ uri-parts text (inl (s, r1, scheme, (c, r2, c_is, (i, r3, info, (h, r4, host, (o
     let named = named-scheme s scheme in
     let info_parts = optional-userinfo i info in
     let host_is = host-parts h host in
-    let port_is = optional-led colon Port Port o (λ u is. is) port in
-    let headers_is = optional-led question Headers Headers b (λ u is. is) headers in
+    let port_is = optional-led colon Port o port in
+    let headers_is = optional-led question Headers b headers in
     let p : SipParts = record { secure = named.0; user = info_parts.user; password = info_parts.password; host = host_is.0; port = port_is.0; params = a; headers = headers_is.0 } in
     let rest : r3 ≡ hostport_text p.host p.port ++ p.params ++ led question p.headers =
     e3 ∙ ap (λ t. t ++ r4) host_is.2 ∙ ap (λ t. host_text host_is.0 ++ t) (e4 ∙ ap (λ t. t ++ r5) port_is.2 ∙ ap (λ t. led colon port_is.0 ++ t) (e5 ∙ ap (λ t. a ++ t) headers_is.2))
@@ -133,8 +120,8 @@ parts-uri text (sip p) (scheme, same, fits, whole) =
             (
               led colon p.port,
               behind,
-              led-optional colon Port Port p.port (λ u is. is) fits.port,
-              (p.params, led question p.headers, fits.params, led-optional question Headers Headers p.headers (λ u is. is) fits.headers, refl),
+              led-optional colon Port p.port fits.port,
+              (p.params, led question p.headers, fits.params, led-optional question Headers p.headers fits.headers, refl),
               refl,
             ),
             append_assoc (host_text p.host ++ led colon p.port) p.params (led question p.headers) ∙ append_assoc (host_text p.host) (led colon p.port) behind,

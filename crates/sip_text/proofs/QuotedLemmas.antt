@@ -2,11 +2,14 @@
 use Rattle.std.proofs.Common.{◌≡◌, ℕ, ◌+◌, ◌<◌, ◌⊎◌, Bool, true, false, ◌&&◌, nat_eq, nat_lt, List, [], ◌∷◌, ◌++◌, None, Some, length, drop, slice_index, cond, refl, sym, ap, ◌∙◌, subst, inl, inr, arith}
 use Rattle.std.proofs.lemmas.Bool.{and_from, and_parts, or_cases, eqb-true, lt-ltb, ltb-true}
 use Rattle.std.proofs.lemmas.List.{append_assoc, length-append}
-use Rattle.sip_text.specs.Bytes.{space, tab, dquote, backslash, crlf, is_wsp, is_quoted_byte, is_escaped_byte}
-use Rattle.sip_text.specs.Text.{◌or◌, Many, HasFront, IsOnlyFront}
-use Rattle.sip_text.specs.Grammar.{Sws, Qdtext, QuotedPair, QuotedString}
-use Rattle.sip_text.specs.Blanks.{Blank, blank_len}
-use Rattle.sip_text.specs.Cut.{past}
+use Rattle.sip_standard.specs.Text.{◌or◌, Many, ◌then◌}
+use Rattle.sip_standard.specs.Profile.{Sws, Quoted}
+use Rattle.sip_text.specs.Bytes.{space, tab, dquote, backslash, crlf, is_wsp}
+use Rattle.sip_text.specs.Parts.{HasFront, IsOnlyFront}
+use Rattle.sip_text.specs.inner.Class.{is_quoted_byte, is_escaped_byte}
+use Rattle.sip_text.specs.inner.Cut.{past}
+use Rattle.sip_text.specs.inner.Blanks.{Blank, blank_len}
+use Rattle.sip_text.specs.inner.Pieces.{Qdtext, QuotedPair}
 use Rattle.sip_text.specs.inner.Quoted.{QuotedItem, begins_with_pair, item_len}
 use Rattle.sip_text.proofs.ManyLemmas.{many-nil, many-one, many-map, many-flat, IsStep, same_many, front-rest}
 use Rattle.sip_text.proofs.CutLemmas.{past-some}
@@ -135,7 +138,7 @@ quoted_text-append blanks items rest =
     ∙ ap (λ t. blanks ++ (dquote ∷ t)) (append_assoc items (dquote ∷ []) rest)
 
 -- a quoted string at the front stands in quotes
-quotes-front : (text : List ℕ) (n : ℕ) → HasFront QuotedString text n → (blanks : List ℕ) × (items : List ℕ) × (rest : List ℕ) × Quotes text blanks items rest × (n ≡ length blanks + length items + 2)
+quotes-front : (text : List ℕ) (n : ℕ) → HasFront (Sws then Quoted) text n → (blanks : List ℕ) × (items : List ℕ) × (rest : List ℕ) × Quotes text blanks items rest × (n ≡ length blanks + length items + 2)
 quotes-front text n (u, v, (blanks, t, sws, (first, w, is_first, (items, last, contents, is_last, w_is), t_is), u_is), whole, n_is) = (
   blanks,
   items,
@@ -153,7 +156,7 @@ quotes-front text n (u, v, (blanks, t, sws, (first, w, is_first, (items, last, c
         u_is ∙ ap (λ x. blanks ++ x) (t_is ∙ ap (λ x. x ++ w) is_first ∙ ap (λ x. dquote ∷ x) (w_is ∙ ap (λ x. items ++ x) is_last))
 
 -- what stands in quotes is a quoted string at the front
-front-quotes : (text blanks items rest : List ℕ) → Quotes text blanks items rest → HasFront QuotedString text (length blanks + length items + 2)
+front-quotes : (text blanks items rest : List ℕ) → Quotes text blanks items rest → HasFront (Sws then Quoted) text (length blanks + length items + 2)
 front-quotes text blanks items rest quotes = (
   quoted_text blanks items,
   rest,
@@ -186,7 +189,7 @@ closes text inner n k blanks items rest front contents stops found ends quotes =
     (same.0, at_rest ∙ same.1)
 
 -- without a quote behind the blanks there is no quoted string
-pub none-opens : (text : List ℕ) (n : ℕ) → HasFront (Many Blank) text n → blank_len (drop n text) ≡ 0 → past dquote (drop n text) ≡ None → IsOnlyFront QuotedString text None
+pub none-opens : (text : List ℕ) (n : ℕ) → HasFront (Many Blank) text n → blank_len (drop n text) ≡ 0 → past dquote (drop n text) ≡ None → IsOnlyFront (Sws then Quoted) text None
 none-opens text n front stops missing m quoted =
     let parse = quotes-front text m quoted in
     let opened = opens text n parse.0 parse.1 parse.2 front stops parse.3 in
@@ -194,7 +197,7 @@ none-opens text n front stops missing m quoted =
     cc
 
 -- without a quote behind the pieces there is no quoted string
-pub none-closes : (text inner : List ℕ) (n k : ℕ) → HasFront (Many Blank) text n → HasFront (Many QuotedItem) inner k → blank_len (drop n text) ≡ 0 → past dquote (drop n text) ≡ Some inner → item_len (drop k inner) ≡ 0 → past dquote (drop k inner) ≡ None → IsOnlyFront QuotedString text None
+pub none-closes : (text inner : List ℕ) (n k : ℕ) → HasFront (Many Blank) text n → HasFront (Many QuotedItem) inner k → blank_len (drop n text) ≡ 0 → past dquote (drop n text) ≡ Some inner → item_len (drop k inner) ≡ 0 → past dquote (drop k inner) ≡ None → IsOnlyFront (Sws then Quoted) text None
 none-closes text inner n k front contents stops first ends missing m quoted =
     let parse = quotes-front text m quoted in
     let closed = closes text inner n k parse.0 parse.1 parse.2 front contents stops first ends parse.3 in
@@ -202,9 +205,9 @@ none-closes text inner n k front contents stops first ends missing m quoted =
     cc
 
 -- with both quotes there is the one that they enclose
-pub only-quoted : (text inner rest : List ℕ) (n k : ℕ) → HasFront (Many Blank) text n → HasFront (Many QuotedItem) inner k → blank_len (drop n text) ≡ 0 → past dquote (drop n text) ≡ Some inner → item_len (drop k inner) ≡ 0 → past dquote (drop k inner) ≡ Some rest → IsOnlyFront QuotedString text (Some (n + k + 2))
+pub only-quoted : (text inner rest : List ℕ) (n k : ℕ) → HasFront (Many Blank) text n → HasFront (Many QuotedItem) inner k → blank_len (drop n text) ≡ 0 → past dquote (drop n text) ≡ Some inner → item_len (drop k inner) ≡ 0 → past dquote (drop k inner) ≡ Some rest → IsOnlyFront (Sws then Quoted) text (Some (n + k + 2))
 only-quoted text inner rest n k front contents stops first ends last =
-    (subst (HasFront QuotedString text) len (front-quotes text front.0 contents.0 rest quotes), only)
+    (subst (HasFront (Sws then Quoted) text) len (front-quotes text front.0 contents.0 rest quotes), only)
   where
     quotes : Quotes text front.0 contents.0 rest
     quotes = record {
@@ -220,7 +223,7 @@ only-quoted text inner rest n k front contents stops first ends last =
     len : length front.0 + length contents.0 + 2 ≡ n + k + 2
     len = omega (arith, front.4, contents.4)
 
-    only : (m : ℕ) → HasFront QuotedString text m → m ≡ n + k + 2
+    only : (m : ℕ) → HasFront (Sws then Quoted) text m → m ≡ n + k + 2
     only m quoted =
         let parse = quotes-front text m quoted in
         let opened = opens text n parse.0 parse.1 parse.2 front stops parse.3 in

@@ -3,8 +3,9 @@ use Rattle.std.proofs.Common.{◌≡◌, ℕ, ◌+◌, Bool, true, false, cond, 
 use Rattle.std.specs.List.{prefix_len, list_all}
 use Rattle.std.proofs.lemmas.Bool.{and_parts, eq-eqb, false_from_ne_true}
 use Rattle.std.proofs.lemmas.List.{append-nil}
-use Rattle.sip_text.specs.Text.{One, Many, led}
-use Rattle.sip_text.specs.Cut.{before, behind, past}
+use Rattle.sip_standard.specs.Text.{One, Many}
+use Rattle.sip_text.specs.Parts.{led}
+use Rattle.sip_text.specs.inner.Cut.{before, behind, past}
 use Rattle.sip_text.proofs.ManyLemmas.{drop-front, front-whole}
 use Rattle.sip_text.proofs.LacksLemmas.{lack-many, lack-one}
 use Rattle.sip_text.proofs.RunLemmas.{run-front, run-list_all}

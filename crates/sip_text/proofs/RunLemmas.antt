@@ -4,7 +4,8 @@ use Rattle.std.specs.List.{AllByRecursion, concat, prefix_len, list_all}
 use Rattle.std.proofs.lemmas.Bool.{and_from, and_parts, eq-eqb, eqb-true}
 use Rattle.std.proofs.lemmas.List.{append-nil}
 use Rattle.std.proofs.lemmas.List.Sums.{prefix_len-le-length}
-use Rattle.sip_text.specs.Text.{One, Many, OneOrMore, HasFront, IsLongestFront}
+use Rattle.sip_standard.specs.Text.{One, Many, OneOrMore}
+use Rattle.sip_text.specs.Parts.{HasFront, IsLongestFront}
 use Rattle.sip_text.proofs.ManyLemmas.{many-cons, many-nil, many-some, front-whole}
 
 -- a run of bytes of the class passes the test throughout

@@ -7,12 +7,11 @@ use Rattle.std.proofs.lemmas.Bool.{both_ways, and_from, and_parts, or_parts, or_
 use Rattle.std.proofs.lemmas.Bool.Decides.{Decides-like}
 use Rattle.std.proofs.lemmas.List.{length-append, take_rest}
 use Rattle.sip_text.specs.declared.class.Class.{Class}
-use Rattle.sip_text.specs.declared.class.Class.TheVariants as class
-use Rattle.sip_text.specs.Bytes.{percent, is_unreserved, is_user_unreserved, is_password_unreserved, is_param_unreserved, is_hnv_unreserved, is_reserved}
-use Rattle.sip_text.specs.Class.{is_in}
-use Rattle.sip_text.specs.Text.{One, ◌or◌, Many, OneOrMore}
-use Rattle.sip_text.specs.Uri.{Escaped, User, Password, ParamWord, HeaderChar, Uric}
-use Rattle.sip_text.specs.inner.UriCut.{Char, behind_escape}
+use Rattle.sip_standard.specs.Text.{One, ◌or◌, Many, OneOrMore}
+use Rattle.sip_text.specs.Bytes.{percent}
+use Rattle.sip_text.specs.inner.Class.{is_unreserved, is_in}
+use Rattle.sip_text.specs.inner.Pieces.{Escaped}
+use Rattle.sip_text.specs.inner.UriCut.{ClassChar, behind_escape}
 use Rattle.sip_text.proofs.LacksLemmas.{AllLack, lack-one, lack-byte, lack-then, lack-or}
 use Rattle.sip_text.proofs.ManyLemmas.{many-nil, many-cons, many-append, many-map, many-some, some-many}
 use Rattle.sip_text.proofs.RunLemmas.{list_all-run}
@@ -58,16 +57,16 @@ stripped-escape (mark ∷ high ∷ low ∷ text) rest is = at _ refl is
         (high, low, (first.1, last.1), ap (λ b. b ∷ high ∷ low ∷ text) mark_is ∙ ap (λ t. percent ∷ high ∷ low ∷ t) rest_is)
 
 -- characters begin with a byte of the class or with an escape
-chars-cons : (class : Class) (b : ℕ) (text : List ℕ) → Many (Char class) (b ∷ text) → (IsTrue (is_in class b) × Many (Char class) text) ⊎ ((rest : List ℕ) × (behind_escape (b ∷ text) ≡ Some rest) × (b ≡ percent) × Many (Char class) rest)
+chars-cons : (class : Class) (b : ℕ) (text : List ℕ) → Many (ClassChar class) (b ∷ text) → (IsTrue (is_in class b) × Many (ClassChar class) text) ⊎ ((rest : List ℕ) × (behind_escape (b ∷ text) ≡ Some rest) × (b ≡ percent) × Many (ClassChar class) rest)
 chars-cons class b text many =
-    elim (some-many (Char class) (b ∷ text) many) [
+    elim (some-many (ClassChar class) (b ∷ text) many) [
       | inl empty ↦ cc
       | inr (u, v, one, more, whole) ↦ elim one [
         | inl (byte, test, is) ↦
             let same : b ∷ text ≡ byte ∷ v = whole ∙ ap (λ t. t ++ v) is in
             let head : byte ≡ b = cc in
             let tail : v ≡ text = cc in
-            inl (subst (λ x. IsTrue (is_in class x)) head test, subst (Many (Char class)) tail more)
+            inl (subst (λ x. IsTrue (is_in class x)) head test, subst (Many (ClassChar class)) tail more)
         | inr escape ↦
             let (high, low, digits, is) = escaped-bytes u escape in
             let same : b ∷ text ≡ percent ∷ high ∷ low ∷ v = whole ∙ ap (λ t. t ++ v) is in
@@ -76,7 +75,7 @@ chars-cons class b text many =
     ]
 
 -- behind a byte of the class the rest is characters, too
-chars-tail : (class : Class) (b : ℕ) (text : List ℕ) → is_in class percent ≡ false → IsTrue (is_in class b) → Many (Char class) (b ∷ text) → Many (Char class) text
+chars-tail : (class : Class) (b : ℕ) (text : List ℕ) → is_in class percent ≡ false → IsTrue (is_in class b) → Many (ClassChar class) (b ∷ text) → Many (ClassChar class) text
 chars-tail class b text no_percent test many =
     elim (chars-cons class b text many) [
       | inl plain ↦ plain.1
@@ -84,17 +83,17 @@ chars-tail class b text no_percent test many =
     ]
 
 -- behind bytes of the class, too
-chars-behind : (class : Class) (u v : List ℕ) → is_in class percent ≡ false → list_all (is_in class) u ≡ true → Many (Char class) (u ++ v) → Many (Char class) v
+chars-behind : (class : Class) (u v : List ℕ) → is_in class percent ≡ false → list_all (is_in class) u ≡ true → Many (ClassChar class) (u ++ v) → Many (ClassChar class) v
 chars-behind class [] v no_percent all many = many
 chars-behind class (b ∷ u) v no_percent all many =
     let parts = and_parts (is_in class b) (list_all (is_in class) u) all in
     chars-behind class u v no_percent parts.1 (chars-tail class b (u ++ v) no_percent parts.0 many)
 
 -- bytes of the class and then characters are characters
-chars-before : (class : Class) (u v : List ℕ) → list_all (is_in class) u ≡ true → Many (Char class) v → Many (Char class) (u ++ v)
+chars-before : (class : Class) (u v : List ℕ) → list_all (is_in class) u ≡ true → Many (ClassChar class) v → Many (ClassChar class) (u ++ v)
 chars-before class u v all many =
-    many-append (Char class) u v
-    (many-map (One (is_in class)) (Char class) u (λ _ one. inl one) (list_all-run (is_in class) u all)) many
+    many-append (ClassChar class) u v
+    (many-map (One (is_in class)) (ClassChar class) u (λ _ one. inl one) (list_all-run (is_in class) u all)) many
 
 -- the longest run of bytes of the class, and what it stops at
 pub record IsRun (test : ℕ → Bool) (text stop : List ℕ) : Type 0 where
@@ -125,39 +124,39 @@ run-cut test (x ∷ text) = at (run-cut test text) (test x) refl
         })
 
 -- past a run and an escape the rest is characters exactly if the whole text is, and it is shorter
-pub chars-past : (class : Class) (text stop rest : List ℕ) → is_in class percent ≡ false → IsRun (is_in class) text stop → behind_escape stop ≡ Some rest → (Many (Char class) rest ↔ Many (Char class) text) × (length rest < length text)
+pub chars-past : (class : Class) (text stop rest : List ℕ) → is_in class percent ≡ false → IsRun (is_in class) text stop → behind_escape stop ≡ Some rest → (Many (ClassChar class) rest ↔ Many (ClassChar class) text) × (length rest < length text)
 chars-past class text stop rest no_percent run is =
     let (high, low, digits, stop_is) = stripped-escape stop rest is in
     let whole : text ≡ run.run ++ (percent ∷ high ∷ low ∷ rest) = run.whole ∙ ap (λ t. run.run ++ t) stop_is in
-    let escape : Char class (percent ∷ high ∷ low ∷ []) = inr (bytes-escaped high low digits) in (
+    let escape : ClassChar class (percent ∷ high ∷ low ∷ []) = inr (bytes-escaped high low digits) in (
       (
-        λ many. subst (Many (Char class)) (sym whole)
+        λ many. subst (Many (ClassChar class)) (sym whole)
             (chars-before class run.run (percent ∷ high ∷ low ∷ rest) run.all
-            (many-cons (Char class) (percent ∷ high ∷ low ∷ []) rest escape many)),
+            (many-cons (ClassChar class) (percent ∷ high ∷ low ∷ []) rest escape many)),
         λ many.
-            let here : Many (Char class) (percent ∷ high ∷ low ∷ rest) =
-            chars-behind class run.run _ no_percent run.all (subst (Many (Char class)) whole many) in
+            let here : Many (ClassChar class) (percent ∷ high ∷ low ∷ rest) =
+            chars-behind class run.run _ no_percent run.all (subst (Many (ClassChar class)) whole many) in
             elim (chars-cons class percent (high ∷ low ∷ rest) here) [
               | inl plain ↦ absurd (both_ways (is_in class percent) no_percent plain.0)
               | inr (other, other_is, _, more) ↦
                   let same : other ≡ rest = let taken = strips-escape high low rest digits in cc in
-                  subst (Many (Char class)) same more
+                  subst (Many (ClassChar class)) same more
             ],
       ),
       omega (arith, ap length whole, length-append run.run (percent ∷ high ∷ low ∷ rest)),
     )
 
 -- where no escape follows the run, the text is characters exactly if it ends there
-pub chars-stop : (class : Class) (text stop : List ℕ) → is_in class percent ≡ false → IsRun (is_in class) text stop → behind_escape stop ≡ None → Decides (length stop == 0) (Many (Char class) text)
+pub chars-stop : (class : Class) (text stop : List ℕ) → is_in class percent ≡ false → IsRun (is_in class) text stop → behind_escape stop ≡ None → Decides (length stop == 0) (Many (ClassChar class) text)
 chars-stop class text [] no_percent run is = (
-  λ _. subst (Many (Char class)) (sym run.whole) (chars-before class run.run [] run.all (many-nil (Char class))),
+  λ _. subst (Many (ClassChar class)) (sym run.whole) (chars-before class run.run [] run.all (many-nil (ClassChar class))),
   λ _. refl,
 )
 chars-stop class text (b ∷ stop) no_percent run is = (
   λ empty. absurd (omega (arith, eqb-true (length (b ∷ stop)) 0 empty)),
   λ many.
-      let here : Many (Char class) (b ∷ stop) =
-      chars-behind class run.run _ no_percent run.all (subst (Many (Char class)) run.whole many) in
+      let here : Many (ClassChar class) (b ∷ stop) =
+      chars-behind class run.run _ no_percent run.all (subst (Many (ClassChar class)) run.whole many) in
       elim (chars-cons class b stop here) [
         | inl plain ↦ absurd (both_ways (is_in class b) (run.stops b stop refl) plain.0)
         | inr (rest, other, _, _) ↦ cc
@@ -181,33 +180,22 @@ some-decides P text r full decides =
 pub some-map : (P Q : List ℕ → Type 0) (text : List ℕ) → ((u : List ℕ) → P u → Q u) → OneOrMore P text → OneOrMore Q text
 some-map P Q text each (u, v, one, more, whole) = (u, v, each u one, many-map P Q v each more, whole)
 
--- unreserved / escaped / the part's own, as bytes of a class and escapes
+-- the part's own / unreserved / escaped, as `Char` has them
+abbrev pub CharOf : (ℕ → Bool) → List ℕ → Type 0
+CharOf own = One own or One is_unreserved or Escaped
+
+-- the same, as bytes of a class and escapes
 abbrev pub Own : (ℕ → Bool) → List ℕ → Type 0
 Own own = One (λ b. is_unreserved b || own b) or Escaped
 
--- the part's own, last: to the class
-own-last : (own : ℕ → Bool) (u : List ℕ) → (One is_unreserved or Escaped or One own) u → Own own u
-own-last own u (inl (b, test, is)) = inl (b, or_left (is_unreserved b) (own b) test, is)
-own-last own u (inr (inl escape)) = inr escape
-own-last own u (inr (inr (b, test, is))) = inl (b, or_right (is_unreserved b) (own b) test, is)
-
--- and back
-last-own : (own : ℕ → Bool) (u : List ℕ) → Own own u → (One is_unreserved or Escaped or One own) u
-last-own own u (inl (b, test, is)) =
-    elim (or_cases (is_unreserved b) (own b) test) [
-      | inl unreserved ↦ inl (b, unreserved, is)
-      | inr other ↦ inr (inr (b, other, is))
-    ]
-last-own own u (inr escape) = inr (inl escape)
-
--- the part's own, first: to the class
-own-first : (own : ℕ → Bool) (u : List ℕ) → (One own or One is_unreserved or Escaped) u → Own own u
+-- a character is one of the class
+own-first : (own : ℕ → Bool) (u : List ℕ) → CharOf own u → Own own u
 own-first own u (inl (b, test, is)) = inl (b, or_right (is_unreserved b) (own b) test, is)
 own-first own u (inr (inl (b, test, is))) = inl (b, or_left (is_unreserved b) (own b) test, is)
 own-first own u (inr (inr escape)) = inr escape
 
 -- and back
-first-own : (own : ℕ → Bool) (u : List ℕ) → Own own u → (One own or One is_unreserved or Escaped) u
+first-own : (own : ℕ → Bool) (u : List ℕ) → Own own u → CharOf own u
 first-own own u (inl (b, test, is)) =
     elim (or_cases (is_unreserved b) (own b) test) [
       | inl unreserved ↦ inr (inl (b, unreserved, is))
@@ -215,35 +203,13 @@ first-own own u (inl (b, test, is)) =
     ]
 first-own own u (inr escape) = inr (inr escape)
 
--- what decides characters of the class decides a user
-pub decides-user : (text : List ℕ) (r : Bool) → Decides r (OneOrMore (Char class.User) text) → Decides r (User text)
-decides-user text r =
-    Decides-like r (some-map _ _ text (last-own is_user_unreserved)) (some-map _ _ text (own-last is_user_unreserved))
+-- what decides bytes of the class and escapes decides characters, where there is one or more
+pub decides-some : (own : ℕ → Bool) (text : List ℕ) (r : Bool) → Decides r (OneOrMore (Own own) text) → Decides r (OneOrMore (CharOf own) text)
+decides-some own text r = Decides-like r (some-map _ _ text (first-own own)) (some-map _ _ text (own-first own))
 
--- a password
-pub decides-password : (text : List ℕ) (r : Bool) → Decides r (Many (Char class.Password) text) → Decides r (Password text)
-decides-password text r =
-    Decides-like r (many-map _ _ text (last-own is_password_unreserved)) (many-map _ _ text (own-last is_password_unreserved))
-
--- a name or a value of a parameter
-pub decides-param_word : (text : List ℕ) (r : Bool) → Decides r (OneOrMore (Char class.Param) text) → Decides r (ParamWord text)
-decides-param_word text r =
-    Decides-like r (some-map _ _ text (first-own is_param_unreserved)) (some-map _ _ text (own-first is_param_unreserved))
-
--- the name of a header
-pub decides-hname : (text : List ℕ) (r : Bool) → Decides r (OneOrMore (Char class.Header) text) → Decides r (OneOrMore HeaderChar text)
-decides-hname text r =
-    Decides-like r (some-map _ _ text (first-own is_hnv_unreserved)) (some-map _ _ text (own-first is_hnv_unreserved))
-
--- the value of a header
-pub decides-hvalue : (text : List ℕ) (r : Bool) → Decides r (Many (Char class.Header) text) → Decides r (Many HeaderChar text)
-decides-hvalue text r =
-    Decides-like r (many-map _ _ text (first-own is_hnv_unreserved)) (many-map _ _ text (own-first is_hnv_unreserved))
-
--- what follows another scheme
-pub decides-uric : (text : List ℕ) (r : Bool) → Decides r (OneOrMore (Char class.Uric) text) → Decides r (OneOrMore Uric text)
-decides-uric text r =
-    Decides-like r (some-map _ _ text (first-own is_reserved)) (some-map _ _ text (own-first is_reserved))
+-- and where there may be none
+pub decides-many : (own : ℕ → Bool) (text : List ℕ) (r : Bool) → Decides r (Many (Own own) text) → Decides r (Many (CharOf own) text)
+decides-many own text r = Decides-like r (many-map _ _ text (first-own own)) (many-map _ _ text (own-first own))
 
 -- what decides two sets alike decides them alike of a text that may be missing
 pub if-some : {P Q : List ℕ → Type 0} → ((text : List ℕ) (r : Bool) → Decides r (P text) → Decides r (Q text)) → (o : Option (List ℕ)) (r : Bool) → Decides r (IfSome o P) → Decides r (IfSome o Q)
@@ -260,18 +226,9 @@ lack-escaped mark no_percent no_digit =
     lack-then mark _ _ (lack-byte mark percent no_percent)
     (lack-then mark _ _ (lack-one mark is_ascii_hexdigit no_digit) (lack-one mark is_ascii_hexdigit no_digit))
 
--- unreserved / escaped / the part's own: each lacks what is no byte of one
-pub lack-last : (mark : ℕ) (own : ℕ → Bool) → is_char_byte own mark ≡ false → AllLack mark (One is_unreserved or Escaped or One own)
-lack-last mark own no_char =
-    let (three, no_digit) = or_parts _ _ no_char in
-    let (two, no_percent) = or_parts _ _ three in
-    let (no_own, no_unreserved) = or_parts _ _ two in
-    lack-or mark _ _ (lack-one mark is_unreserved no_unreserved)
-    (lack-or mark _ _ (lack-escaped mark no_percent no_digit) (lack-one mark own no_own))
-
--- the part's own / unreserved / escaped: too
-pub lack-first : (mark : ℕ) (own : ℕ → Bool) → is_char_byte own mark ≡ false → AllLack mark (One own or One is_unreserved or Escaped)
-lack-first mark own no_char =
+-- a character lacks what is no byte of one
+pub lack-char : (mark : ℕ) (own : ℕ → Bool) → is_char_byte own mark ≡ false → AllLack mark (CharOf own)
+lack-char mark own no_char =
     let (three, no_digit) = or_parts _ _ no_char in
     let (two, no_percent) = or_parts _ _ three in
     let (no_own, no_unreserved) = or_parts _ _ two in

@@ -3,20 +3,22 @@ use Rattle.std.proofs.Common.{◌≡◌, ℕ, false, nat_eq, List, [], ◌∷◌
 use Rattle.std.specs.Char.{is_ascii_alphabetic, is_ascii_alphanumeric, is_ascii_digit, is_ascii_hexdigit}
 use Rattle.std.proofs.lemmas.Bool.{both_ways, eq-eqb}
 use Rattle.std.proofs.lemmas.List.{append_assoc, length-append}
-use Rattle.sip_text.specs.Bytes.{colon, dot, left_bracket, right_bracket, double_colon, is_label_byte}
-use Rattle.sip_text.specs.Text.{One, Byte, Exactly, ◌then◌}
-use Rattle.sip_text.specs.Host.{Hex4, Hexseq, Hexpart, OpenHexpart, Ipv6Address, Ipv6Reference, HostParts, HostText, host_text}
+use Rattle.sip_standard.specs.Text.{One, Exactly, ◌then◌}
+use Rattle.sip_standard.specs.Profile.{Hexseq, Ipv6, Bracketed, Port}
+use Rattle.sip_text.specs.Bytes.{colon, dot, left_bracket, right_bracket, Byte}
+use Rattle.sip_text.specs.Host.{HostParts, HostText, host_text}
+use Rattle.sip_text.specs.inner.Class.{is_label_byte}
+use Rattle.sip_text.specs.inner.Pieces.{double_colon, Hex4, Hexpart, OpenHexpart}
 use Rattle.sip_text.specs.Host.HostParts.{name, v4, v6}
-use Rattle.sip_text.specs.Uri.{Port}
 use Rattle.sip_text.proofs.LacksLemmas.{Lacks, AllLack, lack-one, lack-byte, lack-exactly, lack-then, lack-or, lack-optional, lack-between, lack-joined}
 use Rattle.sip_text.proofs.HostnameLemmas.{lack-hostname}
 use Rattle.sip_text.proofs.V4Lemmas.{lack-v4}
 
 -- an IPv6 reference lacks what is no hexadecimal digit, colon, dot or bracket
-lack-v6 : (mark : ℕ) → is_ascii_hexdigit mark ≡ false → is_ascii_digit mark ≡ false → nat_eq colon mark ≡ false → nat_eq dot mark ≡ false → nat_eq left_bracket mark ≡ false → nat_eq right_bracket mark ≡ false → AllLack mark Ipv6Reference
+lack-v6 : (mark : ℕ) → is_ascii_hexdigit mark ≡ false → is_ascii_digit mark ≡ false → nat_eq colon mark ≡ false → nat_eq dot mark ≡ false → nat_eq left_bracket mark ≡ false → nat_eq right_bracket mark ≡ false → AllLack mark Bracketed
 lack-v6 mark no_hex no_digit no_colon no_dot no_left no_right =
-    lack-then mark (Byte left_bracket) (Ipv6Address then Byte right_bracket) (lack-byte mark left_bracket no_left)
-    (lack-then mark Ipv6Address (Byte right_bracket) address (lack-byte mark right_bracket no_right))
+    lack-then mark (Byte left_bracket) (Ipv6 then Byte right_bracket) (lack-byte mark left_bracket no_left)
+    (lack-then mark Ipv6 (Byte right_bracket) address (lack-byte mark right_bracket no_right))
   where
     seq : AllLack mark Hexseq
     seq = lack-joined mark colon Hex4 no_colon (lack-between mark 1 4 (One is_ascii_hexdigit) (lack-one mark is_ascii_hexdigit no_hex))
@@ -33,7 +35,7 @@ lack-v6 mark no_hex no_digit no_colon no_dot no_left no_right =
     opened : AllLack mark OpenHexpart
     opened = lack-or mark _ _ (lack-then mark _ _ seq double) double
 
-    address : AllLack mark Ipv6Address
+    address : AllLack mark Ipv6
     address =
         lack-or mark _ _
         (lack-then mark _ _ part

@@ -2,11 +2,15 @@
 use Rattle.std.proofs.Common.{◌≡◌, ℕ, Bool, true, false, not, nat_eq, List, [], ◌∷◌, ◌++◌, Option, None, Some, Bor, option_copied, refl, sym, ap, ◌∙◌, subst}
 use Rattle.std.specs.Char.{is_ascii_alphabetic, to_ascii_lowercase}
 use Rattle.std.proofs.lemmas.Bool.{both_ways, eqb-true}
-use Rattle.sip_text.specs.Bytes.{colon, is_scheme_byte}
-use Rattle.sip_text.specs.Text.{OneOrMore, led, IsOnlyValue}
-use Rattle.sip_text.specs.Case.{folded, SameText}
-use Rattle.sip_text.specs.Cut.{before, behind}
-use Rattle.sip_text.specs.Uri.{Scheme, Uric, sip_text, scheme_name, UriParts, sip, other, UriText, uri_parts}
+use Rattle.sip_standard.specs.Text.{OneOrMore}
+use Rattle.sip_standard.specs.Case.{folded}
+use Rattle.sip_standard.specs.Profile.{Scheme, Uric}
+use Rattle.sip_text.specs.Bytes.{colon}
+use Rattle.sip_text.specs.Parts.{led, IsOnlyValue}
+use Rattle.sip_text.specs.Case.{SameText}
+use Rattle.sip_text.specs.Uri.{sip_text, scheme_name, UriParts, sip, other, UriText, uri_parts}
+use Rattle.sip_text.specs.inner.Class.{is_scheme_byte}
+use Rattle.sip_text.specs.inner.Cut.{before, behind}
 use Rattle.sip_text.specs.inner.UriCut.{SipText}
 use Rattle.sip_text.specs.declared.uri.Uri.{Uri}
 use Rattle.sip_text.proofs.LacksLemmas.{Lacks, AllLack, lack-one, lack-then, lack-many}

@@ -6,14 +6,17 @@ use Rattle.std.specs.List.{AllByRecursion}
 use Rattle.std.proofs.lemmas.Bool.{both_ways, false≢true, eqb-true}
 use Rattle.std.proofs.lemmas.Bool.Decides.{Decides-like}
 use Rattle.std.proofs.lemmas.List.{length-append}
-use Rattle.sip_text.specs.Bytes.{equals, semicolon, ampersand, is_param_unreserved, is_hnv_unreserved}
-use Rattle.sip_text.specs.Text.{Byte, ◌then◌, Optional, Many, OneOrMore, Joined, led}
-use Rattle.sip_text.specs.Cut.{before, behind, past, parts}
-use Rattle.sip_text.specs.Uri.{ParamChar, ParamWord, UriParameter, UriParameters, HeaderChar, Header, Headers}
+use Rattle.sip_standard.specs.Text.{◌then◌, Optional, Many, OneOrMore}
+use Rattle.sip_standard.specs.Profile.{UriParameters, Headers}
+use Rattle.sip_text.specs.Bytes.{equals, semicolon, ampersand, Byte}
+use Rattle.sip_text.specs.Parts.{led}
+use Rattle.sip_text.specs.inner.Class.{is_param_unreserved, is_hnv_unreserved}
+use Rattle.sip_text.specs.inner.Cut.{before, behind, past, parts}
+use Rattle.sip_text.specs.inner.Pieces.{Joined, ParamChar, ParamWord, UriParameter, HeaderChar, Header}
 use Rattle.sip_text.proofs.ManyLemmas.{many-nil, many-cons, some-many}
 use Rattle.sip_text.proofs.LacksLemmas.{AllLack, lack-byte, lack-then, lack-optional, lack-many, lack-some}
 use Rattle.sip_text.proofs.CutLemmas.{cut-whole, before-led, behind-led, later_parts, parts-cut}
-use Rattle.sip_text.proofs.UriCharLemmas.{is_char_byte, lack-first}
+use Rattle.sip_text.proofs.UriCharLemmas.{is_char_byte, lack-char}
 use Rattle.sip_text.proofs.JoinedLemmas.{parts-joined, joined-parts}
 
 -- P [ mark Q ]: cut at the mark
@@ -55,11 +58,11 @@ then-cut mark P Q text one other = at (behind mark text) other (cut-whole mark t
 
 -- a "=" stands in no name of a parameter
 lack-param_word : AllLack equals ParamWord
-lack-param_word = lack-some equals ParamChar (lack-first equals is_param_unreserved refl)
+lack-param_word = lack-some equals ParamChar (lack-char equals is_param_unreserved refl)
 
 -- nor in one of a header
 lack-hname : AllLack equals (OneOrMore HeaderChar)
-lack-hname = lack-some equals HeaderChar (lack-first equals is_hnv_unreserved refl)
+lack-hname = lack-some equals HeaderChar (lack-char equals is_hnv_unreserved refl)
 
 -- what decides its two parts decides a parameter
 pub decides-param : (text name : List ℕ) (value : Option (List ℕ)) (r : Bool) → name ≡ before equals text → value ≡ behind equals text → Decides r (ParamWord name × IfSome value ParamWord) → Decides r (UriParameter text)
@@ -148,7 +151,7 @@ each-first mark P text part part_is each =
 -- a "&" stands in no header
 lack-ampersand : AllLack ampersand Header
 lack-ampersand =
-    let char = lack-first ampersand is_hnv_unreserved refl in
+    let char = lack-char ampersand is_hnv_unreserved refl in
     lack-then ampersand _ _ (lack-some ampersand HeaderChar char)
     (lack-then ampersand _ _ (lack-byte ampersand equals refl) (lack-many ampersand HeaderChar char))
 
@@ -163,7 +166,7 @@ each-headers text = joined-parts ampersand Header text
 -- a byte of neither stands in no parameter
 pub lack-param : (mark : ℕ) → is_char_byte is_param_unreserved mark ≡ false → nat_eq equals mark ≡ false → AllLack mark UriParameter
 lack-param mark no_char no_equals =
-    let word = lack-some mark ParamChar (lack-first mark is_param_unreserved no_char) in
+    let word = lack-some mark ParamChar (lack-char mark is_param_unreserved no_char) in
     lack-then mark _ _ word (lack-optional mark _ (lack-then mark _ _ (lack-byte mark equals no_equals) word))
 
 -- parameters joined by ";" are texts joined by it, each a parameter

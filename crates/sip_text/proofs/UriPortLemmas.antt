@@ -9,10 +9,10 @@ use Rattle.std.proofs.lemmas.List.{take_all}
 use Rattle.std.proofs.lemmas.List.Folds.{list_all_at, list_all_more}
 use Rattle.std.proofs.lemmas.Str.{digit_value_digit}
 use Rattle.std.proofs.lemmas.Str.Parse.{digits_value-take-le}
+use Rattle.sip_standard.specs.Text.{One, Between}
+use Rattle.sip_standard.specs.Profile.{Port}
 use Rattle.sip_text.specs.Bytes.{colon}
-use Rattle.sip_text.specs.Text.{One, Between}
-use Rattle.sip_text.specs.Cut.{before_last, behind_last}
-use Rattle.sip_text.specs.Uri.{Port}
+use Rattle.sip_text.specs.inner.Cut.{before_last, behind_last}
 use Rattle.sip_text.specs.inner.UriCut.{IsPortCut}
 use Rattle.sip_text.proofs.LacksLemmas.{AllLack, lack-one, lack-between}
 use Rattle.sip_text.proofs.RunLemmas.{run-list_all, list_all-run}

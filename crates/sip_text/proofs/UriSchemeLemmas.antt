@@ -3,8 +3,8 @@ use Rattle.std.proofs.Common.{◌≡◌, ℕ, Bool, true, IsTrue, List, [], ◌�
 use Rattle.std.specs.Bool.{Decides}
 use Rattle.std.specs.Char.{is_ascii_alphabetic}
 use Rattle.std.specs.List.{list_all}
-use Rattle.sip_text.specs.Bytes.{is_scheme_byte}
-use Rattle.sip_text.specs.Uri.{Scheme}
+use Rattle.sip_standard.specs.Profile.{Scheme}
+use Rattle.sip_text.specs.inner.Class.{is_scheme_byte}
 use Rattle.sip_text.proofs.RunLemmas.{run-list_all, list_all-run}
 
 -- a scheme begins with a letter, and bytes of a scheme follow

@@ -4,17 +4,21 @@ use Rattle.std.specs.List.{list_all}
 use Rattle.std.proofs.lemmas.Bool.{false≢true, both_ways, and_parts, eq-eqb}
 use Rattle.std.proofs.lemmas.List.{append-nil, append_assoc, length-append}
 use Rattle.std.specs.Char.{is_ascii_digit}
-use Rattle.sip_text.specs.Bytes.{ampersand, equals, colon, semicolon, question, at_sign, is_user_unreserved, is_password_unreserved, is_param_unreserved, is_hnv_unreserved}
-use Rattle.sip_text.specs.Text.{One, led}
-use Rattle.sip_text.specs.Cut.{before, behind, before_last, behind_last}
+use Rattle.sip_standard.specs.Text.{One}
+use Rattle.sip_standard.specs.Profile.{User, Password, Port, UriParameters, Headers}
+use Rattle.sip_text.specs.Bytes.{ampersand, equals, colon, semicolon, question, at_sign}
+use Rattle.sip_text.specs.Parts.{led}
 use Rattle.sip_text.specs.Host.{HostParts, HostText, host_text}
-use Rattle.sip_text.specs.Uri.{sip, other, User, Password, Port, UriParameters, Header, Headers, SipParts, SipFits, userinfo_text, hostport_text, sip_text, UriParts}
+use Rattle.sip_text.specs.Uri.{sip, other, SipParts, SipFits, userinfo_text, hostport_text, sip_text, UriParts}
+use Rattle.sip_text.specs.inner.Class.{is_user_unreserved, is_password_unreserved, is_param_unreserved, is_hnv_unreserved}
+use Rattle.sip_text.specs.inner.Cut.{before, behind, before_last, behind_last}
+use Rattle.sip_text.specs.inner.Pieces.{Header}
 use Rattle.sip_text.specs.inner.UriCut.{IsInfoCut, IsPortCut, CutParts, IsSipCut, InfoFits, TailFits, SipText}
 use Rattle.sip_text.proofs.LacksLemmas.{Lacks, AllLack, lacks-append, lack-one, lack-byte, lack-then, lack-many, lack-some, lack-between, lack-joined}
 use Rattle.sip_text.proofs.ManyLemmas.{drop-front}
 use Rattle.sip_text.proofs.CutLemmas.{cut-whole, before-led, behind-led}
 use Rattle.sip_text.proofs.LastLemmas.{before_last-mark, behind_last-mark}
-use Rattle.sip_text.proofs.UriCharLemmas.{is_char_byte, lack-last, lack-first}
+use Rattle.sip_text.proofs.UriCharLemmas.{is_char_byte, lack-char}
 use Rattle.sip_text.proofs.UriPartLemmas.{lack-param, params-led}
 use Rattle.sip_text.proofs.UriPortLemmas.{lack-port}
 use Rattle.sip_text.proofs.UriHostLemmas.{IsForeign, lack-host, host-spelled, host-no_port}
@@ -100,15 +104,15 @@ semicolon-foreign = record { label = refl; alphanumeric = refl; alphabetic = ref
 
 -- a user lacks "@"
 user-at_sign : AllLack at_sign User
-user-at_sign = lack-some at_sign _ (lack-last at_sign is_user_unreserved refl)
+user-at_sign = lack-some at_sign _ (lack-char at_sign is_user_unreserved refl)
 
 -- and ":"
 user-colon : AllLack colon User
-user-colon = lack-some colon _ (lack-last colon is_user_unreserved refl)
+user-colon = lack-some colon _ (lack-char colon is_user_unreserved refl)
 
 -- a password lacks "@"
 password-at_sign : AllLack at_sign Password
-password-at_sign = lack-many at_sign _ (lack-last at_sign is_password_unreserved refl)
+password-at_sign = lack-many at_sign _ (lack-char at_sign is_password_unreserved refl)
 
 -- a port lacks what is no digit
 port-lacks : (mark : ℕ) → is_ascii_digit mark ≡ false → AllLack mark Port
@@ -122,7 +126,7 @@ params-lack mark no_char no_equals no_semicolon =
 -- headers lack "@"
 headers-at_sign : AllLack at_sign Headers
 headers-at_sign =
-    let char = lack-first at_sign is_hnv_unreserved refl in
+    let char = lack-char at_sign is_hnv_unreserved refl in
     lack-joined at_sign ampersand Header refl
     (lack-then at_sign _ _ (lack-some at_sign _ char)
     (lack-then at_sign _ _ (lack-byte at_sign equals refl) (lack-many at_sign _ char)))

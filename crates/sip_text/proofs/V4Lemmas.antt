@@ -3,10 +3,12 @@ use Rattle.std.proofs.Common.{◌≡◌, ℕ, Bool, true, false, nat_eq, cond, L
 use Rattle.std.specs.Option.{option_map_or}
 use Rattle.std.specs.Char.{is_ascii_digit}
 use Rattle.sip_text.specs.declared.class.Class.TheVariants as variant
-use Rattle.sip_text.specs.Bytes.{dot}
-use Rattle.sip_text.specs.Text.{One, Byte, ◌then◌, led}
-use Rattle.sip_text.specs.Cut.{before, behind}
-use Rattle.sip_text.specs.Host.{DecimalGroup, Ipv4Address}
+use Rattle.sip_standard.specs.Text.{One, ◌then◌}
+use Rattle.sip_standard.specs.Profile.{Ipv4}
+use Rattle.sip_text.specs.Bytes.{dot, Byte}
+use Rattle.sip_text.specs.Parts.{led}
+use Rattle.sip_text.specs.inner.Cut.{before, behind}
+use Rattle.sip_text.specs.inner.Pieces.{DecimalGroup}
 use Rattle.sip_text.specs.inner.HostTests.{is_decimal, is_decimal_dot, is_v4}
 use Rattle.sip_text.proofs.LacksLemmas.{AllLack, lack-one, lack-byte, lack-then, lack-between}
 use Rattle.sip_text.proofs.CutLemmas.{cut-whole, before-led, behind-led}
@@ -51,7 +53,7 @@ abbrev LastThree : List ℕ → Type 0
 LastThree = DecimalGroup then Byte dot then LastTwo
 
 -- what passes the test is an IPv4 address
-pub v4-yes : (text : List ℕ) → is_v4 text ≡ true → Ipv4Address text
+pub v4-yes : (text : List ℕ) → is_v4 text ≡ true → Ipv4 text
 v4-yes text pass = decimal_dot-yes (is_decimal_dot (is_decimal_dot is_decimal)) LastThree text three pass
   where
     two : (t : List ℕ) → is_decimal_dot is_decimal t ≡ true → LastTwo t
@@ -61,7 +63,7 @@ v4-yes text pass = decimal_dot-yes (is_decimal_dot (is_decimal_dot is_decimal)) 
     three t = decimal_dot-yes (is_decimal_dot is_decimal) LastTwo t two
 
 -- an IPv4 address passes its test
-pub v4-is : (text : List ℕ) → Ipv4Address text → is_v4 text ≡ true
+pub v4-is : (text : List ℕ) → Ipv4 text → is_v4 text ≡ true
 v4-is text v4 = decimal_dot-is (is_decimal_dot (is_decimal_dot is_decimal)) LastThree text three v4
   where
     two : (t : List ℕ) → LastTwo t → is_decimal_dot is_decimal t ≡ true
@@ -71,7 +73,7 @@ v4-is text v4 = decimal_dot-is (is_decimal_dot (is_decimal_dot is_decimal)) Last
     three t = decimal_dot-is (is_decimal_dot is_decimal) LastTwo t two
 
 -- an IPv4 address lacks what is neither a digit nor a dot
-pub lack-v4 : (mark : ℕ) → is_ascii_digit mark ≡ false → nat_eq dot mark ≡ false → AllLack mark Ipv4Address
+pub lack-v4 : (mark : ℕ) → is_ascii_digit mark ≡ false → nat_eq dot mark ≡ false → AllLack mark Ipv4
 lack-v4 mark no_digit other = before_dot LastThree (before_dot LastTwo (before_dot DecimalGroup (lack-decimal mark no_digit)))
   where
     before_dot : (Q : List ℕ → Type 0) → AllLack mark Q → AllLack mark (DecimalGroup then Byte dot then Q)

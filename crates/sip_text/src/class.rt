@@ -1,7 +1,7 @@
 //! The classes of bytes, in one table, and runs of bytes of one class.
 ghost use Rattle.std.specs.Prelude.{◌≡◌, ◌≤◌, length};
 ghost use Rattle.std.specs.List.{list_all, prefix_len};
-ghost use Rattle.sip_text.specs.Class.{bit_of, is_in};
+ghost use Rattle.sip_text.specs.inner.Class.{bit_of, is_in};
 
 /// A class of bytes: its bit in the table. Those of a URI's parts leave the `%` of an escape aside.
 #[derive(Clone, Copy, Debug)]

@@ -1,8 +1,8 @@
 //! Cuts of a text at a mark.
 ghost use Rattle.std.specs.Prelude.{◌≡◌, false, is_some, option_copied, IfSome};
 ghost use Rattle.std.specs.List.{list_all};
-ghost use Rattle.sip_text.specs.Class.{is_in};
-ghost use Rattle.sip_text.specs.Cut.{before, before_last, behind, behind_last, past, up_to};
+ghost use Rattle.sip_text.specs.inner.Class.{is_in};
+ghost use Rattle.sip_text.specs.inner.Cut.{before, before_last, behind, behind_last, past, up_to};
 
 use crate::class::{Class, run_len};
 use memchr::{memchr, memrchr};

@@ -1,9 +1,10 @@
 //! Hosts: names and addresses.
 ghost use Rattle.std.specs.Prelude.{◌≡◌, ◌↔◌, IsTrue, option_copied};
-ghost use Rattle.sip_text.specs.Text.{IsOnlyValue};
+ghost use Rattle.sip_standard.specs.Profile.{Ipv6};
 ghost use Rattle.sip_text.specs.Bytes.{dot};
-ghost use Rattle.sip_text.specs.Cut.{parts};
-ghost use Rattle.sip_text.specs.Host.{Ipv6Address, HostText, host_parts};
+ghost use Rattle.sip_text.specs.Parts.{IsOnlyValue};
+ghost use Rattle.sip_text.specs.Host.{HostText, host_parts};
+ghost use Rattle.sip_text.specs.inner.Cut.{parts};
 ghost use Rattle.sip_text.specs.inner.HostTests.{are_labels, before_double, behind_double, has_label_ends, has_len, has_top_ends, has_v4_tail, is_before_v4, is_group, is_hexpart, is_hexseq, is_hostname, is_open, is_optional_hexseq, is_v4, is_v6, is_v6_reference, past_decimal};
 
 use crate::class::{Class, all_in, has};
@@ -41,7 +42,7 @@ pub fn read_host(text: &[u8]) -> Option<Host<'_>>
 /// Whether the whole text is an `IPv6address` (RFC 3261, section 25.1), without brackets, and as wide
 /// as in [`read_host`].
 pub fn is_ipv6_address(text: &[u8]) -> bool
-    ensures { IsTrue result ↔ Ipv6Address text.now }
+    ensures { IsTrue result ↔ Ipv6 text.now }
 {
     is_v6(text)
 }

@@ -1,11 +1,14 @@
 //! URIs: those of SIP in their parts, and any other by its scheme.
 ghost use Rattle.std.specs.Prelude.{◌≡◌, ◌↔◌, false, IsTrue, option_copied};
+ghost use Rattle.sip_standard.specs.Text.{Many, OneOrMore};
+ghost use Rattle.sip_standard.specs.Profile.{Port, UriParameters, Headers, Scheme};
 ghost use Rattle.sip_text.specs.Bytes.{colon, percent, semicolon};
-ghost use Rattle.sip_text.specs.Text.{Many, OneOrMore, Joined, IsOnlyValue};
-ghost use Rattle.sip_text.specs.Class.{is_in};
-ghost use Rattle.sip_text.specs.Cut.{before, behind};
-ghost use Rattle.sip_text.specs.Uri.{Port, UriParameter, UriParameters, Header, Headers, Scheme, UriText, uri_parts};
-ghost use Rattle.sip_text.specs.inner.UriCut.{Char, behind_escape, IsInfoCut, IsPortCut, cut_parts, IsSipCut, InfoFits, TailFits, SipText};
+ghost use Rattle.sip_text.specs.Parts.{IsOnlyValue};
+ghost use Rattle.sip_text.specs.Uri.{UriText, uri_parts};
+ghost use Rattle.sip_text.specs.inner.Class.{is_in};
+ghost use Rattle.sip_text.specs.inner.Cut.{before, behind};
+ghost use Rattle.sip_text.specs.inner.Pieces.{Joined, UriParameter, Header};
+ghost use Rattle.sip_text.specs.inner.UriCut.{ClassChar, behind_escape, IsInfoCut, IsPortCut, cut_parts, IsSipCut, InfoFits, TailFits, SipText};
 
 use crate::case::same_text;
 use crate::class::{Class, all_in, has, run_len};
@@ -296,7 +299,7 @@ fn is_header(text: &[u8]) -> bool
 // Whether the text is one or more characters of the class.
 fn is_some_chars(class: Class, text: &[u8]) -> bool
     requires { is_in class percent ≡ false }
-    ensures { IsTrue result ↔ OneOrMore (Char class) text.now }
+    ensures { IsTrue result ↔ OneOrMore (ClassChar class) text.now }
 {
     !text.is_empty() && is_chars(class, text)
 }
@@ -304,7 +307,7 @@ fn is_some_chars(class: Class, text: &[u8]) -> bool
 // Whether the text is characters of the class: its bytes, and escapes. A `%` is never such a byte.
 fn is_chars(class: Class, text: &[u8]) -> bool
     requires { is_in class percent ≡ false }
-    ensures { IsTrue result ↔ Many (Char class) text.now }
+    ensures { IsTrue result ↔ Many (ClassChar class) text.now }
 {
     let mut rest = text;
     'chars: loop {

@@ -2,11 +2,11 @@
 use Rattle.std.specs.Prelude.{◌≡◌, ◌⊎◌, ◌&&◌, not, ℕ, Bool, true, List, ◌∷◌, ◌++◌, Option, None, Some, codes, option_copied}
 use Rattle.std.specs.List.{AllByRecursion}
 use Rattle.std.specs.Borrow.{Bor}
+use Rattle.sip_standard.specs.Text.{◌then◌, Many}
+use Rattle.sip_standard.specs.Profile.{Token, Blanks}
 use Rattle.sip_text.specs.Bytes.{colon, is_one_of, is_token_byte}
-use Rattle.sip_text.specs.Text.{◌then◌, Many}
-use Rattle.sip_text.specs.Grammar.{Token, Blanks}
-use Rattle.sip_text.specs.Cut.{before, behind}
 use Rattle.sip_text.specs.Uri.{UriText}
+use Rattle.sip_text.specs.inner.Cut.{before, behind}
 use Rattle.sip_message.specs.declared.address.Cuts.{Cuts}
 use Rattle.sip_message.specs.Unfold.{is_blank}
 use Rattle.sip_message.specs.Params.{left_angle, right_angle, ParamsPart, BehindBlanks}

@@ -1,10 +1,10 @@
 -- What stands at the front of a text, with what is left behind it.
 use Rattle.std.specs.Prelude.{◌≡◌, ℕ, ◌-◌, ◌&&◌, ◌==◌, not, nat_lt, slice_index, length, Bool, List, [], ◌∷◌, ◌++◌, false, if◌then◌else◌, ⊤}
 use Rattle.std.specs.Borrow.{Bor}
+use Rattle.sip_standard.specs.Text.{Exactly, ◌then◌}
+use Rattle.sip_standard.specs.Profile.{Token, Sws, Blanks}
 use Rattle.sip_text.specs.Bytes.{carriage_return, is_wsp, is_token_byte}
-use Rattle.sip_text.specs.Text.{Exactly, ◌then◌}
-use Rattle.sip_text.specs.Grammar.{Token, Sws, Blanks}
-use Rattle.sip_text.specs.Blanks.{blank_len}
+use Rattle.sip_text.specs.inner.Blanks.{blank_len}
 use Rattle.sip_message.specs.Lines.{BeginsBlank, IsFolded, with_end}
 use Rattle.sip_message.specs.Params.{slash, Mark}
 

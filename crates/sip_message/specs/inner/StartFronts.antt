@@ -1,8 +1,8 @@
 -- The two start lines, each with its parts, and a Status-Code at the front of a text.
 use Rattle.std.specs.Prelude.{ℕ, List}
 use Rattle.std.specs.Borrow.{Bor}
-use Rattle.sip_text.specs.Bytes.{space}
-use Rattle.sip_text.specs.Text.{Byte, Exactly, ◌then◌}
+use Rattle.sip_standard.specs.Text.{Exactly, ◌then◌}
+use Rattle.sip_text.specs.Bytes.{space, Byte}
 use Rattle.sip_message.specs.StartLine.{request, status, CodeText, StartText}
 
 -- a Request-Line, with its method and Request-URI

@@ -5,9 +5,9 @@ use Rattle.std.specs.Option.{option_map_or}
 use Rattle.std.specs.Char.{is_ascii_alphabetic}
 use Rattle.sip_text.specs.declared.class.Class.{Class}
 use Rattle.sip_text.specs.declared.class.Class.TheVariants as variant
-use Rattle.sip_text.specs.Bytes.{hyphen, dot, colon, left_bracket, right_bracket, is_label_byte}
-use Rattle.sip_text.specs.Class.{is_in}
-use Rattle.sip_text.specs.Cut.{before, behind, before_last, behind_last, parts, past, up_to}
+use Rattle.sip_text.specs.Bytes.{hyphen, dot, colon, left_bracket, right_bracket}
+use Rattle.sip_text.specs.inner.Class.{is_label_byte, is_in}
+use Rattle.sip_text.specs.inner.Cut.{before, behind, before_last, behind_last, parts, past, up_to}
 
 -- a byte or more, and at most so many
 abbrev pub has_len : ℕ → List ℕ → Bool

@@ -1,6 +1,6 @@
 use Rattle.std.proofs.Common.{sym, subst}
 use Rattle.std.proofs.lemmas.Bool.{both_ways}
-use Rattle.sip_text.specs.Text.{IsOnlyValue}
+use Rattle.sip_text.specs.Parts.{IsOnlyValue}
 use Rattle.sip_message.specs.Field.{Row}
 use Rattle.sip_message.specs.Faults.{IsValue}
 use Rattle.sip_message.specs.inner.Fronts.{text_parts}

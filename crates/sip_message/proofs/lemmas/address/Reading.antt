@@ -6,11 +6,12 @@ use Rattle.std.specs.List.{prefix_len}
 use Rattle.std.proofs.Math.Seq.{drop-cons}
 use Rattle.std.proofs.lemmas.Bool.{both_ways, eqb-true, eq-eqb, or_parts, and_parts, and_from, ltb-true}
 use Rattle.std.proofs.lemmas.List.{append_assoc, length-drop, take-append-drop}
+use Rattle.sip_standard.specs.Text.{◌then◌, Many}
+use Rattle.sip_standard.specs.Profile.{Token, Sws, Blanks}
 use Rattle.sip_text.specs.Bytes.{colon, dquote, semicolon, is_token_byte, is_one_of}
-use Rattle.sip_text.specs.Text.{◌then◌, Many, led, IsLongestFront}
-use Rattle.sip_text.specs.Grammar.{Token, Sws, Blanks}
-use Rattle.sip_text.specs.Cut.{before, behind, past}
+use Rattle.sip_text.specs.Parts.{led, IsLongestFront}
 use Rattle.sip_text.specs.Uri.{UriText}
+use Rattle.sip_text.specs.inner.Cut.{before, behind, past}
 use Rattle.sip_text.proofs.CutLemmas.{cut-whole, past-some, before-led, behind-led}
 use Rattle.sip_text.proofs.ManyLemmas.{some-many}
 use Rattle.sip_text.proofs.LacksLemmas.{Lacks}

@@ -14,10 +14,10 @@ use Rattle.std.proofs.Math.Seq.{take-length}
 use Rattle.sip_text.proofs.RunLemmas.{list_all-run}
 use Rattle.sip_message.proofs.lemmas.start_line.OneWay.{length-code, status_parts}
 use Rattle.std.proofs.lemmas.List.{append_assoc, append-nil, length-append, length-take-le, length-map}
+use Rattle.sip_standard.specs.Text.{One}
+use Rattle.sip_standard.specs.Case.{folded}
+use Rattle.sip_standard.specs.Profile.{Token}
 use Rattle.sip_text.specs.Bytes.{carriage_return, line_feed, space, colon, is_wsp, is_token_byte}
-use Rattle.sip_text.specs.Text.{One}
-use Rattle.sip_text.specs.Case.{folded}
-use Rattle.sip_text.specs.Grammar.{Token}
 use Rattle.sip_text.proofs.ManyLemmas.{many-nil}
 use Rattle.sip_message.specs.declared.name.Known.{Known}
 use Rattle.sip_message.specs.declared.name.Known.TheVariants as known_name

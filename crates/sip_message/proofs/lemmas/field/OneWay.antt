@@ -1,9 +1,9 @@
 -- A line is a field in one way.
 use Rattle.std.proofs.Common.{◌≡◌, ℕ, true, false, List, [], ◌∷◌, ◌++◌, refl, sym, ap, ◌∙◌, subst}
 use Rattle.std.proofs.lemmas.Bool.{both_ways}
+use Rattle.sip_standard.specs.Text.{One, Many}
+use Rattle.sip_standard.specs.Profile.{Token}
 use Rattle.sip_text.specs.Bytes.{colon, is_wsp, is_token_byte}
-use Rattle.sip_text.specs.Text.{One, Many}
-use Rattle.sip_text.specs.Grammar.{Token}
 use Rattle.sip_message.specs.Name.{FieldName, name_of}
 use Rattle.sip_message.specs.Field.{NameText, ValueText}
 use Rattle.sip_message.specs.Unfold.{is_blank, OpensSolid, EndsSolid}

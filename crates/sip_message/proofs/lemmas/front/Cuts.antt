@@ -5,11 +5,12 @@ use Rattle.std.proofs.lemmas.Option.{none-some}
 use Rattle.std.proofs.lemmas.List.{append_assoc, length-append}
 use Rattle.std.proofs.Math.Seq.{take-append_seam}
 use Rattle.sip_text.proofs.CutLemmas.{past-some}
+use Rattle.sip_standard.specs.Text.{One, Many}
+use Rattle.sip_standard.specs.Profile.{Token, Sws, Blanks}
 use Rattle.sip_text.specs.Bytes.{carriage_return, line_feed, is_wsp, is_token_byte}
-use Rattle.sip_text.specs.Text.{One, Many, HasFront, IsLongestFront}
-use Rattle.sip_text.specs.Grammar.{Token, Sws, Blanks}
-use Rattle.sip_text.specs.Blanks.{Blank, blank_len}
-use Rattle.sip_text.specs.Cut.{past}
+use Rattle.sip_text.specs.Parts.{HasFront, IsLongestFront}
+use Rattle.sip_text.specs.inner.Cut.{past}
+use Rattle.sip_text.specs.inner.Blanks.{Blank, blank_len}
 use Rattle.sip_text.proofs.ManyLemmas.{front-rest, many-nil, many-push, same_many}
 use Rattle.sip_text.proofs.BlanksLemmas.{units-blanks, blanks-units, blank-step, blanks-longest}
 use Rattle.sip_message.specs.Unfold.{is_blank}

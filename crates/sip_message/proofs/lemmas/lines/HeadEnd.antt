@@ -5,8 +5,8 @@ use Rattle.std.proofs.lemmas.Bool.{both_ways, cases_lt, and_parts, not-true, eqb
 use Rattle.std.proofs.lemmas.List.{length-append, length-drop, get_or-drop, get_or-append-add, get_or_append_left, take-append-drop, length-take-le}
 use Rattle.std.proofs.Math.Seq.{drop-append-add, take-append-add, take-length}
 use Rattle.memchr.specs.Find.{OccursAt, Nowhere, NoneBefore, Passes, is_byte2}
+use Rattle.sip_standard.specs.Text.{One, Exactly, ◌or◌}
 use Rattle.sip_text.specs.Bytes.{crlf, carriage_return, line_feed}
-use Rattle.sip_text.specs.Text.{One, Exactly, ◌or◌}
 use Rattle.sip_text.proofs.ManyLemmas.{many-nil, many-cons}
 use Rattle.sip_message.specs.Lines.{IsHead, is_inner_byte, HasNoBareEnd, IsLines, with_end}
 use Rattle.sip_message.specs.inner.Lines.{AreLines, IsPaired, ArePaired, BeginsWithFeed}

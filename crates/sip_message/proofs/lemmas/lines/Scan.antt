@@ -3,12 +3,12 @@ use Rattle.std.proofs.Common.{◌≡◌, ℕ, ◌+◌, ◌-◌, ◌≤◌, ◌�
 use Rattle.std.proofs.lemmas.Bool.{both_ways, and_parts, and_from}
 use Rattle.std.proofs.lemmas.Option.{none-some}
 use Rattle.std.proofs.Math.Seq.{take-append_seam, drop-append_seam}
-use Rattle.sip_text.specs.Text.{led}
-use Rattle.sip_text.specs.Cut.{before, behind, up_to}
+use Rattle.sip_text.specs.Bytes.{crlf, carriage_return, line_feed, is_wsp}
+use Rattle.sip_text.specs.Parts.{led}
+use Rattle.sip_text.specs.inner.Cut.{before, behind, up_to}
 use Rattle.sip_text.proofs.CutLemmas.{cut-whole, lacks-before}
 use Rattle.sip_text.proofs.EndLemmas.{up_to-some, up_to-mark}
 use Rattle.std.proofs.lemmas.List.{append_assoc, append-nil, length-append, append_cancel_left, take-append-drop, length-take-le}
-use Rattle.sip_text.specs.Bytes.{crlf, carriage_return, line_feed, is_wsp}
 use Rattle.sip_text.proofs.LacksLemmas.{Lacks}
 use Rattle.sip_message.specs.Lines.{BeginsBlank, IsFolded}
 use Rattle.sip_message.specs.inner.Fronts.{LineFront, ends_cr, begins_wsp, is_line}

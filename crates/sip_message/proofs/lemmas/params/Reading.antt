@@ -3,12 +3,11 @@ use Rattle.std.proofs.Common.{◌≡◌, ◌↔◌, IsTrue, ℕ, ◌<◌, ◌≤
 use Rattle.std.proofs.lemmas.Bool.{both_ways, or_cases, eqb-true, eq-eqb}
 use Rattle.std.proofs.lemmas.Option.{none-some}
 use Rattle.std.proofs.lemmas.List.{append_assoc, append-nil, length-append}
+use Rattle.sip_standard.specs.Text.{◌or◌}
+use Rattle.sip_standard.specs.Profile.{Token, Ipv6}
 use Rattle.sip_text.specs.Bytes.{semicolon, equals, dquote, left_bracket, right_bracket, is_token_byte}
-use Rattle.sip_text.specs.Text.{◌or◌}
-use Rattle.sip_text.specs.Grammar.{Token}
-use Rattle.sip_text.specs.Cut.{past}
+use Rattle.sip_text.specs.inner.Cut.{past}
 use Rattle.sip_text.proofs.CutLemmas.{past-some}
-use Rattle.sip_text.specs.Host.{Ipv6Address}
 use Rattle.sip_message.specs.Unfold.{is_blank, OpensSolid}
 use Rattle.sip_message.specs.Params.{comma, Mark, ParamValue, ParamText, ParamsText, ParamsPart, BehindBlanks}
 use Rattle.sip_message.specs.inner.Fronts.{StopsBlank, TokenFront, MarkFront, both}
@@ -90,7 +89,7 @@ blank-bare : (b : ℕ) → is_blank b ≡ true → is_bare_byte b ≡ false
 blank-bare = blank_is (λ b. is_bare_byte b ≡ false) refl refl refl refl
 
 -- no blank run begins a value
-bare-stops : (v rest : List ℕ) → (Token or Ipv6Address) v → StopsBlank (v ++ rest)
+bare-stops : (v rest : List ℕ) → (Token or Ipv6) v → StopsBlank (v ++ rest)
 bare-stops v rest kind = at v (some-bare v kind) (each-bare v kind)
   where
     solid : (b : ℕ) (x : Bool) → is_blank b ≡ x → is_bare_byte b ≡ true → is_blank b ≡ false

@@ -6,10 +6,11 @@ use Prim.Native.String.{String}
 use Rattle.std.proofs.lemmas.Bool.{both_ways, or_cases, or_left, or_right}
 use Rattle.std.proofs.lemmas.Slice.Eq.{bytes_eq-Decides}
 use Rattle.std.proofs.lemmas.List.{length-append}
-use Rattle.sip_text.specs.Text.{One, Byte, Exactly, ◌then◌, ◌or◌, Many}
-use Rattle.sip_text.specs.Case.{folded}
-use Rattle.sip_text.specs.Chars.{AnyCase}
-use Rattle.sip_text.specs.Grammar.{Token, Sws}
+use Rattle.sip_standard.specs.Text.{One, Exactly, ◌then◌, ◌or◌, Many}
+use Rattle.sip_standard.specs.Case.{folded}
+use Rattle.sip_standard.specs.Chars.{AnyCase}
+use Rattle.sip_standard.specs.Profile.{Token, Sws}
+use Rattle.sip_text.specs.Bytes.{Byte}
 use Rattle.sip_message.specs.declared.name.Known.{Known}
 use Rattle.sip_message.specs.declared.name.Known.TheVariants as known_name
 use Rattle.sip_message.specs.declared.fault.Reason.TheVariants as reason

@@ -19,7 +19,7 @@ use Rattle.sip_message.specs.Reading.{Reading, Parts, HasParts, IsValueOf, Addre
 use Rattle.sip_message.specs.Reads.{Reads}
 use Rattle.sip_message.specs.Says.{full_name, SaidField, said_values, Said, SaidVia, ViasTell, IsFirstOf, FieldsTell, BytesTell, Says}
 use Rattle.sip_message.specs.SaidOf.{said_via, said_of}
-use Rattle.sip_text.specs.Case.{folded}
+use Rattle.sip_standard.specs.Case.{folded}
 use Rattle.sip_message.proofs.lemmas.asked.Parts.{found-values, has-parts}
 use Rattle.sip_message.proofs.lemmas.asked.OneWay.{parts-one}
 use Rattle.sip_message.proofs.lemmas.message.Outcome.{no_value, given, fault_is}

@@ -3,10 +3,10 @@ use Rattle.std.proofs.Common.{ℕ, List, [], ◌∷◌, ◌++◌, Option, None, 
 use Rattle.std.specs.Prelude.{⊤, codes, not}
 use Rattle.std.specs.Str.Parse.{digits_value}
 use Rattle.std.proofs.lemmas.List.{append-nil}
-use Rattle.sip_text.specs.Bytes.{equals, is_one_of}
-use Rattle.sip_text.specs.Text.{One, Byte, Exactly, ◌then◌, ◌or◌, Optional, Many}
-use Rattle.sip_text.specs.Grammar.{Token, Sws, Blanks}
-use Rattle.sip_text.specs.Profile as profile
+use Rattle.sip_standard.specs.Text.{One, Exactly, ◌then◌, ◌or◌, Optional, Many}
+use Rattle.sip_standard.specs.Profile.{Token, Sws, Blanks}
+use Rattle.sip_text.specs.Bytes.{equals, is_one_of, Byte}
+use Rattle.sip_standard.specs.Profile as profile
 use Rattle.sip_text.proofs.ManyLemmas.{many-map}
 use Rattle.sip_text.proofs.ProfileLemmas.{uri-parts, parts-uri}
 use Rattle.sip_message.specs.Params.{left_angle, Mark, ParamValue}

@@ -3,14 +3,14 @@ use Rattle.std.proofs.Common.{◌≡◌, ℕ, List, [], ◌∷◌, ◌++◌, len
 use Rattle.std.specs.Prelude.{codes}
 use Rattle.std.proofs.lemmas.Bool.{both_ways}
 use Rattle.std.proofs.lemmas.List.{append-nil, append_assoc}
+use Rattle.sip_standard.specs.Text.{◌then◌}
+use Rattle.sip_standard.specs.Case.{folded}
+use Rattle.sip_standard.specs.Chars.{EachSays}
+use Rattle.sip_standard.specs.Profile.{Token, Port}
 use Rattle.sip_text.specs.Bytes.{semicolon}
-use Rattle.sip_text.specs.Text.{◌then◌}
-use Rattle.sip_text.specs.Case.{folded, SameText}
-use Rattle.sip_text.specs.Grammar.{Token}
-use Rattle.sip_text.specs.Uri.{Port}
+use Rattle.sip_text.specs.Case.{SameText}
 use Rattle.sip_text.specs.Host.{host_text}
-use Rattle.sip_text.specs.Chars.{EachSays}
-use Rattle.sip_text.specs.Profile as profile
+use Rattle.sip_standard.specs.Profile as profile
 use Rattle.sip_text.proofs.ProfileLemmas.{host-parts, parts-host}
 use Rattle.sip_message.specs.Unfold.{is_blank, OpensSolid}
 use Rattle.sip_message.specs.Params.{ParamValue, ParamText, ParamsText, ParamsPart, BehindBlanks}

@@ -5,9 +5,9 @@ use Rattle.std.specs.Char.{to_ascii_lowercase, is_ascii_digit}
 use Rattle.std.specs.Str.Parse.{digits_value}
 use Rattle.std.proofs.lemmas.Bool.{both_ways}
 use Rattle.std.proofs.lemmas.List.{length-append}
+use Rattle.sip_standard.specs.Text.{One}
+use Rattle.sip_standard.specs.Case.{folded}
 use Rattle.sip_text.specs.Bytes.{space, is_token_byte}
-use Rattle.sip_text.specs.Text.{One}
-use Rattle.sip_text.specs.Case.{folded}
 use Rattle.sip_message.specs.StartLine.{StartLine, request, status, Version, CodeText, StartText}
 use Rattle.sip_message.proofs.lemmas.text.Cuts.{same_front, same_by_front, same_by_end, All}
 use Rattle.sip_message.proofs.lemmas.field.OneWay.{each-token}

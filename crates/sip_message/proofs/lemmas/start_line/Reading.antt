@@ -8,14 +8,15 @@ use Rattle.std.specs.Str.Parse.{digits_value}
 use Rattle.std.proofs.lemmas.Bool.{both_ways, ltb-false}
 use Rattle.std.proofs.lemmas.Option.{none-some}
 use Rattle.std.proofs.lemmas.List.{append_assoc, length-append, take-append-drop, length-drop, length-take, length-take-le, take-map, drop-map, map-append}
+use Rattle.sip_standard.specs.Text.{One, Many}
+use Rattle.sip_standard.specs.Case.{folded}
+use Rattle.sip_standard.specs.Profile.{Token}
 use Rattle.sip_text.specs.Bytes.{space}
-use Rattle.sip_text.specs.Text.{One, Many}
+use Rattle.sip_text.specs.Case.{SameText}
+use Rattle.sip_text.specs.Uri.{UriParts, UriText}
+use Rattle.sip_text.specs.inner.Cut.{past}
 use Rattle.sip_text.proofs.ManyLemmas.{many-some}
 use Rattle.sip_message.specs.Values.{Digits}
-use Rattle.sip_text.specs.Case.{folded, SameText}
-use Rattle.sip_text.specs.Grammar.{Token}
-use Rattle.sip_text.specs.Uri.{UriParts, UriText}
-use Rattle.sip_text.specs.Cut.{past}
 use Rattle.sip_text.proofs.CutLemmas.{past-some}
 use Rattle.sip_text.proofs.RunLemmas.{run-list_all, list_all-run}
 use Rattle.sip_message.specs.StartLine.{StartLine, request, status, Version, CodeText, is_reason_byte, StartText}

@@ -4,8 +4,8 @@ use Rattle.std.proofs.Common.{◌≡◌, ℕ, ◌⊎◌, Bool, true, false, not,
 use Rattle.std.specs.List.{AllByRecursion, concat, list_any}
 use Rattle.std.proofs.lemmas.Bool.{both_ways}
 use Rattle.std.proofs.lemmas.List.{append_assoc, append-nil}
+use Rattle.sip_standard.specs.Text.{◌then◌, ◌or◌, Many, Exactly}
 use Rattle.sip_text.specs.Bytes.{space}
-use Rattle.sip_text.specs.Text.{◌then◌, ◌or◌, Many, Exactly}
 use Rattle.sip_text.proofs.ManyLemmas.{many-nil, many-cons}
 use Rattle.sip_message.specs.Unfold.{is_blank, is_end_byte, OpensSolid, EndsSolid, unfolded_run, unfolded_from, unfolded}
 use Rattle.sip_message.proofs.lemmas.text.Cuts.{Cuts, first_longer, same_length, second_longer, two_cuts, All, all_left, all_right, all_both}

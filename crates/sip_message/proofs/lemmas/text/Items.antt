@@ -3,9 +3,11 @@ use Rattle.std.proofs.Common.{◌≡◌, ℕ, Bool, true, false, not, List, [], 
 use Rattle.std.specs.List.{AllByRecursion, concat}
 use Rattle.std.proofs.lemmas.Bool.{both_ways}
 use Rattle.std.proofs.lemmas.List.{append_assoc, append-nil, length-append}
-use Rattle.sip_text.specs.Bytes.{space, backslash, is_wsp, is_quoted_byte}
-use Rattle.sip_text.specs.Text.{One, ◌or◌, Many}
-use Rattle.sip_text.specs.Grammar.{Lws, Qdtext, QuotedPair}
+use Rattle.sip_standard.specs.Text.{One, ◌or◌, Many}
+use Rattle.sip_standard.specs.Profile.{Lws}
+use Rattle.sip_text.specs.Bytes.{space, backslash, is_wsp}
+use Rattle.sip_text.specs.inner.Class.{is_quoted_byte}
+use Rattle.sip_text.specs.inner.Pieces.{Qdtext, QuotedPair}
 use Rattle.sip_text.proofs.ManyLemmas.{many-nil, many-cons}
 use Rattle.sip_message.specs.Unfold.{is_blank, OpensSolid, EndsSolid}
 use Rattle.sip_message.specs.Values.{is_value_byte, OtherText}

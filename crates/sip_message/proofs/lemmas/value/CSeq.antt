@@ -2,8 +2,9 @@
 use Rattle.std.proofs.Common.{◌≡◌, ℕ, true, false, List, [], ◌∷◌, ◌++◌, refl, sym, ap, ◌∙◌, subst, inr, ◌<◌, ◌≤◌, length, take, drop, arith}
 use Rattle.std.specs.Char.{is_ascii_digit}
 use Rattle.std.specs.Str.Parse.{digits_value}
-use Rattle.sip_text.specs.Text.{Exactly, ◌then◌, IsLongestFront}
-use Rattle.sip_text.specs.Grammar.{Blanks, Token}
+use Rattle.sip_standard.specs.Text.{Exactly, ◌then◌}
+use Rattle.sip_standard.specs.Profile.{Blanks, Token}
+use Rattle.sip_text.specs.Parts.{IsLongestFront}
 use Rattle.std.proofs.lemmas.List.{append-nil, take-append-drop, length-take-le}
 use Rattle.sip_message.specs.Unfold.{is_blank}
 use Rattle.sip_message.specs.Values.{Digits, CSeqText}

@@ -7,10 +7,11 @@ use Rattle.std.proofs.lemmas.List.Folds.{list_all-append}
 use Rattle.std.proofs.lemmas.Simd.{Each1-from_get_or}
 use lib.Lanes.{Each1}
 use Rattle.std.proofs.lemmas.Bool.Decides.{Decides-like}
+use Rattle.sip_standard.specs.Text.{One}
+use Rattle.sip_standard.specs.Profile.{Token}
 use Rattle.sip_text.specs.Bytes.{at_sign, is_token_byte}
-use Rattle.sip_text.specs.Text.{One, IsLongestFront}
-use Rattle.sip_text.specs.Grammar.{Token}
-use Rattle.sip_text.specs.Cut.{before, behind}
+use Rattle.sip_text.specs.Parts.{IsLongestFront}
+use Rattle.sip_text.specs.inner.Cut.{before, behind}
 use Rattle.sip_text.proofs.ManyLemmas.{many-some, drop-front}
 use Rattle.sip_text.proofs.RunLemmas.{run-list_all}
 use Rattle.sip_text.proofs.LacksLemmas.{AllLack, lack-one, lack-some}

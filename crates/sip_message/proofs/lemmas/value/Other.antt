@@ -4,10 +4,11 @@ use Rattle.std.specs.Bool.{Decides}
 use Rattle.std.specs.List.{prefix_len}
 use Rattle.std.proofs.lemmas.Bool.{and_parts, eqb-true, eq-eqb, or_left, or_right, or_cases}
 use Rattle.std.proofs.lemmas.List.{append-nil, append_assoc, length-append, drop-drop}
+use Rattle.sip_standard.specs.Text.{One, Exactly, ◌then◌, ◌or◌, Many}
+use Rattle.sip_standard.specs.Profile.{Lws}
 use Rattle.sip_text.specs.Bytes.{carriage_return, line_feed, crlf, is_wsp}
-use Rattle.sip_text.specs.Text.{One, Exactly, ◌then◌, ◌or◌, Many, HasFront}
-use Rattle.sip_text.specs.Grammar.{Lws}
-use Rattle.sip_text.specs.Blanks.{Blank, begins_with_fold}
+use Rattle.sip_text.specs.Parts.{HasFront}
+use Rattle.sip_text.specs.inner.Blanks.{Blank, begins_with_fold}
 use Rattle.sip_text.proofs.ManyLemmas.{many-one, many-map, many-flat, many-append, IsStep, longest_many, front-rest, front-within, front-whole}
 use Rattle.sip_text.proofs.BlanksLemmas.{blanks-lws, lws-blank}
 use Rattle.sip_text.proofs.RunLemmas.{run-front}

@@ -4,10 +4,11 @@ use Rattle.std.specs.Bool.{Decides}
 use Rattle.std.specs.List.{prefix_len}
 use Rattle.std.proofs.lemmas.Bool.{both_ways, and_parts, not-true, eqb-true, eq-eqb}
 use Rattle.std.proofs.lemmas.List.{append-nil, append_cancel_left, take-append-drop}
+use Rattle.sip_standard.specs.Text.{Many}
+use Rattle.sip_standard.specs.Profile.{Blanks, Sws}
 use Rattle.sip_text.specs.Bytes.{space}
-use Rattle.sip_text.specs.Text.{Many, IsLongestFront, IsOnlyValue}
-use Rattle.sip_text.specs.Grammar.{Blanks, Sws}
-use Rattle.sip_text.specs.Blanks.{Blank}
+use Rattle.sip_text.specs.Parts.{IsLongestFront, IsOnlyValue}
+use Rattle.sip_text.specs.inner.Blanks.{Blank}
 use Rattle.sip_text.proofs.ManyLemmas.{many-nil, many-one, many-append, front-whole}
 use Rattle.sip_text.proofs.BlanksLemmas.{units-blanks, blanks-units}
 use Rattle.sip_message.specs.Unfold.{is_blank, OpensSolid, EndsSolid}

@@ -4,12 +4,12 @@ use Rattle.std.specs.Prelude.{IfSome}
 use Rattle.std.specs.Char.{is_ascii_digit}
 use Rattle.std.proofs.lemmas.Bool.{both_ways, or_cases, or_right, eqb-true}
 use Rattle.std.proofs.lemmas.List.{append_assoc}
+use Rattle.sip_standard.specs.Text.{One, Many}
+use Rattle.sip_standard.specs.Profile.{Token, Hostname, Ipv4, Port}
 use Rattle.sip_text.specs.Bytes.{colon, left_bracket, right_bracket, is_token_byte}
-use Rattle.sip_text.specs.Text.{One, Many, IsOnlyValue}
-use Rattle.sip_text.specs.Grammar.{Token}
-use Rattle.sip_text.specs.Host.{Hostname, Ipv4Address, HostParts, HostText, host_text, name, v4, v6}
+use Rattle.sip_text.specs.Parts.{IsOnlyValue}
+use Rattle.sip_text.specs.Host.{HostParts, HostText, host_text, name, v4, v6}
 use Rattle.sip_text.specs.inner.HostTests.{is_v4, is_hostname}
-use Rattle.sip_text.specs.Uri.{Port}
 use Rattle.sip_text.proofs.HostnameLemmas.{hostname-is}
 use Rattle.sip_text.proofs.V4Lemmas.{v4-is}
 use Rattle.sip_text.proofs.ManyLemmas.{many-nil, many-cons}
@@ -84,7 +84,7 @@ bytes-token (b ∷ u) all some = (b ∷ [], u, (b, all.0, refl), many u all.1, r
 hostname-token : (u : List ℕ) → Hostname u → Token u
 hostname-token u is = bytes-token u (each-hostname u is) (λ none. both_ways (is_hostname u) (ap is_hostname none) (hostname-is u is))
 
-v4-token : (u : List ℕ) → Ipv4Address u → Token u
+v4-token : (u : List ℕ) → Ipv4 u → Token u
 v4-token u is = bytes-token u (each-v4 u is) (λ none. both_ways (is_v4 u) (ap is_v4 none) (v4-is u is))
 
 port-token : (u : List ℕ) → Port u → Token u

@@ -1,10 +1,10 @@
 -- The steps by which an element of Via is read are its grammar, and read it in one way.
 use Rattle.std.proofs.Common.{◌≡◌, ℕ, ◌-◌, ◌≤◌, nat_eq, List, [], ◌∷◌, ◌++◌, Option, Some, None, length, take, refl, sym, ap, ◌∙◌, subst, inl, arith}
 use Rattle.std.proofs.lemmas.List.{append_assoc}
+use Rattle.sip_standard.specs.Text.{Exactly, ◌then◌}
+use Rattle.sip_standard.specs.Profile.{Port}
 use Rattle.sip_text.specs.Bytes.{colon, semicolon}
-use Rattle.sip_text.specs.Text.{Exactly, ◌then◌}
 use Rattle.sip_text.specs.Host.{HostParts, HostText, host_text}
-use Rattle.sip_text.specs.Uri.{Port}
 use Rattle.std.specs.Prelude.{IfSome}
 use Rattle.sip_message.specs.Unfold.{OpensSolid}
 use Rattle.sip_message.specs.Params.{slash, comma, ParamsText, ParamsPart, BehindBlanks}

@@ -2,9 +2,9 @@
 use Rattle.std.proofs.Common.{◌≡◌, ℕ, Bool, true, false, ◌||◌, nat_eq, List, [], ◌∷◌, ◌++◌, length, refl, sym, ap, ◌∙◌, subst, inl, inr, arith}
 use Rattle.std.proofs.lemmas.Bool.{both_ways, eqb-true}
 use Rattle.std.proofs.lemmas.List.{append_assoc, length-append}
+use Rattle.sip_standard.specs.Text.{One, Exactly, ◌then◌, Many, OneOrMore}
+use Rattle.sip_standard.specs.Profile.{Token, Blanks, Sws}
 use Rattle.sip_text.specs.Bytes.{is_token_byte}
-use Rattle.sip_text.specs.Text.{One, Exactly, ◌then◌, Many, OneOrMore}
-use Rattle.sip_text.specs.Grammar.{Token, Blanks, Sws}
 use Rattle.sip_message.specs.Unfold.{is_blank}
 use Rattle.sip_message.specs.Params.{slash, Mark}
 use Rattle.sip_message.specs.Message.{TopTransport}

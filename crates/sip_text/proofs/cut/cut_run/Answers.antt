@@ -1,7 +1,7 @@
 use Rattle.std.proofs.Common.{ap, ◌∙◌}
 use Rattle.std.proofs.lemmas.List.{take_rest}
-use Rattle.sip_text.specs.Class.{is_in}
-use Rattle.sip_text.specs.Cut.{past}
+use Rattle.sip_text.specs.inner.Class.{is_in}
+use Rattle.sip_text.specs.inner.Cut.{past}
 use Rattle.sip_text.proofs.RunCutLemmas.{run-end, run-mark, run-other}
 use Rattle.sip_text.proofs.cut.cut_run.Goals as goal
 

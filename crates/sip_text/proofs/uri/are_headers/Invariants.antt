@@ -1,6 +1,6 @@
 use Rattle.std.proofs.Common.{◌↔◌, length}
 use Rattle.sip_text.specs.Bytes.{ampersand}
-use Rattle.sip_text.specs.Uri.{Header}
+use Rattle.sip_text.specs.inner.Pieces.{Header}
 use Rattle.sip_text.proofs.UriPartLemmas.{Each}
 use Rattle.sip_text.proofs.uri.are_headers.Given as goal
 

@@ -1,6 +1,6 @@
 use Rattle.std.proofs.Common.{◌↔◌, length}
 use Rattle.sip_text.specs.Bytes.{semicolon}
-use Rattle.sip_text.specs.Uri.{UriParameter}
+use Rattle.sip_text.specs.inner.Pieces.{UriParameter}
 use Rattle.sip_text.proofs.UriPartLemmas.{Each}
 use Rattle.sip_text.proofs.uri.are_joined_params.Given as goal
 

@@ -5,8 +5,8 @@ use Rattle.std.specs.Int.{is_in_range}
 use Rattle.std.specs.Char.{is_ascii_alphabetic, is_ascii_alphanumeric, is_ascii_digit, is_ascii_hexdigit}
 use Rattle.std.specs.Str.Parse.{digits_value}
 use Prim.Native.String.{String}
-use Rattle.sip_text.specs.Text.{One, ◌then◌, ◌or◌, Optional, Many, OneOrMore, Between}
-use Rattle.sip_text.specs.Chars.{Lit, AnyCase, is_among, is_alphanum_or}
+use Rattle.sip_standard.specs.Text.{One, ◌then◌, ◌or◌, Optional, Many, OneOrMore, Between}
+use Rattle.sip_standard.specs.Chars.{Lit, AnyCase, is_among, is_alphanum_or}
 
 -- token = 1*( alphanum / "-" / "." / "!" / "%" / "*" / "_" / "+" / "`" / "'" / "~" )
 abbrev pub Token : List ℕ → Type 0
@@ -51,9 +51,7 @@ Hostname = Many (Label is_ascii_alphanumeric then Lit ".") then Label is_ascii_a
 
 -- IPv4address = 1*3DIGIT "." 1*3DIGIT "." 1*3DIGIT "." 1*3DIGIT
 abbrev pub Ipv4 : List ℕ → Type 0
-Ipv4 =
-    let Group = Between 1 3 (One is_ascii_digit) in
-    Group then Lit "." then Group then Lit "." then Group then Lit "." then Group
+Ipv4 = let Group = Between 1 3 (One is_ascii_digit) in Group then Lit "." then Group then Lit "." then Group then Lit "." then Group
 
 -- hexseq = hex4 *( ":" hex4 ), hex4 = 1*4HEXDIG
 abbrev pub Hexseq : List ℕ → Type 0
@@ -84,32 +82,43 @@ abbrev pub Char : String → List ℕ → Type 0
 Char others =
     One (is_among others) or One (is_alphanum_or "-_.!~*'()") or (Lit "%" then One is_ascii_hexdigit then One is_ascii_hexdigit)
 
--- userinfo = user [ ":" password ] "@". Own: a telephone-subscriber is read as a user.
+-- user = 1*( unreserved / escaped / user-unreserved ). Own: a telephone-subscriber is read as a user.
+abbrev pub User : List ℕ → Type 0
+User = OneOrMore (Char "&=+$,;?/")
+
+-- password = *( unreserved / escaped / "&" / "=" / "+" / "$" / "," )
+abbrev pub Password : List ℕ → Type 0
+Password = Many (Char "&=+$,")
+
+-- userinfo = user [ ":" password ] "@"
 abbrev pub Userinfo : List ℕ → Type 0
-Userinfo = OneOrMore (Char "&=+$,;?/") then Optional (Lit ":" then Many (Char "&=+$,")) then Lit "@"
+Userinfo = User then Optional (Lit ":" then Password) then Lit "@"
 
 -- uri-parameters = *( ";" pname [ "=" pvalue ] )
 -- Own: the parameters that the standard names (transport, lr ..) are read so, too.
 abbrev pub UriParameters : List ℕ → Type 0
-UriParameters =
-    let Name = OneOrMore (Char "[]/:&+$") in
-    Many (Lit ";" then Name then Optional (Lit "=" then Name))
+UriParameters = let Name = OneOrMore (Char "[]/:&+$") in Many (Lit ";" then Name then Optional (Lit "=" then Name))
 
--- headers = "?" header *( "&" header ), header = hname "=" hvalue
+-- headers, without their "?" = header *( "&" header ), header = hname "=" hvalue
 abbrev pub Headers : List ℕ → Type 0
-Headers =
-    let Header = OneOrMore (Char "[]/?:+$") then Lit "=" then Many (Char "[]/?:+$") in
-    Lit "?" then Header then Many (Lit "&" then Header)
+Headers = let Header = OneOrMore (Char "[]/?:+$") then Lit "=" then Many (Char "[]/?:+$") in Header then Many (Lit "&" then Header)
 
 -- "sip" or "sips", without case
 abbrev pub SipScheme : List ℕ → Type 0
 SipScheme = AnyCase "sip" or AnyCase "sips"
 
+-- scheme = ALPHA *( ALPHA / DIGIT / "+" / "-" / "." )
+abbrev pub Scheme : List ℕ → Type 0
+Scheme = One is_ascii_alphabetic then Many (One (is_alphanum_or "+-."))
+
+-- uric = reserved / unreserved / escaped
+abbrev pub Uric : List ℕ → Type 0
+Uric = Char ";/?:@&=+$,"
+
 -- SIP-URI = "sip:" [ userinfo ] hostport uri-parameters [ headers ], hostport = host [ ":" port ], and SIPS-URI with "sips:"
--- Own: any other URI, in place of absoluteURI, is scheme ":" 1*uric with a scheme that is neither of these two:
--- scheme = ALPHA *( ALPHA / DIGIT / "+" / "-" / "." ), uric = reserved / unreserved / escaped.
+-- Own: any other URI, in place of absoluteURI, is scheme ":" 1*uric with a scheme that is neither of these two.
 abbrev pub Uri : List ℕ → Type 0
 Uri =
-    let Scheme = One is_ascii_alphabetic then Many (One (is_alphanum_or "+-.")) in
-    (SipScheme then Lit ":" then Optional Userinfo then Host then Optional (Lit ":" then Port) then UriParameters then Optional Headers)
-    or ((λ text. Scheme text × ¬ (SipScheme text)) then Lit ":" then OneOrMore (Char ";/?:@&=+$,"))
+    (SipScheme then Lit ":" then Optional Userinfo then Host then Optional (Lit ":" then Port)
+    then UriParameters then Optional (Lit "?" then Headers))
+    or ((λ text. Scheme text × ¬ (SipScheme text)) then Lit ":" then OneOrMore Uric)

@@ -3,8 +3,8 @@ use Rattle.std.specs.Prelude.{◌≡◌, ℕ, ◌||◌, ◌==◌, Bool, List, []
 use Rattle.std.specs.List.{list_any}
 use Rattle.std.specs.Char.{is_ascii_alphanumeric}
 use Prim.Native.String.{String}
-use Rattle.sip_text.specs.Text.{◌then◌}
-use Rattle.sip_text.specs.Case.{folded}
+use Rattle.sip_standard.specs.Text.{◌then◌}
+use Rattle.sip_standard.specs.Case.{folded}
 
 -- these characters, with case, as "::"
 abbrev pub Lit : String → List ℕ → Type 0

@@ -1,7 +1,7 @@
 -- Blank runs in pieces that begin no other: [ CRLF ] WSP.
 use Rattle.std.specs.Prelude.{ℕ, Bool, List, ◌&&◌, ◌==◌, slice_index, if◌then◌else◌}
+use Rattle.sip_standard.specs.Text.{One, Exactly, ◌then◌, Optional}
 use Rattle.sip_text.specs.Bytes.{carriage_return, line_feed, crlf, is_wsp}
-use Rattle.sip_text.specs.Text.{One, Exactly, ◌then◌, Optional}
 
 -- a blank, and the CRLF of a fold before it if it has one
 abbrev pub Blank : List ℕ → Type 0

@@ -1,0 +1,4 @@
+pub mod Text
+pub mod Case
+pub mod Chars
+pub mod Profile

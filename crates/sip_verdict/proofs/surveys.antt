@@ -25,5 +25,7 @@ pub mod Taken
 pub mod Unheard
 pub mod Waiting
 pub mod Watching
+pub mod Reading
 pub mod Sound
 pub mod Wide
+pub mod Written

@@ -6,6 +6,8 @@ pub mod Observing
 pub mod Showing
 pub mod Stepping
 pub mod Sweeping
+pub mod SurveyErrors
+pub mod SurveyReading
 pub mod Surveying
 pub mod TablesTracking
 pub mod Tracking

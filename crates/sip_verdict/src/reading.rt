@@ -2,7 +2,9 @@
 ghost use Rattle.std.specs.Prelude.{◌≡◌, true, Some, [], Option, List, ℕ, IfOk, IfErr, IfSome, OnOk, IsErrOf};
 ghost use Rattle.sip_machine.specs.Times.{Times};
 ghost use Rattle.sip_log.specs.Reading.{entries, beside_source};
+ghost use Rattle.sip_log.specs.LogSays.{LacksHeader};
 ghost use Rattle.sip_log.specs.Spelling.{Item};
+ghost use Rattle.sip_verdict.specs.declared.log_reason.LogReason.TheVariants.{Header};
 ghost use Rattle.sip_verdict.specs.VerdictOf.{IsVerdictOf};
 ghost use Rattle.sip_verdict.specs.Listing.{trouble_of};
 ghost use Rattle.sip_verdict.specs.inner.Walking.{HasRead, WalkGives, MovesOn};
@@ -23,6 +25,24 @@ pub(crate) enum Next {
     End,
     /// Something that is no entry.
     Fault(LogReason),
+}
+
+/// Reads the header, and no entry yet. In its place the reason of its fault.
+pub(crate) fn read_start<R: Source>(
+    alloc: Global,
+    reader: &mut R,
+) -> Result<Result<(Params, Progress), LogReason>, JudgeError>
+    ensures first { IfOk result (λ opened. IfOk opened (λ read. (read.1.count ≡ 0) × (read.1.last ≡ 0))) }
+    ensures reads { IfOk result (λ opened. IfOk opened (λ read. HasRead (R.left reader.old) read.0 []
+        (beside_source read.1 (R.left reader.new) (R.has_failed reader.new)))) }
+    ensures fault { IfOk result (λ opened. IfErr opened (λ reason. (reason ≡ Header) × IfSome (R.left reader.old) LacksHeader)) }
+    ensures ok { OnOk result (R.has_failed reader.new ≡ R.has_failed reader.old) }
+    ensures io { IsErrOf result JudgeError.Io → R.has_failed reader.new ≡ true }
+{
+    match Progress::open(alloc, reader) {
+        Ok(opened) => Ok(Ok(opened)),
+        Err(error) => Ok(Err(reason_of(error)?)),
+    }
 }
 
 /// Reads the header, and no entry yet. In its place the verdict if it has a fault.

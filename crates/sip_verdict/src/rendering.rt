@@ -2,6 +2,8 @@
 ghost use Rattle.std.specs.Prelude.{◌≡◌, ◌++◌, IfOk, OnOk, codes, decimal, string_bytes};
 ghost use Rattle.sip_verdict.specs.Rendering.{rendered, rendered_unit};
 ghost use Rattle.sip_verdict.specs.Showing.{last_text};
+ghost use Rattle.sip_verdict.specs.SurveyText.{end_line, finding_line, rendered_end};
+ghost use Rattle.sip_verdict.specs.declared.survey_end.SurveyEnd.TheVariants.{Clean};
 ghost use Rattle.sip_verdict.specs.declared.verdict.Verdict.TheVariants.{Malformed, LogFault};
 
 use crate::finding::Finding;
@@ -56,7 +58,9 @@ pub(crate) fn last_line(alloc: Global, shown: &Shown) -> Result<String, AllocErr
 }
 
 /// The line of what is found at an entry, with its end: the text of the verdict of the same words.
-pub fn finding_line(alloc: Global, finding: &Finding) -> Result<String, AllocError> {
+pub fn finding_line(alloc: Global, finding: &Finding) -> Result<String, AllocError>
+    ensures { IfOk result (λ text. string_bytes text ≡ finding_line finding.now) }
+{
     let mut text = render(alloc, &Verdict::from(*finding))?;
     text.push_str("\n")?;
     Ok(text)
@@ -64,16 +68,25 @@ pub fn finding_line(alloc: Global, finding: &Finding) -> Result<String, AllocErr
 
 /// The last line of a survey in which so much was found, with its end: `end entries E transactions T findings F`, or the text of the
 /// verdict on a log that cannot be read.
-pub fn end_line(alloc: Global, end: &SurveyEnd, findings: u64) -> Result<String, AllocError> {
-    let mut text = match *end {
+pub fn end_line(alloc: Global, end: &SurveyEnd, findings: u128) -> Result<String, AllocError>
+    ensures { IfOk result (λ text. string_bytes text ≡ end_line end.now findings) }
+{
+    let mut text = end_text(alloc, end, findings)?;
+    text.push_str("\n")?;
+    Ok(text)
+}
+
+/// How the log of a survey ends, in which so much was found.
+fn end_text(alloc: Global, end: &SurveyEnd, findings: u128) -> Result<String, AllocError>
+    ensures { IfOk result (λ text. string_bytes text ≡ rendered_end end.now findings) }
+{
+    match *end {
         SurveyEnd::Clean {
             entries,
             transactions,
-        } => clean_end(alloc, entries, transactions, findings)?,
-        SurveyEnd::LogFault { entry, reason } => log_fault(alloc, entry, reason)?,
-    };
-    text.push_str("\n")?;
-    Ok(text)
+        } => clean_end(alloc, entries, transactions, findings),
+        SurveyEnd::LogFault { entry, reason } => log_fault(alloc, entry, reason),
+    }
 }
 
 /// That the log of a survey was read to its end, with three numbers.
@@ -81,8 +94,10 @@ fn clean_end(
     alloc: Global,
     entries: u32,
     transactions: u32,
-    findings: u64,
-) -> Result<String, AllocError> {
+    findings: u128,
+) -> Result<String, AllocError>
+    ensures { IfOk result (λ text. string_bytes text ≡ rendered_end (Clean entries transactions) findings) }
+{
     let mut text = two_numbers(
         alloc,
         "end entries ",
@@ -90,7 +105,8 @@ fn clean_end(
         " transactions ",
         transactions,
     )?;
-    push_with_number(&mut text, " findings ", findings)?;
+    text.push_str(" findings ")?;
+    text.push_str(Buffer::new().format(findings))?;
     Ok(text)
 }
 

@@ -1,4 +1,8 @@
 //! Why a log could not be surveyed.
+ghost use Rattle.std.specs.Prelude.{◌≡◌};
+ghost use Rattle.sip_verdict.specs.declared.survey_error.SurveyError.TheVariants.{Write, Memory};
+ghost use Rattle.sip_verdict.specs.inner.SurveyErrors.{unsurveyed};
+
 use crate::judge_error::JudgeError;
 use crate::step_error::StepError;
 use sip_log::Broken;
@@ -20,6 +24,8 @@ pub enum SurveyError {
 }
 
 impl From<JudgeError> for SurveyError {
+    ghost from_gives = { λ error e. e ≡ unsurveyed error };
+
     fn from(error: JudgeError) -> SurveyError {
         match error {
             JudgeError::Io => SurveyError::Read,
@@ -29,18 +35,24 @@ impl From<JudgeError> for SurveyError {
 }
 
 impl From<StepError> for SurveyError {
+    ghost from_gives = { λ _ e. e ≡ Memory };
+
     fn from(_: StepError) -> SurveyError {
         SurveyError::Memory
     }
 }
 
 impl From<Broken> for SurveyError {
+    ghost from_gives = { λ _ e. e ≡ Write };
+
     fn from(_: Broken) -> SurveyError {
         SurveyError::Write
     }
 }
 
 impl From<AllocError> for SurveyError {
+    ghost from_gives = { λ _ e. e ≡ Memory };
+
     fn from(_: AllocError) -> SurveyError {
         SurveyError::Memory
     }

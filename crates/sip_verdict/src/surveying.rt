@@ -115,8 +115,8 @@ fn finish<W: Sink>(
     end: SurveyEnd,
     findings: u128,
 ) -> Result<Summary, SurveyError>
-    ensures same { IfOk result (λ summary. (summary.end ≡ end) × (summary.findings ≡ findings)) }
-    ensures text { OnOk result (Appends (W.written writer.old) (W.written writer.new) (end_line end findings)) }
+    ensures written { IfOk result (λ summary. (summary.end ≡ end) × (summary.findings ≡ findings)
+        × Appends (W.written writer.old) (W.written writer.new) (end_line end findings)) }
     ensures fine { OnOk result (W.has_failed writer.new ≡ W.has_failed writer.old) }
     ensures read { IsErrOf result Read → ⊥ }
     ensures write { IsErrOf result Write → W.has_failed writer.new ≡ true }

@@ -15,8 +15,8 @@ IsWrittenOf old new summary input = (found : List Finding) × IsSurveyOf input f
 
 -- the lines of what was found, and then the last line
 pub text_of_survey : (start old mid new : Option (List ℕ)) (found : List Finding) (end : SurveyEnd) (findings : ℕ) (summary : Summary) → IfSome start (λ input. IsSurveyOf input found end) → findings ≡ length found
-    → Appends old mid (flat_map finding_line found) → Appends mid new (end_line end findings) → (summary.end ≡ end) × (summary.findings ≡ findings) → IfSome start (IsWrittenOf old new summary)
-text_of_survey start old mid new found end findings summary is many lines last (end_is, count) =
+    → Appends old mid (flat_map finding_line found) → (summary.end ≡ end) × (summary.findings ≡ findings) × Appends mid new (end_line end findings) → IfSome start (IsWrittenOf old new summary)
+text_of_survey start old mid new found end findings summary is many lines (end_is, count, last) =
     IfSome-map start (λ input. IsSurveyOf input found end) (IsWrittenOf old new summary) (λ input of. (
       found,
       subst (IsSurveyOf input found) (sym end_is) of,

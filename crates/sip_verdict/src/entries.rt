@@ -104,11 +104,7 @@ fn take<H: BuildHasher>(
 }
 
 /// Appends that the message of the entry has this fault, if it has one.
-fn push_fault(
-    entry: u32,
-    fault: Option<Fault>,
-    found: &mut Vec<Finding>,
-) -> Result<(), AllocError>
+fn push_fault(entry: u32, fault: Option<Fault>, found: &mut Vec<Finding>) -> Result<(), AllocError>
     ensures pushed { OnOk result (found.new.items ≡ found.old.items ++ fault_listing entry fault) }
     ensures front { (more : List Finding) × (found.new.items ≡ found.old.items ++ more) }
 {

@@ -35,7 +35,7 @@ pub(crate) fn read_start<R: Source>(
     ensures first { IfOk result (λ opened. IfOk opened (λ read. (read.1.count ≡ 0) × (read.1.last ≡ 0))) }
     ensures reads { IfOk result (λ opened. IfOk opened (λ read. HasRead (R.left reader.old) read.0 []
         (beside_source read.1 (R.left reader.new) (R.has_failed reader.new)))) }
-    ensures fault { IfOk result (λ opened. IfErr opened (λ reason. (reason ≡ Header) × IfSome (R.left reader.old) LacksHeader)) }
+    ensures fault { IfOk result (λ opened. IfErr opened (λ reason. IfSome (R.left reader.old) (λ input. LacksHeader input × (reason ≡ Header)))) }
     ensures ok { OnOk result (R.has_failed reader.new ≡ R.has_failed reader.old) }
     ensures io { IsErrOf result JudgeError.Io → R.has_failed reader.new ≡ true }
 {

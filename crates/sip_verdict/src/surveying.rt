@@ -39,13 +39,14 @@ pub fn survey<R: Source, W: Sink, H: BuildHasher + Drop>(
     ensures read { IsErrOf result Read → R.has_failed reader.new ≡ true }
     ensures write { IsErrOf result Write → W.has_failed writer.new ≡ true }
 {
-    match read_start(alloc, reader)? {
-        Ok((params, mut progress)) => {
-            let survey = Survey::new(alloc, params, hasher);
-            write_entries(alloc, survey, &mut progress, reader, writer)
+    let (params, mut progress) = match read_start(alloc, reader)? {
+        Ok(opened) => opened,
+        Err(reason) => {
+            return finish(alloc, writer, SurveyEnd::LogFault { entry: 0, reason }, 0);
         }
-        Err(reason) => finish(alloc, writer, SurveyEnd::LogFault { entry: 0, reason }, 0),
-    }
+    };
+    let survey = Survey::new(alloc, params, hasher);
+    write_entries(alloc, survey, &mut progress, reader, writer)
 }
 
 /// Reads on behind the header to the end of the log, and writes what is found. Every entry is read into the same buffer.
@@ -137,13 +138,12 @@ pub fn survey_bytes<H: BuildHasher + Drop>(
     ensures io { IsErrOf result JudgeError.Io → ⊥ }
 {
     let mut left = bytes;
-    match read_start(alloc, &mut left)? {
-        Ok((params, mut progress)) => {
-            let survey = Survey::new(alloc, params, hasher);
-            find_entries(alloc, survey, &mut progress, &mut left)
-        }
-        Err(reason) => Ok((Vec::new(alloc), SurveyEnd::LogFault { entry: 0, reason })),
-    }
+    let (params, mut progress) = match read_start(alloc, &mut left)? {
+        Ok(opened) => opened,
+        Err(reason) => return Ok((Vec::new(alloc), SurveyEnd::LogFault { entry: 0, reason })),
+    };
+    let survey = Survey::new(alloc, params, hasher);
+    find_entries(alloc, survey, &mut progress, &mut left)
 }
 
 /// Reads on behind the header to the end of the log: what is found, and how it ends.

@@ -64,8 +64,13 @@ module _ (s : Surveying) (found : List Finding) (start : Option (List ℕ)) (now
   ends_so : (close : LogEnd) (end : SurveyEnd) → IsSurveyAfter p h.es [] close [] end → IfSome start (λ input. IsLog input p h.items close) → IfSome start (λ input. IsSurveyOf input found end)
   ends_so close end last logs =
       IfSome-map start (λ input. IsLog input p h.items close) (λ input. IsSurveyOf input found end)
-      (λ input is. inr (p, h.items, close, log-says input p h.items close is,
-      subst (λ fs. IsSurveyAfter p [] h.items close fs end) (append-nil found) (subst (λ xs. IsSurveyAfter p [] xs close (found ++ []) end) (append-nil h.items) (h.before [] close [] end last)))) logs
+      (λ input is. inr (
+        p,
+        h.items,
+        close,
+        log-says input p h.items close is,
+        subst (λ fs. IsSurveyAfter p [] h.items close fs end) (append-nil found) (subst (λ xs. IsSurveyAfter p [] xs close (found ++ []) end) (append-nil h.items) (h.before [] close [] end last)),
+      )) logs
 
   -- the log ends
   pub surveyed_ends : IfSome start (λ input. IsLog input s.tables.times h.items Clean) → IfSome start (λ input. IsSurveyOf input found (ended.Clean (length h.es) (length (keys_in h.es))))
@@ -78,5 +83,6 @@ module _ (s : Surveying) (found : List Finding) (start : Option (List ℕ)) (now
       ends_so (Stops fault) (ended.LogFault (count + 1) reason) (refl, ap (λ c. ended.LogFault (c + 1) reason) (counts ∙ h.surveys.number) ∙ ap (ended.LogFault (length h.es + 1)) is) logs
 
 -- a log without a header
-pub surveyed_header : (start : Option (List ℕ)) (reason : LogReason) → reason ≡ Header → IfSome start LacksHeader → IfSome start (λ input. IsSurveyOf input [] (ended.LogFault 0 reason))
-surveyed_header start reason is lacks = IfSome-map start LacksHeader (λ input. IsSurveyOf input [] (ended.LogFault 0 reason)) (λ input none. inl (none, refl, ap (ended.LogFault 0) is)) lacks
+pub surveyed_header : (start : Option (List ℕ)) (reason : LogReason) → IfSome start (λ input. LacksHeader input × (reason ≡ Header)) → IfSome start (λ input. IsSurveyOf input [] (ended.LogFault 0 reason))
+surveyed_header start reason lacks =
+    IfSome-map start (λ input. LacksHeader input × (reason ≡ Header)) (λ input. IsSurveyOf input [] (ended.LogFault 0 reason)) (λ input h. inl (h.0, refl, ap (ended.LogFault 0) h.1)) lacks

@@ -47,7 +47,12 @@ returns-clause-found g c = λ es surveyed counts late.
     let new = c.sweep.new.self in
     let swept = c.in_ok-sweep.ensures in
     let h = c.in_ok-find.ensures in
-    let (e, here, seen, now, found, added, tracks) = h.found es surveyed.tracks counts late in
-    (e, here, seen, found, added,
-    surveyed_swept new.book mid.tables new.tables c.find.new.troubled.deaf.items c.kept-2.result (es ++ e ∷ []) swept.times c.kept-2.ensures.kept
-    (swept.surveyed (es ++ e ∷ []) c.find.new.troubled.deaf.items tracks (newest_moment-push es e ∙ now) h.watched.long))
+    let (e, here, seen, now, found, added, tracks) = h.found es surveyed.tracks counts late in (
+      e,
+      here,
+      seen,
+      found,
+      added,
+      surveyed_swept new.book mid.tables new.tables c.find.new.troubled.deaf.items c.kept-2.result (es ++ e ∷ []) swept.times c.kept-2.ensures.kept
+          (swept.surveyed (es ++ e ∷ []) c.find.new.troubled.deaf.items tracks (newest_moment-push es e ∙ now) h.watched.long),
+    )

@@ -52,8 +52,10 @@ returns-in_ok-hear_or_release-in-OwnAndCancelled-clause-heard g c =
     let h = c.args.hearing.now in
     let hear = c.requires.hear in
     let first = c.in_ok-hear_or_release-in-OwnAndCancelled.ensures in
-    on_ok_weaker c.hear_or_release-in-OwnAndCancelled-2.result (λ second.
-    (each h.concerned, named_hearers t h.concerned (ap is_all c.in-OwnAndCancelled.is) hear.given hear.apart,
-    subst (λ x. HearsNumbers c.args.book.now h.event (each x) t b v f) (sym c.in-OwnAndCancelled.is)
-    (hears_two c.args.book.now h.event c.in-OwnAndCancelled.own c.in-OwnAndCancelled.cancelled t b u d v f first.times first.keys first.heard second)))
+    on_ok_weaker c.hear_or_release-in-OwnAndCancelled-2.result (λ second. (
+      each h.concerned,
+      named_hearers t h.concerned (ap is_all c.in-OwnAndCancelled.is) hear.given hear.apart,
+      subst (λ x. HearsNumbers c.args.book.now h.event (each x) t b v f) (sym c.in-OwnAndCancelled.is)
+          (hears_two c.args.book.now h.event c.in-OwnAndCancelled.own c.in-OwnAndCancelled.cancelled t b u d v f first.times first.keys first.heard second),
+    ))
     c.hear_or_release-in-OwnAndCancelled-2.ensures.heard

@@ -2,9 +2,9 @@
 mod rows;
 
 use crate::notation::log_of;
-use crate::wants::reads;
-use sip_log::{FromRead, ToWrite};
-use sip_verdict::{SurveyError, survey};
+use crate::wants::{holds, reads};
+use sip_log::{Entry, FromRead, LogError, Progress, ToWrite};
+use sip_verdict::{Finding, StepError, Survey, SurveyEnd, SurveyError, survey};
 use std::alloc::Global;
 use std::hash::{BuildHasherDefault, FoldHasher};
 use std::process::Abort;
@@ -71,4 +71,110 @@ fn gives_one_up_and_finds_another(rt: HostRuntime) -> Result<(), Fail> {
         "undecided 128 transaction 1\nbreach 146 transaction 2\nend entries 146 transactions 2 findings 2\n";
     let log = log_of(alloc, words.as_str())?;
     surveys_log(&rt, log.as_str(), ("a server with two answers", want))
+}
+
+/// The entries of a log as they come, and the survey that takes them.
+struct Surveyed<'a> {
+    bytes: &'a [u8],
+    progress: Progress,
+    survey: Survey<Hasher>,
+}
+
+impl<'a> Surveyed<'a> {
+    /// Reads the header.
+    fn open(alloc: Global, mut bytes: &'a [u8]) -> Result<Surveyed<'a>, LogError> {
+        let (params, progress) = Progress::open(alloc, &mut bytes)?;
+        Ok(Surveyed {
+            bytes,
+            progress,
+            survey: Survey::new(alloc, params, Hasher::new()),
+        })
+    }
+
+    /// The next entry.
+    fn next(&mut self) -> Result<Option<Entry>, LogError> {
+        self.progress.next(&mut self.bytes)
+    }
+
+    /// How the log ends after the entries that were taken.
+    fn end(self) -> Option<SurveyEnd> {
+        let Surveyed {
+            bytes: _bytes,
+            progress: _progress,
+            survey,
+        } = self;
+        survey.end()
+    }
+}
+
+/// Takes the entry where it may come next.
+fn take(
+    rt: &impl Abort,
+    survey: &mut Survey<Hasher>,
+    entry: &Entry,
+    found: &mut Vec<Finding>,
+) -> Result<(), StepError> {
+    assert!(rt; survey.may_take(entry));
+    survey.entry(entry, found)
+}
+
+/// A survey that fails at an entry wants memory, and says that it failed from then on.
+fn takes_or_fails(
+    rt: &impl Abort,
+    survey: &mut Survey<Hasher>,
+    entry: &Entry,
+    found: &mut Vec<Finding>,
+) -> Result<(), StepError> {
+    let Err(error) = take(rt, survey, entry, found) else {
+        return Ok(());
+    };
+    holds(rt, error == StepError::Memory, "want of memory");
+    let count = found.len();
+    let answer = take(rt, survey, entry, found);
+    holds(
+        rt,
+        answer == Err(StepError::Failed),
+        "of a survey that failed",
+    );
+    holds(rt, found.len() == count, "nothing is found after an error");
+    Err(error)
+}
+
+/// Takes all entries of a log, or as many as there are until the survey fails. The answer is its error.
+fn takes_all(
+    rt: &impl Abort,
+    surveyed: &mut Surveyed<'_>,
+    found: &mut Vec<Finding>,
+) -> Result<Option<StepError>, Fail> {
+    for _ in 0..100 {
+        let Some(entry) = surveyed.next()? else {
+            break;
+        };
+        if let Err(error) = takes_or_fails(rt, &mut surveyed.survey, &entry, found) {
+            return Ok(Some(error));
+        }
+    }
+    Ok(None)
+}
+
+/// `tests/growths` refuses each growth in turn. A survey that failed has no end, and one that did not has found three things.
+#[test]
+fn refused_while_a_survey_goes_on(rt: HostRuntime) -> Result<(), Fail> {
+    let words = "S 0 OPTIONS a; S 0 OPTIONS b; R 600 junk; M 700; S 800 OPTIONS c";
+    let log = log_of(rt.alloc(), words)?;
+    let mut surveyed = Surveyed::open(rt.alloc(), log.as_str().as_bytes())?;
+    let mut found = Vec::new(rt.alloc());
+    let failed = takes_all(&rt, &mut surveyed, &mut found);
+    let end = surveyed.end();
+    let Some(error) = failed? else {
+        holds(&rt, found.len() == 3, "found");
+        let clean = SurveyEnd::Clean {
+            entries: 5,
+            transactions: 3,
+        };
+        holds(&rt, end == Some(clean), "at the end");
+        return Ok(());
+    };
+    holds(&rt, end.is_none(), "of a survey that failed");
+    Err(error.into())
 }

@@ -17,7 +17,6 @@ CALLGRIND = (
     "--I1=32768,8,64 --D1=32768,8,64 --LL=4194304,16,64"
 ).split()
 LINE = 64
-CODE_LIMIT = 24
 SDP = (
     "v=0\r\no=alice 2890844526 2890844526 IN IP4 pc33.atlanta.example.com\r\ns=-\r\n"
     "c=IN IP4 192.0.2.101\r\nt=0 0\r\nm=audio 49172 RTP/AVP 0\r\na=rtpmap:0 PCMU/8000\r\n"
@@ -111,6 +110,22 @@ def options(entries):
     return merged((ping(number) for number in range(entries // 2)), 10)
 
 
+def turned(entries):
+    """The same messages at the other end: what one element sent the other received."""
+    for letter, moment, text in entries:
+        yield {"S": "R", "R": "S"}[letter], moment, text
+
+
+def served_registers(entries):
+    """The same registrations, at the server."""
+    return turned(registers(entries))
+
+
+def served_options(entries):
+    """The same OPTIONS, at the server."""
+    return turned(options(entries))
+
+
 def proxy(entries):
     """Both sides of an INVITE through a proxy; one of eight is refused with 486."""
 
@@ -138,7 +153,7 @@ def proxy(entries):
 
 
 def keys(entries):
-    """Requests to a server, all of which it answers behind the last, in random order."""
+    """Requests to a server, all of which it answers after the last, in random order."""
     numbers = list(range(entries // 2))
     for number in numbers:
         yield "R", number, request("OPTIONS", number)
@@ -301,14 +316,14 @@ def repeats_when_wide(entries):
         yield letter, place, text
 
 
-def restarts_behind_many(entries):
+def restarts_after_many(entries):
     """OPTIONS and 200, and then as many restarts as there are transactions, all of which are over."""
     yield from options(entries * 2 // 3)
     for moment in range(entries // 3):
         yield "Z", 10 * entries + moment, ""
 
 
-def restarts_behind_a_million(entries):
+def restarts_after_a_million(entries):
     """CANCELs that the transport refused, each of which leaves two transactions that are over, and then restarts: of 900,000 entries a million
     transactions and 400,000 restarts."""
     count = entries * 5 // 9
@@ -319,7 +334,7 @@ def restarts_behind_a_million(entries):
 
 
 def restarts_between(entries):
-    """A restart behind each OPTIONS that is sent."""
+    """A restart after each OPTIONS that is sent."""
     for number in range(entries // 2):
         yield "S", 10 * number, small("OPTIONS sip:b@example.com SIP/2.0", "OPTIONS", number)
         yield "Z", 10 * number + 5, ""
@@ -332,26 +347,31 @@ def many_fields(entries):
         yield "S", number, request("OPTIONS", number, others=fields)
 
 
-# The kinds with their limits in instructions an entry; and the two numbers of entries that are counted, whose difference is told.
-# The limits are what plain Rust reached with the same answers, with some room.
-KINDS = {calls: 5500, registers: 5500, options: 4000, proxy: 6000, keys: 5500, mixed: 8000, wide: 40000}
+# The kinds with their goals in instructions an entry, and whether each was met; and the two numbers of entries that are counted, whose difference is
+# told. A goal is what a hand-tuned checker in plain Rust takes with the same answers, with some room; a server's is a tenth above its client's.
+KINDS = {
+    calls: (5500, False), registers: (5500, False), served_registers: (6050, False), options: (4000, False), served_options: (4400, False),
+    proxy: (6000, False), keys: (5500, False), mixed: (8000, False), wide: (120000, True),
+}
+# A goal that was met is lost where an entry takes so many times as much.
+LOST = 1.03
 COUNTED = (2000, 6000)
 COUNTED_WIDE = (128, 256)
 # The worst cases, with how many of the entries of the kinds they take.
 WORST = {
     marks: 1, idle_keys: 1, one_long_key: 1, other_messages: 1, many_live_keys: 1, many_due_keys: 1, repeats_at_once: 1,
     many_owed: 1 / 10, acks_first_first: 1 / 50, acks_last_first: 1 / 50, repeats_when_wide: 1 / 200, many_fields: 1 / 500,
-    at_one_moment: 1, wide_and_over: 1 / 10, restarts_behind_many: 1, restarts_behind_a_million: 1, restarts_between: 1,
+    at_one_moment: 1, wide_and_over: 1 / 10, restarts_after_many: 1, restarts_after_a_million: 1, restarts_between: 1,
 }
 # What time and memory are to grow with no faster than the entries, and the numbers of entries that are put side by side.
 GROWING = (
-    calls, registers, options, at_one_moment, keys, many_live_keys, restarts_behind_many, restarts_behind_a_million, restarts_between,
+    calls, registers, options, at_one_moment, keys, many_live_keys, restarts_after_many, restarts_after_a_million, restarts_between,
 )
 SIZES = (10_000, 100_000, 1_000_000)
 # A long tolerance lets much be owed at once.
 LONG = (wide, wide_and_over, many_owed, repeats_when_wide)
 # Restarts stand in logs of format 2.
-RESTARTS = (restarts_behind_many, restarts_behind_a_million, restarts_between)
+RESTARTS = (restarts_after_many, restarts_after_a_million, restarts_between)
 
 
 def name_of(kind):
@@ -387,7 +407,7 @@ def counted(program, log, out):
     with out.open() as lines:
         for line in lines:
             if line.startswith("0x"):
-                # the line behind a call has what the callee cost
+                # the line after a call has what the callee cost
                 if not is_call:
                     address, _, instructions = line.split(maxsplit=3)[:3]
                     place = int(address, 16)
@@ -403,10 +423,10 @@ def counted(program, log, out):
 
 
 def print_counted(program, folder):
-    print(f"{'counted, an entry':<18} {'bytes':>6} {'instructions':>12} {'limit':>7} {'branches':>9} {'I1 misses':>9} {'D1 misses':>9} "
+    print(f"{'counted, an entry':<18} {'bytes':>6} {'instructions':>12} {'goal':>7} {'branches':>9} {'I1 misses':>9} {'D1 misses':>9} "
           f"{'LL misses':>9} {'code KB':>8}")
-    above = []
-    for kind, limit in KINDS.items():
+    lost = []
+    for kind, (goal, was_met) in KINDS.items():
         got, sizes = [], []
         for entries in COUNTED_WIDE if kind is wide else COUNTED:
             log = folder / "log"
@@ -415,21 +435,21 @@ def print_counted(program, folder):
             check_legal(kind, count, text)
             got.append((count, totals, runs))
             sizes.append(log.stat().st_size)
-        (few, before, runs_before), (many, behind, runs) = got
+        (few, before, runs_before), (many, after, runs) = got
         entries = many - few
 
         def each(*events):
-            return sum(behind.get(it, 0) - before.get(it, 0) for it in events) / entries
+            return sum(after.get(it, 0) - before.get(it, 0) for it in events) / entries
 
         often = {place // LINE for place, count in runs.items() if count - runs_before.get(place, 0) >= entries / 10}
         code = len(often) * LINE / 1024
-        print(f"{name_of(kind):<18} {(sizes[1] - sizes[0]) / entries:>6.0f} {each('Ir'):>12.0f} {limit:>7} {each('Bcm', 'Bim'):>9.1f} {each('I1mr'):>9.1f} "
-              f"{each('D1mr', 'D1mw'):>9.1f} {each('ILmr', 'DLmr', 'DLmw'):>9.1f} {code:>8.1f}", flush=True)
-        if each("Ir") > limit:
-            above.append(f"{name_of(kind)}: {each('Ir'):.0f} instructions an entry, limit {limit}")
-        if code > CODE_LIMIT:
-            above.append(f"{name_of(kind)}: {code:.1f} KB of code that one entry in ten runs through, limit {CODE_LIMIT}")
-    print("\n".join(f"above its limit: {it}" for it in above))
+        told = "met" if each("Ir") <= goal else f"{each('Ir') / goal:.2f} times its goal"
+        print(f"{name_of(kind):<18} {(sizes[1] - sizes[0]) / entries:>6.0f} {each('Ir'):>12.0f} {goal:>7} {each('Bcm', 'Bim'):>9.1f} {each('I1mr'):>9.1f} "
+              f"{each('D1mr', 'D1mw'):>9.1f} {each('ILmr', 'DLmr', 'DLmw'):>9.1f} {code:>8.1f}   {told}", flush=True)
+        if was_met and each("Ir") > LOST * goal:
+            lost.append(f"{name_of(kind)}: {each('Ir'):.0f} instructions an entry, and its goal of {goal} was met before")
+    if lost:
+        sys.exit("\n".join(f"a goal is lost: {it}" for it in lost))
 
 
 def peak_of(pid):
@@ -486,10 +506,29 @@ def print_growth(program, folder):
         print(line, flush=True)
 
 
+def print_beside(program, other, folder, size):
+    """Logs of the kinds, each judged by two programs in turn: the fewest processor seconds of five runs, and the most memory."""
+    print(f"{'beside':<18} {'entries':>8}   {'seconds':>8} {'peak MB':>8}   {'other':>8} {'peak MB':>8}   {'times':>6}")
+    log = folder / "log"
+    for kind in KINDS:
+        entries = write_log(log, kind, size // 10 if kind is wide else size)
+        runs = {it: [] for it in (program, other)}
+        for _ in range(5):
+            for it, told in runs.items():
+                text, seconds, peak, _ = measured([it, "check", log])
+                check_legal(kind, entries, text)
+                told.append((seconds, peak))
+        (own, own_peak), (others, others_peak) = ((min(it[0] for it in told), max(it[1] for it in told)) for told in runs.values())
+        print(f"{name_of(kind):<18} {entries:>8}   {own:>8.3f} {own_peak / 1e3:>8.1f}   {others:>8.3f} {others_peak / 1e3:>8.1f}   {own / others:>6.2f}", flush=True)
+
+
 def main():
     program, *sizes = sys.argv[1:]
     with tempfile.TemporaryDirectory() as name:
         folder = Path(name)
+        if sizes[:1] == ["beside"]:
+            print_beside(program, sizes[1], folder, int(sizes[2]) if sizes[2:] else 1_000_000)
+            return
         if sizes == ["growth"]:
             print_growth(program, folder)
             return

@@ -1,10 +1,17 @@
 #!/bin/sh
-# Makes logs of several kinds, and prints for each what `siptrace check` needs: counted by valgrind, where it is installed, with the limits that
-# are to be reached; and timed, beside what cat needs for the same file. With numbers, logs of about so many entries are timed; else of 10,000
-# and of 100,000. With the word growth some kinds are timed alone, of 10,000, 100,000 and 1,000,000 entries side by side. With the word shapes
-# hostile messages and wide transactions are counted instead: what a byte takes in a message of 4 KiB and in one of 64 KiB, which is about the
-# same where reading is linear, and what an entry takes by how many states there are and how much is owed. With the word survey a survey is
-# counted and timed beside a verdict.
+# Makes logs of several kinds, and prints for each what `siptrace check` needs: counted by valgrind, where it is installed, with the goals that
+# are to be reached, and fails where one that was met is lost by 3 %; and timed, beside what cat needs for the same file. With numbers, logs of about
+# so many entries are timed; else of 10,000 and of 100,000.
+#
+#   bench/judge.sh [ENTRIES ..]
+#   bench/judge.sh growth                     some kinds alone, of 10,000, 100,000 and 1,000,000 entries side by side, timed
+#   bench/judge.sh beside PROGRAM [ENTRIES]   the kinds, timed in turn with another program
+#   bench/judge.sh shapes                     hostile messages and wide transactions, counted: what a byte takes in a message of 4 KiB and in one of
+#                                             64 KiB, which is about the same where reading is linear, and what an entry takes by how many states there
+#                                             are and how much is owed
+#   bench/judge.sh owed [LOG ..]              hostile logs in which much is owed, timed in three lengths: which of them do not grow in line
+#   bench/judge.sh survey                     a survey beside a verdict, counted and timed
+#
 # SIPTRACE and SIPSURVEY name other programs than those of ./siptrace and ./sipsurvey. To measure on one processor, call it by taskset.
 set -e
 unset CDPATH
@@ -14,4 +21,5 @@ cd "$(dirname "$0")/.."
 if [ -z "$SIPTRACE" ]; then SIPTRACE=$PWD/built/$(./build); fi
 if [ "$1" = survey ]; then exec python3 -B bench/survey.py "$SIPTRACE" "${SIPSURVEY:-$PWD/built/$(./build sipsurvey)}"; fi
 if [ "$1" = shapes ]; then exec python3 -B bench/shapes.py "$SIPTRACE"; fi
+if [ "$1" = owed ]; then shift && exec python3 -B bench/owed.py "$SIPTRACE" "$@"; fi
 exec python3 bench/judge.py "$SIPTRACE" "$@"

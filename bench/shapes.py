@@ -19,7 +19,7 @@ STRING = 'Via: SIP/2.0/UDP a;x="'
 HOST = "Via: SIP/2.0/UDP "
 PARAM = "Via: SIP/2.0/UDP a"
 URI = "From: <"
-# The name; a line of a message, as what stands before the unit, the unit, and what stands behind; and what is wrong with it.
+# The name; a line of a message, as what stands before the unit, the unit, and what stands after it; and what is wrong with it.
 SHAPES = [
     ("token", PARAM + ";x=", "a-1.", "", None),
     ("blanks", PARAM, " \t", ";x", None),
@@ -90,7 +90,7 @@ CLIENTS = (1, 100, 10000)
 
 
 def message(start, line="", method="OPTIONS", tag=""):
-    """A message with this line in place of the field of its name, or behind a Via that it has."""
+    """A message with this line in place of the field of its name, or after a Via that it has."""
     name = line.partition(":")[0]
     fields = {**FIELDS, "CSeq": f"1 {method}", "To": FIELDS["To"] + tag}
     lines = [f"{it}: {value}" for it, value in fields.items() if it != name or it == "Via"]
@@ -134,7 +134,7 @@ def print_shapes(program, log):
 
 
 def print_repeated(program, log, name, begun, again, states):
-    """What each of the entries `again` takes, behind those that lead to so many states."""
+    """What each of the entries `again` takes, after those that lead to so many states."""
     costs = []
     for count in ENTRIES:
         write_entries(log, begun + count * again)

@@ -2,12 +2,13 @@
 """Prints what recipes/watch needs at a rate of messages: calls over UDP come as they would, one in a hundred of which is never acknowledged.
 
   bench/watch.py [RATE..]                  messages a second, each for 20 seconds; else 500, 1000, 2000
-  SECONDS=600 QUIET=100 bench/watch.py 500 for so long, with --quiet 100
+  SECONDS=600 bench/watch.py 500           for so long
+  BAD=1000 OPTIONS='--no-evidence' bench/watch.py 2000    with one in a thousand, and with these options of the watch
 
-For each rate: the share of one processor; how many breaches were told of those that were due, and how late at most; messages that came too late to be judged,
-and branches that were left out since the watch was behind; troubles that were told and were none; and the memory of the watch and of what it started, at
-a third of the time, at two thirds and at the end.
-SIPTRACE names another program than the one of ./siptrace.
+For each rate: the share of one processor; how many breaches were told of those that were due; half, 99 of 100 and all of them so many milliseconds after the line of their
+entry was written, after its moment, and with their evidence; troubles that were told and were none; messages that came too late to be judged; how many processes of sipsurvey there were; the memory of the
+watch and of what it started, at a third of the time, at two thirds and at the end; the load of the machine; and how late it woke a process that sleeps for 10 ms at a time.
+SIPTRACE and SIPSURVEY name other programs than ./siptrace and ./sipsurvey, RECIPES another folder than recipes, QUIET the seconds of --quiet (100).
 """
 import heapq
 import json
@@ -24,7 +25,8 @@ sys.dont_write_bytecode = True
 import judge
 
 WATCH = Path(os.environ.get("RECIPES", Path(__file__).resolve().parent.parent / "recipes")) / "watch"
-SECONDS, QUIET, BAD = int(os.environ.get("SECONDS", 20)), os.environ.get("QUIET", "5"), 100
+SECONDS, QUIET, BAD = int(os.environ.get("SECONDS", 20)), os.environ.get("QUIET", "100"), int(os.environ.get("BAD", 100))
+OPTIONS = os.environ.get("OPTIONS", "").split()
 
 
 def call(number):
@@ -61,37 +63,89 @@ def status_of(number):
         return []
 
 
+def half_and_all(delays):
+    """Half of them are at most the first, all but one in a hundred the second, all the third: in milliseconds."""
+    delays = sorted(delays) or [0]
+    return "%.0f, %.0f, %.0f (%d over 100)" % (*(1000 * delays[min(len(delays) - 1, int(len(delays) * part))] for part in (0.5, 0.99, 1)), sum(one > 0.1 for one in delays))
+
+
+BEAT = """import sys, time
+most, late, before, end = 0, 0, time.time(), time.time() + float(sys.argv[1])
+while before < end:
+    time.sleep(0.01)
+    now = time.time()
+    most, late, before = max(most, now - before - 0.01), late + (now - before > 0.11), now
+print("%.0f %d" % (1000 * most, late))
+"""
+
+
+class Feeding:
+    """A watch that is fed, and what it says, with when it was heard."""
+
+    def __init__(self, rate, counts):
+        self.rate, self.said, self.written, self.sizes = rate, [], {}, []  # when the first line of each millisecond was written
+        self.watch = subprocess.Popen([sys.executable, WATCH, "192.0.2.1:5060", "--cold", "0", "--quiet", QUIET, "--counts", counts, *OPTIONS],
+                                      stdin=subprocess.PIPE, stdout=subprocess.PIPE)
+        self.hearer = threading.Thread(target=self.hear)
+        self.hearer.start()
+
+    def hear(self):
+        for line in self.watch.stdout:
+            self.said.append((time.time(), json.loads(line)))
+
+    def feed(self):
+        time.sleep(1)
+        begun, waiting = time.time(), []
+        for moment, line in lines(self.rate):
+            wait = begun + moment - time.time()
+            if wait > 0:
+                self.flush(waiting)
+                time.sleep(wait)
+            self.watch.stdin.write(b"%.6f " % (begun + moment) + line)
+            waiting.append(int((begun + moment) * 1000))
+            if len(self.sizes) < 2 and moment > (len(self.sizes) + 1) * SECONDS / 3:
+                self.sizes.append(memory(self.watch.pid))
+        self.flush(waiting)
+        time.sleep(1)
+        self.sizes.append(memory(self.watch.pid))
+        self.watch.stdin.close()
+        self.hearer.join()
+        self.watch.wait()
+
+    def flush(self, waiting):
+        self.watch.stdin.flush()
+        now = time.time()
+        for moment in waiting:
+            self.written.setdefault(moment, now)
+        waiting.clear()
+
+
+def moment_of(one):
+    """Milliseconds."""
+    return round(float(one["at"]) * 1000)
+
+
 def measure(rate, counts):
     before = resource.getrusage(resource.RUSAGE_CHILDREN)
-    watch = subprocess.Popen([sys.executable, WATCH, "192.0.2.1:5060", "--cold", "0", "--quiet", QUIET, "--counts", counts], stdin=subprocess.PIPE, stdout=subprocess.PIPE)
-    said, sizes = [], []
-    hearer = threading.Thread(target=lambda: said.extend(map(json.loads, watch.stdout)))
-    hearer.start()
-    time.sleep(1)
-    begun = time.time()
-    for moment, line in lines(rate):
-        wait = begun + moment - time.time()
-        if wait > 0:
-            watch.stdin.flush()
-            time.sleep(wait)
-        watch.stdin.write(b"%.6f " % (begun + moment) + line)
-        if len(sizes) < 2 and moment > (len(sizes) + 1) * SECONDS / 3:
-            sizes.append(memory(watch.pid))
-    time.sleep(1)
-    sizes.append(memory(watch.pid))
-    watch.stdin.close()
-    hearer.join()
-    watch.wait()
+    beat = subprocess.Popen([sys.executable, "-c", BEAT, str(SECONDS)], stdout=subprocess.PIPE)
+    fed = Feeding(rate, counts)
+    fed.feed()
+    most, stops = beat.communicate()[0].decode().split()
     used = resource.getrusage(resource.RUSAGE_CHILDREN)
     share = (used.ru_utime + used.ru_stime - before.ru_utime - before.ru_stime) / SECONDS
-    counted = [line.rsplit(None, 1) for line in Path(counts).read_text().splitlines()]
-    late, left_out = (sum(int(number) for name, number in counted if what in name) for what in ("late messages", "while behind"))
+    counted = dict(line.rsplit(None, 1) for line in Path(counts).read_text().splitlines()[1:])
+    late = counted.get('siptrace_watch{what="late messages"}', "0")
     due = {"z9hG4bK776as%d" % number for number in range(0, int(SECONDS * rate / 5), BAD)}
-    told = sorted(one["told_after"] for one in said if one["word"] == "breach") or [0]
-    wrong = sum(one["word"] != "breach" or one["branch"] not in due for one in said)
-    print("%6d a second for %d s: %3.0f %% of a processor; %d of %d breaches, half of them at most %.1f and all at most %.1f s after their moment; "
-          "%d wrong; %d messages came late, %d branches were left out; %s MB" % (
-              rate, SECONDS, 100 * share, len(told), len(due), told[len(told) // 2], told[-1], wrong, late, left_out, ", ".join(map(str, sizes))), flush=True)
+    told = [(heard, one) for heard, one in fed.said if one["word"] == "breach"]
+    moments = {one["trouble"]: moment_of(one) for _, one in told}
+    after_entry = [heard - fed.written.get(moment_of(one), moment_of(one) / 1000) for heard, one in told]
+    after_moment = [heard - moment_of(one) / 1000 for heard, one in told]
+    evidence = [heard - moments[one["trouble"]] / 1000 for heard, one in fed.said if one["word"] == "evidence" and one["kind"] == "never came"]
+    wrong = sum(one["word"] not in ("breach", "evidence") or one.get("branch", next(iter(due))) not in due for _, one in fed.said)
+    print("%6d a second for %d s: %3.0f %% of a processor; %d of %d breaches; half, 99 of 100 and all of them told so many ms after their entry was written: %s; "
+          "after its moment: %s; with evidence %d: %s; %d wrong; %s messages came late; processes %s; %s MB; load %s; a process that sleeps 10 ms at a time woke %s ms late at most, and %s times more than 100" % (
+              rate, SECONDS, 100 * share, len(told), len(due), half_and_all(after_entry), half_and_all(after_moment), len(evidence), half_and_all(evidence),
+              wrong, late, counted['siptrace_watch{what="processes"}'], ", ".join(map(str, fed.sizes)), Path("/proc/loadavg").read_text().split()[0], most, stops), flush=True)
 
 
 def main():

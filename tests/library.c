@@ -1,11 +1,17 @@
-/* Judges the log in each file that it is given, by libsiptrace, with each growth of memory refused in turn: a line for each log with how many are
-   refused, and the numbers of its verdict. The status is 1 where a refused growth is not answered so, changes the verdict that it was given, or
-   where a call keeps memory. */
+/* Calls libsiptrace on the log in each file that it is given, with each growth of memory refused in turn.
+
+     library judge FILE..    a line for each log: how many growths are refused, and the numbers of its verdict
+     library survey FILE..   a line for each log: how many growths are refused, and the numbers of its summary. Before, each log is surveyed with room
+                             for none of its findings, for one, and so on up to two more than it has
+
+   The status is 1 where a refused growth is not answered so, or changes what it was given, where a call keeps memory, or where another part of the
+   room is written than what the call says. */
 #include "siptrace.h"
 
 #include <fcntl.h>
 #include <stdio.h>
 #include <stdlib.h>
+#include <string.h>
 #include <sys/mman.h>
 #include <sys/stat.h>
 #include <unistd.h>
@@ -47,8 +53,9 @@ static int is_as_it_was(const struct siptrace_verdict *it) {
          it->unit == 77 && it->line == 77;
 }
 
+static const struct siptrace_seed seed = {{1, 2, 3, 4, 5, 6, 7, 8, 9, 10, 11, 12, 13, 14, 15, 16}};
+
 static int judge_with_refusals(const char *path, const uint8_t *log, size_t length) {
-  const struct siptrace_seed seed = {{1, 2, 3, 4, 5, 6, 7, 8, 9, 10, 11, 12, 13, 14, 15, 16}};
   long refused = 0;
   for (before_refusal = 0;; before_refusal++) {
     struct siptrace_verdict verdict = untold;
@@ -76,16 +83,101 @@ static int judge_with_refusals(const char *path, const uint8_t *log, size_t leng
   }
 }
 
-int main(int count, char **paths) {
-  for (int at = 1; at < count; at++) {
-    const int file = open(paths[at], O_RDONLY);
+/* Findings that are told here are at most so many. */
+enum { MOST_FINDINGS = 4096, MORE_ROOM = 2 };
+
+static const struct siptrace_summary unsaid = {77, 77, 77, 77, 77, 77};
+
+static int is_unsaid(const struct siptrace_summary *it) {
+  return it->findings == 77 && it->end == 77 && it->entries == 77 && it->transactions == 77 && it->entry == 77 && it->reason == 77;
+}
+
+static int are_alike(const struct siptrace_verdict *a, const struct siptrace_verdict *b) {
+  return a->kind == b->kind && a->entries == b->entries && a->transactions == b->transactions && a->entry == b->entry &&
+         a->transaction == b->transaction && a->reason == b->reason && a->unit == b->unit && a->line == b->line;
+}
+
+static struct siptrace_verdict whole[MOST_FINDINGS + MORE_ROOM], part[MOST_FINDINGS + MORE_ROOM];
+
+static void clear(struct siptrace_verdict *findings) {
+  for (size_t at = 0; at < MOST_FINDINGS + MORE_ROOM; at++) findings[at] = untold;
+}
+
+/* Whether all places from this one on are as they were. */
+static int are_untold(const struct siptrace_verdict *findings, size_t at) {
+  while (at < MOST_FINDINGS + MORE_ROOM && is_as_it_was(&findings[at])) at++;
+  return at == MOST_FINDINGS + MORE_ROOM;
+}
+
+/* Whether the call does with this room what it does with all room, but for the findings that have none. */
+static int is_part(const uint8_t *log, size_t length, size_t room, const struct siptrace_summary *summary) {
+  struct siptrace_summary said = unsaid;
+  clear(part);
+  const uint32_t status = siptrace_survey(log, length, &seed, part, room, &said);
+  const size_t count = room < summary->findings ? room : summary->findings;
+  for (size_t at = 0; at < count; at++)
+    if (!are_alike(&part[at], &whole[at])) return 0;
+  return status == (room < summary->findings ? SIPTRACE_NO_ROOM : SIPTRACE_ANSWERED) && are_untold(part, count) && said.findings == summary->findings &&
+         said.end == summary->end && said.entries == summary->entries && said.transactions == summary->transactions &&
+         said.entry == summary->entry && said.reason == summary->reason;
+}
+
+static int survey_in_rooms(const char *path, const uint8_t *log, size_t length) {
+  struct siptrace_summary summary = unsaid;
+  clear(whole);
+  if (siptrace_survey(log, length, &seed, whole, MOST_FINDINGS, &summary) != SIPTRACE_ANSWERED || !are_untold(whole, summary.findings)) {
+    printf("%s: not surveyed\n", path);
+    return 1;
+  }
+  for (size_t room = 0; room <= summary.findings + MORE_ROOM; room++)
+    if (!is_part(log, length, room, &summary)) {
+      printf("%s: room for %zu of %zu findings\n", path, room, summary.findings);
+      return 1;
+    }
+  return 0;
+}
+
+static int survey_with_refusals(const char *path, const uint8_t *log, size_t length) {
+  long refused = 0;
+  if (survey_in_rooms(path, log, length)) return 1;
+  for (before_refusal = 0;; before_refusal++) {
+    struct siptrace_summary summary = unsaid;
+    clear(part);
+    growths = held = 0;
+    is_counting = 1;
+    const uint32_t status = siptrace_survey(log, length, &seed, part, MOST_FINDINGS, &summary);
+    is_counting = 0;
+    if (held != 0) {
+      printf("%s: %ld blocks are kept\n", path, held);
+      return 1;
+    }
+    const int was_refused = growths > before_refusal;
+    if (status == SIPTRACE_NO_MEMORY && was_refused && is_unsaid(&summary) && are_untold(part, 0)) {
+      refused++;
+    } else if (status == SIPTRACE_ANSWERED && !is_unsaid(&summary)) {
+      /* std does without some growths. */
+      if (was_refused) continue;
+      printf("%ld %zu %u %u %u %u %u\n", refused, summary.findings, summary.end, summary.entries, summary.transactions, summary.entry, summary.reason);
+      return 0;
+    } else {
+      printf("%s: growth %ld: status %u\n", path, before_refusal + 1, status);
+      return 1;
+    }
+  }
+}
+
+int main(int count, char **words) {
+  if (count < 2) return 2;
+  const int is_survey = strcmp(words[1], "survey") == 0;
+  for (int at = 2; at < count; at++) {
+    const int file = open(words[at], O_RDONLY);
     struct stat is;
     if (file < 0 || fstat(file, &is) != 0) return 2;
     const size_t length = (size_t)is.st_size;
     /* One byte more, since no file of no bytes can be mapped. */
     uint8_t *log = mmap(NULL, length + 1, PROT_READ, MAP_PRIVATE, file, 0);
     if (log == MAP_FAILED) return 2;
-    const int failed = judge_with_refusals(paths[at], log, length);
+    const int failed = (is_survey ? survey_with_refusals : judge_with_refusals)(words[at], log, length);
     munmap(log, length + 1);
     close(file);
     if (failed) return 1;

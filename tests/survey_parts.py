@@ -18,14 +18,14 @@ class Program:
     def __init__(self, path):
         self.path, self.file = os.fspath(path), open(os.memfd_create("log"), "r+b", buffering=0)
 
-    def says(self, log):
+    def says(self, log, *words):
         """The lines that it writes, and its status."""
         os.ftruncate(self.file.fileno(), 0)
         os.pwrite(self.file.fileno(), log, 0)
         os.lseek(self.file.fileno(), 0, os.SEEK_SET)
         ours, theirs = os.pipe()
         actions = [(os.POSIX_SPAWN_DUP2, self.file.fileno(), 0), (os.POSIX_SPAWN_DUP2, theirs, 1)]
-        pid = os.posix_spawn(self.path, [self.path], os.environ, file_actions=actions)
+        pid = os.posix_spawn(self.path, [self.path, *words], os.environ, file_actions=actions)
         os.close(theirs)
         if not select.select([ours], [], [], PATIENCE)[0]:
             os.kill(pid, signal.SIGKILL)  # it says nothing
@@ -131,6 +131,39 @@ def by_branch(log, lines):
     return {branch: sorted(it, key=str) for branch, it in found.items()}
 
 
+def fnv1a(text):
+    """FNV-1a of 32 bits."""
+    total = 2166136261
+    for byte in text:
+        total = (total ^ byte) * 16777619 % 2**32
+    return total
+
+
+def share_of(key, count):
+    """The part, of so many, into which a transaction falls."""
+    return fnv1a(b"z9hg4bk" + key[1].lower().encode("latin-1")) % count + 1
+
+
+def shares_faults(surveyor, told, log, lines, count):
+    """What does not hold of the surveys of the parts of a log, beside that of the whole: each finding of a transaction is told by its part, under
+    the number that it has among those of the part, and each malformed message by one part."""
+    keys, wanted, malformed = sorted(numbers_of(log), key=numbers_of(log).get), defaultdict(list), []
+    ranks = {key: [share_of(it, count) for it in keys[:at + 1]].count(share_of(key, count)) for at, key in enumerate(keys)}
+    for line in lines[:-1]:
+        word, entry, rest = line.split(" ", 2)
+        if word != "malformed":
+            key = keys[int(rest.split()[1]) - 1]
+            wanted[share_of(key, count)].append(f"{word} {entry} transaction {ranks[key]}")
+    for number in range(1, count + 1):
+        part, status = surveyor.says(log.bytes(), "--part", f"{number}/{count}")
+        malformed += [line for line in part if line.startswith("malformed")]
+        end = lines[-1] if log.tail else f"end entries {len(log.entries)} transactions {[share_of(it, count) for it in keys].count(number)} findings {len(part) - 1}"
+        if [line for line in part if not line.startswith("malformed")] != [*wanted[number], end] or status != status_of_survey(part):
+            yield f"{told}: part {number}/{count} wanted {wanted[number]} and {end}\n  says {part}, status {status}"
+    if sorted(malformed) != sorted(line for line in lines if line.startswith("malformed")):
+        yield f"{told}: of {count} parts these tell of malformed messages: {malformed}"
+
+
 def faults_of(judge, surveyor, number, log):
     """What does not hold of a log's survey, and how many findings it has."""
     lines, status = surveyor.says(log.bytes())
@@ -151,6 +184,7 @@ def faults_of(judge, surveyor, number, log):
         found = by_branch(part, surveyor.says(part.bytes())[0])
         if found != ({branch: whole[branch]} if branch in whole else {}):
             faults.append(f"{told}: the log of branch {branch} has {found}, and the whole {whole.get(branch)}")
+    faults += shares_faults(surveyor, told, log, lines, number % 4 + 2)
     return faults, lines
 
 

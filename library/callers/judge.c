@@ -1,74 +1,9 @@
 /* Judges the log in each file that it is given, by libsiptrace, and writes a line for each, as the program siptrace does. */
-#include "siptrace.h"
-
-#include <stdio.h>
-#include <stdlib.h>
-#include <sys/random.h>
-
-static const char *const reasons[] = {
-    [SIPTRACE_NO_HEAD_END] = "NoHeadEnd",   [SIPTRACE_BARE_LINE_END] = "BareLineEnd", [SIPTRACE_START_LINE] = "StartLine",
-    [SIPTRACE_FIELD_LINE] = "FieldLine",    [SIPTRACE_VALUE] = "Value",               [SIPTRACE_REPEATED] = "Repeated",
-    [SIPTRACE_MISSING] = "Missing",         [SIPTRACE_METHOD_MISMATCH] = "MethodMismatch",
-    [SIPTRACE_NO_LENGTH] = "NoLength",      [SIPTRACE_SHORT_BODY] = "ShortBody",      [SIPTRACE_LONG_BODY] = "LongBody",
-    [SIPTRACE_NO_COOKIE] = "NoCookie",      [SIPTRACE_HEADER] = "Header",             [SIPTRACE_ENTRY_LINE] = "EntryLine",
-    [SIPTRACE_TRUNCATED] = "Truncated",     [SIPTRACE_ORDER] = "Order",               [SIPTRACE_LIMIT] = "Limit",
-};
-
-static void print_verdict(const struct siptrace_verdict *verdict) {
-  const unsigned entry = verdict->entry, reason = verdict->reason;
-  switch (verdict->kind) {
-  case SIPTRACE_LEGAL:
-    printf("legal entries %u transactions %u\n", verdict->entries, verdict->transactions);
-    break;
-  case SIPTRACE_MALFORMED:
-    printf("malformed %u ", entry);
-    if (verdict->unit == SIPTRACE_LINE) printf("line %zu", verdict->line);
-    else printf(verdict->unit == SIPTRACE_HEAD ? "head" : "body");
-    printf(" %u %s\n", reason, reasons[reason]);
-    break;
-  case SIPTRACE_BREACH:
-    printf("breach %u transaction %u\n", entry, verdict->transaction);
-    break;
-  case SIPTRACE_UNDECIDED:
-    printf("undecided %u transaction %u\n", entry, verdict->transaction);
-    break;
-  case SIPTRACE_LOG_FAULT:
-    printf("log fault %u %u %s\n", entry, reason, reasons[reason]);
-    break;
-  }
-}
-
-/* The bytes of a file, or NULL. */
-static uint8_t *read_all(const char *path, size_t *length) {
-  FILE *file = fopen(path, "rb");
-  if (!file) return NULL;
-  uint8_t *bytes = NULL;
-  size_t room = 0;
-  *length = 0;
-  do {
-    if (*length == room) {
-      room = room ? 2 * room : 65536;
-      uint8_t *more = realloc(bytes, room);
-      if (!more) {
-        free(bytes);
-        fclose(file);
-        return NULL;
-      }
-      bytes = more;
-    }
-    *length += fread(bytes + *length, 1, room - *length, file);
-  } while (!feof(file) && !ferror(file));
-  if (ferror(file)) {
-    free(bytes);
-    bytes = NULL;
-  }
-  fclose(file);
-  return bytes;
-}
+#include "telling.h"
 
 int main(int count, char **paths) {
   struct siptrace_seed seed;
-  if (getrandom(seed.bytes, sizeof seed.bytes, 0) != sizeof seed.bytes) return 4;
+  if (!fill_seed(&seed)) return 4;
   for (int at = 1; at < count; at++) {
     size_t length;
     uint8_t *log = read_all(paths[at], &length);

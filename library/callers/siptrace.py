@@ -1,14 +1,16 @@
-"""siptrace as a library: verdicts by libsiptrace.so, through ctypes.
+"""siptrace as a library: verdicts and surveys by libsiptrace.so, through ctypes.
 
-  siptrace.py LIBRARY FILE..   judges the log in each file, and writes a line for each, as the program siptrace does"""
+  siptrace.py LIBRARY FILE..            judges the log in each file, and writes a line for each, as the program siptrace does
+  siptrace.py LIBRARY --survey FILE..   surveys the log in each file, and writes the lines that the program sipsurvey writes"""
 
 import ctypes
 import os
 import sys
 
-ANSWERED, NO_MEMORY = range(2)
+ANSWERED, NO_MEMORY, NO_ROOM = range(3)
 LEGAL, MALFORMED, BREACH, UNDECIDED, LOG_FAULT = range(1, 6)
 HEAD, LINE, BODY = range(1, 4)
+END_OF_LOG, END_AT_FAULT = range(1, 3)
 MESSAGE_REASONS = "NoHeadEnd BareLineEnd StartLine FieldLine Value Repeated Missing MethodMismatch NoLength ShortBody LongBody NoCookie"
 LOG_REASONS = "Header EntryLine Truncated Order Limit"
 REASONS = dict([*enumerate(MESSAGE_REASONS.split(), 1), *enumerate(LOG_REASONS.split(), 20)])
@@ -32,6 +34,17 @@ class Verdict(ctypes.Structure):
         return f"{word} {self.entry} transaction {self.transaction}"
 
 
+class Summary(ctypes.Structure):
+    """`struct siptrace_summary` of siptrace.h."""
+
+    _fields_ = [("findings", ctypes.c_size_t)] + [(name, ctypes.c_uint32) for name in "end entries transactions entry reason".split()]
+
+    def __str__(self):
+        if self.end == END_OF_LOG:
+            return f"end entries {self.entries} transactions {self.transactions} findings {self.findings}"
+        return f"log fault {self.entry} {self.reason} {REASONS.get(self.reason)}"
+
+
 class Seed(ctypes.Structure):
     """`struct siptrace_seed` of siptrace.h."""
 
@@ -45,6 +58,9 @@ class Siptrace:
         self.library = ctypes.CDLL(path)
         self.library.siptrace_judge.argtypes = [ctypes.c_char_p, ctypes.c_size_t, ctypes.POINTER(Seed), ctypes.POINTER(Verdict)]
         self.library.siptrace_judge.restype = ctypes.c_uint32
+        room = [ctypes.POINTER(Verdict), ctypes.c_size_t, ctypes.POINTER(Summary)]
+        self.library.siptrace_survey.argtypes = [ctypes.c_char_p, ctypes.c_size_t, ctypes.POINTER(Seed), *room]
+        self.library.siptrace_survey.restype = ctypes.c_uint32
         self.seed = Seed.from_buffer_copy(os.urandom(ctypes.sizeof(Seed)))
 
     def judge(self, log):
@@ -55,12 +71,31 @@ class Siptrace:
             raise MemoryError
         return verdict
 
+    def survey(self, log):
+        """The findings of the log of these bytes, and what the survey came to. Raises MemoryError where memory was refused."""
+        summary = Summary()
+        # Few logs have many findings: where this room is too small, the call says how much is wanted.
+        room, status = 4, NO_ROOM
+        while status == NO_ROOM:
+            findings = (Verdict * room)()
+            status = self.library.siptrace_survey(log, len(log), self.seed, findings, room, summary)
+            room = summary.findings
+        if status != ANSWERED:
+            raise MemoryError
+        return findings[: summary.findings], summary
+
 
 def main():
     siptrace = Siptrace(sys.argv[1])
-    for path in sys.argv[2:]:
+    is_survey = sys.argv[2:3] == ["--survey"]
+    for path in sys.argv[2 + is_survey :]:
         with open(path, "rb") as file:
-            print(siptrace.judge(file.read()))
+            log = file.read()
+        if is_survey:
+            findings, summary = siptrace.survey(log)
+            print(*findings, summary, sep="\n")
+        else:
+            print(siptrace.judge(log))
 
 
 if __name__ == "__main__":

@@ -1,5 +1,6 @@
 #!/usr/bin/env python3
-"""How a program has the judge beside it: a process of sipsurvey is fed the entries as they come, and tells each trouble when its entry passes."""
+"""How a program has the judge beside it, as it can be done in any language (../README.md, `A judge inside a program`): a process of sipsurvey is fed the entries
+as they come, and tells each trouble when its entry passes."""
 import subprocess
 import threading
 

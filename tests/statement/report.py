@@ -16,17 +16,22 @@ from statement.repository import TOP, Repository, contract, text_of
 
 PAGE = TOP / "docs/THEOREM.md"
 STANDARD = TOP / "docs/standard"
-# The parts of the page, in the order in which a log is read: the crates of each, and the pages that tell its definitions.
+# The parts of the page, in the order in which a log is read: for each the crates, or the files of `sip_standard`, and the pages that tell its definitions.
 PARTS = {
-    "Text": (["sip_text"], ["TEXT.md"]),
-    "Message": (["sip_message"], ["MESSAGE.md"]),
+    "Text": (["Text", "Case", "Chars", "Profile"], ["TEXT.md"]),
+    "Message": (["Outcome", "Faults", "StartLine", "Via", "Values", "Field", "Body", "Lines", "Says", "Transport", "Reason", "fault", "sip_message"], ["MESSAGE.md"]),
     "Keys": (["sip_key"], ["KEYS.md"]),
-    "Log": (["sip_times", "sip_log"], ["LOG.md", "MACHINES.md"]),
+    "Log": (["rules", "Times", "Window", "Source", "format", "LogHeader", "action", "LogEntry", "LogFault", "LogSays", "sip_log"], ["LOG.md", "MACHINES.md"]),
     "Machines": (["sip_machine", "sip_states"], ["MACHINES.md", "VERDICT.md"]),
     "Verdict": (["sip_verdict"], ["VERDICT.md"]),
 }
 BEGIN, BEGIN_LAWS = "<!-- tests/trusted --write writes from here -->\n", "<!-- tests/trusted --write writes the laws from here -->\n"
 END = "<!-- to here -->\n"
+
+
+def lies_in(file, homes):
+    """Whether a file is of one of these crates, or one of these files of `sip_standard`."""
+    return (file.path.stem if file.crate == "sip_standard" else file.crate) in homes
 
 
 def in_reading_order(repository, items):
@@ -86,8 +91,8 @@ def page_of(repository, file, items, doubles):
 def print_page(repository, items, others, clauses):
     print(f"Not defined here, but in std: {' '.join(sorted(others))}\n")
     doubles = {it.name for it in items if any(it.name == other.name and it.file != other.file for other in items)}
-    for part, (crates, _) in PARTS.items():
-        own = [it for it in items if it.file.crate in crates]
+    for part, (homes, _) in PARTS.items():
+        own = [it for it in items if lies_in(it.file, homes)]
         print(f"# {part}\n")
         for file in in_reading_order(repository, own):
             below = sorted((it for it in own if it.file == file), key=lambda it: it.first)
@@ -98,11 +103,11 @@ def print_page(repository, items, others, clauses):
 
 def untold(items):
     """The definitions that no page names: as often as files define one of a name, so many sections name it."""
-    for crates, pages in PARTS.values():
+    for homes, pages in PARTS.values():
         sections = [it for page in pages for it in re.split(r"^#+ ", text_of(STANDARD / page), flags=re.M)]
         told = [set(re.findall(r"`([^`\n]+)`", re.sub(r"``.*?``", "", it))) for it in sections]
-        for name in sorted({it.name for it in items if it.file.crate in crates}):
-            files = {it.file.path for it in items if it.file.crate in crates and it.name == name}
+        for name in sorted({it.name for it in items if lies_in(it.file, homes)}):
+            files = {it.file.path for it in items if lies_in(it.file, homes) and it.name == name}
             times = sum(name.strip("◌") in it for it in told)
             if times < len(files):
                 where = ", ".join(f"crates/{it}" for it in sorted(files))
@@ -111,7 +116,7 @@ def untold(items):
 
 def unknown_files():
     """The files that the headings of the pages name and no crate of theirs has."""
-    for crates, pages in PARTS.values():
+    for _, pages in PARTS.values():
         for page in pages:
             headings = re.findall(r"^#+ .*", text_of(STANDARD / page), re.M)
             names = {name for it in headings for name in re.findall(r"`(\w+)`", it) if not name.startswith("sip_")}

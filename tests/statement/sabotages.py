@@ -1,6 +1,6 @@
 """What tests/trusted-sabotage does to a copy of the checkout: by name the edits, and a text of the line that tests/trusted must say of them."""
 
-MESSAGE, PROFILE, TEXT = "crates/sip_machine/specs/Message.antt", "crates/sip_text/specs/Profile.antt", "crates/sip_text/specs/Text.antt"
+MESSAGE, PROFILE, TEXT = "crates/sip_machine/specs/Message.antt", "crates/sip_standard/specs/Profile.antt", "crates/sip_standard/specs/Text.antt"
 PLAIN_CLIENT, TEXTS, NAMING = (f"crates/sip_machine/specs/{it}.antt" for it in ("PlainClient", "Texts", "Naming"))
 MACHINES, VERDICT_LIB = "docs/standard/MACHINES.md", "crates/sip_verdict/src/lib.rt"
 VERDICT, JUDGING, STAGE = (f"crates/sip_verdict/src/{it}.rt" for it in ("verdict", "judging", "stage"))
@@ -84,7 +84,7 @@ DEFINITIONS = {
 }
 
 LAST = "    LogFault { entry: u32, reason: LogReason },\n}\n"
-FAULT, USE_FAULT = "Malformed { entry: u32, fault: Fault }", "use sip_message::Fault;"
+FAULT, USE_FAULT = "Malformed { entry: u32, fault: Fault }", "use sip_standard::Fault;"
 VIEW = " {\n    ghost Value = { Verdict };\n\n    ghost view = { λ v. v };\n}\n"
 TYPE = "/// What is planted.\npub struct Planted {\n    pub first: u8,\n}\n\n"
 TOP_OF_STAGE = "//! "

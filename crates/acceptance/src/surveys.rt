@@ -4,7 +4,10 @@ mod rows;
 use crate::notation::log_of;
 use crate::wants::{holds, reads};
 use sip_log::{Entry, FromRead, LogError, Progress, ToWrite};
-use sip_verdict::{Finding, StepError, Survey, SurveyEnd, SurveyError, survey};
+use sip_verdict::{
+    Finding, StepError, Survey, SurveyEnd, SurveyError, end_line, finding_line, survey,
+    survey_bytes,
+};
 use std::alloc::Global;
 use std::hash::{BuildHasherDefault, FoldHasher};
 use std::process::Abort;
@@ -22,7 +25,17 @@ fn written(alloc: Global, log: &[u8], text: &mut Vec<u8>) -> Result<(), SurveyEr
     Ok(())
 }
 
-/// The survey of a log has these lines.
+/// Tells what is found in the log of these bytes in memory by the lines of a survey.
+fn told(alloc: Global, log: &[u8], text: &mut String) -> Result<(), SurveyError> {
+    let (found, end) = survey_bytes(alloc, log, Hasher::new())?;
+    for finding in &found {
+        text.push_str(finding_line(alloc, finding)?.as_str())?;
+    }
+    text.push_str(end_line(alloc, &end, found.len() as u64)?.as_str())?;
+    Ok(())
+}
+
+/// The survey of a log has these lines, whether its bytes come from a reader or lie in memory.
 fn surveys_log(
     rt: &(impl Abort + AllocGlobal),
     log: &str,
@@ -32,6 +45,9 @@ fn surveys_log(
     written(rt.alloc(), log.as_bytes(), &mut text)?;
     let lines = str::from_utf8(text.as_slice()).map_err(|_| "no text")?;
     reads(rt, lines, want, row);
+    let mut text = String::new(rt.alloc());
+    told(rt.alloc(), log.as_bytes(), &mut text)?;
+    reads(rt, text.as_str(), want, row);
     Ok(())
 }
 
@@ -54,7 +70,7 @@ fn finds_what_is_wrong_at_each_entry(rt: HostRuntime) -> Result<(), Fail> {
     surveys_each(&rt, &rows::FOUND)
 }
 
-/// A server answers in one of two ways, and each request again may be answered or not: behind 44 answers more states are possible than are
+/// A server answers in one of two ways, and each request again may be answered or not: after 44 answers more states are possible than are
 /// followed. What comes for it later says nothing, and another transaction that falls silent is found.
 #[test]
 fn gives_one_up_and_finds_another(rt: HostRuntime) -> Result<(), Fail> {

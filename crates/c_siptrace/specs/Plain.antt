@@ -1,11 +1,16 @@
--- A verdict in plain numbers.
+-- A verdict, a finding and what a survey came to, in plain numbers.
 use Rattle.std.specs.Prelude.{ℕ}
-use Rattle.sip_message.specs.declared.fault.Unit.{Unit}
-use Rattle.sip_message.specs.declared.fault.Unit.TheVariants.{Head, Line, Body}
-use Rattle.sip_message.specs.Reason.{reason_number}
+use Rattle.sip_standard.specs.declared.fault.Unit.{Unit}
+use Rattle.sip_standard.specs.declared.fault.Unit.TheVariants.{Head, Line, Body}
+use Rattle.sip_standard.specs.Reason.{reason_number}
+use Rattle.sip_verdict.specs.declared.finding.Finding.{Finding}
+use Rattle.sip_verdict.specs.declared.survey_end.SurveyEnd.{SurveyEnd}
+use Rattle.sip_verdict.specs.declared.survey_end.SurveyEnd.TheVariants as ended
 use Rattle.sip_verdict.specs.declared.verdict.Verdict.{Verdict}
 use Rattle.sip_verdict.specs.declared.verdict.Verdict.TheVariants.{Legal, Malformed, Breach, Undecided, LogFault}
 use Rattle.sip_verdict.specs.Rendering.{log_reason_number}
+use Rattle.sip_verdict.specs.SurveyOf.{verdict_of}
+use Rattle.c_siptrace.specs.declared.plain_summary.PlainSummary.{PlainSummary}
 use Rattle.c_siptrace.specs.declared.plain_verdict.PlainVerdict.{PlainVerdict}
 
 -- where a fault is: in the head, in a line or in the body
@@ -33,3 +38,15 @@ plain (Malformed entry fault) = numbers 2 0 0 entry 0 (reason_number fault.reaso
 plain (Breach entry transaction) = numbers 3 0 0 entry transaction 0 0 0
 plain (Undecided entry transaction) = numbers 4 0 0 entry transaction 0 0 0
 plain (LogFault entry reason) = numbers 5 0 0 entry 0 (log_reason_number reason) 0 0
+
+-- a finding in plain numbers: those of the verdict in the same words
+abbrev pub plain_finding : Finding → PlainVerdict
+plain_finding finding = plain (verdict_of finding)
+
+-- what a survey came to in plain numbers: how much was found, and how many entries and transactions the log has, or at which entry and for what
+-- reason it cannot be read on; what its end has not is 0
+abbrev pub plain_summary : ℕ → SurveyEnd → PlainSummary
+plain_summary findings (ended.Clean entries transactions) =
+    record { findings = findings; end = 1; entries = entries; transactions = transactions; entry = 0; reason = 0 }
+plain_summary findings (ended.LogFault entry reason) =
+    record { findings = findings; end = 2; entries = 0; transactions = 0; entry = entry; reason = log_reason_number reason }

@@ -8,3 +8,7 @@ answered = 0
 -- a growth was refused
 abbrev pub no_memory : ℕ
 no_memory = 1
+
+-- it did, but that not all of what was found has room
+abbrev pub no_room : ℕ
+no_room = 2

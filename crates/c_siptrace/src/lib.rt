@@ -4,10 +4,14 @@
 #![tactic(auto)]
 
 mod judging;
+mod plain_summary;
 mod plain_verdict;
 mod seed;
 mod status;
+mod surveying;
 
 pub use judging::siptrace_judge;
+pub use plain_summary::PlainSummary;
 pub use plain_verdict::PlainVerdict;
 pub use seed::Seed;
+pub use surveying::siptrace_survey;

@@ -1,6 +1,6 @@
 -- What an event is, in the words of RFC 3261.
 use Rattle.std.specs.Prelude.{◌≡◌, ◌≤◌, ◌⊎◌, ℕ, List, All}
-use Rattle.sip_times.specs.declared.action.Action.TheVariants.{Sent, Received, Failed, Restart}
+use Rattle.sip_standard.specs.declared.action.Action.TheVariants.{Sent, Received, Failed, Restart}
 use Rattle.sip_machine.specs.declared.event.Method.{Method}
 use Rattle.sip_machine.specs.declared.event.Kind.TheVariants.{Request, Response}
 use Rattle.sip_machine.specs.MachineEvent.{MachineEvent}

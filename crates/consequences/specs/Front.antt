@@ -1,12 +1,11 @@
 -- The front of a log that is in no trouble, and what a verdict says by itself.
 use Rattle.std.specs.Prelude.{◌≡◌, ◌+◌, ◌⊎◌, ℕ, Some, None, List, [], ◌∷◌, ◌++◌, length, All, ⊤}
 use Rattle.sip_key.specs.Key.{KeyParts}
-use Rattle.sip_machine.specs.Times.{Times}
-use Rattle.sip_message.specs.declared.fault.Fault.{Fault}
-use Rattle.sip_log.specs.Spelling.{Item}
-use Rattle.sip_log.specs.Log.{LogEnd, Stops}
-use Rattle.sip_log.specs.LogFault.{LogFault}
-use Rattle.sip_log.specs.LogSays.{LogSays, LacksHeader}
+use Rattle.sip_standard.specs.Times.{Times}
+use Rattle.sip_standard.specs.declared.fault.Fault.{Fault}
+use Rattle.sip_standard.specs.LogEntry.{Item}
+use Rattle.sip_standard.specs.LogSays.{LogEnd, Stops, LogSays, LacksHeader}
+use Rattle.sip_standard.specs.LogFault.{LogFault}
 use Rattle.sip_verdict.specs.declared.log_reason.LogReason.{LogReason}
 use Rattle.sip_verdict.specs.declared.log_reason.LogReason.TheVariants.{Header}
 use Rattle.sip_verdict.specs.LogReason.{reason_of}

@@ -1,9 +1,9 @@
 -- When an INVITE that comes again is no new one.
 use Rattle.std.specs.Prelude.{◌<◌, ◌*◌, ◌⊎◌, List, All}
 use Rattle.sip_machine.specs.declared.event.Method.TheVariants.{Invite, Ack}
-use Rattle.sip_machine.specs.Limits.{open_at}
+use Rattle.sip_standard.specs.Window.{open_at}
 use Rattle.sip_machine.specs.MachineEvent.{MachineEvent}
-use Rattle.sip_machine.specs.Times.{Times}
+use Rattle.sip_standard.specs.Times.{Times}
 use Rattle.consequences.specs.Events.{GetsRequest, IsRestart}
 
 -- after the final response none of these events begins the transaction anew: none is an INVITE; or each comes while the transaction lasts, before

@@ -2,23 +2,24 @@
 ghost use Rattle.std.specs.List.{Any};
 ghost use Rattle.std.specs.Prelude.{◌≡◌, ◌≤◌, ◌<◌, ◌*◌, ◌⊎◌, ◌++◌, ◌∷◌, ℕ, true, false, List, All};
 ghost use Rattle.sip_key.specs.declared.role.Role.TheVariants.{Client};
-ghost use Rattle.sip_times.specs.declared.action.Action.TheVariants.{Sent};
-ghost use Rattle.sip_times.specs.declared.rules.Rules.{Rules};
+ghost use Rattle.sip_standard.specs.declared.action.Action.TheVariants.{Sent};
+ghost use Rattle.sip_standard.specs.declared.rules.Rules.{Rules};
 ghost use Rattle.sip_machine.specs.declared.event.Kind.TheVariants.{Request};
 ghost use Rattle.sip_machine.specs.declared.event.Method.TheVariants.{Invite, Cancel};
 ghost use Rattle.sip_machine.specs.Figure.{quiet};
-ghost use Rattle.sip_machine.specs.Limits.{open_at, close_at};
+ghost use Rattle.sip_standard.specs.Window.{open_at, close_at};
 ghost use Rattle.sip_machine.specs.MachineEvent.{MachineEvent};
 ghost use Rattle.sip_machine.specs.Message.{IsFinal, IsSuccess, IsUnsuccessful};
-ghost use Rattle.sip_machine.specs.Times.{Times};
+ghost use Rattle.sip_standard.specs.Times.{Times};
 ghost use Rattle.sip_states.specs.Stands.{Stands, StandsBehind};
 ghost use Rattle.consequences.specs.Acknowledged.{Acknowledges};
 ghost use Rattle.consequences.specs.Events.{SendsRequest, GetsResponse, IsAnyCode, IsRefused, IsRestart};
 ghost use Rattle.consequences.specs.Machines.{figure_of, StateOf};
 ghost use Rattle.consequences.specs.Repeats.{IsSpaced, invites_of};
 
-/// No CANCEL is sent before a response to the INVITE has come (section 9.1), unless the transaction may be over: its transport refused a message,
-/// the element started again, or timer B may have fired, 64*T1 after the INVITE, the tolerance aside.
+/// No CANCEL is sent before a response to the INVITE has come, unless the transaction may be over: its transport refused a message, the element started
+/// again, or timer B may have fired, 64*T1 after the INVITE, the tolerance aside. Section 9.1 wants a provisional response; after a final one it says
+/// that a CANCEL should not be sent, and this law leaves open which of both has come.
 pub fn a_cancel_waits_for_a_response()
     ensures { (p : Times) (rules : Rules) (before after : List MachineEvent) (invite e : MachineEvent) (y : StateOf rules Client true) →
         All (λ f. ¬ (SendsRequest Invite f)) before → SendsRequest Invite invite → SendsRequest Cancel e →
@@ -36,8 +37,9 @@ pub fn an_unanswered_invite_ends_by_timer_b()
         StandsBehind (figure_of rules Client true) p (before ++ invite ∷ after) e y → close_at p invite.moment (64 * p.t1) < e.moment → e.kind ≡ Request Cancel }
 {}
 
-/// The first 300 to 699 that comes for an INVITE is acknowledged as late as an element may be, by an ACK that is its (section 17.1.1.3), and so is each
-/// that comes again over an unreliable transport before timer D may fire; unless the transport refuses a message or the element starts again.
+/// The first final response to an INVITE, if it is a 300 to 699 and comes before timer B may fire, is acknowledged as late as an element may be, by an ACK
+/// that is its (sections 17.1.1.2 and 17.1.1.3). So is each 300 to 699 that comes over an unreliable transport within 64*T1 and within 32 s of the INVITE,
+/// before timer D may fire; unless a 2xx came, the transport refuses a message or the element starts again.
 pub fn an_unsuccessful_response_is_acknowledged()
     ensures first { (p : Times) (rules : Rules) (before between after : List MachineEvent) (invite response : MachineEvent) (m : ℕ) (y : StateOf rules Client true) →
         All (λ f. ¬ (SendsRequest Invite f)) before → SendsRequest Invite invite →

@@ -2,17 +2,18 @@
 ghost use Rattle.std.specs.List.{Any};
 ghost use Rattle.std.specs.Prelude.{◌≡◌, ◌≤◌, ◌<◌, ◌*◌, ◌⊎◌, ◌++◌, ◌∷◌, ℕ, false, List, All};
 ghost use Rattle.sip_key.specs.declared.role.Role.TheVariants.{Server};
-ghost use Rattle.sip_times.specs.declared.rules.Rules.{Rules};
-ghost use Rattle.sip_machine.specs.Limits.{open_at, close_at};
+ghost use Rattle.sip_standard.specs.declared.rules.Rules.{Rules};
+ghost use Rattle.sip_standard.specs.Window.{open_at, close_at};
 ghost use Rattle.sip_machine.specs.MachineEvent.{MachineEvent};
 ghost use Rattle.sip_machine.specs.Message.{IsFinal};
-ghost use Rattle.sip_machine.specs.Times.{Times};
+ghost use Rattle.sip_standard.specs.Times.{Times};
 ghost use Rattle.sip_states.specs.Stands.{Stands};
 ghost use Rattle.consequences.specs.Events.{IsOfOneKind, GetsAnyRequest, SendsResponse, SendsBytes, IsRestart};
 ghost use Rattle.consequences.specs.Machines.{figure_of, StateOf};
 
 /// A request that comes again over an unreliable transport after the final response, before timer J may fire, is answered by that response, byte for
-/// byte, as late as an element may be, unless the element starts again.
+/// byte, as late as an element may be, unless the element starts again. Events before the response that have its bytes are of its kind, as those of one
+/// log are.
 pub fn a_request_that_comes_again_gets_the_final_response()
     ensures { (p : Times) (rules : Rules) (before between after : List MachineEvent) (final again : MachineEvent) (m : ℕ) (y : StateOf rules Server false) →
         All (λ f. f.reliable ≡ false) before → All (λ f. ¬ (SendsResponse IsFinal f)) before → IsOfOneKind before final →

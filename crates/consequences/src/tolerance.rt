@@ -1,12 +1,12 @@
 //! A wider tolerance.
 ghost use Rattle.std.specs.Prelude.{◌≡◌, ◌≤◌, ℕ, List, []};
 ghost use Rattle.sip_key.specs.Key.{KeyParts};
-ghost use Rattle.sip_log.specs.Log.{LogEnd};
-ghost use Rattle.sip_log.specs.LogSays.{LogSays};
-ghost use Rattle.sip_log.specs.Spelling.{Item};
+ghost use Rattle.sip_standard.specs.LogSays.{LogEnd};
+ghost use Rattle.sip_standard.specs.LogSays.{LogSays};
+ghost use Rattle.sip_standard.specs.LogEntry.{Item};
 ghost use Rattle.sip_machine.specs.Figure.{Owing};
 ghost use Rattle.sip_machine.specs.MachineEvent.{MachineEvent};
-ghost use Rattle.sip_machine.specs.Times.{Times};
+ghost use Rattle.sip_standard.specs.Times.{Times};
 ghost use Rattle.sip_states.specs.KeyMachine.{MachineKind, transaction_of};
 ghost use Rattle.sip_states.specs.Stands.{Stands};
 ghost use Rattle.sip_verdict.specs.Keyed.{Observation};

@@ -82,7 +82,7 @@ pub(crate) fn copy(rt: &impl Abort, ledger: &mut Ledger, from: usize, to: usize)
     ledger.copy(from, to);
 }
 
-/// A copy of the row comes behind the others.
+/// A copy of the row comes after the others.
 pub(crate) fn push_copy(
     rt: &impl Abort,
     ledger: &mut Ledger,

@@ -252,7 +252,7 @@ fn a_long_row_goes_on_after_a_refused_growth(rt: HostRuntime) -> Result<(), Fail
     a_long_row_comes(&rt, &mut ledger, &mut twin)
 }
 
-/// A row comes behind a long one.
+/// A row comes after a long one.
 fn another_row_comes(
     rt: &(impl Abort + AllocGlobal),
     ledger: &mut Ledger,

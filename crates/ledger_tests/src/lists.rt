@@ -31,7 +31,7 @@ pub(crate) fn of_one(rt: &(impl Abort + AllocGlobal), list: &[Debt]) -> Result<L
     Ok(ledger)
 }
 
-/// Puts a run's debts behind the others, one by one.
+/// Puts a run's debts after the others, one by one.
 fn push_run(debts: &mut Vec<Debt>, run: &Run) -> Result<(), AllocError> {
     for _ in 0..run.count {
         debts.push(run.debt)?;

@@ -162,7 +162,7 @@ fn a_long_row_softens(rt: HostRuntime) -> Result<(), Fail> {
     softens(&rt, &mut ledger, &mut list)
 }
 
-/// A long row that was copied to itself, and its copy behind it, which pays the message 3.
+/// A long row that was copied to itself, and its copy after it, which pays the message 3.
 fn with_copy(rt: &(impl Abort + AllocGlobal), list: &[Debt]) -> Result<Ledger, Fail> {
     let mut ledger = of_one(rt, list)?;
     at_rows::copy(rt, &mut ledger, 0, 0);
@@ -217,7 +217,7 @@ fn a_row_comes_beside_a_long_one(rt: HostRuntime) -> Result<(), Fail> {
     agree(&rt, &mut ledger, &lists)
 }
 
-/// The row stays where none goes behind it or before it, and goes at last.
+/// The row stays where none goes after it or before it, and goes at last.
 fn goes_behind(
     rt: &(impl Abort + AllocGlobal),
     ledger: &mut Ledger,

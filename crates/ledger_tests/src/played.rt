@@ -150,7 +150,7 @@ fn can_pay(list: &[Debt], message: u32, moment: u64) -> bool {
         .any(|debt| debt.message == message && moment <= debt.deadline)
 }
 
-/// Copies of some rows come behind the others: of those that are timely, or of those of them that can pay.
+/// Copies of some rows come after the others: of those that are timely, or of those of them that can pay.
 fn push_some(
     rt: &(impl Abort + AllocGlobal),
     chance: &mut Chance,

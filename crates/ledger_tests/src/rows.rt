@@ -77,7 +77,7 @@ fn owe_in_turn(rt: &(impl Abort + AllocGlobal), ledger: &mut Ledger) -> Result<(
     owes(rt, ledger, 2, &[must(1, 10), may(2, 20)])
 }
 
-/// Rows come behind the others.
+/// Rows come after the others.
 #[test]
 fn rows_are_copied(rt: HostRuntime) -> Result<(), Fail> {
     owe_in_turn(&rt, &mut of_three(&rt)?)

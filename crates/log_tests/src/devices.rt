@@ -15,7 +15,7 @@ pub(crate) struct Pieces<'a> {
 }
 
 impl<'a> Pieces<'a> {
-    /// The bytes before a place in one piece, and those behind it in another.
+    /// The bytes before a place in one piece, and those after it in another.
     pub(crate) fn cut_at(bytes: &'a [u8], place: usize) -> Pieces<'a> {
         Pieces {
             bytes,
@@ -37,7 +37,7 @@ impl<'a> Pieces<'a> {
         }
     }
 
-    /// Single bytes, and the call behind so many fails.
+    /// Single bytes, and the call after so many fails.
     pub(crate) fn failing(bytes: &'a [u8], calls: usize) -> Pieces<'a> {
         Pieces {
             bytes,

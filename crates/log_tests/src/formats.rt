@@ -16,7 +16,7 @@ const HEADER_2: &[u8] = b"sip-trace 2\nt1 500 t2 4000 t4 5000 early 50 late 60\n
 /// What a header tells: T1, T2, T4, early, late and the rules.
 type Told = (u64, u64, u64, u64, u64, Rules);
 
-/// What the header of a log tells, where it has a header and no fault behind it.
+/// What the header of a log tells, where it has a header and no fault after it.
 fn told(alloc: Global, bytes: &[u8]) -> Option<Told> {
     let mut reader = LogReader::new(alloc, Pieces::single(bytes));
     let _entry = reader.next().ok()?;
@@ -78,7 +78,7 @@ fn format_1_has_no_restarts(rt: HostRuntime) -> Result<(), Fail> {
     Ok(())
 }
 
-/// Rows of the line of rules, which are the same behind both headers.
+/// Rows of the line of rules, which are the same after both headers.
 static RULES: &[Row] = &[
     (b"rules 3261\n", 0, None),
     (b"rules 6026\n", 0, None),
@@ -281,7 +281,7 @@ fn headers_that_are_written(rt: HostRuntime) -> Result<(), Fail> {
     Ok(())
 }
 
-/// Nothing is written of a header that has two tolerances in format 1, nor of a restart behind the last moment.
+/// Nothing is written of a header that has two tolerances in format 1, nor of a restart after the last moment.
 #[test]
 fn what_is_not_written(rt: HostRuntime) -> Result<(), Fail> {
     let params = times(50, 51, Rules::R6026).ok_or("refused")?;

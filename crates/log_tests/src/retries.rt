@@ -79,7 +79,7 @@ fn fills_buffers_of_every_length(rt: HostRuntime) {
     }
 }
 
-/// Tells its end once, and fails behind it.
+/// Tells its end once, and fails after it.
 #[derive(Drop)]
 struct OnceEnded<'a> {
     bytes: &'a [u8],

@@ -56,7 +56,7 @@ pub(crate) fn read_cut(alloc: Global, bytes: &[u8]) -> Option<(u32, Option<LogEr
 /// A row: bytes, how many entries they have, and why no more.
 pub(crate) type Row = (&'static [u8], u32, Option<LogError>);
 
-/// The first of the rows, each behind these bytes, that is read otherwise.
+/// The first of the rows, each after these bytes, that is read otherwise.
 pub(crate) fn first_other(
     alloc: Global,
     front: &[u8],
@@ -297,7 +297,7 @@ fn all_of(alloc: Global, byte: u8, count: usize) -> Result<Vec<u8>, AllocError> 
     Ok(bytes)
 }
 
-/// The log of the largest message, of the last moment, and the front of an entry behind it.
+/// The log of the largest message, of the last moment, and the front of an entry after it.
 fn largest(alloc: Global, message: &[u8]) -> Result<Vec<u8>, AllocError> {
     let mut bytes = Vec::from_slice(alloc, HEADER)?;
     bytes.extend_from_slice(b"R 9999999999999 65535\n")?;

@@ -174,7 +174,7 @@ fn calling(rt: HostRuntime) -> Result<(), Fail> {
 
 const WAITS: Entry = (100, Action::Received, TRYING);
 
-/// A CANCEL behind WAITS.
+/// A CANCEL after WAITS.
 const CANCELLED: Entry = (150, Action::Sent, CANCEL);
 
 static PROCEEDING: &[Row] = &[

@@ -27,7 +27,7 @@ const REQUEST: u32 = 4;
 
 const LAST: u32 = 5;
 
-/// Each message by its number: three that are owed, their request, and one that is sent behind them.
+/// Each message by its number: three that are owed, their request, and one that is sent after them.
 const MESSAGES: [Numbered; 5] = [
     (1, Start::Response(181), None),
     (2, Start::Response(182), None),
@@ -65,7 +65,7 @@ fn take<M: Machine>(
     Ok(())
 }
 
-/// Puts a state behind the others that owes these messages: each was sent, and then its request came again.
+/// Puts a state after the others that owes these messages: each was sent, and then its request came again.
 fn push_owing<M: Machine>(
     alloc: Global,
     machine: &M,
@@ -91,7 +91,7 @@ fn push_owing<M: Machine>(
     take(machine, book, pool, &last)
 }
 
-/// Puts a state behind the others for each of these lists of messages.
+/// Puts a state after the others for each of these lists of messages.
 fn push_each<M: Machine>(
     alloc: Global,
     machine: &M,
@@ -189,7 +189,7 @@ fn twice(alloc: Global, lists: &[&[u32]]) -> Result<Pool<PlainServerPhase>, Fail
     pool_of(alloc, &all)
 }
 
-/// That the first ones of the states from one on are so many, one behind another.
+/// That the first ones of the states from one on are so many, one after another.
 fn first_ones_follow(
     rt: &(impl Abort + AllocGlobal),
     pool: &Pool<PlainServerPhase>,
@@ -247,7 +247,7 @@ fn the_same_debts_compare_as_lists(rt: HostRuntime) -> Result<(), Fail> {
     are_told_apart(&rt, &lists)
 }
 
-/// What the states owe in all, one behind another.
+/// What the states owe in all, one after another.
 fn owed_in_turn<P: Phase>(alloc: Global, pool: &Pool<P>) -> Result<Vec<u32>, Fail> {
     let mut messages = Vec::new(alloc);
     for state in &states_of(alloc, pool)? {
@@ -258,7 +258,7 @@ fn owed_in_turn<P: Phase>(alloc: Global, pool: &Pool<P>) -> Result<Vec<u32>, Fai
     Ok(messages)
 }
 
-/// That the states owe these messages, one behind another.
+/// That the states owe these messages, one after another.
 fn owe<P: Phase>(
     rt: &(impl Abort + AllocGlobal),
     pool: &Pool<P>,

@@ -227,7 +227,7 @@ static AN_INVITE_COMES_AGAIN_BEHIND_A_2XX: &[Server] = &[
         ],
         &[(CONFIRMED_AGAIN, &[])],
     ),
-    // where it did not, a 2xx behind another final response is none of its rows
+    // where it did not, a 2xx after another final response is none of its rows
     (
         &[INVITE_CAME, (10, Action::Sent, BUSY)],
         &[(BUSY_ONCE, &[])],

@@ -1,4 +1,4 @@
-//! Messages with bytes changed, and the same with a folded line of an unknown name behind their fields: an ordinary head is read by its
+//! Messages with bytes changed, and the same with a folded line of an unknown name after their fields: an ordinary head is read by its
 //! masks and a folded one is not, and both come to the same.
 
 use crate::answer::answer_to;

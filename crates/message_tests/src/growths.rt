@@ -32,7 +32,7 @@ fn read_again(rt: &(impl Abort + AllocGlobal)) -> Result<(), Fail> {
 /// Bytes that stand before a message.
 const FRONT: &[u8] = b"front";
 
-/// Writes the message behind other bytes, at a second call where memory was refused, and gives the first answer.
+/// Writes the message after other bytes, at a second call where memory was refused, and gives the first answer.
 fn write_behind(
     rt: &impl Abort,
     message: &Message<'_>,
@@ -47,7 +47,7 @@ fn write_behind(
     Ok(written)
 }
 
-/// Writes the message behind other bytes, and a second time where memory was refused.
+/// Writes the message after other bytes, and a second time where memory was refused.
 fn write_again(rt: &(impl Abort + AllocGlobal)) -> Result<(), Fail> {
     let message = Message::read(rt.alloc(), FOLDED)?;
     let mut out = FRONT.to_vec(rt.alloc())?;

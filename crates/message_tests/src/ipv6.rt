@@ -49,7 +49,7 @@ pub(crate) static IPV6: &[Row] = &[
             \r\n",
         answer: Answer::Read { body: 0 },
     },
-    // A port behind the brackets.
+    // A port after the brackets.
     Row {
         name: "4.4",
         text: b"REGISTER sip:[2001:db8::10]:5070 SIP/2.0\r\n\

@@ -133,7 +133,7 @@ pub(crate) static TORTURE: &[Row] = &[
             \r\n",
         answer: Answer::Read { body: 0 },
     },
-    // A second request behind the first in one datagram is discarded.
+    // A second request after the first in one datagram is discarded.
     Row {
         name: "dblreq",
         text: b"REGISTER sip:example.com SIP/2.0\r\n\

@@ -3,12 +3,12 @@ use crate::forms::{PATH, desk, hasty, registered};
 use crate::wants::is;
 use sip_log::ToWrite;
 use sip_program::Host;
-use sip_survey_program::{Asked, Failure, asked, end, program, read_failure, run};
+use sip_survey_program::{Failure, Log, asked, end, program, read_failure, run};
 use std::io;
 use std::process::Abort;
 use std::test::Fail;
 
-const USAGE: &str = "sipsurvey: usage: sipsurvey [FILE]\n";
+const USAGE: &str = "sipsurvey: usage: sipsurvey [--part K/N] [FILE]\n";
 
 /// Runs the whole program with these words, this on the standard input and this in the file: what it writes and tells, and the status.
 fn ends(
@@ -85,8 +85,22 @@ fn fails_where_a_line_cannot_be_written(rt: HostRuntime) -> Result<(), Fail> {
 #[test]
 fn asks_by_at_most_one_word(rt: HostRuntime) -> Result<(), Fail> {
     let words = vec![in rt.alloc(); String::from_str(rt.alloc(), "--part")?]?;
-    assert!(rt; matches!(asked(&[]), Some(Asked::Input)));
-    assert!(rt; matches!(asked(words.as_slice()), Some(Asked::File("--part"))));
+    let none = asked(&[]).ok_or("no words")?;
+    assert!(rt; matches!(none.log, Log::Input) && none.part.is_none());
+    let one = asked(words.as_slice()).ok_or("one word")?;
+    assert!(rt; matches!(one.log, Log::File("--part")) && one.part.is_none());
+    Ok(())
+}
+
+// FNV-1a of z9hg4bka is 431978031, and of z9hg4bkb 448755650.
+#[test]
+fn asks_for_a_part_by_two_words(rt: HostRuntime) -> Result<(), Fail> {
+    let first = String::from_str(rt.alloc(), "--part")?;
+    let words = vec![in rt.alloc(); first, String::from_str(rt.alloc(), "2/2")?]?;
+    let asked = asked(words.as_slice()).ok_or("a part")?;
+    let part = asked.part.ok_or("a part")?;
+    assert!(rt; part.has_branch(b"z9hG4bKa"));
+    assert!(rt; !part.has_branch(b"Z9HG4BKB"));
     Ok(())
 }
 

@@ -7,13 +7,13 @@ use Rattle.std.specs.Cmp.Lexicographic.{bytes_decides}
 use Rattle.std.proofs.Common.{sym, ◌∙◌, ap, ap₂, subst, append-nil}
 use Rattle.std.proofs.lemmas.List.Elements.{filter-append}
 use Rattle.sip_message.specs.Params.{comma}
-use Rattle.sip_message.specs.StartLine.{StartLine, request}
+use Rattle.sip_standard.specs.StartLine.{StartLine, request}
 use Rattle.sip_key.specs.Solid.{solid}
 use Rattle.sip_message.specs.Reading.{Reading}
 use Rattle.sip_message.specs.Reads.{Reads}
-use Rattle.sip_message.specs.Says.{Said}
+use Rattle.sip_standard.specs.Says.{Said}
 use Rattle.sip_message.specs.SaidOf.{said_of}
-use Rattle.sip_message.proofs.lemmas.says.Reading.{reads-says, said-is}
+use Rattle.sip_message.proofs.lemmas.says.Reading.{said-is}
 use Rattle.sip_key.specs.AckOf.{IsAckLine, IsAckOf, AckOf}
 
 -- a request whose method is ACK, and another with the same URI
@@ -34,7 +34,7 @@ each values = flat_map (λ value. comma ∷ solid value) values
 solid-append : (a b : List ℕ) → solid (a ++ b) ≡ solid a ++ solid b
 solid-append a b = filter-append _ a b
 
--- the values joined by commas: the first, and each further one behind a comma
+-- the values joined by commas: the first, and each further one after a comma
 pub solid-joined : (value : List ℕ) (values : List (List ℕ)) → solid (join_with_byte comma (value ∷ values)) ≡ solid value ++ each values
 solid-joined value [] = sym (append-nil (solid value))
 solid-joined value (next ∷ values) =
@@ -60,5 +60,5 @@ along a a' i i' r r' p q s is =
 pub ack-of_bytes : (ack invite response : List ℕ) (a i r : Reading) → Reads ack a → Reads invite i → Reads response r → AckOf ack invite response ↔ IsAckOf (said_of a) (said_of i) (said_of r)
 ack-of_bytes ack invite response a i r reads_a reads_i reads_r = (
   λ of. along (said_of a) of.0 (said_of i) of.1 (said_of r) of.2 (said-is ack a of.0 reads_a of.3) (said-is invite i of.1 reads_i of.4) (said-is response r of.2 reads_r of.5) of.6,
-  λ is. (said_of a, said_of i, said_of r, reads-says ack a reads_a, reads-says invite i reads_i, reads-says response r reads_r, is),
+  λ is. (said_of a, said_of i, said_of r, reads_a.says, reads_i.says, reads_r.says, is),
 )

@@ -1,12 +1,12 @@
 -- The keys that a message concerns.
 use Rattle.std.specs.Prelude.{◌≡◌, ℕ, ◌&&◌, Bool, true, false, List, [], ◌∷◌, Some, IfSome, is_some, not, option_map, refl}
 use Rattle.std.proofs.Common.{sym, ◌∙◌, ap, subst}
-use Rattle.sip_text.specs.Uri.{Port}
+use Rattle.sip_standard.specs.Profile.{Port}
 use Rattle.sip_message.specs.declared.name.Known.TheVariants as known_name
 use Rattle.sip_message.specs.Field.{Field}
 use Rattle.sip_message.specs.Elements.{Element, AreElements, values}
 use Rattle.sip_message.specs.Reading.{Parts, HasParts}
-use Rattle.sip_message.specs.Says.{Said}
+use Rattle.sip_standard.specs.Says.{Said}
 use Rattle.sip_key.specs.declared.role.Role.{Role}
 use Rattle.sip_key.specs.declared.role.Direction.{Direction}
 use Rattle.sip_key.specs.Key.{KeyParts}

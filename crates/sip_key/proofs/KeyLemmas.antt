@@ -4,7 +4,7 @@ use Rattle.std.specs.Prelude.{slice_range}
 use Rattle.std.specs.Char.{to_ascii_lowercase}
 use Rattle.std.proofs.lemmas.List.{take_at, drop_at, length-append, length-map, length-replicate, map-append}
 use Rattle.std.proofs.lemmas.Str.Ascii.{lowercase_is}
-use Rattle.sip_text.specs.Case.{folded}
+use Rattle.sip_standard.specs.Case.{folded}
 use Rattle.sip_key.specs.declared.role.Role.{Role}
 use Rattle.sip_key.specs.declared.role.Role.TheVariants.{Client, Server}
 use Rattle.sip_key.specs.Key.{parts_at, length_bytes, role_byte, key_head, key_text}

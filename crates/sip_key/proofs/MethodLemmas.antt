@@ -7,9 +7,10 @@ use Rattle.std.specs.Char.{is_ascii_alphanumeric}
 use Rattle.std.proofs.lemmas.Bool.{and_parts, or_cases, leb-true, ltb-true, eqb-true}
 use Rattle.std.proofs.lemmas.Str.Ascii.{IsAscii-from_all}
 use Rattle.std.proofs.lemmas.List.Elements.{All-nil, All-cons, All-append, All-weaker, All-from_recursion}
+use Rattle.sip_standard.specs.Profile.{Token}
 use Rattle.sip_text.specs.Bytes.{is_one_of, is_token_byte}
-use Rattle.sip_text.specs.Grammar.{Token}
-use Rattle.sip_message.specs.StartLine.{StartLine, request, status, StartText}
+use Rattle.sip_standard.specs.StartLine.{StartLine, request, status}
+use Rattle.sip_message.specs.StartLine.{StartText}
 use Rattle.sip_message.specs.Reading.{Reading}
 use Rattle.sip_message.specs.Reads.{Reads}
 use Rattle.sip_message.specs.SaidOf.{said_of, said_via}

@@ -2,8 +2,8 @@
 use Rattle.std.proofs.Common.{◌≡◌, ℕ, ◌+◌, ◌*◌, ◌-◌, ◌<◌, ◌≤◌, true, false, Bool, List, length, get_or, refl, arith}
 use Rattle.std.specs.Char.{is_ascii_digit}
 use Rattle.std.proofs.lemmas.Str.Parse.{digits_value-take-le}
-use Rattle.sip_text.specs.Uri.{Port}
-use Rattle.sip_text.proofs.UriPortLemmas.{ReadsDigits, port-digit, digit-above, digit-more}
+use Rattle.sip_standard.specs.Profile.{Port}
+use Rattle.sip_text.proofs.uris.UriPortLemmas.{ReadsDigits, port-digit, digit-above, digit-more}
 
 -- each byte of a port is a digit
 port-is_digit : (text : List ℕ) (k : ℕ) (b : Bool) → is_ascii_digit (get_or text k 0) ≡ b → Port text → k < length text → b ≡ true

@@ -1,8 +1,8 @@
 -- Which ACK belongs to which INVITE (RFC 3261, section 17.1.1.3).
 use Rattle.std.specs.Prelude.{◌≡◌, ℕ, List, [], codes}
-use Rattle.sip_message.specs.StartLine.{StartLine, request}
-use Rattle.sip_message.specs.Outcome.{gives}
-use Rattle.sip_message.specs.Says.{Said, Says}
+use Rattle.sip_standard.specs.StartLine.{StartLine, request}
+use Rattle.sip_standard.specs.Outcome.{gives}
+use Rattle.sip_standard.specs.Says.{Said, Says}
 use Rattle.sip_key.specs.Solid.{solid}
 
 -- the two are equal without their blanks

@@ -1,6 +1,6 @@
 -- Branches (RFC 3261, section 8.1.1.7).
 use Rattle.std.specs.Prelude.{ℕ, Bool, List, take, codes, bytes_eq, Option, None, Some, if◌then◌else◌}
-use Rattle.sip_text.specs.Case.{folded}
+use Rattle.sip_standard.specs.Case.{folded}
 
 -- the magic cookie z9hG4bK stands at the front of the branch, without case
 abbrev pub has_cookie : List ℕ → Bool

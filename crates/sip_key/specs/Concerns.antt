@@ -1,7 +1,8 @@
 -- Which transactions a message concerns (RFC 3261, sections 9.1, 17.1.3 and 17.2.3).
 use Rattle.std.specs.Prelude.{◌≡◌, ℕ, ◌&&◌, not, Bool, true, false, List, [], ◌++◌, codes, bytes_eq, Option, None, is_some, option_map, option_to_list, if◌then◌else◌}
-use Rattle.sip_message.specs.StartLine.{StartLine, request, status}
-use Rattle.sip_message.specs.Says.{SaidVia, Said}
+use Rattle.sip_standard.specs.StartLine.{StartLine, request, status}
+use Rattle.sip_standard.specs.Via.{SaidVia}
+use Rattle.sip_standard.specs.Says.{Said}
 use Rattle.sip_key.specs.declared.role.Role.{Role}
 use Rattle.sip_key.specs.declared.role.Role.TheVariants.{Client, Server}
 use Rattle.sip_key.specs.declared.role.Direction.{Direction}

@@ -1,6 +1,6 @@
 -- What is answered of a key.
 use Rattle.std.specs.Prelude.{◌≡◌, true, false, Option, Result, Ok, Err, ⊤}
-use Rattle.sip_message.specs.Says.{Said}
+use Rattle.sip_standard.specs.Says.{Said}
 use Rattle.sip_key.specs.declared.role.Direction.{Direction}
 use Rattle.sip_key.specs.Key.{KeyParts}
 use Rattle.sip_key.specs.declared.concern.KeyError.{KeyError}

@@ -1,7 +1,7 @@
 -- sent-by (RFC 3261, sections 17.2.3 and 18.2.2).
 use Rattle.std.specs.Prelude.{ℕ, List, ◌++◌, Option, None, Some, codes, decimal}
 use Rattle.std.specs.Str.Parse.{digits_value}
-use Rattle.sip_text.specs.Case.{folded}
+use Rattle.sip_standard.specs.Case.{folded}
 
 -- the port as a number, 5060 where there is none
 abbrev pub port_number : Option (List ℕ) → ℕ

@@ -1,6 +1,6 @@
 -- Texts compared but for their blanks.
 use Rattle.std.specs.Prelude.{ℕ, not, List, filter}
-use Rattle.sip_message.specs.Says.{is_lws_byte}
+use Rattle.sip_standard.specs.Field.{is_lws_byte}
 
 -- the text without its blanks, wherever they stand
 abbrev pub solid : List ℕ → List ℕ

@@ -1,8 +1,8 @@
 //! The keys of the transactions that a message concerns.
 ghost use Rattle.std.specs.Prelude.{◌≡◌, ◌≢◌, IfOk, IfSome, MatchOption, None, Some, option_copied};
-ghost use Rattle.sip_text.specs.Case.{folded};
+ghost use Rattle.sip_standard.specs.Case.{folded};
+ghost use Rattle.sip_standard.specs.Profile.{Port};
 ghost use Rattle.sip_text.specs.Host.{host_parts, host_text};
-ghost use Rattle.sip_text.specs.Uri.{Port};
 ghost use Rattle.sip_key.specs.Branch.{cookie_branch};
 ghost use Rattle.sip_message.specs.ValueParts.{start_parts};
 ghost use Rattle.sip_message.specs.ViaParts.{element};

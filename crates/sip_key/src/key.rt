@@ -2,8 +2,8 @@
 ghost use Rattle.std.specs.Prelude.{◌≡◌, ◌++◌, ◌∷◌, [], IfOk, OnOk, IfSome, length, option_copied};
 ghost use Rattle.std.specs.Cmp.{decided, partial_equiv_from_equiv};
 ghost use Rattle.std.specs.Hash as fed;
-ghost use Rattle.sip_text.specs.Case.{folded};
-ghost use Rattle.sip_text.specs.Uri.{Port};
+ghost use Rattle.sip_standard.specs.Case.{folded};
+ghost use Rattle.sip_standard.specs.Profile.{Port};
 ghost use Rattle.sip_key.specs.Key.{same_key, key_text, key_head, length_bytes, role_byte};
 ghost use Rattle.sip_key.specs.SentBy.{sent_by};
 ghost use Rattle.sip_key.specs.declared.role.Role.{Role};

@@ -1,8 +1,8 @@
 //! The sent-by of a Via as keys have it.
 ghost use Rattle.std.specs.Prelude.{◌≡◌, ◌++◌, ◌∷◌, IfSome, OnOk, decimal, option_copied};
 ghost use Rattle.std.specs.Str.Parse.{digits_value};
+ghost use Rattle.sip_standard.specs.Profile.{Port};
 ghost use Rattle.sip_text.specs.Bytes.{colon};
-ghost use Rattle.sip_text.specs.Uri.{Port};
 ghost use Rattle.sip_key.specs.SentBy.{port_number};
 
 use itoa::Buffer;
@@ -14,7 +14,7 @@ const DEFAULT_PORT: u16 = 5060;
 /// The most bytes of `:` and a port.
 pub(crate) const MOST_PORT_BYTES: usize = 6;
 
-/// Puts `:` and the port as a number in decimal behind the text.
+/// Puts `:` and the port as a number in decimal after the text.
 pub(crate) fn push_port(text: &mut Vec<u8>, port: Option<&[u8]>) -> Result<(), AllocError>
     requires { IfSome (option_copied port) Port }
     ensures { OnOk result (text.new.items ≡ text.old.items ++ colon ∷ decimal (port_number (option_copied port.entry))) }

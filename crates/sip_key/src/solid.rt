@@ -57,7 +57,7 @@ impl<'a> Iterator for Solid<'a> {
     }
 }
 
-/// The first byte that is no blank, and what is behind it.
+/// The first byte that is no blank, and what is after it.
 pub(crate) fn next_solid(text: &[u8]) -> Option<(u8, &[u8])>
     ensures { MatchOption result (solid text.now ≡ []) (λ r. solid text.now ≡ r.0 ∷ solid r.1.now) }
 {

@@ -20,7 +20,7 @@ pub test-zero : (i : ℕ) → test 0 i ≡ false
 unfolding test
 test-zero i = ap (λ n. n == 1) (bit_at-zero i)
 
--- none is behind the words
+-- none is after the words
 pub has-past : (words : List ℕ) (k : ℕ) → length words ≤ k / 64 → has words k ≡ false
 has-past words k past = has-is words k ∙ ap (λ w. test w (k % 64)) (get_or_past words (k / 64) 0 past) ∙ test-zero (k % 64)
 

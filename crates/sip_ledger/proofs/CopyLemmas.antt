@@ -1,4 +1,4 @@
--- What many rows owe, when copies of some of them come behind.
+-- What many rows owe, when copies of some of them come after.
 use Prim.Native.Nat.{suc}
 use Rattle.std.proofs.Common.{◌≡◌, ◌<◌, ◌≤◌, ℕ, ◌+◌, ◌-◌, ◌*◌, Bool, true, false, List, [], ◌∷◌, ◌++◌, length, take, drop, get_or, filter, refl, sym, ap, ap₂, ◌∙◌, subst, inl, inr, arith, cond}
 use Rattle.std.specs.Prelude.{None, not, map}
@@ -24,7 +24,7 @@ use Rattle.sip_ledger.proofs.TableLemmas.{part-of_more, part-take, part-drop, fe
 abbrev pub span_of : ℕ → ℕ → ℕ → List ℕ → List ℕ
 span_of width from count words = take (count * width) (drop (from * width) words)
 
--- with copies of these rows behind the others
+-- with copies of these rows after the others
 abbrev pub with_copies : Grid → ℕ → ℕ → Grid
 with_copies t from count = grid_of t.entries t.width (t.rows + count) (t.owed ++ span_of t.width from count t.owed) (t.must ++ span_of t.width from count t.must)
 

@@ -1,4 +1,4 @@
--- Lists of which each element from one on changes, or behind which some of them come once more.
+-- Lists of which each element from one on changes, or after which some of them come once more.
 use Prim.Native.Nat.{suc, zero}
 use Rattle.std.proofs.Common.{Result, Ok, Err, OnErr, OnOk, is_err, true≢false, ◌≡◌, ◌<◌, ◌≤◌, ◌⊎◌, inl, inr, ℕ, ◌+◌, Bool, false, List, [], ◌∷◌, ◌++◌, length, drop, take, get_or, set, map, filter, refl, ap, ap₂, sym, ◌∙◌, arith, cond}
 use Rattle.std.proofs.lemmas.List.Elements.{filter_more}

@@ -19,7 +19,7 @@ use Rattle.sip_ledger.proofs.WordLemmas.{has-one, part-one}
 use Rattle.sip_ledger.proofs.WordRowLemmas.{row-in_word}
 use Rattle.sip_ledger.proofs.ListedLemmas.{listed-same}
 
--- a word that is 0 from a place on has no bit there or behind
+-- a word that is 0 from a place on has no bit there or after
 pub none-behind : (w at i : ℕ) → w / 2 ^ at ≡ 0 → at ≤ i → test w i ≡ false
 none-behind w at i zero past =
     let is : at + (i - at) ≡ i = omega (arith, past) in
@@ -90,7 +90,7 @@ pub record IsGain (t : Grid) (entries : List Entry) (entry : Entry) (at from : �
   pub must_set : due ≡ true → IsSetFrom from at t.must must'
   pub must_same : due ≡ false → must' ≡ t.must
 
--- the entry is put behind the others
+-- the entry is put after the others
 pub new-gain : (t : Grid) (entry : Entry) (from : ℕ) (due : Bool) (owed' must' : List ℕ) → IsGrid t → t.width ≡ 1 → length t.entries < 64 →
     ((k : ℕ) (e : Entry) → k < length t.entries → get_or t.entries k e ≢ entry) → IsSetFrom from (length t.entries) t.owed owed' →
     (due ≡ true → IsSetFrom from (length t.entries) t.must must') → (due ≡ false → must' ≡ t.must) → IsGain t (t.entries ++ entry ∷ []) entry (length t.entries) from due owed' must'
@@ -120,7 +120,7 @@ new-gain t entry from due owed' must' ledger one room absent owed_set must_set m
   must_same = must_same;
 }
 
--- the entry is there, and no row from one on has a bit there or behind
+-- the entry is there, and no row from one on has a bit there or after
 pub again-gain : (t : Grid) (entry : Entry) (at from : ℕ) (due : Bool) (owed' must' : List ℕ) → IsGrid t → t.width ≡ 1 → at < length t.entries →
     ((e : Entry) → get_or t.entries at e ≡ entry) → ((i : ℕ) (e : Entry) → i < at → get_or t.entries i e ≢ entry) →
     ((k i : ℕ) → from ≤ k → k < length t.owed → at ≤ i → test (get_or t.owed k 0) i ≡ false) → IsSetFrom from at t.owed owed' →

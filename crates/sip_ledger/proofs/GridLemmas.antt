@@ -193,7 +193,7 @@ cut-rows t n ledger fewer =
           ∙ sym (get_or-take n (grid_rows t) k d below));
     }
 
--- the rows behind the first ones
+-- the rows after the first ones
 pub record IsShortened (t : Grid) (n : ℕ) : Type 0 where
   pub ledger : IsGrid (grid_of t.entries t.width (t.rows - n) (drop (n * t.width) t.owed) (drop (n * t.width) t.must))
   pub rows : grid_rows (grid_of t.entries t.width (t.rows - n) (drop (n * t.width) t.owed) (drop (n * t.width) t.must)) ≡ drop n (grid_rows t)
@@ -236,7 +236,7 @@ grown-ledger entry t t' ledger grown =
     ∙ grown-debts t.entries entry o m (ledger.each k inside).within
     ∙ sym (rows-get t k d inside))
 
--- a word of 0 behind others has no bit
+-- a word of 0 after others has no bit
 get_or-zero : (xs : List ℕ) (n : ℕ) → get_or (xs ++ 0 ∷ []) n 0 ≡ get_or xs n 0
 get_or-zero xs n =
     elim (cases_lt n (length xs)) [

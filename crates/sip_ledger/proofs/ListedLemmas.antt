@@ -150,7 +150,7 @@ listed-softened o m m' i (x ∷ xs) none =
     (map softened_debt (debts_from o m (i + 1) xs)) refl (ap (debt_of x) (none i)) (listed-softened o m m' (i + 1) xs none)
     ∙ sym (cond-map softened_debt (o i) (debt_of x (m i)) (debts_from o m (i + 1) xs))
 
--- the bits before k with the next one behind them
+-- the bits before k with the next one after them
 pub front-gap : (o m : ℕ → Bool) (entries : List Entry) (from at : ℕ) → from ≤ at → at ≤ length entries → IsGap o from at →
     front o m entries at ≡ front o m entries from
 front-gap o m entries from at order within gap =

@@ -39,7 +39,7 @@ head-at e es = ap (λ b. cond b (Some e.1) (debt_at es e.0)) (at-itself e.0)
 tail-at : (e : ℕ × Debt) (es : List (ℕ × Debt)) (n : ℕ) → is_eq (nat_cmp n e.0) ≡ false → debt_at (e ∷ es) n ≡ debt_at es n
 tail-at e es n apart = ap (λ b. cond b (Some e.1) (debt_at es n)) apart
 
--- a debt behind all others stands at the end
+-- a debt after all others stands at the end
 pub put-last : (es : List (ℕ × Debt)) (n : ℕ) (d : Debt) → ((q : ℕ) → n ≤ q → debt_at es q ≡ None) → insert_entry nat_cmp es n d ≡ es ++ (n, d) ∷ []
 put-last [] n d none = refl
 put-last (e ∷ es) n d none =
@@ -78,7 +78,7 @@ found-above : (es : List (ℕ × Debt)) (q n : ℕ) (d : Debt) → All (λ k. q 
 found-above es q n d behind found =
     above q n (λ within. some-none d (sym found ∙ behind-none es n (All-weaker (λ k. q < k) (λ k. n < k) (λ k more. omega (arith, more, within)) (keys_of es) behind)))
 
--- a debt behind the head is found in all
+-- a debt after the head is found in all
 found-behind : (e : ℕ × Debt) (es : List (ℕ × Debt)) (n : ℕ) (d : Debt) → IsStrictlySortedBy nat_cmp (keys_of (e ∷ es)) → debt_at es n ≡ Some d → debt_at (e ∷ es) n ≡ Some d
 found-behind e es n d sorted found = tail-at e es n (above-apart n e.0 (found-above es e.0 n d (keys-above e es sorted) found)) ∙ found
   where

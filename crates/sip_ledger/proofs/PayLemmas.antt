@@ -11,7 +11,7 @@ module _ (message t : ℕ) where
   abbrev Unpaid : Debt → Type 0
   Unpaid debt = ¬ (IsTrue (is_payable message t debt))
 
-  -- behind debts that it does not pay, a send pays the first that it does
+  -- after debts that it does not pay, a send pays the first that it does
   paid-behind : (before : List Debt) (first : Debt) (after : List Debt) → All Unpaid before → IsTrue (is_payable message t first) →
       paid_by message t (before ++ first ∷ after) ≡ before ++ after
   paid-behind [] first after none pays = ap (λ b. cond b after (first ∷ paid_by message t after)) pays
@@ -31,7 +31,7 @@ module _ (message t : ℕ) where
       ap (λ b. cond b debts (debt ∷ paid_by message t debts)) unpaid
       ∙ ap (λ ds. debt ∷ ds) (unpaid-is debts (All-tail Unpaid debt debts none))
 
-  -- a row behind a payment
+  -- a row after a payment
   pub paid-row : (is : Bool) (old new : List Debt) (rows more : List (List Debt)) → OnTrue is (IsWithoutFirst (λ debt. IsTrue (is_payable message t debt)) old new) →
       OnFalse is ((more ≡ rows) × All Unpaid old) → (more ≡ rows → new ≡ old) → new ≡ paid_by message t old
   paid-row true old new rows more paid unpaid same = paid-is old new paid

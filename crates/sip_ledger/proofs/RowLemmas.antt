@@ -43,7 +43,7 @@ moved-debts entries o m o' m' from to order within is gap equal moved =
     (moved.owed_others j not_from not_to, moved.must_others j not_from not_to))) (new ∙ sym old)
     ∙ sym (parts o m entries to (omega (arith, order, within)))
 
--- a gap right before a bit behind the first ones begins behind them
+-- a gap right before a bit after the first ones begins after them
 gap-begins : (o : ℕ → Bool) (low i k : ℕ) → (0 < low → o (low - 1) ≡ true) → low ≤ k → IsGap o i k → low ≤ i
 gap-begins o low i k begins order gap =
     elim (cases_lt i low) [
@@ -174,7 +174,7 @@ grown-debts entries entry o m within =
     unset : (k : ℕ) → 0 + length entries ≤ k → o k ≡ false
     unset k from = false_from_ne_true (o k) (λ set. absurd (omega (arith, within k set, from)))
 
--- a debt is gained behind the others
+-- a debt is gained after the others
 pub gained-row : (entries : List Entry) (o m o' m' : ℕ → Bool) (at : ℕ) → IsRow entries o m → at < length entries → IsGap o at (length entries) →
     ((i : ℕ) (e : Entry) → i < at → IsGap o i at → get_or entries i e ≢ get_or entries at e) →
     o' at ≡ true → ((k : ℕ) → k ≢ at → o' k ≡ o k) → ((k : ℕ) → k ≢ at → m' k ≡ m k) → IsRow entries o' m'
@@ -384,7 +384,7 @@ expired-debts entries o m o' t expired =
     let here : j ≡ 0 + j = omega arith in
     subst (λ n. o' n ≡ (o n && (m n || nat_le t (get_or entries j e).deadline))) here (expired.kept j e below))
 
--- where an entry is put behind the others, a debt of it is gained there
+-- where an entry is put after the others, a debt of it is gained there
 pub grown-gained : (entries : List Entry) (entry : Entry) (o : ℕ → Bool) (at : ℕ) → IsGainedAt entries o entry at → at ≡ length entries →
     IsGainedAt (entries ++ entry ∷ []) o entry at
 grown-gained entries entry o at gained here = record {

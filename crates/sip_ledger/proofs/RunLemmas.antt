@@ -12,7 +12,7 @@ use Rattle.sip_ledger.specs.inner.Ends.{EndsWith}
 abbrev each : Run → List Debt
 each run = replicate run.count run.debt
 
--- runs and one behind them
+-- runs and one after them
 debts-push : (runs : List Run) (run : Run) → debts_in (runs ++ run ∷ []) ≡ debts_in runs ++ each run
 debts-push runs run = flat_map-append each runs (run ∷ []) ∙ ap (λ l. debts_in runs ++ l) (append-nil (each run))
 

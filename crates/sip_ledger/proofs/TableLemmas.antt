@@ -1,4 +1,4 @@
--- Rows of words, one behind another.
+-- Rows of words, one after another.
 use Rattle.std.proofs.Common.{◌≡◌, ℕ, ◌+◌, ◌-◌, ◌*◌, ◌^◌, ◌<◌, ◌≤◌, List, [], ◌∷◌, ◌++◌, length, take, drop, refl, sym, ap, ◌∙◌, subst, inl, inr, arith}
 use Rattle.std.proofs.Math.Nat.{mul-le-mul_left}
 use Rattle.std.proofs.lemmas.Bool.{cases_lt, cases_eq}
@@ -11,7 +11,7 @@ use Rattle.sip_ledger.specs.Rows.{IsRow}
 use Rattle.sip_ledger.specs.Grids.{Grid, grid_of, part, IsGrid}
 use Rattle.sip_ledger.specs.inner.Tables.{IsInside, IsTableRow, ChangesRow, ChangesTable, IsWidened}
 
--- a row begins behind those before it
+-- a row begins after those before it
 pub row-before : (k row width : ℕ) → k < row → k * width + width ≤ row * width
 row-before k row width before =
     let more : k + 1 ≤ row = omega (arith, before) in
@@ -130,7 +130,7 @@ pasted-changes width from to words from_inside to_inside =
     let long = length-part width from words from_inside in
     (written-changes width to words (part width from words) to_inside long, written-part width to words (part width from words) to_inside long)
 
--- rows behind others
+-- rows after others
 pub split-rows : (k r width n : ℕ) → k + r ≡ n → n * width ≡ k * width + r * width
 split-rows k r width n is = omega (arith, ap (λ x. x * width) is)
 
@@ -140,7 +140,7 @@ part-of_more width rows k xs ys long inside = part-front width k xs ys (row-insi
 pub part-of_last : (width rows : ℕ) (xs ys : List ℕ) → length xs ≡ rows * width → length ys ≡ width → part width rows (xs ++ ys) ≡ ys
 part-of_last width rows xs ys long row_long = ap (take width) (drop_at xs ys (rows * width) long) ∙ take_all width ys (omega (arith, row_long))
 
--- rows of the first words, and of those behind them
+-- rows of the first words, and of those after them
 pub part-take : (width n k : ℕ) (xs : List ℕ) → k < n → part width k (take (n * width) xs) ≡ part width k xs
 part-take width n k xs inside =
     let r = n - k in

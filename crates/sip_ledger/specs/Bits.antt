@@ -1,8 +1,8 @@
--- Sets of numbers: bits in words of 64, one word behind another.
+-- Sets of numbers: bits in words of 64, one word after another.
 use Rattle.std.specs.Prelude.{◌≡◌, ℕ, ◌/◌, ◌%◌, ◌<◌, ◌≤◌, Bool, true, false, List, get_or}
 use Rattle.sip_masks.specs.Bits.{test}
 
--- whether this bit is set, which none is behind the words
+-- whether this bit is set, which none is after the words
 unfoldable pub has : List ℕ → ℕ → Bool
 has words bit = test (get_or words (bit / 64) 0) (bit % 64)
 

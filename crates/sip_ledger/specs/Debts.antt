@@ -30,7 +30,7 @@ is_payable message t debt = debt.message == message && nat_le t debt.deadline
 abbrev pub is_any_payable : List ℕ → ℕ → Debt → Bool
 is_any_payable messages t debt = list_any (λ message. is_payable message t debt) messages
 
--- what is owed behind a send of this message at t, which pays the first debt that it can
+-- what is owed after a send of this message at t, which pays the first debt that it can
 abbrev pub paid_by : ℕ → ℕ → List Debt → List Debt
 paid_by message t [] = []
 paid_by message t (debt ∷ debts) = if is_payable message t debt then debts else debt ∷ paid_by message t debts

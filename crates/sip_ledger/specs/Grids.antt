@@ -5,7 +5,7 @@ use Rattle.sip_ledger.specs.declared.debt.Entry.{Entry}
 use Rattle.sip_ledger.specs.Bits.{has}
 use Rattle.sip_ledger.specs.Rows.{row_debts, IsRow}
 
--- A list of entries with rows over it, whose words stand one row behind another.
+-- A list of entries with rows over it, whose words stand one row after another.
 
 -- the entries, how many words a row has, how many rows there are, and their words
 pub record Grid : Type 0 where

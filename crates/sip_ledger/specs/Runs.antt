@@ -4,7 +4,7 @@ use Rattle.sip_ledger.specs.declared.run.Run.{Run}
 
 -- Debts in runs of equal ones.
 
--- the debts of runs, one behind another
+-- the debts of runs, one after another
 abbrev pub debts_in : List Run → List Debt
 debts_in runs = flat_map (λ run. replicate run.count run.debt) runs
 

@@ -1,8 +1,8 @@
-//! Sets of numbers: bits in words, one word behind another.
+//! Sets of numbers: bits in words, one word after another.
 ghost use Rattle.std.specs.Prelude.{◌≡◌, ◌≢◌, ℕ, ◌+◌, ◌-◌, ◌*◌, ◌/◌, ◌^◌, ◌<◌, ◌≤◌, true, false, length, get_or, IfSome, IfNone};
 ghost use Rattle.sip_ledger.specs.Bits.{has, IsNext, NoneFrom};
 
-/// Whether the bit is set, which none is behind the words.
+/// Whether the bit is set, which none is after the words.
 pub(crate) fn has(words: &[u64], bit: usize) -> bool
     ensures { result ≡ has words.now bit }
 {

@@ -66,7 +66,7 @@ impl Ledger {
         self.rows.is_empty()
     }
 
-    /// Puts a row that owes nothing behind the others. On an error all is as before.
+    /// Puts a row that owes nothing after the others. On an error all is as before.
     pub fn push(&mut self) -> Result<(), AllocError>
         ensures ok { OnOk result (rows_of self.new ≡ rows_of self.old ++ [] ∷ []) }
         ensures err { OnErr result (self.new ≡ self.old) }
@@ -93,7 +93,7 @@ impl Ledger {
         Ok(())
     }
 
-    /// Puts a row that owes what this one does behind the others. On an error all is as before.
+    /// Puts a row that owes what this one does after the others. On an error all is as before.
     pub fn push_copy(&mut self, row: usize) -> Result<(), AllocError>
         requires { row < length (rows_of self.old) }
         ensures ok { OnOk result (rows_of self.new ≡ rows_of self.old ++ row_of self.old row ∷ []) }
@@ -153,7 +153,7 @@ impl Ledger {
         }
     }
 
-    /// Lets the row owe one more debt, behind its others. On an error all is as before.
+    /// Lets the row owe one more debt, after its others. On an error all is as before.
     pub fn gain(&mut self, row: usize, debt: Debt) -> Result<(), AllocError>
         requires { row < length (rows_of self.old) }
         ensures ok { OnOk result (rows_of self.new ≡ set (rows_of self.old) row (row_of self.old row ++ debt ∷ [])) }
@@ -326,7 +326,7 @@ impl Ledger {
         }
     }
 
-    /// Puts the number of each message that the row owes behind the others, once for each debt.
+    /// Puts the number of each message that the row owes after the others, once for each debt.
     pub fn names(&self, row: usize, numbers: &mut Vec<u32>) -> Result<(), AllocError>
         requires { row < length (rows_of self.now) }
         ensures { OnOk result (numbers.new.items ≡ numbers.old.items ++ map (λ debt. debt.message) (row_of self.now row)) }

@@ -65,7 +65,7 @@ impl LongRow {
         Ok(row)
     }
 
-    /// One more debt is owed, behind the others. On an error all is as before.
+    /// One more debt is owed, after the others. On an error all is as before.
     #[inline(never)]
     pub(crate) fn gain(&mut self, debt: Debt) -> Result<(), AllocError>
         ensures ok { OnOk result (values_of self.new ≡ values_of self.old ++ debt ∷ []) }
@@ -294,7 +294,7 @@ impl LongRow {
         Ok(debts)
     }
 
-    /// Puts the number of each message that is owed behind the others, once for each debt.
+    /// Puts the number of each message that is owed after the others, once for each debt.
     #[inline(never)]
     pub(crate) fn names(&self, numbers: &mut Vec<u32>) -> Result<(), AllocError>
         ensures { OnOk result (numbers.new.items ≡ numbers.old.items ++ map (λ debt. debt.message) (values_of self.now)) }

@@ -218,7 +218,7 @@ pub(crate) fn gained_at(entries: &[Entry], owed: &[u64], entry: Entry) -> usize
     at
 }
 
-/// Sets a bit behind the others.
+/// Sets a bit after the others.
 pub(crate) fn owe(owed: &mut [u64], must: &mut [u64], at: usize, due: bool)
     requires owed { at / 64 < length owed.old }
     requires must { at / 64 < length must.old }
@@ -336,7 +336,7 @@ fn drop_past(entries: &[Entry], owed: &mut [u64], must: &[u64], moment: u64)
     }
 }
 
-/// Puts the number of each message that is owed behind the others, once for each debt.
+/// Puts the number of each message that is owed after the others, once for each debt.
 pub(crate) fn names(
     entries: &[Entry],
     owed: &[u64],

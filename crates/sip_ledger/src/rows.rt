@@ -23,7 +23,7 @@ use std::alloc::{AllocError, Global};
 use std::marker::Model;
 
 /// What each of many rows owes, oldest first: one list of entries for all, and for each row a bit for each entry that it owes
-/// and one for each that it must send. Rows have their words one behind another; where no row ever owed anything there are none.
+/// and one for each that it must send. Rows have their words one after another; where no row ever owed anything there are none.
 /// What is asked of all rows at one moment is answered for all entries once, while one word has them.
 #[derive(Debug, Drop)]
 pub(crate) struct Rows {
@@ -79,7 +79,7 @@ impl Rows {
         self.rows == 0
     }
 
-    /// Puts a row that owes nothing behind the others. On an error all is as before.
+    /// Puts a row that owes nothing after the others. On an error all is as before.
     pub(crate) fn push(&mut self) -> Result<(), AllocError>
         ensures ok { OnOk result (grid_rows self.new ≡ grid_rows self.old ++ [] ∷ []) }
         ensures err { OnErr result (self.new ≡ self.old) }
@@ -92,7 +92,7 @@ impl Rows {
         Ok(())
     }
 
-    /// Puts a row that owes what this one does behind the others. On an error all is as before.
+    /// Puts a row that owes what this one does after the others. On an error all is as before.
     pub(crate) fn push_copy(&mut self, row: usize) -> Result<(), AllocError>
         requires { row < length (grid_rows self.old) }
         ensures ok { OnOk result (grid_rows self.new ≡ grid_rows self.old ++ grid_row self.old row ∷ []) }
@@ -139,7 +139,7 @@ impl Rows {
         table::copy(&mut self.must, self.width, from, to);
     }
 
-    /// Lets the row owe one more debt, behind its others. On an error all is as before.
+    /// Lets the row owe one more debt, after its others. On an error all is as before.
     pub(crate) fn gain(&mut self, row: usize, debt: Debt) -> Result<(), AllocError>
         requires { row < length (grid_rows self.old) }
         ensures ok { OnOk result (grid_rows self.new ≡ set (grid_rows self.old) row (grid_row self.old row ++ debt ∷ [])) }
@@ -175,7 +175,7 @@ impl Rows {
         Ok(at)
     }
 
-    /// Puts an entry behind the others, which no row owes. On an error all is as before.
+    /// Puts an entry after the others, which no row owes. On an error all is as before.
     fn grow(&mut self, entry: Entry) -> Result<(), AllocError>
         ensures ok { OnOk result (IsGrown entry self.old self.new) }
         ensures err { OnErr result (self.new ≡ self.old) }
@@ -416,7 +416,7 @@ impl Rows {
         table::print(owed, &self.must, self.width, row)
     }
 
-    /// Puts the number of each message that the row owes behind the others, once for each debt.
+    /// Puts the number of each message that the row owes after the others, once for each debt.
     pub(crate) fn names(&self, row: usize, numbers: &mut Vec<u32>) -> Result<(), AllocError>
         requires { row < length (grid_rows self.now) }
         ensures { OnOk result (numbers.new.items ≡ numbers.old.items ++ map (λ debt. debt.message) (grid_row self.now row)) }

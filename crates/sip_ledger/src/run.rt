@@ -7,7 +7,7 @@ ghost use Rattle.sip_ledger.specs.inner.Ends.{EndsWith};
 use crate::debt::Debt;
 use std::alloc::{AllocError, Global};
 
-/// Equal debts, one behind another.
+/// Equal debts, one after another.
 #[derive(Clone, Copy, Debug, PartialEq, Eq)]
 pub struct Run {
     /// Each of them.
@@ -16,7 +16,7 @@ pub struct Run {
     pub count: usize,
 }
 
-/// Puts a debt behind the others, into the last run if that is of its equals.
+/// Puts a debt after the others, into the last run if that is of its equals.
 fn append(runs: &mut Vec<Run>, debt: Debt) -> Result<(), AllocError>
     requires { length (debts_in runs.old.items) < 2 ^ 64 - 1 }
     ensures { (debts : List Debt) → AreRuns debts runs.old.items → OnOk result (AreRuns (debts ++ debt ∷ []) runs.new.items) }

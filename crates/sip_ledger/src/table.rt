@@ -1,4 +1,4 @@
-//! Rows of words, one behind another.
+//! Rows of words, one after another.
 ghost use Rattle.std.specs.Prelude.{◌≡◌, ◌↔◌, ◌<◌, ◌≤◌, ◌+◌, ◌*◌, ◌^◌, ◌++◌, ◌∷◌, [], ℕ, Bool, List, IsTrue, IfSome, IfNone, IfOk, OnOk, true, false, length, filter, fold, map};
 ghost use Rattle.std.specs.Bool.{OnTrue};
 ghost use Rattle.sip_ledger.specs.Bits.{has};
@@ -198,7 +198,7 @@ pub(crate) fn gained_at(
     row::gained_at(entries, &owed[start..end], entry)
 }
 
-/// Lets the row gain a debt, at the index of its entry behind the others.
+/// Lets the row gain a debt, at the index of its entry after the others.
 pub(crate) fn gain(
     owed: &mut [u64],
     must: &mut [u64],
@@ -259,7 +259,7 @@ pub(crate) fn print(seed: u64, words: &[u64], width: usize, row: usize) -> u64
     words::print(seed, &words[start..end])
 }
 
-/// Puts the number of each message that the row owes behind the others, once for each debt.
+/// Puts the number of each message that the row owes after the others, once for each debt.
 pub(crate) fn names(
     entries: &[Entry],
     owed: &[u64],

@@ -1,4 +1,4 @@
-//! The words of all rows, one row behind another.
+//! The words of all rows, one row after another.
 ghost use Rattle.std.specs.Prelude.{◌≡◌, ◌<◌, ◌≤◌, ◌+◌, ◌-◌, ◌*◌, ◌++◌, ℕ, IsOk, OnOk, OnErr, IfOk, length, drop, fold, get_or, replicate, take};
 ghost use Rattle.std.specs.Vec.{vec_len, vec_capacity};
 ghost use Rattle.sip_ledger.specs.Grids.{part};
@@ -7,7 +7,7 @@ ghost use Rattle.sip_ledger.specs.inner.Tables.{AreWords, IsInside, IsWidened, I
 
 use std::alloc::{AllocError, Global};
 
-/// Puts a row of no bits behind the others in both. On an error they are as before.
+/// Puts a row of no bits after the others in both. On an error they are as before.
 pub(crate) fn put_row(
     owed: &mut Vec<u64>,
     must: &mut Vec<u64>,
@@ -23,7 +23,7 @@ pub(crate) fn put_row(
     must.resize(must.len() + width, 0)
 }
 
-/// Puts a copy of a row behind the others in both. On an error they are as before.
+/// Puts a copy of a row after the others in both. On an error they are as before.
 pub(crate) fn copy_row(
     owed: &mut Vec<u64>,
     must: &mut Vec<u64>,
@@ -44,7 +44,7 @@ pub(crate) fn copy_row(
     must.extend_from_within(start..end)
 }
 
-/// Puts copies of so many words from one on behind the others in both. On an error they are as before.
+/// Puts copies of so many words from one on after the others in both. On an error they are as before.
 pub(crate) fn copy_behind(
     owed: &mut Vec<u64>,
     must: &mut Vec<u64>,
@@ -66,7 +66,7 @@ pub(crate) fn copy_behind(
     copy_to_end(must, start, count)
 }
 
-/// Puts copies of so many words from one on behind the others, for which there is room.
+/// Puts copies of so many words from one on after the others, for which there is room.
 fn copy_to_end(words: &mut Vec<u64>, start: usize, count: usize) -> Result<(), AllocError>
     requires some { 0 < count }
     requires within { start + count ≤ length words.old.items }

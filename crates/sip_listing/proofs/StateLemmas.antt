@@ -11,7 +11,7 @@ use Rattle.sip_states.specs.KeyMachine.{coded_of, of_machine, to_machine}
 use Rattle.sip_states.specs.Told.{Saying, said_state, meant, AreToldAs, AreTold}
 use Rattle.sip_states.specs.declared.any_set.AnySet.{AnySet}
 use Rattle.sip_states.specs.declared.told.ToldState.{ToldState}
-use Rattle.sip_states.proofs.ByMachine.{some_machine, of_set}
+use Rattle.sip_states.proofs.keyed.ByMachine.{some_machine, of_set}
 use Rattle.sip_listing.specs.Fields.{Tells}
 use Rattle.sip_listing.specs.State.{phase_text, owing_text}
 use Rattle.sip_listing.specs.Lines.{AreInOrder}

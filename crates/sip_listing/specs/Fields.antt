@@ -6,7 +6,7 @@ use Rattle.sip_machine.specs.Told.{ToldField, Flag, Number, Message}
 
 -- The words of which the text of a state is made. A message is told by a number.
 
--- a value with its name, behind a blank
+-- a value with its name, after a blank
 abbrev pub field : List ℕ → List ℕ → List ℕ
 field name value = codes " " ++ name ++ codes "=" ++ value
 
@@ -39,7 +39,7 @@ duty false = codes "may"
 abbrev pub owed_field : ℕ → ℕ → Bool → List ℕ
 owed_field message deadline must = field (codes "owes") (decimal message ++ codes "/" ++ decimal deadline ++ codes "/" ++ duty must)
 
--- what is owed, one behind another
+-- what is owed, one after another
 abbrev pub owes_fields : (List ℕ → ℕ) → List Owed → List ℕ
 owes_fields number owes = flat_map (λ owed. owed_field (number owed.message) owed.deadline owed.must) owes
 

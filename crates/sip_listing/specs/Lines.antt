@@ -18,6 +18,6 @@ pub record AreLinesOf {X : Type 0} (text : X → List ℕ) (P : X → Type 0) (l
   pub distinct : AllPairs (λ x y. x ≢ y) states
   pub in_order : AreInOrder (map text states) lines
 
--- lines as they stand in a listing: behind two blanks, and with a line end
+-- lines as they stand in a listing: after two blanks, and with a line end
 abbrev pub indented : List (List ℕ) → List ℕ
 indented lines = flat_map (λ line. codes "  " ++ line ++ codes "\n") lines

@@ -8,7 +8,7 @@ use itoa::Buffer;
 use sip_machine::{Debt, Field, Run};
 use std::alloc::AllocError;
 
-/// Appends a value with its name, behind a blank.
+/// Appends a value with its name, after a blank.
 fn push_named(line: &mut String, name: &str, value: &str) -> Result<(), AllocError>
     ensures { OnOk result (string_bytes line.new ≡ string_bytes line.old ++ field name.now value.now) }
 {
@@ -74,7 +74,7 @@ fn push_run(line: &mut String, run: Run) -> Result<(), AllocError>
     Ok(())
 }
 
-/// Appends what is owed, one behind another.
+/// Appends what is owed, one after another.
 pub(crate) fn push_owes(line: &mut String, owes: &[Run]) -> Result<(), AllocError>
     ensures { OnOk result (string_bytes line.new ≡ string_bytes line.old ++ debts_fields (flat_map (λ run. replicate run.count run.debt) owes.now)) }
 {

@@ -21,7 +21,7 @@ pub(crate) fn lines_of(alloc: Global, states: &[ToldState]) -> Result<Vec<String
     Ok(lines)
 }
 
-/// Appends lines, each behind two blanks and with a line end.
+/// Appends lines, each after two blanks and with a line end.
 pub(crate) fn push_indented(text: &mut String, lines: &[String]) -> Result<(), AllocError>
     ensures { OnOk result (string_bytes text.new ≡ string_bytes text.old ++ indented (map string_bytes lines.now)) }
 {

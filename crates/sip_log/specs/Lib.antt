@@ -1,10 +1,6 @@
 pub mod Log
-pub mod LogSays
-pub mod LogFault
 pub mod Next
 pub mod Reading
-pub mod Source
-pub mod Spelling
 pub mod Told
 pub mod Turn
 pub mod Writing

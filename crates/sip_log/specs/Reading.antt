@@ -1,15 +1,16 @@
 use Rattle.std.specs.Prelude.{◌≡◌, ◌+◌, ◌<◌, ◌≤◌, ℕ, Bool, List, length, Option, Some, None, Result, Ok, Err, IfSome, IsSome, OnOk}
 use Rattle.std.specs.Io.KnownBytes.{prepend_known}
-use Rattle.sip_times.specs.Times.{Times, last_moment}
+use Rattle.sip_standard.specs.Times.{Times, last_moment}
 use Rattle.sip_log.specs.declared.entry.Entry.{Entry}
 use Rattle.sip_log.specs.declared.log_error.LogError.{LogError}
 use Rattle.sip_log.specs.declared.log_error.LogError.TheVariants as errors
-use Rattle.sip_log.specs.declared.format.Format.{Format}
-use Rattle.sip_log.specs.declared.format.Format.TheVariants.{One}
-use Rattle.sip_log.specs.LogFault as faults
-use Rattle.sip_log.specs.Next.{Next, ends, gives, stops}
-use Rattle.sip_log.specs.Spelling.{Header, Item}
-use Rattle.sip_log.specs.Log.{most_entries, NoHeader, ComesNext}
+use Rattle.sip_standard.specs.declared.format.Format.{Format}
+use Rattle.sip_standard.specs.declared.format.Format.TheVariants.{One}
+use Rattle.sip_standard.specs.LogFault as faults
+use Rattle.sip_log.specs.Next.{Next, ends, gives, stops, ComesNext}
+use Rattle.sip_standard.specs.LogHeader.{Header}
+use Rattle.sip_standard.specs.LogEntry.{Item}
+use Rattle.sip_standard.specs.LogSays.{most_entries, LacksHeader}
 use Rattle.sip_log.specs.Told.{TellsWhatComes, next_of}
 
 -- How a log is read, call by call.
@@ -52,15 +53,15 @@ pub record Continues (number last : ℕ) (e : Entry) : Type 0 where
   pub moment_high : e.moment ≤ last_moment
   pub length_high : length e.bytes.items ≤ 65535
 
--- what an answer behind so many entries, the last at this moment, says that needs no bytes: the number, the order, and how it goes on
+-- what an answer after so many entries, the last at this moment, says that needs no bytes: the number, the order, and how it goes on
 abbrev pub Moves : ℕ → ℕ → ReaderState → Result (Option Entry) LogError → Type 0
 Moves count last new (Ok (Some e)) = (new.stage ≡ entries) × Continues (count + 1) last e × (new.count ≡ e.number) × (new.last ≡ e.moment) × (count < most_entries)
 Moves count last new (Ok None) = (new.stage ≡ ended) × (new.count ≡ count) × (new.last ≡ last)
 Moves count last new (Err e) = (new.stage ≡ failed) × (new.count ≡ count) × (new.last ≡ last)
 
--- what comes first in an input, where these times were read of it: the fault of its header, or the header and what comes next behind it
+-- what comes first in an input, where these times were read of it: the fault of its header, or the header and what comes next after it
 abbrev pub ComesFirst : Format → Option Times → List ℕ → Next Item → Type 0
-ComesFirst format None xs next = NoHeader xs × (next ≡ stops faults.Header)
+ComesFirst format None xs next = LacksHeader xs × (next ≡ stops faults.Header)
 ComesFirst format (Some p) xs next = (behind : List ℕ) × Header format p xs behind × ComesNext format 0 0 behind next
 
 -- what comes in the rest of an input
@@ -70,7 +71,7 @@ Comes entries old new xs next = ComesNext old.format old.count old.last xs next
 Comes ended old new xs next = ⊥
 Comes failed old new xs next = ⊥
 
--- one call that reads: what comes in the rest of the input, and what is left behind it
+-- one call that reads: what comes in the rest of the input, and what is left after it
 pub record ReadsNext (old new : ReaderState) (r : Result (Option Entry) LogError) : Type 0 where
   pub moves : Moves old.count old.last new r
   pub times : OnOk r (IsSome new.times)
@@ -83,13 +84,13 @@ NextsAt entries old new r = ReadsNext old new r
 NextsAt ended old new r = (r ≡ Ok None) × (new ≡ old)
 NextsAt failed old new r = (r ≡ Err errors.Failed) × (new ≡ old)
 
--- what stands first in an input: a header with what is behind it, or the fault that there is none
+-- what stands first in an input: a header with what is after it, or the fault that there is none
 abbrev pub Heads : Format → List ℕ → Next Times → Type 0
 Heads format xs ends = ⊥
 Heads format xs (gives p behind) = Header format p xs behind
-Heads format xs (stops fault) = NoHeader xs × (fault ≡ faults.Header)
+Heads format xs (stops fault) = LacksHeader xs × (fault ≡ faults.Header)
 
--- a header that is read by itself: no entry was, and what is left stands behind it; or why there is none
+-- a header that is read by itself: no entry was, and what is left stands after it; or why there is none
 abbrev pub Opens : Option (List ℕ) → Option (List ℕ) → Bool → Bool → Result (Times × Place) LogError → Type 0
 Opens old left before after (Ok (p, place)) =
     (place ≡ record { stage = entries; held = place.held; format = place.format; times = Some p; count = 0; last = 0 })

@@ -2,10 +2,10 @@ use Rattle.std.specs.Prelude.{◌≡◌, ℕ, Bool, true, List, Option, Some, No
 use Rattle.sip_log.specs.declared.entry.Entry.{Entry}
 use Rattle.sip_log.specs.declared.log_error.LogError.{LogError}
 use Rattle.sip_log.specs.declared.log_error.LogError.TheVariants as errors
-use Rattle.sip_log.specs.LogFault as faults
-use Rattle.sip_log.specs.LogFault.{LogFault}
+use Rattle.sip_standard.specs.LogFault as faults
+use Rattle.sip_standard.specs.LogFault.{LogFault}
 use Rattle.sip_log.specs.Next.{Next, ends, gives, stops}
-use Rattle.sip_log.specs.Spelling.{Item}
+use Rattle.sip_standard.specs.LogEntry.{Item}
 
 -- What an answer tells of the input.
 
@@ -29,11 +29,11 @@ TellsWhatComes old new before after P seen (Err e) = FailsAs before after (λ fa
 abbrev pub item : Entry → Item
 item e = record { action = e.action; moment = e.moment; text = e.bytes.items }
 
--- an entry with what is behind it
+-- an entry with what is after it
 abbrev pub entry_next : Entry → List ℕ → Next Item
 entry_next e behind = gives (item e) behind
 
--- the end, or an entry with what is behind it
+-- the end, or an entry with what is after it
 abbrev pub next_of : Option Entry → List ℕ → Next Item
 next_of None behind = ends
 next_of (Some e) behind = entry_next e behind

@@ -1,10 +1,9 @@
 use Rattle.std.specs.Prelude.{◌≡◌, ◌+◌, ℕ, List, [], ◌∷◌}
-use Rattle.sip_log.specs.Next.{gives}
-use Rattle.sip_log.specs.Spelling.{Item}
-use Rattle.sip_log.specs.Log.{ComesNext}
-use Rattle.sip_log.specs.declared.format.Format.{Format}
+use Rattle.sip_log.specs.Next.{gives, ComesNext}
+use Rattle.sip_standard.specs.LogEntry.{Item}
+use Rattle.sip_standard.specs.declared.format.Format.{Format}
 
--- behind so many entries, the last at this moment: in the rest of an input these entries come in turn, and this is left behind them
+-- after so many entries, the last at this moment: in the rest of an input these entries come in turn, and this is left after them
 abbrev pub ComeInTurn : Format → ℕ → ℕ → List ℕ → List Item → List ℕ → Type 0
 ComeInTurn format count last rest [] left = left ≡ rest
 ComeInTurn format count last rest (e ∷ es) left =

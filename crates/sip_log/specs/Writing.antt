@@ -1,7 +1,21 @@
-use Rattle.std.specs.Prelude.{◌≡◌, ◌⊎◌, ℕ, Bool, true, List, Option, Result, Ok, Err, ⊤}
+use Rattle.std.specs.Prelude.{◌≡◌, ◌⊎◌, ◌++◌, ℕ, Bool, true, List, [], Option, Result, Ok, Err, ⊤}
 use Rattle.std.specs.Io.KnownBytes.{Appends}
+use Rattle.sip_standard.specs.Times.{Times}
+use Rattle.sip_standard.specs.declared.rules.Rules.{Rules}
+use Rattle.sip_standard.specs.declared.rules.Rules.TheVariants.{R3261, R6026}
+use Rattle.sip_standard.specs.declared.format.Format.{Format}
+use Rattle.sip_standard.specs.LogHeader.{lines_text, rules_text}
 use Rattle.sip_log.specs.declared.write_error.WriteError.{WriteError}
 use Rattle.sip_log.specs.declared.write_error.WriteError.TheVariants.{Limit, Io}
+
+-- the line of rules as it is written: that of RFC 6026 is left out
+abbrev pub written_rules : Rules → List ℕ
+written_rules R3261 = rules_text R3261
+written_rules R6026 = []
+
+-- a header as it is written
+abbrev pub header_text : Format → Times → List ℕ
+header_text format p = lines_text format p ++ written_rules p.rules
 
 -- at Ok this text was appended, and no put failed; an error comes only with a put that failed
 abbrev pub Puts : {E : Type 0} → Option (List ℕ) → Option (List ℕ) → Bool → Bool → List ℕ → Result ⊤ E → Type 0

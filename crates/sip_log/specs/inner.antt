@@ -5,5 +5,6 @@ pub mod Line
 pub mod Number
 pub mod Place
 pub mod Reads
+pub mod Spelling
 pub mod Unless
 pub mod Window

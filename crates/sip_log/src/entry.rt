@@ -1,19 +1,19 @@
 //! The entries of a log, one after another.
 ghost use Rattle.std.specs.Prelude.{◌≡◌, ◌+◌, ◌<◌, ◌≤◌, [], IfOk, IfSome, OnSome};
-ghost use Rattle.sip_times.specs.Times.{last_moment};
+ghost use Rattle.sip_standard.specs.Times.{last_moment};
 ghost use Rattle.sip_log.specs.inner.Line.{KeepsLimits, cut_head, head_of, moment_of};
 ghost use Rattle.sip_log.specs.inner.Window.{unread};
 ghost use Rattle.sip_log.specs.inner.Entry.{MessageComes, BodyComes, HeadComes, LineComes, EntryComes};
-ghost use Rattle.sip_log.specs.Log.{most_entries};
+ghost use Rattle.sip_standard.specs.LogSays.{most_entries};
 ghost use Rattle.sip_log.specs.Told.{TellsWhatComes, entry_next, next_of};
 ghost use Rattle.sip_log.specs.Reading.{Continues};
 ghost use Rattle.sip_log.specs.inner.Line as log;
 
-use crate::format::Format;
 use crate::line::{Head, read_head};
 use crate::log_error::LogError;
 use crate::source::Source;
 use crate::window::Window;
+use sip_standard::Format;
 use sip_times::Action;
 
 /// The most bytes of an entry's line with its line feed.
@@ -31,7 +31,7 @@ pub struct Entry {
     pub bytes: Vec<u8>,
 }
 
-/// Reads the entry behind `count` others, the last of which is at the moment `last`, into the buffer. None at the end of the log.
+/// Reads the entry after `count` others, the last of which is at the moment `last`, into the buffer. None at the end of the log.
 pub(crate) fn next_entry<R: Source>(
     buffer: Vec<u8>,
     window: &mut Window,
@@ -84,7 +84,7 @@ fn read_entry<R: Source>(
     after_line(buffer, window, source, number, last, head)
 }
 
-/// Reads what is behind an entry's line, if the line keeps the limits and the order.
+/// Reads what is after an entry's line, if the line keeps the limits and the order.
 fn after_line<R: Source>(
     buffer: Vec<u8>,
     window: &mut Window,
@@ -106,7 +106,7 @@ fn after_line<R: Source>(
     read_body(buffer, window, source, number, head)
 }
 
-/// Reads what an entry has behind its line: a message, or nothing.
+/// Reads what an entry has after its line: a message, or nothing.
 fn read_body<R: Source>(
     mut buffer: Vec<u8>,
     window: &mut Window,
@@ -133,7 +133,7 @@ fn read_body<R: Source>(
     }
 }
 
-/// Reads a message of `len` bytes and the line feed behind it. Its bytes are copied once, out of the window into the empty buffer.
+/// Reads a message of `len` bytes and the line feed after it. Its bytes are copied once, out of the window into the empty buffer.
 fn read_message<R: Source>(
     mut buffer: Vec<u8>,
     window: &mut Window,

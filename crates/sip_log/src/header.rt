@@ -1,21 +1,21 @@
 //! The lines of a log's header: the format, the times of the element, and the rules that it was built by.
 ghost use Rattle.std.specs.Prelude.{◌≡◌, ℕ, List, [], MatchOption};
-ghost use Rattle.sip_times.specs.Times.{Times, AreTimes};
-ghost use Rattle.sip_times.specs.declared.rules.Rules.{Rules};
-ghost use Rattle.sip_times.specs.declared.rules.Rules.TheVariants.{R6026};
-ghost use Rattle.sip_log.specs.Spelling.{rules_text};
+ghost use Rattle.sip_standard.specs.Times.{Times, AreTimes};
+ghost use Rattle.sip_standard.specs.declared.rules.Rules.{Rules};
+ghost use Rattle.sip_standard.specs.declared.rules.Rules.TheVariants.{R6026};
+ghost use Rattle.sip_standard.specs.LogHeader.{rules_text};
 ghost use Rattle.sip_log.specs.inner.Header.{NumberAfter, Tolerances, TimesLine, title_text, HeaderComes, ComesSecond, ComesThird};
 ghost use Rattle.sip_log.specs.Next.{gives};
 ghost use Rattle.sip_log.specs.inner.Number.{cut};
 ghost use Rattle.sip_log.specs.Told.{TellsWhatComes};
 ghost use Rattle.sip_log.specs.inner.Window.{unread};
 
-use crate::format::Format;
 use crate::log_error::LogError;
 use crate::number::number;
 use crate::source::Source;
 use crate::window::Window;
 use memchr::memchr;
+use sip_standard::Format;
 use sip_times::{Params, Rules};
 
 /// The bytes of line 1 with its line feed.
@@ -58,7 +58,7 @@ fn format_of(line: &[u8]) -> Option<Format>
     None
 }
 
-/// Reads line 2, and the rules behind it.
+/// Reads line 2, and the rules after it.
 fn read_second<R: Source>(
     window: &mut Window,
     source: &mut R,
@@ -149,7 +149,7 @@ fn read_tolerances(format: Format, text: &[u8]) -> Option<(u64, u64)>
     }
 }
 
-/// Reads a word and the number behind it, with which the text ends.
+/// Reads a word and the number after it, with which the text ends.
 fn last_number(text: &[u8], word: &[u8]) -> Option<u64>
     ensures { MatchOption result
         ((n : ℕ) → ¬ (NumberAfter word.now text.now n []))
@@ -162,7 +162,7 @@ fn last_number(text: &[u8], word: &[u8]) -> Option<u64>
     Some(value)
 }
 
-/// Reads a word and the number behind it, up to a blank or the end, and answers what is behind it too.
+/// Reads a word and the number after it, up to a blank or the end, and answers what is after it too.
 fn number_after<'a>(text: &'a [u8], word: &[u8]) -> Option<(u64, &'a [u8])>
     ensures { MatchOption result
         ((n : ℕ) (behind : List ℕ) → ¬ (NumberAfter word.now text.now n behind))

@@ -1,15 +1,17 @@
 //! Laws of the format and of its devices. The functions do nothing: their contracts are the laws.
-ghost use Rattle.std.specs.Prelude.{◌≡◌, ◌≢◌, ◌↔◌, ◌<◌, ◌≤◌, ◌++◌, ℕ, List, All, length, flat_map};
-ghost use Rattle.sip_times.specs.Times.{Times, AreTimes};
-ghost use Rattle.sip_times.specs.declared.action.Action.TheVariants.{Restart};
-ghost use Rattle.sip_times.specs.declared.rules.Rules.TheVariants.{R6026};
-ghost use Rattle.sip_log.specs.Next.{Next, gives};
-ghost use Rattle.sip_log.specs.declared.format.Format.{Format};
-ghost use Rattle.sip_log.specs.declared.format.Format.TheVariants.{One, Two};
-ghost use Rattle.sip_log.specs.Spelling.{Item, Header, lines_text, header_text, entry_text};
+ghost use Rattle.std.specs.Prelude.{◌≡◌, ◌≢◌, ◌<◌, ◌≤◌, ◌++◌, ℕ, List, All, length, flat_map};
+ghost use Rattle.sip_standard.specs.Times.{Times, AreTimes};
+ghost use Rattle.sip_standard.specs.declared.action.Action.TheVariants.{Restart};
+ghost use Rattle.sip_standard.specs.declared.rules.Rules.TheVariants.{R6026};
+ghost use Rattle.sip_log.specs.Next.{Next, gives, ComesNext};
+ghost use Rattle.sip_standard.specs.declared.format.Format.{Format};
+ghost use Rattle.sip_standard.specs.declared.format.Format.TheVariants.{One, Two};
+ghost use Rattle.sip_standard.specs.LogEntry.{Item, entry_says, IsEntry, IsWithinLimits, InOrder};
+ghost use Rattle.sip_standard.specs.LogHeader.{Header, lines_text};
+ghost use Rattle.sip_log.specs.Writing.{header_text};
 ghost use Rattle.sip_log.specs.Turn.{ComeInTurn};
-ghost use Rattle.sip_log.specs.Log.{IsEntry, IsWithinLimits, most_entries, ComesNext, InOrder, LogEnd, Clean, IsLog, NoHeader, Log, Readable, IsLogOf};
-ghost use Rattle.sip_log.specs.LogSays.{LogSays, LacksHeader};
+ghost use Rattle.sip_standard.specs.LogSays.{most_entries, LogEnd, Clean};
+ghost use Rattle.sip_log.specs.Log.{Log, Readable, IsLogOf};
 
 use crate::sink::Sink;
 use crate::source::Source;
@@ -36,32 +38,26 @@ pub fn an_input_has_one_log()
     ensures { (input : List ℕ) (one other : Log) → IsLogOf input one → IsLogOf input other → one ≡ other }
 {}
 
-/// What an input says as a log, in which the theorem has it, is its log, and it lacks a header exactly if none stands at its front.
-pub fn an_input_says_its_log()
-    ensures log { (input : List ℕ) (p : Times) (items : List Item) (end : LogEnd) → LogSays input p items end ↔ IsLog input p items end }
-    ensures header { (input : List ℕ) → LacksHeader input ↔ NoHeader input }
-{}
-
 /// A header and entries, written one after another, are the log of what was written.
 pub fn what_is_written_is_read()
     ensures { (format : Format) (p : Times) (items : List Item) → AreTimes p → (format ≡ One → p.early ≡ p.late) →
         length items ≤ most_entries → InOrder format 0 items →
-        IsLogOf (header_text format p ++ flat_map entry_text items) (Readable p items Clean) }
+        IsLogOf (header_text format p ++ flat_map entry_says items) (Readable p items Clean) }
 {}
 
-/// Behind any entries, an entry that is written there is what comes next, whatever stands behind it.
+/// After any entries, an entry that is written there is what comes next, whatever stands after it.
 pub fn an_entry_is_read_as_it_was_written()
     ensures { (format : Format) (count last : ℕ) (e : Item) (behind : List ℕ) (next : Next Item) → count < most_entries → last ≤ e.moment → IsEntry format e →
-        ComesNext format count last (entry_text e ++ behind) next → next ≡ gives e behind }
+        ComesNext format count last (entry_says e ++ behind) next → next ≡ gives e behind }
 {}
 
 /// An entry that was read is written back as the bytes that were read, and within the limits.
 pub fn an_entry_is_written_as_it_was_read()
     ensures { (format : Format) (count last : ℕ) (rest : List ℕ) (e : Item) (behind : List ℕ) → ComesNext format count last rest (gives e behind) →
-        (rest ≡ entry_text e ++ behind) × IsWithinLimits e.action e.moment (length e.text) }
+        (rest ≡ entry_says e ++ behind) × IsWithinLimits e.action e.moment (length e.text) }
 {}
 
-/// Entries that were read in turn behind the header are a front of the log's, whatever is left to read.
+/// Entries that were read in turn after the header are a front of the log's, whatever is left to read.
 pub fn entries_read_in_turn_are_a_front_of_the_log()
     ensures { (input : List ℕ) (p : Times) (items : List Item) (end : LogEnd) → IsLogOf input (Readable p items end) →
         (format : Format) (q : Times) (behind left : List ℕ) (read : List Item) → Header format q input behind → ComeInTurn format 0 0 behind read left →
@@ -77,7 +73,7 @@ pub fn a_log_of_format_1_is_as_it_was()
         IsLogOf input (Readable q items end) → All (λ e. e.action ≢ Restart) items }
 {}
 
-/// A log of format 1 that is read to its end is, behind a header of format 2 with the same times, the same log.
+/// A log of format 1 that is read to its end is, after a header of format 2 with the same times, the same log.
 pub fn a_log_of_format_1_is_one_of_format_2()
     ensures { (input other : List ℕ) (p : Times) (behind : List ℕ) (items : List Item) → Header One p input behind → Header Two p other behind →
         IsLogOf input (Readable p items Clean) → IsLogOf other (Readable p items Clean) }

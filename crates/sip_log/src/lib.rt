@@ -3,7 +3,6 @@
 
 mod broken;
 mod entry;
-mod format;
 mod header;
 mod laws;
 mod line;
@@ -24,8 +23,7 @@ pub use laws::{
     a_log_of_format_1_is_as_it_was, a_log_of_format_1_is_one_of_format_2,
     a_sink_through_a_reference_is_that_sink, a_source_through_a_reference_is_that_source,
     an_entry_is_read_as_it_was_written, an_entry_is_written_as_it_was_read, an_input_has_one_log,
-    an_input_says_its_log, each_input_has_a_log, entries_read_in_turn_are_a_front_of_the_log,
-    what_is_written_is_read,
+    each_input_has_a_log, entries_read_in_turn_are_a_front_of_the_log, what_is_written_is_read,
 };
 pub use log_error::LogError;
 pub use progress::Progress;

@@ -1,15 +1,15 @@
 //! The line at which an entry begins.
 ghost use Rattle.std.specs.Prelude.{◌≡◌, ◌↔◌, ℕ, MatchOption, IsTrue};
-ghost use Rattle.sip_times.specs.declared.action.Action.{Action};
+ghost use Rattle.sip_standard.specs.declared.action.Action.{Action};
 ghost use Rattle.sip_log.specs.inner.Number.{cut};
-ghost use Rattle.sip_log.specs.Spelling.{HasMessage, letter};
-ghost use Rattle.sip_log.specs.Log.{IsOf, IsWithinLimits};
+ghost use Rattle.sip_standard.specs.LogEntry.{HasMessage, IsOf, IsWithinLimits};
+ghost use Rattle.sip_log.specs.inner.Spelling.{letter};
 ghost use Rattle.sip_log.specs.inner.Line.{Numbers, HeadLine, cut_head, head_of, moment_of, KeepsLimits};
 ghost use Rattle.sip_log.specs.inner.Line as log;
 
-use crate::format::Format;
 use crate::number::number;
 use memchr::memchr;
+use sip_standard::Format;
 use sip_times::Action;
 
 /// The last moment that a log can name, in milliseconds.

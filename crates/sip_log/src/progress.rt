@@ -1,16 +1,16 @@
 //! How far a log was read.
 ghost use Rattle.std.specs.Prelude.{◌≡◌, ℕ, List, [], None, IsSome};
-ghost use Rattle.sip_log.specs.declared.format.Format.TheVariants.{One};
+ghost use Rattle.sip_standard.specs.declared.format.Format.TheVariants.{One};
 ghost use Rattle.sip_log.specs.Reading.{Stage, fresh, failed, Place, beside_source, Moves, Opens, Nexts};
 ghost use Rattle.sip_log.specs.Told.{TellsWhatComes, next_of};
 ghost use Rattle.sip_log.specs.inner.Entry.{EntryComes};
 
 use crate::entry::{Entry, next_entry};
-use crate::format::Format;
 use crate::header::read_header;
 use crate::log_error::LogError;
 use crate::source::Source;
 use crate::window::Window;
+use sip_standard::Format;
 use sip_times::Params;
 use std::alloc::Global;
 use std::marker::Model;
@@ -43,7 +43,7 @@ impl Model for Progress {
     ghost Value = { Place };
 
     ghost use Rattle.sip_log.specs.inner.Place.{stage_of, held_at, FitsStage};
-    ghost use Rattle.sip_log.specs.Log.{most_entries};
+    ghost use Rattle.sip_standard.specs.LogSays.{most_entries};
 
     ghost view = { λ p. record { stage = stage_of p.stage; held = held_at p.stage; format = p.format; times = p.params; count = p.count; last = p.last } };
 

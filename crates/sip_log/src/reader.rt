@@ -1,6 +1,6 @@
 //! Reads a log, entry by entry.
 ghost use Rattle.std.specs.Prelude.{◌≡◌, None};
-ghost use Rattle.sip_log.specs.declared.format.Format.TheVariants.{One};
+ghost use Rattle.sip_standard.specs.declared.format.Format.TheVariants.{One};
 ghost use Rattle.sip_log.specs.Reading.{fresh, ReaderState, beside_source, Nexts};
 
 use crate::entry::Entry;

@@ -47,7 +47,7 @@ pub struct ToWrite<W> {
 }
 
 impl<W: Write> ToWrite<W> {
-    /// A sink that writes behind what the writer holds.
+    /// A sink that writes after what the writer holds.
     pub fn new(writer: W) -> ToWrite<W>
         ensures written { ⟦<ToWrite<W> as Sink>⟧.written result ≡ W.contents writer }
         ensures fine { ⟦<ToWrite<W> as Sink>⟧.has_failed result ≡ false }

@@ -2,7 +2,7 @@
 ghost use Rattle.std.specs.Prelude.{◌≡◌, ◌≢◌, ℕ, Bool, true, false, if◌then◌else◌, List, [], Option, Some, OnOk, OnErr, is_some};
 ghost use Rattle.std.specs.Option.{ForSome};
 ghost use Rattle.std.specs.declared.io.ErrorKind.TheVariants.{Interrupted};
-ghost use Rattle.sip_log.specs.Source.{Fills};
+ghost use Rattle.sip_standard.specs.Source.{Fills};
 
 use crate::broken::Broken;
 use std::io::{ErrorKind, Read};

@@ -1,7 +1,8 @@
 //! Reads a log whole.
 ghost use Rattle.std.specs.Prelude.{◌≡◌, ◌++◌, ◌∷◌, [], List, map, IfOk, IfErr, IfSome, OnOk};
-ghost use Rattle.sip_times.specs.Times.{Times};
-ghost use Rattle.sip_log.specs.Log.{IsFaultOf, IsLog, Clean};
+ghost use Rattle.sip_standard.specs.Times.{Times};
+ghost use Rattle.sip_log.specs.Log.{IsFaultOf};
+ghost use Rattle.sip_standard.specs.LogSays.{LogSays, Clean};
 ghost use Rattle.sip_log.specs.Told.{FailsAs, item};
 
 use crate::entry::Entry;
@@ -14,7 +15,7 @@ use std::alloc::{AllocError, Global};
 ///
 /// `LogError::Io` is answered only if the source has failed, and `LogError::Failed` never.
 pub fn read_entries<R: Source>(alloc: Global, source: &mut R) -> Result<Vec<Entry>, LogError>
-    ensures log { IfOk result (λ entries. IfSome (R.left source.old) (λ input. (p : Times) × IsLog input p (map item entries.items) Clean)) }
+    ensures log { IfOk result (λ entries. IfSome (R.left source.old) (λ input. (p : Times) × LogSays input p (map item entries.items) Clean)) }
     ensures fine { OnOk result (R.has_failed source.new ≡ R.has_failed source.old) }
     ensures err { IfErr result (FailsAs (R.has_failed source.old) (R.has_failed source.new)
         (λ fault. IfSome (R.left source.old) (λ input. IsFaultOf input fault))) }
@@ -30,7 +31,7 @@ pub fn read_entries<R: Source>(alloc: Global, source: &mut R) -> Result<Vec<Entr
     }
 }
 
-/// Keeps an entry behind the others.
+/// Keeps an entry after the others.
 fn keep(entries: &mut Vec<Entry>, entry: Entry) -> Result<(), AllocError>
     ensures { OnOk result (entries.new.items ≡ entries.old.items ++ entry ∷ []) }
 {

@@ -2,7 +2,7 @@
 ghost use Rattle.std.specs.Prelude.{◌≡◌, ◌+◌, ◌<◌, ◌≤◌, ◌⊎◌, ℕ, true, false, None, [], length, take, drop, IfOk, IfSome, OnOk, OnErr, vec_len};
 ghost use Rattle.std.specs.Io.KnownBytes.{IsAtEnd};
 ghost use Rattle.memchr.specs.Find.{IsFirstByte, is_byte};
-ghost use Rattle.sip_log.specs.Spelling.{line_feed};
+ghost use Rattle.sip_standard.specs.LogSays.{line_feed};
 ghost use Rattle.sip_log.specs.inner.Reads.{Reads};
 
 use crate::broken::Broken;
@@ -58,7 +58,7 @@ impl Window {
         self.start += count;
     }
 
-    /// Makes all of the room stand behind what is held.
+    /// Makes all of the room stand after what is held.
     fn move_to_front(&mut self)
         ensures items { items self.new ≡ items self.old }
         ensures front { self.new.end ≡ length (items self.new) }
@@ -69,7 +69,7 @@ impl Window {
         self.end = end - start;
     }
 
-    /// Reads once into the room behind what is held, and answers how many bytes came.
+    /// Reads once into the room after what is held, and answers how many bytes came.
     fn read_from<R: Source>(&mut self, source: &mut R) -> Result<usize, Broken>
         ensures reads { OnOk result (Reads (items self.old) (items self.new) (R.left source.old) (R.left source.new)
             (R.has_failed source.old) (R.has_failed source.new)) }

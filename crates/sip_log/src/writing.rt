@@ -1,10 +1,12 @@
 //! Writes a log: its header, and then its entries.
 ghost use Rattle.std.specs.Prelude.{◌≡◌, ◌++◌, ◌∷◌, [], ℕ, List, length, decimal, codes, true, OnOk, OnErr};
 ghost use Rattle.std.specs.Io.KnownBytes.{Appends};
-ghost use Rattle.sip_log.specs.Spelling.{timers_text, header_text, written_rules, entry_text, line_text, length_text, body_text, letter, line_feed};
-ghost use Rattle.sip_log.specs.declared.format.Format.TheVariants.{One, Two};
-ghost use Rattle.sip_log.specs.Log.{IsWithinLimits};
-ghost use Rattle.sip_log.specs.Writing.{Puts, Writes, WritesWithin};
+ghost use Rattle.sip_standard.specs.LogHeader.{timers_text};
+ghost use Rattle.sip_log.specs.Writing.{header_text, written_rules, Puts, Writes, WritesWithin};
+ghost use Rattle.sip_standard.specs.LogEntry.{entry_says, body_says, IsWithinLimits};
+ghost use Rattle.sip_log.specs.inner.Spelling.{line_text, length_text, letter};
+ghost use Rattle.sip_standard.specs.LogSays.{line_feed};
+ghost use Rattle.sip_standard.specs.declared.format.Format.TheVariants.{One, Two};
 
 use crate::broken::Broken;
 use crate::line::{is_within_limits, letter_of};
@@ -91,7 +93,7 @@ pub fn write_entry<W: Sink>(
 ) -> Result<(), WriteError>
     ensures { WritesWithin (IsWithinLimits action moment (length bytes.now)) writer.old writer.new
         (Writes (W.written writer.old) (W.written writer.new) (W.has_failed writer.old) (W.has_failed writer.new)
-        (entry_text (record { action = action; moment = moment; text = bytes.now })) result) result }
+        (entry_says (record { action = action; moment = moment; text = bytes.now })) result) result }
 {
     if !is_within_limits(action, moment, bytes.len() as u64) {
         return Err(WriteError::Limit);
@@ -109,7 +111,7 @@ pub fn put_entry<W: Sink>(
     bytes: &[u8],
 ) -> Result<(), Broken>
     ensures { Puts (W.written writer.old) (W.written writer.new) (W.has_failed writer.old) (W.has_failed writer.new)
-        (entry_text (record { action = action; moment = moment; text = bytes.now })) result }
+        (entry_says (record { action = action; moment = moment; text = bytes.now })) result }
 {
     put_line(writer, action, moment, bytes.len() as u64)?;
     put_body(writer, action, bytes)
@@ -126,7 +128,7 @@ fn put_line<W: Sink>(writer: &mut W, action: Action, moment: u64, len: u64) -> R
     writer.put(b"\n")
 }
 
-/// Writes the length of a message behind the moment; nothing where there is none.
+/// Writes the length of a message after the moment; nothing where there is none.
 fn put_length<W: Sink>(writer: &mut W, action: Action, len: u64) -> Result<(), Broken>
     ensures { Puts (W.written writer.old) (W.written writer.new) (W.has_failed writer.old) (W.has_failed writer.new)
         (length_text action len) result }
@@ -140,7 +142,7 @@ fn put_length<W: Sink>(writer: &mut W, action: Action, len: u64) -> Result<(), B
 /// Writes a message and its line feed; nothing where there is none.
 fn put_body<W: Sink>(writer: &mut W, action: Action, bytes: &[u8]) -> Result<(), Broken>
     ensures { Puts (W.written writer.old) (W.written writer.new) (W.has_failed writer.old) (W.has_failed writer.new)
-        (body_text action bytes.now) result }
+        (body_says action bytes.now) result }
 {
     match action {
         Action::Sent | Action::Received | Action::Failed => {
@@ -151,7 +153,7 @@ fn put_body<W: Sink>(writer: &mut W, action: Action, bytes: &[u8]) -> Result<(),
     }
 }
 
-/// Writes a name and the number behind it.
+/// Writes a name and the number after it.
 fn put_named<W: Sink>(writer: &mut W, name: &[u8], number: u64) -> Result<(), Broken>
     ensures { Puts (W.written writer.old) (W.written writer.new) (W.has_failed writer.old) (W.has_failed writer.new)
         (name.now ++ decimal number) result }

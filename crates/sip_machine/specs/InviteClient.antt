@@ -5,8 +5,8 @@ use Rattle.sip_machine.specs.declared.event.Kind.{Kind}
 use Rattle.sip_machine.specs.declared.event.Kind.TheVariants.{Request, Response}
 use Rattle.sip_machine.specs.declared.invite_client.InviteClientPhase.{InviteClientPhase as CodePhase}
 use Rattle.sip_machine.specs.declared.invite_client.InviteClientPhase.TheVariants as code
-use Rattle.sip_machine.specs.Times.{Times, last_moment}
-use Rattle.sip_machine.specs.Limits.{open_at, close_at, window_at}
+use Rattle.sip_standard.specs.Times.{Times, last_moment}
+use Rattle.sip_standard.specs.Window.{open_at, close_at, window_at}
 use Rattle.sip_machine.specs.Texts.{Texts, text_of}
 use Rattle.sip_machine.specs.MachineEvent.{MachineEvent}
 use Rattle.sip_machine.specs.Retransmits.{Retransmits}
@@ -55,7 +55,7 @@ Sends p (Calling w) (Request Invite) e y =
 -- 9.1: the first CANCEL starts the wait to give up
 Sends p (Proceeding reliable request None) (Request Cancel) e y = y ≡ (Proceeding reliable request (Some e.moment), keeps)
 Sends p (Proceeding reliable request (Some first)) (Request Cancel) e y = y ≡ (Proceeding reliable request (Some first), keeps)
--- 9.1: behind a final response a CANCEL has no effect
+-- 9.1: after a final response a CANCEL has no effect
 Sends p (Accepted set) (Request Cancel) e y = y ≡ (Accepted set, keeps)
 Sends p (Completed reliable request set) (Request Cancel) e y = y ≡ (Completed reliable request set, keeps)
 Sends p Ended (Request Cancel) e y = y ≡ (Ended, keeps)

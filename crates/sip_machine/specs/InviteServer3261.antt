@@ -5,7 +5,7 @@ use Rattle.sip_machine.specs.declared.event.Kind.TheVariants.{Request, Response}
 use Rattle.sip_machine.specs.declared.invite_server_3261.InviteServer3261Phase.{InviteServer3261Phase as CodePhase}
 use Rattle.sip_machine.specs.declared.invite_server_3261.InviteServer3261Phase.TheVariants as code
 use Rattle.sip_machine.specs.declared.invite_server.InviteServerPhase.TheVariants as code_phase
-use Rattle.sip_machine.specs.Times.{Times}
+use Rattle.sip_standard.specs.Times.{Times}
 use Rattle.sip_machine.specs.Texts.{Texts}
 use Rattle.sip_machine.specs.MachineEvent.{MachineEvent}
 use Rattle.sip_machine.specs.Message.{IsSuccess}
@@ -17,9 +17,9 @@ use Rattle.sip_machine.specs.Transaction.{Coded}
 pub mod Laws
 
 -- The INVITE server transaction of RFC 3261 section 17.2.1 and its figure 7, without RFC 6026: a 2xx is the last that it does, and the INVITE, when it
--- comes again behind one, begins it anew.
+-- comes again after one, begins it anew.
 
--- its phases: those of InviteServer, of which it never enters accepted, and whether the INVITE came again behind a 2xx; and the one behind a 2xx
+-- its phases: those of InviteServer, of which it never enters accepted, and whether the INVITE came again after a 2xx; and the one after a 2xx
 pub data InviteServer3261Phase : Type 0 where
   Passed : InviteServer3261Phase
   In : InviteServerPhase → (again : Bool) → InviteServer3261Phase
@@ -28,7 +28,7 @@ pub data InviteServer3261Phase : Type 0 where
 abbrev pub Within : (InviteServerPhase × Change → Type 0) → Bool → InviteServer3261Phase × Change → Type 0
 Within Row again y = (after : InviteServerPhase × Change) × Row after × (y ≡ (In after.0 again, after.1))
 
--- the rows of a received request: those of InviteServer, and an INVITE behind a 2xx begins anew
+-- the rows of a received request: those of InviteServer, and an INVITE after a 2xx begins anew
 abbrev pub Receives : Times → InviteServer3261Phase → Kind → MachineEvent → InviteServer3261Phase × Change → Type 0
 Receives p Passed (Request Invite) e y = y ≡ (In (Proceeding e.reliable e.moment None) true, keeps)
 Receives p Passed k e y = ⊥
@@ -60,7 +60,7 @@ abbrev pub Stays : InviteServer3261Phase → Kind → Type 0
 Stays (In x again) (Response code) = (again ≡ true) × (remembers x ≡ true) × IsSuccess code
 Stays x k = ⊥
 
--- the timers of a phase: those of InviteServer, and none behind a 2xx
+-- the timers of a phase: those of InviteServer, and none after a 2xx
 abbrev pub timer_window : Times → InviteServer3261Phase → Option (ℕ × Option ℕ)
 timer_window p Passed = None
 timer_window p (In x again) = corrected.timer_window p x
@@ -91,7 +91,7 @@ abbrev pub InviteServer3261InRange : CodePhase → Type 0
 InviteServer3261InRange code.Passed = ⊤
 InviteServer3261InRange (code.In phase again) = InviteServerInRange phase
 
--- a phase in words, as a listing tells it: whether the INVITE came again stands behind the rest, where it matters
+-- a phase in words, as a listing tells it: whether the INVITE came again stands after the rest, where it matters
 abbrev pub invite_server_3261_told : InviteServer3261Phase → Told (List ℕ)
 invite_server_3261_told Passed = record { name = codes "passed"; fields = [] }
 invite_server_3261_told (In x again) =

@@ -1,4 +1,3 @@
-pub use Rattle.sip_times.specs.Times
 pub use Rattle.sip_times.specs.Limits
 pub mod Texts
 pub mod Told

@@ -1,5 +1,5 @@
 use Rattle.std.specs.Prelude.{◌≤◌, ℕ, List, codes, bytes_eq, if◌then◌else◌}
-use Rattle.sip_message.specs.StartLine.{StartLine, request, status}
+use Rattle.sip_standard.specs.StartLine.{StartLine, request, status}
 use Rattle.sip_machine.specs.declared.event.Method.{Method}
 use Rattle.sip_machine.specs.declared.event.Method.TheVariants.{Invite, Ack, Cancel, Other}
 use Rattle.sip_machine.specs.declared.event.Kind.{Kind}

@@ -1,5 +1,5 @@
 use Rattle.std.specs.Prelude.{ℕ, Bool}
-use Rattle.sip_times.specs.declared.action.Action.{Action}
+use Rattle.sip_standard.specs.declared.action.Action.{Action}
 use Rattle.sip_machine.specs.declared.event.Kind.{Kind}
 
 -- an event of the code, whose message is a number of a book

@@ -3,8 +3,8 @@ use Rattle.sip_machine.specs.declared.event.Kind.{Kind}
 use Rattle.sip_machine.specs.declared.event.Kind.TheVariants.{Request, Response}
 use Rattle.sip_machine.specs.declared.plain_client.PlainClientPhase.{PlainClientPhase as CodePhase}
 use Rattle.sip_machine.specs.declared.plain_client.PlainClientPhase.TheVariants as code
-use Rattle.sip_machine.specs.Times.{Times, last_moment}
-use Rattle.sip_machine.specs.Limits.{close_at, window_at}
+use Rattle.sip_standard.specs.Times.{Times, last_moment}
+use Rattle.sip_standard.specs.Window.{close_at, window_at}
 use Rattle.sip_machine.specs.Texts.{Texts}
 use Rattle.sip_machine.specs.MachineEvent.{MachineEvent}
 use Rattle.sip_machine.specs.Retransmits.{Retransmits}
@@ -40,8 +40,7 @@ Sends p (Proceeding w) (Request method) e y =
     Retransmits p w.reliable w.request w.set w.interval e × (y ≡ (Proceeding (record w { set = e.moment; interval = p.t2 }), keeps))
 Sends p x k e y = ⊥
 
--- when the timers of a phase let it end, section 17.1.2.2: timer F, 64*T1 from the first request on; timer K, T4 over an unreliable transport, 0 over
--- a reliable one
+-- when the timers of a phase let it end (section 17.1.2.2): timer F, 64*T1 from the first request on; timer K, T4, or 0 over a reliable transport
 abbrev pub timer_window : Times → PlainClientPhase → Option (ℕ × Option ℕ)
 timer_window p (Trying w) = window_at p w.start (64 * p.t1)
 timer_window p (Proceeding w) = window_at p w.start (64 * p.t1)

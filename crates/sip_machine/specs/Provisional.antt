@@ -1,7 +1,7 @@
 use Rattle.std.specs.Prelude.{◌≡◌, ℕ, List}
-use Rattle.sip_message.specs.StartLine.{status}
-use Rattle.sip_message.specs.Outcome.{gives}
-use Rattle.sip_message.specs.Says.{Said, Says}
+use Rattle.sip_standard.specs.StartLine.{status}
+use Rattle.sip_standard.specs.Outcome.{gives}
+use Rattle.sip_standard.specs.Says.{Said, Says}
 
 -- the bytes say a 100 (Trying), RFC 3261 section 21.1.1, which a server may send and need not; bytes that say no message are none
 pub record Is100 (bytes : List ℕ) : Type 0 where

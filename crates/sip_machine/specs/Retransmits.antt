@@ -1,6 +1,6 @@
 use Rattle.std.specs.Prelude.{◌≡◌, ◌≤◌, ℕ, Bool, false, List}
-use Rattle.sip_machine.specs.Times.{Times}
-use Rattle.sip_machine.specs.Limits.{open_at}
+use Rattle.sip_standard.specs.Times.{Times}
+use Rattle.sip_standard.specs.Window.{open_at}
 use Rattle.sip_machine.specs.MachineEvent.{MachineEvent}
 
 -- e is the message again, byte for byte, as its timer fires, which was set at this moment for this interval and runs over an unreliable

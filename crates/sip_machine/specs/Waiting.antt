@@ -1,7 +1,7 @@
 use Rattle.std.specs.Prelude.{◌≤◌, ◌<◌, ◌^◌, ℕ, Bool, Some, List, [], ◌∷◌, codes, if◌then◌else◌}
 use Rattle.sip_machine.specs.declared.waiting.Waiting.{Waiting as CodeWaiting}
-use Rattle.sip_machine.specs.Times.{Times, last_moment}
-use Rattle.sip_machine.specs.Limits.{close_at}
+use Rattle.sip_standard.specs.Times.{Times, last_moment}
+use Rattle.sip_standard.specs.Window.{close_at}
 use Rattle.sip_machine.specs.Texts.{Texts, text_of}
 use Rattle.sip_machine.specs.Told.{ToldField, Flag, Number, Message}
 

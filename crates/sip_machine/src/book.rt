@@ -135,7 +135,7 @@ impl Book {
     }
 
     /// Whether the message with this number has this To, from which the blanks were taken. It is read anew where
-    /// its To does not stand beside it. The To beside it is looked for at `near` first, which is left behind it: so
+    /// its To does not stand beside it. The To beside it is looked for at `near` first, which is left after it: so
     /// messages that are asked for in the order of their numbers cost a step each.
     pub(crate) fn has_to(
         &self,

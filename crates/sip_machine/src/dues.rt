@@ -51,7 +51,7 @@ impl Dues {
         }
     }
 
-    /// Puts a row that owes nothing behind the others. On an error all is as before.
+    /// Puts a row that owes nothing after the others. On an error all is as before.
     pub(crate) fn push(&mut self) -> Result<(), AllocError>
         ensures ok { OnOk result (self.new ≡ self.old ++ [] ∷ []) }
         ensures err { OnErr result (self.new ≡ self.old) }
@@ -64,7 +64,7 @@ impl Dues {
         Ok(())
     }
 
-    /// Puts a row that owes what this one does behind the others. On an error all is as before.
+    /// Puts a row that owes what this one does after the others. On an error all is as before.
     pub(crate) fn push_copy(&mut self, row: usize) -> Result<(), AllocError>
         requires { row < length self.old }
         ensures ok { OnOk result (self.new ≡ self.old ++ owed_in self.old row ∷ []) }
@@ -110,7 +110,7 @@ impl Dues {
         }
     }
 
-    /// Lets the row owe one more debt, behind its others. On an error all is as before.
+    /// Lets the row owe one more debt, after its others. On an error all is as before.
     pub(crate) fn gain(&mut self, alloc: Global, row: usize, debt: Debt) -> Result<(), AllocError>
         requires { row < length self.old }
         ensures ok { OnOk result (self.new ≡ set self.old row (owed_in self.old row ++ debt ∷ [])) }
@@ -225,7 +225,7 @@ impl Dues {
         }
     }
 
-    /// Puts the number of each message that the row owes behind the others, once for each debt. On an error they are as before.
+    /// Puts the number of each message that the row owes after the others, once for each debt. On an error they are as before.
     pub(crate) fn names(
         &self,
         alloc: Global,

@@ -1,7 +1,7 @@
 //! What an event does to a state, and how it is done to what the state owes.
 ghost use Rattle.std.specs.Prelude.{◌≡◌, ◌<◌, ◌≤◌, ◌++◌, OnOk, OnErr, drop, length, map, set, filter, take};
 ghost use Rattle.sip_ledger.specs.Debts.{counts_at};
-ghost use Rattle.sip_machine.specs.Times.{last_moment};
+ghost use Rattle.sip_standard.specs.Times.{last_moment};
 ghost use Rattle.sip_machine.specs.Owes.{owed_in};
 ghost use Rattle.sip_machine.specs.Owing.{changed_debts};
 ghost use Rattle.sip_machine.specs.inner.Effects.{rested_debts};

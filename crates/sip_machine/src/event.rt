@@ -1,11 +1,11 @@
 //! What happened at a moment: a message that was sent, received, or refused by the transport.
 ghost use Rattle.std.specs.Prelude.{◌≡◌, ◌≢◌, ◌≤◌, ◌↔◌, IsTrue, false};
-ghost use Rattle.sip_message.specs.Transport.{is_reliable};
+ghost use Rattle.sip_standard.specs.Transport.{is_reliable};
 ghost use Rattle.sip_message.specs.ValueParts.{start_parts};
-ghost use Rattle.sip_times.specs.declared.action.Action.TheVariants.{Mark, Restart};
+ghost use Rattle.sip_standard.specs.declared.action.Action.TheVariants.{Mark, Restart};
 ghost use Rattle.sip_machine.specs.declared.event.Kind.TheVariants.{Request};
 ghost use Rattle.sip_machine.specs.declared.event.Method.TheVariants.{Other};
-ghost use Rattle.sip_machine.specs.Times.{last_moment};
+ghost use Rattle.sip_standard.specs.Times.{last_moment};
 ghost use Rattle.sip_machine.specs.Message.{method_named, kind_of, IsProvisional, IsFinal, IsSuccess, IsUnsuccessful};
 
 use sip_message::{Message, StartLine};
@@ -98,8 +98,8 @@ pub struct Event {
 
 impl Model for Event {
     ghost use Rattle.std.specs.Prelude.{◌≢◌, ◌≤◌};
-    ghost use Rattle.sip_times.specs.declared.action.Action.TheVariants.{Mark};
-    ghost use Rattle.sip_machine.specs.Times.{last_moment};
+    ghost use Rattle.sip_standard.specs.declared.action.Action.TheVariants.{Mark};
+    ghost use Rattle.sip_standard.specs.Times.{last_moment};
     ghost use Rattle.sip_machine.specs.NumberedEvent.{NumberedEvent};
 
     ghost Value = { NumberedEvent };

@@ -61,7 +61,7 @@ pub struct InviteClient {
 }
 
 impl Model for InviteClient {
-    ghost use Rattle.sip_machine.specs.Times.{Times};
+    ghost use Rattle.sip_standard.specs.Times.{Times};
 
     ghost Value = { Times };
 

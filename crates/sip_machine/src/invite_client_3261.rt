@@ -22,7 +22,7 @@ pub struct InviteClient3261 {
 }
 
 impl Model for InviteClient3261 {
-    ghost use Rattle.sip_machine.specs.Times.{Times};
+    ghost use Rattle.sip_standard.specs.Times.{Times};
 
     ghost Value = { Times };
 

@@ -4,7 +4,7 @@ ghost use Rattle.std.specs.Option.{option_map};
 ghost use Rattle.sip_machine.specs.declared.event.Kind.TheVariants.{Response};
 ghost use Rattle.sip_machine.specs.declared.invite_server.InviteServerPhase.TheVariants.{Idle};
 ghost use Rattle.sip_machine.specs.declared.invite_server_3261.InviteServer3261Phase.TheVariants.{In};
-ghost use Rattle.sip_machine.specs.Times.{Times, last_moment};
+ghost use Rattle.sip_standard.specs.Times.{Times, last_moment};
 ghost use Rattle.sip_machine.specs.Texts.{Texts};
 ghost use Rattle.sip_machine.specs.MachineEvent.{MachineEvent, event_in};
 ghost use Rattle.sip_machine.specs.Message.{IsSuccess};
@@ -34,7 +34,7 @@ pub enum InviteServer3261Phase {
     In {
         /// Never accepted.
         phase: InviteServerPhase,
-        /// Whether the INVITE came again behind a 2xx.
+        /// Whether the INVITE came again after a 2xx.
         again: bool,
     },
 }
@@ -52,7 +52,7 @@ pub struct InviteServer3261 {
 }
 
 impl Model for InviteServer3261 {
-    ghost use Rattle.sip_machine.specs.Times.{Times};
+    ghost use Rattle.sip_standard.specs.Times.{Times};
 
     ghost Value = { Times };
 
@@ -245,7 +245,7 @@ fn idle() -> InviteServer3261Phase
     }
 }
 
-/// Where a received message leads behind a 2xx: the INVITE begins the transaction anew.
+/// Where a received message leads after a 2xx: the INVITE begins the transaction anew.
 fn invited_again(event: &Event) -> Option<Turn<InviteServer3261Phase>>
     requires { event.now.moment ≤ last_moment }
     ensures { (p : Times) (texts : Texts) → AnswersOne (turn_names invite_server_3261_names) (TurnInRange InviteServer3261InRange) (turn_seen invite_server_3261_seen) texts
@@ -267,7 +267,7 @@ fn invited_again(event: &Event) -> Option<Turn<InviteServer3261Phase>>
     })
 }
 
-/// Where a 2xx that is sent leads: behind one, or as the final response.
+/// Where a 2xx that is sent leads: after one, or as the final response.
 fn succeeds(phase: &InviteServer3261Phase) -> Option<Turn<InviteServer3261Phase>>
     ensures { (p : Times) (texts : Texts) (code : ℕ) (e : MachineEvent) → IsSuccess code →
         AnswersOne (turn_names invite_server_3261_names) (TurnInRange InviteServer3261InRange) (turn_seen invite_server_3261_seen) texts

@@ -55,7 +55,7 @@ pub trait Machine: Drop {
     fn ended(&self) -> Self::Phase
         ensures { at_rest result ≡ ended self.now };
 
-    /// Puts each state behind the others, once, that the event gives from the one at the index. On an error all is as before.
+    /// Puts each state after the others, once, that the event gives from the one at the index. On an error all is as before.
     fn successors(
         &self,
         book: &Book,
@@ -72,8 +72,8 @@ pub trait Machine: Drop {
             ((rules self.now).Take (seen book.now x) (event_in book.now event.now)) added)) pool.old at }
         ensures err { OnErr result (pool.new ≡ pool.old) };
 
-    /// Puts behind the others the states that the event gives from the first ones, as many; some may be found more than once. On an
-    /// error some may have been put behind the others.
+    /// Puts after the others the states that the event gives from the first ones, as many; some may be found more than once. On an
+    /// error some may have been put after the others.
     fn successors_each(
         &self,
         book: &Book,

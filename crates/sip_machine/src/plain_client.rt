@@ -42,7 +42,7 @@ pub struct PlainClient {
 }
 
 impl Model for PlainClient {
-    ghost use Rattle.sip_machine.specs.Times.{Times};
+    ghost use Rattle.sip_standard.specs.Times.{Times};
 
     ghost Value = { Times };
 

@@ -3,7 +3,7 @@ ghost use Rattle.std.specs.Prelude.{◌≡◌, ◌≢◌, ◌↔◌, ◌<◌, �
 ghost use Rattle.std.specs.List.{Any, HoldsAt};
 ghost use Rattle.std.specs.Option.{option_map};
 ghost use Rattle.sip_ledger.specs.Runs.{AreRuns};
-ghost use Rattle.sip_machine.specs.Times.{last_moment};
+ghost use Rattle.sip_standard.specs.Times.{last_moment};
 ghost use Rattle.sip_machine.specs.Owing.{CodeOwing, at_rest};
 ghost use Rattle.sip_machine.specs.Pools.{AreFirstOnes, picked};
 ghost use Rattle.sip_machine.specs.Prints.{ArePrints};
@@ -106,7 +106,7 @@ impl<P: Phase> Pool<P> {
         phase == other_phase && self.dues.same(at, other)
     }
 
-    /// Puts a state behind the others that owes nothing. On an error all is as before.
+    /// Puts a state after the others that owes nothing. On an error all is as before.
     pub fn push(&mut self, phase: P) -> Result<(), AllocError>
         ensures ok { OnOk result (self.new ≡ self.old ++ at_rest phase ∷ []) }
         ensures err { OnErr result (self.new ≡ self.old) }
@@ -117,7 +117,7 @@ impl<P: Phase> Pool<P> {
         Ok(())
     }
 
-    /// Puts a copy of the state at the index behind the others. On an error all is as before.
+    /// Puts a copy of the state at the index after the others. On an error all is as before.
     fn push_copy(&mut self, at: usize) -> Result<(), AllocError>
         requires { at < length self.old }
         ensures ok { HoldsAt (λ x. OnOk result (self.new ≡ self.old ++ x ∷ [])) self.old at }
@@ -333,7 +333,7 @@ impl<P: Phase> Pool<P> {
         come_to_rest(moment, rest, &mut self.dues, at);
     }
 
-    /// Puts the states behind the others that the effect of an event gives from the one at the index. On an error all is as before.
+    /// Puts the states after the others that the effect of an event gives from the one at the index. On an error all is as before.
     pub(crate) fn push_given(
         &mut self,
         params: &Params,
@@ -355,7 +355,7 @@ impl<P: Phase> Pool<P> {
         Ok(())
     }
 
-    /// Puts a copy of the state at the index behind the others that goes where the row leads, if there is one. On an error
+    /// Puts a copy of the state at the index after the others that goes where the row leads, if there is one. On an error
     /// all is as before.
     fn push_led(
         &mut self,
@@ -381,7 +381,7 @@ impl<P: Phase> Pool<P> {
         Ok(())
     }
 
-    /// Puts a copy of the state at the index behind the others that comes to rest, if it does. On an error all is as before.
+    /// Puts a copy of the state at the index after the others that comes to rest, if it does. On an error all is as before.
     pub(crate) fn push_rested(
         &mut self,
         moment: u64,
@@ -415,7 +415,7 @@ fn keep_phases<P: Phase>(phases: &mut Vec<P>, rows: &[usize])
     phases.truncate(rows.len());
 }
 
-/// The first index, where each is the one behind the index before it.
+/// The first index, where each is the one after the index before it.
 fn run_of(rows: &[usize]) -> Option<usize>
     requires { AllPairs (λ a b. a < b) rows.now }
     ensures { IfSome result (λ first. IsRun first rows.now) }

@@ -1,6 +1,6 @@
 //! A message that is sent again as its timer fires (RFC 3261 sections 17.1.1.2, 17.1.2.2 and 17.2.1).
 ghost use Rattle.std.specs.Prelude.{◌≤◌, ◌<◌, ◌^◌, ◌↔◌, IsTrue};
-ghost use Rattle.sip_machine.specs.Times.{last_moment};
+ghost use Rattle.sip_standard.specs.Times.{last_moment};
 ghost use Rattle.sip_machine.specs.Texts.{Keeps, text_of};
 ghost use Rattle.sip_machine.specs.MachineEvent.{KeepsMessage, event_in};
 ghost use Rattle.sip_machine.specs.Retransmits.{Retransmits};

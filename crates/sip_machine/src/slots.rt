@@ -45,7 +45,7 @@ impl Slots {
         })
     }
 
-    /// Puts the print behind the others. On an error all is as before.
+    /// Puts the print after the others. On an error all is as before.
     pub(crate) fn push(&mut self, print: u64) -> Result<(), AllocError>
         ensures ok { OnOk result (self.new.prints ≡ self.old.prints ++ print ∷ []) }
         ensures err { OnErr result (self.new ≡ self.old) }

@@ -3,7 +3,7 @@ ghost use Rattle.std.specs.Prelude.{◌≡◌, ◌≤◌, ◌*◌, if◌then◌e
 
 use sip_times::Params;
 
-/// 64*T1: timers B, F, H, L and M, and the wait for a final response behind a CANCEL.
+/// 64*T1: timers B, F, H, L and M, and the wait for a final response after a CANCEL.
 pub(crate) fn timeout(params: &Params) -> u64
     ensures value { result ≡ 64 * params.now.t1 }
     ensures small { result ≤ 640000 }

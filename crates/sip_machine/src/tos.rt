@@ -65,7 +65,7 @@ impl Tos {
         }
     }
 
-    /// The To of the message with this number: at `near`, or wherever a search finds it. It is left behind it, so that
+    /// The To of the message with this number: at `near`, or wherever a search finds it. It is left after it, so that
     /// messages that are asked for in the order of their numbers cost a step each.
     pub(crate) fn get(&self, number: u32, near: &mut usize) -> Option<&Hashed>
         ensures { IfSome result (λ text. Contains self.now (record { number = number; text = text.now })) }
@@ -85,7 +85,7 @@ impl Tos {
         }
     }
 
-    /// Puts the To of a message behind the others. On an error they are as before.
+    /// Puts the To of a message after the others. On an error they are as before.
     pub(crate) fn push(&mut self, number: u32, text: Hashed) -> Result<(), AllocError>
         requires { All (λ to. to.number < number) self.old }
         ensures ok { OnOk result (self.new ≡ self.old ++ (record { number = number; text = text }) ∷ []) }

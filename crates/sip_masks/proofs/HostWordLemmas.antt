@@ -3,11 +3,11 @@ use Rattle.std.proofs.Common.{◌≡◌, ℕ, zero, suc, ◌+◌, ◌-◌, ◌/�
 use Rattle.std.specs.Char.{is_ascii_alphabetic}
 use Rattle.std.proofs.lemmas.Bool.{false≢true, eq-eqb}
 use Rattle.std.proofs.lemmas.List.{get_or-take, length-take-le}
+use Rattle.sip_standard.specs.Profile.{Hostname}
 use Rattle.sip_text.specs.Bytes.{dot, hyphen}
-use Rattle.sip_text.specs.Cut.{parts, up_to}
-use Rattle.sip_text.specs.Host.{Hostname}
+use Rattle.sip_text.specs.inner.Cut.{parts, up_to}
 use Rattle.sip_text.specs.inner.HostTests.{are_labels}
-use Rattle.sip_text.proofs.HostnameLemmas.{hostname-yes}
+use Rattle.sip_text.proofs.hosts.HostnameLemmas.{hostname-yes}
 use Rattle.sip_masks.specs.Bits.{test}
 use Rattle.sip_masks.specs.inner.Strange.{is_strange}
 use Rattle.sip_masks.proofs.BitLemmas.{shl, test-and, test-or, test-one_low, test-one_high, test-ones, test-shl_low, test-shl_one}

@@ -1,4 +1,4 @@
--- Words of 64 bits, one behind the other.
+-- Words of 64 bits, one after the other.
 use Rattle.std.proofs.Common.{◌≡◌, ℕ, ◌+◌, ◌-◌, ◌*◌, ◌/◌, ◌%◌, ◌^◌, ◌<◌, ◌≤◌, Bool, true, false, ◌||◌, ◌==◌, List, length, take, get_or, set, bit_or, refl, sym, ap, ap₂, ◌∙◌, subst, inl, inr, arith}
 use Rattle.std.proofs.lemmas.Bool.{cases_lt}
 use Rattle.std.proofs.lemmas.List.{get_or-set_same, get_or-set_other, get_or_past, get_or-take, length-set, length-take-le}
@@ -81,7 +81,7 @@ ones-past p text n i nul past below = test-ones i below ∙ sym (ap p (get_or_pa
 pub marks-front : (p : ℕ → Bool) (text words : List ℕ) (n : ℕ) → Marks p text words n → Marks p (take n text) words n
 marks-front p text words n marks i below = marks i below ∙ ap p (sym (get_or-take n text i 0 below))
 
--- two words of ones behind a front
+-- two words of ones after a front
 pub front-ends : (p : ℕ → Bool) (text words : List ℕ) (k : ℕ) → p 0 ≡ true → 64 * k ≤ length text → k + 1 < length words → Marks p text words (64 * k)
     → Marks p (take (64 * k) text) (set (set words k 18446744073709551615) (k + 1) 18446744073709551615) (64 * words_for (64 * k))
 front-ends p text words k nul within room marks i below =

@@ -1,6 +1,6 @@
 //! Names of hosts, by bit sets.
 ghost use Rattle.std.specs.Prelude.{IsTrue, take};
-ghost use Rattle.sip_text.specs.Host.{Hostname};
+ghost use Rattle.sip_standard.specs.Profile.{Hostname};
 
 use crate::block::{equal_to, strangers};
 use std::simd::prelude::*;

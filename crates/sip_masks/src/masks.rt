@@ -27,7 +27,7 @@ impl<'t, 'm> Model for Masks<'t, 'm> {
     ghost invariant = { λ m. IsMasks m.text.now m.others.now m.controls.now };
 }
 
-// Marks the bytes of a front of the text, and two words' bytes past it as NUL. The front ends behind
+// Marks the bytes of a front of the text, and two words' bytes past it as NUL. The front ends after
 // the block in which an empty line ends, or else with the text.
 #[inline(never)]
 fn mark(text: &[u8], other: &mut [u64], control: &mut [u64]) -> usize

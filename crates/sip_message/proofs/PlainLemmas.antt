@@ -6,13 +6,16 @@ use Rattle.std.specs.List.{AllByRecursion, prefix_len}
 use Rattle.std.proofs.Math.Seq.{take-add}
 use Rattle.std.proofs.lemmas.Bool.{agree_below_at, and_parts, or_cases, cases_lt}
 use Rattle.std.proofs.lemmas.List.{drop-drop, append_assoc, append-nil, length-append, length-drop, length-take-le}
-use Rattle.sip_text.specs.Bytes.{at_sign, colon, equals, semicolon, space, is_one_of, is_mark, is_unreserved, is_user_unreserved}
-use Rattle.sip_text.specs.Text.{One, Byte, Exactly, ◌then◌, ◌or◌}
-use Rattle.sip_text.specs.Grammar.{Token, Sws, Blanks}
-use Rattle.sip_text.specs.Host.{HostParts, HostText, Hostname, Ipv4Address, Ipv6Reference, name, v4, v6, host_text}
-use Rattle.sip_text.specs.Uri.{User, Port, Escaped, SipParts, SipFits, sip, hostport_text, sip_text}
-use Rattle.sip_text.proofs.ManyLemmas.{many-nil, many-push}
-use Rattle.sip_text.proofs.UriCharLemmas.{some-map}
+use Rattle.sip_standard.specs.Text.{One, Exactly, ◌then◌, ◌or◌}
+use Rattle.sip_standard.specs.Chars.{is_among}
+use Rattle.sip_standard.specs.Profile.{Token, Sws, Blanks, Hostname, Ipv4, Bracketed, User, Port}
+use Rattle.sip_text.specs.Bytes.{at_sign, colon, equals, semicolon, space, is_one_of, Byte}
+use Rattle.sip_text.specs.Host.{HostParts, HostText, name, v4, v6, host_text}
+use Rattle.sip_text.specs.Uri.{SipParts, SipFits, sip, hostport_text, sip_text}
+use Rattle.sip_text.specs.inner.Class.{is_unreserved, is_user_unreserved}
+use Rattle.sip_text.specs.inner.Pieces.{Escaped}
+use Rattle.sip_text.proofs.texts.ManyLemmas.{many-nil, many-push}
+use Rattle.sip_text.proofs.uris.UriCharLemmas.{some-map}
 use Rattle.sip_masks.specs.Marks.{is_plain}
 use Rattle.sip_message.specs.Unfold.{OpensSolid}
 use Rattle.sip_message.specs.Params.{left_angle, right_angle, Mark, ParamsText, ParamsPart, BehindBlanks}
@@ -38,7 +41,7 @@ segment-none text at =
     let none : at - at ≡ 0 = omega arith in
     ap (λ n. take n (drop at text)) none
 
--- one part, and another behind it
+-- one part, and another after it
 pub then-stands : (P Q : List ℕ → Type 0) (text : List ℕ) (at end mid to : ℕ) → LiesWithin P text at end mid → LiesWithin Q text mid end to → LiesWithin (P then Q) text at end to
 then-stands P Q text at end mid to p q =
     (omega (arith, p.0, q.0), q.1, (segment at mid text, segment mid to text, p.2, q.2, segment-cut text at mid to p.0 q.0))
@@ -79,7 +82,7 @@ run-stands text at end n before within is some most =
 user-byte : (b : ℕ) → is_plain b ≡ true → (is_unreserved b || is_user_unreserved b) ≡ true
 user-byte b is =
     elim (or_cases (is_ascii_alphanumeric b) (is_one_of (codes "-.!*_+'~") b) is) [
-      | inl letter ↦ ap (λ x. (x || is_mark b) || is_user_unreserved b) letter
+      | inl letter ↦ ap (λ x. (x || is_among "-_.!~*'()" b) || is_user_unreserved b) letter
       | inr mark ↦
           (and_parts (is_unreserved b || is_user_unreserved b) (is_plain b) (agree_below_at (λ x. (is_unreserved x || is_user_unreserved x) && is_plain x) is_plain 256 b refl (low-one (codes "-.!*_+'~") b low mark) ∙ is)).0
     ]
@@ -89,12 +92,12 @@ user-byte b is =
 
 -- plain runs are users and tokens
 plain-user : (u : List ℕ) → PlainRun u → User u
-plain-user u run = some-map (One is_plain) (One is_unreserved or Escaped or One is_user_unreserved) u piece run
+plain-user u run = some-map (One is_plain) (One is_user_unreserved or One is_unreserved or Escaped) u piece run
   where
-    piece : (v : List ℕ) → One is_plain v → (One is_unreserved or Escaped or One is_user_unreserved) v
+    piece : (v : List ℕ) → One is_plain v → (One is_user_unreserved or One is_unreserved or Escaped) v
     piece v one = elim (or_cases (is_unreserved one.0) (is_user_unreserved one.0) (user-byte one.0 one.1)) [
-      | inl is ↦ inl (one.0, is, one.2)
-      | inr is ↦ inr (inr (one.0, is, one.2))
+      | inl is ↦ inr (inl (one.0, is, one.2))
+      | inr is ↦ inl (one.0, is, one.2)
     ]
 
 pub run-token : (u : List ℕ) → PlainRun u → Token u
@@ -103,8 +106,8 @@ run-token u run = some-map (One is_plain) _ u (λ v one. (one.0, plain-token one
 -- a host has its own text
 pub host-own : (u : List ℕ) (h : HostParts) → HostText u h → HostText (host_text h) h × (u ≡ host_text h)
 host-own u (name t) is = ((subst Hostname (sym is.1) is.0, refl), sym is.1)
-host-own u (v4 t) is = ((subst Ipv4Address (sym is.1) is.0, refl), sym is.1)
-host-own u (v6 t) is = ((subst Ipv6Reference (sym is.1) is.0, refl), sym is.1)
+host-own u (v4 t) is = ((subst Ipv4 (sym is.1) is.0, refl), sym is.1)
+host-own u (v6 t) is = ((subst Bracketed (sym is.1) is.0, refl), sym is.1)
 
 -- a host without a port, and with one
 pub hostport-none : (h : HostParts) (u : List ℕ) → HostText u h → HostPort u
@@ -153,7 +156,7 @@ words-more u w =
     let word : (Blanks then Token) w.1 = (w.3.0, w.3.1, subst Blanks (sym w.3.2) blanks-space, run-token w.3.1 w.3.3, w.3.4) in
     (w.2.0, w.2.1 ++ w.1, w.2.2, many-push _ w.2.1 w.1 w.2.3 word, w.4 ∙ ap (λ t. t ++ w.1) w.2.4 ∙ append_assoc w.2.0 w.2.1 w.1)
 
--- a segment is cut behind what stands at its front
+-- a segment is cut after what stands at its front
 pub front-cut : (text u rest : List ℕ) (at end : ℕ) → at ≤ end → end ≤ length text → segment at end text ≡ u ++ rest
     → (at + length u ≤ end) × (segment at (at + length u) text ≡ u) × (segment (at + length u) end text ≡ rest)
 front-cut text u rest at end before within is =

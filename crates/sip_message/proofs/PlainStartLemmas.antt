@@ -5,9 +5,10 @@ use Rattle.std.specs.List.{list_all}
 use Rattle.std.specs.Int.{is_in_range}
 use Rattle.std.proofs.lemmas.Bool.{agree_below_at, and_parts, and_from, cases_lt, le-leb}
 use Rattle.std.proofs.lemmas.List.{take-append-drop}
-use Rattle.sip_text.specs.Bytes.{space, tab}
-use Rattle.sip_text.specs.Text.{Byte, Exactly, ◌then◌}
-use Rattle.sip_message.specs.StartLine.{request, Version, is_reason_byte, StartText}
+use Rattle.sip_standard.specs.Text.{Exactly, ◌then◌}
+use Rattle.sip_text.specs.Bytes.{space, tab, Byte}
+use Rattle.sip_standard.specs.StartLine.{request}
+use Rattle.sip_message.specs.StartLine.{Version, is_reason_byte, StartText}
 use Rattle.sip_message.specs.inner.Plain.{segment, LiesWithin, PlainRun, SomeUri}
 use Rattle.sip_message.specs.inner.Quick.{is_open, IsOpen}
 use Rattle.sip_message.specs.inner.StartFronts.{CodeFront}

@@ -2,8 +2,8 @@
 use Rattle.std.proofs.Common.{◌≡◌, ◌⊎◌, ℕ, ◌++◌, List, [], refl, ap, ◌∙◌, inl, inr}
 use Rattle.std.specs.Prelude.{codes}
 use Rattle.std.proofs.lemmas.List.{append_assoc}
-use Rattle.sip_text.specs.Bytes.{at_sign}
-use Rattle.sip_text.specs.Text.{Byte, Exactly, ◌then◌}
+use Rattle.sip_standard.specs.Text.{Exactly, ◌then◌}
+use Rattle.sip_text.specs.Bytes.{at_sign, Byte}
 use Rattle.sip_message.specs.inner.Plain.{PlainRun, HostPort, SomeUri}
 use Rattle.sip_message.proofs.PlainLemmas.{uri-bare, uri-owned}
 

@@ -9,16 +9,19 @@ use Rattle.std.proofs.lemmas.Bool.{agree_below_at, and_parts, and_from, or_cases
 use Rattle.std.proofs.lemmas.Int.Digits.{digits_value_more}
 use Rattle.std.proofs.lemmas.List.{append-nil, take_all}
 use Rattle.std.proofs.lemmas.List.Folds.{list_all_more}
-use Rattle.sip_text.specs.Bytes.{at_sign, space, backslash, dquote, is_one_of, is_token_byte, is_quoted_byte}
-use Rattle.sip_text.specs.Text.{One, Byte, Exactly, Many, ◌then◌, ◌or◌}
-use Rattle.sip_text.specs.Grammar.{Token, Lws, Blanks, Qdtext, QuotedPair}
-use Rattle.sip_text.proofs.ManyLemmas.{many-append, many-flat, many-map, many-some}
-use Rattle.sip_text.proofs.RunLemmas.{list_all-run}
-use Rattle.sip_text.proofs.UriCharLemmas.{some-map}
-use Rattle.sip_text.proofs.UriPortLemmas.{digit-above}
+use Rattle.sip_standard.specs.Text.{One, Exactly, Many, ◌then◌, ◌or◌}
+use Rattle.sip_standard.specs.Profile.{Token, Lws, Blanks, Quoted}
+use Rattle.sip_text.specs.Bytes.{at_sign, space, backslash, dquote, is_one_of, is_token_byte, Byte}
+use Rattle.sip_text.specs.inner.Class.{is_quoted_byte}
+use Rattle.sip_text.specs.inner.Pieces.{Qdtext, QuotedPair}
+use Rattle.sip_text.proofs.texts.ManyLemmas.{many-append, many-flat, many-map, many-some}
+use Rattle.sip_text.proofs.texts.RunLemmas.{list_all-run}
+use Rattle.sip_text.proofs.uris.UriCharLemmas.{some-map}
+use Rattle.sip_text.proofs.uris.UriPortLemmas.{digit-above}
 use Rattle.sip_masks.specs.Marks.{is_plain}
-use Rattle.sip_message.specs.Values.{is_word_byte, CallIdText, Digits, Word, CSeqText}
-use Rattle.sip_message.specs.Params.{Quoted}
+use Rattle.sip_standard.specs.Values.{CallId}
+use Rattle.sip_message.specs.inner.Pieces.{is_word_byte, Word}
+use Rattle.sip_message.specs.Values.{Digits, CSeqText}
 use Rattle.sip_message.specs.inner.AddressFronts.{Words}
 use Rattle.sip_message.specs.inner.Plain.{segment, LiesWithin, PlainRun}
 use Rattle.sip_message.proofs.QuickLemmas.{low-one}
@@ -42,10 +45,10 @@ run-word : (u : List ℕ) → PlainRun u → Word u
 run-word u run = some-map (One is_plain) (One is_word_byte) u (λ v one. (one.0, word-byte one.0 one.1, one.2)) run
 
 -- a Call-ID of one run, and of two
-pub call_id-one : (u : List ℕ) → PlainRun u → CallIdText u
+pub call_id-one : (u : List ℕ) → PlainRun u → CallId u
 call_id-one u run = (u, [], run-word u run, inl refl, sym (append-nil u))
 
-pub call_id-two : (u : List ℕ) → (PlainRun then Byte at_sign then PlainRun) u → CallIdText u
+pub call_id-two : (u : List ℕ) → (PlainRun then Byte at_sign then PlainRun) u → CallId u
 call_id-two u w = (w.0, w.1, run-word w.0 w.2, inr (w.3.0, w.3.1, w.3.2, run-word w.3.1 w.3.3, w.3.4), w.4)
 
 -- a byte of a token is one of a quoted string

@@ -3,11 +3,10 @@ use Rattle.std.proofs.Common.{◌≡◌, ℕ, ◌≤◌, List, [], ◌∷◌, Op
 use Rattle.std.specs.Prelude.{IfSome}
 use Rattle.std.specs.Option.{option_or}
 use Rattle.std.proofs.lemmas.List.{append-nil}
-use Rattle.sip_text.specs.Bytes.{colon, space}
-use Rattle.sip_text.specs.Text.{Byte, Exactly, ◌then◌}
-use Rattle.sip_text.specs.Grammar.{Blanks}
+use Rattle.sip_standard.specs.Text.{Exactly, ◌then◌}
+use Rattle.sip_standard.specs.Profile.{Blanks, Port}
+use Rattle.sip_text.specs.Bytes.{colon, space, Byte}
 use Rattle.sip_text.specs.Host.{HostParts, HostText, host_text}
-use Rattle.sip_text.specs.Uri.{Port}
 use Rattle.sip_message.specs.Params.{slash, Mark, BehindBlanks}
 use Rattle.sip_message.specs.Via.{ViaParts, ViaFits, ViaText, ViaParams, ColonPort}
 use Rattle.sip_message.specs.Elements.{Element}
@@ -33,7 +32,7 @@ pub or-none : (b : Option (List ℕ)) → option_or b None ≡ b
 or-none None = refl
 or-none (Some v) = refl
 
--- a port behind its colon
+-- a port after its colon
 pub port-led : (text : List ℕ) (at end port to : ℕ) → LiesWithin (Byte colon) text at end port → LiesWithin Port text port end to
     → LiesWithin (λ u. ColonPort (Some (segment port to text)) u × IfSome (Some (segment port to text)) Port) text at end to
 port-led text at end port to mark is =

@@ -10,19 +10,21 @@ use Rattle.std.proofs.lemmas.List.{take-append-drop, drop-drop, append_assoc, ap
 use Rattle.std.proofs.lemmas.Nat.{le_bytes_8, or_of_8}
 use Rattle.std.proofs.lemmas.Slice.Eq.{bytes_eq-Decides}
 use Rattle.std.proofs.lemmas.Grind.{flat_map-append}
+use Rattle.sip_standard.specs.Text.{One, ◌or◌}
+use Rattle.sip_standard.specs.Case.{folded}
+use Rattle.sip_standard.specs.Profile.{Token, Lws}
 use Rattle.sip_text.specs.Bytes.{is_one_of, crlf, colon, carriage_return, line_feed, is_wsp, is_token_byte}
-use Rattle.sip_text.specs.Text.{One, ◌or◌}
-use Rattle.sip_text.specs.Grammar.{Token, Lws}
-use Rattle.sip_text.proofs.ManyLemmas.{AllByRecursion-append, many-nil, many-cons, many-map, some-many}
-use Rattle.sip_text.proofs.BlanksLemmas.{lws-blank}
-use Rattle.sip_text.proofs.RunLemmas.{run-front}
+use Rattle.sip_text.proofs.texts.ManyLemmas.{AllByRecursion-append, many-nil, many-cons, many-map, some-many}
+use Rattle.sip_text.proofs.strings.BlanksLemmas.{lws-blank}
+use Rattle.sip_text.proofs.texts.RunLemmas.{run-front}
 use Rattle.sip_masks.specs.Marks.{is_plain}
-use Rattle.sip_message.specs.Lines.{is_inner_byte, IsHead, BeginsBlank, with_end}
+use Rattle.sip_standard.specs.Lines.{CutSays, OpensBlank}
+use Rattle.sip_message.specs.Lines.{is_inner_byte, with_end}
 use Rattle.sip_message.specs.Values.{is_value_byte, OtherText}
-use Rattle.sip_text.specs.Case.{folded}
 use Rattle.sip_message.specs.declared.name.Known.{Known}
 use Rattle.sip_message.specs.Name.{FieldName, known, other, spellings, name_by, name_of}
-use Rattle.sip_message.specs.StartLine.{StartLine, request, status, StartText}
+use Rattle.sip_standard.specs.StartLine.{StartLine, request, status}
+use Rattle.sip_message.specs.StartLine.{StartText}
 use Rattle.sip_message.specs.Field.{Field, NameText, ValueText, FieldText, FieldsText}
 use Rattle.sip_message.specs.inner.Quick.{is_open, IsOpen, AreOrdinary, IsOrdinary}
 use Rattle.sip_message.specs.inner.Numbers.{small, filled, number_of}
@@ -148,7 +150,7 @@ plain-named text at n end is some less within mark =
       whole = (name, colon ∷ rest, refl, ([], colon ∷ rest, many-nil _, (colon ∷ [], rest, refl, refl, refl), refl), line-cut text at n end less within mark);
     }
 
--- what is left behind its colon has no controls
+-- what is left after its colon has no controls
 pub behind-open : (text : List ℕ) (at n end : ℕ) → at + n < end → end ≤ length text → get_or text (at + n) 0 ≡ colon → IsOpen (take (end - at) (drop at text))
     → IsOpen (take (end - (at + n + 1)) (drop (at + n + 1) text))
 behind-open text at n end less within mark clear =
@@ -163,18 +165,18 @@ value-open rest value clear valued =
     all_left is_open value w.3.1 (all_right is_open w.0 (value ++ w.3.1) (subst IsOpen whole clear))
 
 -- a field's line is not empty, and begins with no blank
-line-begins : (line : List ℕ) (f : Field) → FieldText line f → (line ≡ [] → ⊥) × (BeginsBlank line → ⊥)
+line-begins : (line : List ℕ) (f : Field) → FieldText line f → (line ≡ [] → ⊥) × (OpensBlank line → ⊥)
 line-begins line f is =
     let n = is.named in
     let whole = name_whole line is.rest f.name n in
-    (λ none. absurd (omega (arith, ap length (sym none ∙ whole), length-append n.spelled (n.whole.3.0 ++ colon ∷ is.rest), length-append n.whole.3.0 (colon ∷ is.rest))), λ begins. at n.spelled n.is_token _ (subst BeginsBlank whole begins))
+    (λ none. absurd (omega (arith, ap length (sym none ∙ whole), length-append n.spelled (n.whole.3.0 ++ colon ∷ is.rest), length-append n.whole.3.0 (colon ∷ is.rest))), λ begins. at n.spelled n.is_token _ (subst OpensBlank whole begins))
   where
-    at : (name : List ℕ) → Token name → (more : List ℕ) → BeginsBlank (name ++ more) → ⊥
+    at : (name : List ℕ) → Token name → (more : List ℕ) → OpensBlank (name ++ more) → ⊥
     at [] token more begins = absurd (omega (arith, length-append token.0 token.1, ap length token.4, ap length token.2.2))
     at (b ∷ name) token more begins = both_ways (is_token_byte b) (blank-token b (wsp-blank b begins)) (each-token (b ∷ name) token).0
 
 -- so are the lines of fields
-lines-begin : (lines : List (List ℕ)) (fields : List Field) → FieldsText lines fields → AllByRecursion IsOpen lines → AreInner lines × AllByRecursion (λ line. ¬ (BeginsBlank line)) lines
+lines-begin : (lines : List (List ℕ)) (fields : List Field) → FieldsText lines fields → AllByRecursion IsOpen lines → AreInner lines × AllByRecursion (λ line. ¬ (OpensBlank line)) lines
 lines-begin [] fields are clear = (tt, tt)
 lines-begin (line ∷ lines) fields (f, fs, is, are, whole) clear =
     let begins = line-begins line f is in
@@ -216,7 +218,7 @@ so_far-more text from at end fields f so room clear is field =
       are = fields-push so.lines fields line f so.are field;
     }
 
--- behind them the empty line
+-- after them the empty line
 pub so_far-all : (text : List ℕ) (from at end : ℕ) (fields : List Field) → LinesSoFar text from at fields → end ≡ at → end + 2 ≤ length text
     → drop at text ≡ with_end (take (end - at) (drop at text)) ++ drop (end + 2) text → AreOrdinary text from at fields
 so_far-all text from at end fields so empty room is =
@@ -252,7 +254,7 @@ ordinary-head bytes text more rest start fields end at bytes_is clear is is_star
       head = with_end first ++ ls;
       first = first;
       others = are.lines;
-      is_head = subst (λ t. IsHead t (with_end first ++ ls) rest) (sym whole) (lines-head first are.lines rest inner);
+      is_head = subst (λ t. CutSays t (with_end first ++ ls, rest)) (sym whole) (lines-head first are.lines rest inner);
       no_bare = inner-no_bare (first ∷ are.lines) inner;
       are_lines = record { whole = refl; folded = inner-folds (first ∷ are.lines) inner; cut = begins.1 };
       is_start = is_start;
@@ -302,7 +304,7 @@ folded-small (b ∷ text) fits name =
 abbrev pub is_some_byte : ℕ → Bool
 is_some_byte b = nat_lt 0 b
 
--- what stands in a number behind its NULs
+-- what stands in a number after its NULs
 without-nul : (n : ℕ) (text : List ℕ) → filter is_some_byte (replicate n 0 ++ text) ≡ filter is_some_byte text
 without-nul zero text = refl
 without-nul (suc n) text = without-nul n text

@@ -2,12 +2,13 @@
 use Rattle.std.proofs.Common.{◌≡◌, ℕ, zero, suc, ◌+◌, ◌<◌, ◌≤◌, ◌⊎◌, Bool, true, false, cond, if◌then◌else◌, List, [], ◌∷◌, ◌++◌, length, take, drop, slice_index, refl, sym, ap, ◌∙◌, subst, inl, inr, arith}
 use Rattle.std.proofs.lemmas.List.{append-nil, append_assoc, append_cancel_left, length-append, length-drop, take-append-drop, length-take-le}
 use Rattle.std.proofs.Math.Seq.{take-append_seam, drop-append_seam}
+use Rattle.sip_standard.specs.Text.{One, ◌then◌, ◌or◌, Many}
+use Rattle.sip_standard.specs.Profile.{Token, Sws, Blanks}
 use Rattle.sip_text.specs.Bytes.{space, crlf, is_token_byte}
-use Rattle.sip_text.specs.Text.{One, ◌then◌, ◌or◌, Many, HasFront, IsLongestFront}
-use Rattle.sip_text.specs.Grammar.{Token, Sws, Blanks}
-use Rattle.sip_text.specs.Blanks.{Blank, blank_len}
-use Rattle.sip_text.proofs.ManyLemmas.{many-nil, many-cons, many-append, many-push, many-map, many-flat, many-some, IsStep, same_many}
-use Rattle.sip_text.proofs.BlanksLemmas.{units-blanks, blanks-units, blank-step}
+use Rattle.sip_text.specs.Parts.{HasFront, IsLongestFront}
+use Rattle.sip_text.specs.inner.Blanks.{Blank, blank_len}
+use Rattle.sip_text.proofs.texts.ManyLemmas.{many-nil, many-cons, many-append, many-push, many-map, many-flat, many-some, IsStep, same_many}
+use Rattle.sip_text.proofs.strings.BlanksLemmas.{units-blanks, blanks-units, blank-step}
 use Rattle.sip_message.specs.Unfold.{EndsSolid}
 use Rattle.sip_message.specs.inner.Fronts.{Stops, StopsBlank, Behind, IsOnlyBehind, TokenFront, BlanksFront}
 use Rattle.sip_message.specs.inner.AddressFronts.{Words, WordsFront}
@@ -97,7 +98,7 @@ one-words text (w, r) (x, s) (w_is, (stop, (stop_blank, (k, y, k_is, y_is, r_is)
     let rests : r ≡ s = append_cancel_left x r s (ap (λ t. t ++ r) (sym words) ∙ sym whole ∙ whole_too) in
     ap (λ t. (t, r)) words ∙ ap (λ t. (x, t)) rests
 
--- behind the longest token no byte of one stands
+-- after the longest token no byte of one stands
 pub longest-stops : (text : List ℕ) (n : ℕ) → IsLongestFront Token text n → Stops is_token_byte (drop n text)
 longest-stops text zero longest = at text longest
   where
@@ -125,7 +126,7 @@ words-first text n within longest some = record {
   stops = longest-stops text n longest;
 }
 
--- a text cut behind its front
+-- a text cut after its front
 cut-at : (text front rest : List ℕ) (n : ℕ) → text ≡ front ++ rest → n ≡ length front → (take n text ≡ front) × (drop n text ≡ rest)
 cut-at text front rest n whole n_is = (
   ap (λ m. take m text) n_is ∙ ap (take (length front)) whole ∙ take-append_seam front rest,
@@ -163,7 +164,7 @@ words-more text rest stop at b w rest_is stop_is so b_in w_in blanks some_b toke
     cut : (take (at + (b + w)) text ≡ take at text ++ (u ++ take w stop)) × (drop (at + (b + w)) text ≡ drop w stop)
     cut = cut-at text (take at text ++ (u ++ take w stop)) (drop w stop) (at + (b + w)) whole (sym size)
 
--- without blanks, or without a word behind them, these are the words
+-- without blanks, or without a word after them, these are the words
 pub words-all : (text rest stop : List ℕ) (at b w : ℕ) → rest ≡ drop at text → stop ≡ drop b rest → WordsSoFar text at → IsLongestFront Blanks rest b → IsLongestFront Token stop w → (b ≡ 0) ⊎ (w ≡ 0) → ReadAs (WordsFront text) (take at text, rest)
 words-all text rest stop at b w rest_is stop_is so blanks token none =
     read-one (WordsFront text) (take at text, rest) (one-words text)
@@ -183,7 +184,7 @@ no-words text n longest none (w, r) ((t, more, token, many, w_is), no_word, whol
     at [] is = refl
     at (b ∷ u) is = absurd (omega (arith, is))
 
--- one blank is passed where none stands behind it
+-- one blank is passed where none stands after it
 pub one-blank : (text rest : List ℕ) → text ≡ space ∷ rest → StopsBlank rest → IsOnlyBehind text rest
 one-blank text rest is stops =
     let blank : Blank (space ∷ []) = ([], space ∷ [], inl refl, (space, refl, refl), refl) in

@@ -1,6 +1,6 @@
 -- The elements of Via fields, one after another.
 use Rattle.std.specs.Prelude.{◌≡◌, ℕ, List, [], ◌∷◌, ◌++◌, if◌then◌else◌}
-use Rattle.sip_text.specs.Text.{Exactly, ◌then◌}
+use Rattle.sip_standard.specs.Text.{Exactly, ◌then◌}
 use Rattle.sip_message.specs.declared.name.Known.{Known}
 use Rattle.sip_message.specs.Params.{comma, Mark}
 use Rattle.sip_message.specs.Via.{ViaParts, ViaText}

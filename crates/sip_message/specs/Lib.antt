@@ -9,9 +9,6 @@ pub mod StartLine
 pub mod Field
 pub mod Message
 pub mod Canon
-pub mod Reason
-pub mod Outcome
-pub mod Faults
 pub mod Views
 pub mod Laws
 pub mod Only
@@ -21,6 +18,4 @@ pub mod ViaParts
 pub mod Reading
 pub mod ValueParts
 pub mod Reads
-pub mod Transport
-pub mod Says
 pub mod SaidOf

@@ -6,7 +6,8 @@ use Rattle.sip_message.specs.declared.name.Known.TheVariants as known_name
 use Rattle.sip_message.specs.Params.{comma}
 use Rattle.sip_message.specs.Elements.{Element, values}
 use Rattle.sip_message.specs.Reading.{Reading}
-use Rattle.sip_message.specs.Says.{SaidVia, Said}
+use Rattle.sip_standard.specs.Via.{SaidVia}
+use Rattle.sip_standard.specs.Says.{Said}
 
 abbrev pub said_via : Element → SaidVia
 said_via e = record { whole = e.0; transport = e.1.transport; host = host_text e.1.host; port = e.1.port; branch = e.1.branch }

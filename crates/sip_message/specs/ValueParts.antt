@@ -5,7 +5,7 @@ use Rattle.sip_message.specs.declared.address.Address.{Address}
 use Rattle.sip_message.specs.declared.values.CSeq.{CSeq}
 use Rattle.sip_message.specs.declared.start_line.StartLine.{StartLine as Code}
 use Rattle.sip_message.specs.declared.start_line.StartLine.TheVariants as variant
-use Rattle.sip_message.specs.StartLine.{StartLine, request, status}
+use Rattle.sip_standard.specs.StartLine.{StartLine, request, status}
 use Rattle.sip_message.specs.Address.{AddressParts}
 
 abbrev pub start_parts : Code → StartLine

@@ -17,3 +17,5 @@ pub mod Quick
 pub mod Asked
 pub mod Numbers
 pub mod Plain
+pub mod Pieces
+pub mod Faults

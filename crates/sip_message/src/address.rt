@@ -1,7 +1,7 @@
 //! Addresses: the values of From and To.
 ghost use Rattle.std.specs.Prelude.{◌≡◌, ◌≤◌, ◌↔◌, IsTrue, length};
 ghost use Rattle.std.specs.List.{prefix_len};
-ghost use Rattle.sip_text.specs.Text.{IsOnlyValue};
+ghost use Rattle.sip_text.specs.Parts.{IsOnlyValue};
 ghost use Rattle.sip_message.specs.Reading.{AddressValue};
 ghost use Rattle.sip_message.specs.ValueParts.{address_parts};
 ghost use Rattle.sip_message.specs.inner.Fronts.{pair_parts, text_parts};
@@ -98,7 +98,7 @@ fn is_plain(byte: u8) -> bool
     !matches!(byte, b' ' | b'\t' | b'\r' | b'\n' | b',' | b'?' | b';')
 }
 
-// The display name at the front if there is one, and what is behind the `<` that follows it.
+// The display name at the front if there is one, and what is after the `<` that follows it.
 fn cut_display(text: &[u8]) -> Option<(Option<&[u8]>, &[u8])>
     ensures { IsOnlyValue DisplayFront display_parts text.now result }
 {
@@ -110,7 +110,7 @@ fn cut_display(text: &[u8]) -> Option<(Option<&[u8]>, &[u8])>
     Some((Some(name), inner))
 }
 
-// The display name at the front, and what is behind it.
+// The display name at the front, and what is after it.
 fn cut_name(text: &[u8]) -> Option<(&[u8], &[u8])>
     ensures { IsOnlyValue NameFront pair_parts text.now result }
 {
@@ -120,7 +120,7 @@ fn cut_name(text: &[u8]) -> Option<(&[u8], &[u8])>
     }
 }
 
-// The tokens at the front, with blanks between them, and what is behind them.
+// The tokens at the front, with blanks between them, and what is after them.
 fn cut_words(text: &[u8]) -> Option<(&[u8], &[u8])>
     ensures { IsOnlyValue WordsFront pair_parts text.now result }
 {
@@ -139,7 +139,7 @@ fn cut_words(text: &[u8]) -> Option<(&[u8], &[u8])>
     }
 }
 
-// The parameters that the whole text is, behind their blanks.
+// The parameters that the whole text is, after their blanks.
 fn read_tail(text: &[u8]) -> Option<&[u8]>
     ensures { IsOnlyValue TailText text_parts text.now result }
 {

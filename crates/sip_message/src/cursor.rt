@@ -1,14 +1,14 @@
-//! Cursors: what stands at the front of a text, and what is left behind it.
+//! Cursors: what stands at the front of a text, and what is left after it.
 ghost use Rattle.std.specs.Prelude.{◌≡◌, false, option_copied};
-ghost use Rattle.sip_text.specs.Cut.{before, behind, past};
+ghost use Rattle.sip_text.specs.Parts.{IsOnlyValue};
+ghost use Rattle.sip_text.specs.inner.Cut.{before, behind, past};
 ghost use Rattle.sip_message.specs.Unfold.{is_blank};
-ghost use Rattle.sip_text.specs.Text.{IsOnlyValue};
 ghost use Rattle.sip_message.specs.inner.Fronts.{IsOnlyBehind, StopsBlank, LineFront, is_line, TokenFront, MarkFront, ProtocolFront, pair_parts, text_parts, protocol_parts};
 
 use memchr::memchr;
 use sip_text::{skip_lws, token_len};
 
-/// The token at the front, and what is behind it.
+/// The token at the front, and what is after it.
 pub fn cut_token(text: &[u8]) -> Option<(&[u8], &[u8])>
     ensures { IsOnlyValue TokenFront pair_parts text.now result }
 {
@@ -19,7 +19,7 @@ pub fn cut_token(text: &[u8]) -> Option<(&[u8], &[u8])>
     Some((&text[..len], &text[len..]))
 }
 
-/// What is behind the mark at the front: blanks, the byte, and blanks.
+/// What is after the mark at the front: blanks, the byte, and blanks.
 #[inline(always)]
 pub fn past_mark(text: &[u8], mark: u8) -> Option<&[u8]>
     requires { is_blank mark ≡ false }
@@ -29,7 +29,7 @@ pub fn past_mark(text: &[u8], mark: u8) -> Option<&[u8]>
     Some(skip_blanks(inner))
 }
 
-/// `sent-protocol LWS` at the front: protocol name, version and transport, and what is behind them.
+/// `sent-protocol LWS` at the front: protocol name, version and transport, and what is after them.
 pub fn read_protocol(text: &[u8]) -> Option<(&[u8], &[u8], &[u8], &[u8])>
     ensures { IsOnlyValue ProtocolFront protocol_parts text.now result }
 {
@@ -43,7 +43,7 @@ pub fn read_protocol(text: &[u8]) -> Option<(&[u8], &[u8], &[u8], &[u8])>
     Some((protocol, version, transport, &rest[blanks..]))
 }
 
-/// What is behind the blanks at the front. Before most texts there is none, or one SP.
+/// What is after the blanks at the front. Before most texts there is none, or one SP.
 #[inline]
 pub(crate) fn skip_blanks(text: &[u8]) -> &[u8]
     ensures { IsOnlyBehind text.now result.now }
@@ -84,7 +84,7 @@ pub(crate) fn past(text: &[u8], byte: u8) -> Option<&[u8]>
     }
 }
 
-/// The text before the first mark, and the text behind it if there is one.
+/// The text before the first mark, and the text after it if there is one.
 #[inline]
 pub(crate) fn cut(text: &[u8], mark: u8) -> (&[u8], Option<&[u8]>)
     ensures front { result.0.now ≡ before mark text.now }
@@ -96,7 +96,7 @@ pub(crate) fn cut(text: &[u8], mark: u8) -> (&[u8], Option<&[u8]>)
     }
 }
 
-/// The first logical line, without its end, and what is behind it. A line ends at a CRLF that no
+/// The first logical line, without its end, and what is after it. A line ends at a CRLF that no
 /// blank follows.
 pub fn cut_line(text: &[u8]) -> Option<(&[u8], &[u8])>
     ensures { IsOnlyValue LineFront pair_parts text.now result }

@@ -20,7 +20,7 @@ pub(crate) fn is_clean(head: &[u8]) -> bool
     !begins_with_feed(head)
 }
 
-// The length of a front in which a LF stands behind each CR, and behind no other byte, looked at in
+// The length of a front in which a LF stands after each CR, and after no other byte, looked at in
 // blocks. The last block may begin within the one before it.
 fn blocks_len(text: &[u8]) -> usize
     ensures paired { ArePaired text.now 0 result }
@@ -37,7 +37,7 @@ fn blocks_len(text: &[u8]) -> usize
     at
 }
 
-// Whether it is so behind each byte of the block at this place.
+// Whether it is so after each byte of the block at this place.
 #[inline]
 fn is_paired_block(text: &[u8], at: usize) -> bool
     requires { at + BLOCK < length text.now }
@@ -48,7 +48,7 @@ fn is_paired_block(text: &[u8], at: usize) -> bool
     (ends ^ feeds).to_bitmask() == 0
 }
 
-// Whether it is so behind this byte.
+// Whether it is so after this byte.
 #[inline]
 fn is_paired(text: &[u8], at: usize) -> bool
     requires { at < length text.now }

@@ -1,11 +1,11 @@
 //! Field lines.
-ghost use Rattle.sip_text.specs.Text.{IsOnlyValue};
+ghost use Rattle.sip_text.specs.Parts.{IsOnlyValue};
 ghost use Rattle.std.specs.Prelude.{◌≡◌, ℕ, List, [], ◌∷◌, ◌++◌, drop, MatchOption, IfOk, IfSome};
 ghost use Rattle.std.specs.Option.{option_map};
 ghost use Rattle.sip_message.specs.Elements.{values};
 ghost use Rattle.sip_message.specs.inner.Finds.{IsFound, found_parts};
 ghost use Rattle.sip_message.specs.inner.Lines.{AreLines};
-ghost use Rattle.sip_message.specs.Faults.{HasName, IsValue, FieldOf, FieldsOf};
+ghost use Rattle.sip_message.specs.inner.Faults.{HasName, IsValue, FieldOf, FieldsOf};
 ghost use Rattle.sip_message.specs.Views.{name_parts, field_parts, fields_parts, slice_fields};
 ghost use Rattle.sip_message.specs.inner.Settles.{outcome_of, Settles};
 ghost use Rattle.sip_message.specs.inner.Kept.{KeptOf, KeepsMore};
@@ -13,10 +13,11 @@ ghost use Rattle.sip_message.specs.inner.Names.{named_parts};
 ghost use Rattle.sip_message.specs.inner.Fronts.{text_parts, past_wsp};
 
 use crate::cursor::{cut_line, cut_token, past};
-use crate::fault::{Fault, ReadError, Reason, Unit};
+use crate::fault::ReadError;
 use crate::kept::Kept;
 use crate::name::{Known, Name, read_name};
 use crate::row::{is_of_row, trim};
+use sip_standard::{Fault, Reason, Unit};
 use std::alloc::{AllocError, Global};
 
 /// A field of a message.
@@ -105,7 +106,7 @@ pub(crate) fn read_fields(
     Ok((fields, kept))
 }
 
-/// The value of the first field of this name from place `from` on, and the place behind it, which is
+/// The value of the first field of this name from place `from` on, and the place after it, which is
 /// the number of its line.
 pub(crate) fn cut_value<'a>(
     fields: &[Field<'a>],

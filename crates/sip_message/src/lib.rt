@@ -29,9 +29,10 @@ mod vias;
 
 pub use crate::address::Address;
 pub use crate::canon::write;
-pub use crate::fault::{Fault, ReadError, Reason, Unit};
+pub use crate::fault::ReadError;
 pub use crate::message::Message;
 pub use crate::start_line::StartLine;
 pub use crate::values::CSeq;
 pub use crate::via::Via;
 pub use crate::vias::{Routes, Vias};
+pub use sip_standard::{Fault, Reason, Unit};

@@ -11,7 +11,7 @@ ghost use Rattle.sip_message.specs.ViaParts.{element};
 use crate::address::{Address, read_address};
 use crate::asked::Asked;
 use crate::ends::is_clean;
-use crate::fault::{Fault, ReadError, Reason, Unit};
+use crate::fault::ReadError;
 use crate::field::{Field, ROOM, read_fields};
 use crate::quick::read_ordinary;
 use crate::stages::{body_len, cut_first, cut_head, find_named, read_body};
@@ -19,6 +19,7 @@ use crate::start_line::{StartLine, read_start};
 use crate::values::CSeq;
 use crate::via::Via;
 use crate::vias::{Routes, Vias};
+use sip_standard::{Fault, Reason, Unit};
 use sip_text::same_text;
 use std::alloc::Global;
 use std::marker::Model;
@@ -202,7 +203,7 @@ impl<'a> Message<'a> {
     ghost use Rattle.sip_message.specs.declared.name.Known.TheVariants as known_name;
     ghost use Rattle.sip_message.specs.Elements.{values};
     ghost use Rattle.sip_message.specs.Message.{MessageText};
-    ghost use Rattle.sip_message.specs.Transport.{is_reliable};
+    ghost use Rattle.sip_standard.specs.Transport.{is_reliable};
 
     /// The values of the Route fields, in order.
     pub fn routes(&self) -> Routes<'_, 'a>

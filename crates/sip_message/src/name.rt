@@ -2,7 +2,7 @@
 ghost use Rattle.std.specs.Prelude.{◌≡◌, ◌≢◌, ◌≤◌, ◌∷◌, [], length, take, drop};
 ghost use Rattle.sip_message.specs.Name.{name_of, long_name};
 ghost use Rattle.sip_message.specs.Views.{name_parts};
-ghost use Rattle.sip_text.specs.Grammar.{Token};
+ghost use Rattle.sip_standard.specs.Profile.{Token};
 ghost use Rattle.sip_message.specs.inner.Names.{name_or};
 ghost use Rattle.sip_message.specs.inner.Numbers.{number_of};
 

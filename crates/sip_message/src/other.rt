@@ -1,7 +1,7 @@
 //! Values that the reader doesn't look into.
 ghost use Rattle.std.specs.Prelude.{◌≡◌, ◌+◌, ◌≤◌, ◌↔◌, IsTrue, length};
 ghost use Rattle.std.specs.List.{prefix_len};
-ghost use Rattle.sip_text.specs.Blanks.{begins_with_fold};
+ghost use Rattle.sip_text.specs.inner.Blanks.{begins_with_fold};
 ghost use Rattle.sip_message.specs.Values.{OtherText};
 ghost use Rattle.sip_message.specs.inner.ValueFronts.{is_plain_byte, ArePlain};
 

@@ -1,9 +1,9 @@
 //! Parameters of values: `*( SEMI generic-param )` (RFC 3261, section 25.1).
 ghost use Rattle.std.specs.Prelude.{◌↔◌, ℕ, List, Option, IsTrue};
-ghost use Rattle.sip_text.specs.Text.{◌or◌, IsOnlyValue};
-ghost use Rattle.sip_text.specs.Host.{Ipv6Address};
+ghost use Rattle.sip_standard.specs.Text.{◌or◌};
+ghost use Rattle.sip_standard.specs.Profile.{Ipv6, Token};
 ghost use Rattle.sip_text.specs.Bytes.{equals, is_token_byte};
-ghost use Rattle.sip_text.specs.Grammar.{Token};
+ghost use Rattle.sip_text.specs.Parts.{IsOnlyValue};
 ghost use Rattle.sip_message.specs.Params.{ParamsPart};
 ghost use Rattle.sip_message.specs.inner.Fronts.{pair_parts};
 ghost use Rattle.sip_message.specs.inner.ParamFronts.{Param, is_bare_byte, PastRun, BareFront, QuotedFront, BracketFront, ReferenceFront, ValueFront, LedFront, ParamFront, AllParamsFront, led_parts, param_parts};
@@ -21,7 +21,7 @@ pub(crate) fn are_params(text: &[u8]) -> bool
     }
 }
 
-// What is behind the parameters at the front.
+// What is after the parameters at the front.
 fn past_params(text: &[u8]) -> &[u8]
     ensures { (params : List Param) × AllParamsFront text.now (params, result.now) }
 {
@@ -32,7 +32,7 @@ fn past_params(text: &[u8]) -> &[u8]
     rest
 }
 
-/// The parameter at the front, its name and its value if it has one, and what is behind it.
+/// The parameter at the front, its name and its value if it has one, and what is after it.
 #[inline(always)]
 pub(crate) fn cut_param(text: &[u8]) -> Option<(&[u8], Option<&[u8]>, &[u8])>
     ensures { IsOnlyValue ParamFront param_parts text.now result }
@@ -42,7 +42,7 @@ pub(crate) fn cut_param(text: &[u8]) -> Option<(&[u8], Option<&[u8]>, &[u8])>
     Some((name, value, rest))
 }
 
-// The value at the front, behind its `=` if there is one.
+// The value at the front, after its `=` if there is one.
 #[inline(always)]
 fn cut_led_value(text: &[u8]) -> Option<(Option<&[u8]>, &[u8])>
     ensures { IsOnlyValue (LedFront equals ValueFront) led_parts text.now result }
@@ -127,12 +127,12 @@ fn cut_bare_run(text: &[u8]) -> Option<(&[u8], &[u8])>
 
 // Whether the whole text is a token or an IPv6 address without brackets.
 fn is_bare(text: &[u8]) -> bool
-    ensures { IsTrue result ↔ (Token or Ipv6Address) text.now }
+    ensures { IsTrue result ↔ (Token or Ipv6) text.now }
 {
     is_token(text) || is_ipv6_address(text)
 }
 
-// What is behind the bytes of tokens and the colons at the front.
+// What is after the bytes of tokens and the colons at the front.
 fn past_bare(text: &[u8]) -> &[u8]
     ensures { PastRun is_bare_byte text.now result.now }
 {
@@ -143,7 +143,7 @@ fn past_bare(text: &[u8]) -> &[u8]
     rest
 }
 
-// What is behind the bytes of tokens at the front.
+// What is after the bytes of tokens at the front.
 fn past_token(text: &[u8]) -> &[u8]
     ensures { PastRun is_token_byte text.now result.now }
 {

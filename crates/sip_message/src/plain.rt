@@ -1,13 +1,11 @@
-//! Plain parts of values, found by the masks of their text: each is told by the place behind it. What is not plain may
+//! Plain parts of values, found by the masks of their text: each is told by the place after it. What is not plain may
 //! still be well spelled, and is left to the readers of all values.
 ghost use Rattle.std.specs.Prelude.{◌≡◌, ◌⊎◌, ◌≤◌, [], IfSome, IsTrue, codes, length, option_copied};
-ghost use Rattle.sip_text.specs.Grammar.{Sws, Token};
-ghost use Rattle.sip_text.specs.Bytes.{at_sign};
-ghost use Rattle.sip_text.specs.Host.{Hostname, HostParts, HostText, host_parts};
-ghost use Rattle.sip_text.specs.Text.{Byte, Exactly, ◌then◌};
-ghost use Rattle.sip_text.specs.Uri.{Port};
+ghost use Rattle.sip_standard.specs.Text.{Exactly, ◌then◌};
+ghost use Rattle.sip_standard.specs.Profile.{Sws, Token, Hostname, Port, Quoted};
+ghost use Rattle.sip_text.specs.Bytes.{at_sign, Byte};
+ghost use Rattle.sip_text.specs.Host.{HostParts, HostText, host_parts};
 ghost use Rattle.sip_message.specs.Address.{DisplayName};
-ghost use Rattle.sip_message.specs.Params.{Quoted};
 ghost use Rattle.sip_message.specs.inner.AddressFronts.{Words};
 ghost use Rattle.sip_message.specs.inner.Plain.{segment, LiesWithin, PlainRun, PlainParam, HostPort, SomeUri, Opening, SomeParams, SomeAddress};
 
@@ -32,7 +30,7 @@ pub(crate) fn is_plain_address(masks: &Masks<'_, '_>, at: usize, end: usize) -> 
     are_plain_params(masks, params, end)
 }
 
-// The place behind the display name, if there is one, and the `<`.
+// The place after the display name, if there is one, and the `<`.
 fn past_opening(masks: &Masks<'_, '_>, at: usize, end: usize) -> Option<usize>
     requires { (at ≤ end) × (end ≤ length masks.now) }
     ensures { IfSome result (LiesWithin Opening masks.now at end) }
@@ -44,7 +42,7 @@ fn past_opening(masks: &Masks<'_, '_>, at: usize, end: usize) -> Option<usize>
     past_byte(masks, past_space(masks, name, end), end, b'<')
 }
 
-// The place behind the SP, if there is one.
+// The place after the SP, if there is one.
 fn past_space(masks: &Masks<'_, '_>, at: usize, end: usize) -> usize
     requires { (at ≤ end) × (end ≤ length masks.now) }
     ensures { LiesWithin Sws masks.now at end result }
@@ -55,7 +53,7 @@ fn past_space(masks: &Masks<'_, '_>, at: usize, end: usize) -> usize
     }
 }
 
-// The place behind the display name.
+// The place after the display name.
 fn past_name(masks: &Masks<'_, '_>, at: usize, end: usize) -> Option<usize>
     requires { (at ≤ end) × (end ≤ length masks.now) }
     ensures { IfSome result (LiesWithin DisplayName masks.now at end) }
@@ -69,7 +67,7 @@ fn past_name(masks: &Masks<'_, '_>, at: usize, end: usize) -> Option<usize>
     }
 }
 
-// The place behind a quoted string of plain words.
+// The place after a quoted string of plain words.
 fn past_plain_quoted(masks: &Masks<'_, '_>, at: usize, end: usize) -> Option<usize>
     requires { end ≤ length masks.now }
     ensures { IfSome result (LiesWithin Quoted masks.now at end) }
@@ -79,7 +77,7 @@ fn past_plain_quoted(masks: &Masks<'_, '_>, at: usize, end: usize) -> Option<usi
     past_byte(masks, close, end, b'"')
 }
 
-// The place behind plain runs with a SP between any two.
+// The place after plain runs with a SP between any two.
 fn past_words(masks: &Masks<'_, '_>, at: usize, end: usize) -> Option<usize>
     requires { end ≤ length masks.now }
     ensures { IfSome result (LiesWithin Words masks.now at end) }
@@ -96,7 +94,7 @@ fn past_words(masks: &Masks<'_, '_>, at: usize, end: usize) -> Option<usize>
     }
 }
 
-/// The place behind a SIP URI that has no parameters and no headers.
+/// The place after a SIP URI that has no parameters and no headers.
 pub(crate) fn past_uri(masks: &Masks<'_, '_>, at: usize, end: usize) -> Option<usize>
     requires { (at ≤ end) × (end ≤ length masks.now) }
     ensures { IfSome result (LiesWithin SomeUri masks.now at end) }
@@ -106,7 +104,7 @@ pub(crate) fn past_uri(masks: &Masks<'_, '_>, at: usize, end: usize) -> Option<u
     past_hostport(masks, host, end)
 }
 
-// The place behind the user and its `@`, if there is one.
+// The place after the user and its `@`, if there is one.
 #[inline]
 fn past_user(masks: &Masks<'_, '_>, at: usize, end: usize) -> Option<usize>
     requires { end ≤ length masks.now }
@@ -119,7 +117,7 @@ fn past_user(masks: &Masks<'_, '_>, at: usize, end: usize) -> Option<usize>
     }
 }
 
-// The place behind `sip:`.
+// The place after `sip:`.
 fn past_sip(masks: &Masks<'_, '_>, at: usize, end: usize) -> Option<usize>
     requires { (at ≤ end) × (end ≤ length masks.now) }
     ensures { IfSome result (LiesWithin (Exactly (codes "sip:")) masks.now at end) }
@@ -130,7 +128,7 @@ fn past_sip(masks: &Masks<'_, '_>, at: usize, end: usize) -> Option<usize>
     }
 }
 
-// The place behind the host, and the port if there is one.
+// The place after the host, and the port if there is one.
 #[inline]
 fn past_hostport(masks: &Masks<'_, '_>, at: usize, end: usize) -> Option<usize>
     requires { end ≤ length masks.now }
@@ -172,7 +170,7 @@ fn is_name_at(text: &[u8], at: usize, to: usize) -> bool
     is_ordinary_name(&text[at..], to - at)
 }
 
-/// The host, and the place behind it.
+/// The host, and the place after it.
 #[inline(always)]
 pub(crate) fn past_host<'a>(
     masks: &Masks<'a, '_>,
@@ -199,7 +197,7 @@ fn host_at(text: &[u8], at: usize, to: usize) -> Option<Host<'_>>
     read_host(&text[at..to])
 }
 
-/// The place behind the port.
+/// The place after the port.
 pub(crate) fn past_port(masks: &Masks<'_, '_>, at: usize, end: usize) -> Option<usize>
     requires { end ≤ length masks.now }
     ensures { IfSome result (LiesWithin Port masks.now at end) }
@@ -227,7 +225,7 @@ fn are_plain_params(masks: &Masks<'_, '_>, at: usize, end: usize) -> bool
     true
 }
 
-/// The name of a parameter, its value if it has one, and the place behind it.
+/// The name of a parameter, its value if it has one, and the place after it.
 #[inline(always)]
 pub(crate) fn past_param<'a>(
     masks: &Masks<'a, '_>,
@@ -248,7 +246,7 @@ pub(crate) fn past_param<'a>(
     Some((name, Some(&masks.text()[first..to]), to))
 }
 
-/// The place behind the run of plain bytes.
+/// The place after the run of plain bytes.
 #[inline]
 pub(crate) fn past_run(masks: &Masks<'_, '_>, at: usize, end: usize) -> Option<usize>
     requires { end ≤ length masks.now }
@@ -264,7 +262,7 @@ pub(crate) fn past_run(masks: &Masks<'_, '_>, at: usize, end: usize) -> Option<u
     Some(at + len)
 }
 
-/// The place behind the byte.
+/// The place after the byte.
 #[inline]
 pub(crate) fn past_byte(masks: &Masks<'_, '_>, at: usize, end: usize, byte: u8) -> Option<usize>
     requires { end ≤ length masks.now }

@@ -1,8 +1,9 @@
 //! Call-IDs and CSeqs whose parts are plain.
 ghost use Rattle.std.specs.Prelude.{◌≡◌, ◌≤◌, ◌<◌, ◌^◌, IfSome, IsTrue, length};
 ghost use Rattle.std.specs.Str.Parse.{digits_value};
-ghost use Rattle.sip_text.specs.Text.{IsOnlyValue};
-ghost use Rattle.sip_message.specs.Values.{CallIdText, Digits};
+ghost use Rattle.sip_text.specs.Parts.{IsOnlyValue};
+ghost use Rattle.sip_standard.specs.Values.{CallId};
+ghost use Rattle.sip_message.specs.Values.{Digits};
 ghost use Rattle.sip_message.specs.Reading.{CSeqValue};
 ghost use Rattle.sip_message.specs.ValueParts.{cseq_parts};
 ghost use Rattle.sip_message.specs.inner.Plain.{segment};
@@ -14,7 +15,7 @@ use sip_masks::Masks;
 /// Whether a Call-ID stands from one place up to another.
 pub(crate) fn is_call_id_at(masks: &Masks<'_, '_>, at: usize, end: usize) -> bool
     requires { (at ≤ end) × (end ≤ length masks.now) }
-    ensures { IsTrue result → CallIdText (segment at end masks.now) }
+    ensures { IsTrue result → CallId (segment at end masks.now) }
 {
     is_plain_call_id(masks, at, end) || is_call_id(&masks.text()[at..end])
 }
@@ -22,7 +23,7 @@ pub(crate) fn is_call_id_at(masks: &Masks<'_, '_>, at: usize, end: usize) -> boo
 // Whether one plain run stands there, or two with an `@` between them.
 fn is_plain_call_id(masks: &Masks<'_, '_>, at: usize, end: usize) -> bool
     requires { end ≤ length masks.now }
-    ensures { IsTrue result → CallIdText (segment at end masks.now) }
+    ensures { IsTrue result → CallId (segment at end masks.now) }
 {
     let Some(word) = past_run(masks, at, end) else {
         return false;

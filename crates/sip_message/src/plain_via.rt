@@ -1,7 +1,6 @@
 //! Elements of Via whose parts are plain, with no blanks but the one before the host.
 ghost use Rattle.std.specs.Prelude.{◌≤◌, IfSome, length, option_copied};
-ghost use Rattle.sip_text.specs.Grammar.{Token};
-ghost use Rattle.sip_text.specs.Uri.{Port};
+ghost use Rattle.sip_standard.specs.Profile.{Token, Port};
 ghost use Rattle.sip_message.specs.Via.{ColonPort, ViaParams};
 ghost use Rattle.sip_message.specs.ViaParts.{element};
 ghost use Rattle.sip_message.specs.inner.ElementFronts.{FirstVia};
@@ -40,7 +39,7 @@ pub(crate) fn plain_via<'a>(masks: &Masks<'a, '_>, at: usize, end: usize) -> Opt
     })
 }
 
-// The port, if there is one, and the place behind it.
+// The port, if there is one, and the place after it.
 fn past_led_port<'a>(
     masks: &Masks<'a, '_>,
     at: usize,

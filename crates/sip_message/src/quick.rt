@@ -70,7 +70,7 @@ fn front(bytes: &[u8]) -> &[u8]
     }
 }
 
-// The place of the empty line behind the lines from here on, where they are ordinary ones. Their
+// The place of the empty line after the lines from here on, where they are ordinary ones. Their
 // fields are put into the vector, and what is asked for is kept.
 fn ordinary_fields<'a>(
     masks: &Masks<'a, '_>,
@@ -117,8 +117,8 @@ fn line_end(masks: &Masks<'_, '_>, at: usize) -> Option<usize>
     Some(end)
 }
 
-// Puts the field that the line from one place up to another is behind the others, if its name is plain
-// and its colon stands right behind that. What it says is kept if it is asked for.
+// Puts the field that the line from one place up to another is after the others, if its name is plain
+// and its colon stands right after that. What it says is kept if it is asked for.
 #[inline]
 fn push_ordinary<'a>(
     masks: &Masks<'a, '_>,

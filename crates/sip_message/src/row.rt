@@ -1,8 +1,8 @@
 //! Values of field lines: cut off their blanks, and judged by the row of their field's name.
 ghost use Rattle.std.specs.Prelude.{◌≡◌, ◌≤◌, ◌<◌, ◌-◌, ◌↔◌, ℕ, List, IsTrue, length, slice_index, true, false};
 ghost use Rattle.std.specs.List.{prefix_len};
-ghost use Rattle.sip_text.specs.Text.{IsOnlyValue};
-ghost use Rattle.sip_text.specs.Grammar.{Sws};
+ghost use Rattle.sip_standard.specs.Profile.{Sws};
+ghost use Rattle.sip_text.specs.Parts.{IsOnlyValue};
 ghost use Rattle.sip_message.specs.Unfold.{is_blank};
 ghost use Rattle.sip_message.specs.Address.{AddressParts, AddressText};
 ghost use Rattle.sip_message.specs.Field.{ValueText, Row};

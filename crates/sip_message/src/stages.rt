@@ -4,14 +4,15 @@ ghost use Rattle.std.specs.Option.{option_map};
 ghost use Rattle.std.specs.Str.Parse.{digits_value};
 ghost use Rattle.memchr.specs.Find.{FindsNeedle};
 ghost use Rattle.sip_text.specs.Bytes.{crlf, carriage_return};
-ghost use Rattle.sip_text.specs.Text.{IsOnlyValue};
-ghost use Rattle.sip_message.specs.Lines.{IsLines};
+ghost use Rattle.sip_text.specs.Parts.{IsOnlyValue};
 ghost use Rattle.sip_message.specs.inner.Lines.{AreLines};
 ghost use Rattle.std.specs.List.{AllByRecursion};
 ghost use Rattle.sip_message.specs.Field.{Row};
 ghost use Rattle.sip_message.specs.Values.{Digits};
-ghost use Rattle.sip_message.specs.Message.{content_length, is_stream, MethodFits};
-ghost use Rattle.sip_message.specs.Faults.{IsCut, Present, NotTwice, Once, NamesOf, BodyOf};
+ghost use Rattle.sip_message.specs.Message.{content_length, is_stream, MethodFits, found};
+ghost use Rattle.sip_standard.specs.Field.{FirstOf, NoSecond, OneOf};
+ghost use Rattle.sip_standard.specs.Lines.{CutSays, LinesSay};
+ghost use Rattle.sip_message.specs.inner.Faults.{NamesOf, BodyOf};
 ghost use Rattle.sip_message.specs.inner.Finds.{IsFound, found_parts, nothing_parts};
 ghost use Rattle.sip_message.specs.Reading.{CSeqValue};
 ghost use Rattle.sip_message.specs.inner.Fronts.{pair_parts, text_parts};
@@ -23,13 +24,13 @@ ghost use Rattle.sip_message.specs.inner.ElementFronts.{FirstVia};
 ghost use Rattle.sip_message.specs.inner.Stages.{names_parts, names_of, Stand, HasBody};
 
 use crate::cursor::cut_line;
-use crate::fault::{Fault, Reason, Unit};
 use crate::field::{Field, cut_value};
 use crate::name::Known;
 use crate::start_line::StartLine;
 use crate::values::{CSeq, number_at_most};
 use crate::via::Via;
 use memchr::memmem;
+use sip_standard::{Fault, Reason, Unit};
 use sip_text::same_text;
 
 /// Where the named fields stand.
@@ -46,13 +47,13 @@ pub(crate) struct Named<'a> {
 
 // The head, and what follows it.
 pub(crate) fn cut_head(bytes: &[u8]) -> Option<(&[u8], &[u8])>
-    ensures { IsOnlyValue IsCut pair_parts bytes.now result }
+    ensures { IsOnlyValue CutSays pair_parts bytes.now result }
 {
     let at = find_double_end(bytes)?;
     Some((&bytes[..at + 2], &bytes[at + 4..]))
 }
 
-// The place of the first CRLF CRLF. A CR stands behind a LF in no other place of most messages, so
+// The place of the first CRLF CRLF. A CR stands after a LF in no other place of most messages, so
 // that the search for these seldom stops at another line.
 #[inline]
 fn find_double_end(bytes: &[u8]) -> Option<usize>
@@ -79,7 +80,7 @@ fn is_behind_cr(bytes: &[u8], at: usize) -> bool
 
 // The first line, and the text of the others.
 pub(crate) fn cut_first(head: &[u8]) -> (&[u8], &[u8])
-    ensures { (first : List ℕ) (others : List (List ℕ)) → IsLines head.now first others → (first ≡ result.0.now) × AreLines result.1.now others }
+    ensures { (first : List ℕ) (others : List (List ℕ)) → LinesSay head.now first others → (first ≡ result.0.now) × AreLines result.1.now others }
 {
     match cut_line(head) {
         Some(cut) => cut,
@@ -111,7 +112,7 @@ pub(crate) fn find_named<'a>(fields: &[Field<'a>]) -> Result<Named<'a>, Fault>
 
 // The value of the first field of the name, with its line.
 fn find_first<'a>(fields: &[Field<'a>], name: Known) -> Result<(&'a [u8], usize), Fault>
-    ensures present { Present name (slice_fields fields.entry) (outcome_of found_parts result) }
+    ensures present { FirstOf (found name (slice_fields fields.entry)) (outcome_of found_parts result) }
     ensures found { IfOk result (λ first. IsFound name 0 (slice_fields fields.entry) (Some (found_parts first))) }
 {
     match cut_value(fields, 0, name) {
@@ -125,7 +126,7 @@ fn find_first<'a>(fields: &[Field<'a>], name: Known) -> Result<(&'a [u8], usize)
 
 // That the name stands at most once.
 fn check_not_twice(fields: &[Field<'_>], name: Known) -> Result<(), Fault>
-    ensures { NotTwice name (slice_fields fields.entry) (outcome_of nothing_parts result) }
+    ensures { NoSecond (found name (slice_fields fields.entry)) (outcome_of nothing_parts result) }
 {
     let Some((_, line)) = cut_value(fields, 0, name) else {
         return Ok(());
@@ -141,7 +142,7 @@ fn check_not_twice(fields: &[Field<'_>], name: Known) -> Result<(), Fault>
 
 // The value of the one field of the name, with its line.
 fn find_once<'a>(fields: &[Field<'a>], name: Known) -> Result<(&'a [u8], usize), Fault>
-    ensures { Once name (slice_fields fields.entry) (outcome_of found_parts result) }
+    ensures { OneOf (found name (slice_fields fields.entry)) (outcome_of found_parts result) }
 {
     let (value, line) = find_first(fields, name)?;
     match cut_value(fields, line, name) {

@@ -1,7 +1,7 @@
 //! Start lines.
 ghost use Rattle.std.specs.Prelude.{◌≡◌};
 ghost use Rattle.std.specs.List.{list_all};
-ghost use Rattle.sip_text.specs.Text.{IsOnlyValue};
+ghost use Rattle.sip_text.specs.Parts.{IsOnlyValue};
 ghost use Rattle.sip_message.specs.StartLine.{StartText, is_reason_byte};
 ghost use Rattle.sip_message.specs.inner.StartFronts.{RequestLine, StatusLine, CodeFront, status_parts};
 ghost use Rattle.sip_message.specs.inner.Fronts.{pair_parts};
@@ -74,7 +74,7 @@ fn read_status(line: &[u8]) -> Option<(u16, &[u8])>
     Some((code, reason))
 }
 
-/// The Status-Code at the front, and what is behind its SP.
+/// The Status-Code at the front, and what is after its SP.
 pub(crate) fn cut_code(text: &[u8]) -> Option<(u16, &[u8])>
     ensures { IsOnlyValue CodeFront status_parts text.now result }
 {

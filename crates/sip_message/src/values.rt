@@ -3,8 +3,10 @@ ghost use Rattle.std.specs.Prelude.{◌≡◌, ◌≤◌, ◌<◌, ◌↔◌, �
 ghost use Rattle.std.specs.List.{list_all, prefix_len};
 ghost use Rattle.std.specs.Char.{is_ascii_digit};
 ghost use Rattle.std.specs.Str.Parse.{digits_value};
-ghost use Rattle.sip_text.specs.Text.{IsOnlyValue};
-ghost use Rattle.sip_message.specs.Values.{Digits, CSeqText, Word, CallIdText, is_word_byte};
+ghost use Rattle.sip_text.specs.Parts.{IsOnlyValue};
+ghost use Rattle.sip_standard.specs.Values.{CallId};
+ghost use Rattle.sip_message.specs.inner.Pieces.{is_word_byte, Word};
+ghost use Rattle.sip_message.specs.Values.{Digits, CSeqText};
 ghost use Rattle.sip_message.specs.Reading.{CSeqValue};
 ghost use Rattle.sip_message.specs.ValueParts.{cseq_parts};
 
@@ -91,7 +93,7 @@ fn are_digits(text: &[u8]) -> bool
 
 /// Whether the text is the value of Call-ID (RFC 3261, section 25.1).
 pub(crate) fn is_call_id(text: &[u8]) -> bool
-    ensures { IsTrue result ↔ CallIdText text.now }
+    ensures { IsTrue result ↔ CallId text.now }
 {
     let (word, more) = cut(text, b'@');
     match more {

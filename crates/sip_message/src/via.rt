@@ -1,7 +1,7 @@
 //! Via elements.
 ghost use Rattle.std.specs.Prelude.{◌≡◌, ◌↔◌, ℕ, List, Option, IsTrue, MatchOption, option_copied};
-ghost use Rattle.sip_text.specs.Text.{IsOnlyValue};
 ghost use Rattle.sip_text.specs.Bytes.{colon};
+ghost use Rattle.sip_text.specs.Parts.{IsOnlyValue};
 ghost use Rattle.sip_message.specs.Via.{ViaParts, MoreVias};
 ghost use Rattle.sip_message.specs.inner.Fronts.{pair_parts};
 ghost use Rattle.sip_message.specs.inner.ElementFronts.{EndsElement, ViaFront, FirstVia};
@@ -46,7 +46,7 @@ pub(crate) fn first_via(text: &[u8]) -> Option<Via<'_>>
     }
 }
 
-// Whether the whole text is elements of Via, each behind a comma.
+// Whether the whole text is elements of Via, each after a comma.
 fn are_more_vias(text: &[u8]) -> bool
     ensures { IsTrue result ↔ ((vias : List ViaParts) × MoreVias vias text.now) }
 {
@@ -60,7 +60,7 @@ fn are_more_vias(text: &[u8]) -> bool
     rest.is_empty()
 }
 
-/// The element at the front, and what is behind it: nothing, or a comma and more.
+/// The element at the front, and what is after it: nothing, or a comma and more.
 pub(crate) fn read_via(text: &[u8]) -> Option<(Via<'_>, &[u8])>
     ensures { IsOnlyValue ViaFront front_parts text.now result }
 {
@@ -112,7 +112,7 @@ fn cut_host_text(text: &[u8]) -> Option<(&[u8], &[u8])>
     cut_token(text)
 }
 
-// The port at the front, behind its colon if there is one.
+// The port at the front, after its colon if there is one.
 fn cut_led_port(text: &[u8]) -> Option<(Option<&[u8]>, &[u8])>
     ensures { IsOnlyValue (LedFront colon PortFront) led_parts text.now result }
 {
@@ -143,7 +143,7 @@ fn cut_tail(text: &[u8]) -> Option<(&[u8], Option<&[u8]>, &[u8])>
     Some((skip_blanks(&text[..text.len() - rest.len()]), branch, rest))
 }
 
-// The branch of the parameters at the front, and what is behind them.
+// The branch of the parameters at the front, and what is after them.
 fn cut_branch(text: &[u8]) -> Option<(Option<&[u8]>, &[u8])>
     ensures { IsOnlyValue BranchFront led_parts text.now result }
 {

@@ -64,7 +64,7 @@ impl<'s, 'a> Iterator for Vias<'s, 'a> {
     }
 }
 
-// The text that begins with the next element, and the place behind its field.
+// The text that begins with the next element, and the place after its field.
 fn next_text<'a>(fields: &[Field<'a>], at: usize, rest: &'a [u8]) -> Option<(&'a [u8], usize)>
     ensures { MatchOption result
         ((es : List Element) → AreLeft rest.entry.now (values known_name.Via (drop at (slice_fields fields.entry))) es → es ≡ [])

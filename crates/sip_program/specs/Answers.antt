@@ -1,7 +1,7 @@
 -- What the program writes of a log, and the status that it ends with. What it reads and writes is spoken of where it is known.
 use Rattle.std.specs.Prelude.{◌≡◌, ◌++◌, ◌∷◌, [], ℕ, List, Option, Some, IfSome, codes, string_bytes}
 use Rattle.std.specs.Io.KnownBytes.{Appends}
-use Rattle.sip_log.specs.Spelling.{line_feed}
+use Rattle.sip_standard.specs.LogSays.{line_feed}
 use Rattle.sip_verdict.specs.declared.verdict.Verdict.{Verdict}
 use Rattle.sip_verdict.specs.declared.listing.Listing.{Listing}
 use Rattle.sip_verdict.specs.declared.listing.Listing.TheVariants.{Text, Stopped, NoEntry}

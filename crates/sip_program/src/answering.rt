@@ -1,7 +1,7 @@
 //! What the program writes where it has a log, and the status that it ends with.
 ghost use Rattle.std.specs.Prelude.{◌≡◌, ◌++◌, ◌∷◌, [], false, OnOk, IfOk, IfErr};
 ghost use Rattle.std.specs.Io.KnownBytes.{Appends};
-ghost use Rattle.sip_log.specs.Spelling.{line_feed};
+ghost use Rattle.sip_standard.specs.LogSays.{line_feed};
 ghost use Rattle.sip_verdict.specs.Rendering.{rendered};
 ghost use Rattle.sip_program.specs.Answers.{IsJudged, IsShown, IsListed, listing_text};
 ghost use Rattle.sip_program.specs.Failures.{Blames};

@@ -22,7 +22,7 @@ pub struct Output<W: Write + Drop> {
 }
 
 impl<W: Write + Drop> Output<W> {
-    /// A sink that writes behind what the writer holds.
+    /// A sink that writes after what the writer holds.
     pub fn new(alloc: Global, writer: W) -> io::Result<Output<W>>
         ensures written { IfOk result (λ output. ⟦<Output<W> as Sink>⟧.written output ≡ W.contents writer) }
         ensures fine { IfOk result (λ output. ⟦<Output<W> as Sink>⟧.has_failed output ≡ false) }

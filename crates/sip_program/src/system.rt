@@ -7,7 +7,7 @@ use std::io;
 
 /// The system that a program runs on: a source of the standard input, and from then on that a file is opened, of that file.
 pub trait System: Source {
-    // The words behind the program's name, where they are known.
+    // The words after the program's name, where they are known.
     ghost words: { Self → Option (List (List ℕ)) };
 
     // The bytes of the file at a path, where they are known. Each implementation says so itself.
@@ -16,7 +16,7 @@ pub trait System: Source {
     /// What a seed is for.
     type Seed: BuildHasher + Drop;
 
-    /// The words behind the program's name.
+    /// The words after the program's name.
     fn words(&mut self) -> io::Result<Vec<String>>
         ensures words { IfOk result (λ given. IfSome (words self.old) (λ known. map string_bytes given.items ≡ known)) }
         ensures log { OnOk result (Self.left self.new ≡ Self.left self.old) }

@@ -4,9 +4,9 @@ use Rattle.std.proofs.Common.{refl}
 use Rattle.sip_key.specs.declared.role.Role.{Role}
 use Rattle.sip_key.specs.declared.role.Role.TheVariants.{Client, Server}
 use Rattle.sip_key.specs.Key.{KeyParts}
-use Rattle.sip_times.specs.declared.rules.Rules.{Rules as BuiltBy}
-use Rattle.sip_times.specs.declared.rules.Rules.TheVariants.{R3261, R6026}
-use Rattle.sip_machine.specs.Times.{Times}
+use Rattle.sip_standard.specs.declared.rules.Rules.{Rules as BuiltBy}
+use Rattle.sip_standard.specs.declared.rules.Rules.TheVariants.{R3261, R6026}
+use Rattle.sip_standard.specs.Times.{Times}
 use Rattle.sip_machine.specs.Rules.{Rules}
 use Rattle.sip_machine.specs.Figure.{Owing, rules_of as rules_of_figure}
 use Rattle.sip_machine.specs.Owing.{CodeOwing}

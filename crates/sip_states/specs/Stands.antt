@@ -1,5 +1,5 @@
 use Rattle.std.specs.Prelude.{◌≤◌, ℕ, List, [], ◌∷◌, ◌++◌}
-use Rattle.sip_machine.specs.Times.{Times}
+use Rattle.sip_standard.specs.Times.{Times}
 use Rattle.sip_machine.specs.MachineEvent.{MachineEvent}
 use Rattle.sip_machine.specs.Figure.{Figure, Owing, quiet, Takes, Lasts, MayEnd}
 

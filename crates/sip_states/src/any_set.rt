@@ -61,7 +61,7 @@ impl AnySet {
     }
 
     /// Lets the set wait until the moment, in milliseconds. On an error it is as before.
-    #[tactic(auto, using(crate::proofs::AnyLemmas::has_waited))]
+    #[tactic(auto, using(crate::proofs::keyed::AnyLemmas::has_waited))]
     pub fn advance(&mut self, moment: u64) -> Result<(), AllocError>
         requires { moment_of self.old ≤ moment }
         ensures ok { OnOk result (SetWaits moment self.old self.new) }
@@ -78,7 +78,7 @@ impl AnySet {
     }
 
     /// Takes the event. On an error the set is as before.
-    #[tactic(auto, using(crate::proofs::AnyLemmas::has_taken))]
+    #[tactic(auto, using(crate::proofs::keyed::AnyLemmas::has_taken))]
     pub fn take(&mut self, book: &Book, event: &Event) -> Result<(), TakeError>
         requires order { moment_of self.old ≤ event.now.moment }
         requires fits { FitsBook book.now event.now }

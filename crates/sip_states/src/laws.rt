@@ -6,16 +6,16 @@ ghost use Rattle.sip_machine.specs.declared.event.Method.TheVariants.{Invite, Ac
 ghost use Rattle.sip_machine.specs.declared.event.Method.{Method};
 ghost use Rattle.sip_machine.specs.Figure.{Restarts};
 ghost use Rattle.sip_machine.specs.MachineEvent.{MachineEvent};
-ghost use Rattle.sip_machine.specs.Limits.{open_at};
+ghost use Rattle.sip_standard.specs.Window.{open_at};
 ghost use Rattle.sip_machine.specs.Message.{IsFinal};
-ghost use Rattle.sip_machine.specs.Times.{Times};
+ghost use Rattle.sip_standard.specs.Times.{Times};
 ghost use Rattle.sip_states.specs.KeyMachine.{MachineKind, PhaseOf, machine_of, transaction_of, key_rules};
 ghost use Rattle.sip_states.specs.Runs.{Wait, RunGives, RuledRun, AfterRun};
 ghost use Rattle.sip_states.specs.Stands.{Stands, StandsBehind};
 ghost use Rattle.sip_key.specs.declared.role.Role.TheVariants.{Client, Server};
-ghost use Rattle.sip_times.specs.declared.action.Action.TheVariants.{Sent, Received};
-ghost use Rattle.sip_times.specs.declared.rules.Rules.{Rules as BuiltBy};
-ghost use Rattle.sip_times.specs.declared.rules.Rules.TheVariants.{R6026};
+ghost use Rattle.sip_standard.specs.declared.action.Action.TheVariants.{Sent, Received};
+ghost use Rattle.sip_standard.specs.declared.rules.Rules.{Rules as BuiltBy};
+ghost use Rattle.sip_standard.specs.declared.rules.Rules.TheVariants.{R6026};
 
 use sip_machine::Machine;
 
@@ -49,8 +49,8 @@ pub fn a_run_holds_one_over_fewer_events<M: Machine>(_machine: &M)
         RuledRun (M.rules _machine.now) (events ++ more) n y → (x : M.Seen) × RuledRun (M.rules _machine.now) events m x }
 {}
 
-/// Behind the final response to its INVITE a client sends nothing but ACK and CANCEL (RFC 3261 sections 17.1.1.2, 17.1.1.3 and 9.1),
-/// and behind that to any other request it sends nothing (section 17.1.2.2).
+/// After the final response to its INVITE a client sends nothing but ACK and CANCEL (RFC 3261 sections 17.1.1.2, 17.1.1.3 and 9.1),
+/// and after that to any other request it sends nothing (section 17.1.2.2).
 pub fn behind_a_final_response_a_client_sends_no_request()
     ensures invite { (p : Times) (before between behind : List MachineEvent) (request final e : MachineEvent) (code : ℕ) (y : PhaseOf (machine_of R6026 Client true)) →
         request.action ≡ Sent → request.kind ≡ Request Invite → final.action ≡ Received → final.kind ≡ Response code → IsFinal code → e.action ≡ Sent →
@@ -69,7 +69,7 @@ pub fn an_invite_is_sent_again_after_t1()
         (e.text ≡ first.text) × (first.reliable ≡ false) × (open_at p first.moment p.t1 ≤ e.moment) }
 {}
 
-/// A restart of the element behind a restart changes nothing.
+/// A restart of the element after a restart changes nothing.
 pub fn a_second_restart_changes_nothing()
     ensures { (machine : MachineKind) (x y z : PhaseOf machine) → Restarts (transaction_of machine).figure x y → Restarts (transaction_of machine).figure y z → z ≡ y }
 {}

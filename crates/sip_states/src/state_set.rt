@@ -226,7 +226,7 @@ impl<M: Machine> StateSet<M> {
     }
 }
 
-/// Finds the states that the event gives, behind the others, and tells where the first of each stand. On an error they may
+/// Finds the states that the event gives, after the others, and tells where the first of each stand. On an error they may
 /// stand there still.
 fn given_rows<M: Machine>(
     machine: &M,

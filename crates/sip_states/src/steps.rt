@@ -36,9 +36,9 @@ pub(crate) fn step_alone<M: Machine>(
     machine.step(book, pool, event)
 }
 
-/// Puts behind the states those that the event gives from the ones in which one can stand at its moment, after standing in
+/// Puts after the states those that the event gives from the ones in which one can stand at its moment, after standing in
 /// one of them at `from`, and tells where they begin; some may be found more than once. Between them the ended state may stand.
-/// On an error some may have been put behind the others.
+/// On an error some may have been put after the others.
 pub(crate) fn find_given<M: Machine>(
     machine: &M,
     book: &Book,
@@ -67,8 +67,8 @@ pub(crate) fn find_given<M: Machine>(
     Ok(first)
 }
 
-/// Puts behind the states those that the event gives from the first ones, as many: none from one that cannot wait until its
-/// moment. On an error some may have been put behind the others.
+/// Puts after the states those that the event gives from the first ones, as many: none from one that cannot wait until its
+/// moment. On an error some may have been put after the others.
 fn step_each<M: Machine>(
     machine: &M,
     book: &Book,

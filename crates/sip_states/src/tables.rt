@@ -49,7 +49,7 @@ impl<H: BuildHasher> Model for Tables<H> {
         × (length t.moved ≡ index_map_len t.sets) × AreMoved t.moved t.marks (values t.sets) };
 }
 
-/// Puts a new key and its set behind the others. On an error nothing changes, and both are dropped.
+/// Puts a new key and its set after the others. On an error nothing changes, and both are dropped.
 fn append<H: BuildHasher>(
     sets: &mut IndexMap<Key, AnySet, H>,
     key: Key,

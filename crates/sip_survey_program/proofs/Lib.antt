@@ -1,1 +1,3 @@
+mod AskedLemmas
+mod Slashes
 mod StatusLemmas

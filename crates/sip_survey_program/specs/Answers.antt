@@ -1,23 +1,31 @@
 -- What the program writes of a log, and the status that it ends with. What it reads and writes is spoken of where it is known.
-use Rattle.std.specs.Prelude.{◌≡◌, ℕ, List, Option, Some, IfSome}
+use Rattle.std.specs.Prelude.{◌≡◌, ℕ, List, Option, None, Some, IfSome}
 use Rattle.std.specs.Io.KnownBytes.{Appends}
 use Rattle.sip_verdict.specs.declared.finding.Finding.{Finding}
 use Rattle.sip_verdict.specs.declared.survey_end.SurveyEnd.{SurveyEnd}
 use Rattle.sip_verdict.specs.SurveyOf.{IsSurveyOf}
+use Rattle.sip_part.specs.Part.{PartOf}
+use Rattle.sip_verdict.specs.SurveyParts.{IsPartSurveyOf}
 use Rattle.sip_verdict.specs.SurveyText.{survey_text}
 use Rattle.sip_survey_program.specs.declared.words.Asked.{Asked}
-use Rattle.sip_survey_program.specs.declared.words.Asked.TheVariants.{Input, File}
+use Rattle.sip_survey_program.specs.declared.words.Log.{Log}
+use Rattle.sip_survey_program.specs.declared.words.Log.TheVariants.{Input, File}
 use Rattle.sip_survey_program.specs.Asked.{IsAskedBy}
 use Rattle.sip_survey_program.specs.Status.{status_of}
 
--- the survey of this input is written, a line for each finding and a last one, and this is its status
-abbrev pub IsSurveyed : (input before after : Option (List ℕ)) → ℕ → Type 0
-IsSurveyed input before after status =
-    IfSome input (λ bytes. (found : List Finding) × (end : SurveyEnd) × IsSurveyOf bytes found end × Appends before after (survey_text found end)
+-- the survey of the input, or of the part that is named
+abbrev pub IsSurveyFor : Option PartOf → List ℕ → List Finding → SurveyEnd → Type 0
+IsSurveyFor None input found end = IsSurveyOf input found end
+IsSurveyFor (Some part) input found end = IsPartSurveyOf part input found end
+
+-- this survey of the input is written, a line for each finding and a last one, and this is its status
+abbrev pub IsSurveyed : (part : Option PartOf) (input before after : Option (List ℕ)) → ℕ → Type 0
+IsSurveyed part input before after status =
+    IfSome input (λ bytes. (found : List Finding) × (end : SurveyEnd) × IsSurveyFor part bytes found end × Appends before after (survey_text found end)
     × (status ≡ status_of found end))
 
 -- the log that is asked for: the standard input, or what the file of that path has
-abbrev pub log_for : Asked → (input : Option (List ℕ)) (file : List ℕ → Option (List ℕ)) → Option (List ℕ)
+abbrev pub log_for : Log → (input : Option (List ℕ)) (file : List ℕ → Option (List ℕ)) → Option (List ℕ)
 log_for Input input file = input
 log_for (File path) input file = file path.now
 
@@ -25,4 +33,4 @@ log_for (File path) input file = file path.now
 pub record IsAnswerTo (words : List (List ℕ)) (input : Option (List ℕ)) (file : List ℕ → Option (List ℕ)) (before after : Option (List ℕ)) (status : ℕ) : Type 0 where
   pub asked : Asked
   pub is_asked : IsAskedBy words (Some asked)
-  pub is : IsSurveyed (log_for asked input file) before after status
+  pub is : IsSurveyed asked.part (log_for asked.log input file) before after status

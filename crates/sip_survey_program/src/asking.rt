@@ -1,17 +1,40 @@
 //! What the words that the program is given ask for.
-ghost use Rattle.std.specs.Prelude.{map, string_bytes};
-ghost use Rattle.sip_survey_program.specs.Asked.{IsAskedBy};
+ghost use Rattle.std.specs.Prelude.{◌≡◌, map, string_bytes};
+ghost use Rattle.sip_survey_program.specs.Asked.{IsAskedBy, IsLogFor, names_part};
 
-use crate::words::Asked;
+use crate::part_word::part_of;
+use crate::words::{Asked, Log};
+
+/// The log that the words name: no word names the standard input, and one word the file at this path. More words name none.
+fn log_of(words: &[String]) -> Option<Log<'_>>
+    ensures { IsLogFor (map string_bytes words.now) result }
+{
+    match words {
+        [] => Some(Log::Input),
+        [file] => Some(Log::File(file.as_str())),
+        _ => None,
+    }
+}
+
+/// Whether the words begin with `--part` and one word more.
+fn names_part(words: &[String]) -> bool
+    ensures { result ≡ names_part (map string_bytes words.now) }
+{
+    words.len() >= 2 && words[0].as_str() == "--part"
+}
 
 /// What the words after the program's name ask for: no word asks for a survey of the standard input, and one word for that of the file
-/// at this path. More words ask for nothing. It takes no memory.
+/// at this path; `--part` and `K/N` before them for that of part K of N, which are numbers without leading zeros, from 1 and below 2^32.
+/// Other words ask for nothing. It takes no memory.
 pub fn asked(words: &[String]) -> Option<Asked<'_>>
     ensures { IsAskedBy (map string_bytes words.now) result }
 {
-    match words {
-        [] => Some(Asked::Input),
-        [file] => Some(Asked::File(file.as_str())),
-        _ => None,
+    if !names_part(words) {
+        let log = log_of(words)?;
+        return Some(Asked { log, part: None });
     }
+    let part = part_of(words[1].as_str())?;
+    let log = log_of(&words[2..])?;
+    let part = Some(part);
+    Some(Asked { log, part })
 }

@@ -4,6 +4,7 @@
 mod asking;
 mod ending;
 mod failure;
+mod part_word;
 mod running;
 mod status;
 mod words;
@@ -13,4 +14,4 @@ pub use ending::end;
 pub use failure::{Failure, read_failure};
 pub use running::{program, run};
 pub use status::status_of;
-pub use words::Asked;
+pub use words::{Asked, Log};

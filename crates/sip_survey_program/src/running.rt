@@ -10,10 +10,10 @@ use crate::asking::asked;
 use crate::ending::end;
 use crate::failure::{Failure, read_failure};
 use crate::status::status_of;
-use crate::words::Asked;
+use crate::words::{Asked, Log};
 use sip_log::{Sink, Source};
 use sip_program::System;
-use sip_verdict::survey;
+use sip_verdict::{survey, survey_part};
 use std::alloc::Global;
 
 /// Writes the survey of the log that is asked for. The answer is its status.
@@ -24,16 +24,24 @@ fn answer<S: System, W: Sink>(
     writer: &mut W,
 ) -> Result<u8, Failure>
     requires { S.has_failed system.old ≡ false }
-    ensures answer { IfOk result (IsSurveyed (log_for asked.entry (S.left system.old) (S.file system.old)) (W.written writer.old) (W.written writer.new)) }
+    ensures answer { IfOk result (IsSurveyed asked.entry.part (log_for asked.entry.log (S.left system.old) (S.file system.old)) (W.written writer.old) (W.written writer.new)) }
     ensures fine { OnOk result ((S.has_failed system.new ≡ false) × (W.has_failed writer.new ≡ W.has_failed writer.old)) }
     ensures err { IfErr result (Blames (S.has_failed system.new) (W.has_failed writer.new)) }
 {
     let seed = system.seed().map_err(read_failure)?;
-    if let Asked::File(path) = asked {
+    if let Log::File(path) = asked.log {
         system.open(path).map_err(read_failure)?;
     }
-    let summary = survey(alloc, system, writer, seed)?;
-    Ok(status_of(&summary))
+    match &asked.part {
+        Some(part) => {
+            let summary = survey_part(alloc, system, writer, seed, part)?;
+            Ok(status_of(&summary))
+        }
+        None => {
+            let summary = survey(alloc, system, writer, seed)?;
+            Ok(status_of(&summary))
+        }
+    }
 }
 
 /// Writes what the words of the system ask for, each line as soon as it is found. The answer is the status.

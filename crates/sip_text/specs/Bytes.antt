@@ -1,7 +1,6 @@
--- The bytes that the grammar names, and its classes of bytes (RFC 3261, section 25.1).
-use Rattle.std.specs.Prelude.{ℕ, Bool, ◌||◌, List, [], ◌∷◌, ◌==◌, nat_le, codes}
+-- The bytes that the grammar names (RFC 3261, section 25.1).
+use Rattle.std.specs.Prelude.{◌≡◌, ℕ, Bool, ◌||◌, List, [], ◌∷◌, ◌==◌, codes}
 use Rattle.std.specs.List.{list_any}
-use Rattle.std.specs.Int.{is_in_range}
 use Rattle.std.specs.Char.{is_ascii_alphanumeric}
 
 -- HTAB
@@ -76,9 +75,9 @@ right_bracket = 93
 abbrev pub crlf : List ℕ
 crlf = carriage_return ∷ line_feed ∷ []
 
--- "::"
-abbrev pub double_colon : List ℕ
-double_colon = colon ∷ colon ∷ []
+-- this byte alone, as ":"
+abbrev pub Byte : ℕ → List ℕ → Type 0
+Byte byte text = text ≡ byte ∷ []
 
 -- the byte is one of these
 abbrev pub is_one_of : List ℕ → ℕ → Bool
@@ -91,50 +90,3 @@ is_wsp byte = byte == space || byte == tab
 -- token byte = alphanum / "-" / "." / "!" / "%" / "*" / "_" / "+" / "`" / "'" / "~"
 abbrev pub is_token_byte : ℕ → Bool
 is_token_byte byte = is_ascii_alphanumeric byte || is_one_of (codes "-.!%*_+`'~") byte
-
--- a byte of qdtext, LWS aside = %x21 / %x23-5B / %x5D-7E / UTF8-NONASCII
--- Lenient: any byte from %x80 on stands for UTF8-NONASCII.
-abbrev pub is_quoted_byte : ℕ → Bool
-is_quoted_byte byte =
-    byte == 0x21 || is_in_range 0x23 0x5B byte || is_in_range 0x5D 0x7E byte || nat_le 0x80 byte
-
--- a byte behind the "\" of a quoted-pair = %x00-09 / %x0B-0C / %x0E-7F
-abbrev pub is_escaped_byte : ℕ → Bool
-is_escaped_byte byte =
-    is_in_range 0x00 0x09 byte || is_in_range 0x0B 0x0C byte || is_in_range 0x0E 0x7F byte
-
--- a byte within a label = alphanum / "-"
-abbrev pub is_label_byte : ℕ → Bool
-is_label_byte byte = is_ascii_alphanumeric byte || byte == hyphen
-
--- mark = "-" / "_" / "." / "!" / "~" / "*" / "'" / "(" / ")"
-abbrev pub is_mark : ℕ → Bool
-is_mark byte = is_one_of (codes "-_.!~*'()") byte
-
--- unreserved = alphanum / mark
-abbrev pub is_unreserved : ℕ → Bool
-is_unreserved byte = is_ascii_alphanumeric byte || is_mark byte
-
--- user-unreserved = "&" / "=" / "+" / "$" / "," / ";" / "?" / "/"
-abbrev pub is_user_unreserved : ℕ → Bool
-is_user_unreserved byte = is_one_of (codes "&=+$,;?/") byte
-
--- what a password has beside unreserved and escaped = "&" / "=" / "+" / "$" / ","
-abbrev pub is_password_unreserved : ℕ → Bool
-is_password_unreserved byte = is_one_of (codes "&=+$,") byte
-
--- param-unreserved = "[" / "]" / "/" / ":" / "&" / "+" / "$"
-abbrev pub is_param_unreserved : ℕ → Bool
-is_param_unreserved byte = is_one_of (codes "[]/:&+$") byte
-
--- hnv-unreserved = "[" / "]" / "/" / "?" / ":" / "+" / "$"
-abbrev pub is_hnv_unreserved : ℕ → Bool
-is_hnv_unreserved byte = is_one_of (codes "[]/?:+$") byte
-
--- reserved = ";" / "/" / "?" / ":" / "@" / "&" / "=" / "+" / "$" / ","
-abbrev pub is_reserved : ℕ → Bool
-is_reserved byte = is_one_of (codes ";/?:@&=+$,") byte
-
--- a byte of a scheme behind its first = ALPHA / DIGIT / "+" / "-" / "."
-abbrev pub is_scheme_byte : ℕ → Bool
-is_scheme_byte byte = is_ascii_alphanumeric byte || is_one_of (codes "+-.") byte

@@ -1,11 +1,6 @@
--- Texts that are the same without case: ASCII letters are folded, and no other byte is
--- (RFC 3261, section 7.3.1).
-use Rattle.std.specs.Prelude.{◌≡◌, ℕ, List, map}
-use Rattle.std.specs.Char.{to_ascii_lowercase}
-
--- the text with each ASCII letter in lower case
-abbrev pub folded : List ℕ → List ℕ
-folded text = map to_ascii_lowercase text
+-- Texts that are the same without case (RFC 3261, section 7.3.1).
+use Rattle.std.specs.Prelude.{◌≡◌, ℕ, List}
+use Rattle.sip_standard.specs.Case.{folded}
 
 -- the two texts differ at most in the case of ASCII letters
 abbrev pub SameText : List ℕ → List ℕ → Type 0

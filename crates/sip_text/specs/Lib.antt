@@ -1,12 +1,6 @@
-pub mod Text
 pub mod Bytes
-pub mod Grammar
-pub mod Blanks
+pub mod Parts
 pub mod Case
-pub mod Chars
-pub mod Class
-pub mod Cut
 pub mod Host
 pub mod Uri
-pub mod Profile
 pub mod inner

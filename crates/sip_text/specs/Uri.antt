@@ -1,61 +1,14 @@
--- URIs (RFC 3261, section 25.1).
+-- URIs by their parts (RFC 3261, section 25.1).
 -- "Own" marks where this profile chose other than the standard.
-use Rattle.std.specs.Prelude.{◌≡◌, ℕ, ◌≤◌, Bool, true, false, List, [], ◌∷◌, ◌++◌, Option, None, Some, IsNone, IfSome, option_copied, codes}
-use Rattle.std.specs.Char.{is_ascii_alphabetic, is_ascii_digit, is_ascii_hexdigit}
-use Rattle.std.specs.Str.Parse.{digits_value}
-use Rattle.sip_text.specs.Bytes.{percent, ampersand, colon, semicolon, equals, question, at_sign, is_unreserved, is_user_unreserved, is_password_unreserved, is_param_unreserved, is_hnv_unreserved, is_reserved, is_scheme_byte}
-use Rattle.sip_text.specs.Text.{One, Byte, ◌then◌, ◌or◌, Optional, Many, OneOrMore, Between, Joined, led}
+use Rattle.std.specs.Prelude.{◌≡◌, ℕ, Bool, true, false, List, [], ◌∷◌, ◌++◌, Option, None, Some, IsNone, IfSome, option_copied, codes}
+use Rattle.sip_standard.specs.Text.{OneOrMore}
+use Rattle.sip_standard.specs.Profile.{User, Password, Port, UriParameters, Headers, Scheme, Uric}
+use Rattle.sip_text.specs.Bytes.{colon, question, at_sign}
+use Rattle.sip_text.specs.Parts.{led}
 use Rattle.sip_text.specs.Case.{SameText}
 use Rattle.sip_text.specs.Host.{HostParts, HostText, host_text, host_parts}
 use Rattle.sip_text.specs.declared.uri.Uri.{Uri}
 use Rattle.sip_text.specs.declared.uri.Uri.TheVariants as variant
-
--- escaped = "%" HEXDIG HEXDIG
-abbrev pub Escaped : List ℕ → Type 0
-Escaped = Byte percent then One is_ascii_hexdigit then One is_ascii_hexdigit
-
--- user = 1*( unreserved / escaped / user-unreserved )
--- Own: a telephone-subscriber is read as a user.
-abbrev pub User : List ℕ → Type 0
-User = OneOrMore (One is_unreserved or Escaped or One is_user_unreserved)
-
--- password = *( unreserved / escaped / "&" / "=" / "+" / "$" / "," )
-abbrev pub Password : List ℕ → Type 0
-Password = Many (One is_unreserved or Escaped or One is_password_unreserved)
-
--- port = 1*DIGIT
--- Own: one to five digits, at most 65535.
-abbrev pub Port : List ℕ → Type 0
-Port text = Between 1 5 (One is_ascii_digit) text × (digits_value 10 text ≤ 65535)
-
--- paramchar = param-unreserved / unreserved / escaped
-abbrev pub ParamChar : List ℕ → Type 0
-ParamChar = One is_param_unreserved or One is_unreserved or Escaped
-
--- pname = 1*paramchar, pvalue = 1*paramchar
-abbrev pub ParamWord : List ℕ → Type 0
-ParamWord = OneOrMore ParamChar
-
--- uri-parameter = other-param = pname [ "=" pvalue ]
--- Own: the parameters that the standard names (transport, lr ..) are read as an other-param, too.
-abbrev pub UriParameter : List ℕ → Type 0
-UriParameter = ParamWord then Optional (Byte equals then ParamWord)
-
--- uri-parameters = *( ";" uri-parameter )
-abbrev pub UriParameters : List ℕ → Type 0
-UriParameters = Many (Byte semicolon then UriParameter)
-
--- a character of hname and hvalue = hnv-unreserved / unreserved / escaped
-abbrev pub HeaderChar : List ℕ → Type 0
-HeaderChar = One is_hnv_unreserved or One is_unreserved or Escaped
-
--- header = hname "=" hvalue, hname = 1*( header character ), hvalue = *( header character )
-abbrev pub Header : List ℕ → Type 0
-Header = OneOrMore HeaderChar then Byte equals then Many HeaderChar
-
--- headers, without their "?" = header *( "&" header )
-abbrev pub Headers : List ℕ → Type 0
-Headers = Joined ampersand Header
 
 -- the parts of a SIP URI, each without its mark, but the parameters with each ";"; an empty
 -- password is not the same as none
@@ -68,7 +21,7 @@ pub record SipParts : Type 0 where
   pub params : List ℕ
   pub headers : Option (List ℕ)
 
--- each part is a text of its production, and a password stands behind a user
+-- each part is a text of its production, and a password stands after a user
 pub record SipFits (p : SipParts) : Type 0 where
   pub user : IfSome p.user User
   pub password : IfSome p.password Password
@@ -97,14 +50,6 @@ sip_text p =
 abbrev pub scheme_name : Bool → List ℕ
 scheme_name true = codes "sips"
 scheme_name false = codes "sip"
-
--- scheme = ALPHA *( ALPHA / DIGIT / "+" / "-" / "." )
-abbrev pub Scheme : List ℕ → Type 0
-Scheme = One is_ascii_alphabetic then Many (One is_scheme_byte)
-
--- uric = reserved / unreserved / escaped
-abbrev pub Uric : List ℕ → Type 0
-Uric = One is_reserved or One is_unreserved or Escaped
 
 -- the parts of a URI: of a SIP or SIPS URI; of any other, the scheme and what follows its ":"
 pub data UriParts : Type 0 where

@@ -1,8 +1,8 @@
 //! Blank runs.
 ghost use Rattle.std.specs.Prelude.{◌≡◌, ◌≤◌, length};
-ghost use Rattle.sip_text.specs.Text.{IsLongestFront};
-ghost use Rattle.sip_text.specs.Grammar.{Blanks};
-ghost use Rattle.sip_text.specs.Blanks.{blank_len};
+ghost use Rattle.sip_standard.specs.Profile.{Blanks};
+ghost use Rattle.sip_text.specs.Parts.{IsLongestFront};
+ghost use Rattle.sip_text.specs.inner.Blanks.{blank_len};
 
 /// The length in bytes of the longest front of the text that is a blank run: one `LWS` (RFC 3261,
 /// section 25.1) or more in a row. It is 0 if there is none.

@@ -1,7 +1,7 @@
 //! The classes of bytes, in one table, and runs of bytes of one class.
 ghost use Rattle.std.specs.Prelude.{◌≡◌, ◌≤◌, length};
 ghost use Rattle.std.specs.List.{list_all, prefix_len};
-ghost use Rattle.sip_text.specs.Class.{bit_of, is_in};
+ghost use Rattle.sip_text.specs.inner.Class.{bit_of, is_in};
 
 /// A class of bytes: its bit in the table. Those of a URI's parts leave the `%` of an escape aside.
 #[derive(Clone, Copy, Debug)]
@@ -10,7 +10,7 @@ pub enum Class {
     Token = 0x0001,
     /// A byte of qdtext, blanks aside.
     Quoted = 0x0002,
-    /// A byte behind the backslash of a quoted pair.
+    /// A byte after the backslash of a quoted pair.
     Escaped = 0x0004,
     /// An ASCII letter.
     Alphabetic = 0x0008,
@@ -30,7 +30,7 @@ pub enum Class {
     Param = 0x0400,
     /// A byte of a URI header's name or value.
     Header = 0x0800,
-    /// A byte of a URI that is no SIP URI, behind its scheme.
+    /// A byte of a URI that is no SIP URI, after its scheme.
     Uric = 0x1000,
     /// A byte of a scheme.
     Scheme = 0x2000,

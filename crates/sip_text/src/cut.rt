@@ -1,13 +1,13 @@
 //! Cuts of a text at a mark.
 ghost use Rattle.std.specs.Prelude.{◌≡◌, false, is_some, option_copied, IfSome};
 ghost use Rattle.std.specs.List.{list_all};
-ghost use Rattle.sip_text.specs.Class.{is_in};
-ghost use Rattle.sip_text.specs.Cut.{before, before_last, behind, behind_last, past, up_to};
+ghost use Rattle.sip_text.specs.inner.Class.{is_in};
+ghost use Rattle.sip_text.specs.inner.Cut.{before, before_last, behind, behind_last, past, up_to};
 
 use crate::class::{Class, run_len};
 use memchr::{memchr, memrchr};
 
-/// The text before the first mark, and the text behind it if there is one.
+/// The text before the first mark, and the text after it if there is one.
 #[inline]
 pub fn cut(text: &[u8], mark: u8) -> (&[u8], Option<&[u8]>)
     ensures front { result.0.now ≡ before mark text.now }
@@ -38,7 +38,7 @@ pub fn cut_run(class: Class, text: &[u8], mark: u8) -> Option<(&[u8], Option<&[u
     }
 }
 
-/// The text before the last mark if there is one, and the text behind it.
+/// The text before the last mark if there is one, and the text after it.
 #[inline]
 pub fn cut_last(text: &[u8], mark: u8) -> (Option<&[u8]>, &[u8])
     ensures front { option_copied result.0 ≡ before_last mark text.now }

@@ -1,9 +1,10 @@
 //! Hosts: names and addresses.
 ghost use Rattle.std.specs.Prelude.{◌≡◌, ◌↔◌, IsTrue, option_copied};
-ghost use Rattle.sip_text.specs.Text.{IsOnlyValue};
+ghost use Rattle.sip_standard.specs.Profile.{Ipv6};
 ghost use Rattle.sip_text.specs.Bytes.{dot};
-ghost use Rattle.sip_text.specs.Cut.{parts};
-ghost use Rattle.sip_text.specs.Host.{Ipv6Address, HostText, host_parts};
+ghost use Rattle.sip_text.specs.Parts.{IsOnlyValue};
+ghost use Rattle.sip_text.specs.Host.{HostText, host_parts};
+ghost use Rattle.sip_text.specs.inner.Cut.{parts};
 ghost use Rattle.sip_text.specs.inner.HostTests.{are_labels, before_double, behind_double, has_label_ends, has_len, has_top_ends, has_v4_tail, is_before_v4, is_group, is_hexpart, is_hexseq, is_hostname, is_open, is_optional_hexseq, is_v4, is_v6, is_v6_reference, past_decimal};
 
 use crate::class::{Class, all_in, has};
@@ -23,7 +24,7 @@ pub enum Host<'a> {
 /// The `host` that the whole text is (RFC 3261, section 25.1), or None if it is none.
 ///
 /// An IPv6 address is as wide as the grammar there: it may have any number of groups, and stand
-/// before an IPv4 address. Behind `::` the colon before an IPv4 address may be missing.
+/// before an IPv4 address. After `::` the colon before an IPv4 address may be missing.
 pub fn read_host(text: &[u8]) -> Option<Host<'_>>
     ensures { IsOnlyValue HostText host_parts text.now result }
 {
@@ -41,7 +42,7 @@ pub fn read_host(text: &[u8]) -> Option<Host<'_>>
 /// Whether the whole text is an `IPv6address` (RFC 3261, section 25.1), without brackets, and as wide
 /// as in [`read_host`].
 pub fn is_ipv6_address(text: &[u8]) -> bool
-    ensures { IsTrue result ↔ Ipv6Address text.now }
+    ensures { IsTrue result ↔ Ipv6 text.now }
 {
     is_v6(text)
 }
@@ -76,7 +77,7 @@ fn has_v4_tail(text: &[u8]) -> bool
     }
 }
 
-// What may stand before the last `:`, behind which an IPv4address stands.
+// What may stand before the last `:`, after which an IPv4address stands.
 fn is_before_v4(text: &[u8]) -> bool
     ensures { result ≡ is_before_v4 text.now }
 {
@@ -103,7 +104,7 @@ fn is_hexpart(text: &[u8]) -> bool
     }
 }
 
-// The text before its first `::`, and the text behind it if there is one.
+// The text before its first `::`, and the text after it if there is one.
 fn cut_double(text: &[u8]) -> (&[u8], Option<&[u8]>)
     ensures front { result.0.now ≡ before_double text.now }
     ensures rest { option_copied result.1 ≡ behind_double text.now }
@@ -158,7 +159,7 @@ fn is_v4(text: &[u8]) -> bool
     is_group(Class::Digit, 3, rest)
 }
 
-// The text behind 1*3DIGIT and a dot, if it begins with these.
+// The text after 1*3DIGIT and a dot, if it begins with these.
 fn past_decimal(text: &[u8]) -> Option<&[u8]>
     ensures { option_copied result ≡ past_decimal text.now }
 {

@@ -1,7 +1,8 @@
 //! Quoted strings.
 ghost use Rattle.std.specs.Prelude.{◌≡◌, ◌≤◌, length, drop, IfSome};
-ghost use Rattle.sip_text.specs.Text.{HasFront, IsOnlyFront, Many};
-ghost use Rattle.sip_text.specs.Grammar.{QuotedString};
+ghost use Rattle.sip_standard.specs.Text.{Many, ◌then◌};
+ghost use Rattle.sip_standard.specs.Profile.{Sws, Quoted};
+ghost use Rattle.sip_text.specs.Parts.{HasFront, IsOnlyFront};
 ghost use Rattle.sip_text.specs.inner.Quoted.{QuotedItem, item_len};
 
 use crate::blanks::{blank_len, skip_lws};
@@ -11,7 +12,7 @@ use crate::cut::past;
 /// The length in bytes of the `quoted-string` at the front of the text (RFC 3261, section 25.1),
 /// the blank run before its first quote included. There is at most one such front.
 pub fn read_quoted(text: &[u8]) -> Option<usize>
-    ensures reads { IsOnlyFront QuotedString text.now result }
+    ensures reads { IsOnlyFront (Sws then Quoted) text.now result }
     ensures within { IfSome result (λ n. n ≤ length text.now) }
 {
     let open = skip_lws(text);

@@ -2,10 +2,10 @@
 ghost use Rattle.std.specs.Prelude.{◌≡◌, ◌+◌, ◌/◌, ◌≤◌, length, map, slice_index, bit_and};
 ghost use Rattle.std.specs.List.{list_all, prefix_len};
 ghost use Rattle.std.specs.Simd.Lanes.{chunk};
+ghost use Rattle.sip_standard.specs.Profile.{Token};
 ghost use Rattle.sip_text.specs.Bytes.{is_token_byte};
+ghost use Rattle.sip_text.specs.Parts.{IsLongestFront};
 ghost use Rattle.sip_text.specs.declared.token.TheConstants.{LOW, HIGH};
-ghost use Rattle.sip_text.specs.Text.{IsLongestFront};
-ghost use Rattle.sip_text.specs.Grammar.{Token};
 
 use crate::class::{Class, run_len};
 use std::simd::prelude::*;

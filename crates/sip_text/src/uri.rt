@@ -1,11 +1,14 @@
 //! URIs: those of SIP in their parts, and any other by its scheme.
 ghost use Rattle.std.specs.Prelude.{◌≡◌, ◌↔◌, false, IsTrue, option_copied};
+ghost use Rattle.sip_standard.specs.Text.{Many, OneOrMore};
+ghost use Rattle.sip_standard.specs.Profile.{Port, UriParameters, Headers, Scheme};
 ghost use Rattle.sip_text.specs.Bytes.{colon, percent, semicolon};
-ghost use Rattle.sip_text.specs.Text.{Many, OneOrMore, Joined, IsOnlyValue};
-ghost use Rattle.sip_text.specs.Class.{is_in};
-ghost use Rattle.sip_text.specs.Cut.{before, behind};
-ghost use Rattle.sip_text.specs.Uri.{Port, UriParameter, UriParameters, Header, Headers, Scheme, UriText, uri_parts};
-ghost use Rattle.sip_text.specs.inner.UriCut.{Char, behind_escape, IsInfoCut, IsPortCut, cut_parts, IsSipCut, InfoFits, TailFits, SipText};
+ghost use Rattle.sip_text.specs.Parts.{IsOnlyValue};
+ghost use Rattle.sip_text.specs.Uri.{UriText, uri_parts};
+ghost use Rattle.sip_text.specs.inner.Class.{is_in};
+ghost use Rattle.sip_text.specs.inner.Cut.{before, behind};
+ghost use Rattle.sip_text.specs.inner.Pieces.{Joined, UriParameter, Header};
+ghost use Rattle.sip_text.specs.inner.UriCut.{ClassChar, behind_escape, IsInfoCut, IsPortCut, cut_parts, IsSipCut, InfoFits, TailFits, SipText};
 
 use crate::case::same_text;
 use crate::class::{Class, all_in, has, run_len};
@@ -64,7 +67,7 @@ pub fn read_uri(text: &[u8]) -> Option<Uri<'_>>
     }
 }
 
-// The text before the first colon, and the text behind it if there is one. Most URIs begin with
+// The text before the first colon, and the text after it if there is one. Most URIs begin with
 // `sip:`.
 #[inline]
 fn cut_scheme(text: &[u8]) -> (&[u8], Option<&[u8]>)
@@ -118,7 +121,7 @@ fn read_sip(secure: bool, text: &[u8]) -> Option<Uri<'_>>
 }
 
 // Cuts what follows the scheme of a SIP URI, each time at the first byte that the part before it
-// cannot hold. Where no such byte stands behind the userinfo, all of it is the host.
+// cannot hold. Where no such byte stands after the userinfo, all of it is the host.
 #[inline(always)]
 fn cut_sip(text: &[u8]) -> Cuts<'_>
     ensures { IsSipCut text.now (cut_parts result) }
@@ -148,7 +151,7 @@ fn cut_sip(text: &[u8]) -> Cuts<'_>
     }
 }
 
-// The user and the password, and what stands behind their `@`.
+// The user and the password, and what stands after their `@`.
 fn cut_userinfo(text: &[u8]) -> (Option<&[u8]>, Option<&[u8]>, &[u8])
     ensures { IsInfoCut text.now (option_copied result.0) (option_copied result.1) result.2.now }
 {
@@ -227,7 +230,7 @@ pub fn is_port(text: &[u8]) -> bool
     true
 }
 
-// Whether the text is URI parameters, each behind its `;`.
+// Whether the text is URI parameters, each after its `;`.
 fn are_params(text: &[u8]) -> bool
     ensures { IsTrue result ↔ UriParameters text.now }
 {
@@ -296,7 +299,7 @@ fn is_header(text: &[u8]) -> bool
 // Whether the text is one or more characters of the class.
 fn is_some_chars(class: Class, text: &[u8]) -> bool
     requires { is_in class percent ≡ false }
-    ensures { IsTrue result ↔ OneOrMore (Char class) text.now }
+    ensures { IsTrue result ↔ OneOrMore (ClassChar class) text.now }
 {
     !text.is_empty() && is_chars(class, text)
 }
@@ -304,7 +307,7 @@ fn is_some_chars(class: Class, text: &[u8]) -> bool
 // Whether the text is characters of the class: its bytes, and escapes. A `%` is never such a byte.
 fn is_chars(class: Class, text: &[u8]) -> bool
     requires { is_in class percent ≡ false }
-    ensures { IsTrue result ↔ Many (Char class) text.now }
+    ensures { IsTrue result ↔ Many (ClassChar class) text.now }
 {
     let mut rest = text;
     'chars: loop {
@@ -316,7 +319,7 @@ fn is_chars(class: Class, text: &[u8]) -> bool
     }
 }
 
-// What stands behind the escape at the front.
+// What stands after the escape at the front.
 fn strip_escape(text: &[u8]) -> Option<&[u8]>
     ensures { option_copied result ≡ behind_escape text.now }
 {

@@ -1,31 +1,6 @@
-use Rattle.std.specs.Prelude.{◌≤◌, ℕ}
-use Rattle.sip_times.specs.declared.rules.Rules.{Rules}
-
--- timers T1, T2 and T4 of RFC 3261 section 17, and how far before a due moment and how far behind it an element may be, in milliseconds; and the
--- rules that it was built by: those of RFC 3261, or these with the Accepted states of RFC 6026 section 7
-pub record Times : Type 0 where
-  pub t1 : ℕ
-  pub t2 : ℕ
-  pub t4 : ℕ
-  pub early : ℕ
-  pub late : ℕ
-  pub rules : Rules
-
--- the times are within the limits
-pub record AreTimes (p : Times) : Type 0 where
-  pub t1_low : 1 ≤ p.t1
-  pub t1_high : p.t1 ≤ 10000
-  pub t2_low : 1 ≤ p.t2
-  pub t2_high : p.t2 ≤ 60000
-  pub t4_low : 1 ≤ p.t4
-  pub t4_high : p.t4 ≤ 60000
-  pub early_high : p.early ≤ 10000
-  pub late_high : p.late ≤ 10000
+use Rattle.sip_standard.specs.declared.rules.Rules.{Rules}
+use Rattle.sip_standard.specs.Times.{Times}
 
 -- the same times under other rules
 abbrev pub under : Rules → Times → Times
 under rules p = record { t1 = p.t1; t2 = p.t2; t4 = p.t4; early = p.early; late = p.late; rules = rules }
-
--- the last moment that a log can name, in milliseconds
-abbrev pub last_moment : ℕ
-last_moment = 9999999999999

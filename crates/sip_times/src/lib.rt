@@ -2,10 +2,7 @@
 //! by, and what an entry of a log says was done.
 #![tactic(auto)]
 
-mod action;
 mod params;
-mod rules;
 
-pub use action::Action;
 pub use params::Params;
-pub use rules::Rules;
+pub use sip_standard::{Action, Rules};

@@ -1,10 +1,11 @@
 //! The times of an element: its timers T1, T2 and T4, and how far from them it may be.
 ghost use Rattle.std.specs.Prelude.{◌≡◌, ◌≤◌, ◌<◌, ◌^◌, MatchOption, Some};
-ghost use Rattle.sip_times.specs.declared.rules.Rules.TheVariants.{R6026};
-ghost use Rattle.sip_times.specs.Times.{Times, AreTimes, under, last_moment};
-ghost use Rattle.sip_times.specs.Limits.{open_at, close_at, window_at};
+ghost use Rattle.sip_standard.specs.declared.rules.Rules.TheVariants.{R6026};
+ghost use Rattle.sip_standard.specs.Times.{Times, AreTimes, last_moment};
+ghost use Rattle.sip_times.specs.Times.{under};
+ghost use Rattle.sip_standard.specs.Window.{open_at, close_at, window_at};
 
-use crate::rules::Rules;
+use sip_standard::Rules;
 use std::marker::Model;
 
 /// Timers T1, T2 and T4 of RFC 3261 section 17, and the tolerances of the moments, in milliseconds; and the rules that
@@ -20,7 +21,7 @@ pub struct Params {
 }
 
 impl Model for Params {
-    ghost use Rattle.sip_times.specs.Times.{Times, AreTimes};
+    ghost use Rattle.sip_standard.specs.Times.{Times, AreTimes};
 
     ghost Value = { Times };
 
@@ -108,7 +109,7 @@ impl Params {
         u64::from(self.early)
     }
 
-    /// How far behind its due moment an element may act, in milliseconds.
+    /// How far after its due moment an element may act, in milliseconds.
     pub fn late(&self) -> u64
         ensures value { result ≡ self.now.late }
         ensures within { AreTimes self.now }

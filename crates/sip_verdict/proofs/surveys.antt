@@ -7,6 +7,7 @@ pub mod FirstFinding
 pub mod Forgetting
 pub mod Found
 pub mod FoundParts
+pub mod Gathering
 pub mod HasSurvey
 pub mod Hearing
 pub mod IdleAgain
@@ -21,10 +22,12 @@ pub mod OneFinding
 pub mod OneSurvey
 pub mod Ordered
 pub mod PartFaults
+pub mod PartLogs
 pub mod Parts
 pub mod Passing
 pub mod Sound
 pub mod Swept
+pub mod Taking
 pub mod Taken
 pub mod Unheard
 pub mod Waiting

@@ -1,11 +1,11 @@
 -- What a judge that takes the entries of a log as they come stands for.
 use Rattle.std.specs.Prelude.{◌≡◌, ◌≢◌, ◌≤◌, ◌+◌, ℕ, List, [], ◌∷◌, ◌++◌, Option, Some, None, Result, Ok, Err, All, length}
 use Rattle.sip_key.specs.Key.{KeyParts}
-use Rattle.sip_machine.specs.Times.{Times, last_moment}
+use Rattle.sip_standard.specs.Times.{Times, last_moment}
 use Rattle.sip_machine.specs.Texts.{Texts}
 use Rattle.sip_states.specs.Runs.{RuledRun}
 use Rattle.sip_states.specs.Tables.{Tabled}
-use Rattle.sip_log.specs.Log.{most_entries}
+use Rattle.sip_standard.specs.LogSays.{most_entries}
 use Rattle.sip_verdict.specs.declared.stage.Stage.{Stage}
 use Rattle.sip_verdict.specs.declared.stage.Stage.TheVariants.{Open, Told, Failed}
 use Rattle.sip_verdict.specs.declared.step_error.StepError.{StepError}
@@ -41,7 +41,7 @@ pub record StandsFor (j : Judging) (es : List (Observation KeyParts)) : Type 0 w
   pub moment : j.moment ≡ newest_moment es
   pub follows : AreFollowed j.texts j.tables j.left es
 
--- an entry of this number and moment may come behind one of the number count and the moment last
+-- an entry of this number and moment may come after one of the number count and the moment last
 pub record MayComeNext (count last number moment : ℕ) : Type 0 where
   pub next : number ≡ count + 1
   pub order : last ≤ moment
@@ -53,7 +53,7 @@ abbrev pub CanWaitUntil : Times → List (Observation KeyParts) → ℕ → Type
 CanWaitUntil p es moment =
     All (λ key. (x : (key_machines p).State key) × RuledRun ((key_machines p).rules key) (events_of (key_machines p) key es) moment x) (keys_of (key_machines p) es)
 
--- what is judged of an entry behind those that the judge stood for: it stands for this one too, or this is the verdict of the entry
+-- what is judged of an entry after those that the judge stood for: it stands for this one too, or this is the verdict of the entry
 abbrev pub IsNext : Judging → List (Observation KeyParts) → Observation KeyParts → Option Verdict → Type 0
 IsNext j es e None = StandsFor j (es ++ e ∷ [])
 IsNext j es e (Some v) = IsTrouble (key_machines j.tables.times) es e v
@@ -64,7 +64,7 @@ CanAnswer Open answer = answer ≢ Err errors.Failed
 CanAnswer (Told v) answer = answer ≡ Ok (Some v)
 CanAnswer Failed answer = answer ≡ Err errors.Failed
 
--- how far it is behind an answer
+-- how far it is after an answer
 abbrev pub stage_behind : Result (Option Verdict) StepError → Stage
 stage_behind (Ok None) = Open
 stage_behind (Ok (Some v)) = Told v

@@ -1,7 +1,7 @@
 -- What a legal log is.
 use Rattle.std.specs.Prelude.{◌≡◌, ℕ, false, List, All, IfSome}
-use Rattle.sip_message.specs.Outcome.{gives}
-use Rattle.sip_message.specs.Says.{Said, Says}
+use Rattle.sip_standard.specs.Outcome.{gives}
+use Rattle.sip_standard.specs.Says.{Said, Says}
 use Rattle.sip_key.specs.declared.role.Direction.{Direction}
 use Rattle.sip_key.specs.Concerns.{lacks_cookie}
 use Rattle.sip_verdict.specs.Reading.{HasRuns}

@@ -11,6 +11,7 @@ pub mod Rendering
 pub mod Showing
 pub mod SurveyLaws
 pub mod SurveyOf
+pub mod SurveyParts
 pub mod SurveyText
 pub mod Surveys
 pub mod VerdictOf

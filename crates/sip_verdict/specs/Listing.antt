@@ -1,11 +1,12 @@
 -- The states of the transactions that an entry of a log concerns.
 use Rattle.std.specs.Prelude.{◌≡◌, ◌≤◌, ◌<◌, ◌+◌, ◌⊎◌, ◌&&◌, ℕ, Bool, true, false, Option, Some, None, IsSomeAnd, List, [], ◌∷◌, ◌++◌, if◌then◌else◌, length, codes, bytes_eq, string_bytes}
-use Rattle.sip_times.specs.declared.action.Action.{Action}
-use Rattle.sip_times.specs.declared.action.Action.TheVariants.{Sent, Received, Failed, Mark, Restart}
-use Rattle.sip_machine.specs.Times.{Times}
+use Rattle.sip_standard.specs.declared.action.Action.{Action}
+use Rattle.sip_standard.specs.declared.action.Action.TheVariants.{Sent, Received, Failed, Mark, Restart}
+use Rattle.sip_standard.specs.Times.{Times}
 use Rattle.sip_states.specs.Runs.{AfterRun}
-use Rattle.sip_log.specs.Spelling.{Item}
-use Rattle.sip_log.specs.Log.{LogEnd, Readable, IsLogOf}
+use Rattle.sip_standard.specs.LogEntry.{Item}
+use Rattle.sip_standard.specs.LogSays.{LogEnd}
+use Rattle.sip_log.specs.Log.{Readable, IsLogOf}
 use Rattle.sip_listing.specs.Lines.{AreLinesOf}
 use Rattle.sip_verdict.specs.declared.verdict.Verdict.{Verdict}
 use Rattle.sip_verdict.specs.declared.verdict.Verdict.TheVariants.{Legal, Malformed, Breach, Undecided, LogFault}
@@ -37,7 +38,7 @@ pub record Words (K : Type 0) (m : Machines K) : Type 0 where
   pub transaction : ℕ → K → List (List ℕ) → List ℕ
   pub state : (key : K) → (List ℕ → ℕ) → m.State key → List ℕ
 
--- the text of a key that the entry behind these concerns: its lines are of exactly the states in which a run can stand whose last step is the entry's
+-- the text of a key that the entry after these concerns: its lines are of exactly the states in which a run can stand whose last step is the entry's
 pub record IsKeyText {K : Type 0} (m : Machines K) (w : Words K m) (number : List ℕ → ℕ) (front : List (Observation K)) (e : Observation K) (key : K) (text : List ℕ) : Type 0 where
   pub place : ℕ
   pub placed : IsFirst (λ k. m.same key k ≡ true) (keys_of m (front ++ e ∷ [])) place
@@ -45,13 +46,13 @@ pub record IsKeyText {K : Type 0} (m : Machines K) (w : Words K m) (number : Lis
   pub states : AreLinesOf (w.state key number) (AfterRun (m.rules key) (events_of m key front) e.event) lines
   pub whole : text ≡ w.transaction place key lines
 
--- the texts of these keys, one behind another
+-- the texts of these keys, one after another
 abbrev pub AreKeyTexts : {K : Type 0} (m : Machines K) → Words K m → (List ℕ → ℕ) → List (Observation K) → Observation K → List K → List ℕ → Type 0
 AreKeyTexts m w number front e [] text = text ≡ []
 AreKeyTexts m w number front e (key ∷ keys) text =
     (first : List ℕ) × (more : List ℕ) × IsKeyText m w number front e key first × AreKeyTexts m w number front e keys more × (text ≡ first ++ more)
 
--- the text of the entry behind these: its keys, or that it concerns none
+-- the text of the entry after these: its keys, or that it concerns none
 abbrev pub IsEntryText : {K : Type 0} (m : Machines K) → Words K m → (List ℕ → ℕ) → List (Observation K) → Observation K → List K → List ℕ → Type 0
 IsEntryText m w number front e [] text = text ≡ codes "no transaction\n"
 IsEntryText m w number front e (key ∷ keys) text = AreKeyTexts m w number front e (key ∷ keys) text
@@ -75,7 +76,7 @@ trouble_of (Breach entry transaction) = Some entry
 trouble_of (Undecided entry transaction) = Some entry
 trouble_of (LogFault entry reason) = Some entry
 
--- there is no entry 0 where the log has a header, and none behind the last one of a legal log
+-- there is no entry 0 where the log has a header, and none after the last one of a legal log
 abbrev pub HasNoEntry : {K : Type 0} → EntryReading K → List ℕ → ℕ → Type 0
 HasNoEntry r input entry =
     ((entry ≡ 0) × ((times : Times) × (items : List Item) × (end : LogEnd) × IsLogOf input (Readable times items end)))

@@ -1,5 +1,5 @@
-use Rattle.sip_log.specs.LogFault.{LogFault}
-use Rattle.sip_log.specs.LogFault as faults
+use Rattle.sip_standard.specs.LogFault.{LogFault}
+use Rattle.sip_standard.specs.LogFault as faults
 use Rattle.sip_verdict.specs.declared.log_reason.LogReason.{LogReason}
 use Rattle.sip_verdict.specs.declared.log_reason.LogReason.TheVariants as reasons
 

@@ -1,24 +1,24 @@
 -- How a log of SIP messages is read: which of them have a fault, and which transactions the others concern.
 use Rattle.std.specs.Prelude.{◌≡◌, ℕ, true, false, Option, None, Some, MatchOption, List, [], fold, flat_map}
-use Rattle.sip_message.specs.declared.fault.Fault.{Fault}
-use Rattle.sip_message.specs.declared.fault.Unit.TheVariants.{Head}
-use Rattle.sip_message.specs.declared.fault.Reason.TheVariants.{NoCookie}
-use Rattle.sip_message.specs.Transport.{is_reliable}
-use Rattle.sip_message.specs.Outcome.{gives, stops}
-use Rattle.sip_message.specs.Says.{Said, Says}
+use Rattle.sip_standard.specs.declared.fault.Fault.{Fault}
+use Rattle.sip_standard.specs.declared.fault.Unit.TheVariants.{Head}
+use Rattle.sip_standard.specs.declared.fault.Reason.TheVariants.{NoCookie}
+use Rattle.sip_standard.specs.Transport.{is_reliable}
+use Rattle.sip_standard.specs.Outcome.{gives, stops}
+use Rattle.sip_standard.specs.Says.{Said, Says}
 use Rattle.sip_key.specs.declared.role.Direction.{Direction}
 use Rattle.sip_key.specs.declared.role.Direction.TheVariants as way
 use Rattle.sip_key.specs.Key.{KeyParts, same_key}
 use Rattle.sip_key.specs.Concerns.{Concerns, lacks_cookie}
-use Rattle.sip_times.specs.declared.action.Action.{Action}
-use Rattle.sip_times.specs.declared.action.Action.TheVariants.{Sent, Received, Failed, Mark, Restart}
+use Rattle.sip_standard.specs.declared.action.Action.{Action}
+use Rattle.sip_standard.specs.declared.action.Action.TheVariants.{Sent, Received, Failed, Mark, Restart}
 use Rattle.sip_machine.specs.declared.event.Kind.TheVariants.{Request}
 use Rattle.sip_machine.specs.declared.event.Method.TheVariants.{Other}
 use Rattle.sip_machine.specs.Message.{kind_of}
-use Rattle.sip_machine.specs.Times.{Times}
+use Rattle.sip_standard.specs.Times.{Times}
 use Rattle.sip_machine.specs.MachineEvent.{MachineEvent}
 use Rattle.sip_states.specs.KeyMachine.{machine_of_key, PhaseOf, key_rules}
-use Rattle.sip_log.specs.Spelling.{Item}
+use Rattle.sip_standard.specs.LogEntry.{Item}
 use Rattle.sip_verdict.specs.Keyed.{Observation, Machines, with_key}
 use Rattle.sip_verdict.specs.Reading.{EntryReading}
 

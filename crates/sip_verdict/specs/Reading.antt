@@ -1,7 +1,7 @@
 use Rattle.std.specs.Prelude.{◌≡◌, ◌+◌, ◌⊎◌, [], ◌∷◌, ◌++◌, ℕ, None, List, length, All, ⊤}
-use Rattle.sip_machine.specs.Times.{Times}
-use Rattle.sip_log.specs.Spelling.{Item}
-use Rattle.sip_log.specs.Log.{LogEnd, Clean, Stops, IsLog, NoHeader}
+use Rattle.sip_standard.specs.Times.{Times}
+use Rattle.sip_standard.specs.LogEntry.{Item}
+use Rattle.sip_standard.specs.LogSays.{LogEnd, Clean, Stops, LogSays, LacksHeader}
 use Rattle.sip_verdict.specs.declared.log_reason.LogReason.TheVariants.{Header}
 use Rattle.sip_verdict.specs.declared.verdict.Verdict.{Verdict}
 use Rattle.sip_verdict.specs.declared.verdict.Verdict.TheVariants.{Legal, LogFault}
@@ -11,13 +11,13 @@ use Rattle.sip_verdict.specs.Verdicts.{AllRun, IsFine, IsGood, IsTrouble}
 
 -- The verdict of an input of any bytes, whatever its messages are.
 
--- how a log is read: the machines of its keys with these times, and what is observed of an entry behind others
+-- how a log is read: the machines of its keys with these times, and what is observed of an entry after others
 pub record EntryReading (K : Type 0) : Type 1 where
   pub machines : Times → Machines K
   pub Observes : List (Observation K) → Item → Observation K → Type 0
 
--- the verdict of the entries that are left and of how they end, behind others in no trouble: that the log is legal, or that the next entry
--- cannot be read; or that of the next entry, if it is in trouble, and if it is not, that of what is left behind it
+-- the verdict of the entries that are left and of how they end, after others in no trouble: that the log is legal, or that the next entry
+-- cannot be read; or that of the next entry, if it is in trouble, and if it is not, that of what is left after it
 abbrev pub Judges : {K : Type 0} → EntryReading K → Times → List (Observation K) → List Item → LogEnd → Verdict → Type 0
 Judges r times es [] Clean v = v ≡ Legal (length es) (length (keys_of (r.machines times) es))
 Judges r times es [] (Stops fault) v = v ≡ LogFault (length es + 1) (reason_of fault)
@@ -28,12 +28,12 @@ Judges {K} r times es (item ∷ items) end v =
 -- the verdict of an input: that of its header, or of its entries
 abbrev pub IsVerdictBy : {K : Type 0} → EntryReading K → List ℕ → Verdict → Type 0
 IsVerdictBy r input v =
-    (NoHeader input × (v ≡ LogFault 0 Header))
-    ⊎ ((times : Times) × (items : List Item) × (end : LogEnd) × IsLog input times items end × Judges r times [] items end v)
+    (LacksHeader input × (v ≡ LogFault 0 Header))
+    ⊎ ((times : Times) × (items : List Item) × (end : LogEnd) × LogSays input times items end × Judges r times [] items end v)
 
 -- The front of a log.
 
--- what is observed of the entries, one behind another, behind these
+-- what is observed of the entries, one after another, after these
 abbrev pub AreObserved : {K : Type 0} → EntryReading K → List (Observation K) → List Item → List (Observation K) → Type 0
 AreObserved r before [] [] = ⊤
 AreObserved r before [] (e ∷ es) = ⊥
@@ -43,7 +43,7 @@ AreObserved r before (item ∷ items) (e ∷ es) = r.Observes before item e × A
 -- the log of the input has these times, begins with entries of which this is observed, none of them in trouble, and goes on and ends so
 pub record BeginsWell {K : Type 0} (r : EntryReading K) (input : List ℕ) (times : Times) (es : List (Observation K)) (rest : List Item) (end : LogEnd) : Type 0 where
   pub items : List Item
-  pub log : IsLog input times (items ++ rest) end
+  pub log : LogSays input times (items ++ rest) end
   pub observed : AreObserved r [] items es
   pub good : IsGood (r.machines times) es
 

@@ -1,8 +1,8 @@
 -- The text of a verdict: one line, without its end.
 use Rattle.std.specs.Prelude.{ℕ, List, ◌++◌, codes, decimal}
-use Rattle.sip_message.specs.declared.fault as fault
-use Rattle.sip_message.specs.declared.fault.Unit.TheVariants.{Head, Line, Body}
-use Rattle.sip_message.specs.Reason.{reason_number, reason_name}
+use Rattle.sip_standard.specs.declared.fault as fault
+use Rattle.sip_standard.specs.declared.fault.Unit.TheVariants.{Head, Line, Body}
+use Rattle.sip_standard.specs.Reason.{reason_number, reason_name}
 use Rattle.sip_verdict.specs.declared.log_reason.LogReason.{LogReason}
 use Rattle.sip_verdict.specs.declared.log_reason.LogReason.TheVariants.{Header, EntryLine, Truncated, Order, Limit}
 use Rattle.sip_verdict.specs.declared.verdict.Verdict.{Verdict}

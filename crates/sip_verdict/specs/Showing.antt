@@ -1,12 +1,14 @@
-use Rattle.std.specs.Prelude.{◌≡◌, ◌+◌, ◌⊎◌, ◌++◌, [], ◌∷◌, ℕ, true, List, Some, length, codes, decimal}
-use Rattle.sip_machine.specs.Times.{Times}
-use Rattle.sip_times.specs.declared.action.Action.{Action}
-use Rattle.sip_times.specs.declared.action.Action.TheVariants.{Sent, Received, Failed, Mark, Restart}
-use Rattle.sip_log.specs.Spelling.{line_feed, space, Item, entry_text}
-use Rattle.sip_log.specs.Log.{LogEnd, Clean, Stops, Faulty, Readable, IsLogOf}
-use Rattle.sip_message.specs.declared.fault.Fault.{Fault}
+use Rattle.std.specs.Prelude.{◌≡◌, ◌+◌, ◌⊎◌, ◌++◌, [], ◌∷◌, ℕ, true, List, length, codes, decimal}
+use Rattle.sip_standard.specs.Times.{Times}
+use Rattle.sip_standard.specs.declared.action.Action.{Action}
+use Rattle.sip_standard.specs.declared.action.Action.TheVariants.{Sent, Received, Failed, Mark, Restart}
+use Rattle.sip_standard.specs.LogSays.{line_feed, LogEnd, Clean, Stops}
+use Rattle.sip_standard.specs.LogEntry.{entry_says, Item}
+use Rattle.sip_log.specs.Log.{Faulty, Readable, IsLogOf}
+use Rattle.sip_standard.specs.declared.fault.Fault.{Fault}
 use Rattle.sip_message.specs.Message.{Message, Spells}
-use Rattle.sip_message.specs.Faults.{FaultOf}
+use Rattle.sip_standard.specs.Outcome.{stops}
+use Rattle.sip_standard.specs.Says.{Says}
 use Rattle.sip_message.specs.Canon.{canon}
 use Rattle.sip_verdict.specs.declared.log_reason.LogReason.TheVariants as reasons
 use Rattle.sip_verdict.specs.declared.verdict.Verdict.TheVariants as verdicts
@@ -32,9 +34,9 @@ IsCanonOf Restart bytes text = text ≡ []
 
 -- an entry with this number: the number, SP, and its spelling with the canonical form in place of its message
 abbrev pub shown_entry : ℕ → Item → List ℕ → List ℕ
-shown_entry number e text = decimal number ++ space ∷ entry_text (record { action = e.action; moment = e.moment; text = text })
+shown_entry number e text = decimal number ++ codes " " ++ entry_says (record { action = e.action; moment = e.moment; text = text })
 
--- this text is shown of the entries behind so many others
+-- this text is shown of the entries after so many others
 abbrev pub AreShown : ℕ → List Item → List ℕ → Type 0
 AreShown count [] text = text ≡ []
 AreShown count (e ∷ es) text =
@@ -46,9 +48,9 @@ last_text (End entries) = codes "end " ++ decimal entries
 last_text (Malformed entry fault) = rendered (verdicts.Malformed entry fault)
 last_text (LogFault entry reason) = rendered (verdicts.LogFault entry reason)
 
--- how it ends behind so many entries: with the fault of the next one's message, or with the log
+-- how it ends after so many entries: with the fault of the next one's message, or with the log
 abbrev pub EndsAs : ℕ → List Item → LogEnd → Shown → Type 0
-EndsAs count (e ∷ rest) end shown = (fault : Fault) × (has_message e.action ≡ true) × FaultOf e.text (Some fault) × (shown ≡ Malformed (count + 1) fault)
+EndsAs count (e ∷ rest) end shown = (fault : Fault) × (has_message e.action ≡ true) × Says e.text (stops fault) × (shown ≡ Malformed (count + 1) fault)
 EndsAs count [] Clean shown = shown ≡ End count
 EndsAs count [] (Stops fault) shown = shown ≡ LogFault (count + 1) (reason_of fault)
 

@@ -1,10 +1,9 @@
 -- The survey of an input: all that is wrong in its log, each transaction being judged for itself.
 use Rattle.std.specs.Prelude.{◌≡◌, ◌↔◌, ◌+◌, ◌<◌, ◌⊎◌, ℕ, Some, List, [], ◌∷◌, ◌++◌, length, Contains, AllPairs, ⊤}
 use Rattle.sip_key.specs.Key.{KeyParts}
-use Rattle.sip_machine.specs.Times.{Times}
-use Rattle.sip_log.specs.Spelling.{Item}
-use Rattle.sip_log.specs.Log.{LogEnd, Clean, Stops}
-use Rattle.sip_log.specs.LogSays.{LogSays, LacksHeader}
+use Rattle.sip_standard.specs.Times.{Times}
+use Rattle.sip_standard.specs.LogEntry.{Item}
+use Rattle.sip_standard.specs.LogSays.{LogEnd, Clean, Stops, LogSays, LacksHeader}
 use Rattle.sip_verdict.specs.declared.finding.Finding.{Finding}
 use Rattle.sip_verdict.specs.declared.finding.Finding.TheVariants.{Malformed, Breach, Undecided}
 use Rattle.sip_verdict.specs.declared.survey_end.SurveyEnd.{SurveyEnd}

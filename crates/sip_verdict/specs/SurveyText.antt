@@ -1,6 +1,6 @@
 -- The text of a survey: a line for each finding as its entry passes, and a last line.
 use Rattle.std.specs.Prelude.{◌≡◌, ◌++◌, ◌∷◌, [], ℕ, Bool, true, false, List, length, filter, flat_map, codes, decimal}
-use Rattle.sip_log.specs.Spelling.{line_feed}
+use Rattle.sip_standard.specs.LogSays.{line_feed}
 use Rattle.sip_verdict.specs.declared.finding.Finding.{Finding}
 use Rattle.sip_verdict.specs.declared.finding.Finding.TheVariants.{Malformed, Breach, Undecided}
 use Rattle.sip_verdict.specs.declared.survey_end.SurveyEnd.{SurveyEnd}

@@ -2,14 +2,13 @@
 use Rattle.std.specs.Prelude.{◌≡◌, ◌≢◌, ◌+◌, ◌<◌, ◌⊎◌, ℕ, true, Some, None, MatchOption, List, [], ◌∷◌, ◌++◌, length, map, filter, fold, flat_map, if◌then◌else◌, All, AllPairs}
 use Rattle.std.specs.List.{list_any}
 use Rattle.sip_key.specs.Key.{KeyParts, same_key}
-use Rattle.sip_machine.specs.Times.{Times}
+use Rattle.sip_standard.specs.Times.{Times}
 use Rattle.sip_machine.specs.MachineEvent.{MachineEvent}
 use Rattle.sip_machine.specs.Figure.{Owing}
 use Rattle.sip_states.specs.KeyMachine.{machine_of_key, transaction_of}
 use Rattle.sip_states.specs.Stands.{Stands, StandsBehind}
-use Rattle.sip_log.specs.Spelling.{Item}
-use Rattle.sip_log.specs.Log.{LogEnd, Clean, Stops}
-use Rattle.sip_log.specs.LogSays.{LogSays, LacksHeader}
+use Rattle.sip_standard.specs.LogEntry.{Item}
+use Rattle.sip_standard.specs.LogSays.{LogEnd, Clean, Stops, LogSays, LacksHeader}
 use Rattle.sip_verdict.specs.declared.verdict.Verdict.{Verdict}
 use Rattle.sip_verdict.specs.declared.verdict.Verdict.TheVariants.{Legal, Malformed, Breach, Undecided, LogFault}
 use Rattle.sip_verdict.specs.declared.log_reason.LogReason.TheVariants.{Header}
@@ -21,7 +20,7 @@ use Rattle.sip_verdict.specs.MessageReading.{direction_of, silent_observation, O
 abbrev pub keys_in : List (Observation KeyParts) → List KeyParts
 keys_in es = fold (λ keys key. if list_any (same_key key) keys then keys else keys ++ key ∷ []) [] (flat_map (λ e. e.keys) es)
 
--- what is observed of an entry behind these; where it has no message, it is a mark or a restart, which concerns the keys of all of them
+-- what is observed of an entry after these; where it has no message, it is a mark or a restart, which concerns the keys of all of them
 abbrev pub Sees : List (Observation KeyParts) → Item → Observation KeyParts → Type 0
 Sees es item e =
     MatchOption (direction_of item.action) (e ≡ silent_observation item.action item.moment (keys_in es)) (λ direction. ObservesMessage direction item e)
@@ -36,7 +35,7 @@ RunsOver p es key =
     let key_machine = transaction_of (machine_of_key p.rules key) in
     (y : Owing key_machine.Phase) × Stands key_machine.figure p (events_for key es) (fold (λ moment e. e.event.moment) 0 es) y
 
--- the entry behind these concerns the key, and its runs that end with the entry's step can stand in more than 1,024 states
+-- the entry after these concerns the key, and its runs that end with the entry's step can stand in more than 1,024 states
 abbrev pub IsWideAt : Times → List (Observation KeyParts) → Observation KeyParts → KeyParts → Type 0
 IsWideAt p front e key =
     let key_machine = transaction_of (machine_of_key p.rules key) in
@@ -50,7 +49,7 @@ IsFirstKey P keys number =
     (before : List KeyParts) × (key : KeyParts) × (rest : List KeyParts)
     × (keys ≡ before ++ key ∷ rest) × P key × All (λ k. ¬ (P k)) before × (number ≡ length before + 1)
 
--- the verdict of the entry behind these, which is in trouble: its fault, else the first key without a run, else the first that is too wide
+-- the verdict of the entry after these, which is in trouble: its fault, else the first key without a run, else the first that is too wide
 abbrev pub HasTrouble : Times → List (Observation KeyParts) → Observation KeyParts → Verdict → Type 0
 HasTrouble p front e (Malformed entry fault) = (entry ≡ length front + 1) × (e.fault ≡ Some fault)
 HasTrouble p front e (Breach entry transaction) =
@@ -60,8 +59,8 @@ HasTrouble p front e (Undecided entry transaction) =
     × IsFirstKey (IsWideAt p front e) (keys_in (front ++ e ∷ [])) transaction
 HasTrouble p front e v = ⊥
 
--- the verdict of the entries that are left and of how they end, behind others in no trouble: that the log is legal, or that the next entry
--- cannot be read; or that of the next entry, if it is in trouble, and if it is not, that of what is left behind it
+-- the verdict of the entries that are left and of how they end, after others in no trouble: that the log is legal, or that the next entry
+-- cannot be read; or that of the next entry, if it is in trouble, and if it is not, that of what is left after it
 abbrev pub IsVerdictBehind : Times → List (Observation KeyParts) → List Item → LogEnd → Verdict → Type 0
 IsVerdictBehind p es [] Clean v = v ≡ Legal (length es) (length (keys_in es))
 IsVerdictBehind p es [] (Stops fault) v = v ≡ LogFault (length es + 1) (reason_of fault)

@@ -1,8 +1,8 @@
 //! What is found at an entry.
 ghost use Rattle.std.specs.Prelude.{◌≡◌, ◌≤◌, ◌+◌, ◌++◌, ◌∷◌, [], List, All, Contains, IfOk, OnOk, length};
 ghost use Rattle.sip_key.specs.Key.{KeyParts};
-ghost use Rattle.sip_machine.specs.Times.{last_moment};
-ghost use Rattle.sip_log.specs.Log.{most_entries};
+ghost use Rattle.sip_standard.specs.Times.{last_moment};
+ghost use Rattle.sip_standard.specs.LogSays.{most_entries};
 ghost use Rattle.sip_log.specs.Told.{item};
 ghost use Rattle.sip_verdict.specs.declared.finding.Finding.{Finding};
 ghost use Rattle.sip_verdict.specs.Keyed.{Observation, newest_moment};
@@ -23,7 +23,7 @@ use crate::sweeping::SPARE;
 use crate::troubled::Troubled;
 use sip_log::Entry;
 use sip_machine::Event;
-use sip_message::Fault;
+use sip_standard::Fault;
 use std::alloc::{AllocError, Global};
 use std::hash::BuildHasher;
 

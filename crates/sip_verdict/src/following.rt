@@ -40,7 +40,7 @@ pub struct Survey<H: BuildHasher> {
 
 impl<H: BuildHasher> Model for Survey<H> {
     ghost use Rattle.std.specs.Prelude.{◌≡◌, ◌≤◌, ◌+◌, [], false};
-    ghost use Rattle.sip_log.specs.Log.{most_entries};
+    ghost use Rattle.sip_standard.specs.LogSays.{most_entries};
     ghost use Rattle.sip_verdict.specs.Surveys.{Surveying};
     ghost use Rattle.sip_verdict.specs.inner.TablesTracking.{MayTake};
     ghost use Rattle.sip_verdict.specs.inner.Surveying.{AreWatched, IsFresh};

@@ -39,7 +39,7 @@ pub fn judge<R: Source, H: BuildHasher + Drop>(
     }
 }
 
-/// Reads on behind the header, to the end of the log or the first entry in trouble: the verdict. Every entry is read into
+/// Reads on after the header, to the end of the log or the first entry in trouble: the verdict. Every entry is read into
 /// the same buffer.
 fn judge_entries<R: Source, H: BuildHasher + Drop>(
     alloc: Global,

@@ -8,11 +8,13 @@ ghost use Rattle.sip_verdict.specs.Keyed.{Observation, HasRun};
 ghost use Rattle.sip_verdict.specs.MessageReading.{key_machines, message_reading};
 ghost use Rattle.sip_verdict.specs.Reading.{IsVerdictBy};
 ghost use Rattle.sip_key.specs.Key.{KeyParts};
-ghost use Rattle.sip_log.specs.declared.format.Format.{Format};
-ghost use Rattle.sip_log.specs.declared.format.Format.TheVariants.{One, Two};
-ghost use Rattle.sip_log.specs.Spelling.{Item, Header};
-ghost use Rattle.sip_log.specs.Log.{Clean, Readable, IsLogOf};
-ghost use Rattle.sip_machine.specs.Times.{Times};
+ghost use Rattle.sip_standard.specs.declared.format.Format.{Format};
+ghost use Rattle.sip_standard.specs.declared.format.Format.TheVariants.{One, Two};
+ghost use Rattle.sip_standard.specs.LogEntry.{Item};
+ghost use Rattle.sip_standard.specs.LogHeader.{Header};
+ghost use Rattle.sip_standard.specs.LogSays.{Clean};
+ghost use Rattle.sip_log.specs.Log.{Readable, IsLogOf};
+ghost use Rattle.sip_standard.specs.Times.{Times};
 
 use crate::verdict::Verdict;
 
@@ -31,7 +33,7 @@ pub fn a_verdict_is_that_by_the_reading_of_messages()
     ensures { (input : List ℕ) (verdict : VerdictValue) → IsVerdictOf input verdict ↔ IsVerdictBy message_reading input verdict }
 {}
 
-/// A log of format 1 that is read to its end has, behind a header of format 2 with the same times, the same verdict.
+/// A log of format 1 that is read to its end has, after a header of format 2 with the same times, the same verdict.
 pub fn a_log_of_format_1_has_its_verdict_in_format_2(_verdict: &Verdict)
     ensures { (input other : List ℕ) (p : Times) (behind : List ℕ) (items : List Item) → Header One p input behind → Header Two p other behind
         → IsLogOf input (Readable p items Clean) → IsVerdictOf input _verdict.now ↔ IsVerdictOf other _verdict.now }
@@ -49,7 +51,7 @@ pub fn a_legal_log_has_runs()
     ensures { (input : List ℕ) (entries transactions : ℕ) → IsVerdictOf input (Legal entries transactions) → IsLegalLog input entries transactions }
 {}
 
-/// A transaction that has a run over some entries, in the order of their moments, has one over the first of them. So behind a breach it has
+/// A transaction that has a run over some entries, in the order of their moments, has one over the first of them. So after a breach it has
 /// none, whatever comes.
 pub fn a_run_over_entries_holds_one_over_fewer()
     ensures { (p : Times) (key : KeyParts) (front more : List (Observation KeyParts)) → AllPairs (λ a b. a.event.moment ≤ b.event.moment) (front ++ more) →

@@ -6,6 +6,7 @@ mod concerned;
 mod entries;
 mod finding;
 mod following;
+mod gathering;
 mod judge_error;
 mod judging;
 mod laws;
@@ -35,6 +36,7 @@ mod walking;
 
 pub use finding::Finding;
 pub use following::Survey;
+pub use gathering::survey_bytes;
 pub use judge_error::JudgeError;
 pub use judging::{judge, judge_bytes};
 pub use laws::{
@@ -48,7 +50,8 @@ pub use rendering::{end_line, finding_line, render};
 pub use show_error::ShowError;
 pub use showing::show;
 pub use shown::Shown;
-pub use sip_message::{Fault, Reason, Unit};
+pub use sip_part::Part;
+pub use sip_standard::{Fault, Reason, Unit};
 pub use step_error::StepError;
 pub use stream::Judge;
 pub use summary::Summary;
@@ -59,8 +62,9 @@ pub use survey_laws::{
     a_log_may_be_cut, a_part_finds_what_the_whole_finds, a_survey_is_one,
     a_survey_names_a_transaction_once, a_transaction_has_one_finding,
     a_transaction_in_trouble_has_a_finding, a_transaction_that_is_idle_again_is_as_new,
-    an_input_has_a_survey, each_trouble_is_named, the_verdict_is_in_the_survey,
-    what_is_idle_again_can_be_forgotten, what_is_wide_does_not_break, what_stands_lasts,
+    an_input_has_a_survey, each_trouble_is_named, the_log_of_a_part_is_cut_by_branch,
+    the_verdict_is_in_the_survey, what_is_idle_again_can_be_forgotten, what_is_wide_does_not_break,
+    what_stands_lasts,
 };
-pub use surveying::survey;
+pub use surveying::{survey, survey_part};
 pub use verdict::Verdict;

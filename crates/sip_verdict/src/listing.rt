@@ -22,7 +22,7 @@ pub enum Listing {
 }
 
 impl Listing {
-    /// What is listed of an entry that comes behind this verdict.
+    /// What is listed of an entry that comes after this verdict.
     pub(crate) fn behind(verdict: Verdict) -> Listing
         ensures { result ≡ listed_behind verdict }
     {
@@ -34,10 +34,10 @@ impl Listing {
 }
 
 /// The states in which the transactions of an entry can stand after it: for each transaction that it concerns, its own
-/// first, the line `transaction T ROLE METHOD states COUNT`, and for each state a line behind two blanks, in ascending order
+/// first, the line `transaction T ROLE METHOD states COUNT`, and for each state a line after two blanks, in ascending order
 /// of their bytes; `no transaction` where it concerns none. A message is told by the number of the first entry with its bytes.
 ///
-/// Entries are numbered from 1. That nothing behind it is read is tested and not proved. `JudgeError::Io` is answered only
+/// Entries are numbered from 1. That nothing after it is read is tested and not proved. `JudgeError::Io` is answered only
 /// if the reader failed in this call, and after an error the reader is used up to a place that is not said.
 pub fn states_at<R: Source, H: BuildHasher + Drop>(
     alloc: Global,

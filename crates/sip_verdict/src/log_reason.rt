@@ -35,7 +35,7 @@ impl LogReason {
         }
     }
 
-    /// The name that stands behind the number.
+    /// The name that stands after the number.
     pub fn name(self) -> &'static str
         ensures { result.now ≡ log_reason_name self }
     {

@@ -1,6 +1,6 @@
 //! What an entry of a log says to the judge.
 ghost use Rattle.std.specs.Prelude.{◌≤◌, ◌<◌, ◌≡◌, ℕ, List, IfOk, OnErr};
-ghost use Rattle.sip_machine.specs.Times.{last_moment};
+ghost use Rattle.sip_standard.specs.Times.{last_moment};
 ghost use Rattle.sip_machine.specs.Texts.{Keeps};
 ghost use Rattle.sip_key.specs.Key.{KeyParts};
 ghost use Rattle.sip_message.specs.SaidOf.{said_of};
@@ -13,7 +13,8 @@ use crate::concerned::Concerned;
 use sip_key::{Direction, Key, KeyError, cancelled_key, key_of};
 use sip_log::Entry;
 use sip_machine::{Action, Book, Event};
-use sip_message::{Fault, Message, ReadError, Reason, Unit};
+use sip_message::{Message, ReadError};
+use sip_standard::{Fault, Reason, Unit};
 use std::alloc::{AllocError, Global};
 
 /// What an entry says to the judge.
@@ -39,7 +40,7 @@ const NO_COOKIE: Fault = Fault {
 };
 
 /// Which way the message of an entry went. A mark has none, nor has a restart.
-fn direction_of(action: Action) -> Option<Direction>
+pub(crate) fn direction_of(action: Action) -> Option<Direction>
     ensures { result ≡ direction_of action }
 {
     match action {

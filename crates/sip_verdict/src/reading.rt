@@ -1,8 +1,8 @@
 //! Reads a log entry by entry, for those who answer the fault that ends it.
 ghost use Rattle.std.specs.Prelude.{◌≡◌, true, Some, [], Option, List, ℕ, IfOk, IfErr, IfSome, OnOk, IsErrOf};
-ghost use Rattle.sip_machine.specs.Times.{Times};
+ghost use Rattle.sip_standard.specs.Times.{Times};
 ghost use Rattle.sip_log.specs.Reading.{entries, beside_source};
-ghost use Rattle.sip_log.specs.Spelling.{Item};
+ghost use Rattle.sip_standard.specs.LogEntry.{Item};
 ghost use Rattle.sip_verdict.specs.VerdictOf.{IsVerdictOf};
 ghost use Rattle.sip_verdict.specs.Listing.{trouble_of};
 ghost use Rattle.sip_verdict.specs.inner.Walking.{HasRead, WalkGives, MovesOn};
@@ -14,7 +14,7 @@ use sip_log::{Entry, Progress, Source};
 use sip_machine::Params;
 use std::alloc::Global;
 
-/// What a log has behind the entries that were read.
+/// What a log has after the entries that were read.
 #[derive(Drop)]
 pub(crate) enum Next {
     /// One more entry.
@@ -47,7 +47,7 @@ pub(crate) fn read_header<R: Source>(
     }
 }
 
-/// Reads on behind the header or an entry, into the buffer.
+/// Reads on after the header or an entry, into the buffer.
 pub(crate) fn read_next<R: Source>(
     progress: &mut Progress,
     buffer: Vec<u8>,

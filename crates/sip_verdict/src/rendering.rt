@@ -11,7 +11,7 @@ use crate::shown::Shown;
 use crate::survey_end::SurveyEnd;
 use crate::verdict::Verdict;
 use itoa::Buffer;
-use sip_message::{Fault, Unit};
+use sip_standard::{Fault, Unit};
 use std::alloc::{AllocError, Global};
 
 /// The text of a verdict, one line without its end: `legal entries E transactions T`, `malformed E UNIT NO REASON`,
@@ -102,7 +102,7 @@ fn clean_end(
     Ok(text)
 }
 
-/// Two words, each with a number behind it.
+/// Two words, each with a number after it.
 fn two_numbers(
     alloc: Global,
     first_word: &str,
@@ -150,7 +150,7 @@ fn push_unit(text: &mut String, unit: Unit) -> Result<(), AllocError>
     }
 }
 
-/// Appends a reason's number and name, each behind a blank.
+/// Appends a reason's number and name, each after a blank.
 fn push_reason(text: &mut String, number: u8, name: &str) -> Result<(), AllocError>
     ensures { OnOk result (string_bytes text.new
         ≡ string_bytes text.old ++ codes " " ++ decimal number ++ codes " " ++ name.now) }

@@ -1,7 +1,7 @@
 //! Shows a log: its entries, one after another, each with its message in the canonical form.
 ghost use Rattle.std.specs.Prelude.{◌≡◌, ◌++◌, ◌∷◌, [], ℕ, List, true, OnOk, IfOk, IfErr, IfSome, IsErrOf};
 ghost use Rattle.std.specs.Io.KnownBytes.{Appends};
-ghost use Rattle.sip_log.specs.Spelling.{line_feed};
+ghost use Rattle.sip_standard.specs.LogSays.{line_feed};
 ghost use Rattle.sip_log.specs.Told.{item};
 ghost use Rattle.sip_verdict.specs.declared.show_error.ShowError.TheVariants.{Read, Write};
 ghost use Rattle.sip_verdict.specs.Showing.{IsCanon, IsCanonOf, last_text, IsShownOf};
@@ -14,7 +14,8 @@ use crate::shown::Shown;
 use itoa::Buffer;
 use sip_log::{Broken, Entry, Progress, Sink, Source, put_entry};
 use sip_machine::Action;
-use sip_message::{Fault, Message, ReadError, write};
+use sip_message::{Message, ReadError, write};
+use sip_standard::Fault;
 use std::alloc::Global;
 
 /// Writes each entry of the reader's log with its number, and with its message in the canonical form, and then a last line:

@@ -35,7 +35,7 @@ pub struct Judge<H: BuildHasher> {
 
 impl<H: BuildHasher> Model for Judge<H> {
     ghost use Rattle.std.specs.Prelude.{◌≡◌, ◌≤◌, ◌+◌};
-    ghost use Rattle.sip_log.specs.Log.{most_entries};
+    ghost use Rattle.sip_standard.specs.LogSays.{most_entries};
     ghost use Rattle.sip_verdict.specs.declared.stage.Stage.TheVariants.{Open};
     ghost use Rattle.sip_verdict.specs.Judging.{Judging};
     ghost use Rattle.sip_verdict.specs.inner.TablesTracking.{MayTake};
@@ -53,7 +53,7 @@ const MOST_ENTRIES: u32 = 1_000_000;
 /// The last moment of a log.
 const LAST_MOMENT: u64 = 9_999_999_999_999;
 
-/// Whether the entry may come behind one of this number and moment.
+/// Whether the entry may come after one of this number and moment.
 pub(crate) fn may_come_next(number: u32, moment: u64, entry: &Entry) -> bool
     ensures { IsTrue result ↔ MayComeNext number moment entry.now.number entry.now.moment }
 {
@@ -80,7 +80,7 @@ impl<H: BuildHasher + Drop> Judge<H> {
     }
 
     /// Whether the entry may come next: its number is one above that of the entry before, counted from 1, its moment is not
-    /// below that one's, and both are within the limits of a log. Behind a verdict and behind an error any entry may.
+    /// below that one's, and both are within the limits of a log. After a verdict and after an error any entry may.
     pub fn may_take(&self, entry: &Entry) -> bool
         ensures { IsTrue result ↔ (self.now.stage ≡ Open → MayComeNext self.now.number self.now.moment entry.now.number entry.now.moment) }
     {

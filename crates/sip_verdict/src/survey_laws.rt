@@ -2,6 +2,8 @@
 ghost use Rattle.std.specs.Prelude.{◌≡◌, ◌↔◌, ◌≤◌, ◌⊎◌, ◌++◌, ◌∷◌, [], ℕ, Bool, true, List, All, AllPairs, Contains};
 ghost use Rattle.sip_verdict.specs.VerdictOf.{IsVerdictOf, keys_in, events_for, RunsOver, IsWideAt};
 ghost use Rattle.sip_verdict.specs.SurveyOf.{IsSound, Breaks, Widens, IsSurveyAfter, IsSurveyOf, verdict_in};
+ghost use Rattle.sip_part.specs.Part.{PartOf, falls_into};
+ghost use Rattle.sip_verdict.specs.SurveyParts.{IsPartLog};
 ghost use Rattle.sip_verdict.specs.SurveyLaws.{IsOf, Names, AreAbout, chosen_in, IsCutLog, StaysAt, Keeps, IsIdleAgain};
 ghost use Rattle.sip_verdict.specs.declared.finding.Finding.{Finding as FindingValue};
 ghost use Rattle.sip_verdict.specs.declared.finding.Finding.TheVariants.{Malformed, Breach, Undecided};
@@ -10,11 +12,11 @@ ghost use Rattle.sip_verdict.specs.declared.verdict.Verdict.{Verdict as VerdictV
 ghost use Rattle.sip_verdict.specs.Keyed.{Observation, newest_moment};
 ghost use Rattle.sip_verdict.specs.MessageReading.{message_reading};
 ghost use Rattle.sip_verdict.specs.Reading.{AreObserved};
-ghost use Rattle.sip_message.specs.declared.fault.Fault.{Fault as FaultValue};
+ghost use Rattle.sip_standard.specs.declared.fault.Fault.{Fault as FaultValue};
 ghost use Rattle.sip_key.specs.Key.{KeyParts};
-ghost use Rattle.sip_log.specs.Spelling.{Item};
-ghost use Rattle.sip_log.specs.Log.{LogEnd};
-ghost use Rattle.sip_machine.specs.Times.{Times};
+ghost use Rattle.sip_standard.specs.LogEntry.{Item};
+ghost use Rattle.sip_standard.specs.LogSays.{LogEnd};
+ghost use Rattle.sip_standard.specs.Times.{Times};
 ghost use Rattle.sip_machine.specs.MachineEvent.{MachineEvent};
 ghost use Rattle.sip_machine.specs.Figure.{Owing, Lasts};
 ghost use Rattle.sip_states.specs.Stands.{Stands};
@@ -83,6 +85,12 @@ pub fn a_log_may_be_cut()
 pub fn a_log_can_be_cut_by_branch()
     ensures { (chosen : List ℕ → Bool) (items : List Item) (es : List (Observation KeyParts)) → AreObserved message_reading [] items es
         → (cuts : List Item) × IsCutLog (λ key. chosen key.branch) items es cuts }
+{}
+
+/// The log of a part is cut so, by the branches that fall into the part.
+pub fn the_log_of_a_part_is_cut_by_branch()
+    ensures { (part : PartOf) (items cuts : List Item) (es : List (Observation KeyParts)) → AreObserved message_reading [] items es → IsPartLog part items cuts
+        → IsCutLog (λ key. falls_into part key.branch) items es cuts }
 {}
 
 /// And a part finds what the whole finds: the survey of a log, and that of one that is cut from it so, name a chosen transaction at the same

@@ -1,23 +1,28 @@
 //! Surveys a log from its first byte to its last.
-ghost use Rattle.std.specs.Prelude.{◌≡◌, ◌++◌, ◌∷◌, [], ℕ, false, true, List, Option, IfOk, IfSome, OnOk, IsErrOf, flat_map};
+ghost use Rattle.std.specs.Prelude.{◌≡◌, ◌++◌, ◌∷◌, [], ℕ, false, true, List, Option, IfOk, IfSome, OnOk, IsErrOf, flat_map, option_copied};
 ghost use Rattle.std.specs.Io.KnownBytes.{Appends};
 ghost use Rattle.sip_log.specs.Reading.{beside_source};
 ghost use Rattle.sip_verdict.specs.declared.finding.Finding.{Finding};
 ghost use Rattle.sip_verdict.specs.declared.survey_error.SurveyError.TheVariants.{Read, Write};
 ghost use Rattle.sip_verdict.specs.SurveyOf.{IsSurveyOf};
+ghost use Rattle.sip_log.specs.Told.{item};
+ghost use Rattle.sip_verdict.specs.SurveyParts.{IsPartSurveyOf};
 ghost use Rattle.sip_verdict.specs.SurveyText.{SumsUp, end_text, finding_text, survey_text};
-ghost use Rattle.sip_verdict.specs.inner.SurveyingLogs.{AreCounted, IsSurveyAt, IsWritten, SurveysRead};
+ghost use Rattle.sip_verdict.specs.inner.SurveyingLogs.{AreCounted, IsSurveyAt, IsSurveyIn, IsTaken, IsWritten, SurveysRead};
 
 use crate::finding::Finding;
 use crate::following::Survey;
 use crate::log_reason::LogReason;
+use crate::observing::direction_of;
 use crate::reading::{Next, read_header, read_next};
 use crate::rendering::{end_line, finding_line};
 use crate::summary::Summary;
 use crate::survey_end::SurveyEnd;
 use crate::survey_error::SurveyError;
-use sip_log::{Progress, Sink, Source};
-use std::alloc::Global;
+use sip_log::{Entry, Progress, Sink, Source};
+use sip_machine::Action;
+use sip_part::Part;
+use std::alloc::{AllocError, Global};
 use std::hash::BuildHasher;
 
 /// All that is wrong in the log of the reader's bytes. What is found at an entry is written when the entry was read, a line for each
@@ -39,10 +44,48 @@ pub fn survey<R: Source, W: Sink, H: BuildHasher + Drop>(
     ensures read { IsErrOf result Read → R.has_failed reader.new ≡ true }
     ensures write { IsErrOf result Write → W.has_failed writer.new ≡ true }
 {
+    survey_in(alloc, reader, writer, hasher, None)
+}
+
+/// All that is wrong in a part of the log of the reader's bytes, in the same words: what `survey` writes of the log in which each message
+/// that does not fall into the part is a mark of its moment. Entries have the numbers of the whole log. Transactions are those of the
+/// part, counted among themselves.
+pub fn survey_part<R: Source, W: Sink, H: BuildHasher + Drop>(
+    alloc: Global,
+    reader: &mut R,
+    writer: &mut W,
+    hasher: H,
+    part: &Part,
+) -> Result<Summary, SurveyError>
+    requires { R.has_failed reader.old ≡ false }
+    ensures surveyed { IfOk result (λ summary. IfSome (R.left reader.old) (λ input. (found : List Finding) × IsPartSurveyOf part.now input found summary.end × SumsUp found summary
+        × Appends (W.written writer.old) (W.written writer.new) (survey_text found summary.end))) }
+    ensures fine { OnOk result ((R.has_failed reader.new ≡ false) × (W.has_failed writer.new ≡ W.has_failed writer.old)) }
+    ensures read { IsErrOf result Read → R.has_failed reader.new ≡ true }
+    ensures write { IsErrOf result Write → W.has_failed writer.new ≡ true }
+{
+    survey_in(alloc, reader, writer, hasher, Some(part))
+}
+
+/// Surveys the whole log, or a part.
+fn survey_in<R: Source, W: Sink, H: BuildHasher + Drop>(
+    alloc: Global,
+    reader: &mut R,
+    writer: &mut W,
+    hasher: H,
+    part: Option<&Part>,
+) -> Result<Summary, SurveyError>
+    requires { R.has_failed reader.old ≡ false }
+    ensures surveyed { IfOk result (λ summary. IfSome (R.left reader.old) (λ input. (found : List Finding) × IsSurveyIn (option_copied part.entry) input found summary.end × SumsUp found summary
+        × Appends (W.written writer.old) (W.written writer.new) (survey_text found summary.end))) }
+    ensures fine { OnOk result ((R.has_failed reader.new ≡ false) × (W.has_failed writer.new ≡ W.has_failed writer.old)) }
+    ensures read { IsErrOf result Read → R.has_failed reader.new ≡ true }
+    ensures write { IsErrOf result Write → W.has_failed writer.new ≡ true }
+{
     match read_header(alloc, reader)? {
         Ok((params, mut progress)) => {
             let mut survey = Survey::new(alloc, params, hasher);
-            write_entries(alloc, &mut survey, &mut progress, reader, writer)
+            write_entries(alloc, &mut survey, &mut progress, reader, writer, part)
         }
         Err(_) => {
             let reason = LogReason::Header;
@@ -52,6 +95,25 @@ pub fn survey<R: Source, W: Sink, H: BuildHasher + Drop>(
     }
 }
 
+/// Leaves of an entry its moment alone, where it has a message that does not fall into the part.
+fn cut_to(alloc: Global, part: Option<&Part>, entry: &mut Entry) -> Result<(), AllocError>
+    ensures cut { OnOk result (IsTaken (option_copied part.entry) (item entry.old) (item entry.new)) }
+    ensures number { OnOk result (entry.new.number ≡ entry.old.number) }
+    ensures moment { OnOk result (entry.new.moment ≡ entry.old.moment) }
+{
+    let Some(part) = part else {
+        return Ok(());
+    };
+    if direction_of(entry.action).is_none() {
+        return Ok(());
+    }
+    if !part.has_message(alloc, entry.bytes.as_slice())? {
+        entry.action = Action::Mark;
+        entry.bytes.clear();
+    }
+    Ok(())
+}
+
 /// Reads on after the header to the end of the log, and writes what is found. Every entry is read into the same buffer.
 fn write_entries<R: Source, W: Sink, H: BuildHasher + Drop>(
     alloc: Global,
@@ -59,12 +121,13 @@ fn write_entries<R: Source, W: Sink, H: BuildHasher + Drop>(
     progress: &mut Progress,
     reader: &mut R,
     writer: &mut W,
+    part: Option<&Part>,
 ) -> Result<Summary, SurveyError>
     requires at { IsSurveyAt survey.old progress.old }
     requires first { survey.old.number ≡ 0 }
     ensures surveyed { IfOk result (λ summary. (start : Option (List ℕ))
-        → SurveysRead survey.old [] start (beside_source progress.old (R.left reader.old) (R.has_failed reader.old))
-        → IfSome start (λ input. IsWritten input summary (W.written writer.old) (W.written writer.new))) }
+        → SurveysRead (option_copied part.entry) survey.old [] start (beside_source progress.old (R.left reader.old) (R.has_failed reader.old))
+        → IfSome start (λ input. IsWritten (option_copied part.entry) input summary (W.written writer.old) (W.written writer.new))) }
     ensures fine { OnOk result ((R.has_failed reader.new ≡ R.has_failed reader.old) × (W.has_failed writer.new ≡ W.has_failed writer.old)) }
     ensures read { IsErrOf result Read → R.has_failed reader.new ≡ true }
     ensures write { IsErrOf result Write → W.has_failed writer.new ≡ true }
@@ -75,9 +138,10 @@ fn write_entries<R: Source, W: Sink, H: BuildHasher + Drop>(
     let mut count = 0;
     loop {
         match read_next(progress, buffer, reader)? {
-            Next::Entry(entry) => {
+            Next::Entry(mut entry) => {
                 count = entry.number;
                 found.clear();
+                cut_to(alloc, part, &mut entry)?;
                 survey.entry(&entry, &mut found)?;
                 counts = put_findings(alloc, writer, found.as_slice(), counts)?;
                 buffer = entry.bytes;

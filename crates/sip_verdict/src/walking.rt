@@ -1,6 +1,6 @@
 //! A walk over a log to the entry whose transactions are listed. Every message is kept, since its number is that of its first entry.
 ghost use Rattle.std.specs.Prelude.{◌≡◌, ◌+◌, ◌≤◌, true, Some, Option, List, ℕ, IfOk, IfErr, IfSome, IfNone, OnOk, IsErrOf};
-ghost use Rattle.sip_log.specs.Log.{most_entries};
+ghost use Rattle.sip_standard.specs.LogSays.{most_entries};
 ghost use Rattle.sip_log.specs.Reading.{beside_source};
 ghost use Rattle.sip_verdict.specs.declared.verdict.Verdict.TheVariants.{LogFault};
 ghost use Rattle.sip_verdict.specs.VerdictOf.{IsVerdictOf};

@@ -1,5 +1,5 @@
 //! Which key is due, worked out by hand for T1 500, T2 4000, T4 5000 and a tolerance of 50. An INVITE at m
-//! waits for its first response until m + 250, and a 486 at m is sent again by m + 550. Behind a 180 or a
+//! waits for its first response until m + 250, and a 486 at m is sent again by m + 550. After a 180 or a
 //! 200 there is no last moment.
 ghost use Rattle.std.specs.Prelude.{◌≡◌, [], IfOk};
 

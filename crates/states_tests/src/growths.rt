@@ -105,7 +105,7 @@ fn take_each_again(
     Ok(last)
 }
 
-/// Lets the set wait until the moment, and a second time where memory was refused. The twin has the same states, and so many behind it.
+/// Lets the set wait until the moment, and a second time where memory was refused. The twin has the same states, and so many after it.
 fn advance_again(
     rt: &(impl Abort + AllocGlobal),
     set: &mut StateSet<InviteServer>,
@@ -134,7 +134,7 @@ fn advance_again(
     Ok(waited?)
 }
 
-/// Lets the set wait so until each of the moments, behind which it has so many states.
+/// Lets the set wait so until each of the moments, after which it has so many states.
 fn advance_each_again(
     rt: &(impl Abort + AllocGlobal),
     set: &mut StateSet<InviteServer>,
@@ -226,7 +226,7 @@ fn a_repeat_goes_on_after_a_refused_growth(rt: HostRuntime) -> Result<(), Fail> 
 
 static ACCEPTED: &[Entry] = &[(0, Action::Received, INVITE), (0, Action::Sent, OK)];
 
-/// Behind the 200 timer L ends the transaction between 31950 and 32050.
+/// After the 200 timer L ends the transaction between 31950 and 32050.
 #[test]
 fn a_wait_goes_on_after_a_refused_growth(rt: HostRuntime) -> Result<(), Fail> {
     play_again(

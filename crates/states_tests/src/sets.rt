@@ -5,7 +5,7 @@ ghost use Rattle.sip_machine.specs.Owing.{owing_names};
 ghost use Rattle.sip_machine.specs.PlainClient.{plain_client_names};
 ghost use Rattle.sip_machine.specs.Rules.{Knows};
 ghost use Rattle.sip_machine.specs.Texts.{Keeps};
-ghost use Rattle.sip_machine.specs.Times.{last_moment};
+ghost use Rattle.sip_standard.specs.Times.{last_moment};
 
 use crate::wants::{holds, is};
 use sip_machine::{Action, Book, Event, Params, PlainClient};

@@ -72,7 +72,7 @@ fn widens(
     Ok(true)
 }
 
-/// Behind so many repeats and then so many sends of the 183 the set has the most states, and takes no further send.
+/// After so many repeats and then so many sends of the 183 the set has the most states, and takes no further send.
 fn is_widest(
     rt: &(impl Abort + AllocGlobal),
     set: &mut StateSet<InviteServer>,
@@ -130,8 +130,8 @@ fn follows(
 
 /// With a tolerance of ten seconds each repeat stays owed. A 180 may pay for one of the first repeats or
 /// not, and so may a 183 for one of the other 40. So there is one state more than repeats for each number
-/// of paid 183s: with 40 repeats 984 states behind 23 sends of the 183, and not 1,025 behind 24; with 31
-/// repeats 1,024 behind 31, and not 1,056 behind 32.
+/// of paid 183s: with 40 repeats 984 states after 23 sends of the 183, and not 1,025 after 24; with 31
+/// repeats 1,024 after 31, and not 1,056 after 32.
 #[test]
 fn follows_1_024_states_and_no_more(rt: HostRuntime) -> Result<(), Fail> {
     let book = book(rt.alloc())?;

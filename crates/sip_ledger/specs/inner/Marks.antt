@@ -24,7 +24,7 @@ pub record IsTold (entries : List Entry) (goes : List Debt → Bool) (wanted : O
 abbrev pub word_rows : List Entry → List ℕ → List ℕ → List (List Debt)
 word_rows entries owed must = grid_rows (grid_of entries 1 (length owed) owed must)
 
--- those of the rows from one up to another that pass the test stand behind the others
+-- those of the rows from one up to another that pass the test stand after the others
 pub record ArePut (entries : List Entry) (goes : List Debt → Bool) (from to : ℕ) (owed must owed' must' : List ℕ) : Type 0 where
   pub ledger : IsGrid (grid_of entries 1 (length owed') owed' must')
   pub rows : word_rows entries owed' must' ≡ word_rows entries owed must ++ filter goes (from_to from to (word_rows entries owed must))
@@ -58,6 +58,6 @@ pub record AreKept (from kept : ℕ) (owed must owed' : List ℕ) : Type 0 where
   pub before : (k : ℕ) → k < from → get_or owed' k 0 ≡ get_or owed k 0
   pub behind : (k : ℕ) → from ≤ k → k < length owed → get_or owed' k 0 ≡ bit_and (get_or owed k 0) (bit_or (get_or must k 0) kept)
 
--- no word from one on has a bit at the place or behind it
+-- no word from one on has a bit at the place or after it
 abbrev pub IsFreeFrom : ℕ → ℕ → List ℕ → Type 0
 IsFreeFrom from at words = (k i : ℕ) → from ≤ k → k < length words → at ≤ i → test (get_or words k 0) i ≡ false

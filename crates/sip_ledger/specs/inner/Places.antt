@@ -8,7 +8,7 @@ use Rattle.sip_ledger.specs.Rows.{debt_of, IsGap}
 
 -- Places of bits in a row.
 
--- a bit at the place, which begins behind the bit before it
+-- a bit at the place, which begins after the bit before it
 pub record IsBit (owed : ℕ → Bool) (place : Place) : Type 0 where
   pub is : owed place.at ≡ true
   pub after : place.low ≤ place.at
@@ -35,7 +35,7 @@ pub record IsFirstIn (owed bits : ℕ) (place : Place) : Type 0 where
 abbrev pub AsksNoMust : (Debt → Bool) → Type 0
 AsksNoMust test = (entry : Entry) (must : Bool) → test (debt_of entry must) ≡ test (debt_of entry true)
 
--- a row whose bits may have room before them: those below low stand, and so do those whose gap begins behind the hole
+-- a row whose bits may have room before them: those below low stand, and so do those whose gap begins after the hole
 pub record IsOpenRow (entries : List Entry) (owed must : ℕ → Bool) (low hole : ℕ) : Type 0 where
   pub within : (k : ℕ) → owed k ≡ true → k < length entries
   pub among : (k : ℕ) → must k ≡ true → owed k ≡ true
@@ -52,7 +52,7 @@ pub record IsMoved (from to : ℕ) (owed must owed' must' : ℕ → Bool) : Type
   pub must_from : must' from ≡ false
   pub must_others : (k : ℕ) → k ≢ from → k ≢ to → must' k ≡ must k
 
--- where a debt is gained: at the first entry that is equal to it behind the last bit, or else at the end of the entries
+-- where a debt is gained: at the first entry that is equal to it after the last bit, or else at the end of the entries
 pub record IsGainedAt (entries : List Entry) (owed : ℕ → Bool) (entry : Entry) (at : ℕ) : Type 0 where
   pub within : at ≤ length entries
   pub is : (e : Entry) → at < length entries → get_or entries at e ≡ entry

@@ -5,7 +5,7 @@ use Rattle.sip_ledger.specs.Rows.{IsRow}
 use Rattle.sip_ledger.specs.Grids.{Grid, part, grid_rows}
 use Rattle.sip_ledger.specs.inner.Places.{IsGainedAt}
 
--- Rows of words, one behind another.
+-- Rows of words, one after another.
 
 -- the row has its words
 abbrev pub IsInside : ℕ → ℕ → List ℕ → Type 0
@@ -34,7 +34,7 @@ pub record ChangesTable (entries : List Entry) (width row : ℕ) (owed must owed
   pub must_changes : ChangesRow width row must must'
   pub is : IsRow entries (has (part width row owed')) (has (part width row must'))
 
--- each row has a word more, behind its others
+-- each row has a word more, after its others
 pub record IsWidened (width rows : ℕ) (old new : List ℕ) : Type 0 where
   pub long : length new ≡ rows * (width + 1)
   pub each : (k : ℕ) → k < rows → part (width + 1) k new ≡ part width k old ++ 0 ∷ []
@@ -48,7 +48,7 @@ pub record IsNarrowed (width rows dropped : ℕ) (old new : List ℕ) : Type 0 w
 abbrev pub IsEmptyFront : ℕ → ℕ → ℕ → List ℕ → Type 0
 IsEmptyFront width rows front words = (row n : ℕ) → row < rows → n < front → get_or (part width row words) n 0 ≡ 0
 
--- an entry more behind the others, over which the rows have the bits that they had
+-- an entry more after the others, over which the rows have the bits that they had
 pub record IsGrown (entry : Entry) (old new : Grid) : Type 0 where
   pub entries : new.entries ≡ old.entries ++ entry ∷ []
   pub rows : new.rows ≡ old.rows

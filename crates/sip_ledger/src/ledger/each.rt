@@ -22,7 +22,7 @@ impl Ledger {
         }
     }
 
-    /// Puts a copy of each row from one up to another behind the others, but of those that must send something that is past at the
+    /// Puts a copy of each row from one up to another after the others, but of those that must send something that is past at the
     /// moment. On an error all is as before.
     #[tactic(auto, unfolding(crate::specs::Ledgers::rows_of))]
     pub fn push_timely(&mut self, from: usize, to: usize, moment: u64) -> Result<(), AllocError>
@@ -100,7 +100,7 @@ impl Ledger {
         Ok(())
     }
 
-    /// Lets each row from one on owe one more debt, behind its others. On an error they are gone, and the rows before them are left.
+    /// Lets each row from one on owe one more debt, after its others. On an error they are gone, and the rows before them are left.
     pub fn gain_each(&mut self, from: usize, debt: Debt) -> Result<(), AllocError>
         ensures ok { OnOk result (rows_of self.new ≡ take from (rows_of self.old) ++ map (λ owes. owes ++ debt ∷ []) (drop from (rows_of self.old))) }
         ensures err { OnErr result (rows_of self.new ≡ take from (rows_of self.old)) }

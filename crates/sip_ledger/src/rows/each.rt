@@ -74,7 +74,7 @@ impl Rows {
         keep_bits(&mut self.owed, &self.must, from, !past);
     }
 
-    /// Lets each row from one on owe one more debt, behind its others. On an error the rows before them are as they were, and there
+    /// Lets each row from one on owe one more debt, after its others. On an error the rows before them are as they were, and there
     /// are as many.
     pub(crate) fn gain_each(&mut self, from: usize, debt: Debt) -> Result<(), AllocError>
         ensures ok { OnOk result (grid_rows self.new ≡ take from (grid_rows self.old) ++ map (λ owes. owes ++ debt ∷ []) (drop from (grid_rows self.old))) }
@@ -130,7 +130,7 @@ impl Rows {
         Ok(())
     }
 
-    /// Lets each row from one on owe a debt of the entry at the index, where none of them has a bit there or behind, and one word has
+    /// Lets each row from one on owe a debt of the entry at the index, where none of them has a bit there or after, and one word has
     /// all entries.
     fn gain_at(&mut self, from: usize, at: usize, entry: Entry, due: bool)
         requires one { self.old.width ≡ 1 }
@@ -176,7 +176,7 @@ impl Rows {
         some <= rows && are_distinct(&self.entries, self.rises)
     }
 
-    /// Puts a copy of each row from one up to another behind the others, but of those that must send something that is past at the
+    /// Puts a copy of each row from one up to another after the others, but of those that must send something that is past at the
     /// moment. On an error all is as before.
     pub(crate) fn push_timely(
         &mut self,
@@ -199,7 +199,7 @@ impl Rows {
         }
     }
 
-    /// Puts a copy of each row from one up to another behind the others. On an error all is as before.
+    /// Puts a copy of each row from one up to another after the others. On an error all is as before.
     fn push_copies(&mut self, from: usize, to: usize) -> Result<(), AllocError>
         requires { to ≤ length (grid_rows self.old) }
         ensures ok { OnOk result (grid_rows self.new ≡ grid_rows self.old ++ from_to from to (grid_rows self.old)) }
@@ -297,7 +297,7 @@ impl Rows {
         }
     }
 
-    /// Puts a copy of each row from one up to another behind the others, but of those alone that the masks mark, where one word has
+    /// Puts a copy of each row from one up to another after the others, but of those alone that the masks mark, where one word has
     /// all entries. On an error all is as before.
     fn push_marked(
         &mut self,
@@ -394,7 +394,7 @@ fn is_marked(owed: u64, must: u64, wanted: Option<u64>, barred: u64) -> bool
     }
 }
 
-/// Puts a copy of each row from one up to another behind the others, but of those alone that the masks mark, where there is room
+/// Puts a copy of each row from one up to another after the others, but of those alone that the masks mark, where there is room
 /// for all of them.
 fn put_marked(
     owed: &mut Vec<u64>,
@@ -424,7 +424,7 @@ fn put_marked(
     }
 }
 
-/// Whether no word from one on has a bit at the place or behind it.
+/// Whether no word from one on has a bit at the place or after it.
 fn is_free(words: &[u64], from: usize, at: usize) -> bool
     requires { at < 64 }
     ensures { result ≡ true → IsFreeFrom from at words.now }

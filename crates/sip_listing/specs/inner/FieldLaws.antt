@@ -9,7 +9,7 @@ use Rattle.sip_listing.specs.Fields.{owed_field, owes_fields, Tells}
 
 -- The words of what the code names by numbers of a book.
 
--- the debts of the code, one behind another
+-- the debts of the code, one after another
 abbrev pub debts_fields : List Debt → List ℕ
 debts_fields debts = flat_map (λ debt. owed_field debt.message debt.deadline debt.must) debts
 

@@ -1,14 +1,14 @@
 use Rattle.std.specs.Prelude.{◌≡◌, ◌≢◌, ◌⊎◌, ◌<◌, ◌≤◌, ◌++◌, ℕ, List, [], ◌∷◌, length}
-use Rattle.sip_times.specs.declared.action.Action.{Action}
-use Rattle.sip_log.specs.declared.format.Format.{Format}
-use Rattle.sip_log.specs.LogFault as faults
+use Rattle.sip_standard.specs.declared.action.Action.{Action}
+use Rattle.sip_standard.specs.declared.format.Format.{Format}
+use Rattle.sip_standard.specs.LogFault as faults
 use Rattle.sip_log.specs.Next.{Next, ends, gives, stops}
-use Rattle.sip_log.specs.Spelling.{line_feed, Item}
-use Rattle.sip_log.specs.Log.{FrontLine, most_entries}
+use Rattle.sip_standard.specs.LogSays.{line_feed, FrontLine, most_entries}
+use Rattle.sip_standard.specs.LogEntry.{Item}
 use Rattle.sip_log.specs.inner.Line.{longest_line, Head, message, plain, HeadLine, KeepsLimits, moment_of}
 use Rattle.sip_log.specs.inner.Unless.{Unless}
 
--- What comes next behind the entries that were read: an entry, the end, or the first of seven cases in which it cannot be read.
+-- What comes next after the entries that were read: an entry, the end, or the first of seven cases in which it cannot be read.
 
 -- case 7, EntryLine: the byte after the message is not LF
 abbrev pub CloseComes : Action → ℕ → List ℕ → ℕ → List ℕ → Next Item → Type 0
@@ -21,7 +21,7 @@ MessageComes action moment len behind next =
     Unless (len < length behind) faults.Truncated next
     ((text : List ℕ) × (b : ℕ) × (after : List ℕ) × (behind ≡ text ++ b ∷ after) × (length text ≡ len) × CloseComes action moment text b after next)
 
--- an entry without a message ends with its line, and a message stands behind it
+-- an entry without a message ends with its line, and a message stands after it
 abbrev pub BodyComes : Head → List ℕ → Next Item → Type 0
 BodyComes (message action moment len) behind next = MessageComes action moment len behind next
 BodyComes (plain action moment) behind next = next ≡ gives (record { action = action; moment = moment; text = [] }) behind
@@ -47,7 +47,7 @@ LineComes format last rest next =
     × Unless (longest_line ≤ length rest) faults.Truncated next (next ≡ stops faults.EntryLine))
     ⊎ ((line : List ℕ) × (behind : List ℕ) × FrontLine rest line behind × FormComes format last line behind next)
 
--- behind this many entries, the last one at this moment: the end of the input; case 1, Limit: one entry more than the most; or an entry
+-- after this many entries, the last one at this moment: the end of the input; case 1, Limit: one entry more than the most; or an entry
 abbrev pub EntryComes : Format → ℕ → ℕ → List ℕ → Next Item → Type 0
 EntryComes format count last rest next =
     ((rest ≡ []) × (next ≡ ends)) ⊎ ((rest ≢ []) × Unless (count < most_entries) faults.Limit next (LineComes format last rest next))

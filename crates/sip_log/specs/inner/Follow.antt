@@ -1,11 +1,11 @@
 use Rattle.std.specs.Prelude.{◌+◌, ℕ, List, [], ◌∷◌}
-use Rattle.sip_log.specs.Next.{gives}
-use Rattle.sip_log.specs.Spelling.{Item}
-use Rattle.sip_log.specs.Log.{LogEnd, next_at}
-use Rattle.sip_log.specs.declared.format.Format.{Format}
+use Rattle.sip_log.specs.Next.{gives, next_at}
+use Rattle.sip_standard.specs.LogEntry.{Item}
+use Rattle.sip_standard.specs.LogSays.{LogEnd}
+use Rattle.sip_standard.specs.declared.format.Format.{Format}
 use Rattle.sip_log.specs.inner.Entry.{EntryComes}
 
--- behind this many entries, the last one at this moment, the rest of an input has these entries in a row, and then ends so
+-- after this many entries, the last one at this moment, the rest of an input has these entries in a row, and then ends so
 abbrev pub Follow : Format → ℕ → ℕ → List ℕ → List Item → LogEnd → Type 0
 Follow format count last rest [] end = EntryComes format count last rest (next_at end)
 Follow format count last rest (e ∷ es) end =

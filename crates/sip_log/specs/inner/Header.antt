@@ -1,11 +1,14 @@
 use Rattle.std.specs.Prelude.{◌≡◌, ◌≢◌, ◌⊎◌, ◌++◌, ℕ, List, [], ◌∷◌, codes}
-use Rattle.sip_times.specs.Times.{Times, AreTimes, under}
-use Rattle.sip_times.specs.declared.rules.Rules.{Rules}
-use Rattle.sip_times.specs.declared.rules.Rules.TheVariants.{R6026}
-use Rattle.sip_log.specs.declared.format.Format.{Format}
-use Rattle.sip_log.specs.declared.format.Format.TheVariants.{One, Two}
-use Rattle.sip_log.specs.LogFault as faults
-use Rattle.sip_log.specs.Spelling.{line_feed, space, RulesLine}
+use Rattle.sip_standard.specs.Times.{Times, AreTimes}
+use Rattle.sip_times.specs.Times.{under}
+use Rattle.sip_standard.specs.declared.rules.Rules.{Rules}
+use Rattle.sip_standard.specs.declared.rules.Rules.TheVariants.{R6026}
+use Rattle.sip_standard.specs.declared.format.Format.{Format}
+use Rattle.sip_standard.specs.declared.format.Format.TheVariants.{One, Two}
+use Rattle.sip_standard.specs.LogFault as faults
+use Rattle.sip_standard.specs.LogSays.{line_feed}
+use Rattle.sip_log.specs.inner.Spelling.{space}
+use Rattle.sip_standard.specs.LogHeader.{RulesLine}
 use Rattle.sip_log.specs.Next.{Next, gives, stops}
 use Rattle.sip_log.specs.inner.Number.{IsNumber}
 
@@ -15,7 +18,7 @@ use Rattle.sip_log.specs.inner.Number.{IsNumber}
 abbrev pub Parted : List ℕ → Type 0
 Parted behind = (behind ≡ []) ⊎ ((more : List ℕ) × (behind ≡ space ∷ more))
 
--- a word, a number, and what is behind it: nothing, or a blank and more
+-- a word, a number, and what is after it: nothing, or a blank and more
 pub record NumberAfter (word text : List ℕ) (n : ℕ) (behind : List ℕ) : Type 0 where
   pub number : List ℕ
   pub number_is : IsNumber number n
@@ -50,11 +53,11 @@ abbrev pub title_text : Format → List ℕ
 title_text One = codes "sip-trace 1\n"
 title_text Two = codes "sip-trace 2\n"
 
--- what comes behind line 2: the rules, and the rest behind them
+-- what comes after line 2: the rules, and the rest after them
 abbrev pub ComesThird : Format → Times → List ℕ → Next (Format × Times) → Type 0
 ComesThird format p rest next = (rules : Rules) × (behind : List ℕ) × RulesLine rules rest behind × (next ≡ gives (format, under rules p) behind)
 
--- what comes behind line 1: line 2, and else the reason is Header
+-- what comes after line 1: line 2, and else the reason is Header
 abbrev pub ComesSecond : Format → List ℕ → Next (Format × Times) → Type 0
 ComesSecond format rest next =
     ((p : Times) × (behind : List ℕ) × TimesFront format rest p behind × ComesThird format p behind next)

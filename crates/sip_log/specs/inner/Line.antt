@@ -1,11 +1,11 @@
 use Rattle.std.specs.Prelude.{◌≡◌, ◌≤◌, ◌++◌, ℕ, List, ◌∷◌}
-use Rattle.sip_times.specs.declared.action.Action.{Action}
-use Rattle.sip_times.specs.Times.{last_moment}
+use Rattle.sip_standard.specs.declared.action.Action.{Action}
+use Rattle.sip_standard.specs.Times.{last_moment}
 use Rattle.sip_log.specs.declared.line.Head.{Head as CodeHead}
 use Rattle.sip_log.specs.declared.line.Head.TheVariants as code
-use Rattle.sip_log.specs.declared.format.Format.{Format}
-use Rattle.sip_log.specs.Spelling.{space, letter, HasMessage}
-use Rattle.sip_log.specs.Log.{IsOf}
+use Rattle.sip_standard.specs.declared.format.Format.{Format}
+use Rattle.sip_log.specs.inner.Spelling.{space, letter}
+use Rattle.sip_standard.specs.LogEntry.{HasMessage, IsOf}
 use Rattle.sip_log.specs.inner.Number.{IsNumber, cut}
 
 -- The line at which an entry begins.

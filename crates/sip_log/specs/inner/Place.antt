@@ -1,5 +1,5 @@
 use Rattle.std.specs.Prelude.{◌≡◌, ℕ, List, [], Option, None, IsSome, ⊤}
-use Rattle.sip_times.specs.Times.{Times}
+use Rattle.sip_standard.specs.Times.{Times}
 use Rattle.sip_log.specs.declared.progress.Stage.{Stage as CodeStage}
 use Rattle.sip_log.specs.declared.progress.Stage.TheVariants as code
 use Rattle.sip_log.specs.Reading.{Stage, fresh, entries, ended, failed}

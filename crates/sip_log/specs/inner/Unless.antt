@@ -1,5 +1,5 @@
 use Rattle.std.specs.Prelude.{◌≡◌, ◌⊎◌}
-use Rattle.sip_log.specs.LogFault.{LogFault}
+use Rattle.sip_standard.specs.LogFault.{LogFault}
 use Rattle.sip_log.specs.Next.{Next, stops}
 
 -- one case of a reading: where the demand fails the fault comes, and where it holds, what follows decides

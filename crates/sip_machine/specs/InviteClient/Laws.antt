@@ -7,8 +7,8 @@ use Rattle.sip_machine.specs.declared.event.Kind.TheVariants.{Request, Response}
 use Rattle.sip_machine.specs.declared.invite_client.InviteClientPhase.{InviteClientPhase as CodePhase}
 use Rattle.sip_machine.specs.declared.invite_client.InviteClientPhase.TheVariants as code
 use Rattle.sip_machine.specs.contracts.invite_client.InviteClientPhasePartialEq.TheImpl as derived
-use Rattle.sip_machine.specs.Times.{Times}
-use Rattle.sip_machine.specs.Limits.{open_at, close_at, window_at}
+use Rattle.sip_standard.specs.Times.{Times}
+use Rattle.sip_standard.specs.Window.{open_at, close_at, window_at}
 use Rattle.sip_machine.specs.Figure.{IsFigure, closes_of}
 use Rattle.sip_machine.specs.InviteClient.{Idle, Calling, Proceeding, Completed, Receives, Sends, invite_client, invite_client_seen, invite_client_names, invite_client_coded, invite_client_told}
 use Rattle.sip_machine.specs.inner.Coded.{IsCoded, AreApart, StandByNames, TellNames, SameWindow, SameCloses, LeadOn, LeadAway}

@@ -12,7 +12,7 @@ use Rattle.sip_machine.specs.declared.invite_server_3261.InviteServer3261Phase.T
 use Rattle.sip_machine.specs.contracts.invite_server_3261.InviteServer3261PhasePartialEq.TheImpl as derived
 use Rattle.sip_machine.specs.contracts.invite_server.InviteServerPhasePartialEq.TheImpl as phase_eq
 use Rattle.sip_machine.specs.declared.phases.Turn.{Turn}
-use Rattle.sip_machine.specs.Times.{Times}
+use Rattle.sip_standard.specs.Times.{Times}
 use Rattle.sip_machine.specs.MachineEvent.{MachineEvent}
 use Rattle.sip_machine.specs.Figure.{IsFigure, After, drops}
 use Rattle.sip_machine.specs.InviteServer as corrected

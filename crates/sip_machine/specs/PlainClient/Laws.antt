@@ -5,7 +5,7 @@ use Rattle.sip_machine.specs.declared.event.Kind.TheVariants.{Request, Response}
 use Rattle.sip_machine.specs.declared.plain_client.PlainClientPhase.{PlainClientPhase as CodePhase}
 use Rattle.sip_machine.specs.declared.plain_client.PlainClientPhase.TheVariants as code
 use Rattle.sip_machine.specs.contracts.plain_client.PlainClientPhasePartialEq.TheImpl as derived
-use Rattle.sip_machine.specs.Limits.{close_at}
+use Rattle.sip_standard.specs.Window.{close_at}
 use Rattle.sip_machine.specs.Figure.{IsFigure}
 use Rattle.sip_machine.specs.PlainClient.{Idle, Trying, Proceeding, Receives, Sends, plain_client, plain_client_seen, plain_client_names, plain_client_coded, plain_client_told}
 use Rattle.sip_machine.specs.inner.Coded.{IsCoded, AreApart, StandByNames, TellNames, SameWindow, SameCloses, LeadOn, LeadAway}

@@ -6,9 +6,9 @@ use Rattle.sip_machine.specs.declared.effects.Effect.{Effect}
 use Rattle.sip_machine.specs.declared.effects.Rest.{Rest}
 use Rattle.sip_machine.specs.declared.effects.Rest.TheVariants as resting
 use Rattle.sip_ledger.specs.declared.debt.Debt.{Debt}
-use Rattle.sip_times.specs.declared.action.Action.{Action}
-use Rattle.sip_times.specs.declared.action.Action.TheVariants.{Sent, Received, Failed, Mark, Restart}
-use Rattle.sip_machine.specs.Times.{Times}
+use Rattle.sip_standard.specs.declared.action.Action.{Action}
+use Rattle.sip_standard.specs.declared.action.Action.TheVariants.{Sent, Received, Failed, Mark, Restart}
+use Rattle.sip_standard.specs.Times.{Times}
 use Rattle.sip_machine.specs.Limits.{IsWithin}
 use Rattle.sip_machine.specs.Texts.{Texts}
 use Rattle.sip_machine.specs.MachineEvent.{MachineEvent}

@@ -1,5 +1,5 @@
 use Rattle.std.specs.Prelude.{◌≡◌, ℕ, List}
-use Rattle.sip_message.specs.StartLine.{StartLine, status}
+use Rattle.sip_standard.specs.StartLine.{StartLine, status}
 
 -- the start line of a 100
 abbrev pub IsStatus100 : StartLine → Type 0

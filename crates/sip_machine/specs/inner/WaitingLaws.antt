@@ -4,8 +4,8 @@ use Rattle.std.proofs.lemmas.Bool.Decides.{nat_tests}
 use Rattle.std.proofs.lemmas.List.Elements.{All-head, All-nil, All-cons}
 use Rattle.sip_machine.specs.declared.waiting.Waiting.{Waiting as CodeWaiting}
 use Rattle.sip_machine.specs.contracts.waiting.WaitingPartialEq.TheImpl as derived
-use Rattle.sip_machine.specs.Times.{Times}
-use Rattle.sip_machine.specs.Limits.{close_at}
+use Rattle.sip_standard.specs.Times.{Times}
+use Rattle.sip_standard.specs.Window.{close_at}
 use Rattle.sip_machine.specs.Texts.{Texts, IsBook, Keeps, text_of}
 use Rattle.sip_machine.specs.Waiting.{Waiting, waiting_closes, waiting_seen}
 use Rattle.sip_machine.specs.inner.MessageLaws.{message_apart}

@@ -31,7 +31,7 @@ impl Dues {
         self.rows = rows.len();
     }
 
-    /// Puts a copy of each row from one up to another behind the others, but of those that must send something that is past at the
+    /// Puts a copy of each row from one up to another after the others, but of those that must send something that is past at the
     /// moment. On an error all is as before.
     pub(crate) fn push_timely(
         &mut self,
@@ -76,7 +76,7 @@ impl Dues {
         Ok(())
     }
 
-    /// Lets each row from one on owe one more debt, behind its others. On an error the rows before them are as they were.
+    /// Lets each row from one on owe one more debt, after its others. On an error the rows before them are as they were.
     pub(crate) fn gain_each(
         &mut self,
         alloc: Global,

@@ -2,10 +2,10 @@
 ghost use Rattle.std.specs.Prelude.{◌≡◌, ◌≢◌, ◌<◌, ◌≤◌, ◌^◌, ◌++◌, ℕ, List, All, IfOk, OnOk, length, take};
 ghost use Rattle.std.specs.Option.{option_map};
 ghost use Rattle.std.specs.List.{HoldsAt};
-ghost use Rattle.sip_times.specs.declared.action.Action.TheVariants.{Received, Sent};
+ghost use Rattle.sip_standard.specs.declared.action.Action.TheVariants.{Received, Sent};
 ghost use Rattle.sip_ledger.specs.declared.debt.Debt.{Debt};
 ghost use Rattle.sip_ledger.specs.Ledgers.{from_to};
-ghost use Rattle.sip_machine.specs.Limits.{close_at};
+ghost use Rattle.sip_standard.specs.Window.{close_at};
 ghost use Rattle.sip_machine.specs.MachineEvent.{FitsBook, KeepsMessage, event_in};
 ghost use Rattle.sip_machine.specs.Rules.{Covers, FromSome, Knows};
 ghost use Rattle.sip_machine.specs.Figure.{TakeOf};
@@ -23,8 +23,8 @@ use crate::pool::Pool;
 use sip_times::Action;
 use std::alloc::{AllocError, Global};
 
-/// Puts behind the states those that a received message gives from the first ones, as many. On an error some may have been put
-/// behind the others.
+/// Puts after the states those that a received message gives from the first ones, as many. On an error some may have been put
+/// after the others.
 pub(crate) fn receives_each<M: Phases>(
     machine: &M,
     book: &Book,
@@ -120,7 +120,7 @@ pub(crate) fn steps_each<M: Phases>(
     Ok(())
 }
 
-/// Puts behind the states those to which the rows of the event lead from the first ones, as many.
+/// Puts after the states those to which the rows of the event lead from the first ones, as many.
 fn leads_each<M: Phases>(
     machine: &M,
     book: &Book,
@@ -210,7 +210,7 @@ fn turn_of<M: Phases>(
     }
 }
 
-/// Puts behind the states those to which a message that is sent leads from states of one phase, and that leaves the phase as it is.
+/// Puts after the states those to which a message that is sent leads from states of one phase, and that leaves the phase as it is.
 fn rests_run<M: Phases>(
     machine: &M,
     book: &Book,

@@ -3,7 +3,7 @@ ghost use Rattle.std.specs.Prelude.{◌≡◌, ◌<◌, ◌≤◌, ◌&&◌, ◌
 ghost use Rattle.std.specs.List.{HoldsAt, list_any};
 ghost use Rattle.sip_ledger.specs.Debts.{is_payable, is_timely};
 ghost use Rattle.sip_ledger.specs.Ledgers.{from_to};
-ghost use Rattle.sip_machine.specs.Times.{last_moment};
+ghost use Rattle.sip_standard.specs.Times.{last_moment};
 ghost use Rattle.sip_machine.specs.Owing.{CodeOwing};
 ghost use Rattle.sip_machine.specs.inner.Effects.{led_by, repaid_at};
 
@@ -29,7 +29,7 @@ impl<P: Phase> Pool<P> {
         end
     }
 
-    /// Puts a copy of each state from one up to another behind the others that goes where the row leads, but of those that must
+    /// Puts a copy of each state from one up to another after the others that goes where the row leads, but of those that must
     /// send something that is past at the moment. On an error all is as before.
     pub(crate) fn push_led_each(
         &mut self,
@@ -57,7 +57,7 @@ impl<P: Phase> Pool<P> {
         Ok(())
     }
 
-    /// Puts a copy of each state from one up to another, which are in one phase, behind the others that has paid the first debt that
+    /// Puts a copy of each state from one up to another, which are in one phase, after the others that has paid the first debt that
     /// a send of the message at the moment pays, but of those that can pay none, or must send something that is past then. On an
     /// error all is as before.
     pub(crate) fn push_paid_each(
@@ -87,7 +87,7 @@ impl<P: Phase> Pool<P> {
     }
 }
 
-/// Puts a phase so many times behind the others. On an error they are as before.
+/// Puts a phase so many times after the others. On an error they are as before.
 fn push_phases<P: Phase>(phases: &mut Vec<P>, count: usize, phase: P) -> Result<(), AllocError>
     ensures ok { OnOk result (phases.new.items ≡ phases.old.items ++ replicate count phase) }
     ensures err { OnErr result (phases.new.items ≡ phases.old.items) }

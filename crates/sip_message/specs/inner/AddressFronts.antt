@@ -2,11 +2,11 @@
 use Rattle.std.specs.Prelude.{◌≡◌, ◌⊎◌, ◌&&◌, not, ℕ, Bool, true, List, ◌∷◌, ◌++◌, Option, None, Some, codes, option_copied}
 use Rattle.std.specs.List.{AllByRecursion}
 use Rattle.std.specs.Borrow.{Bor}
+use Rattle.sip_standard.specs.Text.{◌then◌, Many}
+use Rattle.sip_standard.specs.Profile.{Token, Blanks}
 use Rattle.sip_text.specs.Bytes.{colon, is_one_of, is_token_byte}
-use Rattle.sip_text.specs.Text.{◌then◌, Many}
-use Rattle.sip_text.specs.Grammar.{Token, Blanks}
-use Rattle.sip_text.specs.Cut.{before, behind}
 use Rattle.sip_text.specs.Uri.{UriText}
+use Rattle.sip_text.specs.inner.Cut.{before, behind}
 use Rattle.sip_message.specs.declared.address.Cuts.{Cuts}
 use Rattle.sip_message.specs.Unfold.{is_blank}
 use Rattle.sip_message.specs.Params.{left_angle, right_angle, ParamsPart, BehindBlanks}
@@ -18,7 +18,7 @@ use Rattle.sip_message.specs.inner.ParamFronts.{QuotedFront}
 abbrev pub Words : List ℕ → Type 0
 Words = Token then Many (Blanks then Token)
 
--- all the words at the front, and what is left: behind its blanks no token begins
+-- all the words at the front, and what is left: after its blanks no token begins
 abbrev pub WordsFront : List ℕ → List ℕ × List ℕ → Type 0
 WordsFront text (words, rest) =
     Words words × ((stop : List ℕ) × Behind rest stop × Stops is_token_byte stop) × (text ≡ words ++ rest)
@@ -57,7 +57,7 @@ pub data AddressCut (text : List ℕ) (c : CutParts) : Type 0 where
       → AllByRecursion (λ byte. is_unmarked_byte byte ≡ true) c.uri → Stops is_unmarked_byte c.rest
       → text ≡ c.uri ++ c.rest → AddressCut text c
 
--- the whole text is parameters, behind their blanks
+-- the whole text is parameters, after their blanks
 abbrev pub TailText : List ℕ → List ℕ → Type 0
 TailText text params =
     BehindBlanks params text × ((ps : List (List ℕ × Option (List ℕ))) × ParamsPart params ps)

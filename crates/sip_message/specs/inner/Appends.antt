@@ -2,7 +2,7 @@
 use Rattle.std.specs.Prelude.{◌≡◌, ◌≤◌, ◌<◌, ℕ, List, ◌++◌, map, Result, Ok, Err, ⊤}
 use Rattle.std.specs.List.{flat_map}
 use Rattle.sip_message.specs.Lines.{with_end}
-use Rattle.sip_message.specs.StartLine.{StartLine, request, status}
+use Rattle.sip_standard.specs.StartLine.{StartLine, request, status}
 use Rattle.sip_message.specs.Field.{Field}
 use Rattle.sip_message.specs.Message.{unfolded_field}
 use Rattle.sip_message.specs.Canon.{field_text}

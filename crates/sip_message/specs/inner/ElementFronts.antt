@@ -5,7 +5,7 @@ use Rattle.sip_message.specs.Via.{ViaParts, ViaText, ViasText}
 use Rattle.sip_message.specs.Elements.{Element, MoreElements, AreElements}
 use Rattle.sip_message.specs.inner.Fronts.{MarkFront}
 
--- the elements that are left: those of the rest of a value, and those of the values behind it
+-- the elements that are left: those of the rest of a value, and those of the values after it
 pub record AreLeft (rest : List ℕ) (values : List (List ℕ)) (es : List Element) : Type 0 where
   pub now : List Element
   pub more : List Element
@@ -13,7 +13,7 @@ pub record AreLeft (rest : List ℕ) (values : List (List ℕ)) (es : List Eleme
   pub are_more : AreElements values more
   pub whole : es ≡ now ++ more
 
--- the next element that is left begins this text; behind the text stand these values
+-- the next element that is left begins this text; after the text stand these values
 pub record NextText (rest : List ℕ) (values : List (List ℕ)) (text : List ℕ) (more : List (List ℕ)) : Type 0 where
   pub to : (es : List Element) → AreLeft rest values es → AreElements (text ∷ more) es
   pub from : (es : List Element) → AreElements (text ∷ more) es → AreLeft rest values es

@@ -9,7 +9,7 @@ use Rattle.sip_message.specs.Message.{found_from}
 abbrev pub found_parts : Bor (List ℕ) × ℕ → ℕ × List ℕ
 found_parts (value, line) = (line, value.now)
 
--- the first field of the name behind the first n lines, or none
+-- the first field of the name after the first n lines, or none
 abbrev pub IsFound : Known → ℕ → List Field → Option (ℕ × List ℕ) → Type 0
 IsFound name n fields None = found_from (n + 1) name (drop n fields) ≡ []
 IsFound name n fields (Some one) =

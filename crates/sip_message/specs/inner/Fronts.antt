@@ -1,11 +1,12 @@
--- What stands at the front of a text, with what is left behind it.
+-- What stands at the front of a text, with what is left after it.
 use Rattle.std.specs.Prelude.{◌≡◌, ℕ, ◌-◌, ◌&&◌, ◌==◌, not, nat_lt, slice_index, length, Bool, List, [], ◌∷◌, ◌++◌, false, if◌then◌else◌, ⊤}
 use Rattle.std.specs.Borrow.{Bor}
+use Rattle.sip_standard.specs.Text.{Exactly, ◌then◌}
+use Rattle.sip_standard.specs.Profile.{Token, Sws, Blanks}
 use Rattle.sip_text.specs.Bytes.{carriage_return, is_wsp, is_token_byte}
-use Rattle.sip_text.specs.Text.{Exactly, ◌then◌}
-use Rattle.sip_text.specs.Grammar.{Token, Sws, Blanks}
-use Rattle.sip_text.specs.Blanks.{blank_len}
-use Rattle.sip_message.specs.Lines.{BeginsBlank, IsFolded, with_end}
+use Rattle.sip_text.specs.inner.Blanks.{blank_len}
+use Rattle.sip_standard.specs.Lines.{OpensBlank}
+use Rattle.sip_message.specs.Lines.{IsFolded, with_end}
 use Rattle.sip_message.specs.Params.{slash, Mark}
 
 -- the text begins with no byte that passes
@@ -17,7 +18,7 @@ Stops test (b ∷ text) = test b ≡ false
 abbrev pub StopsBlank : List ℕ → Type 0
 StopsBlank text = blank_len text ≡ 0
 
--- what is left behind the longest run of blanks at the front
+-- what is left after the longest run of blanks at the front
 abbrev pub Behind : List ℕ → List ℕ → Type 0
 Behind text rest = StopsBlank rest × (Sws then Exactly rest) text
 
@@ -71,7 +72,7 @@ protocol_parts (a, b, c, d) = record { protocol = a.now; version = b.now; transp
 
 -- a logical line with its end, and what is left
 abbrev pub LineFront : List ℕ → List ℕ × List ℕ → Type 0
-LineFront text (line, rest) = IsFolded line × ¬ (BeginsBlank rest) × (text ≡ with_end line ++ rest)
+LineFront text (line, rest) = IsFolded line × ¬ (OpensBlank rest) × (text ≡ with_end line ++ rest)
 
 -- the text ends with CR
 abbrev pub ends_cr : List ℕ → Bool

@@ -2,15 +2,16 @@
 use Rattle.std.specs.Prelude.{◌≡◌, ℕ, ◌+◌, ◌<◌, ◌≤◌, ◌==◌, List, slice_index}
 use Rattle.std.specs.List.{AllByRecursion, flat_map}
 use Rattle.sip_text.specs.Bytes.{carriage_return, line_feed}
-use Rattle.sip_message.specs.Lines.{BeginsBlank, IsFolded, with_end}
+use Rattle.sip_standard.specs.Lines.{OpensBlank}
+use Rattle.sip_message.specs.Lines.{IsFolded, with_end}
 
 -- the text is these lines, none of which begins with a blank
 pub record AreLines (text : List ℕ) (lines : List (List ℕ)) : Type 0 where
   pub whole : text ≡ flat_map with_end lines
   pub folded : AllByRecursion IsFolded lines
-  pub cut : AllByRecursion (λ line. ¬ (BeginsBlank line)) lines
+  pub cut : AllByRecursion (λ line. ¬ (OpensBlank line)) lines
 
--- a LF stands behind this byte exactly if it is a CR
+-- a LF stands after this byte exactly if it is a CR
 abbrev pub IsPaired : List ℕ → ℕ → Type 0
 IsPaired text k = (slice_index text k == carriage_return) ≡ (slice_index text (k + 1) == line_feed)
 

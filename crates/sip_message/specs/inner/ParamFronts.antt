@@ -1,12 +1,10 @@
--- Parameters at the front of a text, with what is left behind them.
+-- Parameters at the front of a text, with what is left after them.
 use Rattle.std.specs.Prelude.{◌≡◌, ◌⊎◌, ◌||◌, ◌==◌, ℕ, Bool, List, [], ◌∷◌, ◌++◌, true, false, Option, None, Some, option_copied}
 use Rattle.std.specs.List.{AllByRecursion}
 use Rattle.std.specs.Borrow.{Bor}
+use Rattle.sip_standard.specs.Text.{◌or◌}
+use Rattle.sip_standard.specs.Profile.{Token, Ipv6, Bracketed, Quoted}
 use Rattle.sip_text.specs.Bytes.{colon, semicolon, equals, left_bracket, right_bracket, is_token_byte}
-use Rattle.sip_text.specs.Text.{◌or◌}
-use Rattle.sip_text.specs.Grammar.{Token}
-use Rattle.sip_text.specs.Host.{Ipv6Address, Ipv6Reference}
-use Rattle.sip_message.specs.Params.{Quoted}
 use Rattle.sip_message.specs.inner.Fronts.{Stops, TokenFront, MarkFront, Seq}
 
 -- a parameter: its name, and its value if it has one
@@ -17,14 +15,14 @@ Param = List ℕ × Option (List ℕ)
 abbrev pub is_bare_byte : ℕ → Bool
 is_bare_byte byte = is_token_byte byte || byte == colon
 
--- what is left behind the longest run of bytes that pass
+-- what is left after the longest run of bytes that pass
 abbrev pub PastRun : (ℕ → Bool) → List ℕ → List ℕ → Type 0
 PastRun test text rest =
     Stops test rest × ((run : List ℕ) × AllByRecursion (λ byte. test byte ≡ true) run × (text ≡ run ++ rest))
 
 -- a token or an IPv6 address without brackets, and what is left
 abbrev pub BareFront : List ℕ → List ℕ × List ℕ → Type 0
-BareFront text (value, rest) = (Token or Ipv6Address) value × Stops is_bare_byte rest × (text ≡ value ++ rest)
+BareFront text (value, rest) = (Token or Ipv6) value × Stops is_bare_byte rest × (text ≡ value ++ rest)
 
 -- a quoted string, and what is left
 abbrev pub QuotedFront : List ℕ → List ℕ × List ℕ → Type 0
@@ -38,7 +36,7 @@ BracketFront text (part, rest) =
 
 -- an IPv6 address in brackets, and what is left
 abbrev pub ReferenceFront : List ℕ → List ℕ × List ℕ → Type 0
-ReferenceFront text (value, rest) = Ipv6Reference value × (text ≡ value ++ rest)
+ReferenceFront text (value, rest) = Bracketed value × (text ≡ value ++ rest)
 
 -- a parameter's value, and what is left
 abbrev pub ValueFront : List ℕ → List ℕ × List ℕ → Type 0

@@ -1,9 +1,10 @@
 -- Plain parts of values, each between two places of a text.
 use Rattle.std.specs.Prelude.{◌≡◌, ℕ, ◌-◌, ◌≤◌, List, Option, IfSome, take, drop}
-use Rattle.sip_text.specs.Bytes.{semicolon}
-use Rattle.sip_text.specs.Text.{One, Byte, ◌then◌, OneOrMore}
+use Rattle.sip_standard.specs.Text.{One, ◌then◌, OneOrMore}
+use Rattle.sip_standard.specs.Profile.{Port}
+use Rattle.sip_text.specs.Bytes.{semicolon, Byte}
 use Rattle.sip_text.specs.Host.{HostParts, HostText, host_text}
-use Rattle.sip_text.specs.Uri.{Port, UriParts, UriText, hostport_text}
+use Rattle.sip_text.specs.Uri.{UriParts, UriText, hostport_text}
 use Rattle.sip_masks.specs.Marks.{is_plain}
 use Rattle.sip_message.specs.Params.{ParamText, ParamsPart}
 use Rattle.sip_message.specs.Address.{AddressParts, AddressText, DisplayName, BeforeUri}
@@ -20,7 +21,7 @@ LiesWithin P text at end to = (at ≤ to) × (to ≤ end) × P (segment at to te
 abbrev pub PlainRun : List ℕ → Type 0
 PlainRun = OneOrMore (One is_plain)
 
--- a host, and the port behind its colon
+-- a host, and the port after its colon
 abbrev pub HostPort : List ℕ → Type 0
 HostPort text =
     (host : HostParts) × (port : Option (List ℕ)) × HostText (host_text host) host × IfSome port Port

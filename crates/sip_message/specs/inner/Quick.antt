@@ -2,8 +2,10 @@
 use Rattle.std.specs.Prelude.{◌≡◌, ℕ, ◌+◌, ◌≤◌, not, Bool, true, List, [], ◌∷◌, ◌++◌, length, drop}
 use Rattle.std.specs.List.{AllByRecursion, flat_map}
 use Rattle.sip_masks.specs.Marks.{is_control}
-use Rattle.sip_message.specs.Lines.{IsHead, HasNoBareEnd, IsLines, with_end}
-use Rattle.sip_message.specs.StartLine.{StartLine, StartText}
+use Rattle.sip_standard.specs.Lines.{CutSays, LinesSay}
+use Rattle.sip_message.specs.Lines.{HasNoBareEnd, with_end}
+use Rattle.sip_standard.specs.StartLine.{StartLine}
+use Rattle.sip_message.specs.StartLine.{StartText}
 use Rattle.sip_message.specs.Field.{Field, FieldText, FieldsText}
 use Rattle.sip_message.specs.declared.asked.Asked.{Asked}
 use Rattle.sip_message.specs.inner.Asked.{AsksMore}
@@ -29,13 +31,13 @@ pub record IsOrdinary (bytes : List ℕ) (start : StartLine) (fields : List Fiel
   pub head : List ℕ
   pub first : List ℕ
   pub others : List (List ℕ)
-  pub is_head : IsHead bytes head rest
+  pub is_head : CutSays bytes (head, rest)
   pub no_bare : HasNoBareEnd head
-  pub are_lines : IsLines head first others
+  pub are_lines : LinesSay head first others
   pub is_start : StartText first start
   pub are_fields : FieldsText others fields
 
--- the line is a field, which is put behind the others, and what it says is kept
+-- the line is a field, which is put after the others, and what it says is kept
 pub record PushesField (line : List ℕ) (old new : List Field) (before after : Asked) : Type 0 where
   pub field : Field
   pub is : FieldText line field

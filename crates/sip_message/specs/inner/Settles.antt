@@ -1,9 +1,9 @@
 -- What a stage's result comes to.
 use Rattle.std.specs.Prelude.{Result, Ok, Err, ⊤}
-use Rattle.sip_message.specs.declared.fault.Fault.{Fault}
+use Rattle.sip_standard.specs.declared.fault.Fault.{Fault}
 use Rattle.sip_message.specs.declared.fault.ReadError.{ReadError}
 use Rattle.sip_message.specs.declared.fault.ReadError.TheVariants as error
-use Rattle.sip_message.specs.Outcome.{Outcome, gives, stops}
+use Rattle.sip_standard.specs.Outcome.{Outcome, gives, stops}
 
 -- what a result comes to
 abbrev pub outcome_of : {A X : Type 0} → (A → X) → Result A Fault → Outcome X

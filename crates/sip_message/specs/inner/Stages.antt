@@ -8,8 +8,8 @@ use Rattle.sip_message.specs.declared.stages.Named.{Named}
 use Rattle.sip_message.specs.declared.values.CSeq.{CSeq}
 use Rattle.sip_message.specs.declared.via.Via.{Via}
 use Rattle.sip_message.specs.Field.{Field}
-use Rattle.sip_message.specs.Faults.{BodyOf}
-use Rattle.sip_message.specs.Outcome.{gives}
+use Rattle.sip_message.specs.inner.Faults.{BodyOf}
+use Rattle.sip_standard.specs.Outcome.{gives}
 use Rattle.sip_message.specs.Reading.{IsValueOf, CSeqValue}
 use Rattle.sip_message.specs.ValueParts.{start_parts, cseq_parts}
 use Rattle.sip_message.specs.ViaParts.{element}

@@ -1,9 +1,10 @@
 -- The two start lines, each with its parts, and a Status-Code at the front of a text.
 use Rattle.std.specs.Prelude.{ℕ, List}
 use Rattle.std.specs.Borrow.{Bor}
-use Rattle.sip_text.specs.Bytes.{space}
-use Rattle.sip_text.specs.Text.{Byte, Exactly, ◌then◌}
-use Rattle.sip_message.specs.StartLine.{request, status, CodeText, StartText}
+use Rattle.sip_standard.specs.Text.{Exactly, ◌then◌}
+use Rattle.sip_text.specs.Bytes.{space, Byte}
+use Rattle.sip_standard.specs.StartLine.{request, status}
+use Rattle.sip_message.specs.StartLine.{CodeText, StartText}
 
 -- a Request-Line, with its method and Request-URI
 abbrev pub RequestLine : List ℕ → List ℕ × List ℕ → Type 0

@@ -1,11 +1,10 @@
 -- An element of Via at the front of a text, in the steps by which it is read.
 use Rattle.std.specs.Prelude.{◌≡◌, ◌⊎◌, ℕ, List, ◌++◌, Option, None, Some, option_copied, codes}
 use Rattle.std.specs.Borrow.{Bor}
+use Rattle.sip_standard.specs.Profile.{Token, Port}
 use Rattle.sip_text.specs.Bytes.{colon}
 use Rattle.sip_text.specs.Case.{SameText}
-use Rattle.sip_text.specs.Grammar.{Token}
 use Rattle.sip_text.specs.Host.{HostParts, HostText, host_parts}
-use Rattle.sip_text.specs.Uri.{Port}
 use Rattle.sip_text.specs.declared.host.Host.{Host}
 use Rattle.sip_message.specs.Via.{ViaParts, IsBranch}
 use Rattle.sip_message.specs.inner.Fronts.{TokenFront, Behind, Seq, ProtocolFront}

@@ -5,9 +5,9 @@ use Rattle.std.specs.Option.{option_map_or}
 use Rattle.std.specs.Char.{is_ascii_alphabetic}
 use Rattle.sip_text.specs.declared.class.Class.{Class}
 use Rattle.sip_text.specs.declared.class.Class.TheVariants as variant
-use Rattle.sip_text.specs.Bytes.{hyphen, dot, colon, left_bracket, right_bracket, is_label_byte}
-use Rattle.sip_text.specs.Class.{is_in}
-use Rattle.sip_text.specs.Cut.{before, behind, before_last, behind_last, parts, past, up_to}
+use Rattle.sip_text.specs.Bytes.{hyphen, dot, colon, left_bracket, right_bracket}
+use Rattle.sip_text.specs.inner.Class.{is_label_byte, is_in}
+use Rattle.sip_text.specs.inner.Cut.{before, behind, before_last, behind_last, parts, past, up_to}
 
 -- a byte or more, and at most so many
 abbrev pub has_len : ℕ → List ℕ → Bool
@@ -21,7 +21,7 @@ is_group class most text = has_len most text && list_all (is_in class) text
 abbrev pub is_decimal : List ℕ → Bool
 is_decimal text = is_group variant.Digit 3 text
 
--- the text behind 1*3DIGIT ".", if it begins so
+-- the text after 1*3DIGIT ".", if it begins so
 abbrev pub past_decimal : List ℕ → Option (List ℕ)
 past_decimal text = if is_decimal (before dot text) then behind dot text else None
 
@@ -54,7 +54,7 @@ abbrev pub before_double : List ℕ → List ℕ
 before_double [] = []
 before_double (b ∷ text) = if is_double_at (b ∷ text) 0 then [] else b ∷ before_double text
 
--- the text behind its first "::", if there is one
+-- the text after its first "::", if there is one
 abbrev pub behind_double : List ℕ → Option (List ℕ)
 behind_double [] = None
 behind_double (b ∷ text) = if is_double_at (b ∷ text) 0 then Some (drop 1 text) else behind_double text
@@ -69,7 +69,7 @@ is_hexpart text =
 abbrev pub is_open : List ℕ → Bool
 is_open text = option_map_or is_optional_hexseq (up_to colon text) false
 
--- what may stand before the last ":", behind which an IPv4address stands
+-- what may stand before the last ":", after which an IPv4address stands
 abbrev pub is_before_v4 : List ℕ → Bool
 is_before_v4 text = is_hexpart text || is_open text
 

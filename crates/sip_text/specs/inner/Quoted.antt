@@ -1,9 +1,10 @@
 -- The contents of a quoted string, in pieces that begin no other.
 use Rattle.std.specs.Prelude.{ℕ, Bool, ◌&&◌, List, length, ◌==◌, nat_lt, slice_index, if◌then◌else◌}
-use Rattle.sip_text.specs.Bytes.{backslash, is_quoted_byte, is_escaped_byte}
-use Rattle.sip_text.specs.Text.{One, ◌or◌}
-use Rattle.sip_text.specs.Grammar.{QuotedPair}
-use Rattle.sip_text.specs.Blanks.{Blank, blank_len}
+use Rattle.sip_standard.specs.Text.{One, ◌or◌}
+use Rattle.sip_text.specs.Bytes.{backslash}
+use Rattle.sip_text.specs.inner.Class.{is_quoted_byte, is_escaped_byte}
+use Rattle.sip_text.specs.inner.Blanks.{Blank, blank_len}
+use Rattle.sip_text.specs.inner.Pieces.{QuotedPair}
 
 -- a byte of qdtext, a quoted pair, or a blank
 abbrev pub QuotedItem : List ℕ → Type 0

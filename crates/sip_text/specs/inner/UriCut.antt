@@ -1,19 +1,22 @@
 -- How the reader of URIs cuts a text: each part ends at the first byte that it cannot hold.
 use Rattle.std.specs.Prelude.{◌≡◌, ℕ, ◌&&◌, ◌==◌, Bool, List, ◌∷◌, ◌++◌, Option, None, Some, IfSome, option_copied, if◌then◌else◌}
 use Rattle.std.specs.Char.{is_ascii_hexdigit}
+use Rattle.sip_standard.specs.Text.{One, ◌or◌}
+use Rattle.sip_standard.specs.Profile.{User, Password, Port, UriParameters, Headers}
 use Rattle.sip_text.specs.Bytes.{percent, colon, semicolon, question, at_sign}
-use Rattle.sip_text.specs.Text.{One, ◌or◌, led}
-use Rattle.sip_text.specs.Cut.{before, behind}
-use Rattle.sip_text.specs.Class.{is_in}
-use Rattle.sip_text.specs.Uri.{Escaped, User, Password, Port, UriParameters, Headers, SipFits, sip_text, UriParts, sip, other}
+use Rattle.sip_text.specs.Parts.{led}
+use Rattle.sip_text.specs.Uri.{SipFits, sip_text, UriParts, sip, other}
+use Rattle.sip_text.specs.inner.Class.{is_in}
+use Rattle.sip_text.specs.inner.Cut.{before, behind}
+use Rattle.sip_text.specs.inner.Pieces.{Escaped}
 use Rattle.sip_text.specs.declared.class.Class.{Class}
 use Rattle.sip_text.specs.declared.uri.Cuts.{Cuts}
 
 -- a character of a part: a byte of its class, or an escape
-abbrev pub Char : Class → List ℕ → Type 0
-Char class = One (is_in class) or Escaped
+abbrev pub ClassChar : Class → List ℕ → Type 0
+ClassChar class = One (is_in class) or Escaped
 
--- what stands behind the escape at the front
+-- what stands after the escape at the front
 abbrev pub behind_escape : List ℕ → Option (List ℕ)
 behind_escape (mark ∷ high ∷ low ∷ rest) =
     (if mark == percent && is_ascii_hexdigit high && is_ascii_hexdigit low then Some rest else None)
@@ -53,7 +56,7 @@ cut_parts cuts = record {
   headers = option_copied cuts.headers;
 }
 
--- what follows the scheme of a SIP URI is cut into these parts, behind the userinfo at the first
+-- what follows the scheme of a SIP URI is cut into these parts, after the userinfo at the first
 -- "?" and then at the first ";"
 pub record IsSipCut (text : List ℕ) (cut : CutParts) : Type 0 where
   pub rest : List ℕ

@@ -2,7 +2,7 @@
 use Rattle.std.proofs.Common.{◌≡◌, inl, inr, ℕ, Bool, true, false, Option, Some, None, MatchOption, List, [], ◌∷◌, ◌++◌, All, if◌then◌else◌, refl, sym, ap, ◌∙◌, subst}
 use Rattle.std.specs.Prelude.{option_map, option_to_list, codes, bytes_eq}
 use Rattle.std.proofs.lemmas.List.Elements.{All-nil, All-cons, All-append, All-weaker}
-use Rattle.sip_message.specs.Says.{Said}
+use Rattle.sip_standard.specs.Says.{Said}
 use Rattle.sip_key.specs.declared.role.Role.{Role}
 use Rattle.sip_key.specs.declared.role.Role.TheVariants.{Client}
 use Rattle.sip_key.specs.declared.role.Direction.{Direction}
@@ -10,9 +10,9 @@ use Rattle.sip_key.specs.declared.role.Direction.TheVariants as way
 use Rattle.sip_key.specs.Key.{KeyParts}
 use Rattle.sip_key.specs.Branch.{cookie_branch}
 use Rattle.sip_key.specs.Concerns.{Concerns, role_of, sent_by_of, method_of, is_sent}
-use Rattle.sip_times.specs.declared.action.Action.{Action}
-use Rattle.sip_times.specs.declared.action.Action.TheVariants.{Sent, Received, Failed, Mark, Restart}
-use Rattle.sip_log.specs.Spelling.{Item}
+use Rattle.sip_standard.specs.declared.action.Action.{Action}
+use Rattle.sip_standard.specs.declared.action.Action.TheVariants.{Sent, Received, Failed, Mark, Restart}
+use Rattle.sip_standard.specs.LogEntry.{Item}
 use Rattle.sip_verdict.specs.Keyed.{Observation}
 use Rattle.sip_verdict.specs.MessageReading.{message_reading, direction_of, silent_observation, ObservesMessage, has_fault, has_no_cookie, is_heard}
 use Rattle.sip_verdict.specs.Reading.{AreObserved}
@@ -32,7 +32,7 @@ cancelled_branch true branch = own_branch Client [] (codes "INVITE") branch
 cancelled_branch false branch = All-nil (λ key. branch ≡ Some key.branch)
 
 -- all that a message concerns has the branch of its top Via
-of_one_branch : (s : Said) (direction : Direction) (keys : List KeyParts) → Concerns s direction keys → All (λ key. cookie_branch s.via.branch ≡ Some key.branch) keys
+pub of_one_branch : (s : Said) (direction : Direction) (keys : List KeyParts) → Concerns s direction keys → All (λ key. cookie_branch s.via.branch ≡ Some key.branch) keys
 of_one_branch s direction keys concerns =
     let branch = cookie_branch s.via.branch in
     subst (All {X = KeyParts} (λ key. branch ≡ Some key.branch)) (sym concerns)

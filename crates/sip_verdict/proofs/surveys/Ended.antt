@@ -3,7 +3,7 @@ use Rattle.std.proofs.Common.{◌≡◌, ◌≤◌, ◌+◌, ◌-◌, ◌⊎◌,
 use Rattle.std.proofs.lemmas.Option.{slice_get_within}
 use Rattle.std.proofs.lemmas.List.Elements.{All-contains}
 use Rattle.sip_key.specs.Key.{KeyParts}
-use Rattle.sip_machine.specs.Times.{Times}
+use Rattle.sip_standard.specs.Times.{Times}
 use Rattle.sip_machine.specs.Texts.{Texts}
 use Rattle.sip_states.specs.KeyMachine.{machine_of_key}
 use Rattle.sip_states.specs.Tables.{Tabled}
@@ -15,11 +15,11 @@ use Rattle.sip_verdict.specs.VerdictOf.{keys_in, RunsOver, IsWideAt}
 use Rattle.sip_verdict.specs.SurveyOf.{IsSound, Breaks, Widens, HoldsOf, AreFoundAt}
 use Rattle.sip_verdict.specs.inner.TablesTracking.{LeadsOf, is_among}
 use Rattle.sip_verdict.specs.inner.Surveying.{IsNumberOf, IsFollowed, IsOrdered, TablesSurvey, IsPassing, ArePassing, AreAscending}
-use Rattle.sip_verdict.proofs.Keys.{newest_moment-push}
-use Rattle.sip_states.proofs.Listed.{Contains-none, Contains-cons}
-use Rattle.sip_verdict.proofs.FewerEntries.{fewer-entries, newest-to}
-use Rattle.sip_verdict.proofs.TablesPassing.{at_place}
-use Rattle.sip_verdict.proofs.VerdictLemmas.{run-over, over-run, at-wide}
+use Rattle.sip_verdict.proofs.keys.Keys.{newest_moment-push}
+use Rattle.sip_states.proofs.lists.Listed.{Contains-none, Contains-cons}
+use Rattle.sip_verdict.proofs.keys.FewerEntries.{fewer-entries, newest-to}
+use Rattle.sip_verdict.proofs.tables.TablesPassing.{at_place}
+use Rattle.sip_verdict.proofs.verdicts.VerdictLemmas.{run-over, over-run, at-wide}
 use Rattle.sip_verdict.proofs.surveys.Numbers.{AreNumbers}
 use Rattle.sip_verdict.proofs.surveys.FoundParts.{listed, listed_found}
 use Rattle.sip_verdict.proofs.surveys.Ordered.{ordered_append}

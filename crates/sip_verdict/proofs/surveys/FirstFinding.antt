@@ -1,11 +1,11 @@
 -- The verdict of an input is the first finding of its survey.
 use Rattle.std.proofs.Common.{◌≡◌, ◌≤◌, ◌⊎◌, inl, inr, ℕ, Some, None, List, [], ◌∷◌, ◌++◌, All, AllPairs, Contains, length, refl, sym, ap, ap₂, ◌∙◌, subst, arith, length-append}
 use Rattle.sip_key.specs.Key.{KeyParts}
-use Rattle.sip_machine.specs.Times.{Times}
-use Rattle.sip_log.specs.Spelling.{Item}
-use Rattle.sip_log.specs.Log.{LogEnd, Clean, Stops}
-use Rattle.sip_message.specs.declared.fault.Fault.{Fault}
-use Rattle.sip_states.proofs.Listed.{Contains-none, Contains-here, Contains-cons}
+use Rattle.sip_standard.specs.Times.{Times}
+use Rattle.sip_standard.specs.LogEntry.{Item}
+use Rattle.sip_standard.specs.LogSays.{LogEnd, Clean, Stops}
+use Rattle.sip_standard.specs.declared.fault.Fault.{Fault}
+use Rattle.sip_states.proofs.lists.Listed.{Contains-none, Contains-here, Contains-cons}
 use Rattle.sip_verdict.specs.declared.finding.Finding.{Finding}
 use Rattle.sip_verdict.specs.declared.finding.Finding.TheVariants.{Malformed, Breach, Undecided}
 use Rattle.sip_verdict.specs.declared.survey_end.SurveyEnd.{SurveyEnd}
@@ -14,9 +14,9 @@ use Rattle.sip_verdict.specs.declared.verdict.Verdict.TheVariants as verdicts
 use Rattle.sip_verdict.specs.Keyed.{Observation}
 use Rattle.sip_verdict.specs.VerdictOf.{keys_in, RunsOver, IsWideAt, IsFirstKey, HasTrouble, IsVerdictBehind, IsVerdictOf}
 use Rattle.sip_verdict.specs.SurveyOf.{Breaks, Widens, HoldsOf, Precedes, AreFoundAt, IsSurveyAfter, IsSurveyOf, verdict_of, verdict_in}
-use Rattle.sip_verdict.proofs.Unique.{All-middle}
-use Rattle.sip_verdict.proofs.Splitting.{split_compare}
-use Rattle.sip_verdict.proofs.MessageUnique.{observes_one}
+use Rattle.sip_verdict.proofs.verdicts.Unique.{All-middle}
+use Rattle.sip_verdict.proofs.keys.Splitting.{split_compare}
+use Rattle.sip_verdict.proofs.verdicts.MessageUnique.{observes_one}
 use Rattle.sip_verdict.proofs.surveys.Ordered.{first_before}
 use Rattle.sip_verdict.proofs.surveys.OneSurvey.{says_same}
 use Rattle.sip_verdict.proofs.surveys.Sound.{AllSound, sound_nil, all_sound_push}

@@ -2,7 +2,7 @@
 use Rattle.std.proofs.Common.{◌≡◌, ◌≤◌, ◌↔◌, ◌⊎◌, inl, inr, ℕ, List, [], ◌∷◌, ◌++◌, All, AllPairs, refl, sym, ap, ◌∙◌, subst, arith, append_assoc, append-nil}
 use Rattle.std.proofs.lemmas.List.Elements.{All-weaker}
 use Rattle.sip_key.specs.Key.{KeyParts}
-use Rattle.sip_machine.specs.Times.{Times}
+use Rattle.sip_standard.specs.Times.{Times}
 use Rattle.sip_machine.specs.Figure.{Owing}
 use Rattle.sip_states.specs.Stands.{Stands, StandsBehind}
 use Rattle.sip_states.specs.KeyMachine.{machine_of_key, transaction_of}
@@ -11,9 +11,9 @@ use Rattle.sip_verdict.specs.MessageReading.{key_machines}
 use Rattle.sip_verdict.specs.VerdictOf.{events_for, RunsOver, IsWideAt}
 use Rattle.sip_verdict.specs.SurveyOf.{IsSound, Breaks, Widens}
 use Rattle.sip_verdict.specs.SurveyLaws.{IsIdleAgain}
-use Rattle.sip_verdict.proofs.FewerEntries.{newest-to, newest-before, events-all, events-append}
-use Rattle.sip_verdict.proofs.Keys.{newest_moment-push}
-use Rattle.sip_verdict.proofs.Unique.{All-middle}
+use Rattle.sip_verdict.proofs.keys.FewerEntries.{newest-to, newest-before, events-all, events-append}
+use Rattle.sip_verdict.proofs.keys.Keys.{newest_moment-push}
+use Rattle.sip_verdict.proofs.verdicts.Unique.{All-middle}
 use Rattle.sip_verdict.proofs.surveys.IdleAgain.{idle_is_new, last_of_list}
 use Rattle.sip_verdict.proofs.surveys.Once.{ordered_front}
 use Rattle.sip_verdict.proofs.surveys.Sound.{sound_nil}

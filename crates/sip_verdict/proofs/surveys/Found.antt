@@ -1,11 +1,11 @@
 -- What is found at an entry, as it was appended.
 use Rattle.std.proofs.Common.{◌≡◌, ◌+◌, ◌≤◌, ℕ, Option, Some, None, List, [], ◌∷◌, ◌++◌, length, append_assoc, slice_get, refl, sym, ap, ◌∙◌, subst}
 use Rattle.sip_key.specs.Key.{KeyParts}
-use Rattle.sip_machine.specs.Times.{Times}
+use Rattle.sip_standard.specs.Times.{Times}
 use Rattle.sip_machine.specs.Texts.{Texts}
-use Rattle.sip_message.specs.declared.fault.Fault.{Fault}
+use Rattle.sip_standard.specs.declared.fault.Fault.{Fault}
 use Rattle.sip_states.specs.Tables.{Tabled}
-use Rattle.sip_log.specs.Spelling.{Item}
+use Rattle.sip_standard.specs.LogEntry.{Item}
 use Rattle.sip_verdict.specs.declared.finding.Finding.{Finding}
 use Rattle.sip_verdict.specs.declared.troubled.Troubled.{Troubled}
 use Rattle.sip_verdict.specs.Keyed.{Observation, newest_moment}

@@ -1,11 +1,11 @@
 -- Each input has a survey: none is without.
 use Rattle.std.proofs.Common.{inl, inr, ◌+◌, ℕ, List, [], ◌∷◌, ◌++◌, length, refl}
 use Rattle.sip_key.specs.Key.{KeyParts}
-use Rattle.sip_machine.specs.Times.{Times}
-use Rattle.sip_log.specs.Spelling.{Item}
-use Rattle.sip_log.specs.Log.{LogEnd, Clean, Stops, Log, Faulty, Readable, IsLogOf}
-use Rattle.sip_log.proofs.Logs.{log_is_some}
-use Rattle.sip_log.proofs.LogSaysLemmas.{log-says, lacks-header}
+use Rattle.sip_standard.specs.Times.{Times}
+use Rattle.sip_standard.specs.LogEntry.{Item}
+use Rattle.sip_standard.specs.LogSays.{LogEnd, Clean, Stops}
+use Rattle.sip_log.specs.Log.{Log, Faulty, Readable, IsLogOf}
+use Rattle.sip_log.proofs.logs.Logs.{log_is_some}
 use Rattle.sip_verdict.specs.declared.finding.Finding.{Finding}
 use Rattle.sip_verdict.specs.declared.survey_end.SurveyEnd.{SurveyEnd}
 use Rattle.sip_verdict.specs.declared.survey_end.SurveyEnd.TheVariants as ended
@@ -14,7 +14,7 @@ use Rattle.sip_verdict.specs.LogReason.{reason_of}
 use Rattle.sip_verdict.specs.Keyed.{Observation}
 use Rattle.sip_verdict.specs.VerdictOf.{keys_in}
 use Rattle.sip_verdict.specs.SurveyOf.{Breaks, Widens, AreFoundAt, IsSurveyAfter, IsSurveyOf}
-use Rattle.sip_verdict.proofs.HasVerdict.{sees_entry}
+use Rattle.sip_verdict.proofs.verdicts.HasVerdict.{sees_entry}
 use Rattle.sip_verdict.proofs.surveys.Numbers.{Weakly, numbers_some}
 use Rattle.sip_verdict.proofs.surveys.FoundParts.{listed, listed_found}
 
@@ -41,5 +41,5 @@ pub has_survey : (input : List ℕ) → ¬ ((found : List Finding) (end : Survey
 has_survey input never = let log = log_is_some input in by log.0 log.1
   where
     by : (log : Log) → IsLogOf input log → ⊥
-    by Faulty none = never [] (ended.LogFault 0 Header) (inl (lacks-header input none, refl, refl))
-    by (Readable p items close) is = after_some p [] items close (λ one. never one.0 one.1 (inr (p, items, close, log-says input p items close is, one.2)))
+    by Faulty none = never [] (ended.LogFault 0 Header) (inl (none, refl, refl))
+    by (Readable p items close) is = after_some p [] items close (λ one. never one.0 one.1 (inr (p, items, close, is, one.2)))

@@ -2,7 +2,7 @@
 use Rattle.std.proofs.Common.{◌≡◌, ◌≢◌, ◌≤◌, ◌<◌, ◌+◌, ◌-◌, ◌⊎◌, inl, inr, ℕ, Bool, true, false, Option, Some, None, List, [], ◌∷◌, ◌++◌, MatchBool, length, slice_get, slice_set, slice_index_or, refl, sym, ap, ◌∙◌, subst, true≢false, arith}
 use Rattle.std.proofs.lemmas.Option.{slice_get-get_or}
 use Rattle.sip_key.specs.Key.{KeyParts}
-use Rattle.sip_machine.specs.Times.{Times}
+use Rattle.sip_standard.specs.Times.{Times}
 use Rattle.sip_machine.specs.Texts.{Texts}
 use Rattle.sip_machine.specs.NumberedEvent.{NumberedEvent}
 use Rattle.sip_machine.specs.MachineEvent.{MachineEvent, event_in}
@@ -21,10 +21,10 @@ use Rattle.sip_verdict.specs.inner.Stepping.{IsStepped}
 use Rattle.sip_verdict.specs.inner.Tracking.{Keeping, IsReady, GoesOn, IsPassed}
 use Rattle.sip_verdict.specs.inner.TablesTracking.{LeadsOf, StandsOf, key_keeping, is_among, MayPass}
 use Rattle.sip_verdict.specs.inner.Surveying.{AreWatched, IsPassing, ArePassing, AreConcerned, any}
-use Rattle.sip_verdict.proofs.KeyPassing.{heard_left, overdue_breaks}
-use Rattle.sip_verdict.proofs.TablesPassing.{at_place, All-place, set-place, among_first}
-use Rattle.sip_verdict.proofs.TablesTouching.{starts}
-use Rattle.sip_verdict.proofs.VerdictLemmas.{run-over, over-run, wide-at}
+use Rattle.sip_verdict.proofs.keys.KeyPassing.{heard_left, overdue_breaks}
+use Rattle.sip_verdict.proofs.tables.TablesPassing.{at_place, All-place, set-place, among_first}
+use Rattle.sip_verdict.proofs.tables.TablesTouching.{starts}
+use Rattle.sip_verdict.proofs.verdicts.VerdictLemmas.{run-over, over-run, wide-at}
 use Rattle.sip_verdict.proofs.surveys.Passing.{among_cons, same_at, passed_on, released_broken, released_wide, stays}
 
 -- what is left of a key that was in no trouble

@@ -3,13 +3,13 @@ use Rattle.std.proofs.Common.{◌≡◌, ◌≤◌, ◌<◌, ◌↔◌, ◌⊎�
 use Rattle.std.proofs.Math.Decide.{dec_le}
 use Rattle.std.proofs.lemmas.List.{same_from_push, get_or_append_left}
 use Rattle.std.proofs.lemmas.List.Elements.{All-nil, All-weaker, All-push}
-use Rattle.sip_machine.specs.Times.{Times}
+use Rattle.sip_standard.specs.Times.{Times}
 use Rattle.sip_machine.specs.MachineEvent.{MachineEvent}
 use Rattle.sip_machine.specs.Figure.{Figure, Owing, quiet, Lasts, MayEnd}
 use Rattle.sip_states.specs.Stands.{Stands, begins, waits, ends, takes}
 use Rattle.sip_states.specs.KeyMachine.{MachineKind, transaction_of}
 use Rattle.sip_verdict.specs.SurveyLaws.{IsIdleAgain}
-use Rattle.sip_verdict.proofs.Unique.{All-middle}
+use Rattle.sip_verdict.proofs.verdicts.Unique.{All-middle}
 use Rattle.sip_verdict.proofs.surveys.Lasting.{idle_lasts, idle_stays, lasts_earlier}
 
 abbrev IsTo : ℕ → MachineEvent → Type 0
@@ -31,7 +31,7 @@ last_of_list {A} (x ∷ xs) = go (last_of_list xs)
     go (inr h) = inr (x ∷ h.0, h.1, ap (λ z. x ∷ z) h.2)
 
 module _ {X : Type 0} (f : Figure X) (p : Times) (lasts : (m : ℕ) → Lasts f p (quiet f.idle) m) (has_no_end : (m : ℕ) → ¬ (MayEnd f p (quiet f.idle) m)) where
-  -- no event of a run is behind where it stands
+  -- no event of a run is after where it stands
   events_to : (events : List MachineEvent) (m : ℕ) (y : Owing X) → Stands f p events m y → All (IsTo m) events
   events_to events m y begins = All-nil (IsTo 0)
   events_to events m y (waits evs h k x stands low lasting) = All-weaker (IsTo h) (IsTo k) (λ e to. omega (arith, to, low)) evs (events_to evs h x stands)
@@ -39,7 +39,7 @@ module _ {X : Type 0} (f : Figure X) (p : Times) (lasts : (m : ℕ) → Lasts f 
   events_to events m y (takes evs e x z stands does) = All-push (IsTo e.moment) evs e (events_to evs e.moment x stands) (omega arith)
 
   module _ (old : List MachineEvent) (m : ℕ) (idle : Stands f p old m (quiet f.idle)) where
-    -- a run over later events goes on behind older ones, at whose end the transaction is idle; before their end it has not begun
+    -- a run over later events goes on after older ones, at whose end the transaction is idle; before their end it has not begun
     on : (more : List MachineEvent) (k : ℕ) (y : Owing X) → Stands f p more k y → All (IsFrom m) more → (m ≤ k → Stands f p (old ++ more) k y) × (k < m → (more ≡ []) × (y ≡ quiet f.idle))
     on more k y begins from = (λ high. subst (λ n. Stands f p (old ++ []) n (quiet f.idle)) (let same : m ≡ 0 = omega (arith, high) in same) (subst (λ es. Stands f p es m (quiet f.idle)) (sym (append-nil old)) idle), λ low. (refl, refl))
     on more k y (waits evs h n x stands low lasting) from = go (dec_le m h) (on evs h x stands from)
@@ -62,7 +62,7 @@ module _ {X : Type 0} (f : Figure X) (p : Times) (lasts : (m : ℕ) → Lasts f 
         (λ high. subst (λ es. Stands f p es e.moment z) (append_assoc old evs (e ∷ [])) (takes (old ++ evs) e x z before does), λ low. absurd (omega (arith, low, last)))
 
   module _ (old : List MachineEvent) (m : ℕ) (only : (x : Owing X) → Stands f p old m x → x ≡ quiet f.idle) (past : All (IsTo m) old) where
-    -- idle stands at each moment, behind no event
+    -- idle stands at each moment, after no event
     new : (k : ℕ) → Stands f p [] k (quiet f.idle)
     new k = waits [] 0 k (quiet f.idle) begins zero-le (lasts k)
 

@@ -1,7 +1,7 @@
 -- What stands lasts: a run never stands in a state after its last moment.
 use Rattle.std.proofs.Common.{◌≡◌, ◌≤◌, ℕ, true, Option, Some, None, IfSome, IsSomeAnd, List, [], All, subst, arith}
 use Rattle.std.proofs.lemmas.List.Elements.{All-head, All-weaker}
-use Rattle.sip_machine.specs.Times.{Times}
+use Rattle.sip_standard.specs.Times.{Times}
 use Rattle.sip_machine.specs.MachineEvent.{MachineEvent}
 use Rattle.sip_machine.specs.Rules.{Waits}
 use Rattle.sip_machine.specs.Figure.{Figure, IsFigure, Owing, quiet, Lasts, MayEnd, closes_of, closes_at, rules_of}
@@ -10,8 +10,8 @@ use Rattle.sip_machine.specs.inner.OwesLaws.{IsWithin-owed}
 use Rattle.sip_machine.specs.inner.FigureLaws.{rules_lawful}
 use Rattle.sip_states.specs.Stands.{Stands}
 use Rattle.sip_states.specs.KeyMachine.{MachineKind, transaction_of, coded_holds}
-use Rattle.sip_states.proofs.StandsLemmas.{stands-runs}
-use Rattle.sip_states.proofs.Waiting.{IsWithin-none}
+use Rattle.sip_states.proofs.runs.StandsLemmas.{stands-runs}
+use Rattle.sip_states.proofs.sets.Waiting.{IsWithin-none}
 
 -- a moment that is past no close of a window
 within_window : (h : ℕ) (window : Option (ℕ × Option ℕ)) → All (λ m. h ≤ m) (closes_of window) → IfSome window (λ w. IfSome w.1 (λ close. h ≤ close))

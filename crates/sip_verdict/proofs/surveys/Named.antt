@@ -2,11 +2,11 @@
 use Rattle.std.proofs.Common.{◌≡◌, ◌+◌, ◌⊎◌, inl, inr, ℕ, zero, suc, Bool, true, false, List, [], ◌∷◌, ◌++◌, Contains, length, refl, sym, ap, ◌∙◌, subst, arith, append_assoc, append-nil}
 use Rattle.std.specs.List.{list_any}
 use Rattle.std.proofs.lemmas.List.Elements.{Contains-append_left, Contains-append_right, Contains-append_cases}
-use Rattle.sip_states.proofs.Listed.{Contains-none}
+use Rattle.sip_states.proofs.lists.Listed.{Contains-none}
 use Rattle.sip_key.specs.Key.{KeyParts, same_key}
-use Rattle.sip_machine.specs.Times.{Times}
-use Rattle.sip_log.specs.Spelling.{Item}
-use Rattle.sip_log.specs.Log.{LogEnd, Clean, Stops}
+use Rattle.sip_standard.specs.Times.{Times}
+use Rattle.sip_standard.specs.LogEntry.{Item}
+use Rattle.sip_standard.specs.LogSays.{LogEnd, Clean, Stops}
 use Rattle.sip_verdict.specs.declared.finding.Finding.{Finding}
 use Rattle.sip_verdict.specs.declared.finding.Finding.TheVariants.{Breach, Undecided}
 use Rattle.sip_verdict.specs.declared.survey_end.SurveyEnd.{SurveyEnd}
@@ -16,9 +16,9 @@ use Rattle.sip_verdict.specs.Reading.{AreObserved}
 use Rattle.sip_verdict.specs.VerdictOf.{keys_in, RunsOver}
 use Rattle.sip_verdict.specs.SurveyOf.{IsSound, Breaks, Widens, HoldsOf, IsFoundAt, IsSurveyAfter}
 use Rattle.sip_verdict.specs.SurveyLaws.{AreAbout}
-use Rattle.sip_verdict.proofs.Keys.{among-contains, new_key}
-use Rattle.sip_verdict.proofs.TablesTouching.{keys_exact}
-use Rattle.sip_verdict.proofs.MessageUnique.{observes_one}
+use Rattle.sip_verdict.proofs.keys.Keys.{among-contains, new_key}
+use Rattle.sip_verdict.proofs.tables.TablesTouching.{keys_exact}
+use Rattle.sip_verdict.proofs.verdicts.MessageUnique.{observes_one}
 use Rattle.sip_verdict.proofs.surveys.OneFinding.{some_finding}
 use Rattle.sip_verdict.proofs.surveys.Sound.{idle_runs, concerned-among}
 

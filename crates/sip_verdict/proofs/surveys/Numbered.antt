@@ -1,16 +1,16 @@
 -- Numbers of transactions, one after another.
 use Rattle.std.proofs.Common.{◌≡◌, ◌≢◌, ◌≤◌, ◌<◌, ◌+◌, ℕ, zero, suc, true, false, List, [], ◌∷◌, AllPairs, length, get_or, drop, slice_get, refl, sym, ap, ◌∙◌, subst, arith, add-one, drop-cons}
 use Rattle.sip_key.specs.Key.{KeyParts}
-use Rattle.sip_machine.specs.Times.{Times}
+use Rattle.sip_standard.specs.Times.{Times}
 use Rattle.sip_machine.specs.Texts.{Texts}
 use Rattle.sip_machine.specs.NumberedEvent.{NumberedEvent}
-use Rattle.sip_states.proofs.Few.{AllPairs-tail}
+use Rattle.sip_states.proofs.lists.Few.{AllPairs-tail}
 use Rattle.sip_states.specs.Tables.{Tabled}
 use Rattle.sip_verdict.specs.declared.troubled.Troubled.{Troubled}
 use Rattle.sip_verdict.specs.Keyed.{Observation, newest_moment}
 use Rattle.sip_verdict.specs.inner.TablesTracking.{is_among}
 use Rattle.sip_verdict.specs.inner.Surveying.{AreConcerned, ArePassing, HearsNumbers}
-use Rattle.sip_verdict.proofs.TablesPassing.{among_rest, first_apart}
+use Rattle.sip_verdict.proofs.tables.TablesPassing.{among_rest, first_apart}
 
 -- the next number and the others
 pub next_number : (ns : List ℕ) (i : ℕ) → i < length ns → drop i ns ≡ get_or ns i 0 ∷ drop (i + 1) ns

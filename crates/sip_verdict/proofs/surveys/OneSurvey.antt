@@ -1,17 +1,15 @@
 -- An input has one survey.
 use Rattle.std.proofs.Common.{◌≡◌, inl, inr, ℕ, List, [], ◌∷◌, ◌++◌, sym, ap₂, ◌∙◌, subst}
 use Rattle.sip_key.specs.Key.{KeyParts}
-use Rattle.sip_machine.specs.Times.{Times}
-use Rattle.sip_log.specs.Spelling.{Item}
-use Rattle.sip_log.specs.Log.{LogEnd, Clean, Stops}
-use Rattle.sip_log.specs.LogSays.{LogSays}
-use Rattle.sip_log.proofs.LogSaysLemmas.{says-log}
+use Rattle.sip_standard.specs.Times.{Times}
+use Rattle.sip_standard.specs.LogEntry.{Item}
+use Rattle.sip_standard.specs.LogSays.{LogEnd, Clean, Stops, LogSays}
 use Rattle.sip_verdict.specs.declared.finding.Finding.{Finding}
 use Rattle.sip_verdict.specs.declared.survey_end.SurveyEnd.{SurveyEnd}
 use Rattle.sip_verdict.specs.Keyed.{Observation}
 use Rattle.sip_verdict.specs.SurveyOf.{Precedes, AreFoundAt, IsSurveyAfter, IsSurveyOf}
-use Rattle.sip_verdict.proofs.MessageUnique.{observes_one}
-use Rattle.sip_verdict.proofs.OneVerdict.{one_log}
+use Rattle.sip_verdict.proofs.verdicts.MessageUnique.{observes_one}
+use Rattle.sip_verdict.proofs.verdicts.OneVerdict.{one_log}
 use Rattle.sip_verdict.proofs.surveys.Ordered.{ordered_one}
 use Rattle.sip_verdict.proofs.surveys.FoundParts.{precedes_once}
 
@@ -32,7 +30,7 @@ after_one p es (item ∷ items) close fs gs end fin (e, here, later, sees, is, a
 
 -- an input says one log
 pub says_one : (input : List ℕ) (p q : Times) (xs ys : List Item) (a b : LogEnd) → LogSays input p xs a → LogSays input q ys b → (p ≡ q) × (xs ≡ ys) × (a ≡ b)
-says_one input p q xs ys a b one other = one_log input p q xs ys a b (says-log input p xs a one) (says-log input q ys b other)
+says_one input p q xs ys a b one other = one_log input p q xs ys a b one other
 
 -- so what is true of the one is true of the other
 pub says_same : (P : Times → List Item → LogEnd → Type 0) (input : List ℕ) (p q : Times) (xs ys : List Item) (a b : LogEnd) → LogSays input p xs a → LogSays input q ys b → P q ys b → P p xs a

@@ -2,9 +2,9 @@
 use Rattle.std.proofs.Common.{◌≡◌, ◌↔◌, ◌+◌, ◌⊎◌, inl, inr, ℕ, Bool, true, List, [], ◌∷◌, ◌++◌, Contains, length, refl, sym, ap, ◌∙◌, subst, arith, length-append}
 use Rattle.std.specs.List.{AllZip}
 use Rattle.sip_key.specs.Key.{KeyParts}
-use Rattle.sip_machine.specs.Times.{Times}
-use Rattle.sip_log.specs.Spelling.{Item}
-use Rattle.sip_log.specs.Log.{LogEnd}
+use Rattle.sip_standard.specs.Times.{Times}
+use Rattle.sip_standard.specs.LogEntry.{Item}
+use Rattle.sip_standard.specs.LogSays.{LogEnd}
 use Rattle.sip_verdict.specs.declared.finding.Finding.{Finding}
 use Rattle.sip_verdict.specs.declared.finding.Finding.TheVariants.{Breach, Undecided}
 use Rattle.sip_verdict.specs.declared.survey_end.SurveyEnd.{SurveyEnd}
@@ -14,7 +14,7 @@ use Rattle.sip_verdict.specs.Reading.{AreObserved}
 use Rattle.sip_verdict.specs.VerdictOf.{keys_in}
 use Rattle.sip_verdict.specs.SurveyOf.{Breaks, Widens, HoldsOf, IsFoundAt, IsSurveyAfter}
 use Rattle.sip_verdict.specs.SurveyLaws.{Names, chosen_in, IsCutLog, IsCutOf}
-use Rattle.sip_verdict.proofs.Splitting.{split_compare}
+use Rattle.sip_verdict.proofs.keys.Splitting.{split_compare}
 use Rattle.sip_verdict.proofs.surveys.Numbers.{same_place}
 use Rattle.sip_verdict.proofs.surveys.Named.{numbered, found_at, found_is, breaks_known}
 use Rattle.sip_verdict.proofs.surveys.Sound.{concerned-among}

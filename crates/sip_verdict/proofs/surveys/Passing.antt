@@ -4,7 +4,7 @@ use Rattle.std.proofs.lemmas.Bool.{false≢true}
 use Rattle.std.proofs.lemmas.List.Elements.{Contains-push, Contains-push_cases, Contains-append_left}
 use Rattle.std.specs.Cmp.{unsigned_Decides}
 use Rattle.sip_key.specs.Key.{KeyParts}
-use Rattle.sip_machine.specs.Times.{Times}
+use Rattle.sip_standard.specs.Times.{Times}
 use Rattle.sip_machine.specs.Texts.{Texts}
 use Rattle.sip_states.specs.KeyMachine.{machine_of_key}
 use Rattle.sip_states.specs.Tables.{Tabled, IsGiven}
@@ -17,7 +17,7 @@ use Rattle.sip_verdict.specs.SurveyOf.{IsSound, Breaks, Widens}
 use Rattle.sip_verdict.specs.inner.Tracking.{Keeping, IsReady, GoesOn}
 use Rattle.sip_verdict.specs.inner.TablesTracking.{LeadsOf, key_keeping, is_among}
 use Rattle.sip_verdict.specs.inner.Surveying.{IsNumberOf, IsPassing, ArePassing}
-use Rattle.sip_verdict.proofs.TablesPassing.{at_place, set-place}
+use Rattle.sip_verdict.proofs.tables.TablesPassing.{at_place, set-place}
 
 -- a number is among some or it is the first of them
 pub among_cons : (n number : ℕ) (ns : List ℕ) → n ≢ number → is_among (number ∷ ns) n ≡ is_among ns n

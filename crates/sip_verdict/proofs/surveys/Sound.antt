@@ -4,7 +4,7 @@ use Rattle.std.specs.List.{list_any}
 use Rattle.std.proofs.lemmas.Bool.{false≢true}
 use Rattle.std.proofs.lemmas.List.Elements.{All-contains}
 use Rattle.sip_key.specs.Key.{KeyParts, same_key}
-use Rattle.sip_machine.specs.Times.{Times}
+use Rattle.sip_standard.specs.Times.{Times}
 use Rattle.sip_machine.specs.Figure.{quiet}
 use Rattle.sip_states.specs.Stands.{Stands, begins, waits}
 use Rattle.sip_states.specs.KeyMachine.{machine_of_key, transaction_of}
@@ -12,9 +12,9 @@ use Rattle.sip_verdict.specs.Keyed.{Observation, newest_moment}
 use Rattle.sip_verdict.specs.MessageReading.{key_machines}
 use Rattle.sip_verdict.specs.VerdictOf.{keys_in, events_for, RunsOver, IsWideAt}
 use Rattle.sip_verdict.specs.SurveyOf.{IsSound}
-use Rattle.sip_verdict.proofs.Keys.{keys_of-push, among-contains, among-fold, new_key}
-use Rattle.sip_verdict.proofs.Splitting.{split_compare}
-use Rattle.sip_verdict.proofs.TablesTouching.{keys_exact}
+use Rattle.sip_verdict.proofs.keys.Keys.{keys_of-push, among-contains, among-fold, new_key}
+use Rattle.sip_verdict.proofs.keys.Splitting.{split_compare}
+use Rattle.sip_verdict.proofs.tables.TablesTouching.{keys_exact}
 use Rattle.sip_verdict.proofs.surveys.Lasting.{idle_lasts}
 
 -- a key that no entry concerns has a run

@@ -3,7 +3,7 @@ use Rattle.std.proofs.Common.{◌≡◌, ◌≤◌, ◌<◌, ◌↔◌, ℕ, Boo
 use Rattle.std.specs.List.{flat_map, list_any}
 use Rattle.std.proofs.lemmas.Option.{slice_get_within, get_or_from_slice_get, slice_get-get_or}
 use Rattle.sip_key.specs.Key.{KeyParts, same_key}
-use Rattle.sip_machine.specs.Times.{Times}
+use Rattle.sip_standard.specs.Times.{Times}
 use Rattle.sip_machine.specs.Texts.{Texts, IsBook, Keeps}
 use Rattle.sip_machine.specs.Retained.{only}
 use Rattle.sip_machine.specs.MachineEvent.{MachineEvent}
@@ -19,13 +19,13 @@ use Rattle.sip_verdict.specs.Named.{AreMany, messages_of}
 use Rattle.sip_verdict.specs.Surveys.{IsStillNamed}
 use Rattle.sip_verdict.specs.inner.TablesTracking.{LeadsOf, MayPass}
 use Rattle.sip_verdict.specs.inner.Surveying.{IsFollowed, TablesSurvey}
-use Rattle.sip_verdict.proofs.Keys.{among-contains, new_key}
-use Rattle.sip_verdict.proofs.NamedLemmas.{RunNames, IsNumberOf, Contains-flat_map, Contains-from_flat_map}
-use Rattle.sip_verdict.proofs.NamedTables.{no_events_silent, key_named, many_texts}
-use Rattle.sip_verdict.proofs.SweptSets.{swept_leads}
-use Rattle.sip_verdict.proofs.SweptTables.{before, within}
-use Rattle.sip_verdict.proofs.TablesPassing.{at_place, All-place}
-use Rattle.sip_verdict.proofs.TablesTouching.{keys_exact}
+use Rattle.sip_verdict.proofs.keys.Keys.{among-contains, new_key}
+use Rattle.sip_verdict.proofs.sweeps.NamedLemmas.{RunNames, IsNumberOf, Contains-flat_map, Contains-from_flat_map}
+use Rattle.sip_verdict.proofs.tables.NamedTables.{no_events_silent, key_named, many_texts}
+use Rattle.sip_verdict.proofs.sweeps.SweptSets.{swept_leads}
+use Rattle.sip_verdict.proofs.sweeps.SweptTables.{before, within}
+use Rattle.sip_verdict.proofs.tables.TablesPassing.{at_place, All-place}
+use Rattle.sip_verdict.proofs.tables.TablesTouching.{keys_exact}
 
 module _ (texts : Texts) (book : IsBook texts) (t u : Tabled) (moment : ℕ) (advances : AdvancesAll moment t u) (may : MayPass texts t moment)
     (numbers : List ℕ) (up : AllPairs (λ a b. a < b) numbers) (same : (n : ℕ) → Contains numbers n ↔ Contains (flat_map numbers_of u.sets) n) (kept : All (Keeps texts) numbers)

@@ -4,11 +4,11 @@ use Rattle.std.specs.Prelude.{fold}
 use Rattle.std.specs.List.{list_any}
 use Rattle.std.proofs.Math.Decide.{dec_le}
 use Rattle.std.proofs.lemmas.List.Elements.{All-head, All-tail, Contains-get_or}
-use Rattle.sip_times.specs.declared.action.Action.TheVariants.{Restart}
+use Rattle.sip_standard.specs.declared.action.Action.TheVariants.{Restart}
 use Rattle.sip_machine.specs.declared.event.Kind.TheVariants.{Request}
 use Rattle.sip_machine.specs.declared.event.Method.TheVariants.{Other}
 use Rattle.sip_key.specs.Key.{KeyParts, same_key}
-use Rattle.sip_machine.specs.Times.{Times}
+use Rattle.sip_standard.specs.Times.{Times}
 use Rattle.sip_machine.specs.Texts.{Texts, Keeps, text_of}
 use Rattle.sip_machine.specs.NumberedEvent.{NumberedEvent}
 use Rattle.sip_machine.specs.MachineEvent.{MachineEvent, event_in}
@@ -16,9 +16,9 @@ use Rattle.sip_states.specs.KeyMachine.{MachineKind, machine_of_key}
 use Rattle.sip_states.specs.AnySet.{meaning_of}
 use Rattle.sip_states.specs.Tables.{Tabled}
 use Rattle.sip_states.specs.declared.any_set.AnySet.{AnySet}
-use Rattle.sip_states.proofs.ByMachine.{seen_by_names_of}
-use Rattle.sip_log.specs.Spelling.{Item}
-use Rattle.sip_message.specs.declared.fault.Fault.{Fault}
+use Rattle.sip_states.proofs.keyed.ByMachine.{seen_by_names_of}
+use Rattle.sip_standard.specs.LogEntry.{Item}
+use Rattle.sip_standard.specs.declared.fault.Fault.{Fault}
 use Rattle.sip_verdict.specs.declared.concerned.Concerned.{Concerned}
 use Rattle.sip_verdict.specs.declared.concerned.Concerned.TheVariants as concerned
 use Rattle.sip_verdict.specs.declared.observing.Told.{Told}
@@ -32,10 +32,10 @@ use Rattle.sip_verdict.specs.inner.Concerned.{each, is_all}
 use Rattle.sip_verdict.specs.inner.Observing.{IsObserved, restart_observation}
 use Rattle.sip_verdict.specs.inner.TablesTracking.{LeadsOf, is_among, AreTold, TouchesEach}
 use Rattle.sip_verdict.specs.inner.Surveying.{AreWatched, IsFresh, IsFollowed, TablesSurvey, ArePassing, any}
-use Rattle.sip_verdict.proofs.Keys.{cond_true, keys_of-push, contains-among}
-use Rattle.sip_verdict.proofs.Leading.{Leads-grow}
-use Rattle.sip_verdict.proofs.StandingLemmas.{IsGrown, text_of_none, touched_recorded}
-use Rattle.sip_verdict.proofs.TablesTouching.{keys_exact, touches_elim, touches_times, have_numbers, slice_get-more, told_unheard, told_event, told_restart}
+use Rattle.sip_verdict.proofs.keys.Keys.{cond_true, keys_of-push, contains-among}
+use Rattle.sip_verdict.proofs.keys.Leading.{Leads-grow}
+use Rattle.sip_verdict.proofs.judges.StandingLemmas.{IsGrown, text_of_none, touched_recorded}
+use Rattle.sip_verdict.proofs.tables.TablesTouching.{keys_exact, touches_elim, touches_times, have_numbers, slice_get-more, told_unheard, told_event, told_restart}
 use Rattle.sip_verdict.proofs.surveys.Begun.{begun_same, begun_touched, touched_keys, front_place, back_place}
 
 -- Where the book has one message more, the sets lead to the same.

@@ -5,7 +5,7 @@ use Rattle.std.proofs.lemmas.Bool.{false≢true}
 use Rattle.std.proofs.lemmas.List.Elements.{All-weaker}
 use Rattle.std.proofs.lemmas.Option.{slice_get_within}
 use Rattle.sip_key.specs.Key.{KeyParts}
-use Rattle.sip_machine.specs.Times.{Times}
+use Rattle.sip_standard.specs.Times.{Times}
 use Rattle.sip_machine.specs.Texts.{Texts}
 use Rattle.sip_states.specs.Agenda.{Records, is_overdue}
 use Rattle.sip_states.specs.AnySet.{moment_of}
@@ -19,9 +19,9 @@ use Rattle.sip_verdict.specs.inner.Concerned.{each, is_all}
 use Rattle.sip_verdict.specs.inner.Tracking.{Keeping, IsReady, GoesOn}
 use Rattle.sip_verdict.specs.inner.TablesTracking.{key_keeping, is_among, AreTold, MayPass, MayHear, AreHearers}
 use Rattle.sip_verdict.specs.inner.Surveying.{AreWatched, IsPassing, ArePassing, AreConcerned, any}
-use Rattle.sip_verdict.proofs.Halfway.{All-position_None, not_passing}
-use Rattle.sip_verdict.proofs.KeyPassing.{in_time_goes, quiet_goes}
-use Rattle.sip_verdict.proofs.TablesPassing.{at_place, All-place, given_still}
+use Rattle.sip_verdict.proofs.tables.Halfway.{All-position_None, not_passing}
+use Rattle.sip_verdict.proofs.keys.KeyPassing.{in_time_goes, quiet_goes}
+use Rattle.sip_verdict.proofs.tables.TablesPassing.{at_place, All-place, given_still}
 
 -- where none is due, no last moment on record is past
 none_past : (moment : ℕ) (rs : Records) → option_map (λ index. index + 1) (position (is_overdue moment) rs) ≡ None → (n : ℕ) (r : Option (Option ℕ)) → slice_get rs n ≡ Some r → is_overdue moment r ≡ false

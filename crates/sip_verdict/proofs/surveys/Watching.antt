@@ -3,7 +3,7 @@ use Rattle.std.proofs.Common.{◌≡◌, ◌≢◌, ◌≤◌, ◌<◌, ◌+◌,
 use Rattle.std.proofs.lemmas.List.{length-set}
 use Rattle.std.proofs.lemmas.List.Elements.{All-set}
 use Rattle.sip_key.specs.Key.{KeyParts}
-use Rattle.sip_machine.specs.Times.{Times}
+use Rattle.sip_standard.specs.Times.{Times}
 use Rattle.sip_machine.specs.Texts.{Texts}
 use Rattle.sip_states.specs.AnySet.{moment_of, start_of, IsAgendaOf, IsKnownSet}
 use Rattle.sip_states.specs.Tables.{Tabled, IsGiven}
@@ -11,8 +11,8 @@ use Rattle.sip_states.specs.declared.any_set.AnySet.{AnySet}
 use Rattle.sip_verdict.specs.declared.troubled.Troubled.{Troubled}
 use Rattle.sip_verdict.specs.inner.TablesTracking.{is_among, IsOnRecord, MayPass}
 use Rattle.sip_verdict.specs.inner.Surveying.{AreWatched}
-use Rattle.sip_verdict.proofs.TablesPassing.{set-place, among_one, among_rest, settled, recorded_more}
-use Rattle.sip_verdict.proofs.TablesTouching.{start_at, start_known}
+use Rattle.sip_verdict.proofs.tables.TablesPassing.{set-place, among_one, among_rest, settled, recorded_more}
+use Rattle.sip_verdict.proofs.tables.TablesTouching.{start_at, start_known}
 
 -- a place that is written twice
 set_twice : {A : Type 0} (xs : List A) (i : ℕ) (a b : A) → slice_set (slice_set xs i a) i b ≡ slice_set xs i b

@@ -2,13 +2,13 @@
 use Rattle.std.proofs.Common.{◌<◌, ℕ, List, [], ◌∷◌, ◌++◌, All, length, sym, subst, arith}
 use Rattle.std.proofs.lemmas.List.Elements.{All-head}
 use Rattle.sip_key.specs.Key.{KeyParts}
-use Rattle.sip_machine.specs.Times.{Times}
+use Rattle.sip_standard.specs.Times.{Times}
 use Rattle.sip_states.specs.Stands.{Stands, takes, StandsBehind}
 use Rattle.sip_states.specs.KeyMachine.{machine_of_key, transaction_of}
 use Rattle.sip_verdict.specs.Keyed.{Observation}
 use Rattle.sip_verdict.specs.MessageReading.{key_machines}
 use Rattle.sip_verdict.specs.VerdictOf.{events_for, RunsOver, IsWideAt}
-use Rattle.sip_verdict.proofs.Keys.{newest_moment-push, events_of-concerned}
+use Rattle.sip_verdict.proofs.keys.Keys.{newest_moment-push, events_of-concerned}
 
 -- the first of more than so many
 first_of_many : {X : Type 0} (P : X → Type 0) (n : ℕ) (xs : List X) → n < length xs → All P xs → (x : X) × P x

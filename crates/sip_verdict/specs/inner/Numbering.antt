@@ -4,7 +4,7 @@ use Rattle.sip_key.specs.Key.{KeyParts}
 use Rattle.sip_machine.specs.Texts.{Texts, Keeps, text_of}
 use Rattle.sip_states.specs.Tables.{Tabled}
 use Rattle.sip_states.specs.declared.any_set.AnySet.{AnySet}
-use Rattle.sip_log.specs.Spelling.{Item}
+use Rattle.sip_standard.specs.LogEntry.{Item}
 use Rattle.sip_listing.specs.Transaction.{transaction_text, Lists}
 use Rattle.sip_verdict.specs.declared.listing.Listing.{Listing}
 use Rattle.sip_verdict.specs.declared.listing.Listing.TheVariants.{Text, Stopped, NoEntry}
@@ -29,7 +29,7 @@ Appends t n old new =
     (key : KeyParts) × (set : AnySet) × (lines : List (List ℕ)) × (slice_get t.keys (n - 1) ≡ Some key) × (slice_get t.sets (n - 1) ≡ Some set) × Lists set lines
     × (IsAscii key.method → new ≡ old ++ transaction_text n key lines)
 
--- those with these numbers were, one behind another
+-- those with these numbers were, one after another
 abbrev pub AppendsEach : Tabled → List ℕ → List ℕ → List ℕ → Type 0
 AppendsEach t [] old new = new ≡ old
 AppendsEach t (n ∷ ns) old new = (between : List ℕ) × Appends t n old between × AppendsEach t ns between new
@@ -39,7 +39,7 @@ abbrev pub IsTextOf : Tabled → List ℕ → List ℕ → Type 0
 IsTextOf t [] text = text ≡ codes "no transaction\n"
 IsTextOf t (n ∷ ns) text = AppendsEach t (n ∷ ns) [] text
 
--- what is listed of the entry behind these: its text if it is in no trouble, else its verdict
+-- what is listed of the entry after these: its text if it is in no trouble, else its verdict
 abbrev pub IsListedEntry : {K : Type 0} (m : Machines K) → Words K m → (List ℕ → ℕ) → List (Observation K) → Observation K → Listing → Type 0
 IsListedEntry m w number es e (Text text) = IsGood m (es ++ e ∷ []) × IsEntryText m w number es e e.keys (string_bytes text)
 IsListedEntry m w number es e (Stopped v) = IsTrouble m es e v

@@ -1,17 +1,17 @@
 use Rattle.std.specs.Prelude.{◌≡◌, ◌≢◌, ◌⊎◌, ◌++◌, ◌∷◌, [], ℕ, true, false, List, None, AllPairs, Result, Ok, Err, ⊤}
 use Rattle.sip_machine.specs.Texts.{Texts, Keeps, text_of}
 use Rattle.sip_machine.specs.MachineEvent.{event_in, FitsBook}
-use Rattle.sip_message.specs.Says.{Said}
+use Rattle.sip_standard.specs.Says.{Said}
 use Rattle.sip_key.specs.Key.{KeyParts}
 use Rattle.sip_key.specs.Concerns.{Concerns, lacks_cookie}
 use Rattle.sip_key.specs.declared.role.Direction.{Direction}
 use Rattle.sip_key.specs.declared.concern.KeyError.{KeyError}
 use Rattle.sip_key.specs.declared.concern.KeyError.TheVariants as error
 use Rattle.sip_log.specs.declared.entry.Entry.{Entry}
-use Rattle.sip_log.specs.Spelling.{Item}
+use Rattle.sip_standard.specs.LogEntry.{Item}
 use Rattle.sip_log.specs.Told.{item}
-use Rattle.sip_times.specs.declared.action.Action.{Action}
-use Rattle.sip_times.specs.declared.action.Action.TheVariants as action
+use Rattle.sip_standard.specs.declared.action.Action.{Action}
+use Rattle.sip_standard.specs.declared.action.Action.TheVariants as action
 use Rattle.sip_verdict.specs.declared.concerned.Concerned.{Concerned}
 use Rattle.sip_verdict.specs.declared.observing.Told.{Told}
 use Rattle.sip_verdict.specs.declared.observing.Told.TheVariants.{Unheard, Fault, Restart, Heard}
@@ -42,7 +42,7 @@ abbrev pub silent_told : Action → Told
 silent_told action.Restart = Restart
 silent_told a = Unheard
 
--- what is observed of an entry behind others of which this is told, beside the texts of a book: of one that is not heard, its moment
+-- what is observed of an entry after others of which this is told, beside the texts of a book: of one that is not heard, its moment
 abbrev pub IsObserved : Texts → List (Observation KeyParts) → Item → Told → Observation KeyParts → Type 0
 IsObserved texts es i Unheard e = (e.fault ≡ None) × (e.event.moment ≡ i.moment) × (e.keys ≡ [])
 IsObserved texts es i (Fault fault) e = e ≡ fault_observation i fault

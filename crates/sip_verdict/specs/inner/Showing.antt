@@ -1,11 +1,12 @@
 use Rattle.std.specs.Prelude.{◌≡◌, ℕ, Bool, true, List, Option, Some, None, Result, Ok, Err, ⊤}
 use Rattle.std.specs.Io.KnownBytes.{Appends}
-use Rattle.sip_times.specs.declared.action.Action.{Action}
-use Rattle.sip_log.specs.Spelling.{Item}
-use Rattle.sip_message.specs.declared.fault.Fault.{Fault}
+use Rattle.sip_standard.specs.declared.action.Action.{Action}
+use Rattle.sip_standard.specs.LogEntry.{Item}
+use Rattle.sip_standard.specs.declared.fault.Fault.{Fault}
 use Rattle.sip_message.specs.declared.fault.ReadError.{ReadError}
 use Rattle.sip_message.specs.declared.fault.ReadError.TheVariants as message
-use Rattle.sip_message.specs.Faults.{FaultOf}
+use Rattle.sip_standard.specs.Outcome.{stops}
+use Rattle.sip_standard.specs.Says.{Says}
 use Rattle.sip_verdict.specs.declared.judge_error.JudgeError.{JudgeError}
 use Rattle.sip_verdict.specs.declared.judge_error.JudgeError.TheVariants as judging
 use Rattle.sip_verdict.specs.declared.show_error.ShowError.{ShowError}
@@ -22,7 +23,7 @@ unshown judging.Memory = Memory
 
 -- why a message has no canonical form: its fault; of memory nothing is said
 abbrev pub IsFaulty : List ℕ → ReadError → Type 0
-IsFaulty bytes (message.Fault fault) = FaultOf bytes (Some fault)
+IsFaulty bytes (message.Fault fault) = Says bytes (stops fault)
 IsFaulty bytes message.Memory = ⊤
 
 -- and why an entry has none: one without a message always has one
@@ -32,7 +33,7 @@ HasNoForm action bytes error = (has_message action ≡ true) × IsFaulty bytes e
 -- an entry was written as it is shown; or its message has a fault, and nothing was written
 abbrev pub ShowsEntry : ℕ → Item → Option (List ℕ) → Option (List ℕ) → Bool → Bool → Result (Option Fault) ShowError → Type 0
 ShowsEntry number e old new before after (Ok None) = (form : List ℕ) × IsCanonOf e.action e.text form × Appends old new (shown_entry number e form) × (after ≡ before)
-ShowsEntry number e old new before after (Ok (Some fault)) = (has_message e.action ≡ true) × FaultOf e.text (Some fault) × (new ≡ old) × (after ≡ before)
+ShowsEntry number e old new before after (Ok (Some fault)) = (has_message e.action ≡ true) × Says e.text (stops fault) × (new ≡ old) × (after ≡ before)
 ShowsEntry number e old new before after (Err Read) = ⊥
 ShowsEntry number e old new before after (Err Write) = after ≡ true
 ShowsEntry number e old new before after (Err Memory) = ⊤

@@ -1,9 +1,9 @@
--- How a judge goes on behind an entry.
+-- How a judge goes on after an entry.
 use Rattle.std.specs.Prelude.{◌≡◌, ◌≤◌, ◌++◌, ◌∷◌, [], ℕ, List, Option, Some, None}
 use Rattle.sip_key.specs.Key.{KeyParts}
 use Rattle.sip_machine.specs.Texts.{Texts}
 use Rattle.sip_states.specs.Tables.{Tabled}
-use Rattle.sip_log.specs.Log.{most_entries}
+use Rattle.sip_standard.specs.LogSays.{most_entries}
 use Rattle.sip_log.specs.Reading as log
 use Rattle.sip_log.specs.Reading.{Place, entries}
 use Rattle.sip_verdict.specs.declared.stage.Stage.TheVariants.{Open}
@@ -14,7 +14,7 @@ use Rattle.sip_verdict.specs.MessageReading.{key_machines, message_reading}
 use Rattle.sip_verdict.specs.Judging.{Judging, AreFollowed, StandsFor}
 use Rattle.sip_verdict.specs.inner.Walking.{Judged}
 
--- what is judged of an entry behind those that messages and sets follow: they follow this one too, or this is its verdict
+-- what is judged of an entry after those that messages and sets follow: they follow this one too, or this is its verdict
 abbrev pub AreFollowedOn : Texts → Tabled → ℕ → List (Observation KeyParts) → Observation KeyParts → Option Verdict → Type 0
 AreFollowedOn texts t left es e None = AreFollowed texts t left (es ++ e ∷ [])
 AreFollowedOn texts t left es e (Some v) = IsTrouble (key_machines t.times) es e v

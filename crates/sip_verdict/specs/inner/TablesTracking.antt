@@ -1,7 +1,7 @@
 use Rattle.std.specs.Prelude.{◌≡◌, ◌≢◌, ◌||◌, ◌≤◌, ◌<◌, ◌+◌, ◌-◌, [], ◌∷◌, ℕ, nat_eq, Bool, true, false, Option, Some, None, List, All, AllPairs, IfSome, length, slice_get, ⊤}
 use Rattle.std.specs.List.{zip, list_any}
 use Rattle.sip_key.specs.Key.{KeyParts}
-use Rattle.sip_machine.specs.Times.{Times}
+use Rattle.sip_standard.specs.Times.{Times}
 use Rattle.sip_machine.specs.Texts.{Texts, Keeps}
 use Rattle.sip_machine.specs.NumberedEvent.{NumberedEvent}
 use Rattle.sip_machine.specs.MachineEvent.{MachineEvent, event_in, FitsBook}
@@ -13,7 +13,7 @@ use Rattle.sip_states.specs.Meaning.{Meaning}
 use Rattle.sip_states.specs.AnySet.{meaning_of, moment_of, IsKnownSet, IsQuietSet, IsAgendaOf}
 use Rattle.sip_states.specs.Tables.{Tabled, IsGiven, Touches, with_set, with_record}
 use Rattle.sip_states.specs.declared.any_set.AnySet.{AnySet}
-use Rattle.sip_times.specs.declared.action.Action.TheVariants.{Restart}
+use Rattle.sip_standard.specs.declared.action.Action.TheVariants.{Restart}
 use Rattle.sip_verdict.specs.declared.concerned.Concerned.{Concerned}
 use Rattle.sip_verdict.specs.declared.passing.Hearing.{Hearing}
 use Rattle.sip_verdict.specs.declared.passing.Fate.{Fate}

@@ -36,7 +36,7 @@ pub record TracksBefore {K T : Type 0} (m : Machines K) (k : Keeping K T) (es : 
   pub ready : All (IsReady m k es) ts
   pub good : IsGood m es
 
--- what is judged of an entry behind others: it is in no trouble, or this is its verdict
+-- what is judged of an entry after others: it is in no trouble, or this is its verdict
 abbrev pub IsJudged : {K T : Type 0} → Machines K → Keeping K T → List (Observation K) → Observation K → List T → Option Verdict → Type 0
 IsJudged m k es e ts None = Tracks m k (es ++ e ∷ []) ts × All (IsStanding m k es e) ts
 IsJudged m k es e ts (Some verdict) = IsTrouble m es e verdict

@@ -1,16 +1,16 @@
 -- How a log is read and judged, entry by entry.
 use Rattle.std.specs.Prelude.{◌≡◌, ◌<◌, ◌≤◌, ◌+◌, ◌++◌, ◌∷◌, [], ℕ, Option, Some, None, IfSome, List, length, ⊤}
 use Rattle.sip_key.specs.Key.{KeyParts}
-use Rattle.sip_machine.specs.Times.{Times}
+use Rattle.sip_standard.specs.Times.{Times}
 use Rattle.sip_machine.specs.Texts.{Texts}
 use Rattle.sip_states.specs.Tables.{Tabled}
-use Rattle.sip_log.specs.LogFault.{LogFault}
-use Rattle.sip_log.specs.Spelling.{Item}
-use Rattle.sip_log.specs.Log.{most_entries, Clean, Stops, IsLog}
+use Rattle.sip_standard.specs.LogFault.{LogFault}
+use Rattle.sip_standard.specs.LogEntry.{Item}
+use Rattle.sip_standard.specs.LogSays.{most_entries, Clean, Stops, LogSays}
 use Rattle.sip_log.specs.Told.{item}
 use Rattle.sip_log.specs.Reading as log
 use Rattle.sip_log.specs.Reading.{Place, entries, Continues}
-use Rattle.sip_log.proofs.CallerLemmas.{Stands}
+use Rattle.sip_log.proofs.answers.CallerLemmas.{Stands}
 use Rattle.sip_verdict.specs.declared.reading.Next.{Next}
 use Rattle.sip_verdict.specs.declared.reading.Next.TheVariants.{Entry, End, Fault}
 use Rattle.sip_verdict.specs.declared.verdict.Verdict.{Verdict}
@@ -33,11 +33,11 @@ pub record HasRead (start : Option (List ℕ)) (times : Times) (items : List Ite
   pub times_are : now.times ≡ Some times
   pub stands : Stands start items now
 
--- what comes behind them: one more, the end of the log, or the fault that ends it
+-- what comes after them: one more, the end of the log, or the fault that ends it
 abbrev pub WalkGives : Option (List ℕ) → Times → List Item → log.ReaderState → Next → Type 0
 WalkGives start times items new (Entry e) = HasRead start times (items ++ item e ∷ []) new
-WalkGives start times items new End = IfSome start (λ input. IsLog input times items Clean)
-WalkGives start times items new (Fault reason) = (fault : LogFault) × (reason ≡ reason_of fault) × IfSome start (λ input. IsLog input times items (Stops fault))
+WalkGives start times items new End = IfSome start (λ input. LogSays input times items Clean)
+WalkGives start times items new (Fault reason) = (fault : LogFault) × (reason ≡ reason_of fault) × IfSome start (λ input. LogSays input times items (Stops fault))
 
 -- one more has the next number and keeps order and limits
 abbrev pub MovesOn : Place → Place → Next → Type 0
@@ -69,7 +69,7 @@ pub record MayStep (count : ℕ) (place : Place) (texts : Texts) (t : Tabled) : 
   pub few : count ≤ most_entries
   pub may : MayTake texts t (count + 1) place.last
 
--- the verdict is that behind so many entries: that the log ends there, or what is wrong with the next
+-- the verdict is that after so many entries: that the log ends there, or what is wrong with the next
 abbrev pub IsBehind : ℕ → Verdict → Type 0
 IsBehind count (Legal whole transactions) = whole ≡ count
 IsBehind count (Malformed entry fault) = entry ≡ count + 1
@@ -77,7 +77,7 @@ IsBehind count (Breach entry transaction) = entry ≡ count + 1
 IsBehind count (Undecided entry transaction) = entry ≡ count + 1
 IsBehind count (FaultOfLog entry reason) = entry ≡ count + 1
 
--- a step behind so many entries: one more was judged and is in no trouble, or this is the verdict
+-- a step after so many entries: one more was judged and is in no trouble, or this is the verdict
 abbrev pub WalksOn : Option (List ℕ) → ℕ → log.ReaderState → Texts → Tabled → Option Verdict → Type 0
 WalksOn start count now texts t None = Walks start now texts t
 WalksOn start count now texts t (Some v) = IfSome start (λ input. IsVerdictOf input v) × IsBehind count v

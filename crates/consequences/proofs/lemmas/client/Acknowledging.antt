@@ -3,13 +3,13 @@ use Rattle.std.proofs.Common.{◌≡◌, ◌≤◌, ◌<◌, ◌*◌, ◌⊎◌,
 use Rattle.std.specs.List.{Any}
 use Rattle.std.proofs.lemmas.List.Elements.{Contains-push}
 use Rattle.sip_key.specs.AckOf.{AckOf}
-use Rattle.sip_times.specs.declared.action.Action.{Action}
-use Rattle.sip_times.specs.declared.action.Action.TheVariants.{Sent, Received, Failed, Mark, Restart}
+use Rattle.sip_standard.specs.declared.action.Action.{Action}
+use Rattle.sip_standard.specs.declared.action.Action.TheVariants.{Sent, Received, Failed, Mark, Restart}
 use Rattle.sip_machine.specs.declared.event.Method.TheVariants.{Invite}
 use Rattle.sip_machine.specs.declared.event.Kind.{Kind}
 use Rattle.sip_machine.specs.declared.event.Kind.TheVariants.{Response}
-use Rattle.sip_machine.specs.Times.{Times}
-use Rattle.sip_machine.specs.Limits.{open_at, close_at}
+use Rattle.sip_standard.specs.Times.{Times}
+use Rattle.sip_standard.specs.Window.{open_at, close_at}
 use Rattle.sip_machine.specs.MachineEvent.{MachineEvent}
 use Rattle.sip_machine.specs.Message.{IsSuccess, IsUnsuccessful}
 use Rattle.sip_machine.specs.Debts.{Owed}
@@ -26,9 +26,6 @@ use Rattle.consequences.proofs.lemmas.client.Unanswered.{CallsFrom, begins-calli
 
 codes-are-one : (a b : ℕ) → Response a ≡ Response b → a ≡ b
 codes-are-one a b same = cc
-
-true-false : ¬ (true ≡ false)
-true-false same = cc
 
 module _ (R : Receiving) (is : IsReceiving R) (p : Times) (invite : MachineEvent) where
   abbrev f : Figure InviteClientPhase

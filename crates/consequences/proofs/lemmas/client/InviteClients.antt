@@ -4,7 +4,7 @@ use Rattle.sip_key.specs.AckOf.{AckOf}
 use Rattle.sip_machine.specs.declared.event.Method.TheVariants.{Invite, Ack, Cancel}
 use Rattle.sip_machine.specs.declared.event.Kind.{Kind}
 use Rattle.sip_machine.specs.declared.event.Kind.TheVariants.{Request, Response}
-use Rattle.sip_machine.specs.Times.{Times}
+use Rattle.sip_standard.specs.Times.{Times}
 use Rattle.sip_machine.specs.MachineEvent.{MachineEvent}
 use Rattle.sip_machine.specs.Retransmits.{Retransmits}
 use Rattle.sip_machine.specs.Waiting.{Waiting}

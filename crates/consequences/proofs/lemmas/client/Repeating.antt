@@ -1,12 +1,12 @@
 -- How far apart a client sends its request again.
 use Rattle.std.proofs.Common.{◌≡◌, ◌≤◌, ◌*◌, ◌⊎◌, inl, inr, ℕ, Bool, true, false, Some, List, [], ◌∷◌, ◌++◌, filter, map, min, refl, sym, ap, subst, ◌∙◌, arith, if◌then◌else◌}
-use Rattle.sip_times.specs.declared.action.Action.{Action}
-use Rattle.sip_times.specs.declared.action.Action.TheVariants.{Sent, Received, Failed, Mark, Restart}
+use Rattle.sip_standard.specs.declared.action.Action.{Action}
+use Rattle.sip_standard.specs.declared.action.Action.TheVariants.{Sent, Received, Failed, Mark, Restart}
 use Rattle.sip_machine.specs.declared.event.Method.TheVariants.{Invite, Ack, Cancel, Other}
 use Rattle.sip_machine.specs.declared.event.Kind.{Kind}
 use Rattle.sip_machine.specs.declared.event.Kind.TheVariants.{Request, Response}
-use Rattle.sip_machine.specs.Times.{Times}
-use Rattle.sip_machine.specs.Limits.{open_at}
+use Rattle.sip_standard.specs.Times.{Times}
+use Rattle.sip_standard.specs.Window.{open_at}
 use Rattle.sip_machine.specs.MachineEvent.{MachineEvent}
 use Rattle.sip_machine.specs.Figure.{Figure, Change, keeps, Owing, quiet, Emits, Fails, Steps}
 use Rattle.sip_machine.specs.InviteClient as invite
@@ -44,10 +44,6 @@ begins-more p next moments last more m (first, ms, is, spaced) low = (first, ms 
 -- the moments of the events that pass a test
 abbrev passed : (MachineEvent → Bool) → List MachineEvent → List ℕ
 passed test events = map (λ e. e.moment) (filter test events)
-
-append-nil : (ms : List ℕ) → ms ++ [] ≡ ms
-append-nil [] = refl
-append-nil (m ∷ ms) = ap (λ xs. m ∷ xs) (append-nil ms)
 
 pass-cons : (test : MachineEvent → Bool) (e : MachineEvent) (es : List MachineEvent) (b : Bool) → test e ≡ b → passed test (e ∷ es) ≡ (if b then e.moment ∷ passed test es else passed test es)
 pass-cons test e es true is = rw is refl

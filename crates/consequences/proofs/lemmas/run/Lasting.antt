@@ -1,13 +1,13 @@
 -- What stands at a moment lasts until then, whichever of the six machines it is of.
 use Rattle.std.proofs.Common.{◌≤◌, ℕ, Option, Some, None, IfSome, List, [], All}
 use Rattle.std.proofs.lemmas.List.Elements.{All-head}
-use Rattle.sip_machine.specs.Times.{Times}
+use Rattle.sip_standard.specs.Times.{Times}
 use Rattle.sip_machine.specs.MachineEvent.{MachineEvent}
 use Rattle.sip_machine.specs.Figure.{Figure, IsFigure, Owing, Lasts, closes_of, closes_at}
 use Rattle.sip_machine.specs.inner.OwesLaws.{IsWithin-owed}
 use Rattle.sip_states.specs.KeyMachine.{MachineKind, transaction_of, coded_holds}
 use Rattle.sip_states.specs.Stands.{Stands}
-use Rattle.sip_states.proofs.StandsLemmas.{stands-runs}
+use Rattle.sip_states.proofs.runs.StandsLemmas.{stands-runs}
 use Rattle.consequences.proofs.lemmas.run.Lists.{All-front, All-back}
 
 -- a moment is past no close of a window only if it is not past the one that it may have

@@ -22,15 +22,9 @@ any-last P xs x holds = Any-push P xs x holds
 pub any-earlier : {X : Type 0} (P : X → Type 0) (xs ys : List X) → Any P xs → Any P (xs ++ ys)
 any-earlier P xs ys any = let (k, x, low, at, holds) = any in let c = Contains-append_left xs ys x (k, low, at) in (c.0, x, c.1, c.2, holds)
 
-pub any-weaker : {X : Type 0} (P Q : X → Type 0) (xs : List X) → ((x : X) → P x → Q x) → Any P xs → Any Q xs
-any-weaker P Q xs by any = let (k, x, low, at, holds) = any in (k, x, low, at, by x holds)
-
 -- none of them has it
 pub any-none : {X : Type 0} (P : X → Type 0) (xs : List X) → All (λ x. ¬ (P x)) xs → ¬ (Any P xs)
 any-none P xs none any = let (k, x, low, at, holds) = any in All-contains (λ y. ¬ (P y)) xs x none (k, low, at) holds
-
-pub no-any : {X : Type 0} (P : X → Type 0) → ¬ (Any P [])
-no-any P any = let (k, x, low, at, holds) = any in absurd (omega (arith, low))
 
 false_true : ¬ (false ≡ true)
 false_true is = cc

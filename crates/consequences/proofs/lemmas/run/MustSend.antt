@@ -3,7 +3,7 @@ use Rattle.std.proofs.Common.{◌≡◌, ◌≤◌, ◌⊎◌, ◌||◌, inl, in
 use Rattle.std.specs.Prelude.{nat_le}
 use Rattle.std.proofs.lemmas.List.Elements.{All-contains, Contains-append_left}
 use Rattle.std.proofs.lemmas.List.Folds.{list_any-from_Any}
-use Rattle.sip_machine.specs.Times.{Times}
+use Rattle.sip_standard.specs.Times.{Times}
 use Rattle.sip_machine.specs.MachineEvent.{MachineEvent}
 use Rattle.sip_machine.specs.Debts.{Owed, IsWithoutFirst}
 use Rattle.sip_machine.specs.Figure.{Figure, Owing, Lasts, MayEnd}

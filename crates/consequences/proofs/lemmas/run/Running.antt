@@ -1,9 +1,9 @@
 -- A run, cut at one of its events: what leads there, the step, and what leads on. And what a run keeps.
 use Rattle.std.proofs.Common.{◌≡◌, ◌≤◌, ◌||◌, ℕ, List, [], ◌∷◌, ◌++◌, filter, refl, ap, subst, sym, append_assoc}
 use Rattle.std.specs.Prelude.{nat_le}
-use Rattle.sip_times.specs.declared.action.Action.{Action}
+use Rattle.sip_standard.specs.declared.action.Action.{Action}
 use Rattle.sip_machine.specs.Debts.{Owed}
-use Rattle.sip_machine.specs.Times.{Times}
+use Rattle.sip_standard.specs.Times.{Times}
 use Rattle.sip_machine.specs.MachineEvent.{MachineEvent}
 use Rattle.sip_machine.specs.Figure.{Figure, Owing, quiet, Steps, Takes, Lasts, MayEnd}
 use Rattle.sip_states.specs.Stands.{Stands, begins, waits, ends, takes}

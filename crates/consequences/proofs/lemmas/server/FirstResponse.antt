@@ -2,13 +2,13 @@
 use Rattle.std.proofs.Common.{◌≡◌, ◌≤◌, ◌<◌, ◌⊎◌, inl, inr, ℕ, Bool, true, false, Option, None, IsSomeAnd, List, [], ◌∷◌, ◌++◌, All, refl, sym, ap, subst, ◌∙◌, arith}
 use Rattle.std.specs.List.{Any}
 use Rattle.std.proofs.lemmas.List.Elements.{All-head}
-use Rattle.sip_times.specs.declared.action.Action.{Action}
-use Rattle.sip_times.specs.declared.action.Action.TheVariants.{Sent, Received, Failed, Mark, Restart}
+use Rattle.sip_standard.specs.declared.action.Action.{Action}
+use Rattle.sip_standard.specs.declared.action.Action.TheVariants.{Sent, Received, Failed, Mark, Restart}
 use Rattle.sip_machine.specs.declared.event.Method.TheVariants.{Invite}
 use Rattle.sip_machine.specs.declared.event.Kind.{Kind}
 use Rattle.sip_machine.specs.declared.event.Kind.TheVariants.{Request, Response}
-use Rattle.sip_machine.specs.Times.{Times}
-use Rattle.sip_machine.specs.Limits.{close_at}
+use Rattle.sip_standard.specs.Times.{Times}
+use Rattle.sip_standard.specs.Window.{close_at}
 use Rattle.sip_machine.specs.MachineEvent.{MachineEvent}
 use Rattle.sip_machine.specs.Message.{IsSuccess}
 use Rattle.sip_machine.specs.Figure.{Figure, keeps, Owing, changed, quiet, Follows, Emits, Fails, Steps, Takes, Lasts, MayEnd}
@@ -22,9 +22,15 @@ use Rattle.consequences.proofs.lemmas.run.Running.{IsKept, step-of, stands-run, 
 use Rattle.consequences.proofs.lemmas.server.InviteServers.{Row, IsServer, ReceivedRow, comes, again, again_after, acknowledged, received-row, SentRow, provisional, success, unsuccessful, success_again, repeats, sent-row}
 
 module _ {X : Type 0} (f : Figure X) (p : Times) (held : InviteServerPhase → X) (is : IsServer f p held) (invite : MachineEvent) where
-  -- it has sent nothing yet, or a response, or the element started again
+  -- the event has this property, and comes within 200 ms of the INVITE and as much as an element may be late
+  abbrev InTime : (MachineEvent → Type 0) → MachineEvent → Type 0
+  InTime P e = P e × (e.moment ≤ close_at p invite.moment 200)
+
+  -- it has sent nothing yet, and it is not too late for it; or it has sent a response in time, or the element started again in time
   abbrev Waits : List MachineEvent → ℕ → Owing X → Type 0
-  Waits es m y = ((reliable : Bool) × (y ≡ quiet (held (Proceeding reliable invite.moment None)))) ⊎ Any (SendsResponse IsAnyCode) es ⊎ Any IsRestart es
+  Waits es m y =
+      ((reliable : Bool) × (y ≡ quiet (held (Proceeding reliable invite.moment None))) × (m ≤ close_at p invite.moment 200))
+      ⊎ Any (InTime (SendsResponse IsAnyCode)) es ⊎ Any (InTime IsRestart) es
 
   no-row : (reliable : Bool) (set : ℕ) (x : InviteServerPhase) (k : Kind) (e : MachineEvent) (row : Row) → x ≡ Proceeding reliable set None → ¬ (ReceivedRow x k e row)
   no-row reliable set x k e row here (comes _) = cc
@@ -46,50 +52,60 @@ module _ {X : Type 0} (f : Figure X) (p : Times) (held : InviteServerPhase → X
       other : ¬ (Completed r final s repeat interval ≡ Proceeding reliable set None)
       other same = cc
 
-  sends : (reliable : Bool) (es : List MachineEvent) (e : MachineEvent) (y : Owing X) → (e.action ≡ Sent) ⊎ (e.action ≡ Failed) → Emits f p e (quiet (held (Proceeding reliable invite.moment None))) y
-      → Any (SendsResponse IsAnyCode) (es ++ e ∷ [])
-  sends reliable es e y out (inl (row, is_row, to)) = by (is.sent (Proceeding reliable invite.moment None) e.kind e row is_row)
+  sends : (reliable : Bool) (es : List MachineEvent) (e : MachineEvent) (y : Owing X) → e.moment ≤ close_at p invite.moment 200 → (e.action ≡ Sent) ⊎ (e.action ≡ Failed)
+      → Emits f p e (quiet (held (Proceeding reliable invite.moment None))) y → Any (InTime (SendsResponse IsAnyCode)) (es ++ e ∷ [])
+  sends reliable es e y low out (inl (row, is_row, to)) = by (is.sent (Proceeding reliable invite.moment None) e.kind e row is_row)
     where
       by : ((r : Row) × corrected.Sends p (Proceeding reliable invite.moment None) e.kind e r × (row ≡ (held r.0, r.1)))
           ⊎ ((r : Bool) × (set : ℕ) × (last : Option (List ℕ)) × (Proceeding reliable invite.moment None ≡ Proceeding r set last) × ((code : ℕ) × (e.kind ≡ Response code) × IsSuccess code))
-          → Any (SendsResponse IsAnyCode) (es ++ e ∷ [])
+          → Any (InTime (SendsResponse IsAnyCode)) (es ++ e ∷ [])
       by (inl (r, is_r, leads)) =
-          any-last (SendsResponse IsAnyCode) es e
-          (out, is-response (Proceeding reliable invite.moment None) e.kind e r (sent-row p (Proceeding reliable invite.moment None) e.kind e r is_r) reliable invite.moment refl)
+          any-last (InTime (SendsResponse IsAnyCode)) es e
+          ((out, is-response (Proceeding reliable invite.moment None) e.kind e r (sent-row p (Proceeding reliable invite.moment None) e.kind e r is_r) reliable invite.moment refl), low)
       by (inr (r, set, last, here, (code, kind, is_success))) =
-          any-last (SendsResponse IsAnyCode) es e (out, (code, kind, (omega (arith, is_success.0), omega (arith, is_success.1))))
-  sends reliable es e y out (inr (inl (left, pays, to))) = absurd (nothing-to-pay _ left pays)
-  sends reliable es e y out (inr (inr (stays, same))) = absurd (is.unmoved (Proceeding reliable invite.moment None) e.kind stays)
+          any-last (InTime (SendsResponse IsAnyCode)) es e ((out, (code, kind, (omega (arith, is_success.0), omega (arith, is_success.1)))), low)
+  sends reliable es e y low out (inr (inl (left, pays, to))) = absurd (nothing-to-pay _ left pays)
+  sends reliable es e y low out (inr (inr (stays, same))) = absurd (is.unmoved (Proceeding reliable invite.moment None) e.kind stays)
 
-  fails : (ends : Bool) (reliable : Bool) (es : List MachineEvent) (e : MachineEvent) (y : Owing X) → e.action ≡ Failed → Fails ends f p e (quiet (held (Proceeding reliable invite.moment None))) y
-      → Any (SendsResponse IsAnyCode) (es ++ e ∷ [])
-  fails true reliable es e y was h = sends reliable es e h.0.0 (inr was) h.0.1
-  fails false reliable es e y was h = sends reliable es e y (inr was) h
+  fails : (ends : Bool) (reliable : Bool) (es : List MachineEvent) (e : MachineEvent) (y : Owing X) → e.moment ≤ close_at p invite.moment 200 → e.action ≡ Failed
+      → Fails ends f p e (quiet (held (Proceeding reliable invite.moment None))) y → Any (InTime (SendsResponse IsAnyCode)) (es ++ e ∷ [])
+  fails true reliable es e y low was h = sends reliable es e h.0.0 low (inr was) h.0.1
+  fails false reliable es e y low was h = sends reliable es e y low (inr was) h
 
-  steps : (a : Action) (reliable : Bool) (es : List MachineEvent) (e : MachineEvent) (y : Owing X) → e.action ≡ a → Steps f p a e (quiet (held (Proceeding reliable invite.moment None))) y → Waits (es ++ e ∷ []) e.moment y
-  steps Received reliable es e y was (inl (row, is_row, to)) =
+  steps : (a : Action) (reliable : Bool) (es : List MachineEvent) (e : MachineEvent) (y : Owing X) → e.moment ≤ close_at p invite.moment 200 → e.action ≡ a
+      → Steps f p a e (quiet (held (Proceeding reliable invite.moment None))) y → Waits (es ++ e ∷ []) e.moment y
+  steps Received reliable es e y low was (inl (row, is_row, to)) =
       let (r, is_r, leads) = is.received (Proceeding reliable invite.moment None) e.kind e row is_row in
       absurd (no-row reliable invite.moment (Proceeding reliable invite.moment None) e.kind e r refl (received-row p (Proceeding reliable invite.moment None) e.kind e r is_r))
-  steps Received reliable es e y was (inr (none, same)) = inl (reliable, same)
-  steps Sent reliable es e y was h = inr (inl (sends reliable es e y (inl was) h))
-  steps Failed reliable es e y was h = inr (inl (fails (f.ends_refused (held (Proceeding reliable invite.moment None)) e.kind) reliable es e y was h))
-  steps Mark reliable es e y was h = absurd h
-  steps Restart reliable es e y was h = inr (inr (any-last IsRestart es e was))
+  steps Received reliable es e y low was (inr (none, same)) = inl (reliable, same, low)
+  steps Sent reliable es e y low was h = inr (inl (sends reliable es e y low (inl was) h))
+  steps Failed reliable es e y low was h = inr (inl (fails (f.ends_refused (held (Proceeding reliable invite.moment None)) e.kind) reliable es e y low was h))
+  steps Mark reliable es e y low was h = absurd h
+  steps Restart reliable es e y low was h = inr (inr (any-last (InTime IsRestart) es e (was, low)))
+
+  -- who has sent nothing yet can wait so long
+  in-time : (reliable : Bool) (x : Owing X) (m : ℕ) → x ≡ quiet (held (Proceeding reliable invite.moment None)) → Lasts f p x m → m ≤ close_at p invite.moment 200
+  in-time reliable x m same lasts =
+      All-head (λ last. m ≤ last) (close_at p invite.moment 200) [] (subst (All (λ last. m ≤ last)) (is.sends_by (Proceeding reliable invite.moment None)) (subst (λ z. Lasts f p z m) same lasts).1)
 
   waits-kept : IsKept f p Waits
-  waits-kept = record { as_it_waits = λ es h m x holds low lasts. holds; as_it_ends = as_it_ends; as_it_takes = as_it_takes }
+  waits-kept = record { as_it_waits = as_it_waits; as_it_ends = as_it_ends; as_it_takes = as_it_takes }
     where
+      as_it_waits : (es : List MachineEvent) (h m : ℕ) (x : Owing X) → Waits es h x → h ≤ m → Lasts f p x m → Waits es m x
+      as_it_waits es h m x (inl (reliable, same, low)) later lasts = inl (reliable, same, in-time reliable x m same lasts)
+      as_it_waits es h m x (inr found) later lasts = inr found
+
       as_it_ends : (es : List MachineEvent) (h : ℕ) (x : Owing X) → Waits es h x → MayEnd f p x h → Waits es h (quiet f.ended)
-      as_it_ends es h x (inl (reliable, same)) may =
+      as_it_ends es h x (inl (reliable, same, low)) may =
           absurd (subst (λ window. IsSomeAnd window (λ w. w.0 ≤ h)) (is.window (Proceeding reliable invite.moment None)) (subst (λ z. MayEnd f p z h) same may).0)
       as_it_ends es h x (inr later) may = inr later
 
       as_it_takes : (es : List MachineEvent) (e : MachineEvent) (x y : Owing X) → Waits es e.moment x → Takes f p x e y → Waits (es ++ e ∷ []) e.moment y
-      as_it_takes es e x y (inl (reliable, same)) take = steps e.action reliable es e y refl (subst (λ z. Takes f p z e y) same take)
-      as_it_takes es e x y (inr (inl sent)) take = inr (inl (any-earlier (SendsResponse IsAnyCode) es (e ∷ []) sent))
-      as_it_takes es e x y (inr (inr restarted)) take = inr (inr (any-earlier IsRestart es (e ∷ []) restarted))
+      as_it_takes es e x y (inl (reliable, same, low)) take = steps e.action reliable es e y low refl (subst (λ z. Takes f p z e y) same take)
+      as_it_takes es e x y (inr (inl sent)) take = inr (inl (any-earlier (InTime (SendsResponse IsAnyCode)) es (e ∷ []) sent))
+      as_it_takes es e x y (inr (inr restarted)) take = inr (inr (any-earlier (InTime IsRestart) es (e ∷ []) restarted))
 
-  module _ (asleep : IsAsleep f p IsInvite) (lasts : (events : List MachineEvent) (m : ℕ) (x : Owing X) → Stands f p events m x → Lasts f p x m) where
+  module _ (asleep : IsAsleep f p IsInvite) where
     -- the first INVITE opens the transaction
     opens : (x y : Owing X) → x ≡ quiet f.idle → GetsRequest Invite invite → Takes f p x invite y → y ≡ quiet (held (Proceeding invite.reliable invite.moment None))
     opens x y same gets take = by (step-of f p Received invite (quiet (held Idle)) y gets.0 (subst (λ z. Takes f p z invite y) (same ∙ ap quiet is.idle) take))
@@ -109,19 +125,14 @@ module _ {X : Type 0} (f : Figure X) (p : Times) (held : InviteServerPhase → X
         by (inr (none, stays)) = absurd (none (quiet (held (Proceeding invite.reliable invite.moment None))) ((held (Proceeding invite.reliable invite.moment None), keeps), opening, refl))
 
     pub answered-in-time : (before after : List MachineEvent) (m : ℕ) (y : Owing X) → All (λ g. ¬ (GetsRequest Invite g)) before → GetsRequest Invite invite →
-        Stands f p (before ++ invite ∷ after) m y → close_at p invite.moment 200 < m → Any (SendsResponse IsAnyCode) after ⊎ Any IsRestart after
+        Stands f p (before ++ invite ∷ after) m y → close_at p invite.moment 200 < m → Any (InTime (SendsResponse IsAnyCode)) after ⊎ Any (InTime IsRestart) after
     answered-in-time before after m y none gets stands late = by-cut (cut f p (quiet f.idle) 0 before invite after m y (stands-run f p (before ++ invite ∷ after) m y stands))
       where
-        in-time : (reliable : Bool) → y ≡ quiet (held (Proceeding reliable invite.moment None)) → m ≤ close_at p invite.moment 200
-        in-time reliable same =
-            let lasting = subst (λ z. Lasts f p z m) same (lasts (before ++ invite ∷ after) m y stands) in
-            All-head (λ last. m ≤ last) (close_at p invite.moment 200) [] (subst (All (λ last. m ≤ last)) (is.sends_by (Proceeding reliable invite.moment None)) lasting.1)
-
-        by : Waits after m y → Any (SendsResponse IsAnyCode) after ⊎ Any IsRestart after
-        by (inl (reliable, same)) = let low = in-time reliable same in absurd (omega (arith, low, late))
+        by : Waits after m y → Any (InTime (SendsResponse IsAnyCode)) after ⊎ Any (InTime IsRestart) after
+        by (inl (reliable, same, low)) = absurd (omega (arith, low, late))
         by (inr found) = found
 
-        by-cut : Cut f p (quiet f.idle) 0 before invite after m y → Any (SendsResponse IsAnyCode) after ⊎ Any IsRestart after
+        by-cut : Cut f p (quiet f.idle) 0 before invite after m y → Any (InTime (SendsResponse IsAnyCode)) after ⊎ Any (InTime IsRestart) after
         by-cut found =
             let slept = sleeps-on f p IsInvite asleep before (quiet f.idle) 0 invite.moment found.from refl none found.leads in
-            by (run-keeps f p Waits waits-kept after found.to invite.moment m y (inl (invite.reliable, opens found.from found.to slept gets found.step)) found.goes)
+            by (run-keeps f p Waits waits-kept after found.to invite.moment m y (inl (invite.reliable, opens found.from found.to slept gets found.step, omega arith)) found.goes)

@@ -2,13 +2,13 @@
 use Rattle.std.proofs.Common.{◌≡◌, ◌≤◌, ◌<◌, ◌*◌, ◌⊎◌, inl, inr, ℕ, Bool, true, false, List, [], ◌∷◌, ◌++◌, All, Contains, refl, sym, subst, arith}
 use Rattle.std.specs.List.{Any}
 use Rattle.std.proofs.lemmas.List.Elements.{All-nil, All-filter, All-push, All-weaker, Contains-push}
-use Rattle.sip_times.specs.declared.action.Action.{Action}
-use Rattle.sip_times.specs.declared.action.Action.TheVariants.{Sent, Received, Failed, Mark, Restart}
+use Rattle.sip_standard.specs.declared.action.Action.{Action}
+use Rattle.sip_standard.specs.declared.action.Action.TheVariants.{Sent, Received, Failed, Mark, Restart}
 use Rattle.sip_machine.specs.declared.event.Method.{Method}
 use Rattle.sip_machine.specs.declared.event.Kind.{Kind}
 use Rattle.sip_machine.specs.declared.event.Kind.TheVariants.{Request, Response}
-use Rattle.sip_machine.specs.Times.{Times}
-use Rattle.sip_machine.specs.Limits.{open_at, close_at}
+use Rattle.sip_standard.specs.Times.{Times}
+use Rattle.sip_standard.specs.Window.{open_at, close_at}
 use Rattle.sip_machine.specs.MachineEvent.{MachineEvent}
 use Rattle.sip_machine.specs.Replies.{Replies}
 use Rattle.sip_machine.specs.Message.{IsProvisional, IsFinal}

@@ -3,7 +3,7 @@ use Rattle.std.proofs.Common.{◌≡◌, ◌<◌, ◌⊎◌, ℕ, Option, Some, 
 use Rattle.std.specs.List.{Any}
 use Rattle.std.proofs.lemmas.List.Elements.{All-head, All-tail, All-append, All-contains}
 use Rattle.std.specs.Prelude.{slice_index_or}
-use Rattle.sip_times.specs.declared.action.Action.TheVariants.{Sent, Failed}
+use Rattle.sip_standard.specs.declared.action.Action.TheVariants.{Sent, Failed}
 use Rattle.sip_machine.specs.declared.event.Kind.TheVariants.{Response}
 use Rattle.sip_machine.specs.MachineEvent.{MachineEvent}
 use Rattle.sip_machine.specs.Message.{IsProvisional, IsFinal}

@@ -2,7 +2,7 @@
 use Rattle.std.proofs.Common.{◌≡◌, ◌≤◌, ℕ, List}
 use Rattle.sip_machine.specs.Figure.{Owing}
 use Rattle.sip_machine.specs.MachineEvent.{MachineEvent}
-use Rattle.sip_machine.specs.Times.{Times}
+use Rattle.sip_standard.specs.Times.{Times}
 use Rattle.sip_machine.specs.InviteClient.{invite_client}
 use Rattle.sip_machine.specs.InviteClient3261.{invite_client_3261}
 use Rattle.sip_machine.specs.InviteServer.{invite_server}

@@ -4,17 +4,17 @@ use Rattle.std.specs.List.{list_any}
 use Rattle.std.proofs.lemmas.List.Elements.{All-nil, All-cons, All-head, All-tail, All-contains}
 use Rattle.sip_key.specs.declared.role.Direction.{Direction}
 use Rattle.sip_key.specs.Key.{KeyParts, same_key}
-use Rattle.sip_log.specs.declared.format.Format.{Format}
-use Rattle.sip_log.specs.Log.{InOrder}
-use Rattle.sip_log.specs.Spelling.{Item, HasMessage}
-use Rattle.sip_times.specs.declared.action.Action.{Action}
-use Rattle.sip_times.specs.declared.action.Action.TheVariants.{Sent, Received, Failed, Mark, Restart}
+use Rattle.sip_standard.specs.declared.format.Format.{Format}
+use Rattle.sip_standard.specs.LogEntry.{InOrder}
+use Rattle.sip_standard.specs.LogEntry.{Item, HasMessage}
+use Rattle.sip_standard.specs.declared.action.Action.{Action}
+use Rattle.sip_standard.specs.declared.action.Action.TheVariants.{Sent, Received, Failed, Mark, Restart}
 use Rattle.sip_machine.specs.declared.event.Kind.TheVariants.{Request}
 use Rattle.sip_machine.specs.declared.event.Method.TheVariants.{Other}
 use Rattle.sip_machine.specs.MachineEvent.{MachineEvent}
 use Rattle.sip_machine.specs.Message.{kind_of}
-use Rattle.sip_message.specs.Outcome.{gives}
-use Rattle.sip_message.specs.Says.{Said, Says}
+use Rattle.sip_standard.specs.Outcome.{gives}
+use Rattle.sip_standard.specs.Says.{Said, Says}
 use Rattle.sip_verdict.specs.Keyed.{Observation}
 use Rattle.sip_verdict.specs.MessageReading.{direction_of, silent_observation, ObservesMessage, has_fault, has_no_cookie, is_heard}
 use Rattle.sip_verdict.specs.VerdictOf.{keys_in, events_for}

@@ -2,11 +2,11 @@
 use Rattle.std.proofs.Common.{◌≡◌, inl, inr, ℕ, Bool, true, false, List, [], ◌∷◌, ◌++◌, All, filter, refl, sym, subst, ◌∙◌, arith}
 use Rattle.std.specs.List.{Any}
 use Rattle.std.proofs.lemmas.List.Elements.{All-nil, All-cons, All-head, All-tail, All-filter, All-push, All-weaker}
-use Rattle.sip_times.specs.declared.action.Action.{Action}
-use Rattle.sip_times.specs.declared.action.Action.TheVariants.{Sent, Received, Failed, Mark, Restart}
+use Rattle.sip_standard.specs.declared.action.Action.{Action}
+use Rattle.sip_standard.specs.declared.action.Action.TheVariants.{Sent, Received, Failed, Mark, Restart}
 use Rattle.sip_machine.specs.declared.event.Kind.{Kind}
 use Rattle.sip_machine.specs.declared.event.Kind.TheVariants.{Request, Response}
-use Rattle.sip_machine.specs.Times.{Times}
+use Rattle.sip_standard.specs.Times.{Times}
 use Rattle.sip_machine.specs.MachineEvent.{MachineEvent}
 use Rattle.sip_machine.specs.Message.{IsProvisional, IsFinal}
 use Rattle.sip_machine.specs.Provisional.{Is100}

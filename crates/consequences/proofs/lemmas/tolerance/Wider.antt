@@ -4,11 +4,11 @@ use Rattle.std.specs.Prelude.{nat_le}
 use Rattle.std.specs.List.{list_any}
 use Rattle.std.proofs.lemmas.List.Elements.{All-nil, All-cons, All-head, All-tail, All-filter, All-weaker, All-contains, Contains-append_left, filter_passes}
 use Rattle.std.proofs.lemmas.Bool.{le-leb, leb-true}
-use Rattle.sip_times.specs.declared.action.Action.{Action}
-use Rattle.sip_times.specs.declared.action.Action.TheVariants.{Sent, Received, Failed, Mark, Restart}
+use Rattle.sip_standard.specs.declared.action.Action.{Action}
+use Rattle.sip_standard.specs.declared.action.Action.TheVariants.{Sent, Received, Failed, Mark, Restart}
 use Rattle.sip_machine.specs.declared.event.Kind.{Kind}
-use Rattle.sip_machine.specs.Times.{Times}
-use Rattle.sip_machine.specs.Limits.{close_at}
+use Rattle.sip_standard.specs.Times.{Times}
+use Rattle.sip_standard.specs.Window.{close_at}
 use Rattle.sip_machine.specs.MachineEvent.{MachineEvent}
 use Rattle.sip_machine.specs.Debts.{Owed, softened, IsWithoutFirst}
 use Rattle.sip_machine.specs.Figure.{Figure, Change, keeps, softens, drops, gains, Owing, changed, quiet, Emits, Fails, Steps, Takes, Lasts, MayEnd}

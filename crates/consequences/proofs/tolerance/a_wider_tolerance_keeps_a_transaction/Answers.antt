@@ -1,6 +1,6 @@
 use Rattle.std.proofs.Common.{◌≡◌, ℕ, List, sym, ◌∙◌}
-use Rattle.sip_message.specs.Outcome.{gives}
-use Rattle.sip_message.specs.Says.{Said, Says}
+use Rattle.sip_standard.specs.Outcome.{gives}
+use Rattle.sip_standard.specs.Says.{Said, Says}
 use Rattle.sip_message.proofs.lemmas.says.Reading.{says-reads, said-is}
 use Rattle.sip_states.specs.KeyMachine.{machine_of_key}
 use Rattle.sip_verdict.specs.VerdictOf.{events_for}

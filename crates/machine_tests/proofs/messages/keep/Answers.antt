@@ -1,6 +1,6 @@
 use Rattle.std.specs.Prelude.{◌<◌}
 use Rattle.std.proofs.Common.{inl, inr, arith}
-use Rattle.sip_machine.proofs.TextLaws.{Keeps-grow_cases}
+use Rattle.sip_machine.proofs.texts.TextLaws.{Keeps-grow_cases}
 use Rattle.machine_tests.proofs.Errors.{always_err}
 use Rattle.machine_tests.proofs.messages.keep.Goals as goal
 

@@ -1,5 +1,5 @@
 use Rattle.std.proofs.Common.{◌+◌, inl, inr, arith}
-use Rattle.sip_machine.proofs.TextLaws.{Keeps-grow_cases}
+use Rattle.sip_machine.proofs.texts.TextLaws.{Keeps-grow_cases}
 use Rattle.machine_tests.proofs.tests.are_numbered.Goals as goal
 
 pub loop-place-init : goal.loop-place-init

@@ -1,6 +1,6 @@
 use Rattle.std.specs.Prelude.{IfSome}
 use Rattle.std.proofs.Common.{sym, ◌∙◌, ap, subst}
-use Rattle.sip_text.specs.Uri.{Port}
+use Rattle.sip_standard.specs.Profile.{Port}
 use Rattle.sip_message.specs.Elements.{Element}
 use Rattle.sip_message.specs.SaidOf.{said_of, said_via}
 use Rattle.sip_key.specs.Branch.{cookie_branch}

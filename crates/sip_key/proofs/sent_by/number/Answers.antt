@@ -1,5 +1,5 @@
 use Rattle.std.proofs.Common.{sym, subst, ◌+◌, ◌*◌, ℕ, arith}
-use Rattle.sip_text.proofs.UriPortLemmas.{ReadsDigits}
+use Rattle.sip_text.proofs.uris.UriPortLemmas.{ReadsDigits}
 use Rattle.sip_key.proofs.SentByLemmas.{reads-more}
 use Rattle.sip_key.proofs.sent_by.number.Goals as goal
 

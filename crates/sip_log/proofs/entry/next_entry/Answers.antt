@@ -1,10 +1,10 @@
 use Rattle.std.proofs.Common.{◌<◌, ◌≤◌, length, Ok, Err, None, arith}
 use Rattle.sip_log.specs.inner.Entry.{LineComes, EntryComes}
-use Rattle.sip_log.specs.Log.{most_entries}
+use Rattle.sip_standard.specs.LogSays.{most_entries}
 use Rattle.sip_log.specs.Told.{entry_next}
 use Rattle.sip_log.specs.inner.Window.{items}
-use Rattle.sip_log.proofs.SaysLemmas.{Says-step}
-use Rattle.sip_log.proofs.FrontLemmas.{ComesNext-entry}
+use Rattle.sip_log.proofs.answers.SaysLemmas.{Says-step}
+use Rattle.sip_log.proofs.lines.FrontLemmas.{ComesNext-entry}
 use Rattle.sip_log.proofs.entry.next_entry.Goals as goal
 
 pub returns-in-Ok-clause-says : goal.returns-in-Ok-clause-says

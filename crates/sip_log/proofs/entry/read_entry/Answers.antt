@@ -1,11 +1,11 @@
 use Rattle.std.proofs.Common.{◌≡◌, ◌+◌, ◌<◌, ◌≤◌, inl, inr, [], length, drop, arith, ap}
-use Rattle.sip_log.specs.LogFault as faults
+use Rattle.sip_standard.specs.LogFault as faults
 use Rattle.sip_log.specs.inner.Entry.{LineComes, HeadComes}
 use Rattle.sip_log.specs.Told.{entry_next}
 use Rattle.sip_log.specs.inner.Window.{items}
-use Rattle.sip_log.proofs.SaysLemmas.{Says-fault, Says-step}
-use Rattle.sip_log.proofs.FrontLemmas.{AtLine-truncated, AtLine-long, AtLine-other, AtLine-head}
-use Rattle.sip_log.proofs.ToldLemmas.{none_left}
+use Rattle.sip_log.proofs.answers.SaysLemmas.{Says-fault, Says-step}
+use Rattle.sip_log.proofs.lines.FrontLemmas.{AtLine-truncated, AtLine-long, AtLine-other, AtLine-head}
+use Rattle.sip_log.proofs.answers.ToldLemmas.{none_left}
 use Rattle.sip_log.proofs.entry.read_entry.Goals as goal
 
 pub returns-then-as_slice-lt-LONGEST_LINE-clause-says : goal.returns-then-as_slice-lt-LONGEST_LINE-clause-says

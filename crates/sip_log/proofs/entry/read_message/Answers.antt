@@ -1,10 +1,10 @@
 use Rattle.std.proofs.Common.{◌<◌, ◌+◌, List, ℕ, length, take, drop, get_or, arith, ap, sym, ◌∙◌}
-use Rattle.sip_log.specs.LogFault as faults
+use Rattle.sip_standard.specs.LogFault as faults
 use Rattle.sip_log.specs.Next.{gives}
 use Rattle.sip_log.specs.inner.Entry.{MessageComes}
 use Rattle.sip_log.specs.inner.Window.{items}
-use Rattle.sip_log.proofs.SaysLemmas.{Says-value, Says-fault}
-use Rattle.sip_log.proofs.MessageLemmas.{AtMessage-open, AtMessage-gives}
+use Rattle.sip_log.proofs.answers.SaysLemmas.{Says-value, Says-fault}
+use Rattle.sip_log.proofs.lines.MessageLemmas.{AtMessage-open, AtMessage-gives}
 use Rattle.sip_log.proofs.entry.read_message.Goals as goal
 
 pub returns-then-held-len-ne10-clause-says : goal.returns-then-held-len-ne10-clause-says

@@ -2,7 +2,7 @@ use Rattle.std.proofs.Common.{◌≡◌, [], ap, length, subst, sym}
 use Rattle.std.proofs.lemmas.Bool.{eqb-true, eqb-false}
 use Rattle.std.proofs.lemmas.List.{nil_from_length}
 use Rattle.sip_log.specs.inner.Header.{NumberAfter}
-use Rattle.sip_log.proofs.HeaderLemmas.{NumberAfter-one}
+use Rattle.sip_log.proofs.headers.HeaderLemmas.{NumberAfter-one}
 use Rattle.sip_log.proofs.header.last_number.Goals as goal
 
 pub returns-in_err-value : goal.returns-in_err-value

@@ -2,9 +2,9 @@ use Rattle.std.proofs.Common.{◌++◌, List, ℕ, take, drop, None, Some, sym, 
 use Rattle.std.proofs.lemmas.List.{take_rest, take-append-drop}
 use Rattle.std.proofs.lemmas.Bool.Decides.{Decides-eqb}
 use Rattle.std.proofs.lemmas.Slice.Eq.{strip_prefix_is}
-use Rattle.sip_log.specs.Spelling.{space}
-use Rattle.sip_log.proofs.SplitLemmas.{part-found}
-use Rattle.sip_log.proofs.HeaderLemmas.{NumberAfter-part, NumberAfter-of}
+use Rattle.sip_log.specs.inner.Spelling.{space}
+use Rattle.sip_log.proofs.lines.SplitLemmas.{part-found}
+use Rattle.sip_log.proofs.headers.HeaderLemmas.{NumberAfter-part, NumberAfter-of}
 use Rattle.sip_log.proofs.header.number_after.Goals as goal
 
 pub returns-in_err-text : goal.returns-in_err-text

@@ -1,10 +1,10 @@
 use Rattle.std.proofs.Common.{drop}
-use Rattle.sip_log.specs.LogFault as faults
+use Rattle.sip_standard.specs.LogFault as faults
 use Rattle.sip_log.specs.inner.Header.{HeaderComes, ComesSecond}
 use Rattle.sip_log.specs.Next.{gives}
 use Rattle.sip_log.specs.inner.Window.{items}
-use Rattle.sip_log.proofs.SaysLemmas.{Says-step, Says-fault}
-use Rattle.sip_log.proofs.HeaderLemmas.{ComesFirst-other, ComesFirst-second}
+use Rattle.sip_log.proofs.answers.SaysLemmas.{Says-step, Says-fault}
+use Rattle.sip_log.proofs.headers.HeaderLemmas.{ComesFirst-other, ComesFirst-second}
 use Rattle.sip_log.proofs.header.read_header.Goals as goal
 
 pub returns-in_default : goal.returns-in_default

@@ -1,11 +1,11 @@
 use Rattle.std.proofs.Common.{◌+◌, inl, inr, drop}
-use Rattle.sip_log.specs.LogFault as faults
+use Rattle.sip_standard.specs.LogFault as faults
 use Rattle.sip_log.specs.inner.Header.{ComesSecond, ComesThird}
 use Rattle.sip_log.specs.Next.{gives}
 use Rattle.sip_log.specs.inner.Window.{items}
-use Rattle.sip_log.proofs.SaysLemmas.{Says-step, Says-fault}
-use Rattle.sip_log.proofs.ToldLemmas.{none_left}
-use Rattle.sip_log.proofs.HeaderLemmas.{ComesSecond-none, ComesSecond-other, ComesSecond-times}
+use Rattle.sip_log.proofs.answers.SaysLemmas.{Says-step, Says-fault}
+use Rattle.sip_log.proofs.answers.ToldLemmas.{none_left}
+use Rattle.sip_log.proofs.headers.HeaderLemmas.{ComesSecond-none, ComesSecond-other, ComesSecond-times}
 use Rattle.sip_log.proofs.header.read_second.Goals as goal
 
 pub returns-in_default : goal.returns-in_default

@@ -4,9 +4,9 @@ use Rattle.sip_times.specs.Times.{under}
 use Rattle.sip_log.specs.inner.Header.{ComesThird}
 use Rattle.sip_log.specs.Next.{gives}
 use Rattle.sip_log.specs.inner.Window.{items}
-use Rattle.sip_log.proofs.SaysLemmas.{Says-value}
-use Rattle.sip_log.proofs.ToldLemmas.{none_left, Reads-then}
-use Rattle.sip_log.proofs.HeaderLemmas.{ComesThird-end, ComesThird-other, ComesThird-unruled, ComesThird-rules}
+use Rattle.sip_log.proofs.answers.SaysLemmas.{Says-value}
+use Rattle.sip_log.proofs.answers.ToldLemmas.{none_left, Reads-then}
+use Rattle.sip_log.proofs.headers.HeaderLemmas.{ComesThird-end, ComesThird-other, ComesThird-unruled, ComesThird-rules}
 use Rattle.sip_log.proofs.header.read_third.Goals as goal
 
 pub returns-then-not-branch : goal.returns-then-not-branch

@@ -1,8 +1,8 @@
-use Rattle.sip_times.specs.Times.{Times}
-use Rattle.sip_times.specs.declared.rules.Rules.TheVariants.{R6026}
+use Rattle.sip_standard.specs.Times.{Times}
+use Rattle.sip_standard.specs.declared.rules.Rules.TheVariants.{R6026}
 use Rattle.std.proofs.Common.{refl}
 use Rattle.sip_log.specs.inner.Header.{TimesLine}
-use Rattle.sip_log.proofs.HeaderLemmas.{t2-after, t4-after, tolerances-after, times-after, times-read}
+use Rattle.sip_log.proofs.headers.HeaderLemmas.{t2-after, t4-after, tolerances-after, times-after, times-read}
 use Rattle.sip_log.proofs.header.read_times.Goals as goal
 
 pub returns-in_err-t1 : goal.returns-in_err-t1

@@ -1,7 +1,7 @@
 use Rattle.std.proofs.Common.{[], subst}
 use Rattle.std.specs.Prelude.{codes}
 use Rattle.sip_log.specs.inner.Header.{NumberAfter, Tolerances}
-use Rattle.sip_log.proofs.HeaderLemmas.{NumberAfter-one}
+use Rattle.sip_log.proofs.headers.HeaderLemmas.{NumberAfter-one}
 use Rattle.sip_log.proofs.header.read_tolerances.Goals as goal
 
 pub returns-in_err-tolerance-in-One : goal.returns-in_err-tolerance-in-One

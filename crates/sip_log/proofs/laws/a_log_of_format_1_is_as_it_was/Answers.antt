@@ -1,5 +1,5 @@
 use Rattle.std.proofs.Common.{refl}
-use Rattle.sip_log.proofs.Logs.{rules-of-one, restarts-of-one}
+use Rattle.sip_log.proofs.logs.Logs.{rules-of-one, restarts-of-one}
 use Rattle.sip_log.proofs.laws.a_log_of_format_1_is_as_it_was.Goals as goal
 
 pub returns-clause-tolerance : goal.returns-clause-tolerance

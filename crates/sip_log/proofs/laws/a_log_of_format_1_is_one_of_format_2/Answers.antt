@@ -1,4 +1,4 @@
-use Rattle.sip_log.proofs.Logs.{log-of-two}
+use Rattle.sip_log.proofs.logs.Logs.{log-of-two}
 use Rattle.sip_log.proofs.laws.a_log_of_format_1_is_one_of_format_2.Goals as goal
 
 pub returns : goal.returns

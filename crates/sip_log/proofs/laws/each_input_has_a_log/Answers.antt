@@ -1,4 +1,4 @@
-use Rattle.sip_log.proofs.Logs.{log_is_some}
+use Rattle.sip_log.proofs.logs.Logs.{log_is_some}
 use Rattle.sip_log.proofs.laws.each_input_has_a_log.Goals as goal
 
 pub returns : goal.returns

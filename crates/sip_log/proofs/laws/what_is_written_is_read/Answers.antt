@@ -1,4 +1,4 @@
-use Rattle.sip_log.proofs.Logs.{log-written}
+use Rattle.sip_log.proofs.logs.Logs.{log-written}
 use Rattle.sip_log.proofs.laws.what_is_written_is_read.Goals as goal
 
 pub returns : goal.returns

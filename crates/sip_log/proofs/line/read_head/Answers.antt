@@ -1,9 +1,9 @@
 use Rattle.std.proofs.Common.{◌≡◌, get_or, refl, sym, arith}
 use mathlib.Core.Bool.{true≢false}
 use Rattle.std.proofs.lemmas.List.{take_rest}
-use Rattle.sip_log.specs.Spelling.{space}
+use Rattle.sip_log.specs.inner.Spelling.{space}
 use Rattle.sip_log.specs.inner.Line.{message, plain}
-use Rattle.sip_log.proofs.LineLemmas.{HeadLine-plain, HeadLine-message, HeadLine-unlettered, HeadLine-no_numbers, HeadLine-no_number}
+use Rattle.sip_log.proofs.lines.LineLemmas.{HeadLine-plain, HeadLine-message, HeadLine-unlettered, HeadLine-no_numbers, HeadLine-no_number}
 use Rattle.sip_log.proofs.line.read_head.Goals as goal
 
 pub returns-in_err-action : goal.returns-in_err-action

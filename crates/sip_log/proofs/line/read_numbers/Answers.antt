@@ -1,8 +1,8 @@
 use Rattle.std.proofs.Common.{◌+◌}
-use Rattle.sip_log.specs.Spelling.{space}
+use Rattle.sip_log.specs.inner.Spelling.{space}
 use Rattle.std.proofs.lemmas.List.{take_rest}
-use Rattle.sip_log.proofs.SplitLemmas.{first-cut, first-none, Lacks-cut}
-use Rattle.sip_log.proofs.LineLemmas.{Numbers-parts, Numbers-of}
+use Rattle.sip_log.proofs.lines.SplitLemmas.{first-cut, first-none, Lacks-cut}
+use Rattle.sip_log.proofs.lines.LineLemmas.{Numbers-parts, Numbers-of}
 use Rattle.sip_log.proofs.line.read_numbers.Goals as goal
 
 pub returns-in_err-blank : goal.returns-in_err-blank

@@ -1,8 +1,8 @@
 use Rattle.std.proofs.Common.{◌≡◌, ◌-◌, ◌≤◌, map}
-use Rattle.sip_log.specs.Log.{most_entries}
+use Rattle.sip_standard.specs.LogSays.{most_entries}
 use Rattle.sip_log.specs.Told.{item}
 use Rattle.sip_log.specs.Reading.{beside_source}
-use Rattle.sip_log.proofs.CallerLemmas.{Stands, GoesOn}
+use Rattle.sip_log.proofs.answers.CallerLemmas.{Stands, GoesOn}
 use Rattle.sip_log.proofs.whole.read_entries.Given as goal
 
 abbrev pub invariant-loop-entry : goal.invariant-loop-entry

@@ -1,4 +1,4 @@
-use Rattle.sip_log.proofs.PutsLemmas.{one-put}
+use Rattle.sip_log.proofs.spelling.PutsLemmas.{one-put}
 use Rattle.sip_log.proofs.writing.put_header.Goals as goal
 
 pub returns : goal.returns

@@ -1,4 +1,4 @@
-use Rattle.sip_log.proofs.PutsLemmas.{timers-put}
+use Rattle.sip_log.proofs.spelling.PutsLemmas.{timers-put}
 use Rattle.sip_log.proofs.writing.put_timers.Goals as goal
 
 pub returns : goal.returns

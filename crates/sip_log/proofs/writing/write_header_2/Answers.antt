@@ -1,4 +1,4 @@
-use Rattle.sip_log.proofs.PutsLemmas.{two-put}
+use Rattle.sip_log.proofs.spelling.PutsLemmas.{two-put}
 use Rattle.sip_log.proofs.writing.write_header_2.Goals as goal
 
 pub returns : goal.returns

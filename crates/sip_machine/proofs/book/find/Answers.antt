@@ -3,7 +3,7 @@ use Rattle.std.proofs.lemmas.Bool.{cases_lt}
 use Rattle.std.proofs.lemmas.Fn.{always_returns_same}
 use Rattle.std.proofs.lemmas.List.{length-map}
 use Rattle.sip_machine.specs.inner.Order.{texts_of, begins_by}
-use Rattle.sip_machine.proofs.RunLaws.{partitioned, found_in_run, gap_in_runs, run_rises}
+use Rattle.sip_machine.proofs.texts.RunLaws.{partitioned, found_in_run, gap_in_runs, run_rises}
 use Rattle.sip_machine.proofs.book.find.Goals as goal
 
 pub returns-in-Ok-clause-found : goal.returns-in-Ok-clause-found

@@ -2,7 +2,7 @@ use Rattle.std.proofs.Common.{◌≡◌, ◌∙◌, ap, ap₂, set}
 use Rattle.std.specs.List.{insert}
 use Rattle.sip_machine.specs.declared.book.Run.{Run}
 use Rattle.sip_machine.specs.inner.Order.{places_of}
-use Rattle.sip_machine.proofs.RunLaws.{places-kept, places-inserted, always_err}
+use Rattle.sip_machine.proofs.texts.RunLaws.{places-kept, places-inserted, always_err}
 use Rattle.sip_machine.proofs.book.insert.Goals as goal
 
 pub returns-in_err-insert-clause-err : goal.returns-in_err-insert-clause-err

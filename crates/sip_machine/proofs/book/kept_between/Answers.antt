@@ -2,7 +2,7 @@ use Rattle.std.proofs.Common.{◌∙◌, ap, sym, nat_le, nat_lt, rules}
 use Rattle.std.proofs.lemmas.Fn.{always_returns_same}
 use Rattle.std.proofs.lemmas.List.Sorted.{IsPartitionedBy-leb, IsPartitionedBy-ltb}
 use Rattle.sip_machine.specs.inner.Tos.{count_between}
-use Rattle.sip_machine.proofs.BesideLemmas.{AllPairs-of_map, map-map, rises_weakly, count_between-parted}
+use Rattle.sip_machine.proofs.texts.BesideLemmas.{AllPairs-of_map, map-map, rises_weakly, count_between-parted}
 use Rattle.sip_machine.proofs.book.kept_between.Goals as goal
 
 pub returns : goal.returns

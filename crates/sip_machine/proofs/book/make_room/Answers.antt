@@ -1,7 +1,7 @@
 use Rattle.std.proofs.Common.{◌≡◌, ◌∙◌, ap, length, get_or, take, drop, arith}
 use Rattle.std.proofs.lemmas.List.{get_or_default}
 use Rattle.sip_machine.specs.declared.book.Run.{Run}
-use Rattle.sip_machine.proofs.RunLaws.{places-halved, led_halved}
+use Rattle.sip_machine.proofs.texts.RunLaws.{places-halved, led_halved}
 use Rattle.sip_machine.proofs.book.make_room.Goals as goal
 
 pub returns-then-gap-clause-places : goal.returns-then-gap-clause-places

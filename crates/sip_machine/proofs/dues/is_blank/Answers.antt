@@ -1,6 +1,6 @@
 use Rattle.std.proofs.Common.{arith}
 use Rattle.sip_ledger.specs.Ledgers.{rows_of}
-use Rattle.sip_machine.proofs.DueLemmas.{blank-rows}
+use Rattle.sip_machine.proofs.debts.DueLemmas.{blank-rows}
 use Rattle.sip_machine.proofs.dues.is_blank.Goals as goal
 
 pub returns : goal.returns

@@ -2,7 +2,7 @@ use Rattle.std.specs.Prelude.{filter}
 use Rattle.std.proofs.Common.{◌∙◌}
 use Rattle.sip_ledger.specs.Debts.{counts_at, paid_by}
 use Rattle.sip_machine.specs.Owes.{owed_in}
-use Rattle.sip_machine.proofs.DueLemmas.{set-again}
+use Rattle.sip_machine.proofs.debts.DueLemmas.{set-again}
 use Rattle.sip_machine.proofs.effects.come_to_rest.Goals as goal
 use Rattle.sip_machine.proofs.effects.come_to_rest.Goals.{in-Pays, in_default}
 

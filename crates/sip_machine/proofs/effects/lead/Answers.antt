@@ -2,9 +2,9 @@ use Rattle.std.specs.Prelude.{◌≤◌, ◌++◌, ◌∷◌, [], filter, map, s
 use Rattle.std.proofs.Common.{◌∙◌, ap, arith}
 use Rattle.sip_ledger.specs.declared.debt.Debt.{Debt}
 use Rattle.sip_ledger.specs.Debts.{counts_at, softened_debt}
-use Rattle.sip_machine.specs.Limits.{close_at}
+use Rattle.sip_standard.specs.Window.{close_at}
 use Rattle.sip_machine.specs.Owes.{owed_in}
-use Rattle.sip_machine.proofs.DueLemmas.{set-again, counted-gain}
+use Rattle.sip_machine.proofs.debts.DueLemmas.{set-again, counted-gain}
 use Rattle.sip_machine.proofs.effects.lead.Goals as goal
 
 pub returns-in-Softens-clause-ok : goal.returns-in-Softens-clause-ok

@@ -2,9 +2,9 @@ use Rattle.std.specs.Prelude.{◌≤◌, ◌++◌, ◌∷◌, [], List, filter}
 use Rattle.std.proofs.Common.{◌∙◌, arith}
 use Rattle.sip_ledger.specs.declared.debt.Debt.{Debt}
 use Rattle.sip_ledger.specs.Debts.{counts_at}
-use Rattle.sip_machine.specs.Limits.{close_at}
-use Rattle.sip_machine.proofs.DueLemmas.{counted-gain}
-use Rattle.sip_machine.proofs.DuesEachLemmas.{mapped-twice}
+use Rattle.sip_standard.specs.Window.{close_at}
+use Rattle.sip_machine.proofs.debts.DueLemmas.{counted-gain}
+use Rattle.sip_machine.proofs.debts.DuesEachLemmas.{mapped-twice}
 use Rattle.sip_machine.proofs.effects.lead_each.Goals as goal
 
 pub returns-in_ok-gain_each-in-Gains-clause-ok : goal.returns-in_ok-gain_each-in-Gains-clause-ok

@@ -4,7 +4,7 @@ use Rattle.sip_ledger.specs.declared.debt.Debt.{Debt}
 use Rattle.sip_ledger.specs.Debts.{counts_at}
 use Rattle.sip_ledger.proofs.EachLemmas.{changing-none, changing-more, changing-all, changing-length, changing-front}
 use Rattle.sip_machine.specs.Owing.{changed_debts}
-use Rattle.sip_machine.proofs.RunLaws.{always_err}
+use Rattle.sip_machine.proofs.texts.RunLaws.{always_err}
 use Rattle.sip_machine.proofs.effects.lead_rows.Goals as goal
 
 pub loop-row-init : goal.loop-row-init

@@ -1,5 +1,5 @@
 use Rattle.std.specs.Prelude.{Contains}
-use Rattle.sip_machine.proofs.RuleLaws.{StandFor-grow}
+use Rattle.sip_machine.proofs.rules.RuleLaws.{StandFor-grow}
 use Rattle.sip_machine.proofs.laws.states_stay_when_the_book_grows.Goals as goal
 
 pub returns : goal.returns

@@ -6,7 +6,7 @@ use Rattle.sip_machine.specs.Figure.{TakeOf}
 use Rattle.sip_machine.specs.Owing.{at_rest, owing_seen, owing_names, OwingInRange}
 use Rattle.sip_machine.specs.inner.Both.{AnswersBoth}
 use Rattle.sip_machine.specs.inner.Effects.{given_by}
-use Rattle.sip_machine.proofs.PoolLemmas.{in-phases, in-rows, state-here}
+use Rattle.sip_machine.proofs.pools.PoolLemmas.{in-phases, in-rows, state-here}
 use Rattle.sip_machine.proofs.owing.effect_at.Goals as goal
 
 pub index-requires : goal.index-requires

@@ -1,6 +1,6 @@
 use Rattle.std.proofs.Common.{sym}
 use Rattle.std.proofs.lemmas.Result.{IfOk-weaker}
-use Rattle.sip_times.specs.declared.action.Action.TheVariants.{Sent, Received, Failed, Restart}
+use Rattle.sip_standard.specs.declared.action.Action.TheVariants.{Sent, Received, Failed, Restart}
 use Rattle.sip_machine.specs.Limits.{IsWithin}
 use Rattle.sip_machine.specs.Texts.{Keeps}
 use Rattle.sip_machine.specs.Owes.{owed_in, owes_names}
@@ -8,7 +8,7 @@ use Rattle.sip_machine.specs.MachineEvent.{event_in}
 use Rattle.sip_machine.specs.Figure.{until_of}
 use Rattle.sip_machine.specs.Owing.{state_in, owing_seen}
 use Rattle.sip_machine.specs.inner.DebtLaws.{All-front}
-use Rattle.sip_machine.proofs.OwingSteps.{taken}
+use Rattle.sip_machine.proofs.steps.OwingSteps.{taken}
 use Rattle.sip_machine.proofs.owing.effect_of.Goals as goal
 
 pub restarts-requires : goal.restarts-requires

@@ -3,7 +3,7 @@ use Rattle.std.proofs.Common.{sym, ap, ◌∙◌, true≢false}
 use Rattle.std.proofs.lemmas.List.Elements.{All-nil}
 use Rattle.sip_machine.specs.Texts.{Keeps}
 use Rattle.sip_machine.specs.Owing.{state_in}
-use Rattle.sip_machine.proofs.OwingSteps.{restarted-idle, restarted-ended}
+use Rattle.sip_machine.proofs.steps.OwingSteps.{restarted-idle, restarted-ended}
 use Rattle.sip_machine.proofs.owing.restarts.Goals as goal
 
 pub returns-then-eq : goal.returns-then-eq

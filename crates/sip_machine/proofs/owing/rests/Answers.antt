@@ -3,7 +3,7 @@ use Rattle.sip_machine.specs.Texts.{Keeps}
 use Rattle.sip_machine.specs.MachineEvent.{event_in}
 use Rattle.sip_machine.specs.Owes.{owed_in, owes_names}
 use Rattle.sip_machine.specs.inner.DebtLaws.{All-front, All-back}
-use Rattle.sip_machine.proofs.OwingSteps.{rested-stays, rested-pays}
+use Rattle.sip_machine.proofs.steps.OwingSteps.{rested-stays, rested-pays}
 use Rattle.sip_machine.specs.Owing.{state_in}
 use Rattle.sip_machine.proofs.owing.rests.Goals as goal
 

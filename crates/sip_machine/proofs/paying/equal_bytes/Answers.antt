@@ -1,5 +1,5 @@
 use Rattle.sip_machine.specs.Owes.{owed_in}
-use Rattle.sip_machine.proofs.RepliesLemmas.{FindsFirst-equal}
+use Rattle.sip_machine.proofs.steps.RepliesLemmas.{FindsFirst-equal}
 use Rattle.sip_machine.proofs.paying.equal_bytes.Goals as goal
 
 pub returns-clause-finds : goal.returns-clause-finds

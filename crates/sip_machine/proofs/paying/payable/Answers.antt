@@ -1,6 +1,6 @@
 use Rattle.std.proofs.Common.{sym, ◌∙◌}
 use Rattle.sip_machine.specs.Owes.{owed_in}
-use Rattle.sip_machine.proofs.DueLemmas.{pays-some, pays-none}
+use Rattle.sip_machine.proofs.debts.DueLemmas.{pays-some, pays-none}
 use Rattle.sip_machine.proofs.paying.payable.Goals as goal
 
 pub returns-then-can_pay-clause-finds : goal.returns-then-can_pay-clause-finds

@@ -2,7 +2,7 @@ use Rattle.std.specs.Prelude.{◌<◌, ◌≤◌, ◌-◌, get_or, length}
 use Rattle.std.proofs.Common.{inl, inr, ◌∙◌, ap, refl, arith, length-set}
 use Rattle.std.proofs.lemmas.List.{get_or_default, get_or-set_same, get_or-set_other, length-take-le, take-set-le}
 use Rattle.std.proofs.lemmas.Bool.{cases_lt}
-use Rattle.sip_machine.proofs.FirstLemmas.{picking-more, rising-above}
+use Rattle.sip_machine.proofs.pools.FirstLemmas.{picking-more, rising-above}
 use Rattle.sip_machine.proofs.pool.keep_phases.Goals as goal
 
 pub index_mut-requires : goal.index_mut-requires

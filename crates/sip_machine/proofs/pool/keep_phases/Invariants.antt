@@ -1,4 +1,4 @@
-use Rattle.sip_machine.proofs.FirstLemmas.{IsPicking}
+use Rattle.sip_machine.proofs.pools.FirstLemmas.{IsPicking}
 use Rattle.sip_machine.proofs.pool.keep_phases.Given as goal
 
 -- those so far stand in front

@@ -1,6 +1,6 @@
 use Rattle.std.specs.Prelude.{◌<◌, length}
 use Rattle.std.proofs.Common.{arith}
-use Rattle.sip_machine.proofs.FirstLemmas.{run-of}
+use Rattle.sip_machine.proofs.pools.FirstLemmas.{run-of}
 use Rattle.sip_machine.proofs.pool.run_of.Goals as goal
 
 pub returns-then-rows-first : goal.returns-then-rows-first

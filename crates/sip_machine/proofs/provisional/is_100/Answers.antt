@@ -1,7 +1,7 @@
 use Rattle.std.specs.Prelude.{drop, take}
 use Rattle.std.proofs.Common.{true≢false, sym, ap, ◌∙◌}
 use Rattle.sip_machine.specs.Texts.{text_of}
-use Rattle.sip_machine.proofs.ProvisionalLemmas.{Is100-read, Is100-fault, Is100-code}
+use Rattle.sip_machine.proofs.steps.ProvisionalLemmas.{Is100-read, Is100-fault, Is100-code}
 use Rattle.sip_machine.proofs.provisional.is_100.Goals as goal
 
 pub returns-then-not-has_code_100 : goal.returns-then-not-has_code_100

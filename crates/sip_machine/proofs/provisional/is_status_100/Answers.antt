@@ -1,6 +1,6 @@
 use Rattle.std.specs.Prelude.{refl}
 use Rattle.sip_message.specs.ValueParts.{start_parts}
-use Rattle.sip_machine.proofs.ProvisionalLemmas.{IsStatus100-code}
+use Rattle.sip_machine.proofs.steps.ProvisionalLemmas.{IsStatus100-code}
 use Rattle.sip_machine.proofs.provisional.is_status_100.Goals as goal
 
 pub returns-in-Status : goal.returns-in-Status

@@ -3,7 +3,7 @@ use Rattle.std.proofs.lemmas.List.Elements.{All-more}
 use Rattle.sip_machine.specs.declared.tos.To.{To}
 use Rattle.sip_machine.specs.inner.Order.{hash_of}
 use Rattle.sip_machine.specs.inner.Tos.{AreOwned, MayOwn}
-use Rattle.sip_machine.proofs.ToLemmas.{on_ok}
+use Rattle.sip_machine.proofs.acks.ToLemmas.{on_ok}
 use Rattle.sip_machine.proofs.tos.note_each.Goals as goal
 
 pub returns-then-is_err : goal.returns-then-is_err

@@ -1,7 +1,7 @@
 use Rattle.std.proofs.Common.{option_copied, sym, ap, ◌∙◌, subst}
 use Rattle.std.proofs.lemmas.Bool.{both_ways}
 use Rattle.std.proofs.lemmas.List.{take_rest}
-use Rattle.sip_text.specs.Text.{IsOnlyValue}
+use Rattle.sip_text.specs.Parts.{IsOnlyValue}
 use Rattle.sip_message.specs.inner.AddressFronts.{AddressCut, cut_parts}
 use Rattle.sip_message.proofs.lemmas.address.Reading.{cut-plain, cut-named, cut-no_display, cut-open}
 use Rattle.sip_message.proofs.address.cut_address.Goals as goal

@@ -1,5 +1,5 @@
 use Rattle.std.proofs.Common.{sym, subst}
-use Rattle.sip_text.specs.Text.{IsOnlyValue}
+use Rattle.sip_text.specs.Parts.{IsOnlyValue}
 use Rattle.sip_message.specs.inner.AddressFronts.{DisplayFront, display_parts}
 use Rattle.sip_message.proofs.lemmas.address.Reading.{display-none, display-some, display-no_name, display-no_angle}
 use Rattle.sip_message.proofs.address.cut_display.Goals as goal

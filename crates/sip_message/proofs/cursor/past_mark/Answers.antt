@@ -1,5 +1,5 @@
 use Rattle.std.proofs.Common.{sym, subst}
-use Rattle.sip_text.specs.Text.{IsOnlyValue}
+use Rattle.sip_text.specs.Parts.{IsOnlyValue}
 use Rattle.sip_message.specs.inner.Fronts.{MarkFront, text_parts}
 use Rattle.sip_message.proofs.lemmas.front.Cuts.{no-mark, one-mark}
 use Rattle.sip_message.proofs.cursor.past_mark.Goals as goal

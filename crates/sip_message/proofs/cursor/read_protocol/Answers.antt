@@ -1,7 +1,7 @@
 use Rattle.std.proofs.Common.{sym, subst}
 use Rattle.std.proofs.lemmas.List.{take_rest}
-use Rattle.sip_text.specs.Text.{IsOnlyValue, IsLongestFront}
-use Rattle.sip_text.specs.Grammar.{Blanks}
+use Rattle.sip_standard.specs.Profile.{Blanks}
+use Rattle.sip_text.specs.Parts.{IsOnlyValue, IsLongestFront}
 use Rattle.sip_message.specs.inner.Fronts.{ProtocolFront, protocol_parts, BlanksFront}
 use Rattle.sip_message.proofs.lemmas.front.Cuts.{ReadAs, stop, go-stop, go, last, no-blanks, longest-blanks_front}
 use Rattle.sip_message.proofs.cursor.read_protocol.Goals as goal

@@ -1,6 +1,6 @@
 use Rattle.std.proofs.Common.{refl, sym, ap, ◌∙◌, option_copied}
 use Rattle.sip_text.specs.Bytes.{space}
-use Rattle.sip_text.proofs.CutLemmas.{past-some}
+use Rattle.sip_text.proofs.cuts.CutLemmas.{past-some}
 use Rattle.sip_message.proofs.lemmas.front.Cuts.{stops-behind}
 use Rattle.sip_message.proofs.WordLemmas.{one-blank}
 use Rattle.sip_message.proofs.cursor.skip_blanks.Goals as goal

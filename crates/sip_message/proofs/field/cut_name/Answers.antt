@@ -1,8 +1,8 @@
 use Rattle.std.proofs.Common.{sym, ap, ◌∙◌, subst}
 use Rattle.sip_text.specs.Bytes.{colon}
-use Rattle.sip_text.specs.Cut.{past}
-use Rattle.sip_text.specs.Text.{IsOnlyValue}
-use Rattle.sip_message.specs.Faults.{HasName}
+use Rattle.sip_text.specs.Parts.{IsOnlyValue}
+use Rattle.sip_text.specs.inner.Cut.{past}
+use Rattle.sip_message.specs.inner.Faults.{HasName}
 use Rattle.sip_message.specs.inner.Names.{named_parts}
 use Rattle.sip_message.proofs.lemmas.front.Cuts.{ReadAs}
 use Rattle.sip_message.proofs.lemmas.field.Name.{named-no_token, named-no_colon, named-read}

@@ -1,8 +1,8 @@
 use Rattle.std.proofs.Common.{sym, subst}
 use Rattle.std.proofs.lemmas.Bool.{both_ways}
-use Rattle.sip_text.specs.Text.{IsOnlyValue}
+use Rattle.sip_text.specs.Parts.{IsOnlyValue}
 use Rattle.sip_message.specs.Field.{Row}
-use Rattle.sip_message.specs.Faults.{IsValue}
+use Rattle.sip_message.specs.inner.Faults.{IsValue}
 use Rattle.sip_message.specs.inner.Fronts.{text_parts}
 use Rattle.sip_message.specs.Views.{name_parts}
 use Rattle.sip_message.proofs.field.read_value.Goals as goal

@@ -6,14 +6,15 @@ use Rattle.std.specs.List.{prefix_len}
 use Rattle.std.proofs.Math.Seq.{drop-cons}
 use Rattle.std.proofs.lemmas.Bool.{both_ways, eqb-true, eq-eqb, or_parts, and_parts, and_from, ltb-true}
 use Rattle.std.proofs.lemmas.List.{append_assoc, length-drop, take-append-drop}
+use Rattle.sip_standard.specs.Text.{◌then◌, Many}
+use Rattle.sip_standard.specs.Profile.{Token, Sws, Blanks}
 use Rattle.sip_text.specs.Bytes.{colon, dquote, semicolon, is_token_byte, is_one_of}
-use Rattle.sip_text.specs.Text.{◌then◌, Many, led, IsLongestFront}
-use Rattle.sip_text.specs.Grammar.{Token, Sws, Blanks}
-use Rattle.sip_text.specs.Cut.{before, behind, past}
+use Rattle.sip_text.specs.Parts.{led, IsLongestFront}
 use Rattle.sip_text.specs.Uri.{UriText}
-use Rattle.sip_text.proofs.CutLemmas.{cut-whole, past-some, before-led, behind-led}
-use Rattle.sip_text.proofs.ManyLemmas.{some-many}
-use Rattle.sip_text.proofs.LacksLemmas.{Lacks}
+use Rattle.sip_text.specs.inner.Cut.{before, behind, past}
+use Rattle.sip_text.proofs.cuts.CutLemmas.{cut-whole, past-some, before-led, behind-led}
+use Rattle.sip_text.proofs.texts.ManyLemmas.{some-many}
+use Rattle.sip_text.proofs.texts.LacksLemmas.{Lacks}
 use Rattle.sip_message.specs.Unfold.{is_blank}
 use Rattle.sip_message.specs.Params.{left_angle, right_angle, Mark, ParamsPart, BehindBlanks}
 use Rattle.sip_message.specs.Address.{AddressParts, AddressText, name_addr, addr_spec, BeforeUri, DisplayName}
@@ -42,7 +43,7 @@ scheme-behind text n longest (scheme, rest, all, whole) =
     let same = same_front is_token_byte scheme (colon ∷ rest) (take n text) (drop n text) all (token-all text n longest) refl (longest-stops text n longest) (sym whole ∙ sym (take-append-drop n text)) in
     (rest, sym same.1)
 
--- a text begins with a scheme exactly if a colon stands behind its longest token
+-- a text begins with a scheme exactly if a colon stands after its longest token
 pub decides-scheme : (text : List ℕ) (n : ℕ) → IsLongestFront Token text n → n < length text → Decides (nat_eq (get_or text n 0) colon) (HasScheme text)
 decides-scheme text n longest within = (
   λ same.
@@ -54,7 +55,7 @@ decides-scheme text n longest within = (
       eq-eqb (get_or text n 0) colon byte,
 )
 
--- a token that reaches the end has no scheme behind it
+-- a token that reaches the end has no scheme after it
 pub scheme-short : (text : List ℕ) (n : ℕ) → IsLongestFront Token text n → length text ≤ n → Decides (nat_lt n (length text)) (HasScheme text)
 scheme-short text n longest short = (
   λ less. absurd (omega (arith, ltb-true n (length text) less, short)),
@@ -79,7 +80,7 @@ fails-more : (test : ℕ → Bool) (u v : List ℕ) → Fails test u → Fails t
 fails-more test [] v fails = absurd fails
 fails-more test (b ∷ u) v fails = fails
 
--- behind a word stand blanks or "<"
+-- after a word stand blanks or "<"
 after-word : (more rest inner : List ℕ) → Many (Blanks then Token) more → Behind rest (left_angle ∷ inner) → Fails is_scheme_front (more ++ rest)
 after-word more rest inner many (stops, (k, y, sws, y_is, r_is)) = elim (some-many (Blanks then Token) more many) [
   | inl none ↦ subst (Fails is_scheme_front) (sym (ap (λ t. t ++ rest) none ∙ r_is ∙ ap (λ t. k ++ t) y_is)) (at sws)
@@ -103,7 +104,7 @@ words_no_scheme w rest inner (t, more, token, many, w_is) behind (scheme, r, all
     (sym whole ∙ ap (λ x. x ++ rest) w_is ∙ append_assoc t more rest) in
     both_ways true (subst (Fails is_scheme_front) (sym same.1) fails) refl
 
--- behind a scheme there is no display name
+-- after a scheme there is no display name
 pub no-display : (text : List ℕ) → HasScheme text → NotRead (DisplayFront text)
 no-display text has (None, inner) is = no_scheme left_angle inner refl refl (subst HasScheme is has)
 no-display text has (Some name, inner) (rest, inl (q, whole), behind) =
@@ -147,7 +148,7 @@ one-display text (Some m, i) (Some n, j) (r, name, behind) (s, name_too, behind_
 pub display-none : (text inner : List ℕ) → past left_angle text ≡ Some inner → ReadAs (DisplayFront text) (None, inner)
 display-none text inner found = read-one (DisplayFront text) (None, inner) (one-display text) (past-some left_angle text inner found)
 
--- a name, and "<" behind it
+-- a name, and "<" after it
 pub display-some : (text name rest stop inner : List ℕ) → ReadAs (NameFront text) (name, rest) → IsOnlyBehind rest stop → past left_angle stop ≡ Some inner → ReadAs (DisplayFront text) (Some name, inner)
 display-some text name rest stop inner is behind found =
     read-one (DisplayFront text) (Some name, inner) (one-display text) (rest, is.0, subst (Behind rest) (past-some left_angle stop inner found) behind.0)
@@ -157,7 +158,7 @@ pub display-no_name : (text : List ℕ) → past left_angle text ≡ None → No
 display-no_name text missing none (None, inner) is = let found : past left_angle text ≡ Some inner = ap (past left_angle) is in cc
 display-no_name text missing none (Some name, inner) (rest, is, behind) = none (name, rest) is
 
--- without an angle behind the name there is no such front
+-- without an angle after the name there is no such front
 pub display-no_angle : (text name rest stop : List ℕ) → past left_angle text ≡ None → ReadAs (NameFront text) (name, rest) → IsOnlyBehind rest stop → past left_angle stop ≡ None → NotRead (DisplayFront text)
 display-no_angle text name rest stop missing is behind no_angle (None, inner) begins = let found : past left_angle text ≡ Some inner = ap (past left_angle) begins in cc
 display-no_angle text name rest stop missing is behind no_angle (Some m, inner) (r, name_is, angle) =
@@ -212,7 +213,7 @@ cut-open text inner d no_has is missing c (named i display uri rest) =
     cc
 cut-open text inner d no_has is missing c (plain has none all stops whole) = no_has has
 
--- the parameters stand behind the blanks
+-- the parameters stand after the blanks
 tail-behind : (text params : List ℕ) → TailText text params → Behind text params
 tail-behind text [] (is, part) = (refl, ([], [], inl refl, refl, is))
 tail-behind text (b ∷ params) (is, (ps, (opens, whole))) = (stops-byte b params opens, is)

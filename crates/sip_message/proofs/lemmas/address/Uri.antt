@@ -7,21 +7,26 @@ use Rattle.std.specs.Prelude.{codes}
 use Rattle.std.specs.Str.Parse.{digits_value}
 use Rattle.std.proofs.lemmas.Bool.{both_ways, eqb-true, or_left, or_right, or_cases, and_from, leb-true, le-leb, ltb-true, ltb-false}
 use Rattle.std.proofs.lemmas.List.{take_all}
-use Rattle.sip_text.specs.Bytes.{colon, semicolon, question, at_sign, ampersand, equals, is_token_byte, is_scheme_byte, is_one_of, is_user_unreserved, is_password_unreserved, is_hnv_unreserved, is_reserved}
-use Rattle.sip_text.specs.Text.{One, led}
-use Rattle.sip_text.specs.Case.{folded, SameText}
-use Rattle.sip_text.specs.Cut.{before, behind, before_last, behind_last}
+use Rattle.sip_standard.specs.Text.{One}
+use Rattle.sip_standard.specs.Case.{folded}
+use Rattle.sip_standard.specs.Profile.{Scheme, User, Password, Port, UriParameters, Headers}
+use Rattle.sip_text.specs.Bytes.{colon, semicolon, question, at_sign, ampersand, equals, is_token_byte, is_one_of}
+use Rattle.sip_text.specs.Parts.{led}
+use Rattle.sip_text.specs.Case.{SameText}
 use Rattle.sip_text.specs.Host.{HostParts, HostText, host_text}
-use Rattle.sip_text.specs.Uri.{Scheme, User, Password, Port, UriParameters, Header, Headers, SipParts, SipFits, userinfo_text, hostport_text, sip_text, scheme_name, UriParts, sip, other, UriText}
+use Rattle.sip_text.specs.Uri.{SipParts, SipFits, userinfo_text, hostport_text, sip_text, scheme_name, UriParts, sip, other, UriText}
+use Rattle.sip_text.specs.inner.Class.{is_scheme_byte, is_user_unreserved, is_password_unreserved, is_hnv_unreserved, is_reserved}
+use Rattle.sip_text.specs.inner.Cut.{before, behind, before_last, behind_last}
+use Rattle.sip_text.specs.inner.Pieces.{Header}
 use Rattle.sip_text.specs.inner.UriCut.{IsInfoCut, IsPortCut, CutParts, IsSipCut}
-use Rattle.sip_text.proofs.LabelLemmas.{alphanumeric-alphabetic}
-use Rattle.sip_text.proofs.LacksLemmas.{Lacks, AllLack, lacks-append, lack-one, lack-byte, lack-then, lack-many, lack-some, lack-between, lack-joined}
-use Rattle.sip_text.proofs.RunLemmas.{run-list_all}
-use Rattle.sip_text.proofs.UriCharLemmas.{lack-last, lack-first}
-use Rattle.sip_text.proofs.UriPartLemmas.{lack-param}
-use Rattle.sip_text.proofs.UriPortLemmas.{port-length, port-end, no-port, port-there}
-use Rattle.sip_text.proofs.UriHostLemmas.{IsForeign, lack-host}
-use Rattle.sip_text.proofs.UriSipLemmas.{cuts-agree, sip-cut, parts-only}
+use Rattle.sip_text.proofs.hosts.LabelLemmas.{alphanumeric-alphabetic}
+use Rattle.sip_text.proofs.texts.LacksLemmas.{Lacks, AllLack, lacks-append, lack-one, lack-byte, lack-then, lack-many, lack-some, lack-between, lack-joined}
+use Rattle.sip_text.proofs.texts.RunLemmas.{run-list_all}
+use Rattle.sip_text.proofs.uris.UriCharLemmas.{lack-char}
+use Rattle.sip_text.proofs.uris.UriPartLemmas.{lack-param}
+use Rattle.sip_text.proofs.uris.UriPortLemmas.{port-length, port-end, no-port, port-there}
+use Rattle.sip_text.proofs.uris.UriHostLemmas.{IsForeign, lack-host}
+use Rattle.sip_text.proofs.uris.UriSipLemmas.{cuts-agree, sip-cut, parts-only}
 use Rattle.sip_message.specs.Params.{right_angle}
 use Rattle.sip_message.specs.inner.AddressFronts.{HasScheme}
 use Rattle.sip_message.proofs.lemmas.text.Cuts.{All, same_front}
@@ -96,10 +101,10 @@ lacks-led sep P None apart lack fits = tt
 lacks-led sep P (Some u) apart lack fits = (apart, lack u fits)
 
 lack-user : AllLack right_angle User
-lack-user = lack-some right_angle _ (lack-last right_angle is_user_unreserved refl)
+lack-user = lack-some right_angle _ (lack-char right_angle is_user_unreserved refl)
 
 lack-password : AllLack right_angle Password
-lack-password = lack-many right_angle _ (lack-last right_angle is_password_unreserved refl)
+lack-password = lack-many right_angle _ (lack-char right_angle is_password_unreserved refl)
 
 lack-port_text : AllLack right_angle Port
 lack-port_text u fits = lack-between right_angle 1 5 (One is_ascii_digit) (lack-one right_angle is_ascii_digit refl) u fits.0
@@ -110,8 +115,8 @@ lack-parameters = lack-many right_angle _ (lack-then right_angle _ _ (lack-byte 
 lack-headers : AllLack right_angle Headers
 lack-headers =
     lack-joined right_angle ampersand Header refl
-    (lack-then right_angle _ _ (lack-some right_angle _ (lack-first right_angle is_hnv_unreserved refl))
-    (lack-then right_angle _ _ (lack-byte right_angle equals refl) (lack-many right_angle _ (lack-first right_angle is_hnv_unreserved refl))))
+    (lack-then right_angle _ _ (lack-some right_angle _ (lack-char right_angle is_hnv_unreserved refl))
+    (lack-then right_angle _ _ (lack-byte right_angle equals refl) (lack-many right_angle _ (lack-char right_angle is_hnv_unreserved refl))))
 
 userinfo-lacks : (user password : Option (List ℕ)) → IfSome user User → IfSome password Password → Lacks right_angle (userinfo_text user password)
 userinfo-lacks None password u p = tt
@@ -136,7 +141,7 @@ uri-lacks text u is = subst (Lacks right_angle) (sym has.3) (lacks-append right_
 
     rest : (v : UriParts) → (w : UriText text v) → Lacks right_angle ((uri-scheme text v w).1)
     rest (sip p) w = sip-lacks p w.2
-    rest (other scheme more) w = lack-some right_angle _ (lack-first right_angle is_reserved refl) more w.2
+    rest (other scheme more) w = lack-some right_angle _ (lack-char right_angle is_reserved refl) more w.2
 
 -- a text is a port, or not
 decide-port : (v : List ℕ) → Port v ⊎ (Port v → ⊥)

@@ -7,7 +7,7 @@ use Rattle.std.specs.Option.{option_map, option_or}
 use Rattle.std.specs.Str.Parse.{digits_value}
 use Rattle.std.proofs.lemmas.Bool.{false≢true}
 use Rattle.std.proofs.lemmas.List.{append-nil}
-use Rattle.sip_text.specs.Text.{IsOnlyValue}
+use Rattle.sip_text.specs.Parts.{IsOnlyValue}
 use Rattle.sip_message.specs.declared.asked.Asked.{Asked}
 use Rattle.sip_message.specs.declared.name.Known.{Known}
 use Rattle.sip_message.specs.declared.name.Known.TheVariants as known_name
@@ -15,7 +15,8 @@ use Rattle.sip_message.specs.declared.values.CSeq.{CSeq}
 use Rattle.sip_message.specs.declared.via.Via.{Via}
 use Rattle.sip_message.specs.Name.{known, is_name_of}
 use Rattle.sip_message.specs.Field.{Field, Row}
-use Rattle.sip_message.specs.Message.{found, found_from, IsFirstFound, content_length, length_in}
+use Rattle.sip_standard.specs.Body.{length_in}
+use Rattle.sip_message.specs.Message.{found, found_from, IsFirstFound, content_length}
 use Rattle.sip_message.specs.Reading.{CSeqValue}
 use Rattle.sip_message.specs.Values.{Digits}
 use Rattle.sip_message.specs.ViaParts.{element}

@@ -15,7 +15,7 @@ use Rattle.sip_message.proofs.lemmas.value.CSeq.{same-cseq}
 use Rattle.sip_message.proofs.lemmas.via.Steps.{one-via}
 use Rattle.sip_message.proofs.lemmas.address.Reading.{one-address}
 
--- behind a comma stands one text
+-- after a comma stands one text
 same-mark : (text r s : List ℕ) → MarkFront comma text r → MarkFront comma text s → r ≡ s
 same-mark text r s one other =
     let a = mark-parts comma text r refl one in

@@ -20,7 +20,7 @@ fields_text-suc [] i d below = absurd (omega (arith, below))
 fields_text-suc (x ∷ xs) zero d below = append-nil (one_text x)
 fields_text-suc (x ∷ xs) (suc i) d below = ap (λ t. one_text x ++ t) (fields_text-suc xs i d (omega (arith, below))) ∙ sym (append_assoc (one_text x) (fields_text (map field_parts (take i xs))) (one_text (slice_index_or xs i d)))
 
--- the field at i, behind those before it
+-- the field at i, after those before it
 pub fields_text-more : (xs : List Code) (i : ℕ) (d : Code) → i < length xs → fields_text (map field_parts (take (i + 1) xs)) ≡ fields_text (map field_parts (take i xs)) ++ one_text (slice_index_or xs i d)
 fields_text-more xs i d below = rw add-one (fields_text-suc xs i d below)
 

@@ -11,23 +11,26 @@ use Rattle.std.proofs.lemmas.Fmt.{decimal-digits_value}
 use Rattle.std.proofs.lemmas.Int.Digits.{digits_value-lt}
 use Rattle.std.specs.Str.{all_ascii_digits}
 use Rattle.std.proofs.Math.Seq.{take-length}
-use Rattle.sip_text.proofs.RunLemmas.{list_all-run}
+use Rattle.sip_text.proofs.texts.RunLemmas.{list_all-run}
 use Rattle.sip_message.proofs.lemmas.start_line.OneWay.{length-code, status_parts}
 use Rattle.std.proofs.lemmas.List.{append_assoc, append-nil, length-append, length-take-le, length-map}
+use Rattle.sip_standard.specs.Text.{One}
+use Rattle.sip_standard.specs.Case.{folded}
+use Rattle.sip_standard.specs.Profile.{Token}
 use Rattle.sip_text.specs.Bytes.{carriage_return, line_feed, space, colon, is_wsp, is_token_byte}
-use Rattle.sip_text.specs.Text.{One}
-use Rattle.sip_text.specs.Case.{folded}
-use Rattle.sip_text.specs.Grammar.{Token}
-use Rattle.sip_text.proofs.ManyLemmas.{many-nil}
+use Rattle.sip_text.proofs.texts.ManyLemmas.{many-nil}
 use Rattle.sip_message.specs.declared.name.Known.{Known}
 use Rattle.sip_message.specs.declared.name.Known.TheVariants as known_name
-use Rattle.sip_message.specs.Lines.{is_inner_byte, BeginsBlank, with_end}
+use Rattle.sip_standard.specs.Lines.{OpensBlank}
+use Rattle.sip_message.specs.Lines.{is_inner_byte, with_end}
 use Rattle.sip_message.specs.Unfold.{is_blank, OpensSolid, EndsSolid, unfolded}
 use Rattle.sip_message.specs.Name.{FieldName, known, other, spellings, name_by, name_of, long_name, name_text, is_name_of}
-use Rattle.sip_message.specs.StartLine.{StartLine, request, status, StartText, CodeText, is_reason_byte}
+use Rattle.sip_standard.specs.StartLine.{StartLine, request, status}
+use Rattle.sip_message.specs.StartLine.{StartText, CodeText, is_reason_byte}
 use Rattle.sip_message.specs.Values.{Digits}
 use Rattle.sip_message.specs.Field.{Field, Row, FieldText, FieldsText}
-use Rattle.sip_message.specs.Message.{Message, found_from, found, HasField, IsNotTwice, IsStream, MethodFits, is_stream, length_in, content_length, IsEnough, IsNoMore, cut_body, MessageFits, MessageText, unfolded_field, message_of, Spells}
+use Rattle.sip_standard.specs.Body.{length_in}
+use Rattle.sip_message.specs.Message.{Message, found_from, found, HasField, IsNotTwice, IsStream, MethodFits, is_stream, content_length, IsEnough, IsNoMore, cut_body, MessageFits, MessageText, unfolded_field, message_of, Spells}
 use Rattle.sip_message.specs.Canon.{start_text, field_text, canon}
 use Rattle.sip_message.proofs.lemmas.text.Cuts.{All, all_both}
 use Rattle.sip_message.proofs.lemmas.text.Each.{each-many, each-one, each-between, is_solid, solid_class, wsp-blank}
@@ -241,11 +244,11 @@ field-inner line f is =
       (λ none. absurd (omega (arith, ap length none, length-append (name_text f.name) (colon ∷ space ∷ unfolded f.value)))),
     )
 
-field-cut : (line : List ℕ) (f : Field) → FieldText line f → BeginsBlank (field_text (unfolded_field f)) → ⊥
+field-cut : (line : List ℕ) (f : Field) → FieldText line f → OpensBlank (field_text (unfolded_field f)) → ⊥
 field-cut line f is =
     at (name_text f.name) (name-text f.name is.named.spelled is.named.is_token is.named.name_is).0
   where
-    at : (name : List ℕ) → Token name → BeginsBlank (name ++ colon ∷ space ∷ unfolded f.value) → ⊥
+    at : (name : List ℕ) → Token name → OpensBlank (name ++ colon ∷ space ∷ unfolded f.value) → ⊥
     at [] token begins = absurd (some-run is_token_byte [] token refl)
     at (b ∷ name) token begins =
         both_ways (is_token_byte b) (blank-token b (wsp-blank b begins)) (each-token (b ∷ name) token).0
@@ -262,10 +265,10 @@ fields-inner [] fs is = subst (λ gs. AreInner (map field_text (map unfolded_fie
 fields-inner (line ∷ lines) fs (f, more, is, are, whole) =
     subst (λ gs. AreInner (map field_text (map unfolded_field gs))) (sym whole) (field-inner line f is, fields-inner lines more are)
 
-fields-cut : (lines : List (List ℕ)) (fs : List Field) → FieldsText lines fs → AllByRecursion (λ line. ¬ (BeginsBlank line)) (map field_text (map unfolded_field fs))
-fields-cut [] fs is = subst (λ gs. AllByRecursion (λ line. ¬ (BeginsBlank line)) (map field_text (map unfolded_field gs))) (sym is) tt
+fields-cut : (lines : List (List ℕ)) (fs : List Field) → FieldsText lines fs → AllByRecursion (λ line. ¬ (OpensBlank line)) (map field_text (map unfolded_field fs))
+fields-cut [] fs is = subst (λ gs. AllByRecursion (λ line. ¬ (OpensBlank line)) (map field_text (map unfolded_field gs))) (sym is) tt
 fields-cut (line ∷ lines) fs (f, more, is, are, whole) =
-    subst (λ gs. AllByRecursion (λ line. ¬ (BeginsBlank line)) (map field_text (map unfolded_field gs))) (sym whole) (field-cut line f is, fields-cut lines more are)
+    subst (λ gs. AllByRecursion (λ line. ¬ (OpensBlank line)) (map field_text (map unfolded_field gs))) (sym whole) (field-cut line f is, fields-cut lines more are)
 
 -- the fields of lines are of their rows
 pub fields-rows : (lines : List (List ℕ)) (fs : List Field) → FieldsText lines fs → AllByRecursion (λ f. Row f.name f.value) fs

@@ -4,8 +4,9 @@ use Rattle.std.specs.List.{AllByRecursion, flat_map, list_any}
 use Rattle.std.proofs.lemmas.Bool.{both_ways}
 use Rattle.std.proofs.lemmas.List.{append_assoc, append-nil, length-append}
 use Rattle.sip_text.specs.Bytes.{crlf, carriage_return, line_feed, space, is_wsp}
-use Rattle.sip_text.proofs.ManyLemmas.{many-nil, many-cons, many-append, many-one}
-use Rattle.sip_message.specs.Lines.{IsHead, is_inner_byte, HasNoBareEnd, IsFolded, with_end}
+use Rattle.sip_text.proofs.texts.ManyLemmas.{many-nil, many-cons, many-append, many-one}
+use Rattle.sip_standard.specs.Lines.{CutSays}
+use Rattle.sip_message.specs.Lines.{is_inner_byte, HasNoBareEnd, IsFolded, with_end}
 use Rattle.sip_message.specs.Unfold.{is_end_byte, is_blank, unfolded_run, unfolded_from, unfolded}
 use Rattle.sip_message.proofs.lemmas.text.Cuts.{Cuts, first_longer, same_length, second_longer, two_cuts, All, all_right, all_both}
 
@@ -96,7 +97,7 @@ unfolded-twice text = unfolded-same (unfolded text) (unfolded-inner text)
 abbrev pub AreInner : List (List ℕ) → Type 0
 AreInner = AllByRecursion (λ line. Inner line × (line ≡ [] → ⊥))
 
--- no empty line comes before the one behind the lines
+-- no empty line comes before the one after the lines
 no_empty : (lines : List (List ℕ)) (u v body : List ℕ) → AreInner lines → flat_map with_end lines ++ (crlf ++ body) ≡ u ++ (crlf ++ (crlf ++ v)) → length (flat_map with_end lines) ≤ length u + 2
 no_empty [] u v body inner is = omega arith
 no_empty (l ∷ ls) u v body inner is = at (λ z z_is. no_empty ls z v body inner.1 z_is) (two_cuts l (crlf ++ (flat_map with_end ls ++ (crlf ++ body))) u (crlf ++ (crlf ++ v)) whole)
@@ -131,7 +132,7 @@ no_empty (l ∷ ls) u v body inner is = at (λ z z_is. no_empty ls z v body inne
         omega (arith, size, later z (cc), ap length longer, length-append l (c ∷ d ∷ z))
 
 -- lines and an empty line are a head
-pub lines-head : (l : List ℕ) (ls : List (List ℕ)) (body : List ℕ) → AreInner (l ∷ ls) → IsHead (flat_map with_end (l ∷ ls) ++ (crlf ++ body)) (flat_map with_end (l ∷ ls)) body
+pub lines-head : (l : List ℕ) (ls : List (List ℕ)) (body : List ℕ) → AreInner (l ∷ ls) → CutSays (flat_map with_end (l ∷ ls) ++ (crlf ++ body)) (flat_map with_end (l ∷ ls), body)
 lines-head l ls body inner =
     let cut = last_end l ls in
     record {

@@ -44,7 +44,7 @@ unfold-blank old text out from at below blank u = record {
         ap (unfolded_from run) (drop_more text at 0 below)
         ∙ ap (λ b. cond b (unfolded_from (run ++ get_or text at 0 ∷ []) (drop (at + 1) text)) (unfolded_run run ++ get_or text at 0 ∷ unfolded_from [] (drop (at + 1) text))) blank
 
--- another byte is written behind the run
+-- another byte is written after the run
 pub unfold-solid : (old text out mid new : List ℕ) (from at : ℕ) → at < length text → is_blank (get_or text at 0) ≡ false → Unfolding old text from at out → mid ≡ out ++ unfolded_run (take (at - from) (drop from text)) → new ≡ mid ++ get_or text at 0 ∷ [] → Unfolding old text (at + 1) (at + 1) new
 unfold-solid old text out mid new from at below solid u mid_is new_is = record {
   done = u.done ++ (unfolded_run run ++ get_or text at 0 ∷ []);
@@ -74,7 +74,7 @@ pub unfold-part : {A E : Type 0} (old text out new goal : List ℕ) (from at : �
 unfold-part old text out new goal from at (Ok a) err u is = absurd (both_ways false refl err)
 unfold-part old text out new goal from at (Err e) err u is = (u.done ++ is.0, is.1 ∙ ap (λ x. x ++ is.0) u.appended ∙ append_assoc old u.done is.0)
 
--- one behind the other
+-- one after the other
 pub part-more : (out mid new front : List ℕ) → mid ≡ out ++ front → (part : List ℕ) × (new ≡ mid ++ part) → (part : List ℕ) × (new ≡ out ++ part)
 part-more out mid new front mid_is is = (front ++ is.0, is.1 ∙ ap (λ x. x ++ is.0) mid_is ∙ append_assoc out front is.0)
 

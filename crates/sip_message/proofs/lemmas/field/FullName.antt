@@ -4,7 +4,7 @@ use Rattle.std.specs.Prelude.{bytes_eq}
 use Rattle.std.specs.List.{AllByRecursion}
 use Rattle.std.proofs.lemmas.Slice.Eq.{bytes_eq-Decides}
 use Rattle.std.proofs.lemmas.Bool.{both_ways, eq-eqb}
-use Rattle.sip_text.specs.Case.{folded}
+use Rattle.sip_standard.specs.Case.{folded}
 use Rattle.sip_message.specs.declared.name.Known.{Known}
 use Rattle.sip_message.specs.Name.{known, other, spellings, name_by, name_of}
 use Rattle.sip_message.proofs.lemmas.start_line.OneWay.{length-folded}

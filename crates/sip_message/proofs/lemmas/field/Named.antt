@@ -4,13 +4,14 @@ use Rattle.std.specs.Prelude.{Result, Ok, Err, IsErr, IsErrAnd, Some, None}
 use Rattle.std.proofs.lemmas.Bool.{both_ways}
 use Rattle.sip_message.specs.declared.name.Known.{Known}
 use Rattle.sip_message.specs.declared.field.Field.{Field as Code}
-use Rattle.sip_message.specs.declared.fault.Fault.{Fault}
+use Rattle.sip_standard.specs.declared.fault.Fault.{Fault}
 use Rattle.sip_message.specs.Name.{is_name_of}
 use Rattle.sip_message.specs.Field.{Field}
 use Rattle.sip_message.specs.Message.{found, found_from, IsFirstFound}
-use Rattle.sip_message.specs.declared.fault.Reason.TheVariants as reason
-use Rattle.sip_message.specs.Outcome.{Outcome, gives, stops, passes, stopped}
-use Rattle.sip_message.specs.Faults.{Present, Once, fault_in_line, second_line}
+use Rattle.sip_standard.specs.declared.fault.Reason.TheVariants as reason
+use Rattle.sip_standard.specs.Outcome.{Outcome, gives, stops, passes, stopped}
+use Rattle.sip_standard.specs.Faults.{fault_in_line, second_line}
+use Rattle.sip_standard.specs.Field.{FirstOf, OneOf}
 use Rattle.sip_message.specs.inner.Finds.{IsFound}
 use Rattle.sip_message.specs.Views.{name_parts, field_parts}
 use Rattle.sip_message.specs.inner.Settles.{outcome_of}
@@ -43,12 +44,12 @@ found-past known [] n (suc i) past = refl
 found-past known (x ∷ xs) n zero past = absurd (past (omega arith))
 found-past known (x ∷ xs) n (suc i) past = found-past known xs n i (λ below. past (omega (arith, below)))
 
--- behind the last field none is found
+-- after the last field none is found
 pub found-end : (known : Known) (xs : List Code) (i : ℕ) → (i < length xs → ⊥) → found_from (i + 1) known (drop i (map field_parts xs)) ≡ []
 found-end known xs i past = found-past known xs (i + 1) i past
 
 -- the one field of a name is its first
-pub once-first : (name : Known) (fields : List Field) (one : ℕ × List ℕ) → Once name fields (gives one) → IsFirstFound name fields one
+pub once-first : (name : Known) (fields : List Field) (one : ℕ × List ℕ) → OneOf (found name fields) (gives one) → IsFirstFound name fields one
 once-first name fields one is = (given-then is).2
 
 -- a fault of a step
@@ -57,7 +58,7 @@ stops-there parts S (Ok a) fault err same is = absurd (both_ways false refl err)
 stops-there parts S (Err e) fault err same is = subst (λ f. S (stops f)) (sym same) is
 
 -- no field of a name, two, and one
-pub once-absent : (name : Known) (fields : List Field) (fault : Fault) → Present name fields (stops fault) → Once name fields (stops fault)
+pub once-absent : (name : Known) (fields : List Field) (fault : Fault) → FirstOf (found name fields) (stops fault) → OneOf (found name fields) (stops fault)
 once-absent name fields fault none = passes tt (few (found name fields) none.0) none
   where
     few : (fs : List (ℕ × List ℕ)) → ((x : ℕ × List ℕ) → (more : List (ℕ × List ℕ)) × (fs ≡ x ∷ more) → ⊥) → length fs ≤ 1
@@ -65,13 +66,13 @@ once-absent name fields fault none = passes tt (few (found name fields) none.0) 
     few (f ∷ fs) none_is = absurd (none_is f (fs, refl))
 
 -- a field that is found twice is one too many
-pub once-twice : (name : Known) (fields : List Field) (one two : ℕ × List ℕ) → IsFound name 0 fields (Some one) → IsFound name (one.0) fields (Some two) → Once name fields (stops (fault_in_line (two.0) reason.Repeated))
+pub once-twice : (name : Known) (fields : List Field) (one two : ℕ × List ℕ) → IsFound name 0 fields (Some one) → IsFound name (one.0) fields (Some two) → OneOf (found name fields) (stops (fault_in_line (two.0) reason.Repeated))
 once-twice name fields one two first second =
     let both = first ∙ ap (λ fs. one ∷ fs) second in
     stopped (fault_in_line (two.0) reason.Repeated) ((λ _ few. absurd (omega (arith, ap length both, few))), ap (λ fs. fault_in_line (second_line fs) reason.Repeated) (sym both)) refl
 
 -- one that is found and no further is there once
-pub once-one : (name : Known) (fields : List Field) (one : ℕ × List ℕ) → IsFound name 0 fields (Some one) → IsFound name (one.0) fields None → Once name fields (gives one)
+pub once-one : (name : Known) (fields : List Field) (one : ℕ × List ℕ) → IsFound name 0 fields (Some one) → IsFound name (one.0) fields None → OneOf (found name fields) (gives one)
 once-one name fields one first none =
     let both = first ∙ ap (λ fs. one ∷ fs) none in
     passes tt (omega (arith, ap length both)) ([], both)

@@ -1,9 +1,9 @@
 -- A line is a field in one way.
 use Rattle.std.proofs.Common.{◌≡◌, ℕ, true, false, List, [], ◌∷◌, ◌++◌, refl, sym, ap, ◌∙◌, subst}
 use Rattle.std.proofs.lemmas.Bool.{both_ways}
+use Rattle.sip_standard.specs.Text.{One, Many}
+use Rattle.sip_standard.specs.Profile.{Token}
 use Rattle.sip_text.specs.Bytes.{colon, is_wsp, is_token_byte}
-use Rattle.sip_text.specs.Text.{One, Many}
-use Rattle.sip_text.specs.Grammar.{Token}
 use Rattle.sip_message.specs.Name.{FieldName, name_of}
 use Rattle.sip_message.specs.Field.{NameText, ValueText}
 use Rattle.sip_message.specs.Unfold.{is_blank, OpensSolid, EndsSolid}
@@ -22,7 +22,7 @@ blank-token = blank_is (λ b. is_token_byte b ≡ false) refl refl refl refl
 pub each-wsp : Each is_wsp (Many (One is_wsp))
 each-wsp = each-many is_wsp _ (each-one is_wsp is_wsp (λ b is. is))
 
--- a field line, its parts one behind the other
+-- a field line, its parts one after the other
 pub name_whole : (line rest : List ℕ) (name : FieldName) (n : NameText line name rest) → line ≡ n.spelled ++ (n.whole.3.0 ++ colon ∷ rest)
 name_whole line rest name n =
     let w = n.whole in

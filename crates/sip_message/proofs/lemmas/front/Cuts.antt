@@ -4,14 +4,15 @@ use Rattle.std.proofs.lemmas.Bool.{both_ways, eq-eqb}
 use Rattle.std.proofs.lemmas.Option.{none-some}
 use Rattle.std.proofs.lemmas.List.{append_assoc, length-append}
 use Rattle.std.proofs.Math.Seq.{take-append_seam}
-use Rattle.sip_text.proofs.CutLemmas.{past-some}
+use Rattle.sip_text.proofs.cuts.CutLemmas.{past-some}
+use Rattle.sip_standard.specs.Text.{One, Many}
+use Rattle.sip_standard.specs.Profile.{Token, Sws, Blanks}
 use Rattle.sip_text.specs.Bytes.{carriage_return, line_feed, is_wsp, is_token_byte}
-use Rattle.sip_text.specs.Text.{One, Many, HasFront, IsLongestFront}
-use Rattle.sip_text.specs.Grammar.{Token, Sws, Blanks}
-use Rattle.sip_text.specs.Blanks.{Blank, blank_len}
-use Rattle.sip_text.specs.Cut.{past}
-use Rattle.sip_text.proofs.ManyLemmas.{front-rest, many-nil, many-push, same_many}
-use Rattle.sip_text.proofs.BlanksLemmas.{units-blanks, blanks-units, blank-step, blanks-longest}
+use Rattle.sip_text.specs.Parts.{HasFront, IsLongestFront}
+use Rattle.sip_text.specs.inner.Cut.{past}
+use Rattle.sip_text.specs.inner.Blanks.{Blank, blank_len}
+use Rattle.sip_text.proofs.texts.ManyLemmas.{front-rest, many-nil, many-push, same_many}
+use Rattle.sip_text.proofs.strings.BlanksLemmas.{units-blanks, blanks-units, blank-step, blanks-longest}
 use Rattle.sip_message.specs.Unfold.{is_blank}
 use Rattle.sip_message.specs.inner.Fronts.{Stops, StopsBlank, Behind, IsOnlyBehind, TokenFront, MarkFront, BlanksFront, Seq, both}
 use Rattle.sip_message.proofs.lemmas.text.Cuts.{same_front}
@@ -72,7 +73,7 @@ same-token text t r u s one other =
     same_front is_token_byte t r u s (each-token t one.0) (each-token u other.0) one.1 other.1
     (sym (one.2.4 ∙ ap (λ x. x ++ one.2.1) one.2.2 ∙ ap (λ x. t ++ x) one.2.3) ∙ (other.2.4 ∙ ap (λ x. x ++ other.2.1) other.2.2 ∙ ap (λ x. u ++ x) other.2.3))
 
--- what is behind the blanks
+-- what is after the blanks
 pub same-behind : (text r s : List ℕ) → Behind text r → Behind text s → r ≡ s
 same-behind text r s (r_stops, (u, v, u_is, v_is, whole)) (s_stops, (x, y, x_is, y_is, whole_too)) =
     (same_many Blank blank_len u r x s blank-step (many u u_is) (many x x_is)
@@ -82,7 +83,7 @@ same-behind text r s (r_stops, (u, v, u_is, v_is, whole)) (s_stops, (x, y, x_is,
     many t (inl none) = subst (Many Blank) (sym none) (many-nil Blank)
     many t (inr blanks) = units-blanks t blanks
 
--- what is behind the longest run of blanks is behind them in one way
+-- what is after the longest run of blanks is after them in one way
 pub longest-behind : (text : List ℕ) (n : ℕ) → IsLongestFront Blanks text n → IsOnlyBehind text (drop n text)
 longest-behind text n longest =
     let blanks = blanks-longest text n longest in
@@ -97,7 +98,7 @@ stops-behind text stops =
     let behind : Behind text text = (stops, ([], text, inl refl, refl, refl)) in
     (behind, (λ other is. same-behind text other text is behind))
 
--- behind a byte that is no blank stands no blank run
+-- after a byte that is no blank stands no blank run
 pub stops-byte : (b : ℕ) (text : List ℕ) → is_blank b ≡ false → StopsBlank (b ∷ text)
 stops-byte b text solid = at (is_wsp b) (nat_eq b carriage_return) solid
   where
@@ -132,7 +133,7 @@ parts-mark mark text inner rest (front_stops, (s, t, sws, t_is, whole)) (stops, 
 past-cons : (mark : ℕ) (rest : List ℕ) → past mark (mark ∷ rest) ≡ Some rest
 past-cons mark rest = ap (λ same. cond same (Some rest) None) (eq-eqb mark mark refl)
 
--- without the byte behind the blanks there is no mark
+-- without the byte after the blanks there is no mark
 pub no-mark : (mark : ℕ) (text rest : List ℕ) → is_blank mark ≡ false → IsOnlyBehind text rest → past mark rest ≡ None → (r : List ℕ) → MarkFront mark text r → ⊥
 no-mark mark text rest solid behind missing r front =
     let parts = mark-parts mark text r solid front in

@@ -1,4 +1,4 @@
--- A part behind its mark, and what follows a part.
+-- A part after its mark, and what follows a part.
 use Rattle.std.proofs.Common.{◌≡◌, ℕ, ◌<◌, ◌≤◌, ◌⊎◌, Bool, true, false, List, [], ◌∷◌, ◌++◌, Some, None, length, refl, sym, ap, ◌∙◌, subst, inl, inr, arith}
 use Rattle.std.proofs.lemmas.Bool.{both_ways}
 use Rattle.std.proofs.lemmas.List.{append_assoc, length-append}
@@ -17,7 +17,7 @@ use Rattle.sip_message.proofs.lemmas.front.OneWay.{AtMostOne, read-one, one-led}
 pub led-none : (mark : ℕ) (Part : List ℕ → List ℕ × List ℕ → Type 0) (text : List ℕ) → is_blank mark ≡ false → ((t : List ℕ) → AtMostOne (Part t)) → NotRead (MarkFront mark text) → ReadAs (LedFront mark Part text) (None, text)
 led-none mark Part text solid one none = read-one (LedFront mark Part text) (None, text) (one-led mark Part text solid one) (none, refl)
 
--- with it there is the part behind it
+-- with it there is the part after it
 pub led-some : (mark : ℕ) (Part : List ℕ → List ℕ × List ℕ → Type 0) (text inner part rest : List ℕ) → is_blank mark ≡ false → ((t : List ℕ) → AtMostOne (Part t)) → ReadAs (MarkFront mark text) inner → Part inner (part, rest) → ReadAs (LedFront mark Part text) (Some part, rest)
 led-some mark Part text inner part rest solid one found is =
     read-one (LedFront mark Part text) (Some part, rest) (one-led mark Part text solid one) (inner, found.0, is)
@@ -28,7 +28,7 @@ no-led mark Part text inner found none (None, rest) (no_mark, is) = no_mark inne
 no-led mark Part text inner found none (Some part, rest) (t, mark_too, is) =
     none (part, rest) (subst (λ x. Part x (part, rest)) (found.1 t mark_too) is)
 
--- the text ends, or behind blanks there stands a byte of these
+-- the text ends, or after blanks there stands a byte of these
 abbrev pub Next : (ℕ → Bool) → List ℕ → Type 0
 Next these text = (text ≡ []) ⊎ ((b : ℕ) × (inner : List ℕ) × (these b ≡ true) × Behind text (b ∷ inner))
 
@@ -51,7 +51,7 @@ next-other these mark text solid fails (inr (b, inner, pass, behind)) rest is =
     let bytes : mark ≡ b = cc in
     both_ways (these mark) fails (ap these bytes ∙ pass)
 
--- a mark's byte stands behind blanks
+-- a mark's byte stands after blanks
 pub mark-behind : (mark : ℕ) (m z : List ℕ) → is_blank mark ≡ false → Mark mark m → (inner : List ℕ) × Behind (m ++ z) (mark ∷ inner)
 mark-behind mark m z solid (s, t, sws, (byte, after, byte_is, after_is, t_is), m_is) =
     (after ++ z, (stops-byte mark (after ++ z) solid, (s, mark ∷ (after ++ z), sws, refl, whole)))
@@ -70,7 +70,7 @@ ends-next these text pass (inr (next, mark)) =
     let parts = mark-parts comma text next refl mark in
     inr (comma, parts.0, pass, parts.1)
 
--- what is behind a mark is shorter
+-- what is after a mark is shorter
 pub mark-shorter : (mark : ℕ) (text rest : List ℕ) → is_blank mark ≡ false → MarkFront mark text rest → length rest < length text
 mark-shorter mark text rest solid is =
     let parts = mark-parts mark text rest solid is in

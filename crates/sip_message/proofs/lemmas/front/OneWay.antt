@@ -5,24 +5,25 @@ use Rattle.std.specs.Prelude.{codes}
 use Rattle.std.specs.Char.{is_ascii_alphabetic, is_ascii_alphanumeric, is_ascii_digit, is_ascii_hexdigit}
 use Rattle.std.proofs.lemmas.Bool.{both_ways, eqb-true, or_left, or_right, or_cases, and_parts, and_from, leb-true, le-leb}
 use Rattle.std.proofs.lemmas.List.{append_assoc}
-use Rattle.sip_text.specs.Bytes.{colon, dot, hyphen, dquote, left_bracket, right_bracket, is_token_byte, is_label_byte, is_one_of}
-use Rattle.sip_text.specs.Text.{One, Byte, Exactly, ◌or◌, Many}
-use Rattle.sip_text.specs.Cut.{behind}
-use Rattle.sip_text.specs.Grammar.{Token, Qdtext, QuotedPair}
-use Rattle.sip_text.specs.Blanks.{Blank}
+use Rattle.sip_standard.specs.Text.{One, Exactly, ◌or◌, Many}
+use Rattle.sip_standard.specs.Profile.{Token, Hostname, Ipv4, Hexseq, Ipv6, Quoted}
+use Rattle.sip_text.specs.Bytes.{colon, dot, hyphen, dquote, left_bracket, right_bracket, is_token_byte, is_one_of, Byte}
+use Rattle.sip_text.specs.Host.{HostText}
+use Rattle.sip_text.specs.inner.Class.{is_label_byte}
+use Rattle.sip_text.specs.inner.Cut.{behind}
+use Rattle.sip_text.specs.inner.Blanks.{Blank}
+use Rattle.sip_text.specs.inner.Pieces.{Qdtext, QuotedPair, DecimalGroup, Hex4, Hexpart}
 use Rattle.sip_text.specs.inner.Quoted.{QuotedItem, item_len}
-use Rattle.sip_text.specs.Host.{Hostname, DecimalGroup, Ipv4Address, Hex4, Hexseq, Hexpart, Ipv6Address, HostText}
 use Rattle.sip_text.specs.inner.HostTests.{is_v4, is_v6, is_v6_reference, is_hostname}
-use Rattle.sip_text.proofs.LacksLemmas.{Lacks}
-use Rattle.sip_text.proofs.LabelLemmas.{other_byte, alphanumeric-alphabetic}
-use Rattle.sip_text.proofs.CutLemmas.{behind-led}
-use Rattle.sip_text.proofs.ManyLemmas.{many-one, many-map, many-flat, same_many}
-use Rattle.sip_text.proofs.BlanksLemmas.{blanks-lws}
-use Rattle.sip_text.proofs.QuotedLemmas.{item-step}
-use Rattle.sip_text.proofs.V6Lemmas.{v6-is}
-use Rattle.sip_text.proofs.HostLemmas.{only-v6, only-v4, only-name, no-host}
+use Rattle.sip_text.proofs.texts.LacksLemmas.{Lacks}
+use Rattle.sip_text.proofs.hosts.LabelLemmas.{other_byte, alphanumeric-alphabetic}
+use Rattle.sip_text.proofs.cuts.CutLemmas.{behind-led}
+use Rattle.sip_text.proofs.texts.ManyLemmas.{many-one, many-map, many-flat, same_many}
+use Rattle.sip_text.proofs.strings.BlanksLemmas.{blanks-lws}
+use Rattle.sip_text.proofs.strings.QuotedLemmas.{item-step}
+use Rattle.sip_text.proofs.hosts.V6Lemmas.{v6-is}
+use Rattle.sip_text.proofs.hosts.HostLemmas.{only-v6, only-v4, only-name, no-host}
 use Rattle.sip_message.specs.Unfold.{is_blank}
-use Rattle.sip_message.specs.Params.{Quoted}
 use Rattle.sip_message.specs.inner.Fronts.{Behind, TokenFront, MarkFront, BlanksFront, Seq, both}
 use Rattle.sip_message.specs.inner.ParamFronts.{is_bare_byte, BareFront, QuotedFront, BracketFront, ReferenceFront, ValueFront, LedFront}
 use Rattle.sip_message.proofs.lemmas.text.Cuts.{All, same_front, same_by_end}
@@ -145,7 +146,7 @@ each-hostname =
     labels = each-many T _ (each-one T is_label_byte token-label)
 
 -- so has an IPv4 address
-pub each-v4 : Each T Ipv4Address
+pub each-v4 : Each T Ipv4
 each-v4 =
     each-then T _ _ group (each-then T _ _ (token-byte dot refl) (each-then T _ _ group (each-then T _ _ (token-byte dot refl)
     (each-then T _ _ group (each-then T _ _ (token-byte dot refl) group)))))
@@ -159,12 +160,12 @@ bare-all [] all = tt
 bare-all (b ∷ u) all = (bare-token b all.0, bare-all u all.1)
 
 -- and so are those of an IPv6 address
-pub each-v6 : Each B Ipv6Address
+pub each-v6 : Each B Ipv6
 each-v6 =
     each-or B _ _ (each-then B _ _ hexpart (each-optional B _ (each-then B _ _ (bare-byte colon refl) v4_bare)))
     (each-then B _ _ (each-or B _ _ (each-then B _ _ hexseq double) double) v4_bare)
   where
-    v4_bare : Each B Ipv4Address
+    v4_bare : Each B Ipv4
     v4_bare u is = bare-all u (each-v4 u is)
 
     hex : Each B Hex4
@@ -180,11 +181,11 @@ each-v6 =
     hexpart = each-or B _ _ hexseq (each-or B _ _ (each-then B _ _ hexseq (each-then B _ _ double (each-optional B _ hexseq))) (each-then B _ _ double (each-optional B _ hexseq)))
 
 -- a token or an IPv6 address has bare bytes alone
-pub each-bare : Each B (Token or Ipv6Address)
+pub each-bare : Each B (Token or Ipv6)
 each-bare = each-or B _ _ (λ u is. bare-all u (each-token u is)) each-v6
 
 -- a bare value is not empty
-pub some-bare : (u : List ℕ) → (Token or Ipv6Address) u → u ≡ [] → ⊥
+pub some-bare : (u : List ℕ) → (Token or Ipv6) u → u ≡ [] → ⊥
 some-bare u (inl token) none = some-run is_token_byte u token none
 some-bare u (inr address) none = both_ways (is_v6 u) (ap is_v6 none) (v6-is u address)
 
@@ -213,7 +214,7 @@ items-contents text many = many-flat (Qdtext or QuotedPair) QuotedItem text each
     each u (inl (inr byte)) = many-one QuotedItem u (inl byte)
     each u (inr pair) = many-one QuotedItem u (inr (inl pair))
 
--- a quoted string, its parts one behind the other
+-- a quoted string, its parts one after the other
 pub quoted-whole : (value rest : List ℕ) → (q : Quoted value) → value ++ rest ≡ dquote ∷ (q.3.0 ++ dquote ∷ rest)
 quoted-whole value rest q =
     ap (λ x. x ++ rest) (q.4 ∙ ap (λ x. x ++ q.1) q.2 ∙ ap (λ x. dquote ∷ x) (q.3.4 ∙ ap (λ x. q.3.0 ++ x) q.3.3))

@@ -1,8 +1,8 @@
 -- The longest front of bytes that pass a test, and what it leaves.
 use Rattle.std.proofs.Common.{◌≡◌, ℕ, suc, ◌+◌, Bool, true, false, cond, List, [], ◌∷◌, take, drop, refl, sym, subst, inl, inr, arith}
 use Rattle.std.specs.List.{prefix_len}
-use Rattle.sip_text.specs.Text.{One, Many, OneOrMore}
-use Rattle.sip_text.proofs.ManyLemmas.{many-nil, many-cons, some-many}
+use Rattle.sip_standard.specs.Text.{One, Many, OneOrMore}
+use Rattle.sip_text.proofs.texts.ManyLemmas.{many-nil, many-cons, some-many}
 use Rattle.sip_message.proofs.lemmas.text.Cuts.{All, Stops}
 
 -- the front passes, and what it leaves begins with no byte that does

@@ -5,13 +5,13 @@ use Rattle.std.proofs.lemmas.Bool.{both_ways, cases_lt, and_parts, not-true, eqb
 use Rattle.std.proofs.lemmas.List.{length-append, length-drop, get_or-drop, get_or-append-add, get_or_append_left, take-append-drop, length-take-le}
 use Rattle.std.proofs.Math.Seq.{drop-append-add, take-append-add, take-length}
 use Rattle.memchr.specs.Find.{OccursAt, Nowhere, NoneBefore, Passes, is_byte2}
+use Rattle.sip_standard.specs.Text.{One, Exactly, ◌or◌}
 use Rattle.sip_text.specs.Bytes.{crlf, carriage_return, line_feed}
-use Rattle.sip_text.specs.Text.{One, Exactly, ◌or◌}
-use Rattle.sip_text.proofs.ManyLemmas.{many-nil, many-cons}
-use Rattle.sip_message.specs.Lines.{IsHead, is_inner_byte, HasNoBareEnd, IsLines, with_end}
+use Rattle.sip_text.proofs.texts.ManyLemmas.{many-nil, many-cons}
+use Rattle.sip_standard.specs.Lines.{CutSays, LinesSay}
+use Rattle.sip_message.specs.Lines.{is_inner_byte, HasNoBareEnd, with_end}
 use Rattle.sip_message.specs.inner.Lines.{AreLines, IsPaired, ArePaired, BeginsWithFeed}
 use Rattle.sip_message.specs.inner.Fronts.{LineFront}
-use Rattle.sip_message.specs.Faults.{IsCut}
 use Rattle.sip_message.proofs.lemmas.text.Cuts.{All}
 use Rattle.sip_message.proofs.lemmas.front.Cuts.{ReadAs, NotRead}
 use Rattle.sip_message.proofs.lemmas.lines.OneWay.{same_head, no_blank}
@@ -70,7 +70,7 @@ rest-inner t rest from k within is at = record {
   reads = λ j below. ap (λ i. get_or t i 0) (omega arith) ∙ sym (get_or-drop from t (k + j) 0) ∙ sym (ap (λ r. get_or r (k + j) 0) is) ∙ at.reads j below;
 }
 
--- such a place lies in what is behind
+-- such a place lies in what is after
 double-rest : (t rest : List ℕ) (from j : ℕ) → from ≤ length t → rest ≡ drop from t → NoneSoFar t from → OccursAt t double_end j → (from ≤ j + 1) × OccursAt rest inner_end (j + 1 - from)
 double-rest t rest from j within is none at =
     elim (cases_lt (j + 1) from) [
@@ -80,19 +80,19 @@ double-rest t rest from j within is none at =
           (omega (arith, high), inner-rest t rest from (j + 1 - from) within is (subst (OccursAt t inner_end) back (double-inner t j at)))
     ]
 
--- without a LF, CR and LF behind there is none
+-- without a LF, CR and LF after there is none
 pub nowhere-double : (t rest : List ℕ) (from : ℕ) → from ≤ length t → rest ≡ drop from t → NoneSoFar t from → Nowhere (OccursAt rest inner_end) 0 (length rest + 1) → Nowhere (OccursAt t double_end) 0 (length t + 1)
 nowhere-double t rest from within is none nowhere k low high at =
     let there = double-rest t rest from k within is none at in
     nowhere (k + 1 - from) (omega arith) (omega (arith, there.1.fits)) there.1
 
--- the first of these stands behind no such place
+-- the first of these stands after no such place
 pub none-before : (t rest : List ℕ) (from k : ℕ) → from ≤ length t → rest ≡ drop from t → NoneSoFar t from → NoneBefore (OccursAt rest inner_end) 0 (length rest + 1) k → NoneSoFar t (from + k)
 none-before t rest from k within is none first j below at =
     let there = double-rest t rest from j within is none at in
     first.before (j + 1 - from) (omega arith) (omega (arith, below, there.0)) there.1
 
--- behind a CR it is one
+-- after a CR it is one
 pub first-double : (t rest : List ℕ) (from k : ℕ) → from ≤ length t → rest ≡ drop from t → NoneSoFar t from → NoneBefore (OccursAt rest inner_end) 0 (length rest + 1) k → OccursAt rest inner_end k → 0 < from + k → get_or t (from + k - 1) 0 ≡ carriage_return → NoneBefore (OccursAt t double_end) 0 (length t + 1) (from + k - 1) × OccursAt t double_end (from + k - 1)
 first-double t rest from k within is none first at some cr = (
   record {
@@ -110,7 +110,7 @@ first-double t rest from k within is none first at some cr = (
     reads zero below = ap (λ i. get_or t i 0) (omega arith) ∙ cr
     reads (suc j) below = ap (λ i. get_or t i 0) (omega (arith, some)) ∙ there.reads j (omega (arith, below))
 
--- behind another byte it is none
+-- after another byte it is none
 pub none-more : (t : List ℕ) (at : ℕ) → NoneSoFar t at → ((0 < at) × (get_or t (at - 1) 0 ≡ carriage_return) → ⊥) → NoneSoFar t (at + 1)
 none-more t at none other j below double =
     elim (cases_lt (j + 1) at) [
@@ -119,11 +119,11 @@ none-more t at none other j below double =
     ]
 
 -- without it there is no head
-pub no-head : (t : List ℕ) → Nowhere (OccursAt t double_end) 0 (length t + 1) → NotRead (IsCut t)
+pub no-head : (t : List ℕ) → Nowhere (OccursAt t double_end) 0 (length t + 1) → NotRead (CutSays t)
 no-head t none (head, body) is = none (length is.front) (omega arith) (omega (arith, (cut-occurs t is.front body is.whole).fits)) (cut-occurs t is.front body is.whole)
 
 -- at the first place of it the head is cut
-pub one-head : (t : List ℕ) (k : ℕ) → NoneBefore (OccursAt t double_end) 0 (length t + 1) k → OccursAt t double_end k → ReadAs (IsCut t) (take (k + 2) t, drop (k + 4) t)
+pub one-head : (t : List ℕ) (k : ℕ) → NoneBefore (OccursAt t double_end) 0 (length t + 1) k → OccursAt t double_end k → ReadAs (CutSays t) (take (k + 2) t, drop (k + 4) t)
 one-head t k first at = (is, (λ x other. let same = same_head t x.0 x.1 (take (k + 2) t) (drop (k + 4) t) other is in ap (λ h. (h, x.1)) same.0 ∙ ap (λ b. (take (k + 2) t, b)) same.1))
   where
     rest : List ℕ
@@ -148,7 +148,7 @@ one-head t k first at = (is, (λ x other. let same = same_head t x.0 x.1 (take (
         at_least true below = absurd (first.before (length u) (omega arith) (omega (arith, ltb-true (length u) k below)) (cut-occurs t u v is))
         at_least false above = omega (arith, len, ltb-false (length u) k above)
 
-    is : IsHead t (take (k + 2) t) (drop (k + 4) t)
+    is : CutSays t (take (k + 2) t, drop (k + 4) t)
     is = record { front = take k t; head_is = head_is; whole = cut ∙ ap (λ r. take k t ++ (crlf ++ (crlf ++ r))) (sym rest_is); first = least }
 
 -- each byte before a place passes
@@ -188,12 +188,12 @@ clean-first b t (u ∷ us, (inr (c, inner, is), all), whole) =
     let tail : t ≡ concat us = cc in
     inl (ap is_inner_byte (sym head) ∙ inner, (us, all, tail))
 
--- behind each byte stands a LF exactly if it is a CR, where a stands before the text
+-- after each byte stands a LF exactly if it is a CR, where a stands before the text
 abbrev Paired : ℕ → List ℕ → Type 0
 Paired a [] = nat_eq a carriage_return ≡ false
 Paired a (b ∷ t) = (nat_eq a carriage_return ≡ nat_eq b line_feed) × Paired b t
 
--- one place on, behind one byte more
+-- one place on, after one byte more
 pair-on : (a : ℕ) (t : List ℕ) (k : ℕ) → IsPaired t k → IsPaired (a ∷ t) (suc k)
 pair-on a t k paired =
     let next : suc (k + 1) ≡ suc k + 1 = omega arith in
@@ -224,7 +224,7 @@ inner-parts b inner =
 parts-inner : (b : ℕ) → nat_eq b carriage_return ≡ false → nat_eq b line_feed ≡ false → is_inner_byte b ≡ true
 parts-inner b no_end no_feed = ap₂ (λ x y. not x && not y) no_end no_feed
 
--- a text without a bare end is so, behind a byte that is no CR
+-- a text without a bare end is so, after a byte that is no CR
 clean-paired : (a : ℕ) (t : List ℕ) → nat_eq a carriage_return ≡ false → HasNoBareEnd t → Paired a t
 clean-paired a [] no_end clean = no_end
 clean-paired a (b ∷ []) no_end clean = at (clean-first b [] clean)
@@ -293,15 +293,15 @@ each-clean (b ∷ t) each opens =
     at false is = sym is
 
 -- the first line of lines, and the text of the others
-lines-front : (head first : List ℕ) (others : List (List ℕ)) → IsLines head first others → LineFront head (first, flat_map with_end others)
+lines-front : (head first : List ℕ) (others : List (List ℕ)) → LinesSay head first others → LineFront head (first, flat_map with_end others)
 lines-front head first others are = (are.folded.0, no_blank others are.cut, are.whole)
 
 -- the first line that is cut is the first of the head
-pub first-cut : (head line rest : List ℕ) → ReadAs (LineFront head) (line, rest) → (first : List ℕ) (others : List (List ℕ)) → IsLines head first others → (first ≡ line) × AreLines rest others
+pub first-cut : (head line rest : List ℕ) → ReadAs (LineFront head) (line, rest) → (first : List ℕ) (others : List (List ℕ)) → LinesSay head first others → (first ≡ line) × AreLines rest others
 first-cut head line rest read first others are =
     let same = read.1 (first, flat_map with_end others) (lines-front head first others are) in
     (ap (λ x. x.0) same, record { whole = sym (ap (λ x. x.1) same); folded = are.folded.1; cut = are.cut })
 
 -- where none can be cut, the head has no lines
-pub first-none : (head : List ℕ) → NotRead (LineFront head) → (first : List ℕ) (others : List (List ℕ)) → IsLines head first others → ⊥
+pub first-none : (head : List ℕ) → NotRead (LineFront head) → (first : List ℕ) (others : List (List ℕ)) → LinesSay head first others → ⊥
 first-none head none first others are = none (first, flat_map with_end others) (lines-front head first others are)

@@ -4,11 +4,12 @@ use Rattle.std.specs.List.{AllByRecursion, flat_map}
 use Rattle.std.proofs.lemmas.Bool.{both_ways, eqb-true, eq-eqb}
 use Rattle.std.proofs.lemmas.List.{append_assoc, length-append}
 use Rattle.sip_text.specs.Bytes.{crlf, carriage_return, line_feed, is_wsp}
-use Rattle.sip_message.specs.Lines.{IsHead, BeginsBlank, IsFolded, with_end, IsLines}
+use Rattle.sip_standard.specs.Lines.{CutSays, OpensBlank, LinesSay}
+use Rattle.sip_message.specs.Lines.{IsFolded, with_end}
 use Rattle.sip_message.proofs.lemmas.text.Cuts.{Cuts, first_longer, same_length, second_longer, two_cuts, same_by_front}
 
 -- bytes have at most one head
-pub same_head : (bytes h b i c : List ℕ) → IsHead bytes h b → IsHead bytes i c → (h ≡ i) × (b ≡ c)
+pub same_head : (bytes h b i c : List ℕ) → CutSays bytes (h, b) → CutSays bytes (i, c) → (h ≡ i) × (b ≡ c)
 same_head bytes h b i c one other =
     let fronts = same_by_front one.front _ other.front _
     (omega (arith, one.first other.front c other.whole, other.first one.front b one.whole)) (sym one.whole ∙ other.whole) in
@@ -16,18 +17,18 @@ same_head bytes h b i c one other =
     (one.head_is ∙ ap (λ t. t ++ crlf) fronts.0 ∙ sym other.head_is, cc)
 
 -- lines that begin with no blank make a text that begins with none
-pub no_blank : (lines : List (List ℕ)) → AllByRecursion (λ line. ¬ (BeginsBlank line)) lines → BeginsBlank (flat_map with_end lines) → ⊥
+pub no_blank : (lines : List (List ℕ)) → AllByRecursion (λ line. ¬ (OpensBlank line)) lines → OpensBlank (flat_map with_end lines) → ⊥
 no_blank [] none begins = begins
 no_blank ([] ∷ lines) none begins = both_ways (is_wsp carriage_return) refl begins
 no_blank ((b ∷ line) ∷ lines) none begins = none.0 begins
 
 -- what begins with a blank does so whatever follows
-pub begins-append : (u v : List ℕ) → BeginsBlank u → BeginsBlank (u ++ v)
+pub begins-append : (u v : List ℕ) → OpensBlank u → OpensBlank (u ++ v)
 begins-append [] v begins = absurd begins
 begins-append (b ∷ u) v begins = begins
 
 -- no line is longer than the other, where both begin one text
-no_longer : (z line other rest more : List ℕ) (b : ℕ) → IsFolded line → (BeginsBlank more → ⊥) → line ≡ other ++ b ∷ z → crlf ++ more ≡ b ∷ z ++ (crlf ++ rest) → ⊥
+no_longer : (z line other rest more : List ℕ) (b : ℕ) → IsFolded line → (OpensBlank more → ⊥) → line ≡ other ++ b ∷ z → crlf ++ more ≡ b ∷ z ++ (crlf ++ rest) → ⊥
 no_longer [] line other rest more b folded none longer is =
     let tails : line_feed ∷ more ≡ carriage_return ∷ (line_feed ∷ rest) = cc in
     let heads : line_feed ≡ carriage_return = cc in
@@ -37,11 +38,11 @@ no_longer (c ∷ z) line other rest more b folded none longer is =
     let tails : line_feed ∷ more ≡ c ∷ (z ++ (crlf ++ rest)) = cc in
     let c_is : line_feed ≡ c = cc in
     let more_is : more ≡ z ++ (crlf ++ rest) = cc in
-    none (subst BeginsBlank (sym more_is) (begins-append z (crlf ++ rest) (folded other z
+    none (subst OpensBlank (sym more_is) (begins-append z (crlf ++ rest) (folded other z
     (longer ∙ ap (λ x. other ++ x ∷ c ∷ z) (sym b_is) ∙ ap (λ x. other ++ carriage_return ∷ x ∷ z) (sym c_is)))))
 
 -- the first line ends where the other first line ends
-pub same_first : (l m rest more : List ℕ) → IsFolded l → IsFolded m → (BeginsBlank rest → ⊥) → (BeginsBlank more → ⊥) → with_end l ++ rest ≡ with_end m ++ more → (l ≡ m) × (rest ≡ more)
+pub same_first : (l m rest more : List ℕ) → IsFolded l → IsFolded m → (OpensBlank rest → ⊥) → (OpensBlank more → ⊥) → with_end l ++ rest ≡ with_end m ++ more → (l ≡ m) × (rest ≡ more)
 same_first l m rest more l_folded m_folded l_cut m_cut same = at (two_cuts l (crlf ++ rest) m (crlf ++ more) whole)
   where
     whole : l ++ (crlf ++ rest) ≡ m ++ (crlf ++ more)
@@ -60,7 +61,7 @@ end_some l rest is = absurd (omega (arith, ap length is, length-append (with_end
 
 -- no text of the lines begins with a blank
 abbrev pub AreCut : List (List ℕ) → Type 0
-AreCut = AllByRecursion (λ line. ¬ (BeginsBlank line))
+AreCut = AllByRecursion (λ line. ¬ (OpensBlank line))
 
 -- lines that begin with no blank are those of their text
 pub same_later : (ls ms : List (List ℕ)) → AllByRecursion IsFolded ls → AllByRecursion IsFolded ms → AreCut ls → AreCut ms → flat_map with_end ls ≡ flat_map with_end ms → ls ≡ ms
@@ -72,7 +73,7 @@ same_later (l ∷ ls) (m ∷ ms) lf mf lc mc same =
     ap (λ t. t ∷ ls) first.0 ∙ ap (λ ts. m ∷ ts) (same_later ls ms lf.1 mf.1 lc.1 mc.1 first.1)
 
 -- a head has its lines in one way
-pub same_lines : (head l m : List ℕ) (ls ms : List (List ℕ)) → IsLines head l ls → IsLines head m ms → (l ≡ m) × (ls ≡ ms)
+pub same_lines : (head l m : List ℕ) (ls ms : List (List ℕ)) → LinesSay head l ls → LinesSay head m ms → (l ≡ m) × (ls ≡ ms)
 same_lines head l m ls ms one other =
     let first = same_first l m _ _ one.folded.0 other.folded.0 (no_blank ls one.cut) (no_blank ms other.cut) (sym one.whole ∙ other.whole) in
     (first.0, same_later ls ms one.folded.1 other.folded.1 one.cut other.cut first.1)
@@ -82,20 +83,20 @@ folded-tail : (b : ℕ) (l : List ℕ) → IsFolded (b ∷ l) → IsFolded l
 folded-tail b l folded u v is = folded (b ∷ u) v (ap (λ t. b ∷ t) is)
 
 -- a byte before a line, where no line ends
-folded-cons : (b : ℕ) (l : List ℕ) → IsFolded l → ((v : List ℕ) → b ∷ l ≡ carriage_return ∷ line_feed ∷ v → BeginsBlank v) → IsFolded (b ∷ l)
+folded-cons : (b : ℕ) (l : List ℕ) → IsFolded l → ((v : List ℕ) → b ∷ l ≡ carriage_return ∷ line_feed ∷ v → OpensBlank v) → IsFolded (b ∷ l)
 folded-cons b l folded first [] v is = first v is
 folded-cons b l folded first (a ∷ u) v is = let tails : l ≡ u ++ (crlf ++ v) = cc in folded u v tails
 
 -- a byte more at the front of a text of lines
-lines-cons : (b : ℕ) (text l : List ℕ) (ls : List (List ℕ)) → IsLines text l ls → (m : List ℕ) × (ms : List (List ℕ)) × IsLines (b ∷ text) m ms
+lines-cons : (b : ℕ) (text l : List ℕ) (ls : List (List ℕ)) → LinesSay text l ls → (m : List ℕ) × (ms : List (List ℕ)) × LinesSay (b ∷ text) m ms
 lines-cons b text [] ls is =
     (b ∷ [], ls, record { whole = ap (λ t. b ∷ t) is.whole; folded = (folded-cons b [] is.folded.0 (λ v e. absurd (omega (arith, ap length e))), is.folded.1); cut = is.cut })
 lines-cons b text (a ∷ l) ls is = at l refl (nat_eq b carriage_return) (nat_eq a line_feed) refl refl
   where
-    longer : ((v : List ℕ) → b ∷ a ∷ l ≡ carriage_return ∷ line_feed ∷ v → BeginsBlank v) → (m : List ℕ) × (ms : List (List ℕ)) × IsLines (b ∷ text) m ms
+    longer : ((v : List ℕ) → b ∷ a ∷ l ≡ carriage_return ∷ line_feed ∷ v → OpensBlank v) → (m : List ℕ) × (ms : List (List ℕ)) × LinesSay (b ∷ text) m ms
     longer first = (b ∷ a ∷ l, ls, record { whole = ap (λ t. b ∷ t) is.whole; folded = (folded-cons b (a ∷ l) is.folded.0 first, is.folded.1); cut = is.cut })
 
-    ends : b ≡ carriage_return → a ≡ line_feed → (BeginsBlank l → ⊥) → (m : List ℕ) × (ms : List (List ℕ)) × IsLines (b ∷ text) m ms
+    ends : b ≡ carriage_return → a ≡ line_feed → (OpensBlank l → ⊥) → (m : List ℕ) × (ms : List (List ℕ)) × LinesSay (b ∷ text) m ms
     ends b_is a_is none = (
       [],
       l ∷ ls,
@@ -106,22 +107,22 @@ lines-cons b text (a ∷ l) ls is = at l refl (nat_eq b carriage_return) (nat_eq
       },
     )
 
-    at : (t : List ℕ) → t ≡ l → (x y : Bool) → nat_eq b carriage_return ≡ x → nat_eq a line_feed ≡ y → (m : List ℕ) × (ms : List (List ℕ)) × IsLines (b ∷ text) m ms
+    at : (t : List ℕ) → t ≡ l → (x y : Bool) → nat_eq b carriage_return ≡ x → nat_eq a line_feed ≡ y → (m : List ℕ) × (ms : List (List ℕ)) × LinesSay (b ∷ text) m ms
     at t same false y x_is y_is = longer (λ v e. let head : b ≡ carriage_return = cc in absurd (both_ways (nat_eq b carriage_return) x_is (eq-eqb b carriage_return head)))
     at t same true false x_is y_is = longer (λ v e. let head : a ≡ line_feed = cc in absurd (both_ways (nat_eq a line_feed) y_is (eq-eqb a line_feed head)))
-    at [] same true true x_is y_is = ends (eqb-true b carriage_return x_is) (eqb-true a line_feed y_is) (λ begins. subst BeginsBlank (sym same) begins)
+    at [] same true true x_is y_is = ends (eqb-true b carriage_return x_is) (eqb-true a line_feed y_is) (λ begins. subst OpensBlank (sym same) begins)
     at (c ∷ t) same true true x_is y_is = blank (is_wsp c) refl
       where
-        blank : (z : Bool) → is_wsp c ≡ z → (m : List ℕ) × (ms : List (List ℕ)) × IsLines (b ∷ text) m ms
-        blank true z_is = longer (λ v e. let rest : l ≡ v = cc in subst BeginsBlank (same ∙ rest) z_is)
-        blank false z_is = ends (eqb-true b carriage_return x_is) (eqb-true a line_feed y_is) (λ begins. both_ways (is_wsp c) z_is (subst BeginsBlank (sym same) begins))
+        blank : (z : Bool) → is_wsp c ≡ z → (m : List ℕ) × (ms : List (List ℕ)) × LinesSay (b ∷ text) m ms
+        blank true z_is = longer (λ v e. let rest : l ≡ v = cc in subst OpensBlank (same ∙ rest) z_is)
+        blank false z_is = ends (eqb-true b carriage_return x_is) (eqb-true a line_feed y_is) (λ begins. both_ways (is_wsp c) z_is (subst OpensBlank (sym same) begins))
 
 -- each head has lines
-pub front-lines : (front : List ℕ) → (l : List ℕ) × (ls : List (List ℕ)) × IsLines (front ++ crlf) l ls
+pub front-lines : (front : List ℕ) → (l : List ℕ) × (ls : List (List ℕ)) × LinesSay (front ++ crlf) l ls
 front-lines [] = ([], [], record { whole = refl; folded = ((λ u v e. absurd (omega (arith, ap length e, length-append u (crlf ++ v)))), tt); cut = tt })
 front-lines (b ∷ front) = let more = front-lines front in lines-cons b (front ++ crlf) more.0 more.1 more.2
 
 -- a head has lines
-pub head-lines : (bytes head body : List ℕ) → IsHead bytes head body → (l : List ℕ) × (ls : List (List ℕ)) × IsLines head l ls
+pub head-lines : (bytes head body : List ℕ) → CutSays bytes (head, body) → (l : List ℕ) × (ls : List (List ℕ)) × LinesSay head l ls
 head-lines bytes head body is =
-    let lines = front-lines is.front in (lines.0, lines.1, subst (λ h. IsLines h lines.0 lines.1) (sym is.head_is) lines.2)
+    let lines = front-lines is.front in (lines.0, lines.1, subst (λ h. LinesSay h lines.0 lines.1) (sym is.head_is) lines.2)

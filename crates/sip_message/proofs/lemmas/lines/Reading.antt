@@ -3,18 +3,18 @@ use Rattle.std.proofs.Common.{◌≡◌, ℕ, ◌+◌, false, List, [], ◌∷�
 use Rattle.std.specs.List.{flat_map}
 use Rattle.std.proofs.lemmas.Bool.{both_ways}
 use Rattle.std.proofs.lemmas.List.{append_assoc, append-nil, length-append}
-use Rattle.sip_message.specs.declared.fault.Fault.{Fault}
+use Rattle.sip_standard.specs.declared.fault.Fault.{Fault}
 use Rattle.std.specs.Prelude.{Result, Ok, Err}
 use Rattle.std.specs.Result.{IsErr, IsErrAnd}
 use Rattle.sip_message.specs.declared.fault.ReadError.{ReadError}
 use Rattle.sip_message.specs.declared.fault.ReadError.TheVariants as error
 use Rattle.sip_message.specs.inner.Settles.{Settles}
-use Rattle.sip_message.specs.Outcome.{Outcome, gives, stops, passes, stopped}
+use Rattle.sip_standard.specs.Outcome.{Outcome, gives, stops, passes, stopped}
 use Rattle.sip_message.specs.Lines.{with_end}
 use Rattle.sip_message.specs.inner.Lines.{AreLines}
 use Rattle.sip_message.specs.inner.Fronts.{LineFront}
 use Rattle.sip_message.specs.Field.{Field, FieldText, FieldsText}
-use Rattle.sip_message.specs.Faults.{FieldOf, FieldsOf}
+use Rattle.sip_message.specs.inner.Faults.{FieldOf, FieldsOf}
 use Rattle.sip_message.proofs.lemmas.lines.OneWay.{no_blank}
 use Rattle.sip_message.proofs.lemmas.front.Cuts.{ReadAs, NotRead}
 use Rattle.sip_message.proofs.lemmas.message.Faults.{read-fields, fields-read}
@@ -82,7 +82,7 @@ so_far-more lines rest line more fields f n so read is =
             first_of [] = f
             first_of (h ∷ hs) = h
 
--- a fault behind fields
+-- a fault after fields
 stops-behind : (n : ℕ) (done left : List (List ℕ)) (fields : List Field) (line : List ℕ) (k : ℕ) (fault : Fault) → FieldsText done fields → k ≡ n + length done → FieldOf k line (stops fault) → FieldsOf n (done ++ line ∷ left) (stops fault)
 stops-behind n [] left fields line k fault are number is =
     stopped fault (subst (λ m. FieldOf m line (stops fault)) (omega (arith, number)) is) refl

@@ -3,14 +3,15 @@ use Rattle.std.proofs.Common.{◌≡◌, ℕ, ◌+◌, ◌-◌, ◌≤◌, ◌�
 use Rattle.std.proofs.lemmas.Bool.{both_ways, and_parts, and_from}
 use Rattle.std.proofs.lemmas.Option.{none-some}
 use Rattle.std.proofs.Math.Seq.{take-append_seam, drop-append_seam}
-use Rattle.sip_text.specs.Text.{led}
-use Rattle.sip_text.specs.Cut.{before, behind, up_to}
-use Rattle.sip_text.proofs.CutLemmas.{cut-whole, lacks-before}
-use Rattle.sip_text.proofs.EndLemmas.{up_to-some, up_to-mark}
-use Rattle.std.proofs.lemmas.List.{append_assoc, append-nil, length-append, append_cancel_left, take-append-drop, length-take-le}
 use Rattle.sip_text.specs.Bytes.{crlf, carriage_return, line_feed, is_wsp}
-use Rattle.sip_text.proofs.LacksLemmas.{Lacks}
-use Rattle.sip_message.specs.Lines.{BeginsBlank, IsFolded}
+use Rattle.sip_text.specs.Parts.{led}
+use Rattle.sip_text.specs.inner.Cut.{before, behind, up_to}
+use Rattle.sip_text.proofs.cuts.CutLemmas.{cut-whole, lacks-before}
+use Rattle.sip_text.proofs.cuts.EndLemmas.{up_to-some, up_to-mark}
+use Rattle.std.proofs.lemmas.List.{append_assoc, append-nil, length-append, append_cancel_left, take-append-drop, length-take-le}
+use Rattle.sip_text.proofs.texts.LacksLemmas.{Lacks}
+use Rattle.sip_standard.specs.Lines.{OpensBlank}
+use Rattle.sip_message.specs.Lines.{IsFolded}
 use Rattle.sip_message.specs.inner.Fronts.{LineFront, ends_cr, begins_wsp, is_line}
 use Rattle.sip_message.proofs.lemmas.text.Cuts.{Cuts, first_longer, same_length, second_longer, two_cuts, same_by_end}
 use Rattle.sip_message.proofs.lemmas.lines.OneWay.{same_first}
@@ -19,13 +20,13 @@ use Rattle.sip_message.proofs.lemmas.front.Cuts.{ReadAs, NotRead}
 -- what was scanned holds no line's end, and does not end within one
 pub record Scanned (done rest : List ℕ) : Type 0 where
   pub apart : (u : List ℕ) → done ≡ u ++ carriage_return ∷ [] → ⊥
-  pub folded : (u v : List ℕ) → done ≡ u ++ (crlf ++ v) → BeginsBlank (v ++ rest)
+  pub folded : (u v : List ℕ) → done ≡ u ++ (crlf ++ v) → OpensBlank (v ++ rest)
 
 -- a CRLF is followed by a blank, or is not yet scanned
-pub unscanned : (done rest u v : List ℕ) → Scanned done rest → done ++ rest ≡ u ++ (crlf ++ v) → BeginsBlank v ⊎ ((w : List ℕ) × (u ≡ done ++ w) × (rest ≡ w ++ (crlf ++ v)))
+pub unscanned : (done rest u v : List ℕ) → Scanned done rest → done ++ rest ≡ u ++ (crlf ++ v) → OpensBlank v ⊎ ((w : List ℕ) × (u ≡ done ++ w) × (rest ≡ w ++ (crlf ++ v)))
 unscanned done rest u v scanned same = at (two_cuts done rest u (crlf ++ v) same)
   where
-    at : Cuts done rest u (crlf ++ v) → BeginsBlank v ⊎ ((w : List ℕ) × (u ≡ done ++ w) × (rest ≡ w ++ (crlf ++ v)))
+    at : Cuts done rest u (crlf ++ v) → OpensBlank v ⊎ ((w : List ℕ) × (u ≡ done ++ w) × (rest ≡ w ++ (crlf ++ v)))
     at (same_length front back) = inr ([], sym front ∙ sym (append-nil done), back)
     at (second_longer c z longer back) = inr (c ∷ z, longer, back)
     at (first_longer c [] longer back) =
@@ -36,7 +37,7 @@ unscanned done rest u v scanned same = at (two_cuts done rest u (crlf ++ v) same
         let c_is : carriage_return ≡ c = cc in
         let d_is : line_feed ≡ d = cc in
         let v_is : v ≡ z ++ rest = cc in
-        inl (subst BeginsBlank (sym v_is) (scanned.folded u z (longer ∙ ap (λ x. u ++ x ∷ d ∷ z) (sym c_is) ∙ ap (λ x. u ++ carriage_return ∷ x ∷ z) (sym d_is))))
+        inl (subst OpensBlank (sym v_is) (scanned.folded u z (longer ∙ ap (λ x. u ++ x ∷ d ∷ z) (sym c_is) ∙ ap (λ x. u ++ carriage_return ∷ x ∷ z) (sym d_is))))
 
 -- a text that lacks LF has none within
 no_lf : (u v : List ℕ) → Lacks line_feed (u ++ line_feed ∷ v) → ⊥
@@ -56,12 +57,12 @@ scan-none done rest scanned lacks (line, more) (folded, cut, whole) =
     ]
 
 -- what begins with a blank before CR is not empty
-begins-left : (u v : List ℕ) → BeginsBlank (u ++ carriage_return ∷ v) → BeginsBlank u
+begins-left : (u v : List ℕ) → OpensBlank (u ++ carriage_return ∷ v) → OpensBlank u
 begins-left [] v begins = both_ways (is_wsp carriage_return) refl begins
 begins-left (b ∷ u) v begins = begins
 
--- a line ends at the next LF, behind CR and before no blank
-pub scan-line : (done f more : List ℕ) → Scanned done (f ++ (crlf ++ more)) → Lacks line_feed f → (BeginsBlank more → ⊥) → ReadAs (LineFront (done ++ (f ++ (crlf ++ more)))) (done ++ f, more)
+-- a line ends at the next LF, after CR and before no blank
+pub scan-line : (done f more : List ℕ) → Scanned done (f ++ (crlf ++ more)) → Lacks line_feed f → (OpensBlank more → ⊥) → ReadAs (LineFront (done ++ (f ++ (crlf ++ more)))) (done ++ f, more)
 scan-line done f more scanned lacks cut = (is, (λ x other. only x.0 x.1 other))
   where
     folded : IsFolded (done ++ f)
@@ -81,7 +82,7 @@ scan-line done f more scanned lacks cut = (is, (λ x other. only x.0 x.1 other))
         ap (λ t. (t, m)) same.0 ∙ ap (λ t. (done ++ f, t)) same.1
 
 -- any other LF is scanned
-pub scan-more : (done front more : List ℕ) → Scanned done (front ++ line_feed ∷ more) → Lacks line_feed front → ((f : List ℕ) → front ≡ f ++ carriage_return ∷ [] → BeginsBlank more) → Scanned (done ++ (front ++ line_feed ∷ [])) more
+pub scan-more : (done front more : List ℕ) → Scanned done (front ++ line_feed ∷ more) → Lacks line_feed front → ((f : List ℕ) → front ≡ f ++ carriage_return ∷ [] → OpensBlank more) → Scanned (done ++ (front ++ line_feed ∷ [])) more
 scan-more done front more scanned lacks blank = record { apart = apart; folded = folded }
   where
     apart : (u : List ℕ) → done ++ (front ++ line_feed ∷ []) ≡ u ++ carriage_return ∷ [] → ⊥
@@ -91,16 +92,16 @@ scan-more done front more scanned lacks blank = record { apart = apart; folded =
         let heads : line_feed ≡ carriage_return = cc in
         omega (arith, heads)
 
-    within : (w v : List ℕ) → Cuts front (line_feed ∷ []) (w ++ carriage_return ∷ []) (line_feed ∷ v) → BeginsBlank (v ++ more)
+    within : (w v : List ℕ) → Cuts front (line_feed ∷ []) (w ++ carriage_return ∷ []) (line_feed ∷ v) → OpensBlank (v ++ more)
     within w v (same_length f_is back) =
         let none : [] ≡ v = cc in
-        subst (λ t. BeginsBlank (t ++ more)) none (blank w f_is)
+        subst (λ t. OpensBlank (t ++ more)) none (blank w f_is)
     within w v (first_longer c z longer back) =
         let head : line_feed ≡ c = cc in
         absurd (no_lf (w ++ carriage_return ∷ []) z (subst (Lacks line_feed) (longer ∙ ap (λ x. (w ++ carriage_return ∷ []) ++ x ∷ z) (sym head)) lacks))
     within w v (second_longer c z longer back) = absurd (omega (arith, ap length back, length-append z (line_feed ∷ v)))
 
-    folded : (u v : List ℕ) → done ++ (front ++ line_feed ∷ []) ≡ u ++ (crlf ++ v) → BeginsBlank (v ++ more)
+    folded : (u v : List ℕ) → done ++ (front ++ line_feed ∷ []) ≡ u ++ (crlf ++ v) → OpensBlank (v ++ more)
     folded u v same =
         elim (unscanned done (front ++ line_feed ∷ more) u (v ++ more) scanned (
         ap (λ t. done ++ t) (sym (append_assoc front (line_feed ∷ []) more)) ∙ sym (append_assoc done (front ++ line_feed ∷ []) more) ∙ ap (λ t. t ++ more) same ∙ append_assoc u (crlf ++ v) more)) [
@@ -140,11 +141,11 @@ cr-ends f = at (ends_cr (f ++ carriage_return ∷ [])) refl
     at false is =
         absurd (none-some f (sym (ap (λ x. cond x (Some (take (length (f ++ carriage_return ∷ []) - 1) (f ++ carriage_return ∷ []))) None) is) ∙ up_to-mark carriage_return f))
 
-begins-wsp : (text : List ℕ) → BeginsBlank text → begins_wsp text ≡ true
+begins-wsp : (text : List ℕ) → OpensBlank text → begins_wsp text ≡ true
 begins-wsp [] begins = absurd begins
 begins-wsp (b ∷ text) begins = begins
 
-wsp-begins : (text : List ℕ) → begins_wsp text ≡ true → BeginsBlank text
+wsp-begins : (text : List ℕ) → begins_wsp text ≡ true → OpensBlank text
 wsp-begins [] is = both_ways false refl is
 wsp-begins (b ∷ text) is = is
 
@@ -177,7 +178,7 @@ line-found text front rest at within scanned front_is rest_is line =
     lacks : Lacks line_feed f.0
     lacks = left f.0 (carriage_return ∷ []) (subst (Lacks line_feed) f.1 both.1)
 
-    cut : BeginsBlank rest → ⊥
+    cut : OpensBlank rest → ⊥
     cut begins = both_ways false refl (sym (ap not (begins-wsp rest begins)) ∙ parts.1)
 
     line_is : take at text ++ f.0 ≡ take (at + length front - 1) text
@@ -197,10 +198,10 @@ line-on text front rest at within scanned front_is rest_is line = (
     both : (drop at text ≡ front ++ line_feed ∷ rest) × Lacks line_feed front
     both = cut-lf (drop at text) front rest front_is rest_is
 
-    blank : (f : List ℕ) → front ≡ f ++ carriage_return ∷ [] → BeginsBlank rest
+    blank : (f : List ℕ) → front ≡ f ++ carriage_return ∷ [] → OpensBlank rest
     blank f is = go (begins_wsp rest) refl
       where
-        go : (x : Bool) → begins_wsp rest ≡ x → BeginsBlank rest
+        go : (x : Bool) → begins_wsp rest ≡ x → OpensBlank rest
         go true e = wsp-begins rest e
         go false e = absurd (both_ways (is_line front rest) line (and_from (ends_cr front) (not (begins_wsp rest)) (ap ends_cr is ∙ cr-ends f) (ap not e)))
 

@@ -7,16 +7,18 @@ use Rattle.std.proofs.lemmas.Bool.{both_ways}
 use Rattle.std.proofs.lemmas.Slice.Eq.{bytes_eq-Decides}
 use Rattle.std.proofs.Math.Seq.{take-length}
 use Rattle.sip_message.specs.declared.name.Known.TheVariants as known_name
-use Rattle.sip_message.specs.declared.fault.Reason.TheVariants as reason
+use Rattle.sip_standard.specs.declared.fault.Reason.TheVariants as reason
 use Rattle.sip_message.specs.declared.start_line.StartLine.{StartLine as Code}
 use Rattle.sip_message.specs.declared.start_line.StartLine.TheVariants as variant
-use Rattle.sip_message.specs.StartLine.{StartLine, request}
+use Rattle.sip_standard.specs.StartLine.{StartLine, request}
 use Rattle.sip_message.specs.Via.{ViaParts, ViasText}
 use Rattle.sip_message.specs.Values.{CSeqText}
 use Rattle.sip_message.specs.Field.{Field}
-use Rattle.sip_message.specs.Message.{found, length_in, content_length, is_stream, IsStream, MethodFits, HasLength, IsEnough, cut_body}
-use Rattle.sip_message.specs.Outcome.{gives, stops, passes, stopped}
-use Rattle.sip_message.specs.Faults.{fault_in_line, fault_in_body, BodyOf}
+use Rattle.sip_standard.specs.Body.{length_in}
+use Rattle.sip_message.specs.Message.{found, content_length, is_stream, IsStream, MethodFits, HasLength, IsEnough, cut_body}
+use Rattle.sip_standard.specs.Outcome.{gives, stops, passes, stopped}
+use Rattle.sip_standard.specs.Faults.{fault_in_line, fault_in_body}
+use Rattle.sip_message.specs.inner.Faults.{BodyOf}
 use Rattle.sip_message.specs.Elements.{Element}
 use Rattle.sip_message.specs.inner.ElementFronts.{ViaFront, FirstVia}
 use Rattle.sip_message.specs.Reading.{CSeqValue}

@@ -1,17 +1,19 @@
--- Bytes have no fault exactly if they spell a message, and at most one message and one fault.
-use Rattle.std.proofs.Common.{◌≡◌, ℕ, ◌+◌, List, [], ◌∷◌, Option, Some, None, refl, sym, ap, ◌∙◌, subst}
-use Rattle.sip_message.specs.declared.fault.Fault.{Fault}
+-- Bytes are read as a message exactly if they are one, and as at most one message or one fault.
+use Rattle.std.proofs.Common.{◌≡◌, ℕ, ◌+◌, List, [], ◌∷◌, Option, refl, sym, ap, ◌∙◌, subst}
 use Rattle.sip_message.specs.declared.name.Known.{Known}
 use Rattle.sip_message.specs.declared.name.Known.TheVariants as known_name
-use Rattle.sip_message.specs.Outcome.{gives, stops, passes}
-use Rattle.sip_message.specs.StartLine.{StartLine, StartText}
+use Rattle.sip_standard.specs.Outcome.{gives, passes}
+use Rattle.sip_standard.specs.StartLine.{StartLine}
+use Rattle.sip_message.specs.StartLine.{StartText}
 use Rattle.sip_message.specs.Field.{Field, Row, NameText, ValueText, FieldsText}
-use Rattle.sip_message.specs.Message.{Message, IsFirstFound, MethodFits, HasLength, IsNoMore, MessageFits, MessageText, message_of, Spells, content_length, cut_body}
-use Rattle.sip_message.specs.Faults.{HasName, IsValue, FieldOf, FieldsOf, Present, Once, NamesOf, BodyOf, LinesOf, HeadOf, IsCut, ReadOf, FaultOf}
+use Rattle.sip_message.specs.Message.{Message, IsFirstFound, MethodFits, HasLength, IsNoMore, MessageFits, MessageText, message_of, Spells, content_length, cut_body, found}
+use Rattle.sip_standard.specs.Field.{FirstOf, OneOf}
+use Rattle.sip_standard.specs.Lines.{CutSays}
+use Rattle.sip_message.specs.inner.Faults.{HasName, IsValue, FieldOf, FieldsOf, NamesOf, BodyOf, LinesOf, HeadOf, ReadOf}
 use Rattle.sip_message.proofs.lemmas.lines.OneWay.{same_head, same_lines}
 use Rattle.sip_message.proofs.lemmas.start_line.OneWay.{same_start}
 use Rattle.sip_message.proofs.lemmas.field.OneWay.{same_name, same_value}
-use Rattle.sip_message.proofs.lemmas.message.Outcome.{IsOne, given, no_value, fault_is, one-gives, one-demand, one-holds, one-then, given-then}
+use Rattle.sip_message.proofs.lemmas.message.Outcome.{IsOne, given, one-gives, one-demand, one-holds, one-then, given-then}
 
 -- each step has one outcome
 one-field : (n : ℕ) (line : List ℕ) → IsOne (FieldOf n line)
@@ -31,11 +33,11 @@ same_cons x y xs ys is = ap head is
     head [] = x
     head (z ∷ zs) = z
 
-one-present : (name : Known) (fields : List Field) → IsOne (Present name fields)
+one-present : (name : Known) (fields : List Field) → IsOne (FirstOf (found name fields))
 one-present name fields =
     one-demand (IsFirstFound name fields) _ (λ x y one other. same_cons x y one.0 other.0 (sym one.1 ∙ other.1))
 
-one-once : (name : Known) (fields : List Field) → IsOne (Once name fields)
+one-once : (name : Known) (fields : List Field) → IsOne (OneOf (found name fields))
 one-once name fields = one-then (one-holds _ _) (λ _. one-present name fields)
 
 one-names : (fields : List Field) → IsOne (NamesOf fields)
@@ -60,7 +62,7 @@ one-head head rest a b one other =
 -- bytes are read as one message or one fault
 pub one-read : (bytes : List ℕ) → IsOne (ReadOf bytes)
 one-read bytes =
-    one-then (one-demand (IsCut bytes) _ (λ x y one other. let same = same_head bytes x.0 x.1 y.0 y.1 one other in ap (λ h. (h, x.1)) same.0 ∙ ap (λ r. (y.0, r)) same.1)) (λ cut.
+    one-then (one-demand (CutSays bytes) _ (λ x y one other. let same = same_head bytes x.0 x.1 y.0 y.1 one other in ap (λ h. (h, x.1)) same.0 ∙ ap (λ r. (y.0, r)) same.1)) (λ cut.
     one-then (one-holds _ _) (λ _. one-head cut.0 cut.1))
 
 -- lines that are read are fields
@@ -167,18 +169,3 @@ text-read bytes m text =
 pub same_message : (bytes : List ℕ) (m n : Message) → Spells bytes m → Spells bytes n → m ≡ n
 same_message bytes m n one other =
     one.2 ∙ ap message_of (given (one-read bytes (gives one.0) (gives other.0) (text-read bytes one.0 one.1) (text-read bytes other.0 other.1))) ∙ sym other.2
-
--- bytes have no fault exactly if they spell a message
-pub no_fault-spells : (bytes : List ℕ) → FaultOf bytes None → (m : Message) × Spells bytes m
-no_fault-spells bytes (m, is) = (message_of m, (m, read-text bytes m is, refl))
-
--- bytes that spell a message have no fault
-pub spells-no_fault : (bytes : List ℕ) (m : Message) → Spells bytes m → FaultOf bytes None
-spells-no_fault bytes m (s, text, is) = (s, text-read bytes s text)
-
--- bytes have at most one first fault
-pub same_fault : (bytes : List ℕ) (f g : Option Fault) → FaultOf bytes f → FaultOf bytes g → f ≡ g
-same_fault bytes None None one other = refl
-same_fault bytes None (Some g) one other = absurd (no_value (one-read bytes (gives one.0) (stops g) one.1 other))
-same_fault bytes (Some f) None one other = absurd (no_value (one-read bytes (gives other.0) (stops f) other.1 one))
-same_fault bytes (Some f) (Some g) one other = ap (λ x. Some x) (fault_is (one-read bytes (stops f) (stops g) one other))

@@ -10,10 +10,11 @@ use Rattle.sip_message.specs.declared.via.Via.{Via}
 use Rattle.sip_message.specs.Elements.{Element}
 use Rattle.sip_message.specs.Field.{Field}
 use Rattle.sip_message.specs.Message.{found, IsNotTwice}
-use Rattle.sip_message.specs.Outcome.{gives, passes}
-use Rattle.sip_message.specs.Faults.{Once, BodyOf}
+use Rattle.sip_standard.specs.Outcome.{gives, passes}
+use Rattle.sip_standard.specs.Field.{OneOf}
+use Rattle.sip_message.specs.inner.Faults.{BodyOf}
 use Rattle.sip_message.specs.Reading.{IsValueOf, CSeqValue}
-use Rattle.sip_message.specs.StartLine.{StartLine}
+use Rattle.sip_standard.specs.StartLine.{StartLine}
 use Rattle.sip_message.specs.ValueParts.{start_parts, cseq_parts}
 use Rattle.sip_message.specs.ViaParts.{element}
 use Rattle.sip_message.specs.inner.Asked.{OnceSays, Itself, AskedOf}
@@ -35,7 +36,7 @@ pub record IsWhole (bytes rest : List ℕ) (start : StartLine) (fields : List Fi
   pub found : Found bytes rest first start fields (record { via = via; from = f; to = t; call_id = i; cseq = cseq }) body
 
 -- the one field of a name
-once-is : (k : Known) (fields : List Field) (one : ℕ × List ℕ) → found k fields ≡ one ∷ [] → Once k fields (gives one)
+once-is : (k : Known) (fields : List Field) (one : ℕ × List ℕ) → found k fields ≡ one ∷ [] → OneOf (found k fields) (gives one)
 once-is k fields one is = passes tt (omega (arith, ap length is)) ([], is)
 
 -- a name that stands at most once

@@ -1,8 +1,8 @@
 -- A reading comes to one outcome.
 use Rattle.std.proofs.Common.{◌≡◌, refl, sym, ap, ◌∙◌, subst}
 use Rattle.std.specs.Prelude.{⊤}
-use Rattle.sip_message.specs.declared.fault.Fault.{Fault}
-use Rattle.sip_message.specs.Outcome.{Outcome, gives, stops, Gives, Demand, Holds, Then, passes, stopped}
+use Rattle.sip_standard.specs.declared.fault.Fault.{Fault}
+use Rattle.sip_standard.specs.Outcome.{Outcome, gives, stops, Gives, Demand, Holds, Then, passes, stopped}
 
 -- at most one outcome
 abbrev pub IsOne : {X : Type 0} → (Outcome X → Type 0) → Type 0

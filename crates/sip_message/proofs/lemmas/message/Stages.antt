@@ -2,16 +2,18 @@
 use Rattle.std.proofs.Common.{◌≡◌, ℕ, List, false, refl, sym, ap, subst}
 use Rattle.std.specs.Prelude.{Result, Ok, Err, IsErr, IsErrAnd}
 use Rattle.std.proofs.lemmas.Bool.{both_ways}
-use Rattle.sip_message.specs.declared.fault.Fault.{Fault}
+use Rattle.sip_standard.specs.declared.fault.Fault.{Fault}
 use Rattle.sip_message.specs.declared.fault.ReadError.{ReadError}
 use Rattle.sip_message.specs.declared.fault.ReadError.TheVariants as error
-use Rattle.sip_message.specs.Lines.{IsHead, HasNoBareEnd, IsLines}
+use Rattle.sip_standard.specs.Lines.{CutSays, LinesSay}
+use Rattle.sip_message.specs.Lines.{HasNoBareEnd}
 use Rattle.sip_message.specs.inner.Lines.{AreLines}
-use Rattle.sip_message.specs.StartLine.{StartLine, StartText}
+use Rattle.sip_standard.specs.StartLine.{StartLine}
+use Rattle.sip_message.specs.StartLine.{StartText}
 use Rattle.sip_message.specs.Field.{Field}
 use Rattle.sip_message.specs.Message.{Message, MessageText, content_length}
-use Rattle.sip_message.specs.Outcome.{Outcome, gives, stops, passes}
-use Rattle.sip_message.specs.Faults.{FieldsOf, NamesOf, BodyOf, LinesOf, ReadOf}
+use Rattle.sip_standard.specs.Outcome.{Outcome, gives, stops, passes}
+use Rattle.sip_message.specs.inner.Faults.{FieldsOf, NamesOf, BodyOf, LinesOf, ReadOf}
 use Rattle.sip_message.specs.inner.Settles.{Settles}
 use Rattle.sip_message.specs.Only.{IsOnly}
 use Rattle.sip_message.specs.Reading.{Reading, Parts, HasParts, Keeps, CSeqValue}
@@ -27,24 +29,25 @@ use Rattle.sip_message.proofs.lemmas.asked.OneWay.{parts-one}
 use Rattle.sip_message.proofs.lemmas.message.Views.{keeps-via, keeps-cseq}
 use Rattle.sip_message.proofs.lemmas.via.Steps.{one-via}
 use Rattle.sip_message.proofs.lemmas.value.CSeq.{same-cseq}
+use Rattle.sip_message.proofs.lemmas.says.Reading.{text-reads, fault-says}
 
 -- the head is clean, and these are its first line and the others
 pub record IsBegun (bytes head rest first : List ℕ) (others : List (List ℕ)) : Type 0 where
-  pub head_is : IsHead bytes head rest
+  pub head_is : CutSays bytes (head, rest)
   pub clean : HasNoBareEnd head
-  pub are_lines : IsLines head first others
+  pub are_lines : LinesSay head first others
 
 -- what the lines are read as, the bytes are
 pub begun : {bytes head rest first : List ℕ} {others : List (List ℕ)} {out : Outcome Message} → IsBegun bytes head rest first others → LinesOf rest first others out → ReadOf bytes out
 begun {head = head} {rest = rest} {first = first} {others = others} b of_lines = passes (head, rest) b.head_is (passes tt b.clean (first, others, b.are_lines, of_lines))
 
 -- the first line and the others of a head
-pub begins : {bytes head rest first text : List ℕ} → IsHead bytes head rest → HasNoBareEnd head → ((line : List ℕ) (others : List (List ℕ)) → IsLines head line others → (line ≡ first) × AreLines text others)
+pub begins : {bytes head rest first text : List ℕ} → CutSays bytes (head, rest) → HasNoBareEnd head → ((line : List ℕ) (others : List (List ℕ)) → LinesSay head line others → (line ≡ first) × AreLines text others)
     → (others : List (List ℕ)) × IsBegun bytes head rest first others × AreLines text others
 begins {bytes = bytes} {head = head} {rest = rest} head_is clean cut =
     let lines = head-lines bytes head rest head_is in
     let parts = cut lines.0 lines.1 lines.2 in
-    (lines.1, record { head_is = head_is; clean = clean; are_lines = subst (λ l. IsLines head l lines.1) parts.0 lines.2 }, parts.1)
+    (lines.1, record { head_is = head_is; clean = clean; are_lines = subst (λ l. LinesSay head l lines.1) parts.0 lines.2 }, parts.1)
 
 -- an error of a stage that takes memory
 pub settled : {A X : Type 0} (parts : A → X) (S : Outcome X → Type 0) (bytes : List ℕ) (e : ReadError) (r : Result Reading ReadError) → IsErr r → IsErrAnd r (λ x. x ≡ e) → Settles S parts (Err e) → ((fault : Fault) → S (stops fault) → ReadOf bytes (stops fault)) → ReadsTo bytes r
@@ -53,12 +56,12 @@ settled parts S bytes e (Err x) err same settles go = at x (subst (λ y. Settles
   where
     at : (y : ReadError) → Settles S parts (Err y) → ReadsTo bytes (Err y)
     at error.Memory is = tt
-    at (error.Fault fault) is = go fault is
+    at (error.Fault fault) is = fault-says bytes fault (go fault is)
 
 -- a fault
 pub faulted : (bytes : List ℕ) (fault : Fault) (r : Result Reading ReadError) → IsErr r → IsErrAnd r (λ x. x ≡ error.Fault fault) → ReadOf bytes (stops fault) → ReadsTo bytes r
 faulted bytes fault (Ok m) err same is = absurd (both_ways false refl err)
-faulted bytes fault (Err x) err same is = subst (λ y. ReadsTo bytes (Err y)) (sym same) is
+faulted bytes fault (Err x) err same is = subst (λ y. ReadsTo bytes (Err y)) (sym same) (fault-says bytes fault is)
 
 -- all stages give what they find
 pub record Found (bytes rest first : List ℕ) (start : StartLine) (fields : List Field) (n : Names) (body : List ℕ) : Type 0 where
@@ -105,4 +108,4 @@ found-keeps {bytes = bytes} {n = n} e s f first said =
 -- and the bytes are read
 pub found-reads : {bytes rest first body : List ℕ} {start : StartLine} {fields : List Field} {n : Names} (r : Reading) → Found bytes rest first start fields n body
     → ◌≡◌ {A = Message} r.message (record { start = start; fields = fields; body = body }) → IsOnly (HasParts r.message.fields) r.parts → Reads bytes r
-found-reads {bytes = bytes} r f is parts = record { text = subst (MessageText bytes) (sym is) (found-text f); parts = parts }
+found-reads {bytes = bytes} r f is parts = text-reads bytes r (subst (MessageText bytes) (sym is) (found-text f)) parts

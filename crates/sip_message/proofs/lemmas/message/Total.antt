@@ -1,18 +1,21 @@
 -- Bytes come to something: none are without a reading and without a fault.
-use Rattle.std.specs.Prelude.{ℕ, ◌+◌, List, [], ◌∷◌, Some}
+use Rattle.std.specs.Prelude.{ℕ, ◌+◌, List, [], ◌∷◌}
 use Rattle.std.proofs.Common.{refl}
-use Rattle.sip_message.specs.declared.fault.Fault.{Fault}
+use Rattle.sip_standard.specs.declared.fault.Fault.{Fault}
 use Rattle.sip_message.specs.declared.name.Known.{Known}
 use Rattle.sip_message.specs.Field.{Field}
-use Rattle.sip_message.specs.Message.{Message}
-use Rattle.sip_message.specs.Outcome.{Outcome, gives, stops, Gives, Demand, Then, passes, stopped}
-use Rattle.sip_message.specs.Faults.{FieldOf, FieldsOf, Once, NamesOf, ReadOf, FaultOf}
+use Rattle.sip_message.specs.Message.{Message, found}
+use Rattle.sip_standard.specs.Outcome.{Outcome, gives, stops, Gives, Demand, Then, passes, stopped}
+use Rattle.sip_standard.specs.Field.{OneOf}
+use Rattle.sip_message.specs.inner.Faults.{FieldOf, FieldsOf, NamesOf, ReadOf}
 use Rattle.sip_message.specs.Reading.{Reading}
 use Rattle.sip_message.specs.Reads.{Reads}
 use Rattle.sip_message.proofs.lemmas.lines.OneWay.{head-lines}
 use Rattle.sip_message.proofs.lemmas.message.Faults.{read-text}
 use Rattle.sip_message.proofs.lemmas.asked.Parts.{has-parts}
 use Rattle.sip_message.proofs.lemmas.asked.OneWay.{parts-one}
+use Rattle.sip_message.proofs.lemmas.says.Reading.{text-reads, fault-says}
+use Rattle.sip_standard.specs.Says.{Says}
 
 -- it cannot be that nothing comes of it
 abbrev Comes : {X : Type 0} → (Outcome X → Type 0) → Type 0
@@ -40,7 +43,7 @@ comes-fields : (n : ℕ) (lines : List (List ℕ)) → Comes (FieldsOf n lines)
 comes-fields n [] = comes-gives []
 comes-fields n (line ∷ lines) = comes-then _ _ (comes-field n line) (λ f _. comes-then _ _ (comes-fields (n + 1) lines) (λ fs _. comes-gives _))
 
-comes-once : (name : Known) (fields : List Field) → Comes (Once name fields)
+comes-once : (name : Known) (fields : List Field) → Comes (OneOf (found name fields))
 comes-once name fields = comes-then _ _ (comes-demand _ _) (λ _ _. comes-demand _ _)
 
 comes-names : (fields : List Field) → Comes (NamesOf fields)
@@ -58,17 +61,13 @@ comes-read bytes =
     comes-then _ _ (comes-demand _ _) (λ _ _. comes-gives _))))) (λ body _. comes-gives _))))
     (λ out of_lines. never out (lines.0, lines.1, lines.2, of_lines))))
 
--- a message has the parts of its named fields
-read-reads : (bytes : List ℕ) (m : Message) → ReadOf bytes (gives m) → (r : Reading) × Reads bytes r
-read-reads bytes m is =
-    let text = read-text bytes m is in
-    let parts = has-parts bytes m text in
-    (record { message = m; parts = parts.0 }, record { text = text; parts = record { is = parts.1; only = λ q other. parts-one m.fields q parts.0 other parts.1 } })
-
 -- so bytes have a reading or a fault
-pub reading-or-fault : (bytes : List ℕ) → ((r : Reading) → ¬ (Reads bytes r)) → ¬ ((fault : Fault) → ¬ (FaultOf bytes (Some fault)))
+pub reading-or-fault : (bytes : List ℕ) → ((r : Reading) → ¬ (Reads bytes r)) → ¬ ((fault : Fault) → ¬ (Says bytes (stops fault)))
 reading-or-fault bytes no_reading no_fault = comes-read bytes at
   where
     at : (out : Outcome Message) → ¬ (ReadOf bytes out)
-    at (gives m) is = let one = read-reads bytes m is in no_reading one.0 one.1
-    at (stops fault) is = no_fault fault is
+    at (gives m) is =
+        let text = read-text bytes m is in
+        let parts = has-parts bytes m text in
+        no_reading (record { message = m; parts = parts.0 }) (text-reads bytes (record { message = m; parts = parts.0 }) text (record { is = parts.1; only = λ q other. parts-one m.fields q parts.0 other parts.1 }))
+    at (stops fault) is = no_fault fault (fault-says bytes fault is)

@@ -1,11 +1,11 @@
 -- The views of a message.
 use Rattle.std.proofs.Common.{◌≡◌, ℕ, List, [], ◌∷◌, ◌++◌, Option, None, Some, refl, sym, ap, ◌∙◌, subst}
 use Rattle.std.specs.Prelude.{IsSome}
-use Rattle.sip_text.specs.Text.{IsOnlyValue}
+use Rattle.sip_text.specs.Parts.{IsOnlyValue}
 use Rattle.sip_message.specs.declared.name.Known.{Known}
 use Rattle.sip_message.specs.declared.name.Known.TheVariants as known_name
 use Rattle.sip_message.specs.Field.{Field}
-use Rattle.sip_message.specs.Outcome.{Outcome, gives}
+use Rattle.sip_standard.specs.Outcome.{Outcome, gives}
 use Rattle.sip_message.specs.Message.{Message, MessageText}
 use Rattle.sip_message.specs.Only.{IsOnly, ExactlyOne, the}
 use Rattle.sip_message.specs.Elements.{Element, values, AreElements}

@@ -18,7 +18,7 @@ one-branch_of (name, value) None (Some b) x y = absurd (x y.0)
 one-branch_of (name, value) (Some a) None x y = absurd (y x.0)
 one-branch_of (name, value) (Some a) (Some b) x y = sym x.2 ∙ y.2
 
--- the branch of a parameter and those behind it
+-- the branch of a parameter and those after it
 branch-cons : (p : Param) (ps : List Param) (b : Option (List ℕ)) → IsBranch (p ∷ ps) b → (found : Option (List ℕ)) × BranchOf p found × (later : Option (List ℕ)) × IsBranch ps later × (b ≡ option_or found later)
 branch-cons (name, value) ps b (inl (same, v, token, value_is, b_is, later, more)) = (Some v, (same, token, value_is), later, more, b_is)
 branch-cons (name, value) ps b (inr (differs, more)) = (None, differs, b, more, refl)
@@ -58,7 +58,7 @@ pub or-assoc : (a b c : Option (List ℕ)) → option_or a (option_or b c) ≡ o
 or-assoc None b c = refl
 or-assoc (Some v) b c = refl
 
--- behind a parameter stand the others
+-- after a parameter stand the others
 behind-one : (rest more left : List ℕ) (p : Param) (ps : List Param) → ReadAs (ParamFront rest) (p, more) → AllParamsFront rest (ps, left) → (qs : List Param) × (ps ≡ p ∷ qs) × AllParamsFront more (qs, left)
 behind-one rest more left p [] read (is, ends) = absurd (ends (p, more) (subst (λ t. ParamFront t (p, more)) (sym is) read.0))
 behind-one rest more left p (q ∷ qs) read ((next, one, later), ends) =
@@ -101,7 +101,7 @@ pub copied-or : (a b : Option (Bor (List ℕ))) → option_copied (option_or a b
 copied-or None b = refl
 copied-or (Some v) b = refl
 
--- what is left behind the parameters ends the text
+-- what is left after the parameters ends the text
 pub branch-whole : (text : List ℕ) (b : Option (List ℕ)) (rest : List ℕ) → BranchFront text (b, rest) → (u : List ℕ) × (text ≡ u ++ rest)
 branch-whole text b rest (ps, all, is) = let u = front-params ps text rest all.0 in (u.0, u.2)
 
@@ -114,7 +114,7 @@ one-tail text ((p, b), r) ((q, d), s) (is, (u, u_is, behind)) (is_too, (w, w_is,
     let params : p ≡ q = same-behind w p q (subst (λ t. Behind t p) fronts behind) behind_too in
     ap (λ x. ((x, b), r)) params ∙ ap (λ x. ((q, x.0), x.1)) same
 
--- parameters behind an element tell its branch
+-- parameters after an element tell its branch
 pub tail-found : (text params : List ℕ) (b : Option (List ℕ)) (rest : List ℕ) → ReadAs (BranchFront text) (b, rest) → IsOnlyBehind (take (length text - length rest) text) params → ReadAs (TailFront text) ((params, b), rest)
 tail-found text params b rest read behind =
     let whole = branch-whole text b rest read.0 in

@@ -3,13 +3,14 @@ use Rattle.std.proofs.Common.{◌≡◌, ℕ, ◌≤◌, Bool, true, List, [], �
 use Rattle.std.specs.List.{AllByRecursion, concat}
 use Rattle.std.proofs.lemmas.Bool.{both_ways}
 use Rattle.std.proofs.lemmas.List.{append_assoc, length-append}
-use Rattle.sip_text.specs.Bytes.{space, semicolon, equals, dquote, colon, is_token_byte}
-use Rattle.sip_text.specs.Text.{One, Byte, Exactly, ◌then◌, ◌or◌, Many, OneOrMore, Between}
-use Rattle.sip_text.specs.Grammar.{Token, Lws, Blanks, Sws, Qdtext, QuotedPair}
-use Rattle.sip_text.specs.Host.{Hex4, Hexseq, Hexpart, Ipv6Address, Ipv6Reference}
-use Rattle.sip_text.proofs.ManyLemmas.{many-nil, many-cons}
+use Rattle.sip_standard.specs.Text.{One, Exactly, ◌then◌, ◌or◌, Many, OneOrMore, Between}
+use Rattle.sip_standard.specs.Profile.{Token, Lws, Blanks, Sws, Hexseq, Ipv6, Bracketed, Quoted}
+use Rattle.sip_text.specs.Bytes.{space, semicolon, equals, dquote, colon, is_token_byte, Byte}
+use Rattle.sip_text.specs.inner.Pieces.{Qdtext, QuotedPair, Hex4, Hexpart}
+use Rattle.sip_text.proofs.texts.ManyLemmas.{many-nil, many-cons}
 use Rattle.sip_message.specs.Unfold.{is_blank, OpensSolid, EndsSolid}
-use Rattle.sip_message.specs.Params.{Mark, Quoted, ParamValue, ParamText, ParamsText, ParamsPart, BehindBlanks}
+use Rattle.sip_standard.specs.Via.{GenValue}
+use Rattle.sip_message.specs.Params.{Mark, ParamText, ParamsText, ParamsPart, BehindBlanks}
 use Rattle.sip_message.proofs.lemmas.text.Cuts.{All}
 use Rattle.sip_message.proofs.lemmas.text.Each.{Each, each-sws, each-blanks, is_solid}
 use Rattle.sip_message.proofs.lemmas.text.Solid.{solid-token, solid-v6, solid-v6_reference}
@@ -111,7 +112,7 @@ some-hexpart u (inl seq) = some-hexseq u seq
 some-hexpart u (inr (inl both)) = some-left Hexseq _ some-hexseq u both
 some-hexpart u (inr (inr both)) = some-left (Exactly (colon ∷ colon ∷ [])) _ some-double u both
 
-some-v6 : (u : List ℕ) → Ipv6Address u → u ≡ [] → ⊥
+some-v6 : (u : List ℕ) → Ipv6 u → u ≡ [] → ⊥
 some-v6 u (inl both) = some-left Hexpart _ some-hexpart u both
 some-v6 u (inr both) = some-left _ _ begins u both
   where
@@ -120,7 +121,7 @@ some-v6 u (inr both) = some-left _ _ begins u both
     begins t (inr double) = some-double t double
 
 -- an IPv6 reference is not empty
-pub some-v6_reference : (u : List ℕ) → Ipv6Reference u → u ≡ [] → ⊥
+pub some-v6_reference : (u : List ℕ) → Bracketed u → u ≡ [] → ⊥
 some-v6_reference u = some-left (Byte 91) _ (some-byte 91) u
 
 -- a quoted string
@@ -141,11 +142,11 @@ pub open-quoted : (u : List ℕ) → Quoted u → OpensSolid u
 open-quoted u = opens-then (Byte dquote) (Many (Qdtext or QuotedPair) then Byte dquote) (open-byte dquote refl) u
 
 -- a parameter's value
-firm-value : AllFirm ParamValue
+firm-value : AllFirm GenValue
 firm-value u (inl token) = firm-token u token
 firm-value u (inr (inl quoted)) = firm-quoted u quoted
-firm-value u (inr (inr (inl v6))) = firm-solid Ipv6Address solid-v6 some-v6 u v6
-firm-value u (inr (inr (inr reference))) = firm-solid Ipv6Reference solid-v6_reference some-v6_reference u reference
+firm-value u (inr (inr (inl v6))) = firm-solid Ipv6 solid-v6 some-v6 u v6
+firm-value u (inr (inr (inr reference))) = firm-solid Bracketed solid-v6_reference some-v6_reference u reference
 
 -- what may be asked of parameters: it is of the name alone, where the value is a quoted string
 pub record IsDemand (Ok : List ℕ → Option (List ℕ) → Type 0) : Type 0 where
@@ -171,7 +172,7 @@ closed-param Ok demand u v b w ends opens blanks (name, Some value, ok, (token, 
     same : All is_solid value → ParamSet Ok (u ++ space ∷ v)
     same solid = (name, Some value, ok, (token, kind, with_value (Exactly value) name (solid-token name token) (λ t is. subst OpensSolid (sym is) (opens-solid value solid)) (closed-solid (Exactly value) (λ t is. subst (All is_solid) (sym is) solid)) u v b w ends opens blanks whole))
 
-    at : ParamValue value → ParamSet Ok (u ++ space ∷ v)
+    at : GenValue value → ParamSet Ok (u ++ space ∷ v)
     at (inl t) = same (solid-token value t)
     at (inr (inr (inl t))) = same (solid-v6 value t)
     at (inr (inr (inr t))) = same (solid-v6_reference value t)
@@ -248,7 +249,7 @@ tail-set Ok text (b ∷ rest, p ∷ ps, (opens, (m, t, (blanks, c, is_blanks, ma
     none : blanks ≡ []
     none = no_blanks blanks (c ++ t) (each-sws blanks is_blanks) (subst OpensSolid flat opens)
 
--- the parameters of a text, behind their blanks
+-- the parameters of a text, after their blanks
 pub set-tail : (Ok : List ℕ → Option (List ℕ) → Type 0) (text : List ℕ) → ParamsSet Ok text → TailSet Ok text
 set-tail Ok text ([], all, is) = ([], [], (tt, refl), tt, is)
 set-tail Ok text (u ∷ us, ((m, x, (sws, c, is_sws, (byte, after, is_byte, is_after, c_is), m_is), (name, value, ok, param), u_is), all), is) =

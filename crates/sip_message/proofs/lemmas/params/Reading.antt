@@ -3,14 +3,14 @@ use Rattle.std.proofs.Common.{◌≡◌, ◌↔◌, IsTrue, ℕ, ◌<◌, ◌≤
 use Rattle.std.proofs.lemmas.Bool.{both_ways, or_cases, eqb-true, eq-eqb}
 use Rattle.std.proofs.lemmas.Option.{none-some}
 use Rattle.std.proofs.lemmas.List.{append_assoc, append-nil, length-append}
+use Rattle.sip_standard.specs.Text.{◌or◌}
+use Rattle.sip_standard.specs.Profile.{Token, Ipv6}
 use Rattle.sip_text.specs.Bytes.{semicolon, equals, dquote, left_bracket, right_bracket, is_token_byte}
-use Rattle.sip_text.specs.Text.{◌or◌}
-use Rattle.sip_text.specs.Grammar.{Token}
-use Rattle.sip_text.specs.Cut.{past}
-use Rattle.sip_text.proofs.CutLemmas.{past-some}
-use Rattle.sip_text.specs.Host.{Ipv6Address}
+use Rattle.sip_text.specs.inner.Cut.{past}
+use Rattle.sip_text.proofs.cuts.CutLemmas.{past-some}
 use Rattle.sip_message.specs.Unfold.{is_blank, OpensSolid}
-use Rattle.sip_message.specs.Params.{comma, Mark, ParamValue, ParamText, ParamsText, ParamsPart, BehindBlanks}
+use Rattle.sip_standard.specs.Via.{GenValue}
+use Rattle.sip_message.specs.Params.{comma, Mark, ParamText, ParamsText, ParamsPart, BehindBlanks}
 use Rattle.sip_message.specs.inner.Fronts.{StopsBlank, TokenFront, MarkFront, both}
 use Rattle.sip_message.specs.inner.ParamFronts.{Param, is_bare_byte, ValueFront, LedFront, ParamFront, ParamsFront, AllParamsFront}
 use Rattle.sip_message.proofs.lemmas.text.Cuts.{All}
@@ -35,7 +35,7 @@ value-whole text value rest (inl is) = is.1
 value-whole text value rest (inr (inl is)) = is.1
 value-whole text value rest (inr (inr is)) = is.2
 
--- what is behind a parameter is shorter
+-- what is after a parameter is shorter
 pub param-shorter : (text : List ℕ) (p : Param) (rest : List ℕ) → ParamFront text (p, rest) → length rest < length text
 param-shorter text p rest (both inner mark (both (name, r) token (both (value, s) led is))) =
     let same : rest ≡ s = ap (λ x. x.1) is in
@@ -90,7 +90,7 @@ blank-bare : (b : ℕ) → is_blank b ≡ true → is_bare_byte b ≡ false
 blank-bare = blank_is (λ b. is_bare_byte b ≡ false) refl refl refl refl
 
 -- no blank run begins a value
-bare-stops : (v rest : List ℕ) → (Token or Ipv6Address) v → StopsBlank (v ++ rest)
+bare-stops : (v rest : List ℕ) → (Token or Ipv6) v → StopsBlank (v ++ rest)
 bare-stops v rest kind = at v (some-bare v kind) (each-bare v kind)
   where
     solid : (b : ℕ) (x : Bool) → is_blank b ≡ x → is_bare_byte b ≡ true → is_blank b ≡ false
@@ -101,7 +101,7 @@ bare-stops v rest kind = at v (some-bare v kind) (each-bare v kind)
     at [] some all = absurd (some refl)
     at (b ∷ u) some all = stops-byte b (u ++ rest) (solid b (is_blank b) refl all.0)
 
-value-stops : (v rest : List ℕ) → ParamValue v → StopsBlank (v ++ rest)
+value-stops : (v rest : List ℕ) → GenValue v → StopsBlank (v ++ rest)
 value-stops v rest (inl token) = bare-stops v rest (inl token)
 value-stops v rest (inr (inl quoted)) = subst StopsBlank (sym (quoted-whole v rest quoted)) (stops-byte dquote (quoted.3.0 ++ dquote ∷ rest) refl)
 value-stops v rest (inr (inr (inl v6))) = bare-stops v rest (inr v6)
@@ -110,14 +110,14 @@ value-stops v rest (inr (inr (inr reference))) =
     subst (λ t. StopsBlank (t ++ rest)) (sym bracket.2) (stops-byte left_bracket ((bracket.0 ++ right_bracket ∷ []) ++ rest) refl)
 
 -- a value is read before what may follow it
-value-front : (v rest : List ℕ) → ParamValue v → Next is_separator rest → ValueFront (v ++ rest) (v, rest)
+value-front : (v rest : List ℕ) → GenValue v → Next is_separator rest → ValueFront (v ++ rest) (v, rest)
 value-front v rest (inl token) next = inr (inr (inl token, next-stops is_separator is_bare_byte rest blank-bare separator-bare next, refl))
 value-front v rest (inr (inl quoted)) next = inl (quoted, refl)
 value-front v rest (inr (inr (inl v6))) next = inr (inr (inr v6, next-stops is_separator is_bare_byte rest blank-bare separator-bare next, refl))
 value-front v rest (inr (inr (inr reference))) next = inr (inl (reference, refl))
 
 -- what is read is a value
-front-value : (text v rest : List ℕ) → ValueFront text (v, rest) → ParamValue v
+front-value : (text v rest : List ℕ) → ValueFront text (v, rest) → GenValue v
 front-value text v rest (inl is) = inr (inl is.0)
 front-value text v rest (inr (inl is)) = inr (inr (inr is.0))
 front-value text v rest (inr (inr (inl token, stops, whole))) = inl token
@@ -207,7 +207,7 @@ params-yes text ps so =
     let is = front-params ps text [] so in
     subst (λ t. ParamsText t ps) (sym (is.2 ∙ append-nil is.0)) is.1
 
--- where a text is parameters, nothing is left behind those at its front
+-- where a text is parameters, nothing is left after those at its front
 pub params-is : (text : List ℕ) (ps qs : List Param) (rest : List ℕ) → AllParamsFront text (ps, rest) → ParamsText text qs → rest ≡ []
 params-is text ps qs rest all is =
     let front : ParamsFront text qs [] = subst (λ t. ParamsFront t qs []) (append-nil text) (params-front qs text [] is (inl refl)) in
@@ -242,7 +242,7 @@ opens-semicolon text rest found = subst OpensSolid (sym (past-some semicolon tex
 abbrev pub AreParams : List ℕ → Type 0
 AreParams text = (ps : List Param) × ParamsPart text ps
 
--- a text that begins with ";" is, exactly if nothing is left behind them
+-- a text that begins with ";" is, exactly if nothing is left after them
 pub params-some : (text inner rest : List ℕ) → past semicolon text ≡ Some inner → (ps : List Param) × AllParamsFront text (ps, rest) → IsTrue (nat_eq (length rest) 0) ↔ AreParams text
 params-some text inner rest found all = (to rest all.0 all.1, from)
   where
@@ -261,7 +261,7 @@ params-none text none = (to text, (λ are. ap (λ t. nat_eq (length t) 0) (param
     to [] is = ([], (tt, refl))
     to (b ∷ t) is = absurd (omega (arith, eqb-true (length (b ∷ t)) 0 is))
 
--- parameters behind blanks
+-- parameters after blanks
 pub behind-params : (part : List ℕ) (ps : List Param) (q : List ℕ) → ParamsPart part ps → BehindBlanks part q → ParamsText q ps
 behind-params [] ps q is q_is = subst (λ t. ParamsText t ps) (sym q_is) is.1
 behind-params (b ∷ part) [] q is blanks = absurd (omega (arith, ap length is.1))

@@ -4,15 +4,15 @@ use Rattle.std.proofs.lemmas.Bool.{both_ways, eq-eqb, or_from}
 use Rattle.std.proofs.lemmas.Option.{none-some}
 use Rattle.std.proofs.lemmas.List.{append_assoc, append-nil, length-append}
 use Rattle.std.proofs.Math.Seq.{take-append_seam}
+use Rattle.sip_standard.specs.Text.{◌or◌, ◌then◌}
+use Rattle.sip_standard.specs.Profile.{Token, Sws, Quoted, Ipv6, Bracketed}
 use Rattle.sip_text.specs.Bytes.{colon, dquote, left_bracket, right_bracket, is_token_byte}
-use Rattle.sip_text.specs.Text.{◌or◌, led, HasFront, IsLongestFront, IsOnlyFront, IsOnlyValue}
-use Rattle.sip_text.specs.Cut.{past, before, behind}
-use Rattle.sip_text.specs.Grammar.{Token, Sws, QuotedString}
-use Rattle.sip_text.specs.Host.{Ipv6Address, Ipv6Reference, HostParts, HostText, name, v4, v6}
-use Rattle.sip_text.proofs.CutLemmas.{past-some, cut-whole, lacks-before, behind-led}
-use Rattle.sip_text.proofs.ManyLemmas.{front-rest}
+use Rattle.sip_text.specs.Parts.{led, HasFront, IsLongestFront, IsOnlyFront, IsOnlyValue}
+use Rattle.sip_text.specs.Host.{HostParts, HostText, name, v4, v6}
+use Rattle.sip_text.specs.inner.Cut.{past, before, behind}
+use Rattle.sip_text.proofs.cuts.CutLemmas.{past-some, cut-whole, lacks-before, behind-led}
+use Rattle.sip_text.proofs.texts.ManyLemmas.{front-rest}
 use Rattle.sip_message.specs.Unfold.{is_blank}
-use Rattle.sip_message.specs.Params.{Quoted}
 use Rattle.sip_message.specs.inner.Fronts.{Stops, TokenFront}
 use Rattle.sip_message.specs.inner.ParamFronts.{is_bare_byte, PastRun, BareFront, QuotedFront, BracketFront, ReferenceFront, ValueFront}
 use Rattle.sip_message.proofs.lemmas.text.Cuts.{All, all_both, same_front}
@@ -97,16 +97,16 @@ bare-token_front text token rest ((is, stops, whole), only) none =
     (inl is, stops-bare rest stops none, whole.4 ∙ ap (λ x. x ++ whole.1) whole.2 ∙ ap (λ x. token ++ x) whole.3)
 
 -- a bare value that is cut is one, or there is none
-pub bare-found : (text rest value : List ℕ) → PastRun is_bare_byte text rest → value ≡ take (length text - length rest) text → (Token or Ipv6Address) value → ReadAs (BareFront text) (value, rest)
+pub bare-found : (text rest value : List ℕ) → PastRun is_bare_byte text rest → value ≡ take (length text - length rest) text → (Token or Ipv6) value → ReadAs (BareFront text) (value, rest)
 bare-found text rest value (stops, (run, all, whole)) is kind =
     let same : value ≡ run = is ∙ front-is text run rest whole in
     read-one (BareFront text) (value, rest) (one-bare text) (kind, stops, whole ∙ ap (λ x. x ++ rest) (sym same))
 
 -- a bare run that is neither a token nor an IPv6 address is no value
-pub bare-missing : (text rest value : List ℕ) → PastRun is_bare_byte text rest → value ≡ take (length text - length rest) text → ((Token or Ipv6Address) value → ⊥) → NotRead (BareFront text)
+pub bare-missing : (text rest value : List ℕ) → PastRun is_bare_byte text rest → value ≡ take (length text - length rest) text → ((Token or Ipv6) value → ⊥) → NotRead (BareFront text)
 bare-missing text rest value (stops, (run, all, whole)) is other (v, r) (kind, v_stops, v_whole) =
     let same = same_front is_bare_byte v r run rest (each-bare v kind) all v_stops stops (sym v_whole ∙ whole) in
-    other (subst (Token or Ipv6Address) (same.0 ∙ sym (is ∙ front-is text run rest whole)) kind)
+    other (subst (Token or Ipv6) (same.0 ∙ sym (is ∙ front-is text run rest whole)) kind)
 
 -- a text as long as its longest token is one
 pub token-whole : (text : List ℕ) (n : ℕ) → IsLongestFront Token text n → (text ≡ [] → ⊥) → n ≡ length text → Token text
@@ -133,7 +133,7 @@ whole-token text n longest within token =
 past-here : (mark : ℕ) (rest : List ℕ) → past mark (mark ∷ rest) ≡ Some rest
 past-here mark rest = ap (λ same. cond same (Some rest) None) (eq-eqb mark mark refl)
 
--- brackets, their parts one behind the other
+-- brackets, their parts one after the other
 bracket-whole : (text : List ℕ) (x : List ℕ × List ℕ) → (b : BracketFront text x) → text ≡ left_bracket ∷ (b.0 ++ right_bracket ∷ (x.1))
 bracket-whole text (v, r) (i, lacks, v_is, whole) =
     whole ∙ ap (λ x. x ++ r) v_is ∙ ap (λ x. left_bracket ∷ x) (append_assoc i (right_bracket ∷ []) r)
@@ -150,7 +150,7 @@ no-close text inner found none x bracket =
     let inner_is : inner ≡ bracket.0 ++ right_bracket ∷ (x.1) = cc in
     none-some (x.1) (sym none ∙ ap (behind right_bracket) inner_is ∙ behind-led right_bracket bracket.0 (Some (x.1)) bracket.1)
 
--- what stands before the rest behind "]"
+-- what stands before the rest after "]"
 closed : (text inner rest : List ℕ) → past left_bracket text ≡ Some inner → behind right_bracket inner ≡ Some rest → text ≡ (left_bracket ∷ (before right_bracket inner ++ right_bracket ∷ [])) ++ rest
 closed text inner rest found ends =
     past-some left_bracket text inner found
@@ -171,7 +171,7 @@ closed-short text inner rest found ends =
     rest-short text (left_bracket ∷ (before right_bracket inner ++ right_bracket ∷ [])) rest (closed text inner rest found ends)
 
 -- a host in brackets is an IPv6 address in brackets
-pub bracket-host : (text part rest : List ℕ) (h : HostParts) → BracketFront text (part, rest) → HostText part h → Ipv6Reference part
+pub bracket-host : (text part rest : List ℕ) (h : HostParts) → BracketFront text (part, rest) → HostText part h → Bracketed part
 bracket-host text part rest (v6 x) bracket is = is.0
 bracket-host text part rest (name x) (i, lacks, part_is, whole) is =
     absurd (both_ways (is_token_byte left_bracket) refl (subst (All is_token_byte) part_is (each-hostname part is.0)).0)
@@ -187,7 +187,7 @@ one-host_reference text part rest h bracket host =
 pub no-host_reference : (text part rest : List ℕ) → ReadAs (BracketFront text) (part, rest) → ((h : HostParts) → HostText part h → ⊥) → NotRead (ReferenceFront text)
 no-host_reference text part rest bracket none x reference =
     let same : x ≡ (part, rest) = bracket.1 x (reference-bracket text x reference) in
-    let is : Ipv6Reference part = subst Ipv6Reference (ap (λ y. y.0) same) reference.0 in
+    let is : Bracketed part = subst Bracketed (ap (λ y. y.0) same) reference.0 in
     none (v6 part) (is, refl)
 
 -- a quoted string at the front
@@ -195,15 +195,15 @@ pub no-open : (text : List ℕ) → past dquote text ≡ None → NotRead (Quote
 no-open text none (v, r) (q, whole) =
     none-some (q.3.0 ++ dquote ∷ r) (sym none ∙ ap (past dquote) (whole ∙ quoted-whole v r q) ∙ past-here dquote _)
 
-quoted-string : (text : List ℕ) (x : List ℕ × List ℕ) → QuotedFront text x → HasFront QuotedString text (length (x.0))
+quoted-string : (text : List ℕ) (x : List ℕ × List ℕ) → QuotedFront text x → HasFront (Sws then Quoted) text (length (x.0))
 quoted-string text (v, r) (q, whole) = (v, r, ([], v, inl refl, q, refl), whole, refl)
 
 -- where no quoted string stands at the front, none is read
-pub no-quoted : (text : List ℕ) → IsOnlyFront QuotedString text None → NotRead (QuotedFront text)
+pub no-quoted : (text : List ℕ) → IsOnlyFront (Sws then Quoted) text None → NotRead (QuotedFront text)
 no-quoted text none x quoted = none (length (x.0)) (quoted-string text x quoted)
 
 -- where one does, it is read
-pub one-quoted_string : (text inner : List ℕ) (n : ℕ) → past dquote text ≡ Some inner → IsOnlyFront QuotedString text (Some n) → ReadAs (QuotedFront text) (take n text, drop n text)
+pub one-quoted_string : (text inner : List ℕ) (n : ℕ) → past dquote text ≡ Some inner → IsOnlyFront (Sws then Quoted) text (Some n) → ReadAs (QuotedFront text) (take n text, drop n text)
 one-quoted_string text inner n found ((u, v, (blanks, q, sws, quoted, u_is), whole, len), only) =
     read-one (QuotedFront text) (take n text, drop n text) (one-quoted text)
     (subst Quoted (sym (front_is ∙ u_is ∙ ap (λ x. x ++ q) (none blanks sws flat))) quoted, whole ∙ ap (λ x. x ++ v) (sym front_is) ∙ ap (λ x. take n text ++ x) (sym rest_is))
@@ -212,7 +212,7 @@ one-quoted_string text inner n found ((u, v, (blanks, q, sws, quoted, u_is), who
     front_is = ap (λ m. take m text) len ∙ ap (take (length u)) whole ∙ take-append_seam u v
 
     rest_is : drop n text ≡ v
-    rest_is = front-rest QuotedString text n (u, v, (blanks, q, sws, quoted, u_is), whole, len)
+    rest_is = front-rest (Sws then Quoted) text n (u, v, (blanks, q, sws, quoted, u_is), whole, len)
 
     flat : dquote ∷ inner ≡ blanks ++ (q ++ v)
     flat = sym (past-some dquote text inner found) ∙ whole ∙ ap (λ x. x ++ v) u_is ∙ append_assoc blanks q v

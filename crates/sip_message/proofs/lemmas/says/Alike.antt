@@ -1,8 +1,8 @@
 -- Two readings that come to the same.
 use Rattle.std.proofs.Common.{◌≡◌, refl, sym, subst}
 use Rattle.std.specs.Prelude.{⊤}
-use Rattle.sip_message.specs.declared.fault.Fault.{Fault}
-use Rattle.sip_message.specs.Outcome.{Outcome, gives, stops, Gives, Demand, Holds, Then, passes, stopped}
+use Rattle.sip_standard.specs.declared.fault.Fault.{Fault}
+use Rattle.sip_standard.specs.Outcome.{Outcome, gives, stops, Gives, Demand, Holds, Then, passes, stopped}
 
 -- both give values that Q relates, or stop at one fault
 abbrev pub Alike : {X Y : Type 0} → (X → Y → Type 0) → Outcome X → Outcome Y → Type 0

@@ -1,28 +1,33 @@
 -- What bytes are read as, and what they say: the start line and the fields are the same.
 use Rattle.std.proofs.Common.{◌≡◌, ℕ, ◌+◌, ◌≤◌, Bool, true, false, cond, ◌||◌, List, [], ◌∷◌, ◌++◌, length, map, Option, inl, inr, refl, sym, ap, ◌∙◌, subst, arith}
 use Rattle.std.specs.Prelude.{⊤, ◌==◌, codes, bytes_eq, filter, IfSome, is_some}
-use Rattle.std.specs.List.{AllByRecursion}
 use Prim.Native.String.{String}
 use Rattle.std.proofs.lemmas.Bool.{both_ways, or_cases, or_left, or_right}
 use Rattle.std.proofs.lemmas.Slice.Eq.{bytes_eq-Decides}
 use Rattle.std.proofs.lemmas.List.{length-append}
-use Rattle.sip_text.specs.Text.{One, Byte, Exactly, ◌then◌, ◌or◌, Many}
-use Rattle.sip_text.specs.Case.{folded}
-use Rattle.sip_text.specs.Chars.{AnyCase}
-use Rattle.sip_text.specs.Grammar.{Token, Sws}
+use Rattle.sip_standard.specs.Text.{One, Exactly, ◌then◌, ◌or◌, Many}
+use Rattle.sip_standard.specs.Case.{folded}
+use Rattle.sip_standard.specs.Chars.{AnyCase}
+use Rattle.sip_standard.specs.Profile.{Token, Sws}
+use Rattle.sip_text.specs.Bytes.{Byte}
 use Rattle.sip_message.specs.declared.name.Known.{Known}
 use Rattle.sip_message.specs.declared.name.Known.TheVariants as known_name
-use Rattle.sip_message.specs.declared.fault.Reason.TheVariants as reason
+use Rattle.sip_standard.specs.declared.fault.Reason.TheVariants as reason
 use Rattle.sip_message.specs.Unfold.{is_blank, OpensSolid, EndsSolid}
-use Rattle.sip_message.specs.Lines.{HasNoBareEnd, BeginsBlank, IsFolded, IsLines}
-use Rattle.sip_message.specs.StartLine.{StartLine, request, status, StartText}
+use Rattle.sip_message.specs.Lines.{HasNoBareEnd}
+use Rattle.sip_standard.specs.StartLine.{StartLine, request, status, StartSays}
+use Rattle.sip_message.specs.StartLine.{StartText}
 use Rattle.sip_message.specs.Name.{FieldName, name_of, is_name_of}
 use Rattle.sip_message.specs.Field.{Field, Row}
 use Rattle.sip_message.specs.Elements.{Element, ElementsText}
-use Rattle.sip_message.specs.Message.{Message, found, found_from, is_stream, IsStream, MethodFits, HasLength, IsEnough, IsNoMore, length_in, content_length}
-use Rattle.sip_message.specs.Outcome.{Outcome, Gives, Demand, Holds, Then}
-use Rattle.sip_message.specs.Faults.{fault_in_head, fault_in_line, fault_in_body, HasName, IsValue, FieldOf, FieldsOf, NamesOf, BodyOf, LinesOf, IsCut, ReadOf}
-use Rattle.sip_message.specs.Says.{StartSays, full_name, RowSays, SaidField, all, is_lws_byte, IsTrimmed, FieldSays, FieldsSay, FirstOf, NoSecond, OneOf, NamesSay, MethodSays, StreamSays, BodySays, CutSays, OpensBlank, LinesSay, LinesTell, BytesTell}
+use Rattle.sip_standard.specs.Body.{length_in, MethodSays, StreamSays, BodySays}
+use Rattle.sip_message.specs.Message.{Message, found, found_from, is_stream, IsStream, MethodFits, HasLength, IsEnough, IsNoMore, content_length}
+use Rattle.sip_standard.specs.Outcome.{Outcome, Gives, Demand, Holds, Then}
+use Rattle.sip_standard.specs.Faults.{fault_in_head, fault_in_line, fault_in_body}
+use Rattle.sip_message.specs.inner.Faults.{HasName, IsValue, FieldOf, FieldsOf, NamesOf, BodyOf, LinesOf, ReadOf}
+use Rattle.sip_standard.specs.Field.{full_name, RowSays, SaidField, all, is_lws_byte, IsTrimmed, FieldSays, FieldsSay, FirstOf, NoSecond, OneOf, NamesSay}
+use Rattle.sip_standard.specs.Lines.{CutSays}
+use Rattle.sip_standard.specs.Says.{LinesTell, BytesTell}
 use Rattle.sip_message.specs.SaidOf.{said_via}
 use Rattle.sip_message.proofs.lemmas.says.Alike.{Same, Equal, same-demand, same-holds, same-gives, same-self, same-then, same-next}
 use Rattle.sip_message.proofs.lemmas.says.Via.{vias-said, said-vias, elements-first, via-elements}
@@ -220,48 +225,11 @@ same-told rest first others =
     same-then Beside IsTold _ _ (subst (λ x. Same Beside (BodyOf start names.1 names.0.1 (content_length fs) rest) (BodySays start names.1 names.0.1 (length_in x) rest)) (all-found known_name.ContentLength "content-length" named-content-length 1 fs gs are) (same-body start names.1 names.0.1 (content_length fs) rest)) (λ body y any.
     same-gives IsTold _ _ (refl, are)))))
 
--- the lines
-begins-opens : (t : List ℕ) → BeginsBlank t → OpensBlank t
-begins-opens [] begins = absurd begins
-begins-opens (b ∷ t) begins = (b ∷ [], t, (b, begins, refl), tt, refl)
-
-opens-begins : (t : List ℕ) → OpensBlank t → BeginsBlank t
-opens-begins t (u, v, (b, blank, u_is), any, whole) = subst BeginsBlank (sym (whole ∙ ap (λ z. z ++ v) u_is)) blank
-
-each-map : {X : Type 0} (P Q : X → Type 0) (xs : List X) → ((x : X) → P x → Q x) → AllByRecursion P xs → AllByRecursion Q xs
-each-map P Q [] go each = tt
-each-map P Q (x ∷ xs) go each = (go x each.0, each-map P Q xs go each.1)
-
--- in a line a blank stands behind each CRLF
-abbrev Folds : List ℕ → Type 0
-Folds line = (u v : List ℕ) → line ≡ u ++ (codes "\r\n" ++ v) → OpensBlank v
-
-lines-said : (head first : List ℕ) (others : List (List ℕ)) → IsLines head first others → LinesSay head first others
-lines-said head first others lines = (
-  lines.whole,
-  each-map IsFolded Folds (first ∷ others) (λ line folds u v whole. begins-opens v (folds u v whole)) lines.folded,
-  each-map (λ line. ¬ (BeginsBlank line)) (λ line. ¬ (OpensBlank line)) others (λ line none opens. none (opens-begins line opens)) lines.cut,
-)
-
-said-lines : (head first : List ℕ) (others : List (List ℕ)) → LinesSay head first others → IsLines head first others
-said-lines head first others (whole, folds, cut) = record {
-  whole = whole;
-  folded = each-map Folds IsFolded (first ∷ others) (λ line fold u v is. opens-begins v (fold u v is)) folds;
-  cut = each-map (λ line. ¬ (OpensBlank line)) (λ line. ¬ (BeginsBlank line)) others (λ line none begins. none (begins-opens line begins)) cut;
-}
-
--- the head and what follows it
-same-cut : (bytes : List ℕ) → Same Equal (Demand (IsCut bytes) (fault_in_head reason.NoHeadEnd)) (Demand (CutSays bytes) (fault_in_head reason.NoHeadEnd))
-same-cut bytes =
-    same-demand Equal (IsCut bytes) (CutSays bytes) (fault_in_head reason.NoHeadEnd)
-    (λ cut head. (cut, (head.front, head.head_is, head.whole, head.first), refl))
-    (λ cut says. (cut, record { front = says.0; head_is = says.1; whole = says.2; first = says.3 }, refl))
-
 -- bytes tell the start line and the fields of the message that they are read as, or its fault
 pub same-read : (bytes : List ℕ) → Same IsTold (ReadOf bytes) (BytesTell bytes)
 same-read bytes =
-    same-next IsTold _ _ (same-cut bytes) (λ cut.
+    same-next IsTold _ _ (same-self (Demand (CutSays bytes) (fault_in_head reason.NoHeadEnd))) (λ cut.
     same-next IsTold _ _ (same-self (Holds (HasNoBareEnd cut.0) (fault_in_head reason.BareLineEnd))) (λ _. record {
-      to = λ out head. let told = (same-told cut.1 head.0 head.1).to out head.3 in (told.0, (head.0, head.1, lines-said cut.0 head.0 head.1 head.2, told.1), told.2);
-      back = λ out head. let read = (same-told cut.1 head.0 head.1).back out head.3 in (read.0, (head.0, head.1, said-lines cut.0 head.0 head.1 head.2, read.1), read.2);
+      to = λ out head. let told = (same-told cut.1 head.0 head.1).to out head.3 in (told.0, (head.0, head.1, head.2, told.1), told.2);
+      back = λ out head. let read = (same-told cut.1 head.0 head.1).back out head.3 in (read.0, (head.0, head.1, head.2, read.1), read.2);
     }))

@@ -5,12 +5,14 @@ use Rattle.std.specs.Prelude.{bytes_eq, codes}
 use Rattle.std.specs.List.{AllByRecursion}
 use Rattle.std.proofs.lemmas.Bool.{both_ways}
 use Rattle.std.proofs.lemmas.Slice.Eq.{bytes_eq-Decides}
-use Rattle.sip_text.specs.Case.{folded}
+use Rattle.sip_standard.specs.Case.{folded}
 use Rattle.sip_message.specs.declared.name.Known.{Known}
 use Rattle.sip_message.specs.declared.name.Known.TheVariants as known_name
 use Rattle.sip_message.specs.Name.{FieldName, known, other, spellings, name_by, name_of, is_name_of}
 use Rattle.sip_message.specs.Field.{Row}
-use Rattle.sip_message.specs.Says.{full_name, RowSays, SaidVia, ViasSay, Address, CSeqSays}
+use Rattle.sip_standard.specs.Via.{SaidVia, ViasSay}
+use Rattle.sip_standard.specs.Values.{Address, CSeqSays}
+use Rattle.sip_standard.specs.Field.{full_name, RowSays}
 use Rattle.sip_message.specs.SaidOf.{said_via}
 use Rattle.sip_message.proofs.lemmas.says.Via.{vias-said, said-vias, via-elements, elements-via}
 use Rattle.sip_message.proofs.lemmas.says.Values.{address-said, said-address, cseq-said, said-cseq}

@@ -3,27 +3,30 @@ use Rattle.std.proofs.Common.{◌≡◌, ℕ, List, [], ◌∷◌, map, refl, sy
 use Rattle.std.specs.Prelude.{codes, bytes_eq}
 use Rattle.std.specs.List.{join_with_byte}
 use Prim.Native.String.{String}
-use Rattle.sip_message.specs.declared.fault.Fault.{Fault}
+use Rattle.sip_standard.specs.declared.fault.Fault.{Fault}
 use Rattle.sip_message.specs.declared.name.Known.{Known}
 use Rattle.sip_message.specs.declared.name.Known.TheVariants as known_name
 use Rattle.sip_message.specs.Name.{name_of, is_name_of}
 use Rattle.sip_message.specs.Params.{comma}
-use Rattle.sip_message.specs.StartLine.{StartLine}
+use Rattle.sip_standard.specs.StartLine.{StartLine}
 use Rattle.sip_message.specs.Address.{AddressParts}
 use Rattle.sip_message.specs.Field.{Field}
 use Rattle.sip_message.specs.Elements.{Element, AreElements, values}
-use Rattle.sip_message.specs.Message.{Message}
-use Rattle.sip_message.specs.Outcome.{Outcome, gives, stops, passes, stopped}
-use Rattle.sip_message.specs.Faults.{ReadOf}
+use Rattle.sip_message.specs.Message.{Message, MessageText, message_of, Spells}
+use Rattle.sip_message.specs.Only.{IsOnly}
+use Rattle.sip_standard.specs.Outcome.{Outcome, gives, stops, passes, stopped}
+use Rattle.sip_message.specs.inner.Faults.{ReadOf}
 use Rattle.sip_message.specs.Reading.{Reading, Parts, HasParts, IsValueOf, AddressValue}
 use Rattle.sip_message.specs.Reads.{Reads}
-use Rattle.sip_message.specs.Says.{full_name, SaidField, said_values, Said, SaidVia, ViasTell, IsFirstOf, FieldsTell, BytesTell, Says}
+use Rattle.sip_standard.specs.Via.{SaidVia}
+use Rattle.sip_standard.specs.Field.{full_name, SaidField, said_values}
+use Rattle.sip_standard.specs.Says.{Said, ViasTell, IsFirstOf, FieldsTell, BytesTell, Says}
 use Rattle.sip_message.specs.SaidOf.{said_via, said_of}
-use Rattle.sip_text.specs.Case.{folded}
+use Rattle.sip_standard.specs.Case.{folded}
 use Rattle.sip_message.proofs.lemmas.asked.Parts.{found-values, has-parts}
 use Rattle.sip_message.proofs.lemmas.asked.OneWay.{parts-one}
 use Rattle.sip_message.proofs.lemmas.message.Outcome.{no_value, given, fault_is}
-use Rattle.sip_message.proofs.lemmas.message.Faults.{read-text, text-read}
+use Rattle.sip_message.proofs.lemmas.message.Faults.{read-text, text-read, one-read}
 use Rattle.sip_message.proofs.lemmas.message.Views.{same_reading}
 use Rattle.sip_message.proofs.lemmas.says.Alike.{Alike}
 use Rattle.sip_message.proofs.lemmas.says.Via.{are-said, said-are}
@@ -97,13 +100,17 @@ tell-parts m start gs p s (start_is, are) parts tells = at es.0 es.1 es.2
           (λ i. record { start = start_same i; via = via i; others = others i; from = from i; to = to i; call_id = s.call_id; cseq = s.cseq; route = route i }),
         )
 
--- bytes say what their reading says
-pub reads-says : (bytes : List ℕ) (r : Reading) → Reads bytes r → Says bytes (gives (said_of r))
-reads-says bytes r reads = let told = (same-read bytes).to (gives r.message) (text-read bytes r.message reads.text) in at told.0 told.1 told.2
+-- bytes say what the message that they are says
+pub text-says : (bytes : List ℕ) (r : Reading) → MessageText bytes r.message → HasParts r.message.fields r.parts → Says bytes (gives (said_of r))
+text-says bytes r text parts = let told = (same-read bytes).to (gives r.message) (text-read bytes r.message text) in at told.0 told.1 told.2
   where
     at : (b : Outcome (StartLine × List SaidField)) → BytesTell bytes b → Alike IsTold (gives r.message) b → Says bytes (gives (said_of r))
-    at (gives y) tells is_told = passes y tells (said_of r, parts-tell r.message y.0 y.1 r.parts is_told reads.parts.is, refl)
+    at (gives y) tells is_told = passes y tells (said_of r, parts-tell r.message y.0 y.1 r.parts is_told parts, refl)
     at (stops f) tells is_told = absurd is_told
+
+-- so they are read as that message
+pub text-reads : (bytes : List ℕ) (r : Reading) → MessageText bytes r.message → IsOnly (HasParts r.message.fields) r.parts → Reads bytes r
+text-reads bytes r text parts = record { says = text-says bytes r text parts.is; text = text; parts = parts }
 
 -- and have a reading that says it
 pub says-reads : (bytes : List ℕ) (s : Said) → Says bytes (gives s) → (r : Reading) × Reads bytes r × (s ≡ said_of r)
@@ -117,7 +124,7 @@ says-reads bytes s (passes y tells (t, fields, is)) = let read = (same-read byte
         let parts = has-parts bytes m text in
         let q = tell-parts m y.0 y.1 parts.0 s is_told parts.1 (subst (FieldsTell y.0 y.1) (sym (given is)) fields) in (
           record { message = m; parts = q.0 },
-          record { text = text; parts = record { is = q.1; only = λ other others. parts-one m.fields other q.0 others q.1 } },
+          text-reads bytes (record { message = m; parts = q.0 }) text (record { is = q.1; only = λ other others. parts-one m.fields other q.0 others q.1 }),
           q.2,
         )
 
@@ -142,3 +149,30 @@ pub said-is : (bytes : List ℕ) (r : Reading) (s : Said) → Reads bytes r → 
 said-is bytes r s reads says =
     let other = says-reads bytes s says in
     other.2 ∙ ap said_of (same_reading bytes other.0 r other.1 reads)
+
+-- what bytes say is one thing
+pub says-one : (bytes : List ℕ) (a b : Outcome Said) → Says bytes a → Says bytes b → a ≡ b
+says-one bytes (gives s) (gives t) one other =
+    let read = says-reads bytes s one in
+    ap (λ x. gives x) (read.2 ∙ sym (said-is bytes read.0 t read.1 other))
+says-one bytes (gives s) (stops f) one other =
+    let read = says-reads bytes s one in
+    absurd (no_value (one-read bytes (gives read.0.message) (stops f) (text-read bytes read.0.message read.1.text) (says-fault bytes f other)))
+says-one bytes (stops f) (gives s) one other =
+    let read = says-reads bytes s other in
+    absurd (no_value (one-read bytes (gives read.0.message) (stops f) (text-read bytes read.0.message read.1.text) (says-fault bytes f one)))
+says-one bytes (stops f) (stops g) one other =
+    ap (λ x. stops x) (fault_is (one-read bytes (stops f) (stops g) (says-fault bytes f one) (says-fault bytes g other)))
+
+-- a message and a fault are not said of the same bytes
+pub says-no_fault : (bytes : List ℕ) (s : Said) (f : Fault) → Says bytes (gives s) → Says bytes (stops f) → ⊥
+says-no_fault bytes s f one other = no_value (says-one bytes (gives s) (stops f) one other)
+
+-- bytes that say something spell a message, and the other way round
+pub says-spells : (bytes : List ℕ) (s : Said) → Says bytes (gives s) → (m : Message) × Spells bytes m
+says-spells bytes s says = let read = says-reads bytes s says in (message_of read.0.message, (read.0.message, read.1.text, refl))
+
+pub spells-says : (bytes : List ℕ) (m : Message) → Spells bytes m → (s : Said) × Says bytes (gives s)
+spells-says bytes m (spelled, text, is) =
+    let parts = has-parts bytes spelled text in
+    (said_of (record { message = spelled; parts = parts.0 }), text-says bytes (record { message = spelled; parts = parts.0 }) text parts.1)

@@ -3,18 +3,20 @@ use Rattle.std.proofs.Common.{ℕ, List, [], ◌∷◌, ◌++◌, Option, None, 
 use Rattle.std.specs.Prelude.{⊤, codes, not}
 use Rattle.std.specs.Str.Parse.{digits_value}
 use Rattle.std.proofs.lemmas.List.{append-nil}
-use Rattle.sip_text.specs.Bytes.{equals, is_one_of}
-use Rattle.sip_text.specs.Text.{One, Byte, Exactly, ◌then◌, ◌or◌, Optional, Many}
-use Rattle.sip_text.specs.Grammar.{Token, Sws, Blanks}
-use Rattle.sip_text.specs.Profile as profile
-use Rattle.sip_text.proofs.ManyLemmas.{many-map}
-use Rattle.sip_text.proofs.ProfileLemmas.{uri-parts, parts-uri}
-use Rattle.sip_message.specs.Params.{left_angle, Mark, ParamValue}
+use Rattle.sip_standard.specs.Text.{One, Exactly, ◌then◌, ◌or◌, Optional, Many}
+use Rattle.sip_standard.specs.Profile.{Token, Sws, Blanks}
+use Rattle.sip_text.specs.Bytes.{equals, is_one_of, Byte}
+use Rattle.sip_standard.specs.Profile as profile
+use Rattle.sip_text.proofs.texts.ManyLemmas.{many-map}
+use Rattle.sip_text.proofs.hosts.ProfileLemmas.{uri-parts, parts-uri}
+use Rattle.sip_standard.specs.Via.{GenValue}
+use Rattle.sip_message.specs.Params.{left_angle, Mark}
 use Rattle.sip_message.specs.Address.{DisplayName, AddressParts, BeforeUri, AddressText, name_addr, addr_spec}
-use Rattle.sip_message.specs.StartLine.{StartLine, request, status, is_reason_byte, StartText}
+use Rattle.sip_standard.specs.StartLine.{StartLine, request, status, StartSays}
+use Rattle.sip_message.specs.StartLine.{is_reason_byte, StartText}
 use Rattle.sip_message.specs.Values.{Digits, CSeqText}
 use Rattle.sip_message.specs.Reading.{CSeqValue}
-use Rattle.sip_message.specs.Says.{StartSays, Address, CSeqSays}
+use Rattle.sip_standard.specs.Values.{Address, CSeqSays}
 use Rattle.sip_message.proofs.lemmas.params.Closed.{ParamSet, AllOk, TailSet, tail-set, set-tail}
 
 -- start lines
@@ -39,12 +41,12 @@ any-params [] = tt
 any-params (p ∷ ps) = (tt, any-params ps)
 
 abbrev Generic : List ℕ → Type 0
-Generic = Token then Optional (Mark equals then ParamValue)
+Generic = Token then Optional (Mark equals then GenValue)
 
 generic-param : (x : List ℕ) → ParamSet Any x → Generic x
 generic-param x (n, None, ok, (token, x_is)) = (x, [], subst Token (sym x_is) token, inl refl, sym (append-nil x))
 generic-param x (n, Some v, ok, (token, kind, (a, b, a_is, (c, d, mark, d_is, b_is), whole))) =
-    (a, b, subst Token (sym a_is) token, inr (c, d, mark, subst ParamValue (sym d_is) kind, b_is), whole)
+    (a, b, subst Token (sym a_is) token, inr (c, d, mark, subst GenValue (sym d_is) kind, b_is), whole)
 
 param-generic : (x : List ℕ) → Generic x → ParamSet Any x
 param-generic x (a, r, token, inl none, whole) = (a, None, tt, (token, whole ∙ ap (λ t. a ++ t) none ∙ append-nil a))

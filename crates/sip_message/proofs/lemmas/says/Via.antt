@@ -3,20 +3,21 @@ use Rattle.std.proofs.Common.{◌≡◌, ℕ, List, [], ◌∷◌, ◌++◌, len
 use Rattle.std.specs.Prelude.{codes}
 use Rattle.std.proofs.lemmas.Bool.{both_ways}
 use Rattle.std.proofs.lemmas.List.{append-nil, append_assoc}
+use Rattle.sip_standard.specs.Text.{◌then◌}
+use Rattle.sip_standard.specs.Case.{folded}
+use Rattle.sip_standard.specs.Chars.{EachSays}
+use Rattle.sip_standard.specs.Profile.{Token, Port}
 use Rattle.sip_text.specs.Bytes.{semicolon}
-use Rattle.sip_text.specs.Text.{◌then◌}
-use Rattle.sip_text.specs.Case.{folded, SameText}
-use Rattle.sip_text.specs.Grammar.{Token}
-use Rattle.sip_text.specs.Uri.{Port}
+use Rattle.sip_text.specs.Case.{SameText}
 use Rattle.sip_text.specs.Host.{host_text}
-use Rattle.sip_text.specs.Chars.{EachSays}
-use Rattle.sip_text.specs.Profile as profile
-use Rattle.sip_text.proofs.ProfileLemmas.{host-parts, parts-host}
+use Rattle.sip_standard.specs.Profile as profile
+use Rattle.sip_text.proofs.hosts.ProfileLemmas.{host-parts, parts-host}
 use Rattle.sip_message.specs.Unfold.{is_blank, OpensSolid}
-use Rattle.sip_message.specs.Params.{ParamValue, ParamText, ParamsText, ParamsPart, BehindBlanks}
+use Rattle.sip_message.specs.Params.{ParamText, ParamsText, ParamsPart, BehindBlanks}
 use Rattle.sip_message.specs.Via.{ViaParts, IsBranch, ColonPort, ViaText, MoreVias, ViasText}
 use Rattle.sip_message.specs.Elements.{Element, MoreElements, ElementsText, AreElements}
-use Rattle.sip_message.specs.Says.{SaidVia, PortSays, ParamSays, first_some, ViaSays, ViasSay, ViasTell}
+use Rattle.sip_standard.specs.Via.{SaidVia, PortSays, ParamSays, first_some, ViaSays, ViasSay, GenValue}
+use Rattle.sip_standard.specs.Says.{ViasTell}
 use Rattle.sip_message.specs.SaidOf.{said_via}
 use Rattle.sip_message.proofs.lemmas.text.Cuts.{All}
 use Rattle.sip_message.proofs.lemmas.text.Each.{each-sws}
@@ -67,7 +68,7 @@ other-said : (x n : List ℕ) (value : Option (List ℕ)) → ¬ (SameText n (co
 other-said x n None differs (named, x_is) =
     (x, [], (subst Token (sym x_is) named, (λ same. differs (ap folded (sym x_is) ∙ same))), inl refl, sym (append-nil x))
 other-said x n (Some v) differs (named, kind, (a, b, a_is, (c, d, mark, d_is, b_is), whole)) =
-    (a, b, (subst Token (sym a_is) named, (λ same. differs (ap folded (sym a_is) ∙ same))), inr (c, d, mark, subst ParamValue (sym d_is) kind, b_is), whole)
+    (a, b, (subst Token (sym a_is) named, (λ same. differs (ap folded (sym a_is) ∙ same))), inr (c, d, mark, subst GenValue (sym d_is) kind, b_is), whole)
 
 said-other : (x : List ℕ) → ParamSays None x → (n : List ℕ) × (value : Option (List ℕ)) × ¬ (SameText n (codes "branch")) × ParamText x (n, value)
 said-other x (a, r, (token, none), inl nil, whole) = (a, None, none, (token, whole ∙ ap (λ t. a ++ t) nil ∙ append-nil a))

@@ -5,10 +5,11 @@ use Rattle.std.specs.Char.{to_ascii_lowercase, is_ascii_digit}
 use Rattle.std.specs.Str.Parse.{digits_value}
 use Rattle.std.proofs.lemmas.Bool.{both_ways}
 use Rattle.std.proofs.lemmas.List.{length-append}
+use Rattle.sip_standard.specs.Text.{One}
+use Rattle.sip_standard.specs.Case.{folded}
 use Rattle.sip_text.specs.Bytes.{space, is_token_byte}
-use Rattle.sip_text.specs.Text.{One}
-use Rattle.sip_text.specs.Case.{folded}
-use Rattle.sip_message.specs.StartLine.{StartLine, request, status, Version, CodeText, StartText}
+use Rattle.sip_standard.specs.StartLine.{StartLine, request, status}
+use Rattle.sip_message.specs.StartLine.{Version, CodeText, StartText}
 use Rattle.sip_message.proofs.lemmas.text.Cuts.{same_front, same_by_front, same_by_end, All}
 use Rattle.sip_message.proofs.lemmas.field.OneWay.{each-token}
 
@@ -31,7 +32,7 @@ pub length-code : (text : List ℕ) (code : ℕ) → CodeText text code → leng
 length-code text code is =
     omega (arith, is.digits.3, is.digits.4, ap length is.digits.2, length-digits is.digits.0 is.digits.1)
 
--- a request line, its parts one behind the other
+-- a request line, its parts one after the other
 pub record RequestParts (line method uri : List ℕ) : Type 0 where
   pub version : List ℕ
   pub is_version : Version version
@@ -45,7 +46,7 @@ request_parts line method uri (token, is_uri, (m, t, m_is, (s, t2, s_is, (u, t3,
   whole = line_is ∙ ap (λ x. x ++ t) m_is ∙ ap (λ x. method ++ x) (t_is ∙ ap (λ x. x ++ t2) s_is ∙ ap (λ x. space ∷ x) (t2_is ∙ ap (λ x. x ++ t3) u_is ∙ ap (λ x. uri ++ x) (t3_is ∙ ap (λ x. x ++ version) s2_is)));
 }
 
--- a status line, its parts one behind the other
+-- a status line, its parts one after the other
 pub record StatusParts (line : List ℕ) (code : ℕ) (reason : List ℕ) : Type 0 where
   pub version : List ℕ
   pub digits : List ℕ

@@ -8,17 +8,19 @@ use Rattle.std.specs.Str.Parse.{digits_value}
 use Rattle.std.proofs.lemmas.Bool.{both_ways, ltb-false}
 use Rattle.std.proofs.lemmas.Option.{none-some}
 use Rattle.std.proofs.lemmas.List.{append_assoc, length-append, take-append-drop, length-drop, length-take, length-take-le, take-map, drop-map, map-append}
+use Rattle.sip_standard.specs.Text.{One, Many}
+use Rattle.sip_standard.specs.Case.{folded}
+use Rattle.sip_standard.specs.Profile.{Token}
 use Rattle.sip_text.specs.Bytes.{space}
-use Rattle.sip_text.specs.Text.{One, Many}
-use Rattle.sip_text.proofs.ManyLemmas.{many-some}
-use Rattle.sip_message.specs.Values.{Digits}
-use Rattle.sip_text.specs.Case.{folded, SameText}
-use Rattle.sip_text.specs.Grammar.{Token}
+use Rattle.sip_text.specs.Case.{SameText}
 use Rattle.sip_text.specs.Uri.{UriParts, UriText}
-use Rattle.sip_text.specs.Cut.{past}
-use Rattle.sip_text.proofs.CutLemmas.{past-some}
-use Rattle.sip_text.proofs.RunLemmas.{run-list_all, list_all-run}
-use Rattle.sip_message.specs.StartLine.{StartLine, request, status, Version, CodeText, is_reason_byte, StartText}
+use Rattle.sip_text.specs.inner.Cut.{past}
+use Rattle.sip_text.proofs.texts.ManyLemmas.{many-some}
+use Rattle.sip_message.specs.Values.{Digits}
+use Rattle.sip_text.proofs.cuts.CutLemmas.{past-some}
+use Rattle.sip_text.proofs.texts.RunLemmas.{run-list_all, list_all-run}
+use Rattle.sip_standard.specs.StartLine.{StartLine, request, status}
+use Rattle.sip_message.specs.StartLine.{Version, CodeText, is_reason_byte, StartText}
 use Rattle.sip_message.specs.inner.StartFronts.{RequestLine, StatusLine, CodeFront}
 use Rattle.sip_message.specs.inner.Fronts.{TokenFront}
 use Rattle.sip_message.proofs.lemmas.text.Cuts.{same_by_front, same_by_end}
@@ -58,13 +60,13 @@ pub request-no_token : (line : List ℕ) → NotRead (TokenFront line) → NotRe
 request-no_token line none (method, uri) is =
     let p = request_parts line method uri is in none (method, space ∷ (uri ++ space ∷ p.version)) (token-first line method uri p is.0)
 
--- nor without the SP behind it
+-- nor without the SP after it
 pub request-no_space : (line token rest : List ℕ) → ReadAs (TokenFront line) (token, rest) → past space rest ≡ None → NotRead (RequestLine line)
 request-no_space line token rest read none (method, uri) is =
     let r = request-cut line token rest method uri read is in
     none-some (uri ++ space ∷ r.1.version) (sym none ∙ ap (past space) r.1.whole)
 
--- what is behind the SP
+-- what is after the SP
 behind-space : (line token rest more method uri : List ℕ) → ReadAs (TokenFront line) (token, rest) → past space rest ≡ Some more → (is : RequestLine line (method, uri)) → (v : List ℕ) × Version v × (more ≡ uri ++ space ∷ v)
 behind-space line token rest more method uri read found is =
     let r = request-cut line token rest method uri read is in

@@ -4,9 +4,9 @@ use Rattle.std.proofs.Common.{◌≡◌, ℕ, ◌⊎◌, Bool, true, false, not,
 use Rattle.std.specs.List.{AllByRecursion, concat, list_any}
 use Rattle.std.proofs.lemmas.Bool.{both_ways}
 use Rattle.std.proofs.lemmas.List.{append_assoc, append-nil}
+use Rattle.sip_standard.specs.Text.{◌then◌, ◌or◌, Many, Exactly}
 use Rattle.sip_text.specs.Bytes.{space}
-use Rattle.sip_text.specs.Text.{◌then◌, ◌or◌, Many, Exactly}
-use Rattle.sip_text.proofs.ManyLemmas.{many-nil, many-cons}
+use Rattle.sip_text.proofs.texts.ManyLemmas.{many-nil, many-cons}
 use Rattle.sip_message.specs.Unfold.{is_blank, is_end_byte, OpensSolid, EndsSolid, unfolded_run, unfolded_from, unfolded}
 use Rattle.sip_message.proofs.lemmas.text.Cuts.{Cuts, first_longer, same_length, second_longer, two_cuts, All, all_left, all_right, all_both}
 use Rattle.sip_message.proofs.lemmas.text.Each.{Each, is_solid}
@@ -146,7 +146,7 @@ ends-byte [] b solid = solid
 ends-byte (a ∷ []) b solid = solid
 ends-byte (a ∷ c ∷ u) b solid = ends-byte (c ∷ u) b solid
 
--- a text of a closed set, unfolded behind its front
+-- a text of a closed set, unfolded after its front
 unfolds-from : (P : List ℕ → Type 0) → Closed P → (text u run : List ℕ) → EndsSolid u → All is_blank run → P (u ++ (run ++ text)) → P (u ++ unfolded_from run text)
 unfolds-from P closed [] u run ends blanks is =
     subst P (ap (λ t. u ++ t) (append-nil (unfolded_run run))) (unfolds-run P closed u run [] ends blanks tt is)

@@ -2,9 +2,9 @@
 use Rattle.std.proofs.Common.{◌≡◌, ℕ, ◌⊎◌, Bool, true, false, not, nat_eq, ◌||◌, List, [], ◌∷◌, refl, sym, ap, subst, inl, inr}
 use Rattle.std.specs.List.{AllByRecursion, concat}
 use Rattle.std.proofs.lemmas.Bool.{both_ways, eqb-true}
+use Rattle.sip_standard.specs.Text.{One, Exactly, ◌then◌, ◌or◌, Optional, Many, OneOrMore, Between}
+use Rattle.sip_standard.specs.Profile.{Lws, Blanks, Sws}
 use Rattle.sip_text.specs.Bytes.{space, tab, carriage_return, line_feed, crlf, is_wsp}
-use Rattle.sip_text.specs.Text.{One, Exactly, ◌then◌, ◌or◌, Optional, Many, OneOrMore, Between}
-use Rattle.sip_text.specs.Grammar.{Lws, Blanks, Sws}
 use Rattle.sip_message.specs.Unfold.{is_blank}
 use Rattle.sip_message.proofs.lemmas.text.Cuts.{All, all_both}
 

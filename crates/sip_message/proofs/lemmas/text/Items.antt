@@ -3,10 +3,12 @@ use Rattle.std.proofs.Common.{◌≡◌, ℕ, Bool, true, false, not, List, [], 
 use Rattle.std.specs.List.{AllByRecursion, concat}
 use Rattle.std.proofs.lemmas.Bool.{both_ways}
 use Rattle.std.proofs.lemmas.List.{append_assoc, append-nil, length-append}
-use Rattle.sip_text.specs.Bytes.{space, backslash, is_wsp, is_quoted_byte}
-use Rattle.sip_text.specs.Text.{One, ◌or◌, Many}
-use Rattle.sip_text.specs.Grammar.{Lws, Qdtext, QuotedPair}
-use Rattle.sip_text.proofs.ManyLemmas.{many-nil, many-cons}
+use Rattle.sip_standard.specs.Text.{One, ◌or◌, Many}
+use Rattle.sip_standard.specs.Profile.{Lws}
+use Rattle.sip_text.specs.Bytes.{space, backslash, is_wsp}
+use Rattle.sip_text.specs.inner.Class.{is_quoted_byte}
+use Rattle.sip_text.specs.inner.Pieces.{Qdtext, QuotedPair}
+use Rattle.sip_text.proofs.texts.ManyLemmas.{many-nil, many-cons}
 use Rattle.sip_message.specs.Unfold.{is_blank, OpensSolid, EndsSolid}
 use Rattle.sip_message.specs.Values.{is_value_byte, OtherText}
 use Rattle.sip_message.proofs.lemmas.text.Cuts.{Cuts, first_longer, same_length, second_longer, two_cuts, All, all_left, all_right}
@@ -14,7 +16,7 @@ use Rattle.sip_message.proofs.lemmas.text.Each.{each-lws, is_solid, solid_class}
 use Rattle.sip_message.proofs.lemmas.field.OneWay.{ends_blank}
 use Rattle.sip_message.proofs.lemmas.text.Closed.{Closed, not_both, ends-right}
 
--- a text of P is solid bytes, and behind them blanks, in whose place one SP may stand
+-- a text of P is solid bytes, and after them blanks, in whose place one SP may stand
 pub record IsItem (P : List ℕ → Type 0) (text : List ℕ) : Type 0 where
   pub front : List ℕ
   pub back : List ℕ

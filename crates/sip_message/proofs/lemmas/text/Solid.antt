@@ -2,12 +2,15 @@
 use Rattle.std.proofs.Common.{◌≡◌, ℕ, Bool, true, false, List, [], ◌∷◌, ◌++◌, Option, Some, None, refl, sym, subst}
 use Rattle.std.specs.Char.{is_ascii_alphabetic, is_ascii_alphanumeric, is_ascii_digit, is_ascii_hexdigit, to_ascii_lowercase}
 use Rattle.std.specs.Prelude.{IfSome}
-use Rattle.sip_text.specs.Bytes.{space, tab, carriage_return, line_feed, colon, at_sign, question, is_token_byte, is_label_byte, is_unreserved, is_user_unreserved, is_password_unreserved, is_param_unreserved, is_hnv_unreserved, is_reserved, is_scheme_byte}
-use Rattle.sip_text.specs.Text.{One, Byte, Exactly, Many, OneOrMore, led}
-use Rattle.sip_text.specs.Case.{folded}
-use Rattle.sip_text.specs.Grammar.{Token}
-use Rattle.sip_text.specs.Host.{Hostname, DecimalGroup, Ipv4Address, Hex4, Hexseq, Hexpart, Ipv6Address, Ipv6Reference, HostParts, HostText, host_text, name, v4, v6}
-use Rattle.sip_text.specs.Uri.{Escaped, User, Password, Port, ParamWord, UriParameters, HeaderChar, Header, Headers, SipParts, SipFits, userinfo_text, hostport_text, sip_text, scheme_name, UriParts, UriText, sip, other}
+use Rattle.sip_standard.specs.Text.{One, Exactly, Many, OneOrMore}
+use Rattle.sip_standard.specs.Case.{folded}
+use Rattle.sip_standard.specs.Profile.{Token, Hostname, Ipv4, Hexseq, Ipv6, Bracketed, User, Password, Port, UriParameters, Headers}
+use Rattle.sip_text.specs.Bytes.{space, tab, carriage_return, line_feed, colon, at_sign, question, is_token_byte, Byte}
+use Rattle.sip_text.specs.Parts.{led}
+use Rattle.sip_text.specs.Host.{HostParts, HostText, host_text, name, v4, v6}
+use Rattle.sip_text.specs.Uri.{SipParts, SipFits, userinfo_text, hostport_text, sip_text, scheme_name, UriParts, UriText, sip, other}
+use Rattle.sip_text.specs.inner.Class.{is_label_byte, is_unreserved, is_user_unreserved, is_password_unreserved, is_param_unreserved, is_hnv_unreserved, is_reserved, is_scheme_byte}
+use Rattle.sip_text.specs.inner.Pieces.{DecimalGroup, Hex4, Hexpart, Escaped, ParamWord, HeaderChar, Header}
 use Rattle.sip_message.proofs.lemmas.text.Cuts.{All, all_both}
 use Rattle.sip_message.proofs.lemmas.text.Each.{Each, each-one, each-exactly, each-then, each-or, each-optional, each-many, each-some, each-between, is_solid, solid_class}
 
@@ -47,7 +50,7 @@ solid-hostname =
 solid-group : Each S DecimalGroup
 solid-group = each-between S 1 3 _ (solid-one is_ascii_digit refl refl refl refl)
 
-solid-v4 : Each S Ipv4Address
+solid-v4 : Each S Ipv4
 solid-v4 =
     each-then S _ _ solid-group (each-then S _ _ (solid-byte 46 refl) (each-then S _ _ solid-group (each-then S _ _ (solid-byte 46 refl)
     (each-then S _ _ solid-group (each-then S _ _ (solid-byte 46 refl) solid-group)))))
@@ -67,13 +70,13 @@ solid-hexpart =
     (each-then S _ _ solid-double (each-optional S _ solid-hexseq)))
 
 -- an IPv6 address is
-pub solid-v6 : Each S Ipv6Address
+pub solid-v6 : Each S Ipv6
 solid-v6 =
     each-or S _ _ (each-then S _ _ solid-hexpart (each-optional S _ (each-then S _ _ (solid-byte colon refl) solid-v4)))
     (each-then S _ _ (each-or S _ _ (each-then S _ _ solid-hexseq solid-double) solid-double) solid-v4)
 
 -- and one in brackets
-pub solid-v6_reference : Each S Ipv6Reference
+pub solid-v6_reference : Each S Bracketed
 solid-v6_reference = each-then S _ _ (solid-byte 91 refl) (each-then S _ _ solid-v6 (solid-byte 93 refl))
 
 -- a host
@@ -94,10 +97,10 @@ solid-unreserved : Each S (One is_unreserved)
 solid-unreserved = solid-one is_unreserved refl refl refl refl
 
 solid-user : Each S User
-solid-user = each-some S _ (each-or S _ _ solid-unreserved (each-or S _ _ solid-escaped (solid-one is_user_unreserved refl refl refl refl)))
+solid-user = each-some S _ (each-or S _ _ (solid-one is_user_unreserved refl refl refl refl) (each-or S _ _ solid-unreserved solid-escaped))
 
 solid-password : Each S Password
-solid-password = each-many S _ (each-or S _ _ solid-unreserved (each-or S _ _ solid-escaped (solid-one is_password_unreserved refl refl refl refl)))
+solid-password = each-many S _ (each-or S _ _ (solid-one is_password_unreserved refl refl refl refl) (each-or S _ _ solid-unreserved solid-escaped))
 
 solid-params : Each S UriParameters
 solid-params = each-many S _ (each-then S _ _ (solid-byte 59 refl) (each-then S _ _ word (each-optional S _ (each-then S _ _ (solid-byte 61 refl) word))))
@@ -114,7 +117,7 @@ solid-headers = each-then S _ _ header (each-many S _ (each-then S _ _ (solid-by
     header : Each S Header
     header = each-then S _ _ (each-some S _ char) (each-then S _ _ (solid-byte 61 refl) (each-many S _ char))
 
--- an optional part behind its mark
+-- an optional part after its mark
 solid-led : (mark : ℕ) (P : List ℕ → Type 0) (part : Option (List ℕ)) → is_solid mark ≡ true → Each S P → IfSome part P → All S (led mark part)
 solid-led mark P None is each fits = tt
 solid-led mark P (Some part) is each fits = (is, each part fits)

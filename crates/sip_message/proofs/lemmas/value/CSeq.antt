@@ -2,8 +2,9 @@
 use Rattle.std.proofs.Common.{◌≡◌, ℕ, true, false, List, [], ◌∷◌, ◌++◌, refl, sym, ap, ◌∙◌, subst, inr, ◌<◌, ◌≤◌, length, take, drop, arith}
 use Rattle.std.specs.Char.{is_ascii_digit}
 use Rattle.std.specs.Str.Parse.{digits_value}
-use Rattle.sip_text.specs.Text.{Exactly, ◌then◌, IsLongestFront}
-use Rattle.sip_text.specs.Grammar.{Blanks, Token}
+use Rattle.sip_standard.specs.Text.{Exactly, ◌then◌}
+use Rattle.sip_standard.specs.Profile.{Blanks, Token}
+use Rattle.sip_text.specs.Parts.{IsLongestFront}
 use Rattle.std.proofs.lemmas.List.{append-nil, take-append-drop, length-take-le}
 use Rattle.sip_message.specs.Unfold.{is_blank}
 use Rattle.sip_message.specs.Values.{Digits, CSeqText}
@@ -28,11 +29,11 @@ fails_stops : (u : List ℕ) → Fails is_ascii_digit u → Stops is_ascii_digit
 fails_stops [] fails = absurd fails
 fails_stops (b ∷ u) fails = fails
 
--- behind the digits stands no digit
+-- after the digits stands no digit
 digits-stop : (method v : List ℕ) → (Blanks then Exactly method) v → Stops is_ascii_digit v
 digits-stop method v is = fails_stops v (fail-then is_ascii_digit Blanks (Exactly method) (fail-blanks is_ascii_digit blank-digit) v is)
 
--- what stands behind the digits
+-- what stands after the digits
 method-behind : (text v : List ℕ) (number : ℕ) (method : List ℕ) (c : CSeqText text number method) → (Blanks then Exactly method) v → Behind v method
 method-behind text v number method c is = (subst StopsBlank (append-nil method) (token-stops method [] c.is_method), (is.0, is.1, inr is.2, is.3, is.4))
 
@@ -46,7 +47,7 @@ same-cseq text (m, s) (n, t) a b =
     let number : m ≡ n = a.number_is ∙ ap (digits_value 10) split.0 ∙ sym b.number_is in
     cc
 
--- the digits of a CSeq are the longest front of digits, and behind its blanks stands the method
+-- the digits of a CSeq are the longest front of digits, and after its blanks stands the method
 cseq-parts : (text rest : List ℕ) (n : ℕ) → n ≡ prefix_len is_ascii_digit text → rest ≡ drop n text → (x : ℕ × List ℕ) (c : CSeqText text x.0 x.1) → (c.digits ≡ take n text) × BlanksFront rest (x.1)
 cseq-parts text rest n n_is rest_is x c =
     let cut = prefix-at is_ascii_digit text n n_is in
@@ -72,7 +73,7 @@ pub cseq-no_blank : (text rest : List ℕ) (n b : ℕ) → n ≡ prefix_len is_a
 cseq-no_blank text rest n b n_is rest_is longest none x c =
     no-blanks rest (subst (IsLongestFront Blanks rest) none longest) (x.1) (cseq-parts text rest n n_is rest_is x c).1
 
--- the method is what stands behind the blanks
+-- the method is what stands after the blanks
 pub cseq-method : (text rest method : List ℕ) (n b : ℕ) → n ≡ prefix_len is_ascii_digit text → rest ≡ drop n text → method ≡ drop b rest → IsLongestFront Blanks rest b → (b ≡ 0 → ⊥) → (x : ℕ × List ℕ) → CSeqValue text x → Token method
 cseq-method text rest method n b n_is rest_is method_is longest some x c =
     subst Token ((longest-blanks_front rest b longest some).1 (x.1) (cseq-parts text rest n n_is rest_is x c).1 ∙ sym method_is) c.is_method

@@ -7,21 +7,23 @@ use Rattle.std.proofs.lemmas.List.Folds.{list_all-append}
 use Rattle.std.proofs.lemmas.Simd.{Each1-from_get_or}
 use lib.Lanes.{Each1}
 use Rattle.std.proofs.lemmas.Bool.Decides.{Decides-like}
+use Rattle.sip_standard.specs.Text.{One}
+use Rattle.sip_standard.specs.Profile.{Token}
 use Rattle.sip_text.specs.Bytes.{at_sign, is_token_byte}
-use Rattle.sip_text.specs.Text.{One, IsLongestFront}
-use Rattle.sip_text.specs.Grammar.{Token}
-use Rattle.sip_text.specs.Cut.{before, behind}
-use Rattle.sip_text.proofs.ManyLemmas.{many-some, drop-front}
-use Rattle.sip_text.proofs.RunLemmas.{run-list_all}
-use Rattle.sip_text.proofs.LacksLemmas.{AllLack, lack-one, lack-some}
-use Rattle.sip_text.proofs.UriPartLemmas.{cut-optional, optional-cut}
-use Rattle.sip_message.specs.Values.{is_word_byte, Word, CallIdText}
+use Rattle.sip_text.specs.Parts.{IsLongestFront}
+use Rattle.sip_text.specs.inner.Cut.{before, behind}
+use Rattle.sip_text.proofs.texts.ManyLemmas.{many-some, drop-front}
+use Rattle.sip_text.proofs.texts.RunLemmas.{run-list_all}
+use Rattle.sip_text.proofs.texts.LacksLemmas.{AllLack, lack-one, lack-some}
+use Rattle.sip_text.proofs.uris.UriPartLemmas.{cut-optional, optional-cut}
+use Rattle.sip_standard.specs.Values.{CallId}
+use Rattle.sip_message.specs.inner.Pieces.{is_word_byte, Word}
 
 lack-word : AllLack at_sign Word
 lack-word = lack-some at_sign (One is_word_byte) (lack-one at_sign is_word_byte refl)
 
 -- what decides its two words decides a Call-ID
-pub decides-call_id : (text word : List ℕ) (more : Option (List ℕ)) (r : Bool) → word ≡ before at_sign text → more ≡ behind at_sign text → Decides r (Word word × IfSome more Word) → Decides r (CallIdText text)
+pub decides-call_id : (text word : List ℕ) (more : Option (List ℕ)) (r : Bool) → word ≡ before at_sign text → more ≡ behind at_sign text → Decides r (Word word × IfSome more Word) → Decides r (CallId text)
 decides-call_id text word more r word_is more_is =
     Decides-like r
     (λ both. optional-cut at_sign Word Word text (subst Word word_is both.0) (subst (λ o. IfSome o Word) more_is both.1))

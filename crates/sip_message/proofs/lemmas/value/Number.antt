@@ -8,10 +8,10 @@ use Rattle.std.proofs.lemmas.Bool.{both_ways}
 use Rattle.std.proofs.lemmas.Int.Digits.{digits_value_more}
 use Rattle.std.proofs.lemmas.List.Folds.{list_all_at}
 use Rattle.std.proofs.lemmas.Str.Parse.{digits_value-take-le}
-use Rattle.sip_text.specs.Text.{One, Many}
-use Rattle.sip_text.proofs.ManyLemmas.{many-some}
-use Rattle.sip_text.proofs.RunLemmas.{run-list_all, list_all-run}
-use Rattle.sip_text.proofs.UriPortLemmas.{digit-above}
+use Rattle.sip_standard.specs.Text.{One, Many}
+use Rattle.sip_text.proofs.texts.ManyLemmas.{many-some}
+use Rattle.sip_text.proofs.texts.RunLemmas.{run-list_all, list_all-run}
+use Rattle.sip_text.proofs.uris.UriPortLemmas.{digit-above}
 use Rattle.sip_message.specs.Values.{Digits}
 
 -- the digits before the index write the number

@@ -4,13 +4,14 @@ use Rattle.std.specs.Bool.{Decides}
 use Rattle.std.specs.List.{prefix_len}
 use Rattle.std.proofs.lemmas.Bool.{and_parts, eqb-true, eq-eqb, or_left, or_right, or_cases}
 use Rattle.std.proofs.lemmas.List.{append-nil, append_assoc, length-append, drop-drop}
+use Rattle.sip_standard.specs.Text.{One, Exactly, ◌then◌, ◌or◌, Many}
+use Rattle.sip_standard.specs.Profile.{Lws}
 use Rattle.sip_text.specs.Bytes.{carriage_return, line_feed, crlf, is_wsp}
-use Rattle.sip_text.specs.Text.{One, Exactly, ◌then◌, ◌or◌, Many, HasFront}
-use Rattle.sip_text.specs.Grammar.{Lws}
-use Rattle.sip_text.specs.Blanks.{Blank, begins_with_fold}
-use Rattle.sip_text.proofs.ManyLemmas.{many-one, many-map, many-flat, many-append, IsStep, longest_many, front-rest, front-within, front-whole}
-use Rattle.sip_text.proofs.BlanksLemmas.{blanks-lws, lws-blank}
-use Rattle.sip_text.proofs.RunLemmas.{run-front}
+use Rattle.sip_text.specs.Parts.{HasFront}
+use Rattle.sip_text.specs.inner.Blanks.{Blank, begins_with_fold}
+use Rattle.sip_text.proofs.texts.ManyLemmas.{many-one, many-map, many-flat, many-append, IsStep, longest_many, front-rest, front-within, front-whole}
+use Rattle.sip_text.proofs.strings.BlanksLemmas.{blanks-lws, lws-blank}
+use Rattle.sip_text.proofs.texts.RunLemmas.{run-front}
 use Rattle.sip_message.specs.Values.{is_value_byte, OtherText}
 use Rattle.sip_message.specs.inner.ValueFronts.{is_plain_byte}
 use Rattle.sip_message.proofs.lemmas.text.Cuts.{Stops}
@@ -102,7 +103,7 @@ items-other text many = many-map OtherItem (Lws or One is_value_byte) text each 
     ]
     each u (inr (f, b, is_f, one, whole)) = inl (lws-blank u (f, b, inr is_f, one, whole))
 
--- pieces behind pieces
+-- pieces after pieces
 front-more : (text : List ℕ) (n k : ℕ) → HasFront (Many OtherItem) text n → HasFront (Many OtherItem) (drop n text) k → HasFront (Many OtherItem) text (n + k)
 front-more text n k front next = (
   front.0 ++ next.0,
@@ -143,7 +144,7 @@ other-end text rest n front rest_is stops no_fold = (
     none : other_len (drop n text) ≡ 0
     none = subst (λ t. other_len t ≡ 0) rest_is (at rest stops no_fold)
 
--- behind the bytes and blanks stands none
+-- after the bytes and blanks stands none
 pub stops-run : (text rest more : List ℕ) (n k : ℕ) → rest ≡ drop n text → more ≡ drop (n + k) text → k ≡ prefix_len is_plain_byte rest → Stops is_plain_byte more
 stops-run text rest more n k rest_is more_is k_is =
     subst (Stops is_plain_byte) (ap (drop k) rest_is ∙ drop-drop k n text ∙ sym more_is) (prefix-at is_plain_byte rest k k_is).1

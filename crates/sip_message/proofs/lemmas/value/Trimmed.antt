@@ -4,12 +4,13 @@ use Rattle.std.specs.Bool.{Decides}
 use Rattle.std.specs.List.{prefix_len}
 use Rattle.std.proofs.lemmas.Bool.{both_ways, and_parts, not-true, eqb-true, eq-eqb}
 use Rattle.std.proofs.lemmas.List.{append-nil, append_cancel_left, take-append-drop}
+use Rattle.sip_standard.specs.Text.{Many}
+use Rattle.sip_standard.specs.Profile.{Blanks, Sws}
 use Rattle.sip_text.specs.Bytes.{space}
-use Rattle.sip_text.specs.Text.{Many, IsLongestFront, IsOnlyValue}
-use Rattle.sip_text.specs.Grammar.{Blanks, Sws}
-use Rattle.sip_text.specs.Blanks.{Blank}
-use Rattle.sip_text.proofs.ManyLemmas.{many-nil, many-one, many-append, front-whole}
-use Rattle.sip_text.proofs.BlanksLemmas.{units-blanks, blanks-units}
+use Rattle.sip_text.specs.Parts.{IsLongestFront, IsOnlyValue}
+use Rattle.sip_text.specs.inner.Blanks.{Blank}
+use Rattle.sip_text.proofs.texts.ManyLemmas.{many-nil, many-one, many-append, front-whole}
+use Rattle.sip_text.proofs.strings.BlanksLemmas.{units-blanks, blanks-units}
 use Rattle.sip_message.specs.Unfold.{is_blank, OpensSolid, EndsSolid}
 use Rattle.sip_message.specs.Field.{ValueText}
 use Rattle.sip_message.specs.inner.ValueFronts.{is_solid}
@@ -39,7 +40,7 @@ sws-whole text n within longest = (
   ],
 )
 
--- blanks behind blanks
+-- blanks after blanks
 sws-append : (u v : List ℕ) → Sws u → Sws v → Sws (u ++ v)
 sws-append u v left right = blanks-units (u ++ v) (many-append Blank u v (many u left) (many v right))
   where
@@ -141,7 +142,7 @@ ends-solid : (b : ℕ) (u : List ℕ) → is_blank (get_or (b ∷ u) (length u) 
 ends-solid b [] solid = solid
 ends-solid b (c ∷ u) solid = ends-solid c u solid
 
--- a value behind one SP
+-- a value after one SP
 pub one-space : (value : List ℕ) → is_solid value ≡ true → ValueText (space ∷ value) value
 one-space [] solid = absurd (both_ways false refl solid)
 one-space (b ∷ value) solid =
@@ -161,7 +162,7 @@ one-space (b ∷ value) solid =
       );
     }
 
--- a value behind nothing
+-- a value after nothing
 pub no-space : (value : List ℕ) → is_solid value ≡ true → ValueText value value
 no-space value solid =
     let behind = one-space value solid in

@@ -6,15 +6,17 @@ use Rattle.std.specs.List.{AllByRecursion, concat}
 use Rattle.std.proofs.lemmas.Bool.{both_ways}
 use Rattle.std.proofs.lemmas.Slice.Eq.{bytes_eq-Decides}
 use Rattle.std.proofs.lemmas.List.{append_assoc, length-append}
-use Rattle.sip_text.specs.Bytes.{colon, dquote, is_token_byte}
-use Rattle.sip_text.specs.Text.{Byte, Exactly, ◌then◌, Many}
-use Rattle.sip_text.specs.Case.{SameText, folded}
-use Rattle.sip_text.specs.Grammar.{Token, Blanks}
-use Rattle.sip_text.specs.Host.{HostParts, HostText, host_text, name, v4, v6, DecimalGroup, TopLabel}
-use Rattle.sip_text.specs.Uri.{Port}
-use Rattle.sip_text.proofs.ManyLemmas.{many-nil, many-cons}
+use Rattle.std.specs.Char.{is_ascii_alphabetic}
+use Rattle.sip_standard.specs.Text.{Exactly, ◌then◌, Many}
+use Rattle.sip_standard.specs.Case.{folded}
+use Rattle.sip_standard.specs.Profile.{Token, Blanks, Label, Port, Quoted}
+use Rattle.sip_text.specs.Bytes.{colon, dquote, is_token_byte, Byte}
+use Rattle.sip_text.specs.Case.{SameText}
+use Rattle.sip_text.specs.Host.{HostParts, HostText, host_text, name, v4, v6}
+use Rattle.sip_text.specs.inner.Pieces.{DecimalGroup}
+use Rattle.sip_text.proofs.texts.ManyLemmas.{many-nil, many-cons}
 use Rattle.sip_message.specs.Unfold.{OpensSolid, EndsSolid, unfolded}
-use Rattle.sip_message.specs.Params.{slash, comma, Mark, Quoted}
+use Rattle.sip_message.specs.Params.{slash, comma, Mark}
 use Rattle.sip_message.specs.Via.{ViaParts, IsBranch, ColonPort, ViaText, MoreVias}
 use Rattle.sip_message.specs.Message.{TopTransport}
 use Rattle.sip_message.proofs.lemmas.text.Cuts.{All}
@@ -66,7 +68,7 @@ ok-branch ((n, value) ∷ ps) all = at (ok-branch ps all.1) (bytes_eq (folded n)
 some-host : (t : List ℕ) (h : HostParts) → HostText t h → t ≡ [] → ⊥
 some-host t (name x) is none = absurd (omega (arith, ap length none, ap length is.0.4, length-append is.0.0 is.0.1, ap length is.0.3.4, length-append is.0.3.0 is.0.3.1, label is.0.3.0 is.0.3.2))
   where
-    label : (u : List ℕ) → TopLabel u → 1 ≤ length u
+    label : (u : List ℕ) → Label is_ascii_alphabetic u → 1 ≤ length u
     label u (inl one) = omega (arith, ap length one.2)
     label u (inr both) = omega (arith, ap length both.4, length-append both.0 both.1, ap length both.2.2)
 some-host t (v4 x) is none = some-left DecimalGroup _ (λ u group. some-between _ 1 3 u (omega arith) group) t is.0 none
@@ -201,7 +203,7 @@ set-via T text token (a, w1, a_is, (s, w2, slash1, (b, w3, b_is, (r, w4, slash2,
       c_is,
     )
 
--- elements behind commas
+-- elements after commas
 more-set : (vs : List ViaParts) (text : List ℕ) → MoreVias vs text → Many (Mark comma then ViaSet Token) text
 more-set [] text is = subst (Many (Mark comma then ViaSet Token)) (sym is) (many-nil (Mark comma then ViaSet Token))
 more-set (v ∷ vs) text (m, t, mark, (x, y, via, more, t_is), whole) =

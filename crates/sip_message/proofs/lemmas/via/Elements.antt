@@ -60,7 +60,7 @@ element-stops : (text rest : List ℕ) (v : ViaParts) → ViaText text v → Sto
 element-stops text rest v is =
     subst StopsBlank (sym (ap (λ t. t ++ rest) (is.1.4 ∙ ap (λ t. t ++ is.1.1) is.1.2) ∙ append_assoc v.protocol is.1.1 rest)) (token-stops v.protocol (is.1.1 ++ rest) is.0.protocol)
 
--- more elements begin with a comma, and behind it is the next
+-- more elements begin with a comma, and after it is the next
 pub more-mark : (e : Element) (es : List Element) (rest : List ℕ) → MoreElements (e ∷ es) rest → (next : List ℕ) × MarkFront comma rest next × ElementsText next (e ∷ es)
 more-mark e es rest (via, (u, v, mark, (w, x, w_is, more, v_is), whole)) = (v, (stops, (u, v, mark, refl, whole)), (via, (w, x, w_is, more, v_is)))
   where
@@ -80,7 +80,7 @@ left-nothing rest values es none left = at left.now left.are_now left.whole
     at [] is whole = (is, subst (AreElements values) (sym whole) left.are_more)
     at (e ∷ now) is whole = let mark = more-mark e now rest is in absurd (none mark.0 mark.1)
 
--- what is left of nothing is the values behind it
+-- what is left of nothing is the values after it
 pub nothing-left : (rest : List ℕ) (values : List (List ℕ)) (es : List Element) → rest ≡ [] → AreElements values es → AreLeft rest values es
 nothing-left rest values es none are = record { now = []; more = es; are_now = none; are_more = are; whole = refl }
 
@@ -88,7 +88,7 @@ nothing-left rest values es none are = record { now = []; more = es; are_now = n
 pub left-of_nothing : (values : List (List ℕ)) (es : List Element) → AreLeft [] values es → AreElements values es
 left-of_nothing values es left = (left-nothing [] values es (no_mark-nil comma) left).1
 
--- what is left from a comma on is what stands behind it
+-- what is left from a comma on is what stands after it
 left-behind : (rest text : List ℕ) (values : List (List ℕ)) (es : List Element) → ReadAs (MarkFront comma rest) text → AreLeft rest values es → AreElements (text ∷ values) es
 left-behind rest text values es mark left = at left.now left.are_now left.whole
   where
@@ -103,7 +103,7 @@ behind-left rest text values es (stops, (u, v, mark, v_is, whole)) ([], more, no
 behind-left rest text values es (stops, (u, v, mark, v_is, whole)) (e ∷ now, more, (via, is), are, es_is) =
     record { now = e ∷ now; more = more; are_now = (via, (u, text, mark, is, whole ∙ ap (λ t. u ++ t) v_is)); are_more = are; whole = es_is }
 
--- the next element stands behind the comma
+-- the next element stands after the comma
 pub next-behind : (rest text : List ℕ) (vals : List (List ℕ)) → ReadAs (MarkFront comma rest) text → NextText rest vals text vals
 next-behind rest text vals mark =
     record { to = (λ es left. left-behind rest text vals es mark left); from = (λ es are. behind-left rest text vals es mark.0 are) }

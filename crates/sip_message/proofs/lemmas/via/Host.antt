@@ -4,16 +4,16 @@ use Rattle.std.specs.Prelude.{IfSome}
 use Rattle.std.specs.Char.{is_ascii_digit}
 use Rattle.std.proofs.lemmas.Bool.{both_ways, or_cases, or_right, eqb-true}
 use Rattle.std.proofs.lemmas.List.{append_assoc}
+use Rattle.sip_standard.specs.Text.{One, Many}
+use Rattle.sip_standard.specs.Profile.{Token, Hostname, Ipv4, Port}
 use Rattle.sip_text.specs.Bytes.{colon, left_bracket, right_bracket, is_token_byte}
-use Rattle.sip_text.specs.Text.{One, Many, IsOnlyValue}
-use Rattle.sip_text.specs.Grammar.{Token}
-use Rattle.sip_text.specs.Host.{Hostname, Ipv4Address, HostParts, HostText, host_text, name, v4, v6}
+use Rattle.sip_text.specs.Parts.{IsOnlyValue}
+use Rattle.sip_text.specs.Host.{HostParts, HostText, host_text, name, v4, v6}
 use Rattle.sip_text.specs.inner.HostTests.{is_v4, is_hostname}
-use Rattle.sip_text.specs.Uri.{Port}
-use Rattle.sip_text.proofs.HostnameLemmas.{hostname-is}
-use Rattle.sip_text.proofs.V4Lemmas.{v4-is}
-use Rattle.sip_text.proofs.ManyLemmas.{many-nil, many-cons}
-use Rattle.sip_text.proofs.UriPortLemmas.{port-length}
+use Rattle.sip_text.proofs.hosts.HostnameLemmas.{hostname-is}
+use Rattle.sip_text.proofs.hosts.V4Lemmas.{v4-is}
+use Rattle.sip_text.proofs.texts.ManyLemmas.{many-nil, many-cons}
+use Rattle.sip_text.proofs.uris.UriPortLemmas.{port-length}
 use Rattle.sip_message.specs.Via.{ColonPort}
 use Rattle.sip_message.specs.inner.Fronts.{Stops, StopsBlank, TokenFront, MarkFront, both}
 use Rattle.sip_message.specs.inner.ParamFronts.{BracketFront, LedFront}
@@ -34,11 +34,11 @@ one-host_cut text x y (inl a) (inr b) = absurd (first-fails is_token_byte (slice
 one-host_cut text x y (inr a) (inl b) = absurd (first-fails is_token_byte (slice_index text 0) left_bracket refl (bracket-first text y b) (token-first text x a))
 one-host_cut text x y (inr a) (inr b) = one-token text x y a b
 
--- a host that begins with a bracket is cut behind its close
+-- a host that begins with a bracket is cut after its close
 pub host-bracket : (text part rest : List ℕ) → ReadAs (BracketFront text) (part, rest) → ReadAs (HostCut text) (part, rest)
 host-bracket text part rest is = read-one (HostCut text) (part, rest) (one-host_cut text) (inl is.0)
 
--- any other is cut behind its token
+-- any other is cut after its token
 pub host-token : {A : Type 0} (parts : A → List ℕ × List ℕ) (text : List ℕ) (r : Option A) → NotRead (BracketFront text) → IsOnlyValue TokenFront parts text r → IsOnlyValue HostCut parts text r
 host-token parts text None bracket none = at
   where
@@ -84,7 +84,7 @@ bytes-token (b ∷ u) all some = (b ∷ [], u, (b, all.0, refl), many u all.1, r
 hostname-token : (u : List ℕ) → Hostname u → Token u
 hostname-token u is = bytes-token u (each-hostname u is) (λ none. both_ways (is_hostname u) (ap is_hostname none) (hostname-is u is))
 
-v4-token : (u : List ℕ) → Ipv4Address u → Token u
+v4-token : (u : List ℕ) → Ipv4 u → Token u
 v4-token u is = bytes-token u (each-v4 u is) (λ none. both_ways (is_v4 u) (ap is_v4 none) (v4-is u is))
 
 port-token : (u : List ℕ) → Port u → Token u

@@ -1,8 +1,8 @@
 -- The steps by which sent-protocol is read are its grammar.
 use Rattle.std.proofs.Common.{ℕ, List, [], ◌∷◌, ◌++◌, refl, sym, ap, ◌∙◌, subst}
+use Rattle.sip_standard.specs.Text.{Exactly, ◌then◌}
+use Rattle.sip_standard.specs.Profile.{Token}
 use Rattle.sip_text.specs.Bytes.{is_token_byte}
-use Rattle.sip_text.specs.Text.{Exactly, ◌then◌}
-use Rattle.sip_text.specs.Grammar.{Token}
 use Rattle.sip_message.specs.Params.{slash, Mark}
 use Rattle.sip_message.specs.Via.{ProtocolText}
 use Rattle.sip_message.specs.inner.Fronts.{Stops, StopsBlank, TokenFront, MarkFront, both, ProtocolParts, ProtocolFront}
@@ -13,7 +13,7 @@ use Rattle.sip_message.proofs.lemmas.via.Transport.{Fails, AllFail, fail-then, f
 use Rattle.sip_message.proofs.lemmas.params.Closed.{some-run}
 use Rattle.sip_message.proofs.lemmas.front.Cuts.{stops-byte}
 
--- the parts are tokens, no blank run stands behind them, and the text is the grammar's
+-- the parts are tokens, no blank run stands after them, and the text is the grammar's
 pub record IsProtocol (text : List ℕ) (p : ProtocolParts) : Type 0 where
   pub protocol : Token p.protocol
   pub version : Token p.version

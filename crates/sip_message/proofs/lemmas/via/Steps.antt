@@ -1,10 +1,10 @@
 -- The steps by which an element of Via is read are its grammar, and read it in one way.
 use Rattle.std.proofs.Common.{◌≡◌, ℕ, ◌-◌, ◌≤◌, nat_eq, List, [], ◌∷◌, ◌++◌, Option, Some, None, length, take, refl, sym, ap, ◌∙◌, subst, inl, arith}
 use Rattle.std.proofs.lemmas.List.{append_assoc}
+use Rattle.sip_standard.specs.Text.{Exactly, ◌then◌}
+use Rattle.sip_standard.specs.Profile.{Port}
 use Rattle.sip_text.specs.Bytes.{colon, semicolon}
-use Rattle.sip_text.specs.Text.{Exactly, ◌then◌}
 use Rattle.sip_text.specs.Host.{HostParts, HostText, host_text}
-use Rattle.sip_text.specs.Uri.{Port}
 use Rattle.std.specs.Prelude.{IfSome}
 use Rattle.sip_message.specs.Unfold.{OpensSolid}
 use Rattle.sip_message.specs.Params.{slash, comma, ParamsText, ParamsPart, BehindBlanks}
@@ -51,7 +51,7 @@ onto x u v rest is = ap (λ t. t ++ rest) is ∙ append_assoc u v rest
 under : (x u y z rest : List ℕ) → x ≡ u ++ y → y ≡ z ++ rest → x ≡ (u ++ z) ++ rest
 under x u y z rest is y_is = is ∙ ap (λ t. u ++ t) y_is ∙ sym (append_assoc u z rest)
 
--- the parameters behind their blanks
+-- the parameters after their blanks
 behind-part : (part q : List ℕ) → OpensSolid part → BehindBlanks part q → Behind q part
 behind-part [] q opens q_is = subst (λ t. Behind t []) (sym q_is) (refl, ([], [], inl refl, refl, refl))
 behind-part (b ∷ part) q opens blanks = (stops-byte b part opens, blanks)
@@ -185,7 +185,7 @@ via-found text v rest steps =
     read-one (ViaFront text) ((take (length text - length rest) text, v), rest) (one-via text)
     (subst (λ w. ViaFront text ((w, v), rest)) (sym (front-is text is.0 rest is.1.1)) is.1)
 
--- what is left behind an element is no longer than the text
+-- what is left after an element is no longer than the text
 pub via-short : (text : List ℕ) (v : ViaParts) (rest : List ℕ) → ViaSteps text (v, rest) → length rest ≤ length text
 via-short text v rest steps = let is = steps-via text v rest steps in rest-short text is.0 rest is.1.1
 

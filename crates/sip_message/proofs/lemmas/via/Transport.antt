@@ -2,9 +2,9 @@
 use Rattle.std.proofs.Common.{◌≡◌, ℕ, Bool, true, false, ◌||◌, nat_eq, List, [], ◌∷◌, ◌++◌, length, refl, sym, ap, ◌∙◌, subst, inl, inr, arith}
 use Rattle.std.proofs.lemmas.Bool.{both_ways, eqb-true}
 use Rattle.std.proofs.lemmas.List.{append_assoc, length-append}
+use Rattle.sip_standard.specs.Text.{One, Exactly, ◌then◌, Many, OneOrMore}
+use Rattle.sip_standard.specs.Profile.{Token, Blanks, Sws}
 use Rattle.sip_text.specs.Bytes.{is_token_byte}
-use Rattle.sip_text.specs.Text.{One, Exactly, ◌then◌, Many, OneOrMore}
-use Rattle.sip_text.specs.Grammar.{Token, Blanks, Sws}
 use Rattle.sip_message.specs.Unfold.{is_blank}
 use Rattle.sip_message.specs.Params.{slash, Mark}
 use Rattle.sip_message.specs.Message.{TopTransport}
@@ -101,13 +101,13 @@ token-mark mark is b token = at (is_blank b) (nat_eq b mark) refl refl
 each-part : (part : List ℕ) → Token part → Each is_token_byte (Exactly part)
 each-part part token = each-exactly is_token_byte part (each-token part token)
 
--- behind SLASH stands a token
+-- after SLASH stands a token
 fail-part : (part : List ℕ) (R : List ℕ → Type 0) → Token part → AllFail (is_mark_byte slash) (Exactly part then R)
 fail-part part R token =
     fail-then (is_mark_byte slash) (Exactly part) R
     (λ u is. subst (Fails (is_mark_byte slash)) (sym is) (fail-class (is_mark_byte slash) is_token_byte (token-mark slash refl) part token))
 
--- behind a token stands SLASH
+-- after a token stands SLASH
 pub fail-slash : (R : List ℕ → Type 0) → AllFail is_token_byte (Mark slash then R)
 fail-slash R = fail-then is_token_byte (Mark slash) R (fail-mark is_token_byte slash blank-token refl)
 

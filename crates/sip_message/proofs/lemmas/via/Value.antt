@@ -21,7 +21,7 @@ via-stops text rest v (fits, (a, w, a_is, more, whole)) =
     subst (λ t. StopsBlank (t ++ rest)) (sym (whole ∙ ap (λ x. x ++ w) a_is))
     (subst StopsBlank (sym (append_assoc v.protocol w rest)) (token-stops v.protocol (w ++ rest) fits.protocol))
 
--- more elements begin with a comma, and behind it they stand
+-- more elements begin with a comma, and after it they stand
 more-comma : (v : ViaParts) (vias : List ViaParts) (text : List ℕ) → MoreVias (v ∷ vias) text → (next : List ℕ) × MarkFront comma text next × ViasText next v vias
 more-comma v vias text (m, next, mark, (x, y, via, more, next_is), whole) =
     (next, (subst StopsBlank (sym next_is) (via-stops x y v via), (m, next, mark, refl, whole)), (x, y, via, more, next_is))
@@ -39,11 +39,11 @@ vias-first text (v, vias, (x, y, via, more, whole)) = (via, whole, more-ends via
 pub vias-none : (text : List ℕ) → NotRead (ViaFront text) → AreVias text → ⊥
 vias-none text none are = none ((are.2.0, are.0), are.2.1) (vias-first text are)
 
--- the text is elements of Via, each behind a comma
+-- the text is elements of Via, each after a comma
 abbrev pub AreMore : List ℕ → Type 0
 AreMore text = (vias : List ViaParts) × MoreVias vias text
 
--- behind an element the others decide
+-- after an element the others decide
 pub vias-behind : (text more : List ℕ) (e : Element) → ReadAs (ViaFront text) (e, more) → AreVias text ↔ AreMore more
 vias-behind text more e read = (to, from)
   where
@@ -53,7 +53,7 @@ vias-behind text more e read = (to, from)
     from : AreMore more → AreVias text
     from (vias, are) = (e.1, vias, (e.0, more, read.0.0, are, read.0.1))
 
--- behind a comma stand elements
+-- after a comma stand elements
 pub more-behind : (rest next : List ℕ) → ReadAs (MarkFront comma rest) next → AreMore rest ↔ AreVias next
 more-behind rest next read = (to, from)
   where
@@ -76,7 +76,7 @@ more-none rest none = (to, λ is. ([], is))
     to ([], is) = is
     to (v ∷ vias, is) = let found = more-comma v vias rest is in absurd (none found.0 found.1)
 
--- what is behind a comma and an element is shorter
+-- what is after a comma and an element is shorter
 pub more-shorter : (rest next more : List ℕ) (e : Element) → ReadAs (MarkFront comma rest) next → ReadAs (ViaFront next) (e, more) → length more < length rest
 more-shorter rest next more e comma_read read =
     omega (arith, mark-shorter comma rest next refl comma_read.0, ap length read.0.1, length-append (e.0) more)

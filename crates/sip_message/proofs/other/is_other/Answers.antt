@@ -1,7 +1,7 @@
 use Rattle.std.proofs.Common.{◌+◌, sym, ◌∙◌}
 use Rattle.std.proofs.lemmas.List.{take_rest}
-use Rattle.sip_text.specs.Text.{Many}
-use Rattle.sip_text.proofs.ManyLemmas.{front-within}
+use Rattle.sip_standard.specs.Text.{Many}
+use Rattle.sip_text.proofs.texts.ManyLemmas.{front-within}
 use Rattle.sip_message.proofs.lemmas.value.Other.{OtherItem, other-run, other-fold, other-end, stops-run}
 use Rattle.sip_message.proofs.other.is_other.Goals as goal
 

@@ -1,5 +1,5 @@
 use Rattle.std.proofs.Common.{option_copied, sym, ap, subst, ◌∙◌}
-use Rattle.sip_text.specs.Text.{IsOnlyValue}
+use Rattle.sip_text.specs.Parts.{IsOnlyValue}
 use Rattle.sip_message.specs.inner.Fronts.{pair_parts}
 use Rattle.sip_message.specs.inner.ParamFronts.{BracketFront}
 use Rattle.sip_message.proofs.lemmas.params.Value.{no-bracket, no-close, one-closed, closed-short}

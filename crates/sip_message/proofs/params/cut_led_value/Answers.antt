@@ -1,6 +1,6 @@
 use Rattle.std.proofs.Common.{refl, sym, subst}
-use Rattle.sip_text.specs.Text.{IsOnlyValue}
 use Rattle.sip_text.specs.Bytes.{equals}
+use Rattle.sip_text.specs.Parts.{IsOnlyValue}
 use Rattle.sip_message.specs.inner.ParamFronts.{ValueFront, LedFront, led_parts}
 use Rattle.sip_message.proofs.lemmas.front.OneWay.{one-value}
 use Rattle.sip_message.proofs.lemmas.front.Led.{no-led, led-none, led-some}

@@ -1,5 +1,5 @@
 use Rattle.std.proofs.Common.{sym, subst}
-use Rattle.sip_text.specs.Text.{IsOnlyValue}
+use Rattle.sip_text.specs.Parts.{IsOnlyValue}
 use Rattle.sip_text.specs.Host.{host_parts}
 use Rattle.sip_message.specs.inner.Fronts.{pair_parts}
 use Rattle.sip_message.specs.inner.ParamFronts.{ReferenceFront}

@@ -1,9 +1,9 @@
 use Rattle.std.proofs.Common.{subst}
 use Rattle.std.proofs.lemmas.Option.{IfSome_then}
-use Rattle.sip_text.specs.Bytes.{colon}
-use Rattle.sip_text.specs.Text.{Byte, ◌then◌}
+use Rattle.sip_standard.specs.Text.{◌then◌}
+use Rattle.sip_standard.specs.Profile.{Port}
+use Rattle.sip_text.specs.Bytes.{colon, Byte}
 use Rattle.sip_text.specs.Host.{HostParts, HostText}
-use Rattle.sip_text.specs.Uri.{Port}
 use Rattle.sip_message.specs.inner.Plain.{segment, HostPort}
 use Rattle.sip_message.proofs.PlainLemmas.{stands-as, then-stands, hostport-none, hostport-some}
 use Rattle.sip_message.proofs.plain.past_hostport.Goals as goal

@@ -1,7 +1,7 @@
 use Rattle.std.proofs.lemmas.Option.{IfSome_then}
 use Rattle.std.proofs.Common.{sym, ap, ◌∙◌, inl, inr}
+use Rattle.sip_standard.specs.Profile.{Quoted}
 use Rattle.sip_message.specs.Address.{DisplayName}
-use Rattle.sip_message.specs.Params.{Quoted}
 use Rattle.sip_message.specs.inner.AddressFronts.{Words}
 use Rattle.sip_message.specs.inner.Plain.{segment}
 use Rattle.sip_message.proofs.PlainLemmas.{stands-as, front-stands}

@@ -1,6 +1,7 @@
 use Rattle.std.proofs.lemmas.Option.{IfSome_then}
-use Rattle.sip_text.specs.Text.{Byte, ◌then◌}
-use Rattle.sip_text.specs.Grammar.{Sws}
+use Rattle.sip_standard.specs.Text.{◌then◌}
+use Rattle.sip_standard.specs.Profile.{Sws}
+use Rattle.sip_text.specs.Bytes.{Byte}
 use Rattle.sip_message.specs.Params.{left_angle}
 use Rattle.sip_message.specs.Address.{DisplayName}
 use Rattle.sip_message.specs.inner.Plain.{Opening}

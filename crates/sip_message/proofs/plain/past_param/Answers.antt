@@ -1,5 +1,5 @@
 use Rattle.std.proofs.Common.{None, Some, sym, subst}
-use Rattle.sip_text.specs.Grammar.{Token}
+use Rattle.sip_standard.specs.Profile.{Token}
 use Rattle.sip_message.specs.inner.Plain.{segment, LiesWithin, PlainParam}
 use Rattle.sip_message.proofs.PlainLemmas.{param-none, param-some, run-token}
 use Rattle.sip_message.proofs.plain.past_param.Goals as goal

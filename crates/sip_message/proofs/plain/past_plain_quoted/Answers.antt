@@ -1,7 +1,7 @@
 use Rattle.std.proofs.lemmas.Option.{IfSome_then}
-use Rattle.sip_text.specs.Bytes.{dquote}
-use Rattle.sip_text.specs.Text.{Byte, ◌then◌}
-use Rattle.sip_message.specs.Params.{Quoted}
+use Rattle.sip_standard.specs.Profile.{Quoted}
+use Rattle.sip_standard.specs.Text.{◌then◌}
+use Rattle.sip_text.specs.Bytes.{dquote, Byte}
 use Rattle.sip_message.specs.inner.AddressFronts.{Words}
 use Rattle.sip_message.proofs.PlainLemmas.{stands-as, then-stands}
 use Rattle.sip_message.proofs.PlainValueLemmas.{quoted-words}

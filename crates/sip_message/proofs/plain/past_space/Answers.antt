@@ -1,6 +1,5 @@
-use Rattle.sip_text.specs.Bytes.{space}
-use Rattle.sip_text.specs.Text.{Byte}
-use Rattle.sip_text.specs.Grammar.{Sws}
+use Rattle.sip_standard.specs.Profile.{Sws}
+use Rattle.sip_text.specs.Bytes.{space, Byte}
 use Rattle.sip_message.proofs.PlainLemmas.{stands-as, sws-space}
 use Rattle.sip_message.proofs.plain.past_space.Goals as goal
 

@@ -1,6 +1,6 @@
 use Rattle.std.proofs.lemmas.Option.{IfSome_then}
 use Rattle.std.specs.Prelude.{codes}
-use Rattle.sip_text.specs.Text.{Exactly, ◌then◌}
+use Rattle.sip_standard.specs.Text.{Exactly, ◌then◌}
 use Rattle.sip_message.specs.inner.Plain.{HostPort, SomeUri}
 use Rattle.sip_message.proofs.PlainLemmas.{stands-as, then-stands}
 use Rattle.sip_message.proofs.PlainUriLemmas.{PlainUser, uri-plain}

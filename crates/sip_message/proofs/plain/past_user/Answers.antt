@@ -1,6 +1,6 @@
 use Rattle.std.proofs.Common.{◌≡◌, ◌-◌, take, drop, ap, inl, inr, arith}
-use Rattle.sip_text.specs.Bytes.{at_sign}
-use Rattle.sip_text.specs.Text.{Byte, ◌then◌}
+use Rattle.sip_standard.specs.Text.{◌then◌}
+use Rattle.sip_text.specs.Bytes.{at_sign, Byte}
 use Rattle.sip_message.specs.inner.Plain.{PlainRun}
 use Rattle.sip_message.proofs.PlainLemmas.{stands-as, then-stands}
 use Rattle.sip_message.proofs.PlainUriLemmas.{PlainUser}

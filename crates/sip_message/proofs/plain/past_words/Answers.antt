@@ -1,6 +1,6 @@
 use Rattle.std.proofs.Common.{[], arith}
-use Rattle.sip_text.specs.Bytes.{space}
-use Rattle.sip_text.specs.Text.{Byte, ◌then◌}
+use Rattle.sip_standard.specs.Text.{◌then◌}
+use Rattle.sip_text.specs.Bytes.{space, Byte}
 use Rattle.sip_message.specs.inner.AddressFronts.{Words}
 use Rattle.sip_message.specs.inner.Plain.{PlainRun}
 use Rattle.sip_message.proofs.PlainLemmas.{stands-as, then-stands, words-one, words-more, part-longer}

@@ -1,7 +1,7 @@
 use Rattle.std.proofs.Common.{subst}
 use Rattle.std.proofs.lemmas.Bool.{eqb-true}
-use Rattle.sip_text.specs.Bytes.{at_sign}
-use Rattle.sip_text.specs.Text.{Byte, ◌then◌}
+use Rattle.sip_standard.specs.Text.{◌then◌}
+use Rattle.sip_text.specs.Bytes.{at_sign, Byte}
 use Rattle.sip_message.specs.inner.Plain.{segment, LiesWithin, PlainRun}
 use Rattle.sip_message.proofs.PlainLemmas.{then-stands}
 use Rattle.sip_message.proofs.PlainValueLemmas.{call_id-one, call_id-two}

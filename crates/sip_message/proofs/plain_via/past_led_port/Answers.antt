@@ -1,6 +1,6 @@
 use Rattle.std.proofs.Common.{Some, sym, subst}
 use Rattle.std.specs.Prelude.{IfSome}
-use Rattle.sip_text.specs.Uri.{Port}
+use Rattle.sip_standard.specs.Profile.{Port}
 use Rattle.sip_message.specs.Via.{ColonPort}
 use Rattle.sip_message.specs.inner.Plain.{segment, LiesWithin}
 use Rattle.sip_message.proofs.PlainViaLemmas.{port-led, port-none}

@@ -1,6 +1,6 @@
 use Rattle.std.proofs.Common.{rules, ◌≡◌, Some, true, false, refl, subst}
 use Rattle.std.specs.Prelude.{is_some}
-use Rattle.sip_text.specs.Text.{IsOnlyValue}
+use Rattle.sip_text.specs.Parts.{IsOnlyValue}
 use Rattle.sip_message.specs.ViaParts.{element}
 use Rattle.sip_message.specs.inner.ElementFronts.{FirstVia}
 use Rattle.sip_message.specs.inner.Plain.{segment}

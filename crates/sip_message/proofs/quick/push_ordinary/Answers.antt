@@ -1,7 +1,7 @@
 use Rattle.std.proofs.Common.{◌≡◌, ℕ, ◌+◌, ◌<◌, List, [], ◌∷◌, ◌++◌, map, take, drop, get_or, sym, ap, ◌∙◌, subst, arith}
 use Rattle.std.proofs.lemmas.List.{take_rest, map-append}
+use Rattle.sip_standard.specs.Profile.{Token}
 use Rattle.sip_text.specs.Bytes.{colon}
-use Rattle.sip_text.specs.Grammar.{Token}
 use Rattle.sip_message.specs.Views.{name_parts, field_parts, fields_parts}
 use Rattle.sip_message.specs.Name.{name_of}
 use Rattle.sip_message.specs.Field.{Field, NameText, ValueText}

@@ -1,6 +1,6 @@
 use Rattle.std.proofs.Common.{◌∷◌, [], option_copied, sym, ap, ◌∙◌, subst, arith}
 use Rattle.sip_text.specs.Bytes.{space}
-use Rattle.sip_text.proofs.CutLemmas.{past-some}
+use Rattle.sip_text.proofs.cuts.CutLemmas.{past-some}
 use Rattle.sip_message.specs.Field.{ValueText}
 use Rattle.sip_message.specs.inner.Plain.{segment}
 use Rattle.sip_message.proofs.PlainLemmas.{front-cut}

@@ -1,7 +1,7 @@
 use Rattle.std.proofs.Common.{sym, subst}
 use Rattle.std.proofs.lemmas.Bool.{both_ways}
 use Rattle.std.proofs.lemmas.List.{take_rest}
-use Rattle.sip_text.specs.Grammar.{Sws}
+use Rattle.sip_standard.specs.Profile.{Sws}
 use Rattle.sip_message.proofs.lemmas.field.OneWay.{same_value}
 use Rattle.sip_message.proofs.lemmas.value.Trimmed.{trimmed, trimmed-value, value-trimmed}
 use Rattle.sip_message.proofs.row.trim_blanks.Goals as goal

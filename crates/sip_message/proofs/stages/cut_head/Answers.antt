@@ -1,17 +1,17 @@
 use Rattle.std.proofs.Common.{◌+◌, take, sym, subst}
 use Rattle.std.proofs.lemmas.List.{take_rest}
-use Rattle.sip_text.specs.Text.{IsOnlyValue}
-use Rattle.sip_message.specs.Faults.{IsCut}
+use Rattle.sip_text.specs.Parts.{IsOnlyValue}
+use Rattle.sip_standard.specs.Lines.{CutSays}
 use Rattle.sip_message.specs.inner.Fronts.{pair_parts}
 use Rattle.sip_message.proofs.lemmas.front.Cuts.{ReadAs}
 use Rattle.sip_message.proofs.lemmas.lines.HeadEnd.{no-head, one-head}
 use Rattle.sip_message.proofs.stages.cut_head.Goals as goal
 
 pub returns-in_err-at : goal.returns-in_err-at
-returns-in_err-at c = subst (IsOnlyValue IsCut pair_parts c.args.bytes.now) (sym c.from_residual.ensures) (no-head c.args.bytes.now c.in_err-at.ensures)
+returns-in_err-at c = subst (IsOnlyValue CutSays pair_parts c.args.bytes.now) (sym c.from_residual.ensures) (no-head c.args.bytes.now c.in_err-at.ensures)
 
 pub returns : goal.returns
 returns c =
     let text = c.args.bytes.now in
     let at = c.in_ok-at.at in
-    subst (λ b. ReadAs (IsCut text) (take (at + 2) text, b)) (sym (take_rest text (at + 4))) (one-head text at c.in_ok-at.ensures.0 c.in_ok-at.ensures.1)
+    subst (λ b. ReadAs (CutSays text) (take (at + 2) text, b)) (sym (take_rest text (at + 4))) (one-head text at c.in_ok-at.ensures.0 c.in_ok-at.ensures.1)

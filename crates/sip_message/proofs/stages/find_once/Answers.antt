@@ -1,13 +1,14 @@
-use Rattle.sip_message.specs.Faults.{Once}
+use Rattle.sip_standard.specs.Field.{OneOf}
 use Rattle.sip_message.specs.inner.Finds.{found_parts}
 use Rattle.sip_message.specs.Views.{slice_fields}
 use Rattle.sip_message.proofs.lemmas.field.Named.{stops-there, once-absent, once-twice, once-one}
 use Rattle.sip_message.proofs.stages.find_once.Goals as goal
+use Rattle.sip_message.specs.Message.{found}
 
 pub returns-in_err-value : goal.returns-in_err-value
 returns-in_err-value c =
     let fault = c.in_err-value.field-0.0 in
-    stops-there found_parts (Once c.args.name (slice_fields c.args.fields)) c.from_residual.result fault c.from_residual.ensures.0 c.from_residual.ensures.1
+    stops-there found_parts (OneOf (found c.args.name (slice_fields c.args.fields))) c.from_residual.result fault c.from_residual.ensures.0 c.from_residual.ensures.1
     (once-absent c.args.name (slice_fields c.args.fields) fault c.in_err-value.ensures.present)
 
 pub returns-in-Some : goal.returns-in-Some

@@ -1,6 +1,6 @@
 use Rattle.std.proofs.Common.{sym, subst}
 use Rattle.sip_message.specs.declared.name.Known.TheVariants as known_name
-use Rattle.sip_message.specs.Faults.{BodyOf}
+use Rattle.sip_message.specs.inner.Faults.{BodyOf}
 use Rattle.sip_message.specs.Views.{slice_fields}
 use Rattle.sip_message.specs.ValueParts.{start_parts}
 use Rattle.sip_message.specs.inner.Fronts.{text_parts}

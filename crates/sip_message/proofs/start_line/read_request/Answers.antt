@@ -1,9 +1,9 @@
 use Rattle.std.proofs.Common.{false, refl, sym, subst, arith}
 use Rattle.std.proofs.lemmas.Bool.{both_ways}
-use Rattle.sip_text.specs.Text.{IsOnlyValue}
+use Rattle.sip_text.specs.Parts.{IsOnlyValue}
 use Rattle.sip_text.specs.Case.{SameText}
-use Rattle.std.specs.Prelude.{codes}
 use Rattle.sip_text.specs.Uri.{UriText, uri_parts}
+use Rattle.std.specs.Prelude.{codes}
 use Rattle.sip_message.specs.inner.StartFronts.{RequestLine}
 use Rattle.sip_message.specs.inner.Fronts.{pair_parts}
 use Rattle.sip_message.proofs.lemmas.front.Cuts.{ReadAs, NotRead}

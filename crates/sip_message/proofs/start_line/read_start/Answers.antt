@@ -1,5 +1,5 @@
 use Rattle.std.proofs.Common.{sym, subst}
-use Rattle.sip_text.specs.Text.{IsOnlyValue}
+use Rattle.sip_text.specs.Parts.{IsOnlyValue}
 use Rattle.sip_message.specs.StartLine.{StartText}
 use Rattle.sip_message.specs.ValueParts.{start_parts}
 use Rattle.sip_message.proofs.lemmas.start_line.Reading.{start-request, start-status, start-none}

@@ -1,7 +1,7 @@
 use Rattle.std.proofs.Common.{false, refl, sym, ◌∙◌, subst}
 use Rattle.std.specs.Prelude.{codes}
 use Rattle.std.proofs.lemmas.Bool.{both_ways}
-use Rattle.sip_text.specs.Text.{IsOnlyValue}
+use Rattle.sip_text.specs.Parts.{IsOnlyValue}
 use Rattle.sip_text.specs.Case.{SameText}
 use Rattle.sip_message.specs.inner.StartFronts.{StatusLine, CodeFront, status_parts}
 use Rattle.sip_message.proofs.lemmas.front.Cuts.{ReadAs, NotRead}

@@ -1,5 +1,5 @@
 use Rattle.std.proofs.Common.{Some, None, sym, ap, ◌∙◌, option_copied}
-use Rattle.sip_text.proofs.UriPartLemmas.{both-when, both-unless, first-alone}
+use Rattle.sip_text.proofs.uris.UriPartLemmas.{both-when, both-unless, first-alone}
 use Rattle.sip_message.proofs.lemmas.value.CallId.{decides-call_id}
 use Rattle.sip_message.proofs.values.is_call_id.Goals as goal
 

@@ -1,7 +1,7 @@
 use Rattle.std.proofs.Common.{sym, ◌∙◌}
 use Rattle.std.specs.Char.{is_ascii_digit}
-use Rattle.sip_text.specs.Text.{One}
-use Rattle.sip_text.proofs.UriCharLemmas.{some-decides}
+use Rattle.sip_standard.specs.Text.{One}
+use Rattle.sip_text.proofs.uris.UriCharLemmas.{some-decides}
 use Rattle.sip_message.proofs.lemmas.value.Number.{all-decides}
 use Rattle.sip_message.proofs.values.is_length.Goals as goal
 

@@ -1,5 +1,5 @@
 use Rattle.std.proofs.Common.{sym, ap, ◌∙◌, subst, option_copied}
-use Rattle.sip_text.specs.Text.{IsOnlyValue}
+use Rattle.sip_text.specs.Parts.{IsOnlyValue}
 use Rattle.sip_message.specs.inner.ParamFronts.{Param, led_parts}
 use Rattle.sip_message.specs.inner.ViaFronts.{BranchFront}
 use Rattle.sip_message.proofs.lemmas.params.Reading.{param-shorter}

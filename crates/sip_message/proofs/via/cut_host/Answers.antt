@@ -1,5 +1,5 @@
 use Rattle.std.proofs.Common.{sym, subst}
-use Rattle.sip_text.specs.Text.{IsOnlyValue}
+use Rattle.sip_text.specs.Parts.{IsOnlyValue}
 use Rattle.sip_text.specs.Host.{host_parts}
 use Rattle.sip_message.specs.inner.ViaFronts.{HostFront, host_front_parts}
 use Rattle.sip_message.proofs.lemmas.front.Cuts.{stop, go-stop, go}

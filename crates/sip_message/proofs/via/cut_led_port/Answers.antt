@@ -1,6 +1,6 @@
 use Rattle.std.proofs.Common.{refl, sym, subst}
-use Rattle.sip_text.specs.Text.{IsOnlyValue}
 use Rattle.sip_text.specs.Bytes.{colon}
+use Rattle.sip_text.specs.Parts.{IsOnlyValue}
 use Rattle.sip_message.specs.inner.ParamFronts.{LedFront, led_parts}
 use Rattle.sip_message.specs.inner.ViaFronts.{PortFront}
 use Rattle.sip_message.proofs.lemmas.via.Host.{one-port}

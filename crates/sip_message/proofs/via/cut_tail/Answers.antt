@@ -1,5 +1,5 @@
 use Rattle.std.proofs.Common.{sym, subst, option_copied}
-use Rattle.sip_text.specs.Text.{IsOnlyValue}
+use Rattle.sip_text.specs.Parts.{IsOnlyValue}
 use Rattle.sip_message.specs.inner.ViaFronts.{TailFront, tail_parts}
 use Rattle.sip_message.proofs.lemmas.params.Value.{rest-short}
 use Rattle.sip_message.proofs.lemmas.params.Branch.{branch-whole, tail-found, tail-missing}

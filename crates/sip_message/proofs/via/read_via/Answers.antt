@@ -1,6 +1,6 @@
 use Rattle.std.proofs.Common.{ℕ, List, Option, sym, subst, option_copied}
 use Rattle.std.proofs.lemmas.Bool.{both_ways}
-use Rattle.sip_text.specs.Text.{IsOnlyValue}
+use Rattle.sip_text.specs.Parts.{IsOnlyValue}
 use Rattle.sip_text.specs.Host.{HostParts, host_parts}
 use Rattle.sip_message.specs.Via.{ViaParts}
 use Rattle.sip_message.specs.inner.Fronts.{ProtocolParts}

@@ -1,4 +1,4 @@
-use Rattle.sip_states.proofs.AgendaLemmas.{entered}
+use Rattle.sip_states.proofs.due.AgendaLemmas.{entered}
 use Rattle.sip_states.proofs.agenda.enter.Goals as goal
 
 pub returns-in_ok-insert-clause-ok : goal.returns-in_ok-insert-clause-ok

@@ -1,4 +1,4 @@
-use Rattle.sip_states.proofs.AgendaLemmas.{left}
+use Rattle.sip_states.proofs.due.AgendaLemmas.{left}
 use Rattle.sip_states.proofs.agenda.leave.Goals as goal
 
 pub returns-in-Some : goal.returns-in-Some

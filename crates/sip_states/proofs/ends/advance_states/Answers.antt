@@ -1,5 +1,5 @@
 use Rattle.std.proofs.Common.{◌≡◌, ◌∙◌, [], None, sym, ap, true≢false}
-use Rattle.sip_states.proofs.Advancing.{advances_stay, advances_push}
+use Rattle.sip_states.proofs.sets.Advancing.{advances_stay, advances_push}
 use Rattle.sip_states.proofs.ends.advance_states.Goals as goal
 use Rattle.sip_states.proofs.ends.advance_states.Goals.{then-some_can_end+then-not-has_at_rest+in_ok-push, else-some_can_end, else-some_can_end-via-then-some_can_end+else-not-has_at_rest, else-some_can_end-via-else-some_can_end}
 

@@ -1,6 +1,6 @@
 use Rattle.std.specs.Prelude.{get_or}
 use Rattle.std.proofs.lemmas.Bool.{leb-true, le-leb}
-use Rattle.sip_states.proofs.Reaching.{can_end_by}
+use Rattle.sip_states.proofs.runs.Reaching.{can_end_by}
 use Rattle.sip_states.proofs.ends.can_end.Goals as goal
 
 pub returns-in-None : goal.returns-in-None

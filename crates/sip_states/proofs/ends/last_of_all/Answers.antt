@@ -1,7 +1,7 @@
 use Rattle.std.proofs.Common.{◌≡◌, ◌≤◌, ◌<◌, length, max, get_or, take, arith, take_all}
 use Rattle.std.proofs.lemmas.List.{take_more, get_or_default}
 use Rattle.std.proofs.lemmas.List.Elements.{All-get_or}
-use Rattle.sip_states.proofs.Reaching.{last_push, last_all}
+use Rattle.sip_states.proofs.runs.Reaching.{last_push, last_all}
 use Rattle.sip_states.proofs.ends.last_of_all.Goals as goal
 
 pub last_of-requires-clause-in_range : goal.last_of-requires-clause-in_range

@@ -1,5 +1,5 @@
 use Rattle.std.proofs.Common.{take}
-use Rattle.sip_states.proofs.Reaching.{IsLastSoFar}
+use Rattle.sip_states.proofs.runs.Reaching.{IsLastSoFar}
 use Rattle.sip_states.proofs.ends.last_of_all.Given as goal
 
 abbrev pub invariant-loop-at : goal.invariant-loop-at

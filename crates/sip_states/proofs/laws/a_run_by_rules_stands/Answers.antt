@@ -1,5 +1,5 @@
 use Rattle.sip_states.specs.KeyMachine.{transaction_of, coded_holds}
-use Rattle.sip_states.proofs.StandsLemmas.{stands-runs, behind-after}
+use Rattle.sip_states.proofs.runs.StandsLemmas.{stands-runs, behind-after}
 use Rattle.sip_states.proofs.laws.a_run_by_rules_stands.Goals as goal
 
 pub returns-clause-stands : goal.returns-clause-stands

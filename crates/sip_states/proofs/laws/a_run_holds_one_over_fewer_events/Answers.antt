@@ -1,4 +1,4 @@
-use Rattle.sip_states.proofs.FewerLemmas.{Run-fewer}
+use Rattle.sip_states.proofs.runs.FewerLemmas.{Run-fewer}
 use Rattle.sip_states.proofs.laws.a_run_holds_one_over_fewer_events.Goals as goal
 
 pub returns : goal.returns

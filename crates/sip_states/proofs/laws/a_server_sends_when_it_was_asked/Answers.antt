@@ -1,7 +1,7 @@
 use Rattle.sip_key.specs.declared.role.Role.TheVariants.{Server}
 use Rattle.sip_states.specs.KeyMachine.{machine_of, transaction_of, coded_holds}
-use Rattle.sip_states.proofs.StandsLemmas.{behind-after}
-use Rattle.sip_states.proofs.ServerLaws.{server_sends_when_asked}
+use Rattle.sip_states.proofs.runs.StandsLemmas.{behind-after}
+use Rattle.sip_states.proofs.runs.ServerLaws.{server_sends_when_asked}
 use Rattle.sip_states.proofs.laws.a_server_sends_when_it_was_asked.Goals as goal
 
 pub returns : goal.returns

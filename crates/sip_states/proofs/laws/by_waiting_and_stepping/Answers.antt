@@ -1,4 +1,4 @@
-use Rattle.sip_states.proofs.RunLemmas.{After-first, After-next}
+use Rattle.sip_states.proofs.runs.RunLemmas.{After-first, After-next}
 use Rattle.sip_states.proofs.laws.by_waiting_and_stepping.Goals as goal
 
 pub returns : goal.returns

@@ -1,5 +1,5 @@
 use Rattle.std.proofs.Common.{Contains}
-use Rattle.sip_states.proofs.Twice.{Wait-twice}
+use Rattle.sip_states.proofs.lists.Twice.{Wait-twice}
 use Rattle.sip_states.proofs.laws.in_one_wait_or_two.Goals as goal
 
 pub returns : goal.returns

@@ -6,10 +6,10 @@ use Rattle.sip_machine.specs.Pools.{picked}
 use Rattle.sip_machine.specs.Rules.{StandFor}
 use Rattle.sip_states.specs.Runs.{widest}
 use Rattle.sip_states.specs.inner.Ways.{GivesAfter}
-use Rattle.sip_states.proofs.EachOnce.{picked-members, picked-distinct}
-use Rattle.sip_states.proofs.Following.{Follows}
-use Rattle.sip_states.proofs.Stepping.{covers_stand}
-use Rattle.sip_states.proofs.Taking.{many_wide}
+use Rattle.sip_states.proofs.lists.EachOnce.{picked-members, picked-distinct}
+use Rattle.sip_states.proofs.sets.Following.{Follows}
+use Rattle.sip_states.proofs.sets.Stepping.{covers_stand}
+use Rattle.sip_states.proofs.sets.Taking.{many_wide}
 use Rattle.sip_states.proofs.state_set.given_rows.Given.{Over}
 use Rattle.sip_states.proofs.state_set.given_rows.Goals as goal
 use Rattle.sip_states.proofs.state_set.given_rows.Goals.{After-len}

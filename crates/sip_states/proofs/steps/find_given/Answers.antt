@@ -4,11 +4,11 @@ use Rattle.sip_machine.specs.MachineEvent.{event_in}
 use Rattle.sip_machine.specs.Texts.{Keeps}
 use Rattle.sip_machine.specs.Rules.{Covers, Knows, StandFor}
 use Rattle.sip_machine.specs.Owing.{at_rest}
-use Rattle.sip_machine.proofs.CoversLemmas.{before-more}
-use Rattle.sip_machine.proofs.PoolLemmas.{take-old}
+use Rattle.sip_machine.proofs.pools.CoversLemmas.{before-more}
+use Rattle.sip_machine.proofs.pools.PoolLemmas.{take-old}
 use Rattle.sip_states.specs.inner.Ways.{GivesFrom, GivesAfter}
-use Rattle.sip_states.proofs.Following.{Follows}
-use Rattle.sip_states.proofs.Stepping.{gives_stayed, gives_ended, found-behind, next-there}
+use Rattle.sip_states.proofs.sets.Following.{Follows}
+use Rattle.sip_states.proofs.sets.Stepping.{gives_stayed, gives_ended, found-behind, next-there}
 use Rattle.sip_states.proofs.steps.find_given.Goals as goal
 
 pub step_each-requires-clause-known : goal.step_each-requires-clause-known

@@ -4,8 +4,8 @@ use Rattle.std.proofs.lemmas.List.Elements.{All-get_or}
 use Rattle.std.proofs.lemmas.Result.{IfOk-weaker}
 use Rattle.sip_machine.specs.MachineEvent.{event_in}
 use Rattle.sip_machine.specs.Rules.{Knows}
-use Rattle.sip_states.proofs.Following.{Follows}
-use Rattle.sip_states.proofs.Stepping.{gives_alone, only}
+use Rattle.sip_states.proofs.sets.Following.{Follows}
+use Rattle.sip_states.proofs.sets.Stepping.{gives_alone, only}
 use Rattle.sip_states.proofs.steps.step_alone.Goals as goal
 
 pub step-requires-clause-known : goal.step-requires-clause-known

@@ -2,9 +2,9 @@ use Rattle.std.specs.Prelude.{take}
 use Rattle.std.proofs.lemmas.Result.{on_ok_weaker}
 use Rattle.sip_machine.specs.MachineEvent.{event_in}
 use Rattle.sip_machine.specs.Rules.{FromSome}
-use Rattle.sip_machine.proofs.CoversLemmas.{HasFound}
+use Rattle.sip_machine.proofs.pools.CoversLemmas.{HasFound}
 use Rattle.sip_states.specs.inner.Ways.{GivesFrom}
-use Rattle.sip_states.proofs.Stepping.{Covers-iff, gives_some}
+use Rattle.sip_states.proofs.sets.Stepping.{Covers-iff, gives_some}
 use Rattle.sip_states.proofs.steps.step_each.Goals as goal
 
 pub returns-clause-gives : goal.returns-clause-gives

@@ -2,8 +2,8 @@ use Rattle.std.proofs.Common.{◌<◌, ◌∙◌, length, take, get_or, arith}
 use Rattle.std.proofs.lemmas.List.{take_more}
 use Rattle.indexmap.specs.IndexMap.{values}
 use Rattle.indexmap.proofs.CallerLemmas.{keys-with_value_at, index_map_len-with_value_at}
-use Rattle.sip_states.proofs.TablesLemmas.{values_of-set_value_at}
-use Rattle.sip_states.proofs.AdvanceLemmas.{advances_more, advances_failed, still_early, fresh_next, take_among, always_err}
+use Rattle.sip_states.proofs.keyed.TablesLemmas.{values_of-set_value_at}
+use Rattle.sip_states.proofs.due.AdvanceLemmas.{advances_more, advances_failed, still_early, fresh_next, take_among, always_err}
 use Rattle.sip_states.proofs.tables.advance_each.Goals as goal
 
 pub advance-requires : goal.advance-requires

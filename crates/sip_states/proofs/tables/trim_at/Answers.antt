@@ -1,6 +1,6 @@
 use Rattle.std.proofs.Common.{ap}
 use Rattle.indexmap.specs.IndexMap.{with_entries}
-use Rattle.sip_states.proofs.TablesLemmas.{set_value_at-same}
+use Rattle.sip_states.proofs.keyed.TablesLemmas.{set_value_at-same}
 use Rattle.sip_states.proofs.tables.trim_at.Goals as goal
 
 pub returns : goal.returns

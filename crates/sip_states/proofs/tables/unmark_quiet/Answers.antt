@@ -5,8 +5,8 @@ use Rattle.indexmap.specs.IndexMap.{values}
 use Rattle.sip_states.specs.AnySet.{IsQuietSet}
 use Rattle.sip_states.specs.Sweep.{numbers_of}
 use Rattle.sip_states.specs.inner.Marks.{IsMarked}
-use Rattle.sip_states.proofs.ByMachine.{quiet_silent}
-use Rattle.sip_states.proofs.AdvanceLemmas.{item_among, unmarked, within_set}
+use Rattle.sip_states.proofs.keyed.ByMachine.{quiet_silent}
+use Rattle.sip_states.proofs.due.AdvanceLemmas.{item_among, unmarked, within_set}
 use Rattle.sip_states.proofs.tables.unmark_quiet.Goals as goal
 
 pub index-requires : goal.index-requires

@@ -5,9 +5,9 @@ use Rattle.std.proofs.lemmas.List.{length-set, nil_from_length}
 use Rattle.indexmap.specs.IndexMap.{values}
 use Rattle.sip_states.specs.Sweep.{numbers_of}
 use Rattle.sip_states.specs.inner.Marks.{IsMarked}
-use Rattle.sip_states.proofs.ByMachine.{numbers_appended}
-use Rattle.sip_states.proofs.NamesLemmas.{names_nothing}
-use Rattle.sip_states.proofs.AdvanceLemmas.{item_among, unmarked, not_unmarked}
+use Rattle.sip_states.proofs.keyed.ByMachine.{numbers_appended}
+use Rattle.sip_states.proofs.keyed.NamesLemmas.{names_nothing}
+use Rattle.sip_states.proofs.due.AdvanceLemmas.{item_among, unmarked, not_unmarked}
 use Rattle.sip_states.proofs.tables.unmark_silent.Goals as goal
 
 pub index-requires : goal.index-requires

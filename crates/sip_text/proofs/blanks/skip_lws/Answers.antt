@@ -1,9 +1,9 @@
 use Rattle.std.proofs.Common.{◌+◌, sym, ap, ◌∙◌}
 use Rattle.std.proofs.lemmas.List.{take_rest}
-use Rattle.sip_text.specs.Text.{Many}
-use Rattle.sip_text.specs.Blanks.{Blank, blank_len}
-use Rattle.sip_text.proofs.ManyLemmas.{front-within, run-more}
-use Rattle.sip_text.proofs.BlanksLemmas.{blank-step, longest-blanks}
+use Rattle.sip_standard.specs.Text.{Many}
+use Rattle.sip_text.specs.inner.Blanks.{Blank, blank_len}
+use Rattle.sip_text.proofs.texts.ManyLemmas.{front-within, run-more}
+use Rattle.sip_text.proofs.strings.BlanksLemmas.{blank-step, longest-blanks}
 use Rattle.sip_text.proofs.blanks.skip_lws.Goals as goal
 
 pub returns-then-step-eq0-clause-reads : goal.returns-then-step-eq0-clause-reads

@@ -1,6 +1,6 @@
 use Rattle.std.proofs.Common.{not, nat_eq, bit_and, get_or, ap, ◌∙◌, arith}
 use Rattle.sip_text.specs.declared.class.TheConstants.{CLASSES}
-use Rattle.sip_text.proofs.ClassLemmas.{table-is_in}
+use Rattle.sip_text.proofs.texts.ClassLemmas.{table-is_in}
 use Rattle.sip_text.proofs.class.has.Goals as goal
 
 pub returns : goal.returns

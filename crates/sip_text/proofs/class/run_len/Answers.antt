@@ -1,6 +1,6 @@
 use Rattle.std.proofs.Common.{length, sym, ◌∙◌, arith}
 use Rattle.std.proofs.lemmas.List.Sums.{prefix_len_is}
-use Rattle.sip_text.specs.Class.{is_in}
+use Rattle.sip_text.specs.inner.Class.{is_in}
 use Rattle.sip_text.proofs.class.run_len.Goals as goal
 
 pub returns-then-not-has-clause-run : goal.returns-then-not-has-clause-run

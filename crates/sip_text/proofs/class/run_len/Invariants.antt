@@ -1,5 +1,5 @@
 use Rattle.std.proofs.Common.{◌≡◌, ℕ, ◌<◌, true, get_or}
-use Rattle.sip_text.specs.Class.{is_in}
+use Rattle.sip_text.specs.inner.Class.{is_in}
 use Rattle.sip_text.proofs.class.run_len.Given as goal
 
 -- each byte so far is in the class

@@ -1,6 +1,6 @@
 use Rattle.std.proofs.Common.{◌+◌, Some, sym, ap, ◌∙◌}
 use Rattle.std.proofs.lemmas.List.{take_rest}
-use Rattle.sip_text.proofs.CutLemmas.{before-first, before-nowhere}
+use Rattle.sip_text.proofs.cuts.CutLemmas.{before-first, before-nowhere}
 use Rattle.sip_text.proofs.cut.cut.Goals as goal
 
 pub returns-in-Some-clause-front : goal.returns-in-Some-clause-front

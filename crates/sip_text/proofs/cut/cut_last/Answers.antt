@@ -1,7 +1,7 @@
 use Rattle.std.proofs.Common.{◌≡◌, ◌+◌, length, take, drop, sym, ap, ◌∙◌, arith}
 use Rattle.std.specs.Option.{option_map_or}
 use Rattle.std.proofs.lemmas.List.{length-take, take_rest}
-use Rattle.sip_text.proofs.LastLemmas.{last-nowhere, last-place}
+use Rattle.sip_text.proofs.cuts.LastLemmas.{last-nowhere, last-place}
 use Rattle.sip_text.proofs.cut.cut_last.Goals as goal
 
 pub returns-in-Some-clause-front : goal.returns-in-Some-clause-front

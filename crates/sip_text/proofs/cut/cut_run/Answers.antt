@@ -1,8 +1,8 @@
 use Rattle.std.proofs.Common.{ap, ◌∙◌}
 use Rattle.std.proofs.lemmas.List.{take_rest}
-use Rattle.sip_text.specs.Class.{is_in}
-use Rattle.sip_text.specs.Cut.{past}
-use Rattle.sip_text.proofs.RunCutLemmas.{run-end, run-mark, run-other}
+use Rattle.sip_text.specs.inner.Class.{is_in}
+use Rattle.sip_text.specs.inner.Cut.{past}
+use Rattle.sip_text.proofs.cuts.RunCutLemmas.{run-end, run-mark, run-other}
 use Rattle.sip_text.proofs.cut.cut_run.Goals as goal
 
 pub returns-then-len-text-clause-run : goal.returns-then-len-text-clause-run

@@ -2,7 +2,7 @@ use Rattle.std.proofs.Common.{◌≡◌, ◌+◌, ◌-◌, true, get_or, Some, d
 use Rattle.std.proofs.lemmas.Bool.{and_from, eq-eqb}
 use Rattle.std.proofs.lemmas.List.{take_rest}
 use Rattle.sip_text.specs.inner.HostTests.{is_double_at}
-use Rattle.sip_text.proofs.DoubleLemmas.{double-first, double-nowhere}
+use Rattle.sip_text.proofs.cuts.DoubleLemmas.{double-first, double-nowhere}
 use Rattle.sip_text.proofs.host.cut_double.Goals as goal
 
 -- a "::" begins at the byte before

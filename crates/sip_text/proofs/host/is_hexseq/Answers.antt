@@ -2,7 +2,7 @@ use Rattle.std.proofs.Common.{option_copied, sym, ap, ◌∙◌}
 use Rattle.std.proofs.lemmas.Bool.{and_from, and_left, and_right}
 use Rattle.sip_text.specs.Bytes.{colon}
 use Rattle.sip_text.specs.inner.HostTests.{has_len, is_hex4}
-use Rattle.sip_text.proofs.CutLemmas.{behind-shorter, parts-fail, parts-last, parts-more}
+use Rattle.sip_text.proofs.cuts.CutLemmas.{behind-shorter, parts-fail, parts-last, parts-more}
 use Rattle.sip_text.proofs.host.is_hexseq.Goals as goal
 
 pub returns-in_default : goal.returns-in_default

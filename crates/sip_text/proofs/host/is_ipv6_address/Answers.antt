@@ -1,5 +1,5 @@
 use Rattle.std.proofs.Common.{sym, ◌∙◌}
-use Rattle.sip_text.proofs.V6Lemmas.{v6-yes, v6-is}
+use Rattle.sip_text.proofs.hosts.V6Lemmas.{v6-yes, v6-is}
 use Rattle.sip_text.proofs.host.is_ipv6_address.Goals as goal
 
 pub returns : goal.returns

@@ -2,8 +2,8 @@ use Rattle.std.proofs.Common.{option_copied, sym, ap, ◌∙◌}
 use Rattle.std.proofs.lemmas.Bool.{and_from, and_left}
 use Rattle.sip_text.specs.Bytes.{dot}
 use Rattle.sip_text.specs.inner.HostTests.{has_label_ends, has_top_ends}
-use Rattle.sip_text.proofs.CutLemmas.{behind-shorter}
-use Rattle.sip_text.proofs.LabelLemmas.{labels-fail, labels-last_run, labels-more, labels-other}
+use Rattle.sip_text.proofs.cuts.CutLemmas.{behind-shorter}
+use Rattle.sip_text.proofs.hosts.LabelLemmas.{labels-fail, labels-last_run, labels-more, labels-other}
 use Rattle.sip_text.proofs.host.is_name.Goals as goal
 
 pub returns-in_default : goal.returns-in_default

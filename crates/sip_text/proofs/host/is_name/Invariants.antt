@@ -1,6 +1,6 @@
 use Rattle.std.proofs.Common.{◌≡◌, length}
 use Rattle.sip_text.specs.Bytes.{dot}
-use Rattle.sip_text.specs.Cut.{parts}
+use Rattle.sip_text.specs.inner.Cut.{parts}
 use Rattle.sip_text.specs.inner.HostTests.{are_labels}
 use Rattle.sip_text.proofs.host.is_name.Given as goal
 

@@ -1,5 +1,5 @@
 use Rattle.std.proofs.Common.{sym, ◌∙◌}
-use Rattle.sip_text.proofs.HostLemmas.{only-v6, only-v4, only-name, no-host}
+use Rattle.sip_text.proofs.hosts.HostLemmas.{only-v6, only-v4, only-name, no-host}
 use Rattle.sip_text.proofs.host.read_host.Goals as goal
 
 pub returns-then-is_v6_reference : goal.returns-then-is_v6_reference

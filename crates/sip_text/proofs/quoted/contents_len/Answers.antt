@@ -1,9 +1,9 @@
 use Rattle.std.proofs.Common.{◌+◌, ap, ◌∙◌}
 use Rattle.std.proofs.lemmas.List.{take_rest}
-use Rattle.sip_text.specs.Text.{Many}
+use Rattle.sip_standard.specs.Text.{Many}
 use Rattle.sip_text.specs.inner.Quoted.{QuotedItem, item_len}
-use Rattle.sip_text.proofs.ManyLemmas.{front-within, run-more}
-use Rattle.sip_text.proofs.QuotedLemmas.{item-step}
+use Rattle.sip_text.proofs.texts.ManyLemmas.{front-within, run-more}
+use Rattle.sip_text.proofs.strings.QuotedLemmas.{item-step}
 use Rattle.sip_text.proofs.quoted.contents_len.Goals as goal
 
 pub items-preserved : goal.items-preserved

@@ -1,11 +1,12 @@
 use Rattle.std.proofs.Common.{sym, ap, ◌∙◌, subst}
 use Rattle.std.proofs.lemmas.List.{take_rest}
+use Rattle.sip_standard.specs.Text.{◌then◌}
+use Rattle.sip_standard.specs.Profile.{Sws, Quoted}
 use Rattle.sip_text.specs.Bytes.{dquote}
-use Rattle.sip_text.specs.Text.{IsOnlyFront}
-use Rattle.sip_text.specs.Grammar.{QuotedString}
-use Rattle.sip_text.specs.Cut.{past}
-use Rattle.sip_text.proofs.BlanksLemmas.{blanks-longest}
-use Rattle.sip_text.proofs.QuotedLemmas.{none-opens, none-closes, only-quoted}
+use Rattle.sip_text.specs.Parts.{IsOnlyFront}
+use Rattle.sip_text.specs.inner.Cut.{past}
+use Rattle.sip_text.proofs.strings.BlanksLemmas.{blanks-longest}
+use Rattle.sip_text.proofs.strings.QuotedLemmas.{none-opens, none-closes, only-quoted}
 use Rattle.sip_text.proofs.quoted.read_quoted.Goals as goal
 
 pub returns-in_err-inner-clause-reads : goal.returns-in_err-inner-clause-reads
@@ -13,7 +14,7 @@ returns-in_err-inner-clause-reads c =
     let text = c.args.text.now in
     let n = c.skip_lws-open.result in
     let blanks = blanks-longest text n c.skip_lws-open.ensures.reads in
-    subst (IsOnlyFront QuotedString text) (sym c.from_residual.ensures)
+    subst (IsOnlyFront (Sws then Quoted) text) (sym c.from_residual.ensures)
     (none-opens text n blanks.0 blanks.1 (ap (past dquote) (sym (take_rest text n)) ∙ sym c.in_err-inner.ensures))
 
 pub returns-in_err-past-clause-reads : goal.returns-in_err-past-clause-reads
@@ -23,7 +24,7 @@ returns-in_err-past-clause-reads c =
     let n = c.skip_lws-open.result in
     let k = c.contents_len-close.result in
     let blanks = blanks-longest text n c.skip_lws-open.ensures.reads in
-    subst (IsOnlyFront QuotedString text) (sym c.from_residual-in_err-past.ensures)
+    subst (IsOnlyFront (Sws then Quoted) text) (sym c.from_residual-in_err-past.ensures)
     (none-closes text inner n k blanks.0 c.contents_len-close.ensures.front blanks.1
     (ap (past dquote) (sym (take_rest text n)) ∙ sym c.in_ok-inner.ensures)
     c.contents_len-close.ensures.stops

@@ -1,5 +1,5 @@
 use Rattle.sip_text.specs.Bytes.{is_token_byte}
-use Rattle.sip_text.proofs.RunLemmas.{longest-same, longest-run, run-whole}
+use Rattle.sip_text.proofs.texts.RunLemmas.{longest-same, longest-run, run-whole}
 use Rattle.sip_text.proofs.token.are_token_bytes.Goals as goal
 
 pub returns : goal.returns

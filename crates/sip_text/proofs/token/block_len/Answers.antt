@@ -4,7 +4,7 @@ use lib.Lanes.{chunk}
 use Rattle.std.proofs.lemmas.Simd.{length-chunk, chunk-fits, bitmask_splat, leading_from_mask_l, trailing_mask_l}
 use Rattle.std.proofs.lemmas.List.Sums.{prefix_len-le-length}
 use Rattle.sip_text.specs.Bytes.{is_token_byte}
-use Rattle.sip_text.proofs.BlockLemmas.{shares, others, long-and, block-run}
+use Rattle.sip_text.proofs.texts.BlockLemmas.{shares, others, long-and, block-run}
 use Rattle.sip_text.proofs.token.block_len.Goals as goal
 
 pub returns-then-others-eq0-clause-run : goal.returns-then-others-eq0-clause-run

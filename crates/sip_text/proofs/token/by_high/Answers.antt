@@ -1,4 +1,4 @@
-use Rattle.sip_text.proofs.BlockLemmas.{high_ok, by_high-is}
+use Rattle.sip_text.proofs.texts.BlockLemmas.{high_ok, by_high-is}
 use Rattle.sip_text.proofs.token.by_high.Goals as goal
 
 pub swizzle : goal.swizzle

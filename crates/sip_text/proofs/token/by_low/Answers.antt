@@ -1,4 +1,4 @@
-use Rattle.sip_text.proofs.BlockLemmas.{low_ok, by_low-is}
+use Rattle.sip_text.proofs.texts.BlockLemmas.{low_ok, by_low-is}
 use Rattle.sip_text.proofs.token.by_low.Goals as goal
 
 pub swizzle : goal.swizzle

@@ -1,10 +1,10 @@
 use Rattle.std.proofs.Common.{◌+◌, ◌-◌, ◌≤◌, length, sym, subst, arith}
 use Rattle.std.proofs.lemmas.List.Sums.{prefix_len_is}
-use Rattle.sip_text.specs.Text.{IsLongestFront}
-use Rattle.sip_text.specs.Grammar.{Token}
+use Rattle.sip_standard.specs.Profile.{Token}
 use Rattle.sip_text.specs.Bytes.{is_token_byte}
-use Rattle.sip_text.proofs.RunLemmas.{longest-run}
-use Rattle.sip_text.proofs.BlockLemmas.{block-passes, block-stops}
+use Rattle.sip_text.specs.Parts.{IsLongestFront}
+use Rattle.sip_text.proofs.texts.RunLemmas.{longest-run}
+use Rattle.sip_text.proofs.texts.BlockLemmas.{block-passes, block-stops}
 use Rattle.sip_text.proofs.token.token_len.Goals as goal
 
 pub returns-then-text-lt-BLOCK-clause-reads : goal.returns-then-text-lt-BLOCK-clause-reads

@@ -1,8 +1,8 @@
 use Rattle.std.proofs.Common.{sym, ap, ◌∙◌, refl, option_copied}
 use Rattle.std.proofs.lemmas.Bool.{both_ways, false≢true}
 use Rattle.sip_text.specs.Bytes.{ampersand}
-use Rattle.sip_text.specs.Uri.{Header}
-use Rattle.sip_text.proofs.UriPartLemmas.{each-past, each-last, each-first, headers-each, each-headers}
+use Rattle.sip_text.specs.inner.Pieces.{Header}
+use Rattle.sip_text.proofs.uris.UriPartLemmas.{each-past, each-last, each-first, headers-each, each-headers}
 use Rattle.sip_text.proofs.uri.are_headers.Goals as goal
 
 pub returns-then-not-is_header : goal.returns-then-not-is_header

@@ -1,7 +1,7 @@
 use Rattle.std.proofs.Common.{◌↔◌, length}
 use Rattle.sip_text.specs.Bytes.{ampersand}
-use Rattle.sip_text.specs.Uri.{Header}
-use Rattle.sip_text.proofs.UriPartLemmas.{Each}
+use Rattle.sip_text.specs.inner.Pieces.{Header}
+use Rattle.sip_text.proofs.uris.UriPartLemmas.{Each}
 use Rattle.sip_text.proofs.uri.are_headers.Given as goal
 
 -- each part of the rest is one exactly if each of the whole text is

@@ -1,8 +1,8 @@
 use Rattle.std.proofs.Common.{sym, ap, ◌∙◌, refl, option_copied}
 use Rattle.std.proofs.lemmas.Bool.{both_ways, false≢true}
 use Rattle.sip_text.specs.Bytes.{semicolon}
-use Rattle.sip_text.specs.Uri.{UriParameter}
-use Rattle.sip_text.proofs.UriPartLemmas.{each-past, each-last, each-first, joined-each, each-joined}
+use Rattle.sip_text.specs.inner.Pieces.{UriParameter}
+use Rattle.sip_text.proofs.uris.UriPartLemmas.{each-past, each-last, each-first, joined-each, each-joined}
 use Rattle.sip_text.proofs.uri.are_joined_params.Goals as goal
 
 pub returns-then-not-is_param : goal.returns-then-not-is_param

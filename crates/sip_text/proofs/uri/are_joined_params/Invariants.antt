@@ -1,7 +1,7 @@
 use Rattle.std.proofs.Common.{◌↔◌, length}
 use Rattle.sip_text.specs.Bytes.{semicolon}
-use Rattle.sip_text.specs.Uri.{UriParameter}
-use Rattle.sip_text.proofs.UriPartLemmas.{Each}
+use Rattle.sip_text.specs.inner.Pieces.{UriParameter}
+use Rattle.sip_text.proofs.uris.UriPartLemmas.{Each}
 use Rattle.sip_text.proofs.uri.are_joined_params.Given as goal
 
 -- each part of the rest is one exactly if each of the whole text is

@@ -1,4 +1,4 @@
-use Rattle.sip_text.proofs.UriPartLemmas.{decides-params, decides-no_params}
+use Rattle.sip_text.proofs.uris.UriPartLemmas.{decides-params, decides-no_params}
 use Rattle.sip_text.proofs.uri.are_params.Goals as goal
 
 pub returns-in-Some : goal.returns-in-Some

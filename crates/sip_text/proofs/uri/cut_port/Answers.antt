@@ -1,7 +1,7 @@
 use Rattle.std.proofs.Common.{sym, ap, ◌∙◌, option_copied, subst}
 use Rattle.std.proofs.lemmas.Bool.{both_ways}
-use Rattle.sip_text.specs.Uri.{Port}
-use Rattle.sip_text.proofs.UriPortLemmas.{port-there, no-port}
+use Rattle.sip_standard.specs.Profile.{Port}
+use Rattle.sip_text.proofs.uris.UriPortLemmas.{port-there, no-port}
 use Rattle.sip_text.proofs.uri.cut_port.Goals as goal
 use Rattle.sip_text.proofs.uri.cut_port.Goals.{in_default-via-in-Some+else-is_port, in_default-via-in_default}
 

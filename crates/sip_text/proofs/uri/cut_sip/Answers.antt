@@ -1,7 +1,7 @@
 use Rattle.std.proofs.Common.{◌≤◌, length, refl, sym, ◌∙◌, rules}
 use Rattle.std.proofs.lemmas.List.{take_rest}
 use Rattle.sip_text.specs.Bytes.{semicolon, is_token_byte}
-use Rattle.sip_text.proofs.UriSipLemmas.{before-within, host-cut, sip-cut}
+use Rattle.sip_text.proofs.uris.UriSipLemmas.{before-within, host-cut, sip-cut}
 use Rattle.sip_text.proofs.uri.cut_sip.Goals as goal
 
 pub slice_bounds-params-count : goal.slice_bounds-params-count

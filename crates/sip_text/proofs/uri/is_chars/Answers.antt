@@ -1,6 +1,6 @@
 use Rattle.std.proofs.Common.{sym, ◌∙◌}
-use Rattle.sip_text.specs.Class.{is_in}
-use Rattle.sip_text.proofs.UriCharLemmas.{run-slice, chars-past, chars-stop}
+use Rattle.sip_text.specs.inner.Class.{is_in}
+use Rattle.sip_text.proofs.uris.UriCharLemmas.{run-slice, chars-past, chars-stop}
 use Rattle.sip_text.proofs.uri.is_chars.Goals as goal
 
 pub chars-smaller : goal.chars-smaller

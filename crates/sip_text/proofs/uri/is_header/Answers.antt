@@ -1,6 +1,7 @@
 use Rattle.std.proofs.Common.{Some, None, sym, ap, ◌∙◌, option_copied}
-use Rattle.sip_text.proofs.UriCharLemmas.{decides-hname, decides-hvalue}
-use Rattle.sip_text.proofs.UriPartLemmas.{decides-header, both-when, both-unless, neither}
+use Rattle.sip_text.specs.inner.Class.{is_hnv_unreserved}
+use Rattle.sip_text.proofs.uris.UriCharLemmas.{decides-some, decides-many}
+use Rattle.sip_text.proofs.uris.UriPartLemmas.{decides-header, both-when, both-unless, neither}
 use Rattle.sip_text.proofs.uri.is_header.Goals as goal
 
 pub returns-then-is_some_chars : goal.returns-then-is_some_chars
@@ -8,13 +9,13 @@ returns-then-is_some_chars c =
     decides-header c.args.text.now c.cut.result.0.now (Some c.in-Some.value.now) c.is_chars.result
     c.cut.ensures.front (ap option_copied (sym c.in-Some.is) ∙ c.cut.ensures.rest)
     (both-when c.is_some_chars.result c.is_chars.result c.if-is_some_chars.true
-    (decides-hname _ _ c.is_some_chars.ensures) (decides-hvalue _ _ c.is_chars.ensures))
+    (decides-some is_hnv_unreserved _ _ c.is_some_chars.ensures) (decides-many is_hnv_unreserved _ _ c.is_chars.ensures))
 
 pub returns-else-is_some_chars : goal.returns-else-is_some_chars
 returns-else-is_some_chars c =
     decides-header c.args.text.now c.cut.result.0.now (Some c.in-Some.value.now) c.is_some_chars.result
     c.cut.ensures.front (ap option_copied (sym c.in-Some.is) ∙ c.cut.ensures.rest)
-    (both-unless c.is_some_chars.result c.if-is_some_chars.false (decides-hname _ _ c.is_some_chars.ensures))
+    (both-unless c.is_some_chars.result c.if-is_some_chars.false (decides-some is_hnv_unreserved _ _ c.is_some_chars.ensures))
 
 pub returns-in-None : goal.returns-in-None
 returns-in-None c =

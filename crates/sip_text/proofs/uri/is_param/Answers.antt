@@ -1,6 +1,7 @@
 use Rattle.std.proofs.Common.{Some, None, sym, ap, ◌∙◌, option_copied}
-use Rattle.sip_text.proofs.UriCharLemmas.{decides-param_word}
-use Rattle.sip_text.proofs.UriPartLemmas.{decides-param, both-when, both-unless, first-alone}
+use Rattle.sip_text.specs.inner.Class.{is_param_unreserved}
+use Rattle.sip_text.proofs.uris.UriCharLemmas.{decides-some}
+use Rattle.sip_text.proofs.uris.UriPartLemmas.{decides-param, both-when, both-unless, first-alone}
 use Rattle.sip_text.proofs.uri.is_param.Goals as goal
 
 pub returns-then-is_some_chars : goal.returns-then-is_some_chars
@@ -8,17 +9,17 @@ returns-then-is_some_chars c =
     decides-param c.args.text.now c.cut.result.0.now (Some c.in-Some.value.now) c.is_some_chars-then-is_some_chars.result
     c.cut.ensures.front (ap option_copied (sym c.in-Some.is) ∙ c.cut.ensures.rest)
     (both-when c.is_some_chars.result c.is_some_chars-then-is_some_chars.result c.if-is_some_chars.true
-    (decides-param_word _ _ c.is_some_chars.ensures)
-    (decides-param_word _ _ c.is_some_chars-then-is_some_chars.ensures))
+    (decides-some is_param_unreserved _ _ c.is_some_chars.ensures)
+    (decides-some is_param_unreserved _ _ c.is_some_chars-then-is_some_chars.ensures))
 
 pub returns-else-is_some_chars : goal.returns-else-is_some_chars
 returns-else-is_some_chars c =
     decides-param c.args.text.now c.cut.result.0.now (Some c.in-Some.value.now) c.is_some_chars.result
     c.cut.ensures.front (ap option_copied (sym c.in-Some.is) ∙ c.cut.ensures.rest)
-    (both-unless c.is_some_chars.result c.if-is_some_chars.false (decides-param_word _ _ c.is_some_chars.ensures))
+    (both-unless c.is_some_chars.result c.if-is_some_chars.false (decides-some is_param_unreserved _ _ c.is_some_chars.ensures))
 
 pub returns-in-None : goal.returns-in-None
 returns-in-None c =
     decides-param c.args.text.now c.cut.result.0.now None c.is_some_chars-in-None.result
     c.cut.ensures.front (ap option_copied (sym c.in-None.is) ∙ c.cut.ensures.rest)
-    (first-alone _ (decides-param_word _ _ c.is_some_chars-in-None.ensures))
+    (first-alone _ (decides-some is_param_unreserved _ _ c.is_some_chars-in-None.ensures))

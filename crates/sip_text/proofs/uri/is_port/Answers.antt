@@ -1,7 +1,7 @@
 use Rattle.std.proofs.Common.{refl, sym, ap, ◌≢◌, ◌+◌, ◌*◌, ◌∙◌, arith, length}
 use Rattle.std.proofs.lemmas.Bool.{eqb-true, eqb-false}
-use Rattle.sip_text.proofs.UriPartLemmas.{decides-not}
-use Rattle.sip_text.proofs.UriPortLemmas.{port-length, port-digit, port-large, digit-more, port-end}
+use Rattle.sip_text.proofs.uris.UriPartLemmas.{decides-not}
+use Rattle.sip_text.proofs.uris.UriPortLemmas.{port-length, port-digit, port-large, digit-more, port-end}
 use Rattle.sip_text.proofs.uri.is_port.Goals as goal
 use Rattle.sip_text.proofs.uri.is_port.Goals.{then-is_empty-via-then-is_empty, then-is_empty-via-else-is_empty+then-text-gt-PORT_DIGITS}
 

@@ -1,4 +1,4 @@
-use Rattle.sip_text.proofs.UriPortLemmas.{ReadsDigits}
+use Rattle.sip_text.proofs.uris.UriPortLemmas.{ReadsDigits}
 use Rattle.sip_text.proofs.uri.is_port.Given as goal
 
 -- so far each byte is a digit, and they write the number

@@ -1,5 +1,5 @@
 use Rattle.std.proofs.Common.{sym, ◌∙◌}
-use Rattle.sip_text.proofs.UriSchemeLemmas.{decides-scheme}
+use Rattle.sip_text.proofs.uris.UriSchemeLemmas.{decides-scheme}
 use Rattle.sip_text.proofs.uri.is_scheme.Goals as goal
 
 pub returns-then-has : goal.returns-then-has

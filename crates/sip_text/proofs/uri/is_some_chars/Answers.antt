@@ -1,9 +1,9 @@
 use Rattle.std.proofs.Common.{sym, ◌∙◌}
-use Rattle.sip_text.specs.inner.UriCut.{Char}
-use Rattle.sip_text.proofs.UriCharLemmas.{some-decides}
+use Rattle.sip_text.specs.inner.UriCut.{ClassChar}
+use Rattle.sip_text.proofs.uris.UriCharLemmas.{some-decides}
 use Rattle.sip_text.proofs.uri.is_some_chars.Goals as goal
 
 pub returns-then-not-is_empty : goal.returns-then-not-is_empty
 returns-then-not-is_empty c =
-    some-decides (Char c.args.class) c.args.text.now c.is_chars.result
+    some-decides (ClassChar c.args.class) c.args.text.now c.is_chars.result
     (sym c.is_empty.ensures ∙ c.if-not-is_empty.true) c.is_chars.ensures

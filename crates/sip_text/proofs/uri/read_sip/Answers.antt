@@ -1,10 +1,10 @@
 use Rattle.std.proofs.Common.{sym, subst}
 use Rattle.std.proofs.lemmas.Bool.{both_ways}
-use Rattle.sip_text.specs.Text.{IsOnlyValue}
+use Rattle.sip_text.specs.Parts.{IsOnlyValue}
 use Rattle.sip_text.specs.Host.{host_parts}
 use Rattle.sip_text.specs.Uri.{uri_parts}
 use Rattle.sip_text.specs.inner.UriCut.{cut_parts, SipText}
-use Rattle.sip_text.proofs.UriSipLemmas.{no-host_cut, info-fits, parts-fit, parts-only}
+use Rattle.sip_text.proofs.uris.UriSipLemmas.{no-host_cut, info-fits, parts-fit, parts-only}
 use Rattle.sip_text.proofs.uri.read_sip.Goals as goal
 use Rattle.sip_text.proofs.uri.read_sip.Goals.{then-not-userinfo_fits-via-then-not-userinfo_fits, then-not-userinfo_fits-via-else-not-userinfo_fits+then-not-tail_fits}
 

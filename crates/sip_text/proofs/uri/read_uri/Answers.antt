@@ -1,10 +1,11 @@
 use Rattle.std.proofs.Common.{◌≡◌, false, true, not, option_copied, sym, ap, ◌∙◌, subst}
 use Rattle.std.proofs.lemmas.Bool.{both_ways}
-use Rattle.sip_text.specs.Text.{IsOnlyValue}
-use Rattle.sip_text.specs.Uri.{UriText, uri_parts, scheme_name}
+use Rattle.sip_text.specs.Parts.{IsOnlyValue}
 use Rattle.sip_text.specs.Case.{SameText}
-use Rattle.sip_text.proofs.UriCharLemmas.{decides-uric}
-use Rattle.sip_text.proofs.UriLemmas.{scheme-at, read-sip, named-so, not-sip, other-fits, other-only, no-colon}
+use Rattle.sip_text.specs.Uri.{UriText, uri_parts, scheme_name}
+use Rattle.sip_text.specs.inner.Class.{is_reserved}
+use Rattle.sip_text.proofs.uris.UriCharLemmas.{decides-some}
+use Rattle.sip_text.proofs.uris.UriLemmas.{scheme-at, read-sip, named-so, not-sip, other-fits, other-only, no-colon}
 use Rattle.sip_text.proofs.uri.read_uri.Goals as goal
 use Rattle.sip_text.proofs.uri.read_uri.Goals.{then-is_sip-via-then-is_sip, then-is_sip-via-else-is_sip+then-same_text, else-is_scheme-via-then-is_scheme+else-is_some_chars, else-is_scheme-via-else-is_scheme}
 
@@ -32,7 +33,7 @@ returns-then-is_some_chars c =
     let neither = not-sip c.cut_scheme.result.0.now
     (λ same. both_ways c.same_text-is_sip.result c.if-is_sip.false (c.same_text-is_sip.ensures.1 same))
     (λ same. both_ways c.same_text.result c.if-same_text.false (c.same_text.ensures.1 same)) in
-    let uric = decides-uric c.in_ok-rest.rest.now c.is_some_chars.result c.is_some_chars.ensures in (
+    let uric = decides-some is_reserved c.in_ok-rest.rest.now c.is_some_chars.result c.is_some_chars.ensures in (
       other-fits c.args.text.now c.cut_scheme.result.0.now c.in_ok-rest.rest.now cut neither
           (c.is_scheme.ensures.0 c.if-is_scheme.true) (uric.0 c.if-is_some_chars.true),
       λ x fits. (other-only c.args.text.now c.cut_scheme.result.0.now c.in_ok-rest.rest.now x cut neither fits).2,
@@ -47,7 +48,7 @@ returns-else-is_scheme c = λ x is.
     let fits = other-only c.args.text.now c.cut_scheme.result.0.now c.in_ok-rest.rest.now x cut neither is in
     elim c.else-is_scheme.branch [
       | else-is_scheme-via-then-is_scheme+else-is_some_chars w ↦
-          let uric = decides-uric c.in_ok-rest.rest.now w.is_some_chars.result w.is_some_chars.ensures in
+          let uric = decides-some is_reserved c.in_ok-rest.rest.now w.is_some_chars.result w.is_some_chars.ensures in
           both_ways w.is_some_chars.result w.if-is_some_chars.false (uric.1 fits.1)
       | else-is_scheme-via-else-is_scheme w ↦
           both_ways c.is_scheme.result w.if-is_scheme.false (c.is_scheme.ensures.1 fits.0)

@@ -1,7 +1,7 @@
 use Rattle.std.proofs.Common.{◌≤◌, ◌+◌, ◌++◌, ◌∷◌, [], ◌∙◌, All, Contains, length, slice_get, sym, ap, subst, arith}
-use Rattle.sip_verdict.proofs.FollowedLemmas.{swept_take}
-use Rattle.sip_verdict.proofs.Keys.{newest_moment-push}
-use Rattle.sip_verdict.proofs.SweptBook.{same_within, within_keeps}
+use Rattle.sip_verdict.proofs.sweeps.FollowedLemmas.{swept_take}
+use Rattle.sip_verdict.proofs.keys.Keys.{newest_moment-push}
+use Rattle.sip_verdict.proofs.sweeps.SweptBook.{same_within, within_keeps}
 use Rattle.sip_verdict.proofs.surveys.Kept.{surveyed_kept, surveyed_swept}
 use Rattle.sip_verdict.proofs.entries.find_next.Goals as goal
 

@@ -3,8 +3,8 @@ use Rattle.sip_machine.specs.Texts.{Keeps}
 use Rattle.sip_log.specs.Told.{item}
 use Rattle.sip_verdict.specs.inner.Concerned.{each}
 use Rattle.sip_verdict.specs.inner.TablesTracking.{MayHear}
-use Rattle.sip_verdict.proofs.StandingLemmas.{grown_may, few_keys, may_hear, may_next, same_some}
-use Rattle.sip_verdict.proofs.TablesTouching.{touches_may}
+use Rattle.sip_verdict.proofs.judges.StandingLemmas.{grown_may, few_keys, may_hear, may_next, same_some}
+use Rattle.sip_verdict.proofs.tables.TablesTouching.{touches_may}
 use Rattle.sip_verdict.proofs.surveys.Taken.{unheard_taken, fault_taken, restart_taken, heard_taken, watched_touched}
 use Rattle.sip_verdict.proofs.entries.take.Goals as goal
 

@@ -1,5 +1,5 @@
 use Rattle.std.proofs.Common.{◌≡◌, ◌-◌, Option, List, ℕ}
-use Rattle.sip_log.specs.Log.{most_entries}
+use Rattle.sip_standard.specs.LogSays.{most_entries}
 use Rattle.sip_log.specs.Reading.{beside_source}
 use Rattle.sip_verdict.specs.inner.Sweeping.{IsAt, StandsForRead}
 use Rattle.sip_verdict.proofs.judging.judge_entries.Given as goal

@@ -1,4 +1,4 @@
-use Rattle.sip_verdict.proofs.FormatLaws.{rules_verdict}
+use Rattle.sip_verdict.proofs.verdicts.FormatLaws.{rules_verdict}
 use Rattle.sip_verdict.proofs.laws.a_line_of_rules_6026_changes_no_verdict.Goals as goal
 
 pub returns : goal.returns

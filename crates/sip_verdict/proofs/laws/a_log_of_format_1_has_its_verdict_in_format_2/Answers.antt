@@ -1,4 +1,4 @@
-use Rattle.sip_verdict.proofs.FormatLaws.{format_verdict}
+use Rattle.sip_verdict.proofs.verdicts.FormatLaws.{format_verdict}
 use Rattle.sip_verdict.proofs.laws.a_log_of_format_1_has_its_verdict_in_format_2.Goals as goal
 
 pub returns : goal.returns

@@ -1,5 +1,5 @@
 use Rattle.sip_verdict.specs.MessageReading.{key_machines}
-use Rattle.sip_verdict.proofs.FewerEntries.{fewer-entries}
+use Rattle.sip_verdict.proofs.keys.FewerEntries.{fewer-entries}
 use Rattle.sip_verdict.proofs.laws.a_run_over_entries_holds_one_over_fewer.Goals as goal
 
 pub returns : goal.returns

@@ -1,5 +1,5 @@
-use Rattle.sip_verdict.proofs.HasVerdict.{has_verdict}
-use Rattle.sip_verdict.proofs.VerdictLemmas.{by-verdict}
+use Rattle.sip_verdict.proofs.verdicts.HasVerdict.{has_verdict}
+use Rattle.sip_verdict.proofs.verdicts.VerdictLemmas.{by-verdict}
 use Rattle.sip_verdict.proofs.laws.an_input_has_a_verdict.Goals as goal
 
 pub returns : goal.returns

@@ -1,7 +1,7 @@
 use Rattle.sip_verdict.specs.MessageReading.{message_reading}
-use Rattle.sip_verdict.proofs.OneVerdict.{verdict_is_one}
-use Rattle.sip_verdict.proofs.VerdictLemmas.{verdict-by}
-use Rattle.sip_verdict.proofs.MessageUnique.{observes_one}
+use Rattle.sip_verdict.proofs.verdicts.OneVerdict.{verdict_is_one}
+use Rattle.sip_verdict.proofs.verdicts.VerdictLemmas.{verdict-by}
+use Rattle.sip_verdict.proofs.verdicts.MessageUnique.{observes_one}
 use Rattle.sip_verdict.proofs.laws.an_input_has_one_verdict.Goals as goal
 
 pub returns : goal.returns

@@ -1,6 +1,6 @@
 use Rattle.std.proofs.Common.{rules}
 use Rattle.sip_states.specs.AnySet.{IsEmpty}
-use Rattle.sip_verdict.proofs.AnyHearing.{takes_known, hears_none, hears_some, hears_wide}
+use Rattle.sip_verdict.proofs.keys.AnyHearing.{takes_known, hears_none, hears_some, hears_wide}
 use Rattle.sip_verdict.proofs.passing.hear.Goals as goal
 
 pub returns-in-Ok-clause-stepped : goal.returns-in-Ok-clause-stepped

@@ -2,7 +2,7 @@ use Rattle.std.proofs.Common.{◌+◌, ◌∙◌, take, get_or, sym, subst, arit
 use Rattle.std.proofs.lemmas.List.{take_more}
 use Rattle.sip_verdict.specs.inner.Tracking.{first_of}
 use Rattle.sip_verdict.specs.inner.TablesTracking.{HearsEach}
-use Rattle.sip_verdict.proofs.TablesPassing.{given_still, hears_more}
+use Rattle.sip_verdict.proofs.tables.TablesPassing.{given_still, hears_more}
 use Rattle.sip_verdict.proofs.passing.hear_all.Goals as goal
 
 pub hear_one-requires-clause-given : goal.hear_one-requires-clause-given

@@ -2,7 +2,7 @@ use Rattle.std.proofs.Common.{◌∙◌, refl, sym, ap, subst, arith}
 use Rattle.sip_verdict.specs.inner.Tracking.{first_of}
 use Rattle.sip_verdict.specs.inner.Concerned.{each, is_all}
 use Rattle.sip_verdict.specs.inner.TablesTracking.{HearsEach}
-use Rattle.sip_verdict.proofs.TablesPassing.{given_still, named_hearers}
+use Rattle.sip_verdict.proofs.tables.TablesPassing.{given_still, named_hearers}
 use Rattle.sip_verdict.proofs.passing.hear_each.Goals as goal
 
 pub hear_one-requires-in-OwnAndCancelled-2-clause-given : goal.hear_one-requires-in-OwnAndCancelled-2-clause-given

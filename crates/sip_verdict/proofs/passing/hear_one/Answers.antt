@@ -4,7 +4,7 @@ use Rattle.std.proofs.lemmas.List.Elements.{All-set}
 use Rattle.sip_states.specs.AnySet.{moment_of, IsKnownSet}
 use Rattle.sip_verdict.specs.declared.passing.Fate.TheVariants.{Runs, NoRun, TooWide}
 use Rattle.sip_verdict.specs.inner.TablesTracking.{MayPass}
-use Rattle.sip_verdict.proofs.TablesPassing.{settles_leaves}
+use Rattle.sip_verdict.proofs.tables.TablesPassing.{settles_leaves}
 use Rattle.sip_verdict.proofs.passing.hear_one.Goals as goal
 
 pub returns-in_ok-settle-in-Runs-clause-may : goal.returns-in_ok-settle-in-Runs-clause-may

@@ -2,7 +2,7 @@ use Rattle.std.proofs.Common.{All, sym, subst}
 use Rattle.sip_states.specs.Tables.{IsGiven}
 use Rattle.sip_verdict.specs.declared.concerned.Concerned.TheVariants as concerned
 use Rattle.sip_verdict.specs.inner.TablesTracking.{MayPass, AreHearers, HearsEach}
-use Rattle.sip_verdict.proofs.TablesPassing.{all_hearers}
+use Rattle.sip_verdict.proofs.tables.TablesPassing.{all_hearers}
 use Rattle.sip_verdict.proofs.passing.restart.Goals as goal
 
 pub hear_all-requires-clause-given : goal.hear_all-requires-clause-given

@@ -1,6 +1,6 @@
 use Rattle.sip_log.specs.Reading as log
 use Rattle.sip_log.specs.Reading.{beside_source}
-use Rattle.sip_verdict.proofs.WalkingLemmas.{gives_entry, gives_end, gives_fault}
+use Rattle.sip_verdict.proofs.listings.WalkingLemmas.{gives_entry, gives_end, gives_fault}
 use Rattle.sip_verdict.proofs.reading.read_next.Goals as goal
 
 pub returns-in-Ok-Some-clause-gives : goal.returns-in-Ok-Some-clause-gives

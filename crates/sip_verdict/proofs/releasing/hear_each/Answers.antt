@@ -2,7 +2,7 @@ use Rattle.std.proofs.Common.{[], ◌∷◌, sym, ap, subst, arith}
 use Rattle.std.proofs.lemmas.Result.{on_ok_weaker}
 use Rattle.sip_verdict.specs.inner.Concerned.{each, is_all}
 use Rattle.sip_verdict.specs.inner.Surveying.{HearsNumbers}
-use Rattle.sip_verdict.proofs.TablesPassing.{given_still, named_hearers}
+use Rattle.sip_verdict.proofs.tables.TablesPassing.{given_still, named_hearers}
 use Rattle.sip_verdict.proofs.surveys.Numbered.{hears_none, hears_one, hears_two}
 use Rattle.sip_verdict.proofs.releasing.hear_each.Goals as goal
 

@@ -4,7 +4,7 @@ use Rattle.sip_states.specs.Tables.{IsGiven}
 use Rattle.sip_verdict.specs.declared.concerned.Concerned.TheVariants as concerned
 use Rattle.sip_verdict.specs.inner.TablesTracking.{MayPass, AreHearers}
 use Rattle.sip_verdict.specs.inner.Surveying.{AreWatched, HearsNumbers}
-use Rattle.sip_verdict.proofs.TablesPassing.{all_hearers}
+use Rattle.sip_verdict.proofs.tables.TablesPassing.{all_hearers}
 use Rattle.sip_verdict.proofs.surveys.Watching.{watched_more}
 use Rattle.sip_verdict.proofs.releasing.restart.Goals as goal
 

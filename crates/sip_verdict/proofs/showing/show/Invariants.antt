@@ -1,7 +1,7 @@
 use Rattle.std.proofs.Common.{◌≡◌, ◌-◌, ◌≤◌}
-use Rattle.sip_log.specs.Log.{most_entries}
+use Rattle.sip_standard.specs.LogSays.{most_entries}
 use Rattle.sip_log.specs.Reading.{beside_source}
-use Rattle.sip_verdict.proofs.ShowingLemmas.{Showed}
+use Rattle.sip_verdict.proofs.shows.ShowingLemmas.{Showed}
 use Rattle.sip_verdict.proofs.showing.show.Given as goal
 
 abbrev pub invariant-loop-entry : goal.invariant-loop-entry

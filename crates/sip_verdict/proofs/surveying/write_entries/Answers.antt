@@ -1,12 +1,13 @@
 use Rattle.std.proofs.Common.{◌≡◌, ◌+◌, ◌∙◌, List, [], ◌++◌, refl, sym, subst, rules, arith}
 use Rattle.std.specs.Io.KnownBytes.{Appends}
+use Rattle.std.specs.Option.{option_copied}
 use Rattle.sip_log.specs.Reading as log
 use Rattle.sip_log.specs.Reading.{beside_source}
 use Rattle.sip_verdict.specs.declared.finding.Finding.{Finding}
 use Rattle.sip_verdict.specs.declared.survey_end.SurveyEnd.TheVariants.{LogFault}
 use Rattle.sip_verdict.specs.SurveyText.{end_text}
 use Rattle.sip_verdict.proofs.surveys.Writing.{told_none, told_more, summed, surveys_on, surveys_end, surveys_stop}
-use Rattle.sip_verdict.proofs.StandingLemmas.{same_some}
+use Rattle.sip_verdict.proofs.judges.StandingLemmas.{same_some}
 use Rattle.sip_verdict.proofs.surveying.write_entries.Goals as goal
 
 pub loop-found-init : goal.loop-found-init
@@ -21,6 +22,7 @@ loop-found-init g c = record {
 pub loop-found-preserved : goal.loop-found-preserved
 loop-found-preserved g c =
     let l = c.loop-found in
+    let part = option_copied c.args.part in
     let old : log.ReaderState = beside_source l.progress (g.R.Source.left l.reader) (g.R.Source.has_failed l.reader) in
     let new : log.ReaderState = beside_source c.read_next.new.progress (g.R.Source.left c.read_next.new.reader) (g.R.Source.has_failed c.read_next.new.reader) in
     let moves = rw c.in-Entry.is at c.in_ok-entry.ensures.moves in
@@ -35,11 +37,11 @@ loop-found-preserved g c =
       at = record {
         on = moves.0;
         goes_on = search rules;
-        counts = taken.newest.0 ∙ sym moves.2;
-        newest = taken.newest.1 ∙ sym moves.3;
+        counts = taken.newest.0 ∙ c.in_ok-cut_to-in-Entry.ensures.number ∙ sym moves.2;
+        newest = taken.newest.1 ∙ c.in_ok-cut_to-in-Entry.ensures.moment ∙ sym moves.3;
         few = (let number = moves.1.number_is in let count = moves.2 in let low = moves.4 in omega arith);
       };
-      counts_are = sym taken.newest.0;
+      counts_are = sym (taken.newest.0 ∙ c.in_ok-cut_to-in-Entry.ensures.number);
       told = (
         told.0 ++ items,
         told_more told.0 items l.counts c.in_ok-counts-in-Entry.counts (g.W.Sink.written c.args.writer.now) (g.W.Sink.written l.writer) (g.W.Sink.written c.put_findings.new.writer) told.1
@@ -47,13 +49,14 @@ loop-found-preserved g c =
         λ start reads.
             let read = told.2 start reads in
             let more = (rw c.in-Entry.is at c.in_ok-entry.ensures.gives) start l.survey.tables.times read.items read.read in
-            surveys_on start old l.survey told.0 read c.in-Entry.entry new more c.entry.new.self taken.times items (rw c.clear.ensures.items at taken.found),
+            surveys_on part start old l.survey told.0 read c.in-Entry.entry c.cut_to.new.entry new more c.in_ok-cut_to-in-Entry.ensures.cut c.entry.new.self taken.times items (rw c.clear.ensures.items at taken.found),
       );
     }
 
 pub returns-in-End-clause-surveyed : goal.returns-in-End-clause-surveyed
 returns-in-End-clause-surveyed g c =
     let l = c.loop-found in
+    let part = option_copied c.args.part in
     let old : log.ReaderState = beside_source l.progress (g.R.Source.left l.reader) (g.R.Source.has_failed l.reader) in
     let told = l.invariant.told in
     let before = g.W.Sink.written c.args.writer.now in
@@ -63,11 +66,12 @@ returns-in-End-clause-surveyed g c =
     let read = told.2 start reads in
     let logs = (rw c.in-End.is at c.in_ok-entry.ensures.gives) start l.survey.tables.times read.items read.read in
     let is = same_some _ _ (sym c.unwrap.ensures ∙ c.end.ensures.clean read.es read.follows) in
-    surveys_end start old l.survey told.0 read l.counts summary before mid after told.1 findings undecided (end ∙ is) (subst (λ e. Appends mid after (end_text e l.counts.findings)) is last) logs)
+    surveys_end part start old l.survey told.0 read l.counts summary before mid after told.1 findings undecided (end ∙ is) (subst (λ e. Appends mid after (end_text e l.counts.findings)) is last) logs)
 
 pub returns-in-Fault-clause-surveyed : goal.returns-in-Fault-clause-surveyed
 returns-in-Fault-clause-surveyed g c =
     let l = c.loop-found in
+    let part = option_copied c.args.part in
     let old : log.ReaderState = beside_source l.progress (g.R.Source.left l.reader) (g.R.Source.has_failed l.reader) in
     let told = l.invariant.told in
     let before = g.W.Sink.written c.args.writer.now in
@@ -75,5 +79,5 @@ returns-in-Fault-clause-surveyed g c =
     let after = g.W.Sink.written c.finish-in-Fault.new.writer in
     summed c.finish-in-Fault.result l.counts (LogFault (l.count + 1) c.in-Fault.reason) c.finish-in-Fault.ensures.sums c.finish-in-Fault.ensures.text (λ summary end findings undecided last start reads.
     let read = told.2 start reads in
-    surveys_stop start old l.survey told.0 read l.counts summary before mid after told.1 findings undecided l.count c.in-Fault.reason l.invariant.counts_are end last
+    surveys_stop part start old l.survey told.0 read l.counts summary before mid after told.1 findings undecided l.count c.in-Fault.reason l.invariant.counts_are end last
     ((rw c.in-Fault.is at c.in_ok-entry.ensures.gives) start l.survey.tables.times read.items read.read))

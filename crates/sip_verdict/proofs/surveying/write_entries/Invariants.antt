@@ -1,5 +1,6 @@
 use Rattle.std.proofs.Common.{◌≡◌, ◌-◌, [], Option, List, ℕ}
-use Rattle.sip_log.specs.Log.{most_entries}
+use Rattle.sip_standard.specs.LogSays.{most_entries}
+use Rattle.std.specs.Option.{option_copied}
 use Rattle.sip_log.specs.Reading.{beside_source}
 use Rattle.sip_verdict.specs.declared.finding.Finding.{Finding}
 use Rattle.sip_verdict.specs.inner.SurveyingLogs.{AreTold, IsSurveyAt, SurveysRead}
@@ -13,8 +14,8 @@ invariant-loop-found g l =
       at : IsSurveyAt l.survey l.progress;
       counts_are : l.count ≡ l.survey.number;
       told : (found : List Finding) × AreTold found l.counts (g.W.Sink.written l.fn.writer) (g.W.Sink.written l.writer)
-          × ((start : Option (List ℕ)) → SurveysRead l.fn.survey [] start (beside_source l.fn.progress (g.R.Source.left l.fn.reader) (g.R.Source.has_failed l.fn.reader))
-          → SurveysRead l.survey found start (beside_source l.progress (g.R.Source.left l.reader) (g.R.Source.has_failed l.reader)));
+          × ((start : Option (List ℕ)) → SurveysRead (option_copied l.fn.part) l.fn.survey [] start (beside_source l.fn.progress (g.R.Source.left l.fn.reader) (g.R.Source.has_failed l.fn.reader))
+          → SurveysRead (option_copied l.fn.part) l.survey found start (beside_source l.progress (g.R.Source.left l.reader) (g.R.Source.has_failed l.reader)));
     }
 
 abbrev pub decreases-loop-found : goal.decreases-loop-found

@@ -1,7 +1,7 @@
 use Rattle.std.proofs.Common.{◌≤◌, ◌+◌, All, Contains, length, subst, arith}
 use Rattle.sip_log.specs.Told.{item}
-use Rattle.sip_verdict.proofs.FollowedLemmas.{followed_kept, followed_swept, swept_take}
-use Rattle.sip_verdict.proofs.SweptBook.{same_within, within_keeps}
+use Rattle.sip_verdict.proofs.sweeps.FollowedLemmas.{followed_kept, followed_swept, swept_take}
+use Rattle.sip_verdict.proofs.sweeps.SweptBook.{same_within, within_keeps}
 use Rattle.sip_verdict.proofs.sweeping.judge_next.Goals as goal
 
 pub returns-then-kept-left-clause-judged : goal.returns-then-kept-left-clause-judged

@@ -1,6 +1,6 @@
 use Rattle.std.proofs.Common.{◌≡◌, ◌+◌, ◌++◌, ◌∷◌, ◌-◌, List, ℕ, length, option_copied, decimal, refl, ap, ◌∙◌, arith}
+use Rattle.sip_standard.specs.Case.{folded}
 use Rattle.sip_text.specs.Bytes.{colon}
-use Rattle.sip_text.specs.Case.{folded}
 use Rattle.std.proofs.lemmas.List.{length-append}
 use Rattle.sip_key.specs.SentBy.{port_number, sent_by}
 use Rattle.sip_key.specs.declared.role.Role.TheVariants.{Server}

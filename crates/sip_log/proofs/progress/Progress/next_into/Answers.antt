@@ -2,7 +2,7 @@ use Rattle.std.proofs.Common.{◌≡◌, Err, subst, sym, ap, ◌∙◌, refl}
 use Rattle.sip_log.specs.declared.progress.Stage.TheVariants as code
 use Rattle.sip_log.specs.Reading.{Place, beside_source, Nexts}
 use Rattle.sip_log.specs.inner.Place.{stage_of, held_at, FitsStage}
-use Rattle.sip_log.proofs.ReadingLemmas.{entries-step, fresh-step, fault-step}
+use Rattle.sip_log.proofs.answers.ReadingLemmas.{entries-step, fresh-step, fault-step}
 use Rattle.sip_log.proofs.progress.Progress.next_into.Goals as goal
 
 pub returns-in-Ok : goal.returns-in-Ok

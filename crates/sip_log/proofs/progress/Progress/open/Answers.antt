@@ -1,13 +1,13 @@
 use Rattle.std.proofs.Common.{Ok, Err, refl, subst}
 use Rattle.std.specs.Io.KnownBytes.{prepend_known}
-use Rattle.sip_times.specs.Times.{Times}
-use Rattle.sip_log.specs.declared.format.Format.TheVariants.{One}
+use Rattle.sip_standard.specs.Times.{Times}
+use Rattle.sip_standard.specs.declared.format.Format.TheVariants.{One}
 use Rattle.sip_log.specs.Next.{gives}
 use Rattle.sip_log.specs.Told.{TellsWhatComes}
 use Rattle.sip_log.specs.Reading.{Heads}
 use Rattle.sip_log.specs.inner.Window.{items, unread}
-use Rattle.sip_log.proofs.ReadingLemmas.{headed, unheaded}
-use Rattle.sip_log.proofs.ToldLemmas.{unread-fresh}
+use Rattle.sip_log.proofs.answers.ReadingLemmas.{headed, unheaded}
+use Rattle.sip_log.proofs.answers.ToldLemmas.{unread-fresh}
 use Rattle.sip_log.proofs.progress.Progress.open.Goals as goal
 
 pub returns-in-Ok : goal.returns-in-Ok

@@ -1,6 +1,6 @@
 use Rattle.std.proofs.Common.{ℕ, arith}
 use Rattle.std.proofs.lemmas.List.{length-take, length-drop}
-use Rattle.sip_log.proofs.WindowLemmas.{consumed}
+use Rattle.sip_log.proofs.lines.WindowLemmas.{consumed}
 use Rattle.sip_log.proofs.window.Window.consume.Goals as goal
 
 pub returns : goal.returns

@@ -2,7 +2,7 @@ use Rattle.std.proofs.Common.{◌≡◌, ◌+◌, ◌≤◌, ◌-◌, ◌<◌, �
 use Rattle.std.proofs.lemmas.List.{append-nil, with_items_is, places, length-drop}
 use borrow.Rule.Slice.PartMut.{put_mid}
 use Rattle.sip_log.specs.inner.Window.{items}
-use Rattle.sip_log.proofs.WindowLemmas.{grown}
+use Rattle.sip_log.proofs.lines.WindowLemmas.{grown}
 use Rattle.sip_log.proofs.window.Window.read_from.Goals as goal
 
 pub returns-clause-reads : goal.returns-clause-reads

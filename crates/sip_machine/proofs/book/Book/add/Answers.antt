@@ -1,9 +1,9 @@
 use Rattle.std.proofs.Common.{◌∙◌, sym, subst}
 use Rattle.sip_machine.specs.inner.Order.{texts_of, places_of, index_of}
 use Rattle.sip_machine.specs.inner.Tos.{AreTos}
-use Rattle.sip_machine.proofs.ToLemmas.{AreTos-grow}
-use Rattle.sip_machine.proofs.TextLaws.{text_of-kept, Keeps-added, text_of-added}
-use Rattle.sip_machine.proofs.OrderLaws.{bytes_at-kept, IsKept-grow, by_result}
+use Rattle.sip_machine.proofs.acks.ToLemmas.{AreTos-grow}
+use Rattle.sip_machine.proofs.texts.TextLaws.{text_of-kept, Keeps-added, text_of-added}
+use Rattle.sip_machine.proofs.texts.OrderLaws.{bytes_at-kept, IsKept-grow, by_result}
 use Rattle.sip_machine.proofs.book.Book.add.Goals as goal
 
 pub invariant_of-self-in-Err : goal.invariant_of-self-in-Err

@@ -3,8 +3,8 @@ use Rattle.std.specs.declared.cmp.Ordering.TheVariants.{Equal}
 use Rattle.std.proofs.lemmas.Cmp.{ranked}
 use Rattle.std.proofs.lemmas.List.Elements.{All-map}
 use Rattle.std.proofs.lemmas.List.Sorted.{answers_always}
-use Rattle.sip_machine.proofs.TextLaws.{text_of-kept, Keeps-none}
-use Rattle.sip_machine.proofs.OrderLaws.{numbers_searchable, no_number}
+use Rattle.sip_machine.proofs.texts.TextLaws.{text_of-kept, Keeps-none}
+use Rattle.sip_machine.proofs.texts.OrderLaws.{numbers_searchable, no_number}
 use Rattle.sip_machine.proofs.book.Book.bytes.Goals as goal
 
 pub returns-in-Ok : goal.returns-in-Ok

@@ -1,5 +1,5 @@
 use Rattle.sip_machine.specs.Texts.{text_of}
-use Rattle.sip_machine.proofs.ToLemmas.{IsToOf-same}
+use Rattle.sip_machine.proofs.acks.ToLemmas.{IsToOf-same}
 use Rattle.sip_machine.proofs.book.Book.has_to.Goals as goal
 
 pub returns-in-Some : goal.returns-in-Some

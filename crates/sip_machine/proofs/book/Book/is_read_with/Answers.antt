@@ -3,8 +3,8 @@ use Rattle.sip_key.specs.Solid.{solid}
 use Rattle.sip_message.specs.Reads.{Reads}
 use Rattle.sip_machine.specs.Texts.{text_of}
 use Rattle.sip_machine.specs.inner.Tos.{IsToOf}
-use Rattle.sip_machine.proofs.AckLemmas.{Reads-fault}
-use Rattle.sip_machine.proofs.ToLemmas.{IsToOf-same}
+use Rattle.sip_machine.proofs.acks.AckLemmas.{Reads-fault}
+use Rattle.sip_machine.proofs.acks.ToLemmas.{IsToOf-same}
 use Rattle.sip_machine.proofs.book.Book.is_read_with.Goals as goal
 
 pub returns-in_ok-solid_of-in-Some : goal.returns-in_ok-solid_of-in-Some

@@ -3,8 +3,8 @@ use Rattle.sip_key.specs.Solid.{solid}
 use Rattle.sip_machine.specs.declared.tos.To.{To}
 use Rattle.sip_machine.specs.inner.Order.{texts_of}
 use Rattle.sip_machine.specs.inner.Tos.{IsTo, AreTos}
-use Rattle.sip_machine.proofs.OrderLaws.{by_result}
-use Rattle.sip_machine.proofs.ToLemmas.{AreTos-push}
+use Rattle.sip_machine.proofs.texts.OrderLaws.{by_result}
+use Rattle.sip_machine.proofs.acks.ToLemmas.{AreTos-push}
 use Rattle.sip_machine.proofs.book.Book.keep_to.Goals as goal
 
 pub invariant_of-self : goal.invariant_of-self

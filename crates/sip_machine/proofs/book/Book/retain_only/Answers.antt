@@ -3,8 +3,8 @@ use Rattle.sip_machine.specs.Texts.{IsBook, Keeps}
 use Rattle.sip_machine.specs.Retained.{only}
 use Rattle.sip_machine.specs.inner.Order.{texts_of, places_of, IsOrder}
 use Rattle.sip_machine.specs.inner.Tos.{AreTos}
-use Rattle.sip_machine.proofs.ToLemmas.{AreTos-only}
-use Rattle.sip_machine.proofs.RetainLemmas.{merged_is, IsBook-only, IsOrder-only}
+use Rattle.sip_machine.proofs.acks.ToLemmas.{AreTos-only}
+use Rattle.sip_machine.proofs.texts.RetainLemmas.{merged_is, IsBook-only, IsOrder-only}
 use Rattle.sip_machine.proofs.book.Book.retain_only.Goals as goal
 
 pub invariant_of-self : goal.invariant_of-self

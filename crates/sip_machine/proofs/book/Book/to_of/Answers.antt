@@ -1,6 +1,6 @@
 use Rattle.std.proofs.lemmas.Option.{IfSome_then}
 use Rattle.sip_machine.specs.inner.Order.{texts_of}
-use Rattle.sip_machine.proofs.ToLemmas.{to_of}
+use Rattle.sip_machine.proofs.acks.ToLemmas.{to_of}
 use Rattle.sip_machine.proofs.book.Book.to_of.Goals as goal
 
 pub returns : goal.returns

@@ -1,7 +1,7 @@
 use Rattle.std.proofs.Common.{◌∙◌, ◌<◌, ℕ, List, ap, length, arith}
 use Rattle.sip_machine.specs.declared.book.Kept.{Kept}
 use Rattle.sip_machine.specs.inner.Order.{texts_of}
-use Rattle.sip_machine.proofs.RetainLemmas.{keeps_more, keeps_less, keeps_end, keeps_all}
+use Rattle.sip_machine.proofs.texts.RetainLemmas.{keeps_more, keeps_less, keeps_end, keeps_all}
 use Rattle.sip_machine.proofs.book.retain.keep_only.Goals as goal
 use Rattle.sip_machine.proofs.book.retain.keep_only.Goals.{then-left-numbers+then-index-numbers, else-left-numbers, else-left-numbers-via-then-left-numbers+else-index-numbers, else-left-numbers-via-else-left-numbers}
 

@@ -1,4 +1,4 @@
-use Rattle.sip_machine.proofs.RetainLemmas.{KeepsInPlace}
+use Rattle.sip_machine.proofs.texts.RetainLemmas.{KeepsInPlace}
 use Rattle.sip_machine.proofs.book.retain.keep_only.Given as goal
 
 abbrev pub invariant-loop-i : goal.invariant-loop-i

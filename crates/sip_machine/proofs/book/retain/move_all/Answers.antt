@@ -2,7 +2,7 @@ use Rattle.std.proofs.Common.{arith, rules}
 use Rattle.std.proofs.lemmas.Fn.{filter_same}
 use Rattle.sip_machine.specs.inner.Order.{texts_of, most_places}
 use Rattle.sip_machine.specs.inner.Retain.{moved}
-use Rattle.sip_machine.proofs.RetainLemmas.{moves_start, moves_run, moves_runs, has_places}
+use Rattle.sip_machine.proofs.texts.RetainLemmas.{moves_start, moves_run, moves_runs, has_places}
 use Rattle.sip_machine.proofs.book.retain.move_all.Goals as goal
 
 pub loop-i-init : goal.loop-i-init

@@ -1,6 +1,6 @@
 use Rattle.sip_machine.specs.inner.Order.{texts_of, most_places}
 use Rattle.sip_machine.specs.inner.Retain.{moved}
-use Rattle.sip_machine.proofs.RetainLemmas.{MovesRuns}
+use Rattle.sip_machine.proofs.texts.RetainLemmas.{MovesRuns}
 use Rattle.sip_machine.proofs.book.retain.move_all.Given as goal
 
 abbrev pub invariant-loop-i : goal.invariant-loop-i

@@ -1,7 +1,7 @@
 use Rattle.std.proofs.Common.{◌∙◌, ◌<◌, sym, length, arith}
 use Rattle.sip_machine.specs.inner.Order.{texts_of}
 use Rattle.sip_machine.specs.inner.Retain.{moved}
-use Rattle.sip_machine.proofs.RetainLemmas.{moves_some, moves_none, moves_all}
+use Rattle.sip_machine.proofs.texts.RetainLemmas.{moves_some, moves_none, moves_all}
 use Rattle.sip_machine.proofs.book.retain.move_places.Goals as goal
 use Rattle.sip_machine.proofs.book.retain.move_places.Goals.{in-Some, in_default}
 

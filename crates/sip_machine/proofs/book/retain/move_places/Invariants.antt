@@ -1,6 +1,6 @@
 use Rattle.sip_machine.specs.inner.Order.{texts_of}
 use Rattle.sip_machine.specs.inner.Retain.{moved}
-use Rattle.sip_machine.proofs.RetainLemmas.{MovesInPlace}
+use Rattle.sip_machine.proofs.texts.RetainLemmas.{MovesInPlace}
 use Rattle.sip_machine.proofs.book.retain.move_places.Given as goal
 
 abbrev pub invariant-loop-i : goal.invariant-loop-i

@@ -4,7 +4,7 @@ use Rattle.std.proofs.lemmas.List.Elements.{All-from_get_or}
 use Rattle.std.proofs.lemmas.List.Sorted.{searched}
 use Rattle.std.specs.Option.{option_map}
 use Rattle.sip_machine.specs.inner.Retain.{place_among}
-use Rattle.sip_machine.proofs.RetainLemmas.{place_at, place_none, never_falls}
+use Rattle.sip_machine.proofs.texts.RetainLemmas.{place_at, place_none, never_falls}
 use Rattle.sip_machine.proofs.book.retain.moved.Goals as goal
 
 pub returns-in-Ok : goal.returns-in-Ok

@@ -2,7 +2,7 @@ use Rattle.std.specs.Prelude.{◌≡◌, None, []}
 use Rattle.std.proofs.Common.{refl}
 use Rattle.sip_ledger.specs.Ledgers.{rows_of}
 use Rattle.sip_machine.specs.inner.Dues.{rows_in}
-use Rattle.sip_machine.proofs.DueLemmas.{set-none}
+use Rattle.sip_machine.proofs.debts.DueLemmas.{set-none}
 use Rattle.sip_machine.proofs.dues.Dues.clear.Goals as goal
 use Rattle.sip_machine.proofs.dues.Dues.clear.Goals.{in-Some, in_default}
 

@@ -2,7 +2,7 @@ use Rattle.std.specs.Prelude.{◌≡◌, None}
 use Rattle.sip_ledger.specs.Ledgers.{rows_of}
 use Rattle.sip_machine.specs.Owes.{owed_in}
 use Rattle.sip_machine.specs.inner.Dues.{rows_in}
-use Rattle.sip_machine.proofs.DueLemmas.{owed-none, set-none}
+use Rattle.sip_machine.proofs.debts.DueLemmas.{owed-none, set-none}
 use Rattle.sip_machine.proofs.dues.Dues.copy.Goals as goal
 use Rattle.sip_machine.proofs.dues.Dues.copy.Goals.{in-Some, in_default}
 

@@ -2,7 +2,7 @@ use Rattle.std.specs.Prelude.{◌≡◌, ◌≤◌, None, length}
 use Rattle.std.proofs.Common.{ap, arith}
 use Rattle.sip_ledger.specs.Ledgers.{rows_of}
 use Rattle.sip_machine.specs.inner.Dues.{rows_in}
-use Rattle.sip_machine.proofs.DueLemmas.{drop-none}
+use Rattle.sip_machine.proofs.debts.DueLemmas.{drop-none}
 use Rattle.sip_machine.proofs.dues.Dues.drop_first.Goals as goal
 use Rattle.sip_machine.proofs.dues.Dues.drop_first.Goals.{in-Some, in_default}
 

@@ -6,7 +6,7 @@ use Rattle.sip_ledger.specs.declared.debt.Debt.{Debt}
 use Rattle.sip_ledger.specs.Ledgers.{rows_of}
 use Rattle.sip_machine.specs.Owes.{owed_in}
 use Rattle.sip_machine.specs.inner.Dues.{AreDues}
-use Rattle.sip_machine.proofs.DueLemmas.{AreDues-set, between-row}
+use Rattle.sip_machine.proofs.debts.DueLemmas.{AreDues-set, between-row}
 use Rattle.sip_machine.proofs.dues.Dues.expire.Goals as goal
 use Rattle.sip_machine.proofs.dues.Dues.expire.Goals.{in-Some, in_default}
 

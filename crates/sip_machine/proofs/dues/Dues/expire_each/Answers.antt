@@ -5,7 +5,7 @@ use Rattle.sip_ledger.specs.declared.debt.Debt.{Debt}
 use Rattle.sip_ledger.specs.Debts.{counts_at}
 use Rattle.sip_ledger.specs.Ledgers.{rows_of}
 use Rattle.sip_machine.specs.inner.Dues.{rows_in, AreDues}
-use Rattle.sip_machine.proofs.DuesEachLemmas.{AreDues-mapped, mapped-none}
+use Rattle.sip_machine.proofs.debts.DuesEachLemmas.{AreDues-mapped, mapped-none}
 use Rattle.sip_machine.proofs.dues.Dues.expire_each.Goals as goal
 use Rattle.sip_machine.proofs.dues.Dues.expire_each.Goals.{in-Some, in_default}
 

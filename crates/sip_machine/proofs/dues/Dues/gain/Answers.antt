@@ -2,7 +2,7 @@ use Rattle.std.specs.Prelude.{◌≡◌, ◌<◌, None, length, min, max}
 use Rattle.std.proofs.Common.{sym, subst}
 use Rattle.sip_ledger.specs.Ledgers.{rows_of}
 use Rattle.sip_machine.specs.inner.Dues.{rows_in, AreDues}
-use Rattle.sip_machine.proofs.DueLemmas.{AreDues-gain}
+use Rattle.sip_machine.proofs.debts.DueLemmas.{AreDues-gain}
 use Rattle.sip_machine.proofs.dues.Dues.gain.Goals as goal
 use Rattle.sip_machine.proofs.dues.Dues.gain.Goals.{in-Some+in_ok-gain-in-Some, in-None+in_ok-opened-in-None+in-Some-1, in-None+in_ok-opened-in-None+in-None-1}
 

@@ -3,7 +3,7 @@ use Rattle.std.proofs.Common.{sym, subst, ap, ◌∙◌}
 use Rattle.sip_ledger.specs.Ledgers.{rows_of}
 use Rattle.sip_machine.specs.Owes.{owed_in}
 use Rattle.sip_machine.specs.inner.Dues.{rows_in, AreDues}
-use Rattle.sip_machine.proofs.DuesEachLemmas.{AreDues-kept, kept-none}
+use Rattle.sip_machine.proofs.debts.DuesEachLemmas.{AreDues-kept, kept-none}
 use Rattle.sip_machine.proofs.dues.Dues.keep.Goals as goal
 use Rattle.sip_machine.proofs.dues.Dues.keep.Goals.{in-Some, in_default}
 

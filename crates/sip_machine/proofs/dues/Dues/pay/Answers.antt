@@ -5,7 +5,7 @@ use Rattle.sip_ledger.specs.Debts.{paid_by}
 use Rattle.sip_ledger.specs.Ledgers.{rows_of}
 use Rattle.sip_machine.specs.Owes.{owed_in}
 use Rattle.sip_machine.specs.inner.Dues.{rows_in, AreDues}
-use Rattle.sip_machine.proofs.DueLemmas.{owed-none, set-none, AreDues-set, between-row, paid-row, between-paid}
+use Rattle.sip_machine.proofs.debts.DueLemmas.{owed-none, set-none, AreDues-set, between-row, paid-row, between-paid}
 use Rattle.sip_machine.proofs.dues.Dues.pay.Goals as goal
 use Rattle.sip_machine.proofs.dues.Dues.pay.Goals.{in-Some, in_default}
 

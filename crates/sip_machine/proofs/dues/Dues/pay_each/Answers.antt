@@ -3,8 +3,8 @@ use Rattle.std.proofs.Common.{refl}
 use Rattle.sip_ledger.specs.Debts.{paid_by}
 use Rattle.sip_ledger.specs.Ledgers.{rows_of}
 use Rattle.sip_machine.specs.inner.Dues.{rows_in, AreDues}
-use Rattle.sip_machine.proofs.DuesEachLemmas.{AreDues-mapped, mapped-none}
-use Rattle.sip_machine.proofs.DueLemmas.{between-paid}
+use Rattle.sip_machine.proofs.debts.DuesEachLemmas.{AreDues-mapped, mapped-none}
+use Rattle.sip_machine.proofs.debts.DueLemmas.{between-paid}
 use Rattle.sip_machine.proofs.dues.Dues.pay_each.Goals as goal
 use Rattle.sip_machine.proofs.dues.Dues.pay_each.Goals.{in-Some, in_default}
 

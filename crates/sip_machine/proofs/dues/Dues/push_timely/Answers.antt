@@ -4,7 +4,7 @@ use Rattle.sip_ledger.specs.Debts.{is_timely}
 use Rattle.std.proofs.lemmas.List.{length-replicate}
 use Rattle.sip_ledger.specs.Ledgers.{rows_of}
 use Rattle.sip_machine.specs.inner.Dues.{rows_in, AreDues}
-use Rattle.sip_machine.proofs.DuesEachLemmas.{AreDues-again, timely-none}
+use Rattle.sip_machine.proofs.debts.DuesEachLemmas.{AreDues-again, timely-none}
 use Rattle.sip_machine.proofs.dues.Dues.push_timely.Goals as goal
 
 pub invariant_of-self-in-Some : goal.invariant_of-self-in-Some

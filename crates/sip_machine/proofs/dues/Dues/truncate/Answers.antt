@@ -1,7 +1,7 @@
 use Rattle.std.specs.Prelude.{◌≡◌, None}
 use Rattle.sip_ledger.specs.Ledgers.{rows_of}
 use Rattle.sip_machine.specs.inner.Dues.{rows_in}
-use Rattle.sip_machine.proofs.DueLemmas.{take-none}
+use Rattle.sip_machine.proofs.debts.DueLemmas.{take-none}
 use Rattle.sip_machine.proofs.dues.Dues.truncate.Goals as goal
 use Rattle.sip_machine.proofs.dues.Dues.truncate.Goals.{in-Some, in_default}
 

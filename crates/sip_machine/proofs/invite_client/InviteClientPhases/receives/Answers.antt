@@ -6,7 +6,7 @@ use Rattle.sip_machine.specs.Texts.{text_of}
 use Rattle.sip_machine.specs.MachineEvent.{event_in}
 use Rattle.sip_machine.specs.Waiting.{waiting_seen}
 use Rattle.sip_machine.specs.InviteClient.{Calling, Proceeding, Completed, Receives, invite_client_seen, invite_client_names, InviteClientInRange}
-use Rattle.sip_machine.proofs.RepliesLemmas.{Gains-one}
+use Rattle.sip_machine.proofs.steps.RepliesLemmas.{Gains-one}
 use Rattle.sip_machine.proofs.invite_client.InviteClientPhases.receives.Goals as goal
 use Rattle.sip_machine.proofs.invite_client.InviteClientPhases.receives.Goals.{in-Calling, in-Proceeding, in-Completed}
 

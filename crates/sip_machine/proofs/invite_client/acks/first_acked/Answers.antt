@@ -4,19 +4,20 @@ use Rattle.sip_key.specs.Solid.{solid}
 use Rattle.sip_machine.specs.Owes.{owed_in}
 use Rattle.sip_machine.specs.Texts.{text_of}
 use Rattle.sip_machine.specs.inner.Acks.{HasTo, PaysDebt}
-use Rattle.sip_machine.proofs.AckLemmas.{Says-fault, AckOf-by_to, AckOf-none}
-use Rattle.sip_machine.proofs.HolderLemmas.{FindsFirst-same}
+use Rattle.sip_message.proofs.lemmas.says.Reading.{says-no_fault}
+use Rattle.sip_machine.proofs.acks.AckLemmas.{AckOf-by_to, AckOf-none}
+use Rattle.sip_machine.proofs.acks.HolderLemmas.{FindsFirst-same}
 use Rattle.sip_machine.proofs.invite_client.acks.first_acked.Goals as goal
 
 pub returns-in_default-clause-finds : goal.returns-in_default-clause-finds
 returns-in_default-clause-finds c =
     let fault = rw (c.in_default.is, c.number.ensures) at c.in_ok-ack.ensures in
-    λ k d low pays. Says-fault (text_of c.args.book.now c.args.event.now.number) fault.0 fault.1 pays.0.0 pays.0.3
+    λ k d low pays. says-no_fault (text_of c.args.book.now c.args.event.now.number) pays.0.0 fault.0 pays.0.3 fault.1
 
 pub returns-in_default-2-clause-finds : goal.returns-in_default-2-clause-finds
 returns-in_default-2-clause-finds c =
     let fault = rw c.in_default-2.is at c.in_ok-invite.ensures in
-    λ k d low pays. Says-fault (text_of c.args.book.now c.args.request) fault.0 fault.1 pays.0.1 pays.0.4
+    λ k d low pays. says-no_fault (text_of c.args.book.now c.args.request) pays.0.1 fault.0 pays.0.4 fault.1
 
 pub returns-then-not-is_ack_for-clause-finds : goal.returns-then-not-is_ack_for-clause-finds
 returns-then-not-is_ack_for-clause-finds c =

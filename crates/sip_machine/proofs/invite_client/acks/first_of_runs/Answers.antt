@@ -4,7 +4,7 @@ use Rattle.std.proofs.lemmas.List.{take_all}
 use Rattle.std.proofs.lemmas.List.Elements.{All-more, All-get_or}
 use Rattle.sip_machine.specs.Texts.{Keeps}
 use Rattle.sip_machine.specs.inner.Acks.{HasTo}
-use Rattle.sip_machine.proofs.RunsLemmas.{no_run, All-each, first-run, payable-now, pays-to}
+use Rattle.sip_machine.proofs.debts.RunsLemmas.{no_run, All-each, first-run, payable-now, pays-to}
 use Rattle.sip_machine.proofs.invite_client.acks.first_of_runs.Goals as goal
 use Rattle.sip_machine.proofs.invite_client.acks.first_of_runs.Goals.{else-moment-run-via-then-moment-run+in_ok-has_to+else-branch, else-moment-run-via-else-moment-run}
 

@@ -5,8 +5,8 @@ use Rattle.sip_machine.specs.Owes.{owed_in}
 use Rattle.sip_machine.specs.Texts.{Keeps}
 use Rattle.sip_machine.specs.inner.Acks.{HasTo}
 use Rattle.sip_machine.specs.inner.OwesLaws.{All-names}
-use Rattle.sip_machine.proofs.HolderLemmas.{FindsFirst-same, pays-held, none-held, only-kept}
-use Rattle.sip_machine.proofs.RunsLemmas.{each-All}
+use Rattle.sip_machine.proofs.acks.HolderLemmas.{FindsFirst-same, pays-held, none-held, only-kept}
+use Rattle.sip_machine.proofs.debts.RunsLemmas.{each-All}
 use Rattle.sip_machine.proofs.invite_client.acks.first_with_to.Goals as goal
 
 pub holder-requires : goal.holder-requires

@@ -8,7 +8,7 @@ use Rattle.sip_machine.specs.InviteClient as client
 use Rattle.sip_machine.specs.InviteClient.{invite_client_seen, invite_client_names, InviteClientInRange}
 use Rattle.sip_machine.specs.InviteClient3261 as client_3261
 use Rattle.sip_machine.specs.InviteClient3261.Laws.{IsEndedBy}
-use Rattle.sip_machine.proofs.Rows3261.{ended_row, other_row, AnswersOne-same}
+use Rattle.sip_machine.proofs.rules.Rows3261.{ended_row, other_row, AnswersOne-same}
 use Rattle.sip_machine.proofs.invite_client_3261.InviteClient3261Phases.receives.Goals as goal
 
 pub returns-then-is_ended_by : goal.returns-then-is_ended_by

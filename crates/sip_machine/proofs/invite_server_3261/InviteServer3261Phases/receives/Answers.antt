@@ -1,7 +1,7 @@
 use Rattle.sip_machine.specs.MachineEvent.{event_in}
 use Rattle.sip_machine.specs.InviteServer as server
 use Rattle.sip_machine.specs.InviteServer.{invite_server_seen}
-use Rattle.sip_machine.proofs.Rows3261.{within-one}
+use Rattle.sip_machine.proofs.rules.Rows3261.{within-one}
 use Rattle.sip_machine.proofs.invite_server_3261.InviteServer3261Phases.receives.Goals as goal
 
 pub returns-in-Passed : goal.returns-in-Passed

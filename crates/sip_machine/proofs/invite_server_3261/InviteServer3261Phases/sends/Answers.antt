@@ -4,7 +4,7 @@ use Rattle.sip_machine.specs.Message.{IsSuccess}
 use Rattle.sip_machine.specs.Owing.{turn_seen, turn_names, TurnInRange}
 use Rattle.sip_machine.specs.InviteServer3261.{Sends, invite_server_3261_seen, invite_server_3261_names, InviteServer3261InRange}
 use Rattle.sip_machine.specs.inner.Single.{AnswersOne}
-use Rattle.sip_machine.proofs.Rows3261.{sent-within}
+use Rattle.sip_machine.proofs.rules.Rows3261.{sent-within}
 use Rattle.sip_machine.proofs.invite_server_3261.InviteServer3261Phases.sends.Goals as goal
 
 pub returns-then-is_success : goal.returns-then-is_success

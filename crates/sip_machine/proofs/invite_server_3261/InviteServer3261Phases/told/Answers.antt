@@ -1,5 +1,5 @@
 use Rattle.std.proofs.Common.{refl, ◌∙◌}
-use Rattle.sip_machine.proofs.Rows3261.{messages-behind}
+use Rattle.sip_machine.proofs.rules.Rows3261.{messages-behind}
 use Rattle.sip_machine.proofs.invite_server_3261.InviteServer3261Phases.told.Goals as goal
 use Rattle.sip_machine.proofs.invite_server_3261.InviteServer3261Phases.told.Goals.{then-remembers+in_ok-push-in-In, else-remembers}
 

@@ -2,8 +2,8 @@ use Rattle.std.specs.Prelude.{◌≡◌, ◌<◌, ◌++◌, get_or}
 use Rattle.std.proofs.Common.{◌∙◌, ap, sym, subst, append_assoc}
 use Rattle.sip_machine.specs.Owes.{owed_in, owes_names}
 use Rattle.sip_machine.specs.Owing.{owing_names}
-use Rattle.sip_machine.proofs.PoolLemmas.{in-phases, in-rows, state-here}
-use Rattle.sip_machine.proofs.ToLemmas.{on_ok}
+use Rattle.sip_machine.proofs.pools.PoolLemmas.{in-phases, in-rows, state-here}
+use Rattle.sip_machine.proofs.acks.ToLemmas.{on_ok}
 use Rattle.sip_machine.proofs.owing.AnyMachine.names.Goals as goal
 
 pub index-requires : goal.index-requires

@@ -1,7 +1,7 @@
 use Rattle.std.specs.Prelude.{◌≡◌, get_or, length, set}
 use Rattle.std.proofs.Common.{◌∙◌, ap, arith}
 use Rattle.sip_machine.specs.inner.Effects.{led_by, rests_at}
-use Rattle.sip_machine.proofs.PoolLemmas.{alone-set, some-at}
+use Rattle.sip_machine.proofs.pools.PoolLemmas.{alone-set, some-at}
 use Rattle.sip_machine.proofs.owing.AnyMachine.step.Goals as goal
 
 pub returns-in_ok-lead-in-Some-None-clause-one : goal.returns-in_ok-lead-in-Some-None-clause-one

@@ -5,7 +5,7 @@ use Rattle.sip_machine.specs.MachineEvent.{event_in}
 use Rattle.sip_machine.specs.Owing.{owing_seen, owing_names, OwingInRange}
 use Rattle.sip_machine.specs.Rules.{Covers, FromSome, Knows}
 use Rattle.sip_machine.specs.inner.Effects.{LeadsFrom}
-use Rattle.sip_machine.proofs.CoversLemmas.{found-none, found-more, slice-all, slice-old, take-slice, before-more}
+use Rattle.sip_machine.proofs.pools.CoversLemmas.{found-none, found-more, slice-all, slice-old, take-slice, before-more}
 use Rattle.sip_machine.proofs.owing.each.leads_each.Goals as goal
 
 pub loop-at-init : goal.loop-at-init

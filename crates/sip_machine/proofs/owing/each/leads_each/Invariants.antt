@@ -2,7 +2,7 @@ use Rattle.std.specs.Prelude.{◌≤◌, ◌-◌, take}
 use Rattle.sip_machine.specs.MachineEvent.{event_in}
 use Rattle.sip_machine.specs.Owing.{owing_seen, owing_names, OwingInRange}
 use Rattle.sip_machine.specs.inner.Effects.{LeadsFrom}
-use Rattle.sip_machine.proofs.CoversLemmas.{HasFound}
+use Rattle.sip_machine.proofs.pools.CoversLemmas.{HasFound}
 use Rattle.sip_machine.proofs.owing.each.leads_each.Given as goal
 
 -- what leads from the states so far was found

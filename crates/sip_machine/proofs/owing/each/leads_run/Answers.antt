@@ -11,8 +11,8 @@ use Rattle.sip_machine.specs.Owing.{at_rest, owing_seen, owing_names, OwingInRan
 use Rattle.sip_machine.specs.Rules.{Knows}
 use Rattle.sip_machine.specs.inner.DebtLaws.{All-front}
 use Rattle.sip_machine.specs.inner.Effects.{Leads, led_by, unexpired_at}
-use Rattle.sip_machine.proofs.PoolLemmas.{in-phases, state-at}
-use Rattle.sip_machine.proofs.OwingEachLemmas.{closed-none, leads-none, leads-some, slice-first}
+use Rattle.sip_machine.proofs.pools.PoolLemmas.{in-phases, state-at}
+use Rattle.sip_machine.proofs.steps.OwingEachLemmas.{closed-none, leads-none, leads-some, slice-first}
 use Rattle.sip_machine.proofs.owing.each.leads_run.Goals as goal
 
 pub index-requires : goal.index-requires

@@ -5,8 +5,8 @@ use Rattle.sip_machine.specs.Rules.{FromSome}
 use Rattle.sip_machine.specs.Figure.{TakeOf}
 use Rattle.sip_machine.specs.Owing.{owing_seen, owing_names, OwingInRange}
 use Rattle.sip_machine.specs.inner.Effects.{LeadsFrom}
-use Rattle.sip_machine.proofs.CoversLemmas.{HasFound, FromSome-same, Covers-same}
-use Rattle.sip_machine.proofs.OwingEachLemmas.{takes-received}
+use Rattle.sip_machine.proofs.pools.CoversLemmas.{HasFound, FromSome-same, Covers-same}
+use Rattle.sip_machine.proofs.steps.OwingEachLemmas.{takes-received}
 use Rattle.sip_machine.proofs.owing.each.receives_each.Goals as goal
 
 pub returns-clause-gives : goal.returns-clause-gives

@@ -9,9 +9,9 @@ use Rattle.sip_machine.specs.Limits.{IsWithin}
 use Rattle.sip_machine.specs.Figure.{until_of}
 use Rattle.sip_machine.specs.inner.Single.{AnswersOne}
 use Rattle.sip_machine.specs.inner.Effects.{Rests, RestsFrom, rests_at, unexpired_at}
-use Rattle.sip_machine.proofs.PoolLemmas.{in-phases, in-rows, state-here}
-use Rattle.sip_machine.proofs.CoversLemmas.{Covers-none, Covers-one, before-either}
-use Rattle.sip_machine.proofs.OwingEachLemmas.{lasting-answers}
+use Rattle.sip_machine.proofs.pools.PoolLemmas.{in-phases, in-rows, state-here}
+use Rattle.sip_machine.proofs.pools.CoversLemmas.{Covers-none, Covers-one, before-either}
+use Rattle.sip_machine.proofs.steps.OwingEachLemmas.{lasting-answers}
 use Rattle.sip_machine.proofs.owing.each.rests_row.Goals as goal
 
 pub index-requires : goal.index-requires

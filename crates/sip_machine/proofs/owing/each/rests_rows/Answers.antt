@@ -7,9 +7,9 @@ use Rattle.sip_machine.specs.MachineEvent.{event_in}
 use Rattle.sip_machine.specs.Owing.{owing_seen, owing_names, OwingInRange}
 use Rattle.sip_machine.specs.Rules.{Covers, Knows}
 use Rattle.sip_machine.specs.inner.Effects.{RestsFrom}
-use Rattle.sip_machine.proofs.CoversLemmas.{HasFound, found-none, found-more, Covers-alone, slice-at, before-more}
-use Rattle.sip_machine.proofs.PoolLemmas.{some-at}
-use Rattle.sip_machine.proofs.PoolEachLemmas.{from_to-more}
+use Rattle.sip_machine.proofs.pools.CoversLemmas.{HasFound, found-none, found-more, Covers-alone, slice-at, before-more}
+use Rattle.sip_machine.proofs.pools.PoolLemmas.{some-at}
+use Rattle.sip_machine.proofs.pools.PoolEachLemmas.{from_to-more}
 use Rattle.sip_machine.proofs.owing.each.rests_rows.Goals as goal
 
 pub loop-at-init : goal.loop-at-init

@@ -3,7 +3,7 @@ use Rattle.sip_ledger.specs.Ledgers.{from_to}
 use Rattle.sip_machine.specs.MachineEvent.{event_in}
 use Rattle.sip_machine.specs.Owing.{owing_seen, owing_names, OwingInRange}
 use Rattle.sip_machine.specs.inner.Effects.{RestsFrom}
-use Rattle.sip_machine.proofs.CoversLemmas.{HasFound}
+use Rattle.sip_machine.proofs.pools.CoversLemmas.{HasFound}
 use Rattle.sip_machine.proofs.owing.each.rests_rows.Given as goal
 
 -- what leads from the states so far was found

@@ -6,7 +6,7 @@ use Rattle.sip_machine.specs.Owing.{owing_seen, owing_names, OwingInRange}
 use Rattle.sip_machine.specs.Rules.{Covers, FromSome, Knows}
 use Rattle.sip_machine.specs.Figure.{TakeOf}
 use Rattle.sip_machine.specs.Owing.{CodeOwing}
-use Rattle.sip_machine.proofs.CoversLemmas.{HasFound, found-none, found-more, slice-all, slice-old, take-slice, before-more}
+use Rattle.sip_machine.proofs.pools.CoversLemmas.{HasFound, found-none, found-more, slice-all, slice-old, take-slice, before-more}
 use Rattle.sip_machine.proofs.owing.each.sends_each.Goals as goal
 
 pub loop-at-init : goal.loop-at-init

@@ -7,8 +7,8 @@ use Rattle.sip_machine.specs.Rules.{Covers, FromSome, Knows}
 use Rattle.sip_machine.specs.Figure.{TakeOf}
 use Rattle.sip_machine.specs.Owing.{owing_seen, owing_names, OwingInRange}
 use Rattle.sip_machine.specs.inner.Effects.{LeadsFrom, RestsFrom}
-use Rattle.sip_machine.proofs.CoversLemmas.{HasFound, FromSome-same, FromSome-either, Covers-same, Covers-both, slice-old, before-more}
-use Rattle.sip_machine.proofs.OwingEachLemmas.{takes-sent}
+use Rattle.sip_machine.proofs.pools.CoversLemmas.{HasFound, FromSome-same, FromSome-either, Covers-same, Covers-both, slice-old, before-more}
+use Rattle.sip_machine.proofs.steps.OwingEachLemmas.{takes-sent}
 use Rattle.sip_machine.proofs.owing.each.sends_run.Goals as goal
 
 pub rests_run-requires-clause-known : goal.rests_run-requires-clause-known

@@ -5,8 +5,8 @@ use Rattle.sip_machine.specs.MachineEvent.{event_in}
 use Rattle.sip_machine.specs.Rules.{Knows, StandFor}
 use Rattle.sip_machine.specs.Figure.{TakeOf}
 use Rattle.sip_machine.specs.Owing.{CodeOwing, owing_seen, owing_names, OwingInRange}
-use Rattle.sip_machine.proofs.CoversLemmas.{HasFound, found-none, found-more, Covers-alone, Covers-stood, slice-at}
-use Rattle.sip_machine.proofs.PoolLemmas.{some-at}
+use Rattle.sip_machine.proofs.pools.CoversLemmas.{HasFound, found-none, found-more, Covers-alone, Covers-stood, slice-at}
+use Rattle.sip_machine.proofs.pools.PoolLemmas.{some-at}
 use Rattle.sip_machine.proofs.owing.each.steps_each.Goals as goal
 
 pub loop-at-init : goal.loop-at-init

@@ -2,7 +2,7 @@ use Rattle.std.specs.Prelude.{◌<◌, ◌≡◌, get_or, set}
 use Rattle.std.proofs.Common.{subst, ◌∙◌, ap, ap₂, sym}
 use Rattle.sip_machine.specs.Owes.{owed_in}
 use Rattle.sip_machine.specs.inner.Pools.{beside}
-use Rattle.sip_machine.proofs.PoolLemmas.{beside-set, in-phases, in-rows, state-at}
+use Rattle.sip_machine.proofs.pools.PoolLemmas.{beside-set, in-phases, in-rows, state-at}
 use Rattle.sip_machine.proofs.pool.Pool.copy.Goals as goal
 
 pub index-requires : goal.index-requires

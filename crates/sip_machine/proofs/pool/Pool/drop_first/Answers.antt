@@ -4,7 +4,7 @@ use Rattle.std.proofs.Common.{◌∙◌, ap, ap₂, arith, sym}
 use Rattle.std.proofs.lemmas.List.{length-drop}
 use Rattle.sip_ledger.proofs.WordsLemmas.{dropped-first}
 use Rattle.sip_machine.specs.inner.Pools.{beside}
-use Rattle.sip_machine.proofs.PoolLemmas.{beside-drop, beside-length}
+use Rattle.sip_machine.proofs.pools.PoolLemmas.{beside-drop, beside-length}
 use Rattle.sip_machine.proofs.pool.Pool.drop_first.Goals as goal
 
 pub copy_within-requires-clause-start_le_end : goal.copy_within-requires-clause-start_le_end

@@ -1,5 +1,5 @@
 use Rattle.std.proofs.Common.{◌∙◌, sym, true≢false}
-use Rattle.sip_machine.proofs.FirstLemmas.{first-more, first-again, Any-here}
+use Rattle.sip_machine.proofs.pools.FirstLemmas.{first-more, first-again, Any-here}
 use Rattle.sip_machine.proofs.pool.Pool.first_of_few.Goals as goal
 use Rattle.sip_machine.proofs.pool.Pool.first_of_few.Goals.{then-not-is_among+in_ok-push, else-not-is_among}
 

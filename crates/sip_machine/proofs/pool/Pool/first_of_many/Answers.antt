@@ -3,7 +3,7 @@ use Rattle.std.proofs.Common.{◌∙◌, ap, sym, subst, arith, inl, inr, true�
 use Rattle.std.proofs.lemmas.Bool.{cases_lt}
 use Rattle.std.proofs.lemmas.List.{get_or_default, get_or_append_left, get_or_push, length_push}
 use Rattle.sip_machine.specs.Pools.{AreFirstOnes}
-use Rattle.sip_machine.proofs.FirstLemmas.{first-more, first-again, Any-here}
+use Rattle.sip_machine.proofs.pools.FirstLemmas.{first-more, first-again, Any-here}
 use Rattle.sip_machine.proofs.pool.Pool.first_of_many.Goals as goal
 use Rattle.sip_machine.proofs.pool.Pool.first_of_many.Goals.{then-not-is_repeat+in_ok-push+in_ok-push-2, else-not-is_repeat}
 

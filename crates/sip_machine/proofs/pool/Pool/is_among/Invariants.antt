@@ -1,5 +1,5 @@
 use Rattle.std.specs.Prelude.{take}
-use Rattle.sip_machine.proofs.FirstLemmas.{IsNew}
+use Rattle.sip_machine.proofs.pools.FirstLemmas.{IsNew}
 use Rattle.sip_machine.proofs.pool.Pool.is_among.Given as goal
 
 -- none of the rows so far has the state

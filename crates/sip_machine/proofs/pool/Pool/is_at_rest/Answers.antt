@@ -2,7 +2,7 @@ use Rattle.std.specs.Prelude.{◌<◌, ◌≡◌, get_or}
 use Rattle.std.proofs.Common.{subst, ◌∙◌, sym, ap, true≢false}
 use Rattle.sip_machine.specs.Owes.{owed_in}
 use Rattle.sip_machine.specs.Owing.{at_rest}
-use Rattle.sip_machine.proofs.PoolLemmas.{in-phases, in-rows, state-at, same-state}
+use Rattle.sip_machine.proofs.pools.PoolLemmas.{in-phases, in-rows, state-at, same-state}
 use Rattle.sip_machine.proofs.pool.Pool.is_at_rest.Goals as goal
 
 pub index-requires : goal.index-requires

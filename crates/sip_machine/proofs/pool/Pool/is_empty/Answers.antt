@@ -1,5 +1,5 @@
 use Rattle.std.proofs.Common.{◌∙◌, sym, ap, length}
-use Rattle.sip_machine.proofs.PoolLemmas.{beside-length, empty-length}
+use Rattle.sip_machine.proofs.pools.PoolLemmas.{beside-length, empty-length}
 use Rattle.sip_machine.proofs.pool.Pool.is_empty.Goals as goal
 
 pub returns : goal.returns

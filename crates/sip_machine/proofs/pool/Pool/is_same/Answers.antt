@@ -1,6 +1,6 @@
 use Rattle.std.specs.Prelude.{◌<◌, ◌≡◌, get_or}
 use Rattle.std.proofs.Common.{subst, ◌∙◌, sym, ap, true≢false}
-use Rattle.sip_machine.proofs.PoolLemmas.{in-phases, in-rows, state-at, same-state}
+use Rattle.sip_machine.proofs.pools.PoolLemmas.{in-phases, in-rows, state-at, same-state}
 use Rattle.sip_machine.proofs.pool.Pool.is_same.Goals as goal
 
 pub index-requires : goal.index-requires

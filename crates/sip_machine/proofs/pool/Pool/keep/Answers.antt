@@ -1,6 +1,6 @@
 use Rattle.std.specs.Prelude.{length, take}
 use Rattle.std.proofs.Common.{◌∙◌, ap}
-use Rattle.sip_machine.proofs.FirstLemmas.{run-picked}
+use Rattle.sip_machine.proofs.pools.FirstLemmas.{run-picked}
 use Rattle.sip_machine.proofs.pool.Pool.keep.Goals as goal
 
 pub returns-in-Some : goal.returns-in-Some

@@ -4,8 +4,8 @@ use Rattle.std.proofs.lemmas.List.{length-map}
 use Rattle.sip_machine.specs.Owes.{owed_in}
 use Rattle.sip_machine.specs.Pools.{picked}
 use Rattle.sip_machine.specs.inner.Pools.{beside}
-use Rattle.sip_machine.proofs.PoolLemmas.{beside-length}
-use Rattle.sip_machine.proofs.PoolEachLemmas.{beside-picked}
+use Rattle.sip_machine.proofs.pools.PoolLemmas.{beside-length}
+use Rattle.sip_machine.proofs.pools.PoolEachLemmas.{beside-picked}
 use Rattle.sip_machine.proofs.pool.Pool.keep_each.Goals as goal
 
 pub keep_phases-requires-clause-within : goal.keep_phases-requires-clause-within

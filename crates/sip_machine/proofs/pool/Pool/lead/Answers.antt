@@ -5,7 +5,7 @@ use Rattle.sip_machine.specs.Owes.{owed_in}
 use Rattle.sip_machine.specs.Owing.{changed_debts}
 use Rattle.sip_machine.specs.inner.Effects.{led_by}
 use Rattle.sip_machine.specs.inner.Pools.{beside}
-use Rattle.sip_machine.proofs.PoolLemmas.{beside-set, in-phases, in-rows, state-at}
+use Rattle.sip_machine.proofs.pools.PoolLemmas.{beside-set, in-phases, in-rows, state-at}
 use Rattle.sip_machine.proofs.pool.Pool.lead.Goals as goal
 
 pub lead-requires-clause-row : goal.lead-requires-clause-row

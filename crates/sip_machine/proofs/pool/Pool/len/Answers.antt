@@ -1,6 +1,6 @@
 use Rattle.std.specs.Prelude.{length}
 use Rattle.std.proofs.Common.{◌∙◌, sym, ap}
-use Rattle.sip_machine.proofs.PoolLemmas.{beside-length}
+use Rattle.sip_machine.proofs.pools.PoolLemmas.{beside-length}
 use Rattle.sip_machine.proofs.pool.Pool.len.Goals as goal
 
 pub returns : goal.returns

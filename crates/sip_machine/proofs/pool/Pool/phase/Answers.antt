@@ -1,6 +1,6 @@
 use Rattle.std.specs.Prelude.{◌<◌}
 use Rattle.std.proofs.Common.{subst, ◌∙◌, sym, ap}
-use Rattle.sip_machine.proofs.PoolLemmas.{in-phases, state-at}
+use Rattle.sip_machine.proofs.pools.PoolLemmas.{in-phases, state-at}
 use Rattle.sip_machine.proofs.pool.Pool.phase.Goals as goal
 
 pub index-requires : goal.index-requires

@@ -2,9 +2,9 @@ use Rattle.std.specs.Prelude.{◌≡◌, ◌<◌, ◌≤◌, ◌+◌, ◌-◌, [
 use Rattle.std.proofs.Common.{ap, arith, sym, subst, ◌∙◌}
 use Rattle.std.proofs.lemmas.List.{with_items_is}
 use Rattle.sip_machine.specs.Owing.{CodeOwing}
-use Rattle.sip_machine.proofs.FirstLemmas.{mixed-run, mixed-all}
-use Rattle.sip_machine.proofs.PoolLemmas.{beside-length, in-phases, state-at}
-use Rattle.sip_machine.proofs.PoolEachLemmas.{some-at}
+use Rattle.sip_machine.proofs.pools.FirstLemmas.{mixed-run, mixed-all}
+use Rattle.sip_machine.proofs.pools.PoolLemmas.{beside-length, in-phases, state-at}
+use Rattle.sip_machine.proofs.pools.PoolEachLemmas.{some-at}
 use Rattle.sip_machine.proofs.pool.Pool.prints.Goals as goal
 
 pub prints-requires : goal.prints-requires

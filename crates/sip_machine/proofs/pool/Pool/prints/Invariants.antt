@@ -1,5 +1,5 @@
 use Rattle.std.specs.Prelude.{◌≤◌, ◌-◌, length}
-use Rattle.sip_machine.proofs.FirstLemmas.{AreMixed}
+use Rattle.sip_machine.proofs.pools.FirstLemmas.{AreMixed}
 use Rattle.sip_machine.proofs.pool.Pool.prints.Given as goal
 
 -- the prints of the states before it are mixed with the hashes of their phases

@@ -2,7 +2,7 @@ use Rattle.std.specs.Prelude.{◌++◌, ◌∷◌, []}
 use Rattle.std.proofs.Common.{◌∙◌, ap, ap₂}
 use Rattle.sip_machine.specs.Owing.{at_rest}
 use Rattle.sip_machine.specs.inner.Pools.{beside}
-use Rattle.sip_machine.proofs.PoolLemmas.{beside-push}
+use Rattle.sip_machine.proofs.pools.PoolLemmas.{beside-push}
 use Rattle.sip_machine.proofs.pool.Pool.push.Goals as goal
 
 pub returns-clause-ok : goal.returns-clause-ok

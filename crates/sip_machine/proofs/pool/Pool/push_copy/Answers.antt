@@ -2,7 +2,7 @@ use Rattle.std.specs.Prelude.{◌≡◌, ◌<◌, ◌++◌, ◌∷◌, [], get_o
 use Rattle.std.proofs.Common.{◌∙◌, ap, ap₂, sym, subst}
 use Rattle.sip_machine.specs.Owes.{owed_in}
 use Rattle.sip_machine.specs.inner.Pools.{beside}
-use Rattle.sip_machine.proofs.PoolLemmas.{beside-push, in-phases, in-rows, state-at}
+use Rattle.sip_machine.proofs.pools.PoolLemmas.{beside-push, in-phases, in-rows, state-at}
 use Rattle.sip_machine.proofs.pool.Pool.push_copy.Goals as goal
 
 pub push_copy-requires : goal.push_copy-requires

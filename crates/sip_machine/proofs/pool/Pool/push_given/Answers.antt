@@ -3,8 +3,8 @@ use Rattle.std.specs.Option.{option_map}
 use Rattle.std.proofs.Common.{◌∙◌, ap, ap₂, append_assoc}
 use Rattle.std.proofs.lemmas.List.{get_or_append_left}
 use Rattle.sip_machine.specs.inner.Effects.{led_by, rests_at}
-use Rattle.sip_machine.proofs.PoolLemmas.{some-at, in-longer, take-old, on_err}
-use Rattle.sip_machine.proofs.ToLemmas.{on_ok}
+use Rattle.sip_machine.proofs.pools.PoolLemmas.{some-at, in-longer, take-old, on_err}
+use Rattle.sip_machine.proofs.acks.ToLemmas.{on_ok}
 use Rattle.sip_machine.proofs.pool.Pool.push_given.Goals as goal
 
 pub push_rested-requires : goal.push_rested-requires

@@ -1,8 +1,8 @@
 use Rattle.std.specs.Prelude.{◌∷◌, [], get_or}
 use Rattle.std.proofs.Common.{◌∙◌}
 use Rattle.sip_machine.specs.inner.Effects.{led_by}
-use Rattle.sip_machine.proofs.PoolLemmas.{some-at, last-in, set-last, take-old, on_err}
-use Rattle.sip_machine.proofs.ToLemmas.{on_ok}
+use Rattle.sip_machine.proofs.pools.PoolLemmas.{some-at, last-in, set-last, take-old, on_err}
+use Rattle.sip_machine.proofs.acks.ToLemmas.{on_ok}
 use Rattle.sip_machine.proofs.pool.Pool.push_led.Goals as goal
 
 pub lead-requires-clause-at : goal.lead-requires-clause-at

@@ -7,8 +7,8 @@ use Rattle.sip_ledger.proofs.EachLemmas.{on_ok}
 use Rattle.sip_machine.specs.Owing.{changed_debts}
 use Rattle.sip_machine.specs.inner.Effects.{led_by}
 use Rattle.sip_machine.specs.inner.Pools.{beside}
-use Rattle.sip_machine.proofs.PoolLemmas.{beside-length}
-use Rattle.sip_machine.proofs.PoolEachLemmas.{pushed-is, mapped-behind, behind-size}
+use Rattle.sip_machine.proofs.pools.PoolLemmas.{beside-length}
+use Rattle.sip_machine.proofs.pools.PoolEachLemmas.{pushed-is, mapped-behind, behind-size}
 use Rattle.sip_machine.proofs.pool.Pool.push_led_each.Goals as goal
 
 pub push_timely-requires : goal.push_timely-requires

@@ -10,8 +10,8 @@ use Rattle.sip_ledger.proofs.EachLemmas.{on_ok}
 use Rattle.sip_machine.specs.Owing.{CodeOwing}
 use Rattle.sip_machine.specs.inner.Effects.{repaid_at}
 use Rattle.sip_machine.specs.inner.Pools.{beside}
-use Rattle.sip_machine.proofs.PoolLemmas.{beside-length, in-phases, some-at, state-at}
-use Rattle.sip_machine.proofs.PoolEachLemmas.{pushed-is, mapped-behind, behind-size, map-again, map-same}
+use Rattle.sip_machine.proofs.pools.PoolLemmas.{beside-length, in-phases, some-at, state-at}
+use Rattle.sip_machine.proofs.pools.PoolEachLemmas.{pushed-is, mapped-behind, behind-size, map-again, map-same}
 use Rattle.sip_machine.proofs.pool.Pool.push_paid_each.Goals as goal
 
 pub index-phase-requires : goal.index-phase-requires

@@ -1,6 +1,6 @@
 use Rattle.std.specs.Prelude.{get_or}
 use Rattle.sip_machine.specs.inner.Effects.{rests_at}
-use Rattle.sip_machine.proofs.PoolLemmas.{some-at, last-in, set-last}
+use Rattle.sip_machine.proofs.pools.PoolLemmas.{some-at, last-in, set-last}
 use Rattle.sip_machine.proofs.pool.Pool.push_rested.Goals as goal
 
 pub come_to_rest-requires : goal.come_to_rest-requires

@@ -1,7 +1,7 @@
 use Rattle.std.specs.Prelude.{◌<◌, ◌≡◌, get_or, length}
 use Rattle.std.proofs.Common.{subst, ◌∙◌, sym, ap, arith, refl}
-use Rattle.sip_machine.proofs.PoolLemmas.{in-phases, state-at}
-use Rattle.sip_machine.proofs.PoolEachLemmas.{some-first, some-more}
+use Rattle.sip_machine.proofs.pools.PoolLemmas.{in-phases, state-at}
+use Rattle.sip_machine.proofs.pools.PoolEachLemmas.{some-first, some-more}
 use Rattle.sip_machine.proofs.pool.Pool.run_end.Goals as goal
 
 pub index-requires : goal.index-requires

@@ -1,7 +1,7 @@
 use Rattle.std.specs.Prelude.{IfOk}
 use Rattle.std.proofs.Common.{sym, ap, subst}
 use Rattle.sip_ledger.specs.Runs.{AreRuns}
-use Rattle.sip_machine.proofs.PoolLemmas.{in-rows, state-at}
+use Rattle.sip_machine.proofs.pools.PoolLemmas.{in-rows, state-at}
 use Rattle.sip_machine.proofs.pool.Pool.runs.Goals as goal
 
 pub runs-requires : goal.runs-requires

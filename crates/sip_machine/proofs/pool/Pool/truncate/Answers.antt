@@ -1,7 +1,7 @@
 use Rattle.std.specs.Prelude.{take}
 use Rattle.std.proofs.Common.{◌∙◌, ap, ap₂}
 use Rattle.sip_machine.specs.inner.Pools.{beside}
-use Rattle.sip_machine.proofs.PoolLemmas.{beside-take}
+use Rattle.sip_machine.proofs.pools.PoolLemmas.{beside-take}
 use Rattle.sip_machine.proofs.pool.Pool.truncate.Goals as goal
 
 pub returns : goal.returns

@@ -1,6 +1,6 @@
 use Rattle.std.proofs.Common.{arith, subst, sym}
 use Rattle.sip_machine.specs.inner.Slots.{AreSlots}
-use Rattle.sip_machine.proofs.SlotsLemmas.{pair-print, pair-older}
+use Rattle.sip_machine.proofs.pools.SlotsLemmas.{pair-print, pair-older}
 use Rattle.sip_machine.proofs.slots.Slots.before.Goals as goal
 
 pub last_from-requires : goal.last_from-requires

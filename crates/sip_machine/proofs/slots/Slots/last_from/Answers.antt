@@ -1,6 +1,6 @@
 use Rattle.std.proofs.Common.{◌-◌, ◌<◌, ◌∙◌, arith, length, subst, sym}
 use Rattle.sip_machine.specs.inner.Slots.{AreSlots}
-use Rattle.sip_machine.proofs.SlotsLemmas.{pair-print, pair-older, reached-start, reached-more}
+use Rattle.sip_machine.proofs.pools.SlotsLemmas.{pair-print, pair-older, reached-start, reached-more}
 use Rattle.sip_machine.proofs.slots.Slots.last_from.Goals as goal
 
 pub loop-next-init : goal.loop-next-init

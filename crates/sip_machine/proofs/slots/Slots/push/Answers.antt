@@ -2,7 +2,7 @@ use Rattle.std.proofs.Common.{◌≡◌, ◌<◌, ◌+◌, ◌++◌, ◌∷◌, 
 use Rattle.std.proofs.lemmas.List.{get_or_default, length_push}
 use Rattle.sip_machine.specs.declared.slots.Kept.{Kept}
 use Rattle.sip_machine.specs.inner.Slots.{slot_of}
-use Rattle.sip_machine.proofs.SlotsLemmas.{slots-more}
+use Rattle.sip_machine.proofs.pools.SlotsLemmas.{slots-more}
 use Rattle.sip_machine.proofs.slots.Slots.push.Goals as goal
 
 pub invariant_of-self-2 : goal.invariant_of-self-2

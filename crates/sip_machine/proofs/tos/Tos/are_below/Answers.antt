@@ -1,6 +1,6 @@
 use Rattle.std.proofs.Common.{◌<◌, Some}
-use Rattle.sip_machine.proofs.PayableLemmas.{lower}
-use Rattle.sip_machine.proofs.ToLemmas.{below_last}
+use Rattle.sip_machine.proofs.steps.PayableLemmas.{lower}
+use Rattle.sip_machine.proofs.acks.ToLemmas.{below_last}
 use Rattle.sip_machine.proofs.tos.Tos.are_below.Goals as goal
 
 pub returns-in-Some : goal.returns-in-Some

@@ -1,7 +1,7 @@
 use Rattle.std.proofs.Common.{◌∙◌, nat_le, nat_lt, rules}
 use Rattle.std.proofs.lemmas.Fn.{always_returns_same}
 use Rattle.std.proofs.lemmas.List.Sorted.{IsPartitionedBy-leb, IsPartitionedBy-ltb}
-use Rattle.sip_machine.proofs.BesideLemmas.{rises_weakly, count_between-parted}
+use Rattle.sip_machine.proofs.texts.BesideLemmas.{rises_weakly, count_between-parted}
 use Rattle.sip_machine.proofs.tos.Tos.between.Goals as goal
 
 pub returns-clause-count : goal.returns-clause-count

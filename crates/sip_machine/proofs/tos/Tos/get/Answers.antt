@@ -1,4 +1,4 @@
-use Rattle.sip_machine.proofs.ToLemmas.{has_to}
+use Rattle.sip_machine.proofs.acks.ToLemmas.{has_to}
 use Rattle.sip_machine.proofs.tos.Tos.get.Goals as goal
 
 pub returns : goal.returns

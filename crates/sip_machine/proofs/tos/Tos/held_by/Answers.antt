@@ -1,6 +1,6 @@
 use Rattle.std.proofs.Common.{◌≢◌, ◌∙◌, sym, true≢false}
 use Rattle.std.specs.Cmp.Lexicographic.{bytes_decides}
-use Rattle.sip_machine.proofs.ToLemmas.{has_to, held_by_none}
+use Rattle.sip_machine.proofs.acks.ToLemmas.{has_to, held_by_none}
 use Rattle.sip_machine.proofs.tos.Tos.held_by.Goals as goal
 
 pub returns-else-is : goal.returns-else-is

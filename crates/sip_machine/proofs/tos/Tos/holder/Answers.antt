@@ -2,7 +2,7 @@ use Rattle.std.proofs.Common.{◌≡◌, ◌∙◌, ap, nat_eq, None, Some, sym}
 use Rattle.std.specs.HashMap.{get}
 use Rattle.sip_machine.specs.declared.tos.Owner.TheVariants.{Only}
 use Rattle.sip_machine.specs.inner.Order.{hash_of}
-use Rattle.sip_machine.proofs.ToLemmas.{owned_by, owned_none}
+use Rattle.sip_machine.proofs.acks.ToLemmas.{owned_by, owned_none}
 use Rattle.sip_machine.proofs.tos.Tos.holder.Goals as goal
 
 pub held_by-requires : goal.held_by-requires

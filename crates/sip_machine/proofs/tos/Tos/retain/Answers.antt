@@ -2,7 +2,7 @@ use Rattle.std.proofs.Common.{◌<◌, All, AllPairs, Contains, rules, subst, sy
 use Rattle.std.proofs.lemmas.Fn.{All-from_retain}
 use Rattle.std.proofs.lemmas.List.Elements.{All-take}
 use Rattle.sip_machine.specs.declared.tos.To.{To}
-use Rattle.sip_machine.proofs.ToLemmas.{AllPairs-picked, AllPairs-take, left_over}
+use Rattle.sip_machine.proofs.acks.ToLemmas.{AllPairs-picked, AllPairs-take, left_over}
 use Rattle.sip_machine.proofs.tos.Tos.retain.Goals as goal
 
 abbrev below : To → To → Type 0

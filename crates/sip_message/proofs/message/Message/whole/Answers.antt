@@ -5,8 +5,8 @@ use Rattle.sip_message.specs.Field.{Row}
 use Rattle.sip_message.specs.Reading.{IsValueOf}
 use Rattle.sip_message.proofs.lemmas.canon.Law.{fields-rows}
 use Rattle.sip_message.proofs.lemmas.message.Faults.{read-fields}
-use Rattle.sip_message.specs.Outcome.{stops, gives, passes, stopped}
-use Rattle.sip_message.specs.Faults.{FieldsOf, NamesOf, BodyOf}
+use Rattle.sip_standard.specs.Outcome.{stops, gives, passes, stopped}
+use Rattle.sip_message.specs.inner.Faults.{FieldsOf, NamesOf, BodyOf}
 use Rattle.sip_message.specs.Message.{content_length}
 use Rattle.sip_message.specs.Views.{field_parts, fields_parts}
 use Rattle.sip_message.specs.ValueParts.{start_parts, cseq_parts}
@@ -17,18 +17,19 @@ use Rattle.sip_message.specs.declared.kept.Kept.{Kept}
 use Rattle.sip_message.specs.inner.Stages.{names_parts, names_of, Stand}
 use Rattle.sip_message.proofs.lemmas.asked.Kept.{via-some, via-is, cseq-some, cseq-is}
 use Rattle.sip_message.proofs.lemmas.message.Stages.{begun, begins, settled, faulted, Found, found-keeps, found-reads}
+use Rattle.sip_message.proofs.lemmas.says.Reading.{fault-says}
 use Rattle.sip_message.proofs.message.Message.whole.Goals as goal
 
 pub returns-in_default : goal.returns-in_default
-returns-in_default c = stopped _ (c.in_default.ensures, refl) refl
+returns-in_default c = fault-says _ _ (stopped _ (c.in_default.ensures, refl) refl)
 
 pub returns-then-not-is_clean : goal.returns-then-not-is_clean
-returns-then-not-is_clean c = passes _ c.in-Some.ensures.0 (stopped _ ((λ _ clean. absurd (search rules)), refl) refl)
+returns-then-not-is_clean c = fault-says _ _ (passes _ c.in-Some.ensures.0 (stopped _ ((λ _ clean. absurd (search rules)), refl) refl))
 
 pub returns-in_default-read_start : goal.returns-in_default-read_start
 returns-in_default-read_start c =
     let b = begins c.in-Some.ensures.0 (c.is_clean.ensures.0 c.if-not-is_clean.false) c.cut_first.ensures in
-    begun b.1 (stopped _ (c.in_default-read_start.ensures, refl) refl)
+    fault-says _ _ (begun b.1 (stopped _ (c.in_default-read_start.ensures, refl) refl))
 
 pub returns-in_err-fields : goal.returns-in_err-fields
 returns-in_err-fields c =

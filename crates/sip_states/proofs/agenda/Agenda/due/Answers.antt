@@ -1,5 +1,5 @@
 use Rattle.std.proofs.Common.{sym, ◌∙◌, true≢false, arith}
-use Rattle.sip_states.proofs.AgendaLemmas.{nothing_due, not_above, no_line}
+use Rattle.sip_states.proofs.due.AgendaLemmas.{nothing_due, not_above, no_line}
 use Rattle.sip_states.proofs.agenda.Agenda.due.Goals as goal
 
 pub returns-in_err-last-clause-value : goal.returns-in_err-last-clause-value

@@ -1,5 +1,5 @@
 use Rattle.std.proofs.Common.{sym, true≢false}
-use Rattle.sip_states.proofs.AgendaLemmas.{not_above, no_line, earliest_none, earliest_some}
+use Rattle.sip_states.proofs.due.AgendaLemmas.{not_above, no_line, earliest_none, earliest_some}
 use Rattle.sip_states.proofs.agenda.Agenda.earliest.Goals as goal
 
 pub returns-in_err-last : goal.returns-in_err-last

@@ -2,7 +2,7 @@ use Rattle.std.proofs.Common.{◌≡◌, ◌<◌, ℕ, true, Option, Some, None,
 use Rattle.std.proofs.lemmas.Bool.Decides.{nat_tests}
 use Rattle.std.proofs.lemmas.Option.{slice_get_within, get_or_from_slice_get}
 use Rattle.sip_states.specs.Agenda.{Records, is_overdue}
-use Rattle.sip_states.proofs.AgendaLemmas.{nothing_due, not_above, no_line}
+use Rattle.sip_states.proofs.due.AgendaLemmas.{nothing_due, not_above, no_line}
 use Rattle.sip_states.proofs.agenda.Agenda.overdue.Goals as goal
 
 -- what holds anyway holds where there is none

@@ -2,7 +2,7 @@ use Rattle.std.proofs.Common.{◌≡◌, ◌<◌, ◌∙◌, ◌+◌, sym, ap, t
 use Rattle.std.proofs.lemmas.Bool.{lt-ltb}
 use Rattle.std.proofs.lemmas.List.{length-map, get_or_default}
 use Rattle.sip_states.specs.inner.Marks.{marks}
-use Rattle.sip_states.proofs.MarksLemmas.{marked_more, marked_still}
+use Rattle.sip_states.proofs.due.MarksLemmas.{marked_more, marked_still}
 use Rattle.sip_states.proofs.marks.Marks.mark.Goals as goal
 
 pub returns-then-place-self : goal.returns-then-place-self

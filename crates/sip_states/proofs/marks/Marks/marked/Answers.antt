@@ -1,4 +1,4 @@
-use Rattle.sip_states.proofs.MarksLemmas.{front_marked, front_once}
+use Rattle.sip_states.proofs.due.MarksLemmas.{front_marked, front_once}
 use Rattle.sip_states.proofs.marks.Marks.marked.Goals as goal
 
 pub returns-clause-members : goal.returns-clause-members

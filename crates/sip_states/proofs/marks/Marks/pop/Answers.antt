@@ -1,7 +1,7 @@
 use Rattle.std.proofs.Common.{◌≡◌, ◌≤◌, ◌∙◌, ◌+◌, ◌-◌, ◌++◌, ◌∷◌, [], sym, ap, false, length, get_or, take, nat_lt, arith}
 use Rattle.std.proofs.lemmas.List.{get_or_default, length-append, length-map}
 use Rattle.sip_states.specs.inner.Marks.{marks}
-use Rattle.sip_states.proofs.MarksLemmas.{popped, popped_marks, last_unmarked}
+use Rattle.sip_states.proofs.due.MarksLemmas.{popped, popped_marks, last_unmarked}
 use Rattle.sip_states.proofs.marks.Marks.pop.Goals as goal
 
 pub invariant_of-self : goal.invariant_of-self

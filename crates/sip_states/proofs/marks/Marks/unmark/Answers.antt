@@ -2,7 +2,7 @@ use Rattle.std.proofs.Common.{◌≡◌, ◌<◌, ◌∙◌, ◌-◌, sym, ap, f
 use Rattle.std.proofs.lemmas.Bool.{le-ltb}
 use Rattle.std.proofs.lemmas.List.{length-map, get_or_default}
 use Rattle.sip_states.specs.inner.Marks.{marks}
-use Rattle.sip_states.proofs.MarksLemmas.{marked_less, marked_still, exchanged}
+use Rattle.sip_states.proofs.due.MarksLemmas.{marked_less, marked_still, exchanged}
 use Rattle.sip_states.proofs.marks.Marks.unmark.Goals as goal
 
 pub invariant_of-self : goal.invariant_of-self

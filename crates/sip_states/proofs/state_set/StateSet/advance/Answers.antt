@@ -1,5 +1,5 @@
-use Rattle.sip_states.proofs.Following.{Follows, advances_stand}
-use Rattle.sip_states.proofs.Taking.{advanced_kept}
+use Rattle.sip_states.proofs.sets.Following.{Follows, advances_stand}
+use Rattle.sip_states.proofs.sets.Taking.{advanced_kept}
 use Rattle.sip_states.proofs.state_set.StateSet.advance.Goals as goal
 
 pub invariant_of-self-2 : goal.invariant_of-self-2

@@ -1,4 +1,4 @@
-use Rattle.sip_states.proofs.Following.{Follows, reach_seen}
+use Rattle.sip_states.proofs.sets.Following.{Follows, reach_seen}
 use Rattle.sip_states.proofs.state_set.StateSet.last_moment.Goals as goal
 
 pub returns : goal.returns

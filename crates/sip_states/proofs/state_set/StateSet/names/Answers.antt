@@ -3,7 +3,7 @@ use Rattle.std.specs.List.{flat_map}
 use Rattle.std.proofs.Common.{ap, arith, subst}
 use Rattle.std.proofs.lemmas.List.{take_all}
 use Rattle.sip_machine.specs.Naming.{AppendsAll}
-use Rattle.sip_states.proofs.NamesLemmas.{appends_more}
+use Rattle.sip_states.proofs.keyed.NamesLemmas.{appends_more}
 use Rattle.sip_states.proofs.state_set.StateSet.names.Goals as goal
 
 pub loop-at-preserved : goal.loop-at-preserved

@@ -2,8 +2,8 @@ use Rattle.std.proofs.Common.{◌≡◌, ◌≤◌, arith, length}
 use Rattle.std.proofs.lemmas.Bool.{OnTrue_at}
 use Rattle.sip_machine.specs.MachineEvent.{event_in}
 use Rattle.sip_states.specs.Runs.{widest}
-use Rattle.sip_states.proofs.Following.{Follows}
-use Rattle.sip_states.proofs.Taking.{took_kept}
+use Rattle.sip_states.proofs.sets.Following.{Follows}
+use Rattle.sip_states.proofs.sets.Taking.{took_kept}
 use Rattle.sip_states.proofs.state_set.StateSet.take_alone.Goals as goal
 
 pub step_alone-requires-clause-known : goal.step_alone-requires-clause-known

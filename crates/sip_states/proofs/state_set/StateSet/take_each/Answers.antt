@@ -4,9 +4,9 @@ use Rattle.std.proofs.lemmas.List.{length-map}
 use Rattle.sip_machine.specs.MachineEvent.{event_in}
 use Rattle.sip_machine.specs.Pools.{picked}
 use Rattle.sip_states.specs.Runs.{widest}
-use Rattle.sip_states.proofs.EachOnce.{unseen-distinct}
-use Rattle.sip_states.proofs.Following.{Follows}
-use Rattle.sip_states.proofs.Taking.{took_kept}
+use Rattle.sip_states.proofs.lists.EachOnce.{unseen-distinct}
+use Rattle.sip_states.proofs.sets.Following.{Follows}
+use Rattle.sip_states.proofs.sets.Taking.{took_kept}
 use Rattle.sip_states.proofs.state_set.StateSet.take_each.Goals as goal
 
 pub given_rows-requires-clause-known : goal.given_rows-requires-clause-known

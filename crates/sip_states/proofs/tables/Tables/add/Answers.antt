@@ -7,7 +7,7 @@ use Rattle.sip_states.specs.AnySet.{IsQuietSet}
 use Rattle.sip_states.specs.Sweep.{numbers_of}
 use Rattle.sip_states.specs.Tables.{Tabled, most_keys}
 use Rattle.sip_states.specs.inner.Marks.{AreMarked, AreMoved}
-use Rattle.sip_states.proofs.AdvanceLemmas.{marked_push, within_push, start_names, start_quiet}
+use Rattle.sip_states.proofs.due.AdvanceLemmas.{marked_push, within_push, start_names, start_quiet}
 use Rattle.sip_states.proofs.tables.Tables.add.Goals as goal
 
 pub append-requires : goal.append-requires

@@ -6,7 +6,7 @@ use Rattle.sip_states.specs.AnySet.{IsQuietSet}
 use Rattle.sip_states.specs.Sweep.{numbers_of}
 use Rattle.sip_states.specs.Tables.{most_keys}
 use Rattle.sip_states.specs.inner.Marks.{IsMarked}
-use Rattle.sip_states.proofs.AdvanceLemmas.{place_among, marked_advance, some_advance, marked_still, always_ok, always_err}
+use Rattle.sip_states.proofs.due.AdvanceLemmas.{place_among, marked_advance, some_advance, marked_still, always_ok, always_err}
 use Rattle.sip_states.proofs.tables.Tables.advance_all.Goals as goal
 
 pub advance_each-requires-clause-inside : goal.advance_each-requires-clause-inside
@@ -35,7 +35,7 @@ invariant_of-self g c =
       },
     )
 
--- what is marked of the sets behind the sweep
+-- what is marked of the sets after the sweep
 pub invariant_of-self-2 : goal.invariant_of-self-2
 invariant_of-self-2 g c =
     let inv = c.self.invariant in

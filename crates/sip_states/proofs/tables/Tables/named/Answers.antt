@@ -8,9 +8,9 @@ use Rattle.sip_machine.specs.Naming.{AppendsAll}
 use Rattle.sip_states.specs.Sweep.{numbers_of}
 use Rattle.sip_states.specs.Tables.{Tabled}
 use Rattle.sip_states.specs.inner.Marks.{IsMarked}
-use Rattle.sip_states.proofs.NamesLemmas.{appends_more}
-use Rattle.sip_states.proofs.ByMachine.{numbers_appended}
-use Rattle.sip_states.proofs.AdvanceLemmas.{place_among, numbers_at, numbers_at-is, marked_names, named_if}
+use Rattle.sip_states.proofs.keyed.NamesLemmas.{appends_more}
+use Rattle.sip_states.proofs.keyed.ByMachine.{numbers_appended}
+use Rattle.sip_states.proofs.due.AdvanceLemmas.{place_among, numbers_at, numbers_at-is, marked_names, named_if}
 use Rattle.sip_states.proofs.tables.Tables.named.Goals as goal
 
 pub index-requires : goal.index-requires

@@ -1,7 +1,7 @@
 use Rattle.std.proofs.Common.{take, []}
 use Rattle.std.specs.List.{flat_map}
 use Rattle.sip_machine.specs.Naming.{AppendsAll}
-use Rattle.sip_states.proofs.AdvanceLemmas.{numbers_at}
+use Rattle.sip_states.proofs.due.AdvanceLemmas.{numbers_at}
 use Rattle.sip_states.proofs.tables.Tables.named.Given as goal
 
 abbrev pub invariant-loop-index : goal.invariant-loop-index

@@ -6,9 +6,9 @@ use Rattle.sip_states.specs.AnySet.{IsQuietSet}
 use Rattle.sip_states.specs.Sweep.{numbers_of}
 use Rattle.sip_states.specs.Tables.{Tabled, most_keys}
 use Rattle.sip_states.specs.inner.Marks.{AreMarked, AreMoved}
-use Rattle.sip_states.proofs.TablesLemmas.{values_of-set_value_at}
-use Rattle.sip_states.proofs.AdvanceLemmas.{start_names, start_quiet}
-use Rattle.sip_states.proofs.StartLemmas.{start_endless, else_set}
+use Rattle.sip_states.proofs.keyed.TablesLemmas.{values_of-set_value_at}
+use Rattle.sip_states.proofs.due.AdvanceLemmas.{start_names, start_quiet}
+use Rattle.sip_states.proofs.keyed.StartLemmas.{start_endless, else_set}
 use Rattle.sip_states.proofs.tables.Tables.restart_key.Goals as goal
 
 pub invariant_of-self-2 : goal.invariant_of-self-2

@@ -5,8 +5,8 @@ use Rattle.indexmap.proofs.CallerLemmas.{keys-with_value_at, index_map_len-with_
 use Rattle.sip_states.specs.AnySet.{IsQuietSet}
 use Rattle.sip_states.specs.Sweep.{numbers_of}
 use Rattle.sip_states.specs.inner.Marks.{AreMarked, AreMoved}
-use Rattle.sip_states.proofs.TablesLemmas.{values_of-set_value_at}
-use Rattle.sip_states.proofs.AdvanceLemmas.{marked_set, within_set}
+use Rattle.sip_states.proofs.keyed.TablesLemmas.{values_of-set_value_at}
+use Rattle.sip_states.proofs.due.AdvanceLemmas.{marked_set, within_set}
 use Rattle.sip_states.proofs.tables.Tables.set_mut.Goals as goal
 
 pub invariant_of-self-lent : goal.invariant_of-self-lent

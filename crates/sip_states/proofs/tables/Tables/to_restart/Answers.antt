@@ -6,7 +6,7 @@ use Rattle.indexmap.specs.IndexMap.{keys, values}
 use Rattle.sip_states.specs.Tables.{Tabled}
 use Rattle.sip_states.specs.Restarting.{AreToRestart}
 use Rattle.sip_states.specs.inner.Marks.{IsMarked}
-use Rattle.sip_states.proofs.AdvanceLemmas.{place_among, restart_numbers}
+use Rattle.sip_states.proofs.due.AdvanceLemmas.{place_among, restart_numbers}
 use Rattle.sip_states.proofs.tables.Tables.to_restart.Goals as goal
 
 pub overflow_add-index : goal.overflow_add-index

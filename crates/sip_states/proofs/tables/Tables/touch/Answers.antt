@@ -1,7 +1,7 @@
 use Rattle.std.proofs.Common.{◌≢◌, All, inl, inr, refl, sym}
 use Rattle.std.proofs.lemmas.Result.{IfOk-weaker}
 use Rattle.indexmap.specs.IndexMap.{keys}
-use Rattle.sip_states.proofs.TablesLemmas.{number-found, All-absent, none-from-is_some}
+use Rattle.sip_states.proofs.keyed.TablesLemmas.{number-found, All-absent, none-from-is_some}
 use Rattle.sip_states.proofs.tables.Tables.touch.Goals as goal
 
 pub add-requires-clause-new : goal.add-requires-clause-new

@@ -4,8 +4,8 @@ use Rattle.sip_log.specs.Told.{item}
 use Rattle.sip_verdict.specs.Judging.{MayComeNext}
 use Rattle.sip_verdict.specs.SurveyOf.{AreFoundAt}
 use Rattle.sip_verdict.specs.Surveys.{AreSurveyed}
-use Rattle.sip_verdict.proofs.FollowedLemmas.{observed_moment}
-use Rattle.sip_verdict.proofs.JudgeLemmas.{may_take_next}
+use Rattle.sip_verdict.proofs.sweeps.FollowedLemmas.{observed_moment}
+use Rattle.sip_verdict.proofs.judges.JudgeLemmas.{may_take_next}
 use Rattle.sip_verdict.proofs.following.Survey.entry.Goals as goal
 
 pub find_next-taken-requires-clause-may : goal.find_next-taken-requires-clause-may

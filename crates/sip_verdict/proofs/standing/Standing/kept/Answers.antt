@@ -1,5 +1,5 @@
 use Rattle.std.proofs.Common.{◌≤◌, sym, subst}
-use Rattle.sip_verdict.proofs.FollowedLemmas.{book_few}
+use Rattle.sip_verdict.proofs.sweeps.FollowedLemmas.{book_few}
 use Rattle.sip_verdict.proofs.standing.Standing.kept.Goals as goal
 
 pub returns-clause-few : goal.returns-clause-few

@@ -2,8 +2,8 @@ use Rattle.std.proofs.Common.{[], ◌∷◌, ◌++◌, ◌+◌, sym, ◌∙◌, 
 use Rattle.sip_log.specs.Told.{item}
 use Rattle.sip_verdict.specs.Listing.{first_entry}
 use Rattle.sip_verdict.specs.inner.Concerned.{listed}
-use Rattle.sip_verdict.proofs.NumberingLemmas.{stay_numbered}
-use Rattle.sip_verdict.proofs.EntryText.{observed_ascii, entry_text}
+use Rattle.sip_verdict.proofs.listings.NumberingLemmas.{stay_numbered}
+use Rattle.sip_verdict.proofs.listings.EntryText.{observed_ascii, entry_text}
 use Rattle.sip_verdict.proofs.standing.Standing.list.Goals as goal
 
 pub returns-in_ok-text-in-None : goal.returns-in_ok-text-in-None

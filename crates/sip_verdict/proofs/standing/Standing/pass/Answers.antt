@@ -2,8 +2,8 @@ use Rattle.std.proofs.Common.{◌≡◌, map, sym, ◌∙◌, subst}
 use Rattle.sip_verdict.specs.MessageReading.{key_machines}
 use Rattle.sip_verdict.specs.inner.Tracking.{IsOutcome}
 use Rattle.sip_verdict.specs.inner.TablesTracking.{key_keeping, transactions_of}
-use Rattle.sip_verdict.proofs.TablesPassing.{keys_are}
-use Rattle.sip_verdict.proofs.TrackingLemmas.{judged_fine, judged_breach, judged_undecided}
+use Rattle.sip_verdict.proofs.tables.TablesPassing.{keys_are}
+use Rattle.sip_verdict.proofs.tables.TrackingLemmas.{judged_fine, judged_breach, judged_undecided}
 use Rattle.sip_verdict.proofs.standing.Standing.pass.Goals as goal
 
 pub returns-in-Fine-clause-judged : goal.returns-in-Fine-clause-judged

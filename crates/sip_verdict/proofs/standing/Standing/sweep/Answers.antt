@@ -2,11 +2,11 @@ use Rattle.std.proofs.Common.{All, Contains, length, refl, sym, subst}
 use Rattle.sip_verdict.specs.Named.{IsNamed, AreMany, key_messages}
 use Rattle.sip_verdict.specs.MessageReading.{key_machines}
 use Rattle.sip_verdict.specs.inner.TablesTracking.{MayPass, TablesTrack}
-use Rattle.sip_verdict.proofs.NamedTables.{many_named}
+use Rattle.sip_verdict.proofs.tables.NamedTables.{many_named}
 use Rattle.sip_verdict.specs.Surveys.{IsStillNamed}
 use Rattle.sip_verdict.specs.inner.Surveying.{TablesSurvey}
-use Rattle.sip_verdict.proofs.SweptBook.{only_within}
-use Rattle.sip_verdict.proofs.SweptTables.{named_is, swept_may, swept_track, swept_recorded, swept_kept}
+use Rattle.sip_verdict.proofs.sweeps.SweptBook.{only_within}
+use Rattle.sip_verdict.proofs.sweeps.SweptTables.{named_is, swept_may, swept_track, swept_recorded, swept_kept}
 use Rattle.sip_verdict.proofs.surveys.Swept.{swept_survey, swept_many}
 use Rattle.sip_verdict.proofs.standing.Standing.sweep.Goals as goal
 

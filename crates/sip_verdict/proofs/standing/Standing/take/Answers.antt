@@ -5,9 +5,9 @@ use Rattle.sip_verdict.specs.MessageReading.{fault_observation, message_reading}
 use Rattle.sip_verdict.specs.inner.Numbering.{StaysNumbered}
 use Rattle.sip_verdict.specs.inner.TablesTracking.{HaveNumbers, MayHear}
 use Rattle.sip_verdict.specs.inner.Concerned.{each}
-use Rattle.sip_verdict.proofs.NumberingLemmas.{numbered_none, numbered_heard, unless_trouble}
-use Rattle.sip_verdict.proofs.StandingLemmas.{listed_each, grown_may, may_restart, restart_judged, touched_recorded, few_keys, are_given, may_hear, same_some, may_next, unheard_judged, heard_judged}
-use Rattle.sip_verdict.proofs.TablesTouching.{touches_may, have_numbers}
+use Rattle.sip_verdict.proofs.listings.NumberingLemmas.{numbered_none, numbered_heard, unless_trouble}
+use Rattle.sip_verdict.proofs.judges.StandingLemmas.{listed_each, grown_may, may_restart, restart_judged, touched_recorded, few_keys, are_given, may_hear, same_some, may_next, unheard_judged, heard_judged}
+use Rattle.sip_verdict.proofs.tables.TablesTouching.{touches_may, have_numbers}
 use Rattle.sip_verdict.proofs.standing.Standing.take.Goals as goal
 
 pub pass-requires-in-Restart-clause-may : goal.pass-requires-in-Restart-clause-may

@@ -2,7 +2,7 @@ use Rattle.std.proofs.Common.{◌≡◌, ◌≢◌, ◌∙◌, List, ◌<◌, �
 use Rattle.std.proofs.lemmas.List.{length-append}
 use Rattle.sip_verdict.specs.inner.Concerned.{up_to}
 use Rattle.sip_verdict.specs.inner.Numbering.{AppendsEach, IsTextOf}
-use Rattle.sip_verdict.proofs.NumberingLemmas.{appends_more, text_of_some}
+use Rattle.sip_verdict.proofs.listings.NumberingLemmas.{appends_more, text_of_some}
 use Rattle.sip_verdict.proofs.standing.Standing.text_of_all.Goals.{else-loop-number-test, then-loop-number-test+in_ok-push_one+else-number-count}
 use Rattle.sip_verdict.proofs.standing.Standing.text_of_all.Goals as goal
 

@@ -1,5 +1,5 @@
 use Rattle.std.proofs.Common.{◌≡◌, ◌∙◌, length, ap, subst}
-use Rattle.sip_verdict.proofs.JudgeLemmas.{legal_is}
+use Rattle.sip_verdict.proofs.judges.JudgeLemmas.{legal_is}
 use Rattle.sip_verdict.proofs.stream.Judge.end.Goals as goal
 
 pub returns-in-Open-clause-legal : goal.returns-in-Open-clause-legal

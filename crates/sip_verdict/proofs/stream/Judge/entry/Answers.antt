@@ -1,7 +1,7 @@
 use Rattle.std.proofs.Common.{◌+◌, ◌∙◌, All, Contains, refl, sym, ap, subst, arith}
 use Rattle.sip_verdict.specs.Judging.{Judging, AreFollowed, MayComeNext}
-use Rattle.sip_verdict.proofs.JudgeLemmas.{may_take_next, stands_on}
-use Rattle.sip_verdict.proofs.SweptBook.{same_within}
+use Rattle.sip_verdict.proofs.judges.JudgeLemmas.{may_take_next, stands_on}
+use Rattle.sip_verdict.proofs.sweeps.SweptBook.{same_within}
 use Rattle.sip_verdict.proofs.stream.Judge.entry.Goals as goal
 
 pub judge_next-requires-clause-may : goal.judge_next-requires-clause-may

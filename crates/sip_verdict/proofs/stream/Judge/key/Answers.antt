@@ -1,6 +1,6 @@
 use Rattle.std.proofs.Common.{◌≡◌, ◌∙◌, MatchOption, length, ap, subst}
 use Rattle.sip_states.specs.Tables.{HasNumber, IsGiven}
-use Rattle.sip_verdict.proofs.JudgeLemmas.{key_named}
+use Rattle.sip_verdict.proofs.judges.JudgeLemmas.{key_named}
 use Rattle.sip_verdict.proofs.stream.Judge.key.Goals as goal
 
 pub returns-clause-named : goal.returns-clause-named

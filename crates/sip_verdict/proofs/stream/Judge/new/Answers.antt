@@ -1,5 +1,5 @@
 use Rattle.std.proofs.Common.{refl}
-use Rattle.sip_verdict.proofs.FollowedLemmas.{followed_none}
+use Rattle.sip_verdict.proofs.sweeps.FollowedLemmas.{followed_none}
 use Rattle.sip_verdict.proofs.stream.Judge.new.Goals as goal
 
 pub returns-clause-stands : goal.returns-clause-stands

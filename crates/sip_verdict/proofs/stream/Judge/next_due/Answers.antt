@@ -1,7 +1,7 @@
 use Rattle.std.proofs.Common.{◌≡◌, ◌≤◌, ◌↔◌, ◌+◌, None, IfSome, subst}
 use Rattle.sip_states.specs.Tables.{due_of}
 use Rattle.sip_verdict.specs.inner.TablesTracking.{MayTake}
-use Rattle.sip_verdict.proofs.DueLemmas.{judge_waits}
+use Rattle.sip_verdict.proofs.judges.DueLemmas.{judge_waits}
 use Rattle.sip_verdict.proofs.stream.Judge.next_due.Goals as goal
 
 pub returns-in-Open-clause-waits : goal.returns-in-Open-clause-waits

@@ -5,8 +5,8 @@ use Rattle.sip_verdict.specs.declared.verdict.Verdict.TheVariants.{Legal, LogFau
 use Rattle.sip_verdict.specs.declared.listing.Listing.TheVariants.{Stopped}
 use Rattle.sip_verdict.specs.ListingOf.{IsListingOf}
 use Rattle.sip_verdict.specs.inner.TablesTracking.{transactions_of, MayTake}
-use Rattle.sip_verdict.proofs.JudgeTables.{may_later}
-use Rattle.sip_verdict.proofs.WalksLemmas.{walks_listed, walks_end, walks_fault, listed_before}
+use Rattle.sip_verdict.proofs.tables.JudgeTables.{may_later}
+use Rattle.sip_verdict.proofs.listings.WalksLemmas.{walks_listed, walks_end, walks_fault, listed_before}
 use Rattle.sip_verdict.proofs.walking.Walk.list.Goals as goal
 
 pub list-requires-clause-may : goal.list-requires-clause-may

@@ -3,7 +3,7 @@ use Rattle.std.proofs.lemmas.Result.{IfOk-weaker}
 use Rattle.sip_log.specs.Reading as log
 use Rattle.sip_log.specs.Reading.{beside_source}
 use Rattle.sip_verdict.specs.ListingOf.{IsListingOf}
-use Rattle.sip_verdict.proofs.WalksLemmas.{listed_zero, listed_before}
+use Rattle.sip_verdict.proofs.listings.WalksLemmas.{listed_zero, listed_before}
 use Rattle.sip_verdict.proofs.walking.Walk.listing.Goals as goal
 
 pub returns-then-entry-eq0-clause-listing : goal.returns-then-entry-eq0-clause-listing

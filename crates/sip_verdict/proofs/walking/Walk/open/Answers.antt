@@ -1,6 +1,6 @@
 use Rattle.sip_log.specs.Reading as log
 use Rattle.sip_log.specs.Reading.{beside_source}
-use Rattle.sip_verdict.proofs.WalksLemmas.{walks_start}
+use Rattle.sip_verdict.proofs.listings.WalksLemmas.{walks_start}
 use Rattle.sip_verdict.proofs.walking.Walk.open.Goals as goal
 
 pub returns-clause-walks : goal.returns-clause-walks

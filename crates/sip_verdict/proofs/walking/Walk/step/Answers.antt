@@ -4,8 +4,8 @@ use Rattle.sip_log.specs.Reading.{beside_source}
 use Rattle.sip_verdict.specs.VerdictOf.{IsVerdictOf}
 use Rattle.sip_verdict.specs.inner.TablesTracking.{MayTake}
 use Rattle.sip_verdict.specs.inner.Walking.{IsBehind}
-use Rattle.sip_verdict.proofs.JudgeTables.{may_later, transactions_long}
-use Rattle.sip_verdict.proofs.WalksLemmas.{walks_on, walks_end, walks_fault}
+use Rattle.sip_verdict.proofs.tables.JudgeTables.{may_later, transactions_long}
+use Rattle.sip_verdict.proofs.listings.WalksLemmas.{walks_on, walks_end, walks_fault}
 use Rattle.sip_verdict.proofs.walking.Walk.step.Goals as goal
 
 pub entry-requires-clause-may : goal.entry-requires-clause-may

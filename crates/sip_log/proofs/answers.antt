@@ -1,0 +1,6 @@
+pub mod CallerLemmas
+pub mod NextLemmas
+pub mod NextRead
+pub mod ReadingLemmas
+pub mod SaysLemmas
+pub mod ToldLemmas

@@ -1,0 +1,171 @@
+-- What comes next by the spelling, and by the relations by which it is read.
+use Rattle.std.proofs.Common.{◌≡◌, ◌≢◌, ◌⊎◌, inl, inr, ◌<◌, ◌≤◌, ℕ, List, [], ◌∷◌, ◌++◌, length, get_or, refl, subst, sym, ap, ◌∙◌, arith, append_assoc}
+use Rattle.std.specs.Prelude.{slice_index}
+use Rattle.std.proofs.lemmas.Bool.{cases_lt}
+use Rattle.std.proofs.Math.Seq.{get_or-append_seam}
+use Rattle.sip_standard.specs.declared.action.Action.{Action}
+use Rattle.sip_standard.specs.declared.format.Format.{Format}
+use Rattle.sip_standard.specs.LogFault.{LogFault, EntryLine, Truncated, Order, Limit}
+use Rattle.sip_standard.specs.LogFault as faults
+use Rattle.sip_log.specs.Next.{Next, gives, stops, ComesNext, next_at}
+use Rattle.sip_standard.specs.LogSays.{line_feed, most_entries, First, FrontLine, LogEnd, Clean, Stops, LineFault, EndsWith}
+use Rattle.sip_standard.specs.LogEntry.{Item, line_says, HasMessage, body_says, entry_says, IsOf, IsWithinLimits, IsEntry}
+use Rattle.sip_log.specs.inner.Line.{Head, message, plain, HeadLine, KeepsLimits}
+use Rattle.sip_log.specs.inner.Entry as read
+use Rattle.sip_log.proofs.spelling.SpellingLemmas.{message-or-not, body-message, body-plain, message-spelled, message-read, plain-spelled, plain-read}
+use Rattle.sip_log.proofs.lines.LineLemmas.{message-of}
+
+-- The pieces of how entries end, one in the other.
+
+-- cases 6 and 7: the message
+abbrev pub AtBody : Action → ℕ → List ℕ → LogFault → Type 0
+AtBody action len behind fault =
+    HasMessage action × First (length behind ≤ len) Truncated fault ((slice_index behind len ≢ line_feed) × (fault ≡ EntryLine))
+
+-- cases 4 and 5: the numbers of the line
+abbrev pub AtNumbers : ℕ → Action → ℕ → ℕ → List ℕ → LogFault → Type 0
+AtNumbers last action moment len behind fault =
+    First (¬ IsWithinLimits action moment len) Limit fault (First (moment < last) Order fault (AtBody action len behind fault))
+
+-- case 2: the front, and what is after its line
+abbrev pub AtFront : Format → ℕ → List ℕ → LogFault → Type 0
+AtFront format last rest fault =
+    (((line behind : List ℕ) → ¬ (FrontLine rest line behind)) × First (length rest < 32) Truncated fault (fault ≡ EntryLine))
+    ⊎ ((line : List ℕ) × (behind : List ℕ) × FrontLine rest line behind × LineFault format last line behind fault)
+
+-- what comes next at an end is how it ends
+pub comes-end : (format : Format) (count last : ℕ) (rest : List ℕ) (end : LogEnd) → ComesNext format count last rest (next_at end) → EndsWith format count last rest end
+comes-end format count last rest Clean next = next
+comes-end format count last rest (Stops fault) next = next
+
+-- and how it ends comes next
+pub end-comes : (format : Format) (count last : ℕ) (rest : List ℕ) (end : LogEnd) → EndsWith format count last rest end → ComesNext format count last rest (next_at end)
+end-comes format count last rest Clean next = next
+end-comes format count last rest (Stops fault) next = next
+
+-- what comes next is a fault, or an entry with what is after it
+abbrev Told : (LogFault → Type 0) → (Item → List ℕ → Type 0) → Next Item → Type 0
+Told P G next = ((fault : LogFault) × (next ≡ stops fault) × P fault) ⊎ ((e : Item) × (after : List ℕ) × (next ≡ gives e after) × G e after)
+
+pub not_below : (a b : ℕ) → ¬ (a < b) → b ≤ a
+not_below a b other = elim (cases_lt a b) as (λ _. b ≤ a) [ inl lt ↦ absurd (other lt) | inr le ↦ le ]
+
+pub not_above : (a b : ℕ) → ¬ (a ≤ b) → b < a
+not_above a b other = elim (cases_lt b a) as (λ _. b < a) [ inl lt ↦ lt | inr le ↦ absurd (other le) ]
+
+-- From reading to spelling.
+
+-- a message
+message-told : (action : Action) (moment len : ℕ) (behind : List ℕ) (next : Next Item) → HasMessage action → read.MessageComes action moment len behind next
+    → Told (AtBody action len behind) (λ e after. (text : List ℕ) × (e ≡ record { action = action; moment = moment; text = text }) × (length text ≡ len) × (behind ≡ text ++ line_feed ∷ after)) next
+message-told action moment len behind next other (inl (short, same)) = inl (faults.Truncated, same, (other, inl (not_below len (length behind) short, refl)))
+message-told action moment len behind next other (inr (long, (text, b, after, whole, size, inl (unclosed, same)))) =
+    let byte : get_or behind len 0 ≡ b = ap (λ (t : List ℕ). get_or t len 0) whole ∙ ap (λ n. get_or (text ++ b ∷ after) n 0) (sym size) ∙ get_or-append_seam text b after 0 in
+    inl (faults.EntryLine, same, (other, inr ((λ le. omega arith), ((λ is. unclosed (sym byte ∙ is)), refl))))
+message-told action moment len behind next other (inr (long, (text, b, after, whole, size, inr (closed, same)))) =
+    inr (record { action = action; moment = moment; text = text }, after, same, (text, refl, size, whole ∙ ap (λ (c : ℕ). text ++ c ∷ after) closed))
+
+-- an entry whose line was read
+abbrev Entered : Format → ℕ → List ℕ → List ℕ → Item → List ℕ → Type 0
+Entered format last line behind e after = (line ++ line_feed ∷ behind ≡ entry_says e ++ after) × (last ≤ e.moment) × IsEntry format e
+
+pub message-within : (action : Action) (moment len : ℕ) → KeepsLimits (message action moment len) → IsWithinLimits action moment len
+message-within action moment len is = (is.0, λ other. (is.1, is.2))
+
+pub within-message : (action : Action) (moment len : ℕ) → HasMessage action → IsWithinLimits action moment len → KeepsLimits (message action moment len)
+within-message action moment len other is = (is.0, (is.1 other).0, (is.1 other).1)
+
+-- a message with its line
+message-whole : (line : List ℕ) (action : Action) (moment len : ℕ) (text behind after : List ℕ) → HasMessage action → line ≡ line_says action moment len → length text ≡ len → behind ≡ text ++ line_feed ∷ after
+    → line ++ line_feed ∷ behind ≡ entry_says (record { action = action; moment = moment; text = text }) ++ after
+message-whole line action moment len text behind after other is size whole =
+    let body : body_says action text ++ after ≡ behind = ap (λ (t : List ℕ). t ++ after) (body-message action text other) ∙ append_assoc text (line_feed ∷ []) after ∙ sym whole in
+    ap (λ (t : List ℕ). t ++ line_feed ∷ behind) is
+    ∙ ap (λ n. line_says action moment n ++ line_feed ∷ behind) (sym size)
+    ∙ ap (λ (t : List ℕ). line_says action moment (length text) ++ line_feed ∷ t) (sym body)
+    ∙ sym (append_assoc (line_says action moment (length text)) (line_feed ∷ body_says action text) after)
+
+-- a message's line, and what is after it
+message-line-told : (format : Format) (last : ℕ) (line : List ℕ) (action : Action) (moment len : ℕ) (behind : List ℕ) (next : Next Item) → HasMessage action → line ≡ line_says action moment len
+    → read.HeadComes last (message action moment len) behind next → Told (LineFault format last line behind) (Entered format last line behind) next
+message-line-told format last line action moment len behind next other is (inl (outside, same)) =
+    inl (faults.Limit, same, inr (action, moment, len, message-of format action other, is, inl ((λ w. outside (within-message action moment len other w)), refl)))
+message-line-told format last line action moment len behind next other is (inr (inside, inl (early, same))) =
+    let w = message-within action moment len inside in
+    inl (faults.Order, same, inr (action, moment, len, message-of format action other, is, inr ((λ none. none w), inl (not_above last moment early, refl))))
+message-line-told format last line action moment len behind next other is (inr (inside, inr (order, at))) =
+    go (message-told action moment len behind next other at)
+  where
+    w : IsWithinLimits action moment len
+    w = message-within action moment len inside
+
+    go : Told (AtBody action len behind) (λ e after. (text : List ℕ) × (e ≡ record { action = action; moment = moment; text = text }) × (length text ≡ len) × (behind ≡ text ++ line_feed ∷ after)) next
+        → Told (LineFault format last line behind) (Entered format last line behind) next
+    go (inl (fault, same, body)) = inl (fault, same, inr (action, moment, len, message-of format action other, is, inr ((λ none. none w), inr ((λ lt. omega arith), body))))
+    go (inr (e, after, same, (text, e_is, size, whole))) =
+        inr (
+          record { action = action; moment = moment; text = text },
+          after,
+          same ∙ ap (λ x. gives x after) e_is,
+          (message-whole line action moment len text behind after other is size whole, order, (message-of format action other, subst (IsWithinLimits action moment) (sym size) w, (λ none. absurd (none other)))),
+        )
+
+-- the line of an entry without a message, and what is after it
+plain-whole : (line : List ℕ) (action : Action) (moment : ℕ) (behind : List ℕ) → ¬ (HasMessage action) → line ≡ line_says action moment 0
+    → line ++ line_feed ∷ behind ≡ entry_says (record { action = action; moment = moment; text = [] }) ++ behind
+plain-whole line action moment behind none is =
+    ap (λ (t : List ℕ). t ++ line_feed ∷ behind) is
+    ∙ ap (λ (t : List ℕ). line_says action moment 0 ++ line_feed ∷ (t ++ behind)) (sym (body-plain action [] none))
+    ∙ sym (append_assoc (line_says action moment 0) (line_feed ∷ body_says action []) behind)
+
+plain-line-told : (format : Format) (last : ℕ) (line : List ℕ) (action : Action) (moment : ℕ) (behind : List ℕ) (next : Next Item) → ¬ (HasMessage action) → IsOf format action → line ≡ line_says action moment 0
+    → read.HeadComes last (plain action moment) behind next → Told (LineFault format last line behind) (Entered format last line behind) next
+plain-line-told format last line action moment behind next none of is (inl (outside, same)) =
+    inl (faults.Limit, same, inr (action, moment, 0, of, is, inl ((λ w. outside w.0), refl)))
+plain-line-told format last line action moment behind next none of is (inr (inside, inl (early, same))) =
+    inl (faults.Order, same, inr (action, moment, 0, of, is, inr ((λ out. out (inside, (λ has. absurd (none has)))), inl (not_above last moment early, refl))))
+plain-line-told format last line action moment behind next none of is (inr (inside, inr (order, same))) =
+    inr (
+      record { action = action; moment = moment; text = [] },
+      behind,
+      same,
+      (plain-whole line action moment behind none is, order, (of, (inside, (λ has. absurd (none has))), (λ m. refl))),
+    )
+
+-- a line, and what is after it
+line-told : (format : Format) (last : ℕ) (line : List ℕ) (head : Head) (behind : List ℕ) (next : Next Item) → length line < 32 → HeadLine format line head
+    → read.HeadComes last head behind next → Told (LineFault format last line behind) (Entered format last line behind) next
+line-told format last line (message action moment len) behind next short is at =
+    message-line-told format last line action moment len behind next is.1 (message-spelled format line action moment len short is) at
+line-told format last line (plain action moment) behind next short is at =
+    plain-line-told format last line action moment behind next is.1 is.2 (plain-spelled format line action moment 0 short is) at
+
+-- a line that is spelled can be read
+line-read : (format : Format) (line : List ℕ) (action : Action) (moment len : ℕ) → length line < 32 → IsOf format action → line ≡ line_says action moment len → (head : Head) × HeadLine format line head
+line-read format line action moment len short of is = elim (message-or-not action) [
+  | inr none ↦ (plain action moment, plain-read format line action moment len short none of is)
+  | inl has ↦ (message action moment len, message-read format line action moment len short has is)
+]
+
+-- the front of what is left
+front-told : (format : Format) (last : ℕ) (rest : List ℕ) (next : Next Item) → read.LineComes format last rest next
+    → Told (AtFront format last rest) (λ e after. (rest ≡ entry_says e ++ after) × (last ≤ e.moment) × IsEntry format e) next
+front-told format last rest next (inl (none, inl (few, same))) = inl (faults.Truncated, same, inl (none, inl (not_above 32 (length rest) few, refl)))
+front-told format last rest next (inl (none, inr (many, same))) = inl (faults.EntryLine, same, inl (none, inr ((λ few. omega arith), refl)))
+front-told format last rest next (inr (line, behind, front, inl (none, same))) =
+    inl (faults.EntryLine, same, inr (line, behind, front, inl ((λ action moment len of is. let h = line-read format line action moment len front.short of is in none h.0 h.1), refl)))
+front-told format last rest next (inr (line, behind, front, inr (head, is, at))) = go (line-told format last line head behind next front.short is at)
+  where
+    go : Told (LineFault format last line behind) (Entered format last line behind) next → Told (AtFront format last rest) (λ e after. (rest ≡ entry_says e ++ after) × (last ≤ e.moment) × IsEntry format e) next
+    go (inl (fault, same, at)) = inl (fault, same, inr (line, behind, front, at))
+    go (inr (e, after, same, (whole, order, entry))) = inr (e, after, same, (front.whole ∙ whole, order, entry))
+
+-- what is read next is what comes next
+pub next-told : (format : Format) (count last : ℕ) (rest : List ℕ) (next : Next Item) → read.EntryComes format count last rest next → ComesNext format count last rest next
+next-told format count last rest next (inl (none, same)) = subst (ComesNext format count last rest) (sym same) none
+next-told format count last rest next (inr (some, inl (many, same))) = subst (ComesNext format count last rest) (sym same) (some, inl (not_below count most_entries many, refl))
+next-told format count last rest next (inr (some, inr (few, at))) = go (front-told format last rest next at)
+  where
+    go : Told (AtFront format last rest) (λ e after. (rest ≡ entry_says e ++ after) × (last ≤ e.moment) × IsEntry format e) next → ComesNext format count last rest next
+    go (inl (fault, same, front)) = subst (ComesNext format count last rest) (sym same) (some, inr ((λ le. omega arith), front))
+    go (inr (e, after, same, (whole, order, entry))) = subst (ComesNext format count last rest) (sym same) (whole, few, order, entry)

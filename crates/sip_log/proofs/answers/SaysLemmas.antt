@@ -1,0 +1,56 @@
+-- What an answer says of the input, by what it says of the bytes that are held and left.
+use Rattle.std.proofs.Common.{◌≡◌, ℕ, Bool, List, ◌++◌, Option, Some, Result, Ok, Err, ◌∙◌, ap}
+use Rattle.std.specs.Option.{IfSome}
+use Rattle.std.specs.Io.KnownBytes.{prepend_known}
+use Rattle.sip_log.specs.declared.log_error.LogError.{LogError}
+use Rattle.sip_log.specs.declared.log_error.LogError.TheVariants as errors
+use Rattle.sip_standard.specs.LogFault as faults
+use Rattle.sip_standard.specs.LogFault.{LogFault}
+use Rattle.sip_log.specs.inner.Reads.{Reads}
+use Rattle.sip_log.specs.Next.{Next, stops}
+use Rattle.sip_log.specs.Told.{TellsWhatComes}
+use Rattle.sip_log.proofs.answers.ToldLemmas.{told, known}
+
+module _ {B : Type 0} {held held2 : List ℕ} {left left2 : Option (List ℕ)} {before mid : Bool} (reads : Reads held held2 left left2 before mid)
+    (P : List ℕ → Next B → Type 0) where
+  -- a value, with the rest of what was held and what is left after it
+  pub Says-value : (rest : List ℕ) (next : List ℕ → Next B) → ((ys : List ℕ) → left2 ≡ Some ys → P (held2 ++ ys) (next (rest ++ ys)))
+      → (mid ≡ before) × IfSome (prepend_known held left) (λ xs. (ys : List ℕ) × (prepend_known rest left2 ≡ Some ys) × P xs (next ys))
+  Says-value rest next fact = (
+    reads.fine,
+    told reads (λ xs. (ys : List ℕ) × (prepend_known rest left2 ≡ Some ys) × P xs (next ys))
+        (λ ys is. (rest ++ ys, ap (prepend_known rest) is, fact ys is)),
+  )
+
+  -- a fault of the log
+  pub Says-fault : (reason : LogFault) → ((ys : List ℕ) → left2 ≡ Some ys → P (held2 ++ ys) (stops reason))
+      → (mid ≡ before) × IfSome (prepend_known held left) (λ xs. P xs (stops reason))
+  Says-fault reason fact = (reads.fine, told reads (λ xs. P xs (stops reason)) fact)
+
+  -- a fault after is one in front
+  Says-behind : (rest : List ℕ) (after : Bool) (Q : List ℕ → Next B → Type 0) (fault : LogFault) → ((ys : List ℕ) (n : Next B) → left2 ≡ Some ys → Q (rest ++ ys) n → P (held2 ++ ys) n)
+      → (after ≡ mid) × IfSome (prepend_known rest left2) (λ xs. Q xs (stops fault)) → (after ≡ before) × IfSome (prepend_known held left) (λ xs. P xs (stops fault))
+  Says-behind rest after Q fault step says = (
+    says.0 ∙ reads.fine,
+    told reads (λ xs. P xs (stops fault)) (λ ys is. step ys (stops fault) is (known rest left2 ys (λ xs. Q xs (stops fault)) is says.1)),
+  )
+
+  -- what the rest of a call says of the bytes after, it says of those in front
+  pub Says-step : {A : Type 0} (rest : List ℕ) (new : Option (List ℕ)) (after : Bool) (Q : List ℕ → Next B → Type 0) (seen : A → List ℕ → Next B)
+      (r : Result A LogError) → ((ys : List ℕ) (n : Next B) → left2 ≡ Some ys → Q (rest ++ ys) n → P (held2 ++ ys) n)
+      → TellsWhatComes (prepend_known rest left2) new mid after Q seen r → TellsWhatComes (prepend_known held left) new before after P seen r
+  Says-step rest new after Q seen (Ok a) step says = (
+    says.0 ∙ reads.fine,
+    told reads (λ xs. (zs : List ℕ) × (new ≡ Some zs) × P xs (seen a zs))
+        (λ ys is.
+        let behind = known rest left2 ys (λ xs. (zs : List ℕ) × (new ≡ Some zs) × Q xs (seen a zs)) is says.1 in
+        (behind.0, behind.1, step ys (seen a behind.0) is behind.2)),
+  )
+  Says-step rest new after Q seen (Err errors.Header) step says = Says-behind rest after Q faults.Header step says
+  Says-step rest new after Q seen (Err errors.EntryLine) step says = Says-behind rest after Q faults.EntryLine step says
+  Says-step rest new after Q seen (Err errors.Truncated) step says = Says-behind rest after Q faults.Truncated step says
+  Says-step rest new after Q seen (Err errors.Order) step says = Says-behind rest after Q faults.Order step says
+  Says-step rest new after Q seen (Err errors.Limit) step says = Says-behind rest after Q faults.Limit step says
+  Says-step rest new after Q seen (Err errors.Io) step says = says
+  Says-step rest new after Q seen (Err errors.Memory) step says = tt
+  Says-step rest new after Q seen (Err errors.Failed) step says = says

@@ -1,0 +1,5 @@
+pub mod FrontLemmas
+pub mod LineLemmas
+pub mod MessageLemmas
+pub mod SplitLemmas
+pub mod WindowLemmas

@@ -1,0 +1,83 @@
+-- The line at the front of what is left, by what is held of it.
+use Rattle.std.proofs.Common.{◌≡◌, ◌⊎◌, inl, inr, ℕ, ◌+◌, ◌<◌, ◌≤◌, List, [], ◌∷◌, ◌++◌, length, take, drop, get_or, Some, None, refl, sym, ap, ◌∙◌, arith}
+use Rattle.std.proofs.lemmas.List.{get_or-take, length-take, length-append}
+use Rattle.std.proofs.Math.ListN.{get_or-append}
+use Rattle.std.proofs.Math.Seq.{get_or-append_seam}
+use Rattle.memchr.specs.Find.{IsFirstByte, is_byte}
+use Rattle.sip_standard.specs.declared.format.Format.{Format}
+use Rattle.sip_standard.specs.LogFault as faults
+use Rattle.sip_standard.specs.LogSays.{line_feed, FrontLine, most_entries}
+use Rattle.sip_standard.specs.LogEntry.{Item}
+use Rattle.sip_log.specs.inner.Line.{longest_line, Head, HeadLine}
+use Rattle.sip_log.specs.Next.{Next, stops}
+use Rattle.sip_log.specs.inner.Entry.{HeadComes, LineComes, EntryComes}
+use Rattle.sip_log.proofs.lines.SplitLemmas.{Cut, first-cut, first-none, first-of-front, cut-more}
+
+module _ (most : ℕ) (held ys : List ℕ) where
+  -- a line feed that was found
+  pub line-held : (k : ℕ) → IsFirstByte (is_byte line_feed) (take most held) (Some k)
+      → Cut line_feed (held ++ ys) (take k held) (drop (k + 1) held ++ ys)
+  line-held k found =
+      let at = first-cut line_feed held k (first-of-front line_feed most held k found) in
+      record { whole = cut-more (take k held) (drop (k + 1) held) line_feed held ys at.whole; first = at.first }
+
+  -- no line feed among the first bytes, where so many are held or no more are left
+  pub line-none : IsFirstByte (is_byte line_feed) (take most held) None → (most ≤ length held) ⊎ (ys ≡ [])
+      → (line behind : List ℕ) → held ++ ys ≡ line ++ line_feed ∷ behind → ¬ (length line < most)
+  line-none none enough line behind whole short =
+      let front : List ℕ = take most held in
+      let len : length (held ++ ys) ≡ length line + length (line_feed ∷ behind) = ap length whole ∙ length-append line (line_feed ∷ behind) in
+      let inside : length line < length held = inside-held enough len short in
+      let low : length line < length front = omega (arith, length-take most held) in
+      let here : get_or front (length line) 0 ≡ line_feed =
+      get_or-take most held (length line) 0 short ∙ sym (get_or-append held ys 0 (length line) inside)
+      ∙ ap (λ (t : List ℕ). get_or t (length line) 0) whole ∙ get_or-append_seam line line_feed behind 0 in
+      (first-none line_feed front none).nowhere (length line) low here
+    where
+      inside-held : (most ≤ length held) ⊎ (ys ≡ []) → length (held ++ ys) ≡ length line + length (line_feed ∷ behind) → length line < most
+          → length line < length held
+      inside-held (inl many) len short = omega arith
+      inside-held (inr end) len short = omega (arith, ap length end, length-append held ys)
+
+module _ (held ys : List ℕ) where
+  -- the line at the front
+  pub FrontLine-held : (k : ℕ) → k < longest_line → IsFirstByte (is_byte line_feed) (take longest_line held) (Some k)
+      → FrontLine (held ++ ys) (take k held) (drop (k + 1) held ++ ys)
+  FrontLine-held k short found =
+      let at = line-held longest_line held ys k found in
+      record { whole = at.whole; first = at.first.nowhere; short = omega (arith, length-take k held) }
+
+  -- none
+  pub FrontLine-none : IsFirstByte (is_byte line_feed) (take longest_line held) None → (longest_line ≤ length held) ⊎ (ys ≡ [])
+      → (line behind : List ℕ) → ¬ (FrontLine (held ++ ys) line behind)
+  FrontLine-none none enough line behind is = line-none longest_line held ys none enough line behind is.whole is.short
+
+module _ (format : Format) (last : ℕ) (held ys : List ℕ) where
+  -- fewer bytes are left, none of them a line feed
+  pub AtLine-truncated : IsFirstByte (is_byte line_feed) (take longest_line held) None → length held < longest_line → ys ≡ []
+      → LineComes format last (held ++ ys) (stops faults.Truncated)
+  AtLine-truncated none few end =
+      inl (FrontLine-none held ys none (inr end), inl ((λ enough. omega (arith, ap length end, length-append held ys, enough)), refl))
+
+  -- no line feed among the first 32 bytes
+  pub AtLine-long : IsFirstByte (is_byte line_feed) (take longest_line held) None → longest_line ≤ length held
+      → LineComes format last (held ++ ys) (stops faults.EntryLine)
+  AtLine-long none many =
+      inl (FrontLine-none held ys none (inl many), inr (omega (arith, length-append held ys), refl))
+
+  module _ (k : ℕ) (short : k < longest_line) (found : IsFirstByte (is_byte line_feed) (take longest_line held) (Some k)) where
+    -- a line that is not of the form
+    pub AtLine-other : ((head : Head) → ¬ (HeadLine format (take k held) head)) → LineComes format last (held ++ ys) (stops faults.EntryLine)
+    AtLine-other other = inr (take k held, drop (k + 1) held ++ ys, FrontLine-held held ys k short found, inl (other, refl))
+
+    -- a line, and what comes after it
+    pub AtLine-head : (head : Head) (next : Next Item) → HeadLine format (take k held) head → HeadComes last head (drop (k + 1) held ++ ys) next
+        → LineComes format last (held ++ ys) next
+    AtLine-head head next is behind =
+        inr (take k held, drop (k + 1) held ++ ys, FrontLine-held held ys k short found, inr (head, is, behind))
+
+-- an entry, where bytes are left and the most entries are not reached
+pub ComesNext-entry : (format : Format) (count last : ℕ) (held ys : List ℕ) (next : Next Item) → 1 ≤ length held → count < most_entries → LineComes format last (held ++ ys) next
+    → EntryComes format count last (held ++ ys) next
+ComesNext-entry format count last held ys next some few at =
+    inr ((λ none. omega (arith, ap length none, length-append held ys, some)), inr (few, at))

@@ -1,0 +1,3 @@
+pub mod LogExists
+pub mod LogLaws
+pub mod Logs

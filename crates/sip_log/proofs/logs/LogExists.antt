@@ -1,0 +1,472 @@
+-- Something is read of each input.
+use Rattle.std.proofs.Common.{◌≡◌, ◌≢◌, ◌⊎◌, inl, inr, ℕ, zero, suc, ◌+◌, ◌<◌, ◌≤◌, List, [], ◌∷◌, ◌++◌, length, take, drop, get_or, refl, subst, sym, ap, ◌∙◌, arith}
+use Rattle.std.specs.Prelude.{codes}
+use Rattle.std.specs.Char.{digit_value}
+use Rattle.std.specs.Str.Parse.{AllDigits, digits_value}
+use Rattle.std.proofs.lemmas.Bool.{cases_eq, cases_lt}
+use Rattle.std.proofs.lemmas.List.{append-nil, length-append, length-take-le}
+use Rattle.sip_standard.specs.Times.{Times, AreTimes, last_moment}
+use Rattle.sip_times.specs.Times.{under}
+use Rattle.sip_standard.specs.declared.rules.Rules.{Rules}
+use Rattle.sip_standard.specs.declared.rules.Rules.TheVariants.{R3261, R6026}
+use Rattle.sip_standard.specs.declared.action.Action.{Action}
+use Rattle.sip_standard.specs.declared.action.Action.TheVariants.{Sent, Received, Failed, Mark, Restart}
+use Rattle.sip_standard.specs.declared.format.Format.{Format}
+use Rattle.sip_standard.specs.declared.format.Format.TheVariants.{One, Two}
+use Rattle.sip_standard.specs.LogFault.{LogFault}
+use Rattle.sip_standard.specs.LogFault as faults
+use Rattle.sip_log.specs.inner.Number.{IsNumber, digit_zero}
+use Rattle.sip_standard.specs.LogSays.{line_feed, FrontLine, most_entries, LogEnd, Clean, Stops, LacksHeader}
+use Rattle.sip_log.specs.inner.Spelling.{space, letter}
+use Rattle.sip_standard.specs.LogEntry.{Item, IsOf}
+use Rattle.sip_standard.specs.LogHeader.{rules_text, RulesLine, Header}
+use Rattle.sip_log.specs.inner.Line.{longest_line, Numbers, Head, message, plain, HeadLine, KeepsLimits, moment_of}
+use Rattle.sip_log.specs.Next.{Next, ends, gives, stops}
+use Rattle.sip_log.specs.inner.Unless.{Unless}
+use Rattle.sip_log.specs.inner.Header.{Parted, NumberAfter, Tolerances, TimesLine, TimesFront, title_text, HeaderComes, ComesSecond}
+use Rattle.sip_log.specs.inner.Entry.{MessageComes, BodyComes, LineComes, EntryComes}
+use Rattle.sip_log.specs.inner.Follow.{Follow}
+use Rattle.sip_log.proofs.lines.SplitLemmas.{Lacks, Lacks-cons, Lacks-cut, Cut, cut-one, cut-at}
+use Rattle.sip_log.proofs.lines.LineLemmas.{Numbers-parts, Numbers-of, HeadLine-unlettered, HeadLine-no_numbers, HeadLine-no_number}
+use Rattle.sip_log.proofs.logs.LogLaws.{ComesFirst-one}
+use Rattle.sip_log.proofs.spelling.SpellingLemmas.{message-or-not, header-spelled, header-read}
+use Rattle.sip_log.proofs.headers.HeaderLemmas.{NumberAfter-one, NumberAfter-part, NumberAfter-of, TimesLine-lacks, TimesLine-one, t2-after, t4-after, tolerances-after}
+
+-- it holds or not
+abbrev pub Settled : Type 0 → Type 0
+Settled P = P ⊎ ¬ P
+
+both : (P Q : Type 0) → Settled P → Settled Q → Settled (P × Q)
+both P Q (inl p) (inl q) = inl (p, q)
+both P Q (inl p) (inr q) = inr (λ x. q x.1)
+both P Q (inr p) q = inr (λ x. p x.0)
+
+at_most : (a b : ℕ) → Settled (a ≤ b)
+at_most a b = elim (cases_lt b a) as (λ _. Settled (a ≤ b)) [ inl more ↦ inr (λ le. omega arith) | inr le ↦ inl le ]
+
+within : (a n b : ℕ) → Settled ((a ≤ n) × (n ≤ b))
+within a n b = both (a ≤ n) (n ≤ b) (at_most a n) (at_most n b)
+
+-- a list is cut at its first m, or has none
+cut-or-lacks : (m : ℕ) (xs : List ℕ) → ((front : List ℕ) × (back : List ℕ) × Cut m xs front back) ⊎ Lacks m xs
+cut-or-lacks m [] = inr (record { nowhere = λ k inside. absurd (omega arith) })
+cut-or-lacks m (x ∷ xs) = elim (cases_eq x m) as (λ _. ((front : List ℕ) × (back : List ℕ) × Cut m (x ∷ xs) front back) ⊎ Lacks m (x ∷ xs)) [
+  | inl same ↦ inl ([], xs, record { whole = ap (λ y. y ∷ xs) same; first = record { nowhere = λ k inside. absurd (omega arith) } })
+  | inr other ↦ elim (cut-or-lacks m xs) as (λ _. ((front : List ℕ) × (back : List ℕ) × Cut m (x ∷ xs) front back) ⊎ Lacks m (x ∷ xs)) [
+    | inl at ↦ inl (x ∷ at.0, at.1, record { whole = ap (λ (t : List ℕ). x ∷ t) at.2.whole; first = Lacks-cons m x at.0 other at.2.first })
+    | inr lacks ↦ inr (Lacks-cons m x xs other lacks)
+  ]
+]
+
+-- a list begins with a word or not
+begins-or-not : (word xs : List ℕ) → ((rest : List ℕ) × (xs ≡ word ++ rest)) ⊎ ((rest : List ℕ) → xs ≢ word ++ rest)
+begins-or-not [] xs = inl (xs, refl)
+begins-or-not (w ∷ word) [] = inr (λ rest same. cc)
+begins-or-not (w ∷ word) (x ∷ xs) = elim (cases_eq x w) as (λ _. ((rest : List ℕ) × (x ∷ xs ≡ w ∷ word ++ rest)) ⊎ ((rest : List ℕ) → x ∷ xs ≢ w ∷ word ++ rest)) [
+  | inr other ↦ inr (λ rest same. other (ap (λ (t : List ℕ). get_or t 0 0) same))
+  | inl first ↦ elim (begins-or-not word xs) as (λ _. ((rest : List ℕ) × (x ∷ xs ≡ w ∷ word ++ rest)) ⊎ ((rest : List ℕ) → x ∷ xs ≢ w ∷ word ++ rest)) [
+    | inl is ↦ inl (is.0, λ i. first i ∷ is.1 i)
+    | inr other ↦ inr (λ rest same. other rest (ap (drop 1) same))
+  ]
+]
+
+-- Numbers and entry lines.
+
+digits-or-not : (text : List ℕ) → Settled (AllDigits 10 text)
+digits-or-not [] = inl tt
+digits-or-not (c ∷ cs) = both (digit_value c < 10) (AllDigits 10 cs) (at_most (suc (digit_value c)) 10) (digits-or-not cs)
+
+plain-or-not : (text : List ℕ) → Settled (get_or text 0 0 ≡ digit_zero → length text ≡ 1)
+plain-or-not text = elim (cases_eq (length text) 1) as (λ _. Settled (get_or text 0 0 ≡ digit_zero → length text ≡ 1)) [
+  | inl one ↦ inl (λ none. one)
+  | inr many ↦ elim (cases_eq (get_or text 0 0) digit_zero) as (λ _. Settled (get_or text 0 0 ≡ digit_zero → length text ≡ 1)) [
+    | inl none ↦ inr (λ plain. many (plain none))
+    | inr other ↦ inl (λ none. absurd (other none))
+  ]
+]
+
+number-or-not : (text : List ℕ) → ((n : ℕ) × IsNumber text n) ⊎ ((n : ℕ) → ¬ (IsNumber text n))
+number-or-not text = elim (both _ _ (both _ _ (at_most 1 (length text)) (digits-or-not text)) (plain-or-not text)) as (λ _. ((n : ℕ) × IsNumber text n) ⊎ ((n : ℕ) → ¬ (IsNumber text n))) [
+  | inl is ↦ inl (digits_value 10 text, record { digits = is.0; plain = is.1; value = refl })
+  | inr other ↦ inr (λ n is. other (is.digits, is.plain))
+]
+
+numbers-or-not : (text : List ℕ) → ((moment : ℕ) × (len : ℕ) × Numbers text moment len) ⊎ ((moment len : ℕ) → ¬ (Numbers text moment len))
+numbers-or-not text = elim (cut-or-lacks space text) [
+  | inr lacks ↦ inr (λ moment len is. Lacks-cut space text is.moment_text is.len_text lacks is.whole)
+  | inl at ↦ elim (number-or-not at.0) [
+    | inr other ↦ inr (λ moment len is. other moment (Numbers-parts text at.0 at.1 moment len at.2 is).0)
+    | inl first ↦ elim (number-or-not at.1) [
+      | inr other ↦ inr (λ moment len is. other len (Numbers-parts text at.0 at.1 moment len at.2 is).1)
+      | inl second ↦ inl (first.0, second.0, Numbers-of text at.0 at.1 first.0 second.0 at.2 first.1 second.1)
+    ]
+  ]
+]
+
+-- a restart is of format 2 alone
+one-has-none : IsOf One Restart → ⊥
+one-has-none of = absurd (other (of refl))
+  where
+    other : One ≢ Two
+    other same = cc
+
+-- the action of a letter
+abbrev ActionOrNot : Format → ℕ → Type 0
+ActionOrNot format b = ((a : Action) × IsOf format a × (b ≡ letter a)) ⊎ ((a : Action) → IsOf format a → b ≢ letter a)
+
+restart-or-not : (format : Format) (b : ℕ) → b ≢ letter Sent → b ≢ letter Received → b ≢ letter Failed → b ≢ letter Mark → b ≡ letter Restart → ActionOrNot format b
+restart-or-not One b sent received failed mark is =
+    inr (λ a. elim a as (λ a. IsOf One a → b ≢ letter a) [
+      | Sent ↦ λ of. sent
+      | Received ↦ λ of. received
+      | Failed ↦ λ of. failed
+      | Mark ↦ λ of. mark
+      | Restart ↦ λ of. absurd (one-has-none of)
+    ])
+restart-or-not Two b sent received failed mark is = inl (Restart, (λ same. refl), is)
+
+action-or-not : (format : Format) (b : ℕ) → ActionOrNot format b
+action-or-not format b = elim (cases_eq b (letter Sent)) [
+  | inl is ↦ inl (Sent, (λ same. cc), is)
+  | inr sent ↦ elim (cases_eq b (letter Received)) [
+    | inl is ↦ inl (Received, (λ same. cc), is)
+    | inr received ↦ elim (cases_eq b (letter Failed)) [
+      | inl is ↦ inl (Failed, (λ same. cc), is)
+      | inr failed ↦ elim (cases_eq b (letter Mark)) [
+        | inl is ↦ inl (Mark, (λ same. cc), is)
+        | inr mark ↦ elim (cases_eq b (letter Restart)) [
+          | inl is ↦ restart-or-not format b sent received failed mark is
+          | inr restart ↦ inr (λ a. elim a as (λ a. IsOf format a → b ≢ letter a) [
+            | Sent ↦ λ of. sent
+            | Received ↦ λ of. received
+            | Failed ↦ λ of. failed
+            | Mark ↦ λ of. mark
+            | Restart ↦ λ of. restart
+          ])
+        ]
+      ]
+    ]
+  ]
+]
+
+abbrev HeadOrNot : Format → List ℕ → Type 0
+HeadOrNot format line = ((h : Head) × HeadLine format line h) ⊎ ((h : Head) → ¬ (HeadLine format line h))
+
+-- a line without a blank after its letter
+no-head : (format : Format) (line : List ℕ) → ((b : ℕ) (text : List ℕ) → line ≢ b ∷ space ∷ text) → (h : Head) → ¬ (HeadLine format line h)
+no-head format line other (message action moment len) is = other (letter action) is.0 is.3
+no-head format line other (plain action moment) is = other (letter action) is.0 is.4
+
+-- a line with the letter of its format
+lettered-or-not : (format : Format) (action : Action) (text : List ℕ) → IsOf format action → HeadOrNot format (letter action ∷ space ∷ text)
+lettered-or-not format action text of = elim (message-or-not action) as (λ _. HeadOrNot format (letter action ∷ space ∷ text)) [
+  | inl has ↦ elim (numbers-or-not text) as (λ _. HeadOrNot format (letter action ∷ space ∷ text)) [
+    | inl is ↦ inl (message action is.0 is.1, (text, has, is.2, refl))
+    | inr none ↦ inr (HeadLine-no_numbers format (letter action ∷ space ∷ text) action has refl none)
+  ]
+  | inr lacks ↦ elim (number-or-not text) as (λ _. HeadOrNot format (letter action ∷ space ∷ text)) [
+    | inl is ↦ inl (plain action is.0, (text, lacks, of, is.1, refl))
+    | inr none ↦ inr (HeadLine-no_number format (letter action ∷ space ∷ text) action lacks refl none)
+  ]
+]
+
+letter-or-not : (format : Format) (b : ℕ) (text : List ℕ) → HeadOrNot format (b ∷ space ∷ text)
+letter-or-not format b text = elim (action-or-not format b) as (λ _. HeadOrNot format (b ∷ space ∷ text)) [
+  | inr none ↦ inr (HeadLine-unlettered format (b ∷ space ∷ text) none)
+  | inl by ↦ subst (λ c. HeadOrNot format (c ∷ space ∷ text)) (sym by.2) (lettered-or-not format by.0 text by.1)
+]
+
+head-or-not : (format : Format) (line : List ℕ) → HeadOrNot format line
+head-or-not format [] = inr (no-head format [] (λ b text same. cc))
+head-or-not format (b ∷ []) = inr (no-head format (b ∷ []) (λ c text same. cc))
+head-or-not format (b ∷ s ∷ text) = elim (cases_eq s space) as (λ _. HeadOrNot format (b ∷ s ∷ text)) [
+  | inr other ↦ inr (no-head format (b ∷ s ∷ text) (λ c t same. other (ap (λ (t : List ℕ). get_or t 1 0) same)))
+  | inl blank ↦ subst (λ s. HeadOrNot format (b ∷ s ∷ text)) (sym blank) (letter-or-not format b text)
+]
+
+front-or-not : (rest : List ℕ) → ((line : List ℕ) × (behind : List ℕ) × FrontLine rest line behind) ⊎ ((line behind : List ℕ) → ¬ (FrontLine rest line behind))
+front-or-not rest = elim (cut-or-lacks line_feed rest) [
+  | inr lacks ↦ inr (λ line behind is. Lacks-cut line_feed rest line behind lacks is.whole)
+  | inl at ↦ elim (at_most (suc (length at.0)) longest_line) [
+    | inl short ↦ inl (at.0, at.1, record { whole = at.2.whole; first = at.2.first.nowhere; short = short })
+    | inr long ↦ inr (λ line behind is.
+        let parts = cut-one line_feed line behind at.0 at.1 (record { nowhere = is.first }) at.2.first (sym is.whole ∙ at.2.whole) in
+        long (subst (λ t. suc (length t) ≤ longest_line) parts.0 is.short))
+  ]
+]
+
+-- What comes next.
+
+-- something comes next
+abbrev Comes : {A : Type 0} → (Next A → Type 0) → Type 0
+Comes {A} P = (next : Next A) × P next
+
+Unless-some : {A : Type 0} (Demand : Type 0) (reason : LogFault) (Follows : Next A → Type 0) → Settled Demand → (Demand → Comes Follows)
+    → Comes (λ next. Unless Demand reason next (Follows next))
+Unless-some Demand reason Follows (inl holds) follows = let f = follows holds in (f.0, inr (holds, f.1))
+Unless-some Demand reason Follows (inr fails) follows = (stops reason, inl (fails, refl))
+
+message-some : (action : Action) (moment len : ℕ) (behind : List ℕ) → Comes (MessageComes action moment len behind)
+message-some action moment len behind = Unless-some (len < length behind) faults.Truncated _ (at_most (suc len) (length behind))
+    (λ inside.
+    let text = take len behind in
+    let b = get_or behind len 0 in
+    let after = drop (len + 1) behind in
+    let close = Unless-some (b ≡ line_feed) faults.EntryLine (λ next. next ≡ gives (record { action = action; moment = moment; text = text }) after)
+    (cases_eq b line_feed) (λ is. (gives (record { action = action; moment = moment; text = text }) after, refl)) in
+    (close.0, (text, b, after, cut-at behind len inside, length-take-le len behind (omega arith), close.1)))
+
+body-some : (head : Head) (behind : List ℕ) → Comes (BodyComes head behind)
+body-some (message action moment len) behind = message-some action moment len behind
+body-some (plain action moment) behind = (gives (record { action = action; moment = moment; text = [] }) behind, refl)
+
+pub limits-or-not : (head : Head) → Settled (KeepsLimits head)
+limits-or-not (message action moment len) = elim (both _ _ (at_most moment last_moment) (within 1 len 65535)) as (λ _. Settled (KeepsLimits (message action moment len))) [
+  | inl is ↦ inl (is.0, is.1.0, is.1.1)
+  | inr other ↦ inr (λ is. other (is.0, (is.1, is.2)))
+]
+limits-or-not (plain action moment) = at_most moment last_moment
+
+line-some : (format : Format) (last : ℕ) (rest : List ℕ) → Comes (LineComes format last rest)
+line-some format last rest = elim (front-or-not rest) [
+  | inr none ↦
+      let next = Unless-some (longest_line ≤ length rest) faults.Truncated (λ next. next ≡ stops faults.EntryLine) (at_most longest_line (length rest)) (λ long. (stops faults.EntryLine, refl)) in
+      (next.0, inl (none, next.1))
+  | inl front ↦ elim (head-or-not format front.0) [
+    | inr none ↦ (stops faults.EntryLine, inr (front.0, front.1, front.2, inl (none, refl)))
+    | inl head ↦
+        let next = Unless-some (KeepsLimits head.0) faults.Limit _ (limits-or-not head.0)
+        (λ limits. Unless-some (last ≤ moment_of head.0) faults.Order _ (at_most last (moment_of head.0)) (λ order. body-some head.0 front.1)) in
+        (next.0, inr (front.0, front.1, front.2, inr (head.0, head.1, next.1)))
+  ]
+]
+
+next-some : (format : Format) (count last : ℕ) (rest : List ℕ) → Comes (EntryComes format count last rest)
+next-some format count last [] = (ends, inl (refl, refl))
+next-some format count last (x ∷ xs) =
+    let next = Unless-some (count < most_entries) faults.Limit _ (at_most (suc count) most_entries) (λ few. line-some format last (x ∷ xs)) in
+    (next.0, inr ((λ same. cc), next.1))
+
+-- an entry leaves fewer bytes
+Unless-gives : {A : Type 0} (Demand : Type 0) (reason : LogFault) (a : A) (behind : List ℕ) (Follows : Type 0) → Unless Demand reason (gives a behind) Follows → Follows
+Unless-gives Demand reason a behind Follows (inl (fails, same)) = cc
+Unless-gives Demand reason a behind Follows (inr (holds, follows)) = follows
+
+body-shorter : (head : Head) (rest : List ℕ) (e : Item) (behind : List ℕ) → BodyComes head rest (gives e behind) → length behind ≤ length rest
+body-shorter (message action moment len) rest e behind is =
+    let (text, b, after, whole, size, close) = Unless-gives _ _ e behind _ is in
+    let closed = Unless-gives _ _ e behind _ close in
+    let same : behind ≡ after = cc in
+    omega (arith, ap length same, ap length whole, length-append text (b ∷ after))
+body-shorter (plain action moment) rest e behind is =
+    let same : behind ≡ rest = cc in
+    omega (arith, ap length same)
+
+line-shorter : (format : Format) (last : ℕ) (rest : List ℕ) (e : Item) (behind : List ℕ) → LineComes format last rest (gives e behind) → length behind < length rest
+line-shorter format last rest e behind (inl (none, next)) = absurd (no-entry (Unless-gives _ _ e behind _ next))
+  where
+    no-entry : gives e behind ≢ stops faults.EntryLine
+    no-entry same = cc
+line-shorter format last rest e behind (inr (line, after, front, inl (other, same))) = cc
+line-shorter format last rest e behind (inr (line, after, front, inr (head, is, next))) =
+    let body = Unless-gives _ _ e behind _ (Unless-gives _ _ e behind _ next) in
+    omega (arith, body-shorter head after e behind body, ap length front.whole, length-append line (line_feed ∷ after))
+
+next-shorter : (format : Format) (count last : ℕ) (rest : List ℕ) (e : Item) (behind : List ℕ) → EntryComes format count last rest (gives e behind) → length behind < length rest
+next-shorter format count last rest e behind (inl (none, same)) = cc
+next-shorter format count last rest e behind (inr (some, next)) = line-shorter format last rest e behind (Unless-gives _ _ e behind _ next)
+
+-- entries and an end
+abbrev Follows : Format → ℕ → ℕ → List ℕ → Type 0
+Follows format count last rest = (es : List Item) × (end : LogEnd) × Follow format count last rest es end
+
+follows-from : (format : Format) (count last : ℕ) (rest : List ℕ) (next : Next Item) → EntryComes format count last rest next
+    → ((e : Item) (behind : List ℕ) → length behind < length rest → Follows format (count + 1) e.moment behind) → Follows format count last rest
+follows-from format count last rest ends next more = ([], Clean, next)
+follows-from format count last rest (stops reason) next more = ([], Stops reason, next)
+follows-from format count last rest (gives e behind) next more =
+    let (es, end, follow) = more e behind (next-shorter format count last rest e behind next) in
+    (e ∷ es, end, (behind, next, follow))
+
+follows-some : (format : Format) (most count last : ℕ) (rest : List ℕ) → length rest < most → Follows format count last rest
+follows-some format zero count last rest short = absurd (omega arith)
+follows-some format (suc most) count last rest short =
+    let next = next-some format count last rest in
+    follows-from format count last rest next.0 next.1 (λ e behind shorter. follows-some format most (count + 1) e.moment behind (omega arith))
+
+-- the rest of an input has entries in a row, and an end
+pub Follow-some : (format : Format) (count last : ℕ) (rest : List ℕ) → (es : List Item) × (end : LogEnd) × Follow format count last rest es end
+Follow-some format count last rest = follows-some format (suc (length rest)) count last rest (omega arith)
+
+-- The header.
+
+abbrev NumberOrNot : List ℕ → List ℕ → Type 0
+NumberOrNot word text = ((n : ℕ) × (behind : List ℕ) × NumberAfter word text n behind) ⊎ ((n : ℕ) (behind : List ℕ) → ¬ (NumberAfter word text n behind))
+
+part-or-not : (word text front back : List ℕ) → text ≡ word ++ (front ++ back) → Lacks space front → Parted back → NumberOrNot word text
+part-or-not word text front back after lacks parted = elim (number-or-not front) [
+  | inl is ↦ inl (is.0, back, NumberAfter-of word text front back after lacks parted is.0 is.1)
+  | inr none ↦ inr (λ n behind is. none n (NumberAfter-part word text front back after lacks parted n behind is))
+]
+
+number_after-or-not : (word text : List ℕ) → NumberOrNot word text
+number_after-or-not word text = elim (begins-or-not word text) [
+  | inr none ↦ inr (λ n behind is. none _ is.whole)
+  | inl is ↦ elim (cut-or-lacks space is.0) [
+    | inl at ↦ part-or-not word text at.0 (space ∷ at.1) (is.1 ∙ ap (λ (t : List ℕ). word ++ t) at.2.whole) at.2.first (inr (at.1, refl))
+    | inr lacks ↦ part-or-not word text is.0 [] (is.1 ∙ ap (λ (t : List ℕ). word ++ t) (sym (append-nil is.0))) lacks (inl refl)
+  ]
+]
+
+abbrev LastOrNot : List ℕ → List ℕ → Type 0
+LastOrNot word text = ((n : ℕ) × NumberAfter word text n []) ⊎ ((n : ℕ) → ¬ (NumberAfter word text n []))
+
+last-or-not : (word text : List ℕ) → LastOrNot word text
+last-or-not word text = elim (number_after-or-not word text) as (λ _. LastOrNot word text) [
+  | inr none ↦ inr (λ n is. none n [] is)
+  | inl is ↦ ends-here is.0 is.1 is.2
+]
+  where
+    ends-here : (n : ℕ) (behind : List ℕ) → NumberAfter word text n behind → LastOrNot word text
+    ends-here n [] is = inl (n, is)
+    ends-here n (x ∷ xs) is = inr (λ n2 is2. nil-cons (NumberAfter-one word text n2 n [] (x ∷ xs) is2 is).1)
+      where
+        nil-cons : [] ≢ x ∷ xs
+        nil-cons same = cc
+
+abbrev TolerancesOrNot : Format → List ℕ → Type 0
+TolerancesOrNot format text = ((early : ℕ) × (late : ℕ) × Tolerances format text early late) ⊎ ((early late : ℕ) → ¬ (Tolerances format text early late))
+
+tolerances-or-not : (format : Format) (text : List ℕ) → TolerancesOrNot format text
+tolerances-or-not One text = elim (last-or-not (codes " tolerance ") text) as (λ _. TolerancesOrNot One text) [
+  | inl is ↦ inl (is.0, is.0, (is.1, refl))
+  | inr none ↦ inr (λ early late is. none late is.0)
+]
+tolerances-or-not Two text = elim (number_after-or-not (codes " early ") text) as (λ _. TolerancesOrNot Two text) [
+  | inr none ↦ inr (λ early late is. none early is.0 is.1)
+  | inl early ↦ elim (last-or-not (codes " late ") early.1) as (λ _. TolerancesOrNot Two text) [
+    | inl late ↦ inl (early.0, late.0, (early.1, early.2, late.1))
+    | inr none ↦ inr (λ e late is.
+        none late (subst (λ t. NumberAfter (codes " late ") t late []) (NumberAfter-one (codes " early ") text e early.0 is.0 early.1 is.1 early.2).1 is.2))
+  ]
+]
+
+abbrev TimesOrNot : Format → List ℕ → Type 0
+TimesOrNot format line = ((p : Times) × TimesLine format line p) ⊎ ((p : Times) → ¬ (TimesLine format line p))
+
+times-or-not : (format : Format) (line : List ℕ) → TimesOrNot format line
+times-or-not format line = elim (number_after-or-not (codes "t1 ") line) as (λ _. TimesOrNot format line) [
+  | inr none ↦ inr (λ p is. none _ _ is.t1_is)
+  | inl t1 ↦ elim (number_after-or-not (codes " t2 ") t1.1) as (λ _. TimesOrNot format line) [
+    | inr none ↦ inr (λ p is. none _ _ (t2-after format line p is t1.0 t1.1 t1.2))
+    | inl t2 ↦ elim (number_after-or-not (codes " t4 ") t2.1) as (λ _. TimesOrNot format line) [
+      | inr none ↦ inr (λ p is. none _ _ (t4-after format line p is t1.0 t1.1 t1.2 t2.0 t2.1 t2.2))
+      | inl t4 ↦ elim (tolerances-or-not format t4.1) as (λ _. TimesOrNot format line) [
+        | inr none ↦ inr (λ p is. none _ _ (tolerances-after format line p is t1.0 t1.1 t1.2 t2.0 t2.1 t2.2 t4.0 t4.1 t4.2))
+        | inl both ↦
+            let times : Times = record { t1 = t1.0; t2 = t2.0; t4 = t4.0; early = both.0; late = both.1; rules = R6026 } in
+            let is : TimesLine format line times = record {
+              rest1 = t1.1;
+              rest2 = t2.1;
+              rest3 = t4.1;
+              t1_is = t1.2;
+              t2_is = t2.2;
+              t4_is = t4.2;
+              tolerances = both.2;
+              rules = refl;
+            } in
+            inl (times, is)
+      ]
+    ]
+  ]
+]
+
+are-times-or-not : (p : Times) → Settled (AreTimes p)
+are-times-or-not p =
+    elim (both _ _ (both _ _ (within 1 p.t1 10000) (within 1 p.t2 60000)) (both _ _ (within 1 p.t4 60000) (both _ _ (at_most p.early 10000) (at_most p.late 10000)))) as (λ _. Settled (AreTimes p)) [
+      | inl is ↦ inl (record {
+        t1_low = is.0.0.0;
+        t1_high = is.0.0.1;
+        t2_low = is.0.1.0;
+        t2_high = is.0.1.1;
+        t4_low = is.1.0.0;
+        t4_high = is.1.0.1;
+        early_high = is.1.1.0;
+        late_high = is.1.1.1;
+      })
+      | inr other ↦ inr (λ is. other (((is.t1_low, is.t1_high), (is.t2_low, is.t2_high)), ((is.t4_low, is.t4_high), (is.early_high, is.late_high))))
+    ]
+
+abbrev SecondOrNot : Format → List ℕ → Type 0
+SecondOrNot format rest = ((p : Times) × (behind : List ℕ) × TimesFront format rest p behind) ⊎ ((p : Times) (behind : List ℕ) → ¬ (TimesFront format rest p behind))
+
+second-or-not : (format : Format) (rest : List ℕ) → SecondOrNot format rest
+second-or-not format rest = elim (cut-or-lacks line_feed rest) as (λ _. SecondOrNot format rest) [
+  | inr lacks ↦ inr (λ p behind is. Lacks-cut line_feed rest is.line behind lacks is.whole)
+  | inl at ↦ elim (times-or-not format at.0) as (λ _. SecondOrNot format rest) [
+    | inr none ↦ inr (λ p behind is. none p (line-is at.0 at.1 at.2 p behind is))
+    | inl times ↦ elim (are-times-or-not times.0) as (λ _. SecondOrNot format rest) [
+      | inl limits ↦ inl (times.0, at.1, record { line = at.0; times = times.1; within = limits; whole = at.2.whole })
+      | inr outside ↦ inr (λ p behind is. outside (subst AreTimes (TimesLine-one format at.0 p times.0 (line-is at.0 at.1 at.2 p behind is) times.1) is.within))
+    ]
+  ]
+]
+  where
+    line-is : (front back : List ℕ) → Cut line_feed rest front back → (p : Times) (behind : List ℕ) → TimesFront format rest p behind → TimesLine format front p
+    line-is front back at p behind is =
+        let parts = cut-one line_feed is.line behind front back (TimesLine-lacks format is.line p is.times) at.first (sym is.whole ∙ at.whole) in
+        subst (λ t. TimesLine format t p) parts.0 is.times
+
+-- some rules stand after line 2, or none, which are those of RFC 6026
+rules-some : (rest : List ℕ) → (rules : Rules) × (behind : List ℕ) × RulesLine rules rest behind
+rules-some rest = elim (begins-or-not (rules_text R3261) rest) as (λ _. (rules : Rules) × (behind : List ℕ) × RulesLine rules rest behind) [
+  | inl is ↦ (R3261, is.0, inl is.1)
+  | inr old ↦ elim (begins-or-not (rules_text R6026) rest) as (λ _. (rules : Rules) × (behind : List ℕ) × RulesLine rules rest behind) [
+    | inl is ↦ (R6026, is.0, inl is.1)
+    | inr new ↦ (R6026, rest, inr (refl, refl, (λ rules. elim rules as (λ rules. (more : List ℕ) → rest ≢ rules_text rules ++ more) [ R3261 ↦ old | R6026 ↦ new ])))
+  ]
+]
+
+second-some : (format : Format) (rest : List ℕ) → Comes (ComesSecond format rest)
+second-some format rest = elim (second-or-not format rest) as (λ _. Comes (ComesSecond format rest)) [
+  | inr none ↦ (stops faults.Header, inr (none, refl))
+  | inl front ↦
+      let line = rules-some front.1 in
+      (gives (format, under line.0 front.0) line.1, inl (front.0, front.1, front.2, (line.0, line.1, line.2, refl)))
+]
+
+-- something comes first
+first-some : (input : List ℕ) → Comes (HeaderComes input)
+first-some input = elim (begins-or-not (title_text One) input) as (λ _. Comes (HeaderComes input)) [
+  | inl is ↦ let next = second-some One is.0 in (next.0, inl (One, is.0, is.1, next.1))
+  | inr one ↦ elim (begins-or-not (title_text Two) input) as (λ _. Comes (HeaderComes input)) [
+    | inl is ↦ let next = second-some Two is.0 in (next.0, inl (Two, is.0, is.1, next.1))
+    | inr two ↦ (stops faults.Header, inr ((λ format. elim format as (λ format. (rest : List ℕ) → input ≢ title_text format ++ rest) [ One ↦ one | Two ↦ two ]), refl))
+  ]
+]
+
+-- where no header is read, there is none
+pub no-header : (input : List ℕ) (fault : LogFault) → HeaderComes input (stops fault) → LacksHeader input
+no-header input fault is format p behind header = absurd (other (ComesFirst-one input _ _ (header-read format input p behind header) is))
+  where
+    other : ◌≢◌ {A = Next (Format × Times)} (gives (format, p) behind) (stops fault)
+    other same = cc
+
+-- something does
+first-not-ends : (input : List ℕ) → ¬ (HeaderComes input ends)
+first-not-ends input (inl (format, rest, title, inl (p, behind, front, (rules, more, line, same)))) = cc
+first-not-ends input (inl (format, rest, title, inr (none, same))) = cc
+first-not-ends input (inr (none, same)) = cc
+
+abbrev pub HeaderOrNot : List ℕ → Type 0
+HeaderOrNot input = ((format : Format) × (p : Times) × (behind : List ℕ) × Header format p input behind) ⊎ LacksHeader input
+
+header-from : (input : List ℕ) (next : Next (Format × Times)) → HeaderComes input next → HeaderOrNot input
+header-from input ends is = absurd (first-not-ends input is)
+header-from input (gives (format, p) behind) is = inl (format, p, behind, header-spelled format input p behind is)
+header-from input (stops fault) is = inr (no-header input fault is)
+
+pub header-or-not : (input : List ℕ) → HeaderOrNot input
+header-or-not input =
+    let first = first-some input in
+    header-from input first.0 first.1

@@ -1,0 +1,271 @@
+-- The spelling of a header and of an entry's line, and the relations by which they are read.
+use Rattle.std.proofs.Common.{◌≡◌, ◌⊎◌, inl, inr, ◌<◌, ℕ, List, [], ◌∷◌, ◌++◌, length, refl, sym, ap, ◌∙◌, arith, append_assoc}
+use Rattle.std.specs.Prelude.{codes, decimal}
+use Rattle.std.proofs.lemmas.List.{append-nil, length-append}
+use Rattle.sip_standard.specs.Times.{Times, AreTimes}
+use Rattle.sip_times.specs.Times.{under}
+use Rattle.sip_standard.specs.declared.rules.Rules.{Rules}
+use Rattle.sip_standard.specs.declared.rules.Rules.TheVariants.{R6026}
+use Rattle.sip_standard.specs.declared.action.Action.{Action}
+use Rattle.sip_standard.specs.declared.action.Action.TheVariants.{Sent, Received, Failed, Mark, Restart}
+use Rattle.sip_standard.specs.declared.format.Format.{Format}
+use Rattle.sip_standard.specs.declared.format.Format.TheVariants.{One, Two}
+use Rattle.sip_standard.specs.LogSays.{line_feed}
+use Rattle.sip_log.specs.inner.Spelling.{space, letter, length_text, line_text}
+use Rattle.sip_standard.specs.LogEntry.{line_says, body_says, HasMessage, IsOf}
+use Rattle.sip_standard.specs.LogHeader.{lines_text, Header}
+use Rattle.sip_log.specs.Next.{gives}
+use Rattle.sip_log.specs.inner.Number.{IsNumber}
+use Rattle.sip_log.specs.inner.Line.{message, plain, HeadLine}
+use Rattle.sip_log.specs.inner.Header.{Parted, NumberAfter, Tolerances, TimesLine, title_text, HeaderComes}
+use Rattle.sip_log.proofs.numbers.NumberLemmas.{IsNumber-short}
+use Rattle.sip_log.proofs.numbers.DecimalLemmas.{decimal-number, number-decimal, decimal-short, powers}
+
+-- The header.
+
+-- a number of at most five digits is its decimal text
+five : (text : List ℕ) (n : ℕ) → n < 100000 → IsNumber text n → text ≡ decimal n
+five text n low is = decimal-number text n (omega (arith, IsNumber-short text n 5 (omega arith) low is)) is
+
+-- and its decimal text is one
+five-decimal : (n : ℕ) → n < 100000 → IsNumber (decimal n) n
+five-decimal n low = number-decimal n (omega (arith, low, powers 5 64 (omega arith)))
+
+module _ (word text : List ℕ) (n : ℕ) (behind : List ℕ) (low : n < 100000) where
+  -- a word, a number and what is after it are spelled
+  after-spelled : NumberAfter word text n behind → text ≡ word ++ (decimal n ++ behind)
+  after-spelled is = is.whole ∙ ap (λ (t : List ℕ). word ++ (t ++ behind)) (five is.number n low is.number_is)
+
+-- and read
+after-read : (word : List ℕ) (n : ℕ) (behind : List ℕ) → n < 100000 → Parted behind → NumberAfter word (word ++ (decimal n ++ behind)) n behind
+after-read word n behind low parted = record { number = decimal n; number_is = five-decimal n low; parted = parted; whole = refl }
+
+-- the end of line 2
+end_text : Format → Times → List ℕ
+end_text One p = codes " tolerance " ++ (decimal p.late ++ [])
+end_text Two p = codes " early " ++ (decimal p.early ++ (codes " late " ++ (decimal p.late ++ [])))
+
+end-spelled : (format : Format) (text : List ℕ) (p : Times) → AreTimes p → Tolerances format text p.early p.late → text ≡ end_text format p
+unfolding end_text
+end-spelled One text p within (late, same) = after-spelled (codes " tolerance ") text p.late [] (omega (arith, within.late_high)) late
+end-spelled Two text p within (rest, early, late) =
+    after-spelled (codes " early ") text p.early rest (omega (arith, within.early_high)) early
+    ∙ ap (λ (t : List ℕ). codes " early " ++ (decimal p.early ++ t)) (after-spelled (codes " late ") rest p.late [] (omega (arith, within.late_high)) late)
+
+end-read : (format : Format) (p : Times) → AreTimes p → (format ≡ One → p.early ≡ p.late) → Tolerances format (end_text format p) p.early p.late
+unfolding end_text
+end-read One p within one = (after-read (codes " tolerance ") p.late [] (omega (arith, within.late_high)) (inl refl), one refl)
+end-read Two p within one = (
+  codes " late " ++ (decimal p.late ++ []),
+  after-read (codes " early ") p.early _ (omega (arith, within.early_high)) (inr (_, refl)),
+  after-read (codes " late ") p.late [] (omega (arith, within.late_high)) (inl refl),
+)
+
+end-parted : (format : Format) (p : Times) → Parted (end_text format p)
+unfolding end_text
+end-parted One p = inr (_, refl)
+end-parted Two p = inr (_, refl)
+
+-- line 2
+second_text : Format → Times → List ℕ
+second_text format p = codes "t1 " ++ (decimal p.t1 ++ (codes " t2 " ++ (decimal p.t2 ++ (codes " t4 " ++ (decimal p.t4 ++ end_text format p)))))
+
+second-spelled : (format : Format) (line : List ℕ) (p : Times) → AreTimes p → TimesLine format line p → line ≡ second_text format p
+unfolding second_text
+second-spelled format line p within is =
+    after-spelled (codes "t1 ") line p.t1 is.rest1 (omega (arith, within.t1_high)) is.t1_is
+    ∙ ap (λ (t : List ℕ). codes "t1 " ++ (decimal p.t1 ++ t)) (after-spelled (codes " t2 ") is.rest1 p.t2 is.rest2 (omega (arith, within.t2_high)) is.t2_is)
+    ∙ ap (λ (t : List ℕ). codes "t1 " ++ (decimal p.t1 ++ (codes " t2 " ++ (decimal p.t2 ++ t)))) (after-spelled (codes " t4 ") is.rest2 p.t4 is.rest3 (omega (arith, within.t4_high)) is.t4_is)
+    ∙ ap (λ (t : List ℕ). codes "t1 " ++ (decimal p.t1 ++ (codes " t2 " ++ (decimal p.t2 ++ (codes " t4 " ++ (decimal p.t4 ++ t)))))) (end-spelled format is.rest3 p within is.tolerances)
+
+second-read : (format : Format) (p : Times) → AreTimes p → (format ≡ One → p.early ≡ p.late) → TimesLine format (second_text format p) (under R6026 p)
+unfolding second_text
+second-read format p within one = record {
+  rest1 = codes " t2 " ++ (decimal p.t2 ++ (codes " t4 " ++ (decimal p.t4 ++ end_text format p)));
+  rest2 = codes " t4 " ++ (decimal p.t4 ++ end_text format p);
+  rest3 = end_text format p;
+  t1_is = after-read (codes "t1 ") p.t1 _ (omega (arith, within.t1_high)) (inr (_, refl));
+  t2_is = after-read (codes " t2 ") p.t2 _ (omega (arith, within.t2_high)) (inr (_, refl));
+  t4_is = after-read (codes " t4 ") p.t4 _ (omega (arith, within.t4_high)) (end-parted format p);
+  tolerances = end-read format p within one;
+  rules = refl;
+}
+
+one-line : (t w1 d1 w2 d2 w4 d4 w d end rest : List ℕ)
+    → t ++ ((w1 ++ (d1 ++ (w2 ++ (d2 ++ (w4 ++ (d4 ++ (w ++ (d ++ [])))))))) ++ (end ++ rest)) ≡ (t ++ (w1 ++ d1 ++ w2 ++ d2 ++ w4 ++ d4) ++ w ++ d ++ end) ++ rest
+one-line t w1 d1 w2 d2 w4 d4 w d end rest = simp (append_assoc, append-nil)
+
+two-line : (t w1 d1 w2 d2 w4 d4 v e w d end rest : List ℕ)
+    → t ++ ((w1 ++ (d1 ++ (w2 ++ (d2 ++ (w4 ++ (d4 ++ (v ++ (e ++ (w ++ (d ++ [])))))))))) ++ (end ++ rest)) ≡ (t ++ (w1 ++ d1 ++ w2 ++ d2 ++ w4 ++ d4) ++ v ++ e ++ w ++ d ++ end) ++ rest
+two-line t w1 d1 w2 d2 w4 d4 v e w d end rest = simp (append_assoc, append-nil)
+
+-- line 1, line 2 with its line feed, and what is after them
+lines-parts : (format : Format) (p : Times) (rest : List ℕ) → title_text format ++ (second_text format p ++ line_feed ∷ rest) ≡ lines_text format p ++ rest
+unfolding second_text end_text
+lines-parts One p rest =
+    one-line (title_text One) (codes "t1 ") (decimal p.t1) (codes " t2 ") (decimal p.t2) (codes " t4 ") (decimal p.t4) (codes " tolerance ") (decimal p.late) (line_feed ∷ []) rest
+lines-parts Two p rest =
+    two-line (title_text Two) (codes "t1 ") (decimal p.t1) (codes " t2 ") (decimal p.t2) (codes " t4 ") (decimal p.t4) (codes " early ") (decimal p.early) (codes " late ") (decimal p.late) (line_feed ∷ []) rest
+
+-- the limits do not speak of the rules
+pub within-under : (rules : Rules) (p : Times) → AreTimes p → AreTimes (under rules p)
+within-under rules p is = record {
+  t1_low = is.t1_low;
+  t1_high = is.t1_high;
+  t2_low = is.t2_low;
+  t2_high = is.t2_high;
+  t4_low = is.t4_low;
+  t4_high = is.t4_high;
+  early_high = is.early_high;
+  late_high = is.late_high;
+}
+
+-- nor do lines 1 and 2
+lines-under : (format : Format) (rules : Rules) (p : Times) → lines_text format (under rules p) ≡ lines_text format p
+lines-under One rules p = refl
+lines-under Two rules p = refl
+
+-- format 1 has one tolerance
+one-tolerance : (format : Format) (text : List ℕ) (early late : ℕ) → Tolerances format text early late → format ≡ One → early ≡ late
+one-tolerance One text early late is same = is.1
+one-tolerance Two text early late is same = cc
+
+-- a header that was read is spelled
+pub header-spelled : (format : Format) (input : List ℕ) (p : Times) (behind : List ℕ) → HeaderComes input (gives (format, p) behind) → Header format p input behind
+header-spelled format input p behind (inr (none, same)) = cc
+header-spelled format input p behind (inl (f, rest, title, inr (none, same))) = cc
+header-spelled format input p behind (inl (f, rest, title, inl (q, rest2, front, (rules, left, line, same)))) =
+    let first : ◌≡◌ {A = Format × Times} (format, p) (f, under rules q) = cc in
+    let second : behind ≡ left = cc in
+    let spelled = second-spelled f front.line q front.within front.times in
+    let is : Header f (under rules q) input left = record {
+      times = within-under rules q front.within;
+      one = one-tolerance f front.times.rest3 q.early q.late front.times.tolerances;
+      rest = rest2;
+      lines = title ∙ ap (λ (t : List ℕ). title_text f ++ t) (front.whole ∙ ap (λ (t : List ℕ). t ++ line_feed ∷ rest2) spelled) ∙ lines-parts f q rest2
+          ∙ ap (λ (t : List ℕ). t ++ rest2) (sym (lines-under f rules q));
+      rules = line;
+    } in
+    coe 1 0 (i. Header ((first i).0) ((first i).1) input (second i)) is
+
+-- and one that is spelled is read
+pub header-read : (format : Format) (input : List ℕ) (p : Times) (behind : List ℕ) → Header format p input behind → HeaderComes input (gives (format, p) behind)
+header-read format input p behind is =
+    inl (
+      format,
+      second_text format p ++ line_feed ∷ is.rest,
+      is.lines ∙ sym (lines-parts format p is.rest),
+      inl (
+        under R6026 p,
+        is.rest,
+        record { line = second_text format p; times = second-read format p is.times is.one; within = within-under R6026 p is.times; whole = refl },
+        (p.rules, behind, is.rules, refl),
+      ),
+    )
+
+-- Entry lines.
+
+-- an entry's line is its bytes
+pub line-same : (action : Action) (moment len : ℕ) → line_text action moment len ≡ line_says action moment len
+line-same Sent moment len = refl
+line-same Received moment len = refl
+line-same Failed moment len = refl
+line-same Mark moment len = append-nil (line_says Mark moment len)
+line-same Restart moment len = append-nil (line_says Restart moment len)
+
+-- an entry has a message or not
+pub message-or-not : (action : Action) → HasMessage action ⊎ ¬ (HasMessage action)
+message-or-not Sent = inl ((λ same. cc), (λ same. cc))
+message-or-not Received = inl ((λ same. cc), (λ same. cc))
+message-or-not Failed = inl ((λ same. cc), (λ same. cc))
+message-or-not Mark = inr (λ has. has.0 refl)
+message-or-not Restart = inr (λ has. has.1 refl)
+
+has-sent : HasMessage Sent
+has-sent = ((λ same. cc), (λ same. cc))
+
+has-received : HasMessage Received
+has-received = ((λ same. cc), (λ same. cc))
+
+has-failed : HasMessage Failed
+has-failed = ((λ same. cc), (λ same. cc))
+
+-- a message has a length
+pub length-message : (action : Action) (len : ℕ) → HasMessage action → length_text action len ≡ space ∷ decimal len
+length-message Sent len has = refl
+length-message Received len has = refl
+length-message Failed len has = refl
+length-message Mark len has = absurd (has.0 refl)
+length-message Restart len has = absurd (has.1 refl)
+
+-- and LF after it
+pub body-message : (action : Action) (text : List ℕ) → HasMessage action → body_says action text ≡ text ++ line_feed ∷ []
+body-message Sent text has = refl
+body-message Received text has = refl
+body-message Failed text has = refl
+body-message Mark text has = absurd (has.0 refl)
+body-message Restart text has = absurd (has.1 refl)
+
+-- where there is none, there is no length
+pub length-plain : (action : Action) (len : ℕ) → ¬ (HasMessage action) → length_text action len ≡ []
+length-plain Sent len none = absurd (none has-sent)
+length-plain Received len none = absurd (none has-received)
+length-plain Failed len none = absurd (none has-failed)
+length-plain Mark len none = refl
+length-plain Restart len none = refl
+
+-- and nothing after the line
+pub body-plain : (action : Action) (text : List ℕ) → ¬ (HasMessage action) → body_says action text ≡ []
+body-plain Sent text none = absurd (none has-sent)
+body-plain Received text none = absurd (none has-received)
+body-plain Failed text none = absurd (none has-failed)
+body-plain Mark text none = refl
+body-plain Restart text none = refl
+
+-- the line of a message is spelled
+pub message-spelled : (format : Format) (line : List ℕ) (action : Action) (moment len : ℕ) → length line < 32 → HeadLine format line (message action moment len) → line ≡ line_says action moment len
+message-spelled format line action moment len short is =
+    let parts = is.2 in
+    let size = simp length-append at (ap length (is.3 ∙ ap (λ (t : List ℕ). letter action ∷ space ∷ t) parts.whole)) in
+    let first = decimal-number parts.moment_text moment (omega (arith, size)) parts.moment_is in
+    let second = decimal-number parts.len_text len (omega (arith, size)) parts.len_is in
+    is.3 ∙ ap (λ (t : List ℕ). letter action ∷ space ∷ t) parts.whole
+    ∙ (λ i. letter action ∷ space ∷ first i ++ space ∷ second i)
+    ∙ ap (λ (t : List ℕ). letter action ∷ space ∷ decimal moment ++ t) (sym (length-message action len is.1))
+    ∙ line-same action moment len
+
+-- and read
+pub message-read : (format : Format) (line : List ℕ) (action : Action) (moment len : ℕ) → length line < 32 → HasMessage action → line ≡ line_says action moment len → HeadLine format line (message action moment len)
+message-read format line action moment len short has is =
+    let whole : line ≡ letter action ∷ space ∷ decimal moment ++ space ∷ decimal len = is ∙ sym (line-same action moment len) ∙ ap (λ (t : List ℕ). letter action ∷ space ∷ decimal moment ++ t) (length-message action len has) in
+    let size = simp length-append at (ap length whole) in (
+      decimal moment ++ space ∷ decimal len,
+      has,
+      record {
+        moment_text = decimal moment;
+        len_text = decimal len;
+        moment_is = number-decimal moment (decimal-short moment (omega (arith, size)));
+        len_is = number-decimal len (decimal-short len (omega (arith, size)));
+        whole = refl;
+      },
+      whole,
+    )
+
+-- the line of an entry without a message has no length, whatever is written of it
+plain-text : (action : Action) (moment len : ℕ) → ¬ (HasMessage action) → line_text action moment len ≡ letter action ∷ space ∷ decimal moment
+plain-text action moment len none = ap (λ (t : List ℕ). letter action ∷ space ∷ decimal moment ++ t) (length-plain action len none) ∙ ap (λ (t : List ℕ). letter action ∷ space ∷ t) (append-nil (decimal moment))
+
+-- it is spelled
+pub plain-spelled : (format : Format) (line : List ℕ) (action : Action) (moment len : ℕ) → length line < 32 → HeadLine format line (plain action moment) → line ≡ line_says action moment len
+plain-spelled format line action moment len short is =
+    let size = ap length is.4 in
+    let text = decimal-number is.0 moment (omega (arith, size)) is.3 in
+    is.4 ∙ ap (λ (t : List ℕ). letter action ∷ space ∷ t) text ∙ sym (plain-text action moment len is.1) ∙ line-same action moment len
+
+-- and read
+pub plain-read : (format : Format) (line : List ℕ) (action : Action) (moment len : ℕ) → length line < 32 → ¬ (HasMessage action) → IsOf format action → line ≡ line_says action moment len
+    → HeadLine format line (plain action moment)
+plain-read format line action moment len short none of is =
+    let whole : line ≡ letter action ∷ space ∷ decimal moment = is ∙ sym (line-same action moment len) ∙ plain-text action moment len none in
+    let size = ap length whole in
+    (decimal moment, none, of, number-decimal moment (decimal-short moment (omega (arith, size))), whole)

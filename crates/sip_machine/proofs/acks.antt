@@ -1,0 +1,3 @@
+pub mod AckLemmas
+pub mod ToLemmas
+pub mod HolderLemmas

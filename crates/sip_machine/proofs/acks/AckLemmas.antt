@@ -1,0 +1,41 @@
+use Rattle.std.specs.Prelude.{◌≡◌, ◌↔◌, ℕ, Bool, false, IsTrue, List}
+use Rattle.std.proofs.Common.{sym, ◌∙◌, true≢false}
+use Rattle.sip_standard.specs.declared.fault.Fault.{Fault}
+use Rattle.sip_standard.specs.Outcome.{stops}
+use Rattle.sip_message.specs.Reading.{Reading}
+use Rattle.sip_message.specs.Reads.{Reads}
+use Rattle.sip_standard.specs.Says.{Says}
+use Rattle.sip_message.specs.SaidOf.{said_of}
+use Rattle.sip_message.proofs.lemmas.says.Reading.{says-reads, says-no_fault}
+use Rattle.sip_key.specs.Solid.{solid}
+use Rattle.sip_key.specs.AckOf.{AckOf, IsAckOf, SameSolid}
+use Rattle.sip_key.proofs.AckOfLemmas.{ack-of_bytes}
+use Rattle.sip_machine.specs.inner.Tos.{IsToOf}
+
+-- What is read where there is a fault, and what is read as an ACK.
+
+-- bytes that have a fault are read as no message
+pub Reads-fault : (bytes : List ℕ) (f : Fault) → Says bytes (stops f) → (r : Reading) → Reads bytes r → ⊥
+Reads-fault bytes f fault r reads = says-no_fault bytes (said_of r) f reads.says fault
+
+-- the response of an ACK is read as one
+AckOf-read : (ack invite response : List ℕ) (a i : Reading) → Reads ack a → Reads invite i → AckOf ack invite response
+    → (r : Reading) × Reads response r × IsAckOf (said_of a) (said_of i) (said_of r)
+AckOf-read ack invite response a i reads_a reads_i of =
+    let read = says-reads response of.2 of.5 in
+    (read.0, read.1, (ack-of_bytes ack invite response a i read.0 reads_a reads_i read.1).0 of)
+
+module _ (ack invite response : List ℕ) (a i : Reading) (is : Bool) (reads_a : Reads ack a) (reads_i : Reads invite i)
+    (tells : (r : Reading) → SameSolid a.parts.to.0 r.parts.to.0 → IsTrue is ↔ IsAckOf (said_of a) (said_of i) (said_of r)) where
+  -- an ACK that is one for the INVITE whatever the response is one for each that has its To
+  pub AckOf-by_to : IsTrue is → (to : List ℕ) → to ≡ solid a.parts.to.0 → IsToOf response to ↔ AckOf ack invite response
+  AckOf-by_to true to to_is = (
+    λ its. (ack-of_bytes ack invite response a i its.message reads_a reads_i its.reads).1 ((tells its.message (sym to_is ∙ its.is)).0 true),
+    λ of. let (r, reads, both) = AckOf-read ack invite response a i reads_a reads_i of in record { message = r; reads = reads; is = to_is ∙ both.to },
+  )
+
+  -- and one that is not is one for none
+  pub AckOf-none : is ≡ false → AckOf ack invite response → ⊥
+  AckOf-none not_so of =
+      let (r, reads, both) = AckOf-read ack invite response a i reads_a reads_i of in
+      true≢false (sym ((tells r both.to).1 both) ∙ not_so)

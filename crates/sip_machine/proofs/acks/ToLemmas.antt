@@ -1,0 +1,222 @@
+-- What stands beside kept messages stays what it is, and tells which of them has a To.
+use Prim.Native.Nat.{suc}
+use Rattle.std.specs.Prelude.{◌≡◌, ◌≢◌, ◌<◌, ◌≤◌, ◌↔◌, ◌-◌, ℕ, Bool, true, false, IfSome, IsTrue, IsSomeAnd, Option, Some, None, bytes_eq, List, [], ◌∷◌, ◌++◌, All, AllPairs, Contains, length, map, slice_get, take, nat_eq}
+use Rattle.std.specs.List.{items_where_true}
+use Rattle.std.specs.HashMap.{get}
+use Rattle.std.specs.Cmp.Lexicographic.{bytes_decides}
+use Rattle.std.proofs.Common.{Result, Ok, Err, OnOk, is_err, true≢false, inl, inr, sym, ◌∙◌, ap, subst, arith, get_or}
+use Rattle.std.proofs.lemmas.Bool.{cases_lt}
+use Rattle.std.proofs.lemmas.Grind.{get_or_picked}
+use Rattle.std.proofs.lemmas.Option.{slice_get-get_or, get_or_from_slice_get}
+use Rattle.std.proofs.lemmas.List.{get_or-map, get_or-take, get_or_default, length-map, length-take-le, take_all}
+use Rattle.std.proofs.lemmas.List.Elements.{All-contains, All-get_or, All-push, All-weaker, Contains-get_or}
+use Rattle.std.proofs.lemmas.List.Kept.{AllPairs-cons}
+use Rattle.sip_message.proofs.lemmas.message.Views.{same_reading}
+use Rattle.sip_key.specs.Solid.{solid}
+use Rattle.sip_machine.specs.Texts.{Texts, IsBook, Keeps, text_of}
+use Rattle.sip_machine.specs.Retained.{only}
+use Rattle.sip_machine.specs.declared.tos.To.{To}
+use Rattle.sip_machine.specs.declared.tos.Owner.TheVariants.{Only}
+use Rattle.sip_machine.specs.declared.tos.Holder.{Holder}
+use Rattle.sip_machine.specs.declared.tos.Holder.TheVariants.{One, Nobody, Unknown}
+use Rattle.sip_machine.specs.inner.Order.{hash_of}
+use Rattle.sip_machine.specs.inner.Tos.{IsToOf, IsTo, AreTos, Owners, IsOwner, MayOwn, AreOwned, IsHolder, HoldsBetween, count_between}
+use Rattle.sip_machine.proofs.texts.BesideLemmas.{among-all, count_between-is, many}
+use Rattle.sip_machine.proofs.texts.TextLaws.{Keeps-grow, text_of-grow}
+use Rattle.sip_machine.proofs.texts.RetainLemmas.{only-Keeps, text_of-only}
+
+-- bytes have one To
+pub IsToOf-same : (bytes to text : List ℕ) → IsToOf bytes text → IsTrue (bytes_eq text to) ↔ IsToOf bytes to
+IsToOf-same bytes to text is = (
+  λ same. subst (IsToOf bytes) ((bytes_decides text to).0 same) is,
+  λ its. (bytes_decides text to).1 (is.is ∙ ap (λ r. solid r.parts.to.0) (same_reading bytes is.message its.message is.reads its.reads) ∙ sym its.is),
+)
+
+pub IsToOf-one : (bytes to text : List ℕ) → IsToOf bytes text → IsToOf bytes to → text ≡ to
+IsToOf-one bytes to text is its = (bytes_decides text to).0 ((IsToOf-same bytes to text is).1 its)
+
+-- Of kept messages.
+
+-- one more
+pub AreTos-push : (texts : Texts) (tos new : List To) (to : To) → IsTo texts to → AreTos texts tos → new ≡ tos ++ to ∷ [] → AreTos texts new
+AreTos-push texts tos new to is all e = record { each = rw e (All-push (IsTo texts) tos to all.each is) }
+
+-- the same bytes under the same number
+moved_to : (texts more : Texts) (to : To) → Keeps more to.number → text_of more to.number ≡ text_of texts to.number → IsTo texts to → IsTo more to
+moved_to texts more to kept same is = record { kept = kept; text = subst (λ bytes. IsToOf bytes to.text) (sym same) is.text }
+
+-- the book has grown
+pub AreTos-grow : (texts : Texts) (entry : ℕ) (bytes : List ℕ) (tos : List To) → AreTos texts tos → AreTos (texts ++ (entry, bytes) ∷ []) tos
+AreTos-grow texts entry bytes tos all = record {
+  each = All-weaker (IsTo texts) (IsTo (texts ++ (entry, bytes) ∷ [])) (λ to is.
+      moved_to texts (texts ++ (entry, bytes) ∷ []) to (Keeps-grow texts entry bytes to.number is.kept) (text_of-grow texts entry bytes to.number is.kept) is) tos all.each;
+}
+
+-- the book has forgotten all but some
+pub AreTos-only : (texts : Texts) (numbers : List ℕ) → IsBook texts → AllPairs (λ a b. a < b) numbers → All (Keeps texts) numbers → (tos new : List To)
+    → AreTos texts tos → All (λ to. Contains tos to × Contains numbers to.number) new → AreTos (only numbers texts) new
+AreTos-only texts numbers book up kept tos new all left = record {
+  each = All-weaker (λ to. Contains tos to × Contains numbers to.number) (IsTo (only numbers texts)) (λ to has.
+      moved_to texts (only numbers texts) to (only-Keeps texts numbers book up kept to.number has.1) (text_of-only texts numbers book up kept to.number has.1)
+      (All-contains (IsTo texts) tos to all.each has.0)) new left;
+}
+
+-- the To of a message
+pub to_of : (texts : Texts) (tos : List To) (number : ℕ) (text : List ℕ) → AreTos texts tos → Contains tos (record { number = number; text = text }) → IsToOf (text_of texts number) text
+to_of texts tos number text all has =
+    let to : To = record { number = number; text = text } in
+    let is : IsTo texts to = All-contains (IsTo texts) tos to all.each has in
+    is.text
+
+-- In their list.
+
+abbrev pub nobody : To
+nobody = record { number = 0; text = [] }
+
+-- the one at a place, whose number is this one
+pub has_to : (tos : List To) (i : ℕ) (to : To) (number : ℕ) → i < length tos → to ≡ get_or tos i to → to.number ≡ number → Contains tos (record { number = number; text = to.text })
+has_to tos i to number low at same =
+    let has : Contains tos to = (i, low, sym at) in
+    subst (λ n. Contains tos (record { number = n; text = to.text })) same has
+
+-- no two have one number
+pub one_number : (tos : List To) (a b : To) → AllPairs (λ a b. a.number < b.number) tos → Contains tos a → Contains tos b → a.number ≡ b.number → a.text ≡ b.text
+one_number tos a b up (i, i_low, at_a) (j, j_low, at_b) same =
+    let first : get_or tos i b ≡ a = get_or_default tos i b a i_low ∙ at_a in
+    elim (cases_lt i j) [
+      | inl below ↦
+          let lt = up i j b below j_low in
+          absurd (omega (arith, lt, ap (λ t. t.number) first, ap (λ t. t.number) at_b, same))
+      | inr from ↦
+          elim (cases_lt j i) [
+            | inl below ↦
+                let lt = up j i b below i_low in
+                absurd (omega (arith, lt, ap (λ t. t.number) first, ap (λ t. t.number) at_b, same))
+            | inr back ↦
+                let here : i ≡ j = omega (arith, from, back) in
+                ap (λ t. t.text) (sym first ∙ ap (λ k. get_or tos k b) here ∙ at_b)
+          ]
+    ]
+
+-- all are below a number where the last one is
+pub all_below : (tos : List To) (number : ℕ) (last : To) → AllPairs (λ a b. a.number < b.number) tos → 0 < length tos → last ≡ get_or tos (length tos - 1) last → last.number < number →
+    All (λ to. to.number < number) tos
+all_below tos number last up some at low = λ k d within.
+    let end : get_or tos (length tos - 1) d ≡ last = get_or_default tos (length tos - 1) d last (omega (arith, some)) ∙ sym at in
+    let number_is = ap (λ t. t.number) end in
+    elim (cases_lt k (length tos - 1)) [
+      | inl before ↦ (let lt = up k (length tos - 1) d before (omega (arith, some)) in omega (arith, lt, number_is, low))
+      | inr there ↦
+          let same : k ≡ length tos - 1 = omega (arith, there, within) in
+          let here : (get_or tos k d).number ≡ last.number = ap (λ i. (get_or tos i d).number) same ∙ number_is in
+          omega (arith, here, low)
+    ]
+
+pub below_last : (tos : List To) (number : ℕ) (last : Option To) → AllPairs (λ a b. a.number < b.number) tos → last ≡ slice_get tos (length tos - 1) →
+    IfSome last (λ to. to.number < number) → All (λ to. to.number < number) tos
+below_last [] number last up is low = λ k d within. absurd (omega arith)
+below_last (t ∷ ts) number None up is low = absurd (let e = is ∙ slice_get-get_or (t ∷ ts) (length (t ∷ ts) - 1) t (omega arith) in cc)
+below_last (t ∷ ts) number (Some last) up is low =
+    all_below (t ∷ ts) number last up (omega arith) (sym (get_or_from_slice_get (t ∷ ts) (length (t ∷ ts) - 1) last last (sym is))) low
+
+-- some of them in their order
+pub All-picked : {X : Type 0} (P : X → Type 0) (bs : List Bool) (xs : List X) → All P xs → All P (items_where_true bs xs)
+All-picked P bs xs all = λ k d low.
+    let (j, j_low, at) = (get_or_picked bs xs k d low).1 in
+    subst P (sym at) (all j d j_low)
+
+pub AllPairs-picked : {X : Type 0} (R : X → X → Type 0) (bs : List Bool) (xs : List X) → AllPairs R xs → AllPairs R (items_where_true bs xs)
+AllPairs-picked R [] xs up = λ i j d lt low. absurd (omega arith)
+AllPairs-picked R (b ∷ bs) [] up = λ i j d lt low. absurd (omega arith)
+AllPairs-picked R (true ∷ bs) (x ∷ xs) up =
+    let rest = AllPairs-picked R bs xs (λ i j d lt low. up (suc i) (suc j) d (omega (arith, lt)) (omega (arith, low))) in
+    let first : All (R x) xs = λ k d low. up 0 (suc k) d (omega arith) (omega (arith, low)) in
+    AllPairs-cons R x (items_where_true bs xs) (All-picked (R x) bs xs first) rest
+AllPairs-picked R (false ∷ bs) (x ∷ xs) up = AllPairs-picked R bs xs (λ i j d lt low. up (suc i) (suc j) d (omega (arith, lt)) (omega (arith, low)))
+
+pub left_over : (bs : List Bool) (tos left : List To) (numbers : List ℕ) → left ≡ items_where_true bs tos → All (λ to. Contains numbers to.number) left →
+    All (λ to. Contains tos to × Contains numbers to.number) left
+left_over bs tos left numbers is among = λ k d low.
+    let (j, j_low, at) = (get_or_picked bs tos k d (rw is at low)).1 in
+    let same : get_or left k d ≡ get_or tos j d = ap (λ xs. get_or xs k d) is ∙ at in
+    (subst (Contains tos) (sym same) (Contains-get_or tos j d j_low), among k d low)
+
+pub AllPairs-take : {X : Type 0} (R : X → X → Type 0) (n : ℕ) (xs : List X) → AllPairs R xs → AllPairs R (take n xs)
+AllPairs-take R n xs up = λ i j d lt low. elim (cases_lt (length xs) n) [
+  | inl over ↦ rw (take_all n xs (omega (arith, over))) (up i j d lt (rw (take_all n xs (omega (arith, over))) at low))
+  | inr within ↦
+      let size = length-take-le n xs within in
+      let below : j < n = omega (arith, size, low) in
+      rw (get_or-take n xs i d (omega (arith, lt, below)), get_or-take n xs j d below) (up i j d lt (omega (arith, below, within)))
+]
+
+-- Whose they are.
+
+pub on_ok : {T E : Type 0} (r : Result T E) (P : Type 0) → is_err r ≡ false → OnOk r P → P
+on_ok (Ok x) P is_not ok = ok
+on_ok (Err e) P is_not ok = absurd (true≢false is_not)
+
+-- whose a To is that is one of the list
+pub owned_by : (owners : Owners) (tos : List To) (text : List ℕ) (n : ℕ) → AreOwned owners tos → get nat_eq owners (hash_of text) ≡ Some (Only n) → All (λ to. to.text ≡ text → to.number ≡ n) tos
+owned_by owners tos text n owned is =
+    All-weaker (λ to. MayOwn owners (hash_of to.text) to.number) (λ to. to.text ≡ text → to.number ≡ n)
+    (λ to may same. subst (λ o. IsSomeAnd o (IsOwner to.number)) (ap (λ t. get nat_eq owners (hash_of t)) same ∙ is) may) tos owned
+
+pub owned_none : (owners : Owners) (tos : List To) (text : List ℕ) → AreOwned owners tos → get nat_eq owners (hash_of text) ≡ None → All (λ to. to.text ≢ text) tos
+owned_none owners tos text owned is =
+    All-weaker (λ to. MayOwn owners (hash_of to.text) to.number) (λ to. to.text ≢ text)
+    (λ to may same. subst (λ o. IsSomeAnd o (IsOwner to.number)) (ap (λ t. get nat_eq owners (hash_of t)) same ∙ is) may) tos owned
+
+-- where the one whose it can be has another one
+pub held_by_none : (tos : List To) (text its : List ℕ) (n : ℕ) → AllPairs (λ a b. a.number < b.number) tos → All (λ to. to.text ≡ text → to.number ≡ n) tos →
+    Contains tos (record { number = n; text = its }) → its ≢ text → All (λ to. to.text ≢ text) tos
+held_by_none tos text its n up only has other = λ k d low same.
+    let to = get_or tos k d in
+    let number : to.number ≡ n = only k d low same in
+    other (sym (one_number tos to (record { number = n; text = its }) up (Contains-get_or tos k d low) has number) ∙ same)
+
+-- Which kept message has a To.
+
+pub AllPairs-map : {X : Type 0} (f : X → ℕ) (xs : List X) → AllPairs (λ a b. f a < f b) xs → AllPairs (λ a b. a < b) (map f xs)
+AllPairs-map f [] up = λ i j d lt low. absurd (omega arith)
+AllPairs-map f (x ∷ xs) up = λ i j d lt low.
+    let high : j < length (x ∷ xs) = rw length-map at low in
+    rw (get_or-map f (x ∷ xs) i x d (omega (arith, lt, high)), get_or-map f (x ∷ xs) j x d high) (up i j x lt high)
+
+-- a message that has its To in the list is kept
+numbers_kept : (texts : Texts) (tos : List To) → AreTos texts tos → (n : ℕ) → Contains (map (λ to. to.number) tos) n → Keeps texts n
+numbers_kept texts tos are n (i, within, at) =
+    let low : i < length tos = rw length-map at within in
+    let its = All-get_or (IsTo texts) tos i nobody low are.each in
+    subst (Keeps texts) (sym (get_or-map (λ to. to.number) tos i nobody n low) ∙ at) its.kept
+
+module _ (texts : Texts) (tos : List To) (text : List ℕ) (low high : ℕ) (book : IsBook texts) (are : AreTos texts tos) (up : AllPairs (λ a b. a.number < b.number) tos)
+    (as_many : count_between low high (map (λ k. k.0) texts) ≡ count_between low high (map (λ to. to.number) tos)) where
+  -- each message between the two has its To in the list
+  beside : (number : ℕ) → Keeps texts number → low ≤ number → number ≤ high → (i : ℕ) × (i < length tos) × ((get_or tos i nobody).number ≡ number)
+  beside number kept from to =
+      let le : low ≤ high = omega (arith, from, to) in
+      let as_few : many low high (map (λ k. k.0) texts) ≤ many low high (map (λ to. to.number) tos) =
+      omega (arith, as_many, count_between-is low high (map (λ k. k.0) texts) le, count_between-is low high (map (λ to. to.number) tos) le) in
+      let (i, within, at) = among-all low high (map (λ k. k.0) texts) (map (λ to. to.number) tos) (AllPairs-map (λ k. k.0) texts book.rising) (AllPairs-map (λ to. to.number) tos up)
+      (numbers_kept texts tos are) as_few number kept from to in
+      (i, rw length-map at within, sym (get_or-map (λ to. to.number) tos i nobody number (rw length-map at within)) ∙ at)
+
+  -- so one with this To is one of those in the list that have it
+  owner : (number : ℕ) → Keeps texts number → low ≤ number → number ≤ high → IsToOf (text_of texts number) text →
+      (i : ℕ) × (i < length tos) × ((get_or tos i nobody).number ≡ number) × ((get_or tos i nobody).text ≡ text)
+  owner number kept from to is =
+      let (i, within, at) = beside number kept from to in
+      let its = All-get_or (IsTo texts) tos i nobody within are.each in
+      let same = IsToOf-one (text_of texts number) text (get_or tos i nobody).text (subst (λ n. IsToOf (text_of texts n) (get_or tos i nobody).text) at its.text) is in
+      (i, within, at, same)
+
+  pub holds_between : (holder : Holder) → IsHolder tos text holder → HoldsBetween texts text low high holder
+  holds_between (One n) is = λ number kept from to. (
+    λ its. (let (i, within, at, same) = owner number kept from to its in sym at ∙ All-get_or (λ to. to.text ≡ text → to.number ≡ n) tos i nobody within is.0 same),
+    λ e. subst (λ n. IsToOf (text_of texts n) text) (sym e) (to_of texts tos n text are is.1),
+  )
+  holds_between Nobody none = λ number kept from to its.
+      let (i, within, at, same) = owner number kept from to its in
+      All-get_or (λ to. to.text ≢ text) tos i nobody within none same
+  holds_between Unknown is = tt

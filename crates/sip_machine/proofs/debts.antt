@@ -1,0 +1,3 @@
+pub mod DueLemmas
+pub mod DuesEachLemmas
+pub mod RunsLemmas

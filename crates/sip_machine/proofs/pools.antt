@@ -1,0 +1,5 @@
+pub mod PoolLemmas
+pub mod PoolEachLemmas
+pub mod CoversLemmas
+pub mod FirstLemmas
+pub mod SlotsLemmas

@@ -1,0 +1,201 @@
+-- States that cover a set, some perhaps more than once.
+use Prim.Native.Nat.{suc, zero}
+use Rattle.std.specs.Prelude.{◌≡◌, ◌≤◌, ◌<◌, ◌+◌, ◌-◌, ◌↔◌, ◌⊎◌, ℕ, Bool, true, false, Option, Some, None, List, [], ◌∷◌, ◌++◌, All, drop, filter, get_or, length, map, option_to_list, take}
+use Rattle.std.proofs.Common.{Result, Ok, Err, OnOk, OnErr, inl, inr, refl, sym, ◌∙◌, ap, subst, cond, arith, append-nil, append_assoc, length-append}
+use Rattle.std.proofs.Math.Seq.{take-append_seam}
+use Rattle.std.proofs.lemmas.List.{get_or-drop, get_or-take, get_or_append_left, length-drop, length-take-le, map-append, take-append-le, take_all}
+use Rattle.std.proofs.lemmas.List.Elements.{All-append, All-drop, All-get_or, All-head, All-nil, All-tail, All-take, Contains-append_cases, Contains-append_left, Contains-append_right}
+use Rattle.sip_ledger.specs.Ledgers.{from_to}
+use Rattle.sip_machine.specs.Texts.{Texts}
+use Rattle.sip_machine.specs.Rules.{Covers, FromSome, Knows, StandFor}
+use Rattle.sip_machine.specs.inner.Single.{AnswersOne}
+use Rattle.sip_machine.proofs.texts.TextLaws.{Contains-nil}
+use Rattle.sip_machine.proofs.steps.SingleLemmas.{StandFor-one}
+
+-- Of what leads from some states.
+
+module _ {X S : Type 0} where
+  -- from two lists, what leads from either
+  pub FromSome-append : (P : S → X → Type 0) (xs ys : List S) (y : X) → (FromSome P xs y ⊎ FromSome P ys y) ↔ FromSome P (xs ++ ys) y
+  FromSome-append P [] ys y = (λ h. elim h [ inl none ↦ absurd none | inr later ↦ later ], inr)
+  FromSome-append P (x ∷ xs) ys y =
+      let more = FromSome-append P xs ys y in (
+        λ h. elim h [
+          | inl first ↦ elim first [ inl here ↦ inl here | inr rest ↦ inr (more.0 (inl rest)) ]
+          | inr later ↦ inr (more.0 (inr later))
+        ],
+        λ h. elim h [
+          | inl here ↦ inl (inl here)
+          | inr rest ↦ elim (more.1 rest) [ inl first ↦ inl (inr first) | inr later ↦ inr later ]
+        ],
+      )
+
+  -- what leads in one way or in another
+  pub FromSome-either : (P Q : S → X → Type 0) (xs : List S) (y : X) → (FromSome P xs y ⊎ FromSome Q xs y) ↔ FromSome (λ x y. P x y ⊎ Q x y) xs y
+  FromSome-either P Q [] y = (λ h. elim h [ inl none ↦ none | inr none ↦ none ], λ none. inl none)
+  FromSome-either P Q (x ∷ xs) y =
+      let more = FromSome-either P Q xs y in (
+        λ h. elim h [
+          | inl p ↦ elim p [ inl here ↦ inl (inl here) | inr rest ↦ inr (more.0 (inl rest)) ]
+          | inr q ↦ elim q [ inl here ↦ inl (inr here) | inr rest ↦ inr (more.0 (inr rest)) ]
+        ],
+        λ h. elim h [
+          | inl here ↦ elim here [ inl p ↦ inl (inl p) | inr q ↦ inr (inl q) ]
+          | inr rest ↦ elim (more.1 rest) [ inl p ↦ inl (inr p) | inr q ↦ inr (inr q) ]
+        ],
+      )
+
+  -- and what leads where the other does
+  pub FromSome-same : (P Q : S → X → Type 0) → ((x : S) (y : X) → P x y ↔ Q x y) → (xs : List S) (y : X) → FromSome P xs y ↔ FromSome Q xs y
+  FromSome-same P Q same [] y = (λ none. none, λ none. none)
+  FromSome-same P Q same (x ∷ xs) y =
+      let here = same x y in
+      let more = FromSome-same P Q same xs y in (
+        λ h. elim h [ inl p ↦ inl (here.0 p) | inr rest ↦ inr (more.0 rest) ],
+        λ h. elim h [ inl q ↦ inl (here.1 q) | inr rest ↦ inr (more.1 rest) ],
+      )
+
+  -- nothing leads from states from which nothing does
+  pub FromSome-none : (P : S → X → Type 0) (xs : List S) (y : X) → All (λ x. ¬ (P x y)) xs → FromSome P xs y → ⊥
+  FromSome-none P [] y none h = h
+  FromSome-none P (x ∷ xs) y none h =
+      elim h [
+        | inl here ↦ All-head (λ x. ¬ (P x y)) x xs none here
+        | inr rest ↦ FromSome-none P xs y (All-tail (λ x. ¬ (P x y)) x xs none) rest
+      ]
+
+module _ {X S : Type 0} (names : S → List ℕ) (InRange : S → Type 0) (seen : Texts → S → X) (texts : Texts) where
+  abbrev pub Cover : (X → Type 0) → List S → Type 0
+  Cover P xs = Covers names InRange seen texts P xs
+
+  -- no states cover what holds of none
+  pub Covers-none : (P : X → Type 0) → ((y : X) → ¬ (P y)) → Cover P []
+  Covers-none P none = record {
+    members = λ y. (λ has. absurd (Contains-nil y has), λ p. absurd (none y p));
+    known = All-nil (Knows names texts);
+    in_range = All-nil InRange;
+  }
+
+  -- a set told otherwise
+  pub Covers-same : (P Q : X → Type 0) → ((y : X) → P y ↔ Q y) → (xs : List S) → Cover P xs → Cover Q xs
+  Covers-same P Q same xs c = record {
+    members = λ y. (λ has. (same y).0 ((c.members y).0 has), λ q. (c.members y).1 ((same y).1 q));
+    known = c.known;
+    in_range = c.in_range;
+  }
+
+  -- two lists cover what either covers
+  pub Covers-both : (P Q : X → Type 0) (xs ys : List S) → Cover P xs → Cover Q ys → Cover (λ y. P y ⊎ Q y) (xs ++ ys)
+  Covers-both P Q xs ys c d = record {
+    members = λ y. rw (map-append (seen texts) xs ys) (
+      λ has. elim (Contains-append_cases (map (seen texts) xs) (map (seen texts) ys) y has) [ inl first ↦ inl ((c.members y).0 first) | inr later ↦ inr ((d.members y).0 later) ],
+      λ h. elim h [
+        | inl p ↦ Contains-append_left (map (seen texts) xs) (map (seen texts) ys) y ((c.members y).1 p)
+        | inr q ↦ Contains-append_right (map (seen texts) xs) (map (seen texts) ys) y ((d.members y).1 q)
+      ],
+    );
+    known = All-append (Knows names texts) xs ys c.known d.known;
+    in_range = All-append InRange xs ys c.in_range d.in_range;
+  }
+
+  -- states that stand for a set cover it
+  pub Covers-stood : (P : X → Type 0) (xs : List S) → StandFor names InRange seen texts P xs → Cover P xs
+  Covers-stood P xs stands = record { members = stands.members; known = stands.known; in_range = stands.in_range }
+
+  -- an answer covers what it answers
+  pub Covers-one : (P : X → Type 0) (a : Option S) → AnswersOne names InRange seen texts P a → Cover P (option_to_list a)
+  Covers-one P None none = Covers-none P none
+  Covers-one P (Some s) one = Covers-stood P (s ∷ []) (StandFor-one names InRange seen texts P s one)
+
+  -- the answers of the states that pass a test
+  answers-front : (b : Bool) (s : S) (ys : List S) → cond b (s ∷ ys) ys ≡ option_to_list (cond b (Some s) None) ++ ys
+  answers-front true s ys = refl
+  answers-front false s ys = refl
+
+  map-passing : (b : Bool) (g : S → S) (x : S) (xs : List S) → map g (cond b (x ∷ xs) xs) ≡ cond b (g x ∷ map g xs) (map g xs)
+  map-passing true g x xs = refl
+  map-passing false g x xs = refl
+
+  pub answers-cover : (P : S → X → Type 0) (test : S → Bool) (g : S → S) (xs : List S) →
+      All (λ x. AnswersOne names InRange seen texts (P x) (cond (test x) (Some (g x)) None)) xs → Cover (FromSome P xs) (map g (filter test xs))
+  answers-cover P test g [] all = Covers-none (FromSome P []) (λ y none. none)
+  answers-cover P test g (x ∷ xs) all =
+      let here = All-head (λ x. AnswersOne names InRange seen texts (P x) (cond (test x) (Some (g x)) None)) x xs all in
+      let more = answers-cover P test g xs (All-tail (λ x. AnswersOne names InRange seen texts (P x) (cond (test x) (Some (g x)) None)) x xs all) in
+      subst (Cover (FromSome P (x ∷ xs))) (sym (map-passing (test x) g x (filter test xs) ∙ answers-front (test x) (g x) (map g (filter test xs))))
+      (Covers-both (P x) (FromSome P xs) (option_to_list (cond (test x) (Some (g x)) None)) (map g (filter test xs)) (Covers-one (P x) (cond (test x) (Some (g x)) None) here) more)
+
+-- The states of a pool, after which others were found.
+
+-- what leads from some of them was found after all
+abbrev pub HasFound : {X S : Type 0} → (S → List ℕ) → (S → Type 0) → (Texts → S → X) → Texts → (S → X → Type 0) → List S → List S → List S → Type 0
+HasFound {X} {S} names InRange seen texts P some old new = (added : List S) × (new ≡ old ++ added) × Covers names InRange seen texts (FromSome P some) added
+
+module _ {X S : Type 0} (names : S → List ℕ) (InRange : S → Type 0) (seen : Texts → S → X) (texts : Texts) (P : S → X → Type 0) where
+  -- no states lead anywhere
+  pub found-none : (old : List S) → HasFound names InRange seen texts P [] old old
+  found-none old = ([], sym (append-nil old), Covers-none names InRange seen texts (FromSome P []) (λ y none. none))
+
+  -- what leads from more of them comes to what was found
+  pub found-more : (some more all old mid new added : List S) → all ≡ some ++ more → HasFound names InRange seen texts P some old mid → new ≡ mid ++ added →
+      Covers names InRange seen texts (FromSome P more) added → HasFound names InRange seen texts P all old new
+  found-more some more all old mid new added is (found, mid_is, covers) new_is covers_more = (
+    found ++ added,
+    new_is ∙ ap (λ xs. xs ++ added) mid_is ∙ append_assoc old found added,
+    subst (λ xs. Covers names InRange seen texts (FromSome P xs) (found ++ added)) (sym is)
+        (Covers-same names InRange seen texts (λ y. FromSome P some y ⊎ FromSome P more y) (FromSome P (some ++ more)) (FromSome-append P some more) (found ++ added)
+        (Covers-both names InRange seen texts (FromSome P some) (FromSome P more) found added covers covers_more)),
+  )
+
+  -- what leads from one state alone
+  pub Covers-alone : (x : S) (xs : List S) → Covers names InRange seen texts (P x) xs → Covers names InRange seen texts (FromSome P (x ∷ [])) xs
+  Covers-alone x xs c =
+      Covers-same names InRange seen texts (P x) (FromSome P (x ∷ [])) (λ y. (λ here. inl here, λ h. elim h [ inl here ↦ here | inr none ↦ absurd none ])) xs c
+
+module _ {S : Type 0} where
+  take-shorter : (n m : ℕ) (xs : List S) → n ≤ m → take n (take m xs) ≡ take n xs
+  take-shorter zero m xs le = refl
+  take-shorter (suc n) zero xs le = absurd (omega (arith, le))
+  take-shorter (suc n) (suc m) [] le = refl
+  take-shorter (suc n) (suc m) (x ∷ xs) le = ap (λ ys. x ∷ ys) (take-shorter n m xs (omega (arith, le)))
+
+  -- some of the first states
+  pub slice-all : (P : S → Type 0) (from to count : ℕ) (xs : List S) → to ≤ count → All P (take count xs) → All P (from_to from to xs)
+  slice-all P from to count xs le all = All-drop P from (take to xs) (subst (All P) (take-shorter to count xs le) (All-take P to (take count xs) all))
+
+  -- they stand where they did when others are put after
+  pub slice-old : (from to : ℕ) (old found new : List S) → new ≡ old ++ found → to ≤ length old → from_to from to new ≡ from_to from to old
+  slice-old from to old found new is le = ap (from_to from to) is ∙ ap (drop from) (take-append-le to old found le)
+
+  -- one of them
+  pub slice-get : (from to k : ℕ) (xs : List S) (d : S) → from ≤ k → k < to → get_or (from_to from to xs) (k - from) d ≡ get_or xs k d
+  slice-get from to k xs d le low =
+      let here : from + (k - from) ≡ k = omega (arith, le) in
+      get_or-drop from (take to xs) (k - from) d ∙ ap (λ n. get_or (take to xs) n d) here ∙ get_or-take to xs k d low
+
+  -- the first ones, with those after them up to another place
+  pub take-slice : (at to : ℕ) (xs : List S) → at ≤ to → take to xs ≡ take at xs ++ from_to at to xs
+  take-slice zero to xs le = refl
+  take-slice (suc at) zero xs le = absurd (omega (arith, le))
+  take-slice (suc at) (suc to) [] le = refl
+  take-slice (suc at) (suc to) (x ∷ xs) le = ap (λ ys. x ∷ ys) (take-slice at to xs (omega (arith, le)))
+
+  -- after the states and more that stand as before, the states do too
+  pub before-more : (old mid new added : List S) → mid ≡ old ++ added → take (length mid) new ≡ mid → take (length old) new ≡ old
+  before-more old mid new added is stands =
+      let size : length mid ≡ length old + length added = ap length is ∙ length-append old added in
+      sym (take-shorter (length old) (length mid) new (omega (arith, size))) ∙ ap (take (length old)) (stands ∙ is) ∙ take-append_seam old added
+
+  -- what holds of some of the states holds of one of them, where it stands when others are put after
+  pub slice-at : (P : S → Type 0) (from to k : ℕ) (old found new : List S) (d : S) → new ≡ old ++ found → from ≤ k → k < to → to ≤ length old →
+      All P (from_to from to old) → P (get_or new k d)
+  slice-at P from to k old found new d is after low le all =
+      let here : get_or new k d ≡ get_or (from_to from to old) (k - from) d
+      = ap (λ ys. get_or ys k d) is ∙ get_or_append_left old found d k (omega (arith, low, le)) ∙ sym (slice-get from to k old d after low) in
+      let size : length (from_to from to old) ≡ to - from = length-drop from (take to old) ∙ ap (λ n. n - from) (length-take-le to old le) in
+      subst P (sym here) (All-get_or P (from_to from to old) (k - from) d (omega (arith, size, after, low)) all)
+
+  -- what is put after the states, or is not, leaves them as they were
+  pub before-either : {T E : Type 0} (r : Result T E) (old added new : List S) → OnOk r (new ≡ old ++ added) → OnErr r (new ≡ old) → take (length old) new ≡ old
+  before-either (Ok t) old added new ok err = ap (take (length old)) ok ∙ take-append_seam old added
+  before-either (Err e) old added new ok err = ap (take (length old)) err ∙ take_all (length old) old (omega arith)

@@ -1,0 +1,204 @@
+use Prim.Native.Nat.{suc, zero}
+use Rattle.std.specs.Prelude.{◌≡◌, ◌≢◌, ◌<◌, ◌≤◌, ◌+◌, ◌-◌, ℕ, List, [], ◌∷◌, ◌++◌, All, AllPairs, bit_xor, drop, get_or, length, map, take}
+use Rattle.std.specs.List.{Any}
+use Rattle.std.proofs.Common.{inl, inr, refl, sym, ◌∙◌, ap, ap₂, subst, arith}
+use Rattle.std.proofs.lemmas.Bool.{cases_lt}
+use Rattle.std.proofs.lemmas.List.{get_or_append_left, get_or_default, get_or-drop, get_or-map, get_or-take, length-drop, length-map, length-take-le, map-append, same_lists, take_all, take_more}
+use Rattle.std.proofs.lemmas.List.Elements.{All-nil, All-push, All-weaker}
+use Rattle.std.proofs.lemmas.List.Quantifiers.{Any-push, all_pairs_push}
+use Rattle.sip_ledger.specs.declared.debt.Debt.{Debt}
+use Rattle.sip_machine.specs.Owes.{owed_in}
+use Rattle.sip_machine.specs.Owing.{CodeOwing}
+use Rattle.sip_machine.specs.Pools.{AreFirstOnes, picked}
+use Rattle.sip_machine.specs.Prints.{ArePrints}
+use Rattle.sip_machine.specs.inner.Pools.{AreMixedWith, IsRun, beside, hash_by}
+use Rattle.sip_machine.proofs.pools.PoolLemmas.{beside-length, state-at}
+
+-- The first of each kind among the elements of a list.
+
+module _ {X : Type 0} (xs : List X) where
+  -- one of the rows has what row k has
+  abbrev pub IsAmong : List ℕ → ℕ → Type 0
+  IsAmong rows k = (x : X) → Any (λ row. get_or xs row x ≡ get_or xs k x) rows
+
+  -- none has
+  abbrev pub IsNew : List ℕ → ℕ → Type 0
+  IsNew rows k = (x : X) → All (λ row. get_or xs row x ≢ get_or xs k x) rows
+
+  pub Any-here : (rows : List ℕ) (i d k : ℕ) (x : X) → i < length rows → get_or xs (get_or rows i d) x ≡ get_or xs k x → Any (λ row. get_or xs row x ≡ get_or xs k x) rows
+  Any-here rows i d k x low same = (i, get_or rows i d, low, get_or_default rows i (get_or rows i d) d low, same)
+
+  Any-more : (P : ℕ → Type 0) (rows : List ℕ) (row : ℕ) → Any P rows → Any P (rows ++ row ∷ [])
+  Any-more P rows row (i, r, low, is, holds) = (i, r, low-more rows row i low, get_or_append_left rows (row ∷ []) r i low ∙ is, holds)
+    where
+      low-more : (rows : List ℕ) (row i : ℕ) → i < length rows → i < length (rows ++ row ∷ [])
+      low-more [] row i low = absurd (omega (arith, low))
+      low-more (r ∷ rows) row zero low = omega arith
+      low-more (r ∷ rows) row (suc i) low = let more = low-more rows row i (omega (arith, low)) in omega (arith, more)
+
+  -- none so far
+  pub first-start : (from : ℕ) → AreFirstOnes xs from from []
+  first-start from = record {
+    within = All-nil (λ row. (from ≤ row) × (row < from));
+    rising = λ i j d low high. absurd (omega (arith, high));
+    each = λ k x low high. absurd (omega (arith, low, high));
+    apart = λ x i j d low high. absurd (omega (arith, high));
+  }
+
+  -- one more, which no other is
+  pub first-more : (from at : ℕ) (rows : List ℕ) → from ≤ at → AreFirstOnes xs from at rows → IsNew rows at → AreFirstOnes xs from (at + 1) (rows ++ at ∷ [])
+  first-more from at rows low first new = record {
+    within = All-push (λ row. (from ≤ row) × (row < at + 1)) rows at
+        (All-weaker (λ row. (from ≤ row) × (row < at)) (λ row. (from ≤ row) × (row < at + 1)) (λ row is. let b = is.1 in (is.0, omega (arith, b))) rows first.within)
+        (low, omega arith);
+    rising = all_pairs_push (λ a b. a < b) rows at first.rising (λ k d low. (first.within k d low).1);
+    each = λ k x low_k high_k. elim (cases_lt k at) [
+      | inl before ↦ Any-more (λ row. get_or xs row x ≡ get_or xs k x) rows at (first.each k x low_k before)
+      | inr behind ↦
+          let here : at ≡ k = omega (arith, behind, high_k) in
+          Any-push (λ row. get_or xs row x ≡ get_or xs k x) rows at (ap (λ r. get_or xs r x) here)
+    ];
+    apart = λ x. all_pairs_push (λ a b. get_or xs a x ≢ get_or xs b x) rows at (first.apart x) (λ k d low. new x k d low);
+  }
+
+  -- one more that is the same as one before it
+  pub first-again : (from at : ℕ) (rows : List ℕ) → AreFirstOnes xs from at rows → IsAmong rows at → AreFirstOnes xs from (at + 1) rows
+  first-again from at rows first among = record {
+    within = All-weaker (λ row. (from ≤ row) × (row < at)) (λ row. (from ≤ row) × (row < at + 1)) (λ row is. let b = is.1 in (is.0, omega (arith, b))) rows first.within;
+    rising = first.rising;
+    each = λ k x low_k high_k. elim (cases_lt k at) [
+      | inl before ↦ first.each k x low_k before
+      | inr behind ↦ let here : at ≡ k = omega (arith, behind, high_k) in subst (λ r. Any (λ row. get_or xs row x ≡ get_or xs r x) rows) here (among x)
+    ];
+    apart = first.apart;
+  }
+
+-- rows that rise are not before their place
+pub rising-above : (rows : List ℕ) (k : ℕ) → AllPairs (λ a b. a < b) rows → k < length rows → k ≤ get_or rows k 0
+rising-above rows zero rising low = omega arith
+rising-above rows (suc k) rising low =
+    let before = rising-above rows k rising (omega (arith, low)) in
+    let next = rising k (suc k) 0 (omega arith) low in
+    omega (arith, before, next)
+
+-- they rise by one at least
+pub rising-apart : (rows : List ℕ) (i k : ℕ) → AllPairs (λ a b. a < b) rows → i + k < length rows → get_or rows i 0 + k ≤ get_or rows (i + k) 0
+rising-apart rows i zero rising low = let here : i + 0 ≡ i = omega arith in rw here (omega arith)
+rising-apart rows i (suc k) rising low =
+    let next : i + suc k ≡ suc (i + k) = omega arith in
+    let before = rising-apart rows i k rising (omega (arith, low)) in
+    let above = rising (i + k) (suc (i + k)) 0 (omega arith) (omega (arith, low)) in
+    rw next (omega (arith, before, above))
+
+-- so where the last is no further from the first than their number says, each is the one after the index before it
+pub run-of : (rows : List ℕ) → AllPairs (λ a b. a < b) rows → 0 < length rows → get_or rows (length rows - 1) 0 - get_or rows 0 0 < length rows → IsRun (get_or rows 0 0) rows
+run-of rows rising some near =
+    record {
+      some = some;
+      each = λ k low.
+          let rest = length rows - 1 - k in
+          let end : k + rest ≡ length rows - 1 = omega (arith, low) in
+          let up = rising-apart rows 0 k rising (omega (arith, low)) in
+          let on = rising-apart rows k rest rising (omega (arith, low, end)) in
+          let last : get_or rows (k + rest) 0 ≡ get_or rows (length rows - 1) 0 = ap (λ n. get_or rows n 0) end in
+          let here : get_or rows (0 + k) 0 ≡ get_or rows k 0 = let e : 0 + k ≡ k = omega arith in ap (λ n. get_or rows n 0) e in
+          omega (arith, up, on, last, here, near, low, end);
+    }
+
+-- and such ones are a part of the list
+pub run-picked : {X : Type 0} (xs : List X) (rows : List ℕ) (first : ℕ) (x : X) → IsRun first rows → All (λ row. row < length xs) rows →
+    take (length rows) (drop first xs) ≡ picked xs x rows
+run-picked xs rows first x run within =
+    let some = run.some in
+    let last = within (length rows - 1) 0 (omega (arith, some)) in
+    let end = run.each (length rows - 1) (omega (arith, some)) in
+    let behind = length-drop first xs in
+    let room : length rows ≤ length (drop first xs) = omega (arith, some, last, end, behind) in
+    let size : length (take (length rows) (drop first xs)) ≡ length rows = length-take-le (length rows) (drop first xs) room in
+    let count : length (picked xs x rows) ≡ length rows = length-map rows (λ row. get_or xs row x) in
+    same_lists (take (length rows) (drop first xs)) (picked xs x rows) (size ∙ sym count)
+    (λ k d low.
+    let inside : k < length rows = omega (arith, low, size) in
+    let is = run.each k inside in
+    let row_low = within k 0 inside in
+    get_or-take (length rows) (drop first xs) k d inside ∙ get_or-drop first xs k d ∙ ap (λ n. get_or xs n d) (sym is)
+    ∙ get_or_default xs (get_or rows k 0) d x row_low ∙ sym (get_or-map (λ row. get_or xs row x) rows k 0 d inside))
+
+-- Elements that are brought to the front.
+
+-- those at the first of the rows stand in front, and the others where they stood
+pub record IsPicking {X : Type 0} (xs ys : List X) (rows : List ℕ) (to : ℕ) : Type 0 where
+  pub long : length ys ≡ length xs
+  pub front : (x : X) → take to ys ≡ picked xs x (take to rows)
+  pub rest : (k : ℕ) (x : X) → to ≤ k → get_or ys k x ≡ get_or xs k x
+
+module _ {X : Type 0} (xs : List X) (rows : List ℕ) where
+  pub picking-start : IsPicking xs xs rows 0
+  picking-start = record { long = refl; front = λ x. refl; rest = λ k x low. refl }
+
+  -- one more
+  pub picking-more : (ys zs : List X) (to row : ℕ) → IsPicking xs ys rows to → to < length rows → to < length xs → row ≡ get_or rows to 0 → to ≤ row →
+      length zs ≡ length ys → take to zs ≡ take to ys → ((d : X) → get_or zs to d ≡ get_or ys row d) → ((k : ℕ) (d : X) → to < k → get_or zs k d ≡ get_or ys k d) →
+      IsPicking xs zs rows (to + 1)
+  picking-more ys zs to row picking low within is le long front here rest = record {
+    long = long ∙ picking.long;
+    front = λ d.
+        let room : to < length zs = omega (arith, within, long, picking) in
+        take_more zs to d room ∙ ap₂ (λ ws w. ws ++ w ∷ []) (front ∙ picking.front d) (here d ∙ picking.rest row d le ∙ ap (λ r. get_or xs r d) is)
+        ∙ sym (map-append (λ r. get_or xs r d) (take to rows) (get_or rows to 0 ∷ [])) ∙ ap (map (λ r. get_or xs r d)) (sym (take_more rows to 0 low));
+    rest = λ k d le_k. rest k d (omega (arith, le_k)) ∙ picking.rest k d (omega (arith, le_k));
+  }
+
+  -- all of them
+  pub picking-all : (ys : List X) (to : ℕ) (x : X) → IsPicking xs ys rows to → length rows ≤ to → take to ys ≡ picked xs x rows
+  picking-all ys to x picking all = picking.front x ∙ ap (picked xs x) (take_all to rows all)
+
+-- Of prints.
+
+-- each print so far is mixed with the hash of its phase
+pub record AreMixed {S : Type 0} (input : S → List (List ℕ)) (phases : List S) (from : ℕ) (old new : List ℕ) (at : ℕ) : Type 0 where
+  pub long : length new ≡ length old
+  pub mixed : (k : ℕ) (p : S) → k < at → from + k < length phases → get_or new k 0 ≡ bit_xor (get_or old k 0) (hash_by (input (get_or phases (from + k) p)))
+  pub rest : (k : ℕ) → at ≤ k → get_or new k 0 ≡ get_or old k 0
+
+module _ {S : Type 0} (input : S → List (List ℕ)) (phases : List S) (from : ℕ) (old : List ℕ) where
+  pub mixed-start : AreMixed input phases from old old 0
+  mixed-start = record { long = refl; mixed = λ k p low within. absurd (omega (arith, low)); rest = λ k low. refl }
+
+  -- those of one phase more
+  pub mixed-run : (new after : List ℕ) (at to hash : ℕ) (p : S) → AreMixed input phases from old new at → AreMixedWith hash at to new after → hash ≡ hash_by (input p) → at ≤ to →
+      ((k : ℕ) (q : S) → at ≤ k → k < to → from + k < length phases → get_or phases (from + k) q ≡ p) → AreMixed input phases from old after to
+  mixed-run new after at to hash p mixing run is order alike = record {
+    long = run.long ∙ mixing.long;
+    mixed = λ k q low within. elim (cases_lt k at) [
+      | inl before ↦ run.before k before ∙ mixing.mixed k q before within
+      | inr behind ↦
+          run.mixed k behind low
+          ∙ ap₂ (λ n h. bit_xor n h) (mixing.rest k behind) (is ∙ ap (λ h. hash_by (input h)) (sym (alike k q behind low within)))
+    ];
+    rest = λ k le. run.behind k le ∙ mixing.rest k (omega (arith, le, order));
+  }
+
+  -- all of them
+  pub mixed-all : (rows : List (List Debt)) (xs : List (CodeOwing S)) (new : List ℕ) (at : ℕ) → beside phases rows ≡ xs → length rows ≡ length phases → ArePrints rows from old →
+      AreMixed input phases from old new at → length phases ≤ from + at → ArePrints xs from new
+  mixed-all rows xs new at is long prints mixing all =
+      let size : length xs ≡ length phases = ap length (sym is) ∙ beside-length phases rows in
+      let count = prints.long in
+      let even = mixing.long in
+      record {
+        long = omega (arith, size, long, count, even);
+        same = λ i k x above_i low_i above_k low_k e.
+            let p = x.phase in
+            let alike = sym (state-at phases rows xs i p x is low_i) ∙ e ∙ state-at phases rows xs k p x is low_k in
+            let phase : get_or phases i p ≡ get_or phases k p = ap (λ y. y.phase) alike in
+            let owes : owed_in rows i ≡ owed_in rows k = ap (λ y. y.owes) alike in
+            let in_i : i < length rows = omega (arith, low_i, size, long) in
+            let in_k : k < length rows = omega (arith, low_k, size, long) in
+            let there_i : from + (i - from) ≡ i = omega (arith, above_i) in
+            let there_k : from + (k - from) ≡ k = omega (arith, above_k) in
+            mixing.mixed (i - from) p (omega (arith, above_i, low_i, size, all)) (omega (arith, above_i, low_i, size))
+            ∙ ap₂ (λ n q. bit_xor n (hash_by (input q))) (prints.same i k [] above_i in_i above_k in_k owes)
+            (ap (λ n. get_or phases n p) there_i ∙ phase ∙ ap (λ n. get_or phases n p) (sym there_k))
+            ∙ sym (mixing.mixed (k - from) p (omega (arith, above_k, low_k, size, all)) (omega (arith, above_k, low_k, size)));
+      }

@@ -1,0 +1,2 @@
+pub mod Rows3261
+pub mod RuleLaws

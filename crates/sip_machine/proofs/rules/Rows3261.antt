@@ -1,0 +1,113 @@
+-- The rows of the machines of RFC 3261, by those of RFC 6026.
+use Rattle.std.specs.Prelude.{◌≡◌, ◌↔◌, ◌++◌, ℕ, Bool, Option, Some, None, List, [], ◌∷◌, map}
+use Rattle.std.specs.List.{filter_map, cons_option}
+use Rattle.std.specs.Option.{option_map}
+use Rattle.std.proofs.Common.{inl, inr, refl, ap, sym, subst, ◌∙◌, arith}
+use Rattle.std.proofs.lemmas.List.{map-append, append-nil}
+use Rattle.std.proofs.lemmas.List.Elements.{filter_map-append}
+use Rattle.sip_machine.specs.declared.event.Kind.{Kind}
+use Rattle.sip_machine.specs.declared.event.Kind.TheVariants.{Request, Response}
+use Rattle.sip_machine.specs.declared.invite_server.InviteServerPhase.{InviteServerPhase as CodePhase}
+use Rattle.sip_machine.specs.declared.told.Field.{Field as CodeField}
+use Rattle.sip_machine.specs.declared.phases.Turn.{Turn}
+use Rattle.sip_standard.specs.Times.{Times}
+use Rattle.sip_machine.specs.Texts.{Texts}
+use Rattle.sip_machine.specs.MachineEvent.{MachineEvent}
+use Rattle.sip_machine.specs.Message.{IsSuccess}
+use Rattle.sip_machine.specs.Told.{field_message, field_of_code}
+use Rattle.sip_machine.specs.Figure.{After, drops}
+use Rattle.sip_machine.specs.InviteClient as client
+use Rattle.sip_machine.specs.InviteClient.{InviteClientPhase, Ended, Calling, Proceeding}
+use Rattle.sip_machine.specs.InviteClient3261 as client_3261
+use Rattle.sip_machine.specs.InviteServer as server
+use Rattle.sip_machine.specs.InviteServer.{InviteServerPhase, invite_server_seen, invite_server_names, InviteServerInRange}
+use Rattle.sip_machine.specs.InviteServer3261 as server_3261
+use Rattle.sip_machine.specs.InviteServer3261.{InviteServer3261Phase, In, Within, invite_server_3261_seen, invite_server_3261_names, InviteServer3261InRange}
+use Rattle.sip_machine.specs.Owing.{turn_seen, turn_names, TurnInRange}
+use Rattle.sip_machine.specs.inner.Single.{AnswersOne}
+use Rattle.sip_machine.specs.InviteClient3261.Laws.{IsEndedBy}
+use Rattle.sip_machine.specs.InviteServer3261.Laws.{turn_within}
+
+-- a 2xx ends a client
+pub ended_row : (p : Times) (x : InviteClientPhase) (k : Kind) (e : MachineEvent) (y : After InviteClientPhase) → IsEndedBy x k → client_3261.Receives p x k e y ↔ (y ≡ (Ended, drops))
+ended_row p (Calling w) (Response code) e y success = (
+  λ h. elim h [
+    | inl provisional ↦ absurd (omega (arith, provisional.0.1, success.0))
+    | inr final ↦ elim final [ inl row ↦ row.1 | inr other ↦ absurd (omega (arith, other.0.0, success.1)) ]
+  ],
+  λ same. inr (inl (success, same)),
+)
+ended_row p (Proceeding reliable request cancel) (Response code) e y success = (
+  λ h. elim h [ inl row ↦ row.1 | inr other ↦ absurd (omega (arith, other.0.0, success.1)) ],
+  λ same. inl (success, same),
+)
+ended_row p x k e y success = absurd success
+
+-- any other message does what it does by RFC 6026
+pub other_row : (p : Times) (x : InviteClientPhase) (k : Kind) (e : MachineEvent) (y : After InviteClientPhase) → ¬ (IsEndedBy x k) → client.Receives p x k e y ↔ client_3261.Receives p x k e y
+other_row p (Calling w) (Response code) e y other = (
+  λ h. elim h [ inl row ↦ inl row | inr final ↦ elim final [ inl success ↦ absurd (other success.0) | inr row ↦ inr (inr row) ] ],
+  λ h. elim h [ inl row ↦ inl row | inr final ↦ elim final [ inl success ↦ absurd (other success.0) | inr row ↦ inr (inr row) ] ],
+)
+other_row p (Proceeding reliable request cancel) (Response code) e y other = (
+  λ h. elim h [ inl success ↦ absurd (other success.0) | inr row ↦ inr row ],
+  λ h. elim h [ inl success ↦ absurd (other success.0) | inr row ↦ inr row ],
+)
+other_row p (Calling w) (Request method) e y other = (λ h. h, λ h. h)
+other_row p x k e y other = (λ h. h, λ h. h)
+
+-- the answer to what is the same
+pub AnswersOne-same : {X S : Type 0} (names : S → List ℕ) (InRange : S → Type 0) (seen : Texts → S → X) (texts : Texts) (P Q : X → Type 0) → ((x : X) → P x ↔ Q x) → (answer : Option S) →
+    AnswersOne names InRange seen texts P answer → AnswersOne names InRange seen texts Q answer
+AnswersOne-same names InRange seen texts P Q same None none = λ x q. none x ((same x).1 q)
+AnswersOne-same names InRange seen texts P Q same (Some s) one =
+    record { only = λ x. (λ q. (one.only x).0 ((same x).1 q), λ is. (same x).0 ((one.only x).1 is)); known = one.known; in_range = one.in_range }
+
+-- where a row of the server leads by RFC 6026, it leads by RFC 3261
+pub within-one : (texts : Texts) (Row : After InviteServerPhase → Type 0) (again : Bool) (answer : Option (Turn _)) →
+    AnswersOne (turn_names invite_server_names) (TurnInRange InviteServerInRange) (turn_seen invite_server_seen) texts Row answer →
+    AnswersOne (turn_names invite_server_3261_names) (TurnInRange InviteServer3261InRange) (turn_seen invite_server_3261_seen) texts (Within Row again) (option_map (turn_within again) answer)
+within-one texts Row again None none = λ y h. none h.0 h.1
+within-one texts Row again (Some turn) one =
+    record {
+      only = λ y. (
+        λ h. h.2 ∙ ap (λ (after : After InviteServerPhase). (In after.0 again, after.1)) ((one.only h.0).0 h.1),
+        λ same. (turn_seen invite_server_seen texts turn, (one.only (turn_seen invite_server_seen texts turn)).1 refl, same),
+      );
+      known = one.known;
+      in_range = one.in_range;
+    }
+
+-- a response that is no 2xx has the rows of RFC 6026
+pub response_row : (p : Times) (x : InviteServerPhase) (again : Bool) (code : ℕ) (e : MachineEvent) (y : After InviteServer3261Phase) → ¬ (IsSuccess code) →
+    Within (server.Sends p x (Response code) e) again y ↔ server_3261.Sends p (In x again) (Response code) e y
+response_row p server.Idle again code e y other = (λ h. absurd h.1, λ h. absurd h)
+response_row p (server.Proceeding reliable set last) again code e y other = (λ h. inr (other, h), λ h. elim h [ inl success ↦ absurd (other success.0) | inr row ↦ row.1 ])
+response_row p (server.Accepted set) again code e y other = (λ h. absurd (other h.1.0), λ h. absurd h)
+response_row p (server.Completed reliable final set repeat interval) again code e y other = (λ h. (other, h), λ h. h.1)
+response_row p (server.Confirmed reliable set) again code e y other = (λ h. absurd h.1, λ h. absurd h)
+
+-- where a sent response that is no 2xx leads by RFC 6026, it leads by RFC 3261
+pub sent-within : (p : Times) (texts : Texts) (x : CodePhase) (again : Bool) (code : ℕ) (k : Kind) (e : MachineEvent) (answer : Option (Turn CodePhase)) → Response code ≡ k →
+    ¬ (IsSuccess code) →
+    AnswersOne (turn_names invite_server_names) (TurnInRange InviteServerInRange) (turn_seen invite_server_seen) texts (server.Sends p (invite_server_seen texts x) k e) answer →
+    AnswersOne (turn_names invite_server_3261_names) (TurnInRange InviteServer3261InRange) (turn_seen invite_server_3261_seen) texts
+    (server_3261.Sends p (In (invite_server_seen texts x) again) k e) (option_map (turn_within again) answer)
+sent-within p texts x again code k e answer is other one =
+    let Row = server.Sends p (invite_server_seen texts x) (Response code) e in
+    let here = subst (λ j. AnswersOne (turn_names invite_server_names) (TurnInRange InviteServerInRange) (turn_seen invite_server_seen) texts
+    (server.Sends p (invite_server_seen texts x) j e) answer) (sym is) one in
+    subst (λ j. AnswersOne (turn_names invite_server_3261_names) (TurnInRange InviteServer3261InRange) (turn_seen invite_server_3261_seen) texts
+    (server_3261.Sends p (In (invite_server_seen texts x) again) j e) (option_map (turn_within again) answer)) is
+    (AnswersOne-same (turn_names invite_server_3261_names) (TurnInRange InviteServer3261InRange) (turn_seen invite_server_3261_seen) texts (Within Row again)
+    (server_3261.Sends p (In (invite_server_seen texts x) again) (Response code) e) (λ y. response_row p (invite_server_seen texts x) again code e y other)
+    (option_map (turn_within again) answer) (within-one texts Row again answer here))
+
+-- a field that names no message, after others
+pub messages-behind : (fields : List CodeField) (field : CodeField) → field_message (field_of_code field) ≡ None →
+    filter_map field_message (map field_of_code (fields ++ field ∷ [])) ≡ filter_map field_message (map field_of_code fields)
+messages-behind fields field silent =
+    ap (filter_map field_message) (map-append field_of_code fields (field ∷ []))
+    ∙ filter_map-append field_message (map field_of_code fields) (field_of_code field ∷ [])
+    ∙ ap (λ o. filter_map field_message (map field_of_code fields) ++ cons_option o []) silent
+    ∙ append-nil (filter_map field_message (map field_of_code fields))

@@ -1,0 +1,7 @@
+pub mod OwingSteps
+pub mod OwingEachLemmas
+pub mod RepliesLemmas
+pub mod SingleLemmas
+pub mod BothLemmas
+pub mod PayableLemmas
+pub mod ProvisionalLemmas

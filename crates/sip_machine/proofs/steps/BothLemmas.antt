@@ -1,0 +1,79 @@
+use Rattle.std.specs.Prelude.{◌≡◌, ◌≢◌, ◌↔◌, ◌⊎◌, ℕ, Option, Some, None, List, [], ◌∷◌}
+use Rattle.std.proofs.Common.{inl, inr, refl, sym, arith}
+use Rattle.std.proofs.lemmas.List.Elements.{All-nil, All-cons, Contains-push, Contains-push_cases}
+use Rattle.std.proofs.lemmas.List.Kept.{AllPairs-cons}
+use Rattle.sip_machine.specs.Texts.{Texts}
+use Rattle.sip_machine.specs.Rules.{Knows, OrStays, StandFor}
+use Rattle.sip_machine.specs.inner.Single.{AnswersOne}
+use Rattle.sip_machine.specs.inner.Both.{AnswersBoth}
+use Rattle.sip_machine.proofs.texts.TextLaws.{Contains-nil}
+use Rattle.sip_machine.proofs.steps.SingleLemmas.{StandFor-none, StandFor-one}
+
+-- Up to two answers.
+
+module _ {X S : Type 0} (names : S → List ℕ) (InRange : S → Type 0) (seen : Texts → S → X) (texts : Texts) where
+  -- what stands for P stands for what holds of the same
+  pub StandFor-same : (P Q : X → Type 0) → ((x : X) → P x ↔ Q x) → (xs : List S) → StandFor names InRange seen texts P xs →
+      StandFor names InRange seen texts Q xs
+  StandFor-same P Q same xs stand =
+      record {
+        members = λ x. (λ has. (same x).0 ((stand.members x).0 has), λ q. (stand.members x).1 ((same x).1 q));
+        distinct = stand.distinct;
+        known = stand.known;
+        in_range = stand.in_range;
+      }
+
+  -- one answer alone
+  pub AnswersBoth-one : (P : X → Type 0) (a : Option S) → AnswersOne names InRange seen texts P a → AnswersBoth names InRange seen texts P (a, None)
+  AnswersBoth-one P None none = StandFor-none names InRange seen texts P none
+  AnswersBoth-one P (Some s) one = StandFor-one names InRange seen texts P s one
+
+  -- two that exclude each other
+  pub AnswersBoth-two : (P Q : X → Type 0) → ((x : X) → P x → Q x → ⊥) → (a b : Option S) → AnswersOne names InRange seen texts P a →
+      AnswersOne names InRange seen texts Q b → AnswersBoth names InRange seen texts (λ x. P x ⊎ Q x) (a, b)
+  AnswersBoth-two P Q apart None None none none' =
+      StandFor-none names InRange seen texts (λ x. P x ⊎ Q x) (λ x h. elim h [ inl p ↦ none x p | inr q ↦ none' x q ])
+  AnswersBoth-two P Q apart None (Some t) none one =
+      StandFor-one names InRange seen texts (λ x. P x ⊎ Q x) t
+      (record {
+        only = λ x. (λ h. elim h [ inl p ↦ absurd (none x p) | inr q ↦ (one.only x).0 q ], λ e. inr ((one.only x).1 e));
+        known = one.known;
+        in_range = one.in_range;
+      })
+  AnswersBoth-two P Q apart (Some s) None one none =
+      StandFor-one names InRange seen texts (λ x. P x ⊎ Q x) s
+      (record {
+        only = λ x. (λ h. elim h [ inl p ↦ (one.only x).0 p | inr q ↦ absurd (none x q) ], λ e. inl ((one.only x).1 e));
+        known = one.known;
+        in_range = one.in_range;
+      })
+  AnswersBoth-two P Q apart (Some s) (Some t) one other =
+      record {
+        members = λ x. (
+          λ has. elim (Contains-push_cases (seen texts s ∷ []) (seen texts t) x has) [
+            | inl first ↦
+                elim (Contains-push_cases [] (seen texts s) x first) [
+                  | inl none ↦ absurd (Contains-nil x none)
+                  | inr e ↦ inl ((one.only x).1 (sym e))
+                ]
+            | inr e ↦ inr ((other.only x).1 (sym e))
+          ],
+          λ h. elim h [
+            | inl p ↦ rw ((one.only x).0 p) (0, omega arith, refl)
+            | inr q ↦ rw ((other.only x).0 q) (Contains-push (seen texts s ∷ []) (seen texts t))
+          ],
+        );
+        distinct =
+            let differ : seen texts s ≢ seen texts t = λ e. apart (seen texts s) ((one.only (seen texts s)).1 refl) ((other.only (seen texts s)).1 e) in
+            AllPairs-cons (λ x y. x ≢ y) (seen texts s) (seen texts t ∷ [])
+            (All-cons (λ y. seen texts s ≢ y) (seen texts t) [] differ (All-nil (λ y. seen texts s ≢ y))) (λ i j d low high. absurd (omega arith));
+        known = All-cons (Knows names texts) s (t ∷ []) one.known (All-cons (Knows names texts) t [] other.known (All-nil (Knows names texts)));
+        in_range = All-cons InRange s (t ∷ []) one.in_range (All-cons InRange t [] other.in_range (All-nil InRange));
+      }
+
+-- where P holds of one, a message that leads where P says leads there alone
+pub OrStays-one : {X : Type 0} (P : X → Type 0) (x z : X) → ((y : X) → P y ↔ (y ≡ z)) → (y : X) → OrStays P x y ↔ (y ≡ z)
+OrStays-one P x z only y = (
+  λ h. elim h [ inl p ↦ (only y).0 p | inr stays ↦ absurd (stays.0 z ((only z).1 refl)) ],
+  λ e. inl ((only y).1 e),
+)

@@ -1,0 +1,226 @@
+-- The step of the machine of a figure from many states of the code.
+use Prim.Native.Nat.{suc, zero}
+use Rattle.std.specs.Prelude.{◌≡◌, ◌≤◌, ◌<◌, ◌^◌, ◌↔◌, ◌⊎◌, ◌&&◌, ◌++◌, ℕ, IsTrue, Bool, true, false, Option, Some, None, List, [], ◌∷◌, All, filter, get_or, length, map, take, unwrap_or}
+use Rattle.std.specs.Option.{option_map}
+use Rattle.std.specs.List.{list_any}
+use Rattle.std.proofs.Common.{inl, inr, refl, sym, ap, subst, arith, cond, true≢false}
+use Rattle.std.proofs.lemmas.Bool.Decides.{nat_tests}
+use Rattle.std.proofs.lemmas.List.Elements.{All-append, All-head, All-weaker}
+use Rattle.sip_standard.specs.declared.action.Action.{Action}
+use Rattle.sip_standard.specs.declared.action.Action.TheVariants.{Sent, Received}
+use Rattle.sip_ledger.specs.declared.debt.Debt.{Debt}
+use Rattle.sip_ledger.specs.Debts.{debt_deadlines, is_payable, is_timely, is_within}
+use Rattle.sip_ledger.specs.Ledgers.{from_to}
+use Rattle.sip_machine.specs.declared.phases.Change.TheVariants as code
+use Rattle.sip_machine.specs.declared.phases.Turn.{Turn}
+use Rattle.sip_standard.specs.Times.{Times}
+use Rattle.sip_standard.specs.Window.{close_at}
+use Rattle.sip_machine.specs.Limits.{IsWithin}
+use Rattle.sip_machine.specs.Texts.{Texts, Keeps}
+use Rattle.sip_machine.specs.MachineEvent.{MachineEvent}
+use Rattle.sip_machine.specs.Rules.{Covers, FromSome, Knows}
+use Rattle.sip_machine.specs.Debts.{Owed, earliest, must_deadlines, unexpired}
+use Rattle.sip_machine.specs.Owes.{owes_names, owes_seen}
+use Rattle.sip_machine.specs.Figure.{Figure, Owing, Steps, TakeOf, closes_at, until_of}
+use Rattle.sip_machine.specs.Owing.{CodeOwing, turn_seen, turn_names, TurnInRange, owing_seen, owing_names, OwingInRange}
+use Rattle.sip_machine.specs.inner.Single.{AnswersOne}
+use Rattle.sip_machine.specs.inner.DebtLaws.{IsWithin-earliest, All-front, All-back}
+use Rattle.sip_machine.specs.inner.OwesLaws.{must_deadlines-seen, unexpired-seen, All-names}
+use Rattle.sip_machine.specs.inner.Paying.{PaysFor}
+use Rattle.sip_machine.specs.inner.Effects.{Leads, LeadsFrom, Rests, RestsFrom, led_by, repaid_at, unexpired_at}
+use Rattle.sip_machine.proofs.pools.CoversLemmas.{FromSome-none, Covers-none, answers-cover}
+use Rattle.sip_machine.proofs.debts.DueLemmas.{pays-some, pays-none}
+use Rattle.sip_machine.proofs.acks.HolderLemmas.{FindsFirst-same}
+use Rattle.sip_machine.proofs.steps.OwingSteps.{heard-one, led-at, rested-pays}
+
+-- a moment within a limit
+within-tells : (t : ℕ) (last : Option ℕ) → is_within t last ≡ true → IsWithin t last
+within-tells t None is = tt
+within-tells t (Some last) is = grind (arith, nat_tests)
+
+within-told : (t : ℕ) (last : Option ℕ) → is_within t last ≡ false → ¬ (IsWithin t last)
+within-told t None is = λ _. true≢false is
+within-told t (Some last) is = λ within. grind (arith, nat_tests)
+
+module _ {S X : Type 0} (f : Figure X) (p : Times) (seen : Texts → S → X) (names : S → List ℕ) (InRange : S → Type 0) (texts : Texts) where
+  -- a state lasts until a moment if its timers and what it must send let it
+  timely-lasts : (t : ℕ) (x : CodeOwing S) → IsWithin t (earliest (closes_at f p (seen texts x.phase))) → is_timely t x.owes ≡ true →
+      IsWithin t (until_of f p (owing_seen seen texts x))
+  timely-lasts t x timers timely =
+      let closes = closes_at f p (seen texts x.phase) in
+      let due : IsWithin t (earliest (must_deadlines (owes_seen texts x.owes))) = rw (must_deadlines-seen texts x.owes) (within-tells t (earliest (debt_deadlines x.owes)) timely) in
+      (IsWithin-earliest t (closes ++ must_deadlines (owes_seen texts x.owes))).1
+      (All-append (λ m. t ≤ m) closes (must_deadlines (owes_seen texts x.owes)) ((IsWithin-earliest t closes).0 timers) ((IsWithin-earliest t (must_deadlines (owes_seen texts x.owes))).0 due))
+
+  late-ends : (t : ℕ) (x : CodeOwing S) → is_timely t x.owes ≡ false → ¬ (IsWithin t (until_of f p (owing_seen seen texts x)))
+  late-ends t x late = λ within.
+      let closes = closes_at f p (seen texts x.phase) in
+      let musts = must_deadlines (owes_seen texts x.owes) in
+      let due : IsWithin t (earliest musts) = (IsWithin-earliest t musts).1 (All-back (λ m. t ≤ m) closes musts ((IsWithin-earliest t (closes ++ musts)).0 within)) in
+      within-told t (earliest (debt_deadlines x.owes)) late (rw (must_deadlines-seen texts x.owes) at due)
+
+  pub closed-ends : (t : ℕ) (x : CodeOwing S) → ¬ (IsWithin t (earliest (closes_at f p (seen texts x.phase)))) → ¬ (IsWithin t (until_of f p (owing_seen seen texts x)))
+  closed-ends t x closed = λ within.
+      let closes = closes_at f p (seen texts x.phase) in
+      let musts = must_deadlines (owes_seen texts x.owes) in
+      closed ((IsWithin-earliest t closes).1 (All-front (λ m. t ≤ m) closes musts ((IsWithin-earliest t (closes ++ musts)).0 within)))
+
+  -- where the row of a received message leads,
+  pub leads-received : (a : Action) (e : MachineEvent) (x : CodeOwing S) (turn : Option (Turn S)) → Received ≡ a →
+      AnswersOne (turn_names names) (TurnInRange InRange) (turn_seen seen) texts (f.Receives p (seen texts x.phase) e.kind e) turn →
+      Knows (owing_names names) texts x → OwingInRange InRange x → close_at p e.moment 0 < 2 ^ 50 →
+      AnswersOne (owing_names names) (OwingInRange InRange) (owing_seen seen) texts (Leads f p a e (owing_seen seen texts (unexpired_at e.moment x)))
+      (Some (led_by p e.moment (unwrap_or turn (record { phase = x.phase; change = code.Keeps })) x))
+  leads-received a e x turn is one known fits small = rw (← is) (heard-one f p seen names InRange texts e x turn one known fits small)
+
+  -- and of one that is sent
+  pub leads-sent : (a : Action) (e : MachineEvent) (x : CodeOwing S) (turn : Option (Turn S)) → Sent ≡ a →
+      AnswersOne (turn_names names) (TurnInRange InRange) (turn_seen seen) texts (f.Sends p (seen texts x.phase) e.kind e) turn →
+      Knows (owing_names names) texts x → OwingInRange InRange x → close_at p e.moment 0 < 2 ^ 50 →
+      AnswersOne (owing_names names) (OwingInRange InRange) (owing_seen seen) texts (Leads f p a e (owing_seen seen texts (unexpired_at e.moment x)))
+      (option_map (λ turn. led_by p e.moment turn x) turn)
+  leads-sent a e x turn is one known fits small = rw (← is) (led-at f p seen names InRange texts e x turn one known fits small)
+
+  -- an answer for a state that lasts
+  abbrev Owings : (Owing X → Type 0) → Option (CodeOwing S) → Type 0
+  Owings P answer = AnswersOne (owing_names names) (OwingInRange InRange) (owing_seen seen) texts P answer
+
+  abbrev pub Lasting : ℕ → CodeOwing S → (Owing X → Type 0) → Owing X → Type 0
+  Lasting t x P y = IsWithin t (until_of f p (owing_seen seen texts x)) × P y
+
+  pub lasting-answers : (t : ℕ) (x : CodeOwing S) (P : Owing X → Type 0) (answer : Option (CodeOwing S)) → IsWithin t (until_of f p (owing_seen seen texts x)) → Owings P answer →
+      Owings (Lasting t x P) answer
+  lasting-answers t x P None within none = λ y h. none y h.1
+  lasting-answers t x P (Some s) within one =
+      record { only = λ y. (λ h. (one.only y).0 h.1, λ same. (within, (one.only y).1 same)); known = one.known; in_range = one.in_range }
+
+  timely-answers : (t : ℕ) (x : CodeOwing S) (P : Owing X → Type 0) (answer : Option (CodeOwing S)) (b : Bool) → is_timely t x.owes ≡ b →
+      IsWithin t (earliest (closes_at f p (seen texts x.phase))) → Owings P answer → Owings (Lasting t x P) (cond b answer None)
+  timely-answers t x P answer true is timers answers = lasting-answers t x P answer (timely-lasts t x timers is) answers
+  timely-answers t x P answer false is timers answers = λ y h. late-ends t x is h.0
+
+  -- states of one phase
+  module _ (e : MachineEvent) (phase : S) (xs : List (CodeOwing S)) (same : All (λ x. x.phase ≡ phase) xs) (known : All (Knows (owing_names names) texts) xs)
+      (fits : All (OwingInRange InRange) xs) where
+    abbrev pub InPhase : List Debt → CodeOwing S
+    InPhase owes = record { phase = phase; owes = owes }
+
+    -- what answers each debts beside the phase answers each of the states
+    each-state : (P : CodeOwing S → Type 0) → ((owes : List Debt) → Knows (owing_names names) texts (InPhase owes) → OwingInRange InRange (InPhase owes) → P (InPhase owes)) → All P xs
+    each-state P answers = λ k d low.
+        let x = get_or xs k d in
+        let is : InPhase x.owes ≡ x = ap (λ q. record { phase = q; owes = x.owes }) (sym (same k d low)) in
+        subst P is (answers x.owes (subst (Knows (owing_names names) texts) (sym is) (known k d low)) (subst (OwingInRange InRange) (sym is) (fits k d low)))
+
+    -- none lasts whose timers do not let it
+    pub closed-none : (P : CodeOwing S → Owing X → Type 0) → ¬ (IsWithin e.moment (earliest (closes_at f p (seen texts phase)))) →
+        Covers (owing_names names) (OwingInRange InRange) (owing_seen seen) texts (FromSome (λ x. Lasting e.moment x (P x)) xs) []
+    closed-none P closed =
+        Covers-none (owing_names names) (OwingInRange InRange) (owing_seen seen) texts (FromSome (λ x. Lasting e.moment x (P x)) xs)
+        (λ y. FromSome-none (λ x. Lasting e.moment x (P x)) xs y
+        (each-state (λ x. ¬ (Lasting e.moment x (P x) y)) (λ owes knows fit h. closed-ends e.moment (InPhase owes) closed h.0)))
+
+    -- where no row leads
+    pub leads-none : ((owes : List Debt) → Knows (owing_names names) texts (InPhase owes) → OwingInRange InRange (InPhase owes) →
+        Owings (Leads f p e.action e (owing_seen seen texts (unexpired_at e.moment (InPhase owes)))) None) →
+        Covers (owing_names names) (OwingInRange InRange) (owing_seen seen) texts (FromSome (LeadsFrom f p seen texts e) xs) []
+    leads-none none =
+        Covers-none (owing_names names) (OwingInRange InRange) (owing_seen seen) texts (FromSome (LeadsFrom f p seen texts e) xs)
+        (λ y. FromSome-none (LeadsFrom f p seen texts e) xs y
+        (each-state (λ x. ¬ (LeadsFrom f p seen texts e x y)) (λ owes knows fit h. none owes knows fit y h.1)))
+
+    -- where one does
+    pub leads-some : (turn : Turn S) → IsWithin e.moment (earliest (closes_at f p (seen texts phase))) →
+        ((owes : List Debt) → Knows (owing_names names) texts (InPhase owes) → OwingInRange InRange (InPhase owes) →
+        Owings (Leads f p e.action e (owing_seen seen texts (unexpired_at e.moment (InPhase owes)))) (Some (led_by p e.moment turn (InPhase owes)))) →
+        Covers (owing_names names) (OwingInRange InRange) (owing_seen seen) texts (FromSome (LeadsFrom f p seen texts e) xs)
+        (map (led_by p e.moment turn) (filter (λ x. is_timely e.moment x.owes) xs))
+    leads-some turn timers one =
+        answers-cover (owing_names names) (OwingInRange InRange) (owing_seen seen) texts (LeadsFrom f p seen texts e) (λ x. is_timely e.moment x.owes) (led_by p e.moment turn) xs
+        (each-state (λ x. Owings (LeadsFrom f p seen texts e x) (cond (is_timely e.moment x.owes) (Some (led_by p e.moment turn x)) None))
+        (λ owes knows fit. timely-answers e.moment (InPhase owes) (Leads f p e.action e (owing_seen seen texts (unexpired_at e.moment (InPhase owes))))
+        (Some (led_by p e.moment turn (InPhase owes))) (is_timely e.moment owes) refl timers (one owes knows fit)))
+
+    -- where a send pays one message, whatever is owed
+    paid-answers : (message : ℕ) (owes : List Debt) → ¬ (f.Stays (seen texts phase) e.kind) →
+        All (λ debt. IsTrue (is_payable message e.moment debt) ↔ PaysFor (f.Satisfies (seen texts phase) e.kind e) texts e.moment debt) owes →
+        Knows (owing_names names) texts (InPhase owes) → OwingInRange InRange (InPhase owes) → (b : Bool) → list_any (is_payable message e.moment) owes ≡ b →
+        Owings (Rests f e (owing_seen seen texts (unexpired_at e.moment (InPhase owes)))) (cond b (Some (repaid_at e.moment message (InPhase owes))) None)
+    paid-answers message owes moves tells knows fit true is =
+        rested-pays f p seen names InRange texts e (InPhase owes) moves (Some message)
+        (FindsFirst-same (λ debt. IsTrue (is_payable message e.moment debt)) (PaysFor (f.Satisfies (seen texts phase) e.kind e) texts e.moment) e.moment owes (Some message) tells
+        (pays-some message e.moment owes is)) knows fit
+    paid-answers message owes moves tells knows fit false is =
+        rested-pays f p seen names InRange texts e (InPhase owes) moves None
+        (FindsFirst-same (λ debt. IsTrue (is_payable message e.moment debt)) (PaysFor (f.Satisfies (seen texts phase) e.kind e) texts e.moment) e.moment owes None tells
+        (pays-none message e.moment owes is)) knows fit
+
+    timely-paid : (a b : Bool) (s : CodeOwing S) → cond b (cond a (Some s) None) None ≡ cond (a && b) (Some s) None
+    timely-paid true true s = refl
+    timely-paid true false s = refl
+    timely-paid false true s = refl
+    timely-paid false false s = refl
+
+    pub rests-paid : (message : ℕ) → IsWithin e.moment (earliest (closes_at f p (seen texts phase))) → ¬ (f.Stays (seen texts phase) e.kind) →
+        ((debt : Debt) → Keeps texts debt.message →
+        PaysFor (f.Satisfies (seen texts phase) e.kind e) texts e.moment debt ↔ IsTrue (is_payable message e.moment debt)) →
+        Covers (owing_names names) (OwingInRange InRange) (owing_seen seen) texts (FromSome (RestsFrom f p seen texts e) xs)
+        (map (repaid_at e.moment message) (filter (λ x. list_any (is_payable message e.moment) x.owes && is_timely e.moment x.owes) xs))
+    rests-paid message timers moves tells =
+        answers-cover (owing_names names) (OwingInRange InRange) (owing_seen seen) texts (RestsFrom f p seen texts e)
+        (λ x. list_any (is_payable message e.moment) x.owes && is_timely e.moment x.owes) (repaid_at e.moment message) xs
+        (each-state (λ x. Owings (RestsFrom f p seen texts e x)
+        (cond (list_any (is_payable message e.moment) x.owes && is_timely e.moment x.owes) (Some (repaid_at e.moment message x)) None))
+        (λ owes knows fit.
+        let x = InPhase owes in
+        let P = Rests f e (owing_seen seen texts (unexpired_at e.moment x)) in
+        let can = list_any (is_payable message e.moment) owes in
+        let kept = All-names (Keeps texts) owes (All-back (Keeps texts) (names phase) (owes_names owes) knows) in
+        let one = paid-answers message owes moves
+        (All-weaker (λ debt. Keeps texts debt.message) (λ debt. IsTrue (is_payable message e.moment debt) ↔ PaysFor (f.Satisfies (seen texts phase) e.kind e) texts e.moment debt)
+        (λ debt keeps. ((tells debt keeps).1, (tells debt keeps).0)) owes kept) knows fit can refl in
+        subst (Owings (Lasting e.moment x P)) (timely-paid can (is_timely e.moment owes) (repaid_at e.moment message x))
+        (timely-answers e.moment x P (cond can (Some (repaid_at e.moment message x)) None) (is_timely e.moment owes) refl timers one)))
+
+module _ {S X : Type 0} (f : Figure X) (p : Times) (seen : Texts → S → X) (texts : Texts) where
+  -- the step of the state of the code that has lasted until the event
+  steps-same : (a : Action) (e : MachineEvent) (x : CodeOwing S) (y : Owing X) → e.action ≡ a →
+      (IsWithin e.moment (until_of f p (owing_seen seen texts x)) × Steps f p a e (owing_seen seen texts (unexpired_at e.moment x)) y) ↔ TakeOf f p (owing_seen seen texts x) e y
+  steps-same a e x y is =
+      let at : Owing X = record { phase = seen texts x.phase; owes = unexpired e.moment (owes_seen texts x.owes) } in
+      let here : owing_seen seen texts (unexpired_at e.moment x) ≡ at
+      = ap (λ (owes : List Owed). record { phase = seen texts x.phase; owes = owes }) (sym (unexpired-seen e.moment texts x.owes)) in (
+        λ h. (h.0, subst (λ b. Steps f p b e at y) (sym is) (subst (λ z. Steps f p a e z y) here h.1)),
+        λ h. (h.0, subst (λ z. Steps f p a e z y) (sym here) (subst (λ b. Steps f p b e at y) is h.1)),
+      )
+
+  leads-is : (a : Action) (e : MachineEvent) (x : CodeOwing S) (y : Owing X) → e.action ≡ a →
+      LeadsFrom f p seen texts e x y ↔ (IsWithin e.moment (until_of f p (owing_seen seen texts x)) × Leads f p a e (owing_seen seen texts (unexpired_at e.moment x)) y)
+  leads-is a e x y is = (
+    λ h. (h.0, subst (λ b. Leads f p b e (owing_seen seen texts (unexpired_at e.moment x)) y) is h.1),
+    λ h. (h.0, subst (λ b. Leads f p b e (owing_seen seen texts (unexpired_at e.moment x)) y) (sym is) h.1),
+  )
+
+  -- a received message leads where its row does, or stays,
+  pub takes-received : (e : MachineEvent) → e.action ≡ Received → (x : CodeOwing S) (y : Owing X) → LeadsFrom f p seen texts e x y ↔ TakeOf f p (owing_seen seen texts x) e y
+  takes-received e is x y =
+      let leads = leads-is Received e x y is in
+      let steps = steps-same Received e x y is in
+      (λ h. steps.0 (leads.0 h), λ h. leads.1 (steps.1 h))
+
+  -- and one that is sent where its row does, and where the phase stays
+  pub takes-sent : (e : MachineEvent) → e.action ≡ Sent → (x : CodeOwing S) (y : Owing X) →
+      (LeadsFrom f p seen texts e x y ⊎ RestsFrom f p seen texts e x y) ↔ TakeOf f p (owing_seen seen texts x) e y
+  takes-sent e is x y =
+      let leads = leads-is Sent e x y is in
+      let steps = steps-same Sent e x y is in (
+        λ h. elim h [ inl row ↦ let r = leads.0 row in steps.0 (r.0, inl r.1) | inr rest ↦ steps.0 (rest.0, inr rest.1) ],
+        λ h. let s = steps.1 h in elim s.1 [ inl row ↦ inl (leads.1 (s.0, row)) | inr rest ↦ inr (s.0, rest) ],
+      )
+
+-- what holds of some of the states holds of the first of them
+pub slice-first : {S : Type 0} (P : S → Type 0) (from to : ℕ) (xs : List S) (d : S) → from < to → to ≤ length xs → All P (from_to from to xs) → P (get_or xs from d)
+slice-first P from zero xs d order le all = absurd (omega (arith, order))
+slice-first P from (suc to) [] d order le all = absurd (omega (arith, le))
+slice-first P zero (suc to) (x ∷ xs) d order le all = All-head P x (take to xs) all
+slice-first P (suc from) (suc to) (x ∷ xs) d order le all = slice-first P from to xs d (omega (arith, order)) (omega (arith, le)) all

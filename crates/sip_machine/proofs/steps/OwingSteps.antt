@@ -1,0 +1,437 @@
+use Rattle.std.specs.Prelude.{◌≡◌, ◌⊎◌, ◌≤◌, ◌<◌, ◌^◌, ℕ, IsTrue, Bool, true, false, Option, Some, None, List, [], ◌∷◌, ◌++◌, All, filter, length, option_to_list, unwrap_or}
+use Rattle.std.specs.Option.{option_map}
+use Rattle.std.proofs.Common.{inl, inr, refl, sym, ◌∙◌, ap, ap₂, subst, arith, cond, length-append}
+use Rattle.std.proofs.lemmas.Bool.Decides.{nat_tests}
+use Rattle.std.proofs.lemmas.List.{map-append}
+use Rattle.std.proofs.lemmas.List.Elements.{All-nil, All-head, All-map, All-push, All-filter, All-append, filter-append}
+use Rattle.sip_standard.specs.declared.action.Action.{Action}
+use Rattle.sip_ledger.specs.declared.debt.Debt.{Debt}
+use Rattle.sip_machine.specs.declared.phases.Change.{Change as CodeChange}
+use Rattle.sip_machine.specs.declared.phases.Change.TheVariants as code
+use Rattle.sip_machine.specs.declared.phases.Turn.{Turn}
+use Rattle.sip_machine.specs.declared.effects.Effect.{Effect}
+use Rattle.sip_machine.specs.declared.effects.Rest.{Rest}
+use Rattle.sip_machine.specs.declared.effects.Rest.TheVariants as resting
+use Rattle.sip_standard.specs.Times.{Times}
+use Rattle.sip_standard.specs.Window.{close_at}
+use Rattle.sip_machine.specs.Limits.{IsWithin}
+use Rattle.sip_machine.specs.Texts.{Texts, Keeps}
+use Rattle.sip_machine.specs.MachineEvent.{MachineEvent}
+use Rattle.sip_machine.specs.Rules.{Knows, OrStays}
+use Rattle.sip_machine.specs.Debts.{Owed, IsWithoutFirst, unexpired, softened}
+use Rattle.sip_machine.specs.Owes.{owed_seen, owes_seen, owes_names, OwesInRange}
+use Rattle.sip_machine.specs.Figure.{Figure, IsFigure, Change, keeps, softens, drops, gains, After, Owing, changed, led_to, quiet, Follows, Repays, Emits, Fails, Restarts, Steps, TakeOf, until_of}
+use Rattle.sip_machine.specs.Owing.{CodeOwing, change_seen, change_names, turn_seen, turn_names, TurnInRange, owing_seen, owing_names, OwingInRange, changed_debts}
+use Rattle.sip_machine.specs.inner.Single.{IsTheOne, AnswersOne}
+use Rattle.sip_machine.specs.inner.Both.{AnswersBoth}
+use Rattle.sip_ledger.specs.Debts.{counts_at, softened_debt, paid_by}
+use Rattle.sip_machine.specs.inner.Paying.{PaysFor, FindsFirst}
+use Rattle.sip_machine.specs.inner.Effects.{Hears, Rests, unexpired_at, led_by, repaid_at, rests_at, quiets, given_by}
+use Rattle.sip_machine.specs.inner.DebtLaws.{IsWithoutFirst-none, IsWithoutFirst-map, IsWithoutFirst-same, All-without, All-front, All-back}
+use Rattle.sip_machine.specs.inner.OwesLaws.{unexpired-seen, softened-seen, All-names}
+use Rattle.sip_machine.specs.inner.OwingLaws.{quiet_stands, quiet_fits}
+use Rattle.sip_machine.proofs.texts.TextLaws.{Contains-nil}
+use Rattle.sip_machine.proofs.steps.SingleLemmas.{StandFor-none, StandFor-one}
+use Rattle.sip_machine.proofs.steps.BothLemmas.{StandFor-same, AnswersBoth-one, AnswersBoth-two, OrStays-one}
+
+-- The steps of the machine of a figure, over the states of the code.
+
+-- the names of kept debts
+names-kept : (texts : Texts) (ds : List Debt) → All (λ d. Keeps texts d.message) ds → All (Keeps texts) (owes_names ds)
+names-kept texts ds kept = All-map (Keeps texts) (λ d. d.message) ds kept
+
+-- the debts after a row stand for what it leaves
+changed-seen : (p : Times) (texts : Texts) (t : ℕ) (c : CodeChange) (owes : List Debt) →
+    changed p t (change_seen texts c) (owes_seen texts owes) ≡ owes_seen texts (changed_debts p t c owes)
+changed-seen p texts t code.Keeps owes = refl
+changed-seen p texts t code.Softens owes = softened-seen texts owes
+changed-seen p texts t code.Drops owes = refl
+changed-seen p texts t (code.Gains must message) owes =
+    sym (map-append (owed_seen texts) owes (record { message = message; deadline = close_at p t 0; must = must } ∷ []))
+
+-- the book has their messages
+changed-known : (p : Times) (texts : Texts) (t : ℕ) (c : CodeChange) (owes : List Debt) → All (Keeps texts) (change_names c) →
+    All (Keeps texts) (owes_names owes) → All (λ d. Keeps texts d.message) (changed_debts p t c owes)
+changed-known p texts t code.Keeps owes here known = All-names (Keeps texts) owes known
+changed-known p texts t code.Softens owes here known = All-map (λ d. Keeps texts d.message) softened_debt owes (All-names (Keeps texts) owes known)
+changed-known p texts t code.Drops owes here known = All-nil (λ d. Keeps texts d.message)
+changed-known p texts t (code.Gains must message) owes here known =
+    All-push (λ d. Keeps texts d.message) owes (record { message = message; deadline = close_at p t 0; must = must })
+    (All-names (Keeps texts) owes known) (All-head (Keeps texts) message [] here)
+
+-- and their deadlines are in range
+changed-in_range : (p : Times) (t : ℕ) (c : CodeChange) (owes : List Debt) → close_at p t 0 < 2 ^ 50 → OwesInRange owes →
+    OwesInRange (changed_debts p t c owes)
+changed-in_range p t code.Keeps owes small fits = fits
+changed-in_range p t code.Softens owes small fits = All-map (λ d. d.deadline < 2 ^ 50) softened_debt owes fits
+changed-in_range p t code.Drops owes small fits = All-nil (λ d. d.deadline < 2 ^ 50)
+changed-in_range p t (code.Gains must message) owes small fits =
+    All-push (λ d. d.deadline < 2 ^ 50) owes (record { message = message; deadline = close_at p t 0; must = must }) fits small
+
+-- a row drops the debts, or leaves no fewer,
+changed-length : (p : Times) (t : ℕ) (c : Change) (owes : List Owed) → (c ≡ drops) ⊎ (length owes ≤ length (changed p t c owes))
+changed-length p t keeps owes = inr (omega arith)
+changed-length p t softens owes = inr (softened-length owes)
+  where
+    softened-length : (owes : List Owed) → length owes ≤ length (softened owes)
+    softened-length [] = omega arith
+    softened-length (o ∷ os) = let more = softened-length os in omega (arith, more)
+changed-length p t drops owes = inl refl
+changed-length p t (gains must message) owes =
+    let longer = length-append owes (record { message = message; deadline = close_at p t 0; must = must } ∷ []) in inr (omega (arith, longer))
+
+-- and a debt that is paid leaves one less
+without-length : {X : Type 0} (P : X → Type 0) (xs ys : List X) → IsWithoutFirst P xs ys → length ys < length xs
+without-length P xs ys a =
+    let long : length xs ≡ length (a.before ++ a.first ∷ a.after) = ap length a.whole in
+    let short : length ys ≡ length (a.before ++ a.after) = ap length a.rest in
+    let more = length-append a.before (a.first ∷ a.after) in
+    let fewer = length-append a.before a.after in
+    omega (arith, long, short, more, fewer)
+
+-- a message in its turn and one that is owed lead to different states
+Follows-Repays : {X : Type 0} (f : Figure X) (is : IsFigure f) (p : Times) (e : MachineEvent) (x y : Owing X) → Follows (f.Sends p x.phase e.kind e) p e x y → Repays f e x y → ⊥
+Follows-Repays f is p e x y row pays = by_length (changed-length p e.moment (row.0).1 x.owes)
+  where
+    by_length : ((row.0).1 ≡ drops) ⊎ (length x.owes ≤ length (changed p e.moment (row.0).1 x.owes)) → ⊥
+    by_length (inl drop) = is.sent_leaves p x.phase e.kind e row.0 row.1 (inl drop) (ap (λ z. z.phase) (sym row.2 ∙ pays.2))
+    by_length (inr more) =
+        let fewer = without-length (λ owed. f.Satisfies x.phase e.kind e owed.message × (e.moment ≤ owed.deadline)) x.owes pays.0 pays.1 in
+        let same : changed p e.moment (row.0).1 x.owes ≡ pays.0 = ap (λ z. z.owes) (sym row.2 ∙ pays.2) in
+        let size = ap length same in
+        absurd (omega (arith, more, fewer, size))
+
+-- and so do one in its turn and one that changes nothing
+Follows-Stays : {X : Type 0} (f : Figure X) (is : IsFigure f) (p : Times) (e : MachineEvent) (x y : Owing X) → Follows (f.Sends p x.phase e.kind e) p e x y →
+    f.Stays x.phase e.kind × (y ≡ x) → ⊥
+Follows-Stays f is p e x y row stays =
+    is.sent_leaves p x.phase e.kind e row.0 row.1 (inr stays.0) (ap (λ z. z.phase) (sym row.2 ∙ stays.1))
+
+-- an end, where there is a step,
+ends-some : {X S : Type 0} (names : S → List ℕ) (InRange : S → Type 0) (seen : Texts → S → X) (texts : Texts) (P : X → Type 0) (end : S) →
+    Knows names texts end → InRange end → (z : X) × P z →
+    AnswersBoth names InRange seen texts (λ y. ((z : X) × P z) × (y ≡ seen texts end)) (Some end, None)
+ends-some {X} names InRange seen texts P end known fits some =
+    StandFor-one names InRange seen texts (λ y. ((z : X) × P z) × (y ≡ seen texts end)) end
+    (record { only = λ y. (λ h. h.1, λ e. (some, e)); known = known; in_range = fits })
+
+-- and none, where there is none
+ends-none : {X S : Type 0} (names : S → List ℕ) (InRange : S → Type 0) (seen : Texts → S → X) (texts : Texts) (P Q : X → Type 0) →
+    AnswersBoth {S = S} names InRange seen texts P (None, None) →
+    AnswersBoth {S = S} names InRange seen texts (λ y. ((z : X) × P z) × Q y) (None, None)
+ends-none {X} names InRange seen texts P Q both =
+    StandFor-none names InRange seen texts (λ y. ((z : X) × P z) × Q y) (λ y h. Contains-nil (h.0).0 ((both.members (h.0).0).1 (h.0).1))
+
+-- what may be sent counts until its deadline
+counts-may : (t : ℕ) (d : Debt) → t ≤ d.deadline → IsTrue (counts_at t d)
+counts-may t d low = grind (arith, nat_tests)
+
+-- a debt that is paid counts still, so that it may be paid before what has expired is dropped
+IsWithoutFirst-filter : {X : Type 0} (p : X → Bool) (P : X → Type 0) (xs ys : List X) → ((x : X) → P x → p x ≡ true) → IsWithoutFirst P xs ys →
+    IsWithoutFirst P (filter p xs) (filter p ys)
+IsWithoutFirst-filter p P xs ys passes a =
+    record {
+      before = filter p a.before;
+      first = a.first;
+      after = filter p a.after;
+      whole = ap (filter p) a.whole ∙ filter-append p a.before (a.first ∷ a.after)
+          ∙ ap (λ b. filter p a.before ++ cond b (a.first ∷ filter p a.after) (filter p a.after)) (passes a.first a.holds);
+      holds = a.holds;
+      none_before = All-filter p (λ x. ¬ (P x)) a.before a.none_before;
+      rest = ap (filter p) a.rest ∙ filter-append p a.before a.after;
+    }
+
+module _ {S X : Type 0} (f : Figure X) (p : Times) (seen : Texts → S → X) (names : S → List ℕ) (InRange : S → Type 0) (texts : Texts) where
+  -- where a row of the code leads
+  led-one : (Row : After X → Type 0) (e : MachineEvent) (x : CodeOwing S) (turn : Turn S) →
+      IsTheOne (turn_names names) (TurnInRange InRange) (turn_seen seen) texts Row turn → Knows (owing_names names) texts x → OwingInRange InRange x →
+      close_at p e.moment 0 < 2 ^ 50 →
+      IsTheOne (owing_names names) (OwingInRange InRange) (owing_seen seen) texts (Follows Row p e (owing_seen seen texts x))
+      (record x { phase = turn.phase; owes = changed_debts p e.moment turn.change x.owes })
+  led-one Row e x turn one known fits small =
+      let after = turn_seen seen texts turn in
+      let there : led_to p e.moment (owes_seen texts x.owes) after
+      ≡ owing_seen seen texts (record x { phase = turn.phase; owes = changed_debts p e.moment turn.change x.owes })
+      = ap (λ (owes : List Owed). record { phase = seen texts turn.phase; owes = owes }) (changed-seen p texts e.moment turn.change x.owes) in
+      let owes_known = All-back (Keeps texts) (names x.phase) (owes_names x.owes) known in
+      let here = All-back (Keeps texts) (names turn.phase) (change_names turn.change) one.known in
+      record {
+        only = λ y. (
+          λ h. h.2 ∙ ap (led_to p e.moment (owes_seen texts x.owes)) ((one.only h.0).0 h.1) ∙ there,
+          λ same. (after, (one.only after).1 refl, same ∙ sym there),
+        );
+        known = All-append (Keeps texts) (names turn.phase) (owes_names (changed_debts p e.moment turn.change x.owes))
+            (All-front (Keeps texts) (names turn.phase) (change_names turn.change) one.known)
+            (names-kept texts (changed_debts p e.moment turn.change x.owes) (changed-known p texts e.moment turn.change x.owes here owes_known));
+        in_range = (one.in_range, changed-in_range p e.moment turn.change x.owes small fits.1);
+      }
+
+  -- a received message without a row
+  stays-one : (Row : After X → Type 0) (e : MachineEvent) (x : CodeOwing S) → ((y : After X) → Row y → ⊥) → Knows (owing_names names) texts x →
+      OwingInRange InRange x →
+      IsTheOne (owing_names names) (OwingInRange InRange) (owing_seen seen) texts (OrStays (Follows Row p e (owing_seen seen texts x)) (owing_seen seen texts x)) x
+  stays-one Row e x none known fits =
+      record {
+        only = λ y. (λ h. elim h [ inl row ↦ absurd (none (row.0) row.1) | inr stays ↦ stays.1 ], λ same. inr (λ z row. none (row.0) row.1, same));
+        known = known;
+        in_range = fits;
+      }
+
+  -- a debt that is paid
+  repaid-one : (e : MachineEvent) (x : CodeOwing S) (left : List Debt) → Knows (owing_names names) texts x → OwingInRange InRange x →
+      IsWithoutFirst (PaysFor (f.Satisfies (seen texts x.phase) e.kind e) texts e.moment) x.owes left →
+      IsTheOne (owing_names names) (OwingInRange InRange) (owing_seen seen) texts (Repays f e (owing_seen seen texts x)) (record x { owes = left })
+  repaid-one e x left known fits paid =
+      let Q = PaysFor (f.Satisfies (seen texts x.phase) e.kind e) texts e.moment in
+      let P = λ (owed : Owed). f.Satisfies (seen texts x.phase) e.kind e owed.message × (e.moment ≤ owed.deadline) in
+      let pays = IsWithoutFirst-map (owed_seen texts) Q P x.owes left (λ k d low. (λ h. h, λ h. h)) paid in
+      let owes_known = All-names (Keeps texts) x.owes (All-back (Keeps texts) (names x.phase) (owes_names x.owes) known) in
+      record {
+        only = λ y. (
+          λ h. h.2 ∙ ap (λ (owes : List Owed). record { phase = seen texts x.phase; owes = owes })
+              (IsWithoutFirst-same P (owes_seen texts x.owes) h.0 (owes_seen texts left) h.1 pays),
+          λ same. (owes_seen texts left, pays, same),
+        );
+        known = All-append (Keeps texts) (names x.phase) (owes_names left) (All-front (Keeps texts) (names x.phase) (owes_names x.owes) known)
+            (names-kept texts left (All-without Q (λ d. Keeps texts d.message) x.owes left paid owes_known));
+        in_range = (fits.0, All-without Q (λ d. d.deadline < 2 ^ 50) x.owes left paid fits.1);
+      }
+
+  -- and none
+  repaid-none : (e : MachineEvent) (x : CodeOwing S) → All (λ debt. ¬ (PaysFor (f.Satisfies (seen texts x.phase) e.kind e) texts e.moment debt)) x.owes →
+      (y : Owing X) → Repays f e (owing_seen seen texts x) y → ⊥
+  repaid-none e x unpaid y h =
+      let P = λ (owed : Owed). f.Satisfies (seen texts x.phase) e.kind e owed.message × (e.moment ≤ owed.deadline) in
+      IsWithoutFirst-none P (owes_seen texts x.owes) h.0 (All-map (λ owed. ¬ (P owed)) (owed_seen texts) x.owes unpaid) h.1
+
+  -- the states after a message that is sent
+  emitted-both : (is : IsFigure f) (e : MachineEvent) (x : CodeOwing S) (sent rested : Option (CodeOwing S)) →
+      AnswersOne (owing_names names) (OwingInRange InRange) (owing_seen seen) texts
+      (Follows (f.Sends p (seen texts x.phase) e.kind e) p e (owing_seen seen texts x)) sent →
+      AnswersOne (owing_names names) (OwingInRange InRange) (owing_seen seen) texts (Rests f e (owing_seen seen texts x)) rested →
+      AnswersBoth (owing_names names) (OwingInRange InRange) (owing_seen seen) texts (Emits f p e (owing_seen seen texts x)) (sent, rested)
+  emitted-both is e x sent rested one other =
+      let here = owing_seen seen texts x in
+      let Row = f.Sends p (seen texts x.phase) e.kind e in
+      AnswersBoth-two (owing_names names) (OwingInRange InRange) (owing_seen seen) texts (Follows Row p e here) (Rests f e here)
+      (λ y row rest. elim rest [ inl pays ↦ Follows-Repays f is p e here y row pays | inr stays ↦ Follows-Stays f is p e here y row stays ])
+      sent rested one other
+
+  -- a message that changes nothing pays nothing
+  rests-stays : (is : IsFigure f) (e : MachineEvent) (x : CodeOwing S) → f.Stays (seen texts x.phase) e.kind →
+      Knows (owing_names names) texts x → OwingInRange InRange x →
+      IsTheOne (owing_names names) (OwingInRange InRange) (owing_seen seen) texts (Rests f e (owing_seen seen texts x)) x
+  rests-stays is e x stays known fits = record {
+    only = λ y. (
+      λ h. elim h [
+        | inl pays ↦ absurd (is.stays_unpaid (seen texts x.phase) e.kind e pays.1.first.message stays pays.1.holds.0)
+        | inr stays ↦ stays.1
+      ],
+      λ same. inr (stays, same),
+    );
+    known = known;
+    in_range = fits;
+  }
+
+  -- where a message changes something, the phase stays if it pays
+  rests-repaid : (e : MachineEvent) (x : CodeOwing S) → ¬ (f.Stays (seen texts x.phase) e.kind) → (repaid : Option (CodeOwing S)) →
+      AnswersOne (owing_names names) (OwingInRange InRange) (owing_seen seen) texts (Repays f e (owing_seen seen texts x)) repaid →
+      AnswersOne (owing_names names) (OwingInRange InRange) (owing_seen seen) texts (Rests f e (owing_seen seen texts x)) repaid
+  rests-repaid e x moves None none = λ y h. elim h [ inl pays ↦ none y pays | inr stays ↦ moves stays.0 ]
+  rests-repaid e x moves (Some s) one = record {
+    only = λ y. (
+      λ h. elim h [ inl pays ↦ (one.only y).0 pays | inr stays ↦ absurd (moves stays.0) ],
+      λ same. inl ((one.only y).1 same),
+    );
+    known = one.known;
+    in_range = one.in_range;
+  }
+
+  -- a state knows its messages without what has expired, and stays in range
+  known-at : (t : ℕ) (x : CodeOwing S) → Knows (owing_names names) texts x → Knows (owing_names names) texts (unexpired_at t x)
+  known-at t x known =
+      All-append (Keeps texts) (names x.phase) (owes_names (filter (counts_at t) x.owes)) (All-front (Keeps texts) (names x.phase) (owes_names x.owes) known)
+      (names-kept texts (filter (counts_at t) x.owes) (All-filter (counts_at t) (λ d. Keeps texts d.message) x.owes
+      (All-names (Keeps texts) x.owes (All-back (Keeps texts) (names x.phase) (owes_names x.owes) known))))
+
+  in_range-at : (t : ℕ) (x : CodeOwing S) → OwingInRange InRange x → OwingInRange InRange (unexpired_at t x)
+  in_range-at t x fits = (fits.0, All-filter (counts_at t) (λ d. d.deadline < 2 ^ 50) x.owes fits.1)
+
+  -- where the row of a sent message leads, if it has one
+  pub led-at : (e : MachineEvent) (x : CodeOwing S) (turn : Option (Turn S)) →
+      AnswersOne (turn_names names) (TurnInRange InRange) (turn_seen seen) texts (f.Sends p (seen texts x.phase) e.kind e) turn →
+      Knows (owing_names names) texts x → OwingInRange InRange x → close_at p e.moment 0 < 2 ^ 50 →
+      AnswersOne (owing_names names) (OwingInRange InRange) (owing_seen seen) texts
+      (Follows (f.Sends p (seen texts x.phase) e.kind e) p e (owing_seen seen texts (unexpired_at e.moment x)))
+      (option_map (λ turn. led_by p e.moment turn x) turn)
+  led-at e x None none known fits small = λ y row. none row.0 row.1
+  led-at e x (Some turn) one known fits small =
+      led-one (f.Sends p (seen texts x.phase) e.kind e) e (unexpired_at e.moment x) turn one (known-at e.moment x known) (in_range-at e.moment x fits) small
+
+  -- the state whose debt is paid, if one is
+  repaid-at : (e : MachineEvent) (x : CodeOwing S) (paid : Option ℕ) →
+      FindsFirst (PaysFor (f.Satisfies (seen texts x.phase) e.kind e) texts e.moment) e.moment x.owes paid →
+      Knows (owing_names names) texts x → OwingInRange InRange x →
+      AnswersOne (owing_names names) (OwingInRange InRange) (owing_seen seen) texts
+      (Repays f e (owing_seen seen texts (unexpired_at e.moment x))) (option_map (λ message. repaid_at e.moment message x) paid)
+  repaid-at e x None none known fits =
+      let P = PaysFor (f.Satisfies (seen texts x.phase) e.kind e) texts e.moment in
+      repaid-none e (unexpired_at e.moment x) (All-filter (counts_at e.moment) (λ debt. ¬ (P debt)) x.owes none)
+  repaid-at e x (Some message) finds known fits =
+      let P = PaysFor (f.Satisfies (seen texts x.phase) e.kind e) texts e.moment in
+      repaid-one e (unexpired_at e.moment x) (filter (counts_at e.moment) (paid_by message e.moment x.owes)) (known-at e.moment x known) (in_range-at e.moment x fits)
+      (IsWithoutFirst-filter (counts_at e.moment) P x.owes (paid_by message e.moment x.owes) (λ debt pays. counts-may e.moment debt pays.1) finds)
+
+  -- the state whose phase a sent message leaves as it is, which changes nothing,
+  pub rested-stays : (is : IsFigure f) (e : MachineEvent) (x : CodeOwing S) → f.Stays (seen texts x.phase) e.kind →
+      Knows (owing_names names) texts x → OwingInRange InRange x →
+      AnswersOne (owing_names names) (OwingInRange InRange) (owing_seen seen) texts (Rests f e (owing_seen seen texts (unexpired_at e.moment x)))
+      (Some (rests_at e.moment resting.Stays x))
+  rested-stays is e x stays known fits = rests-stays is e (unexpired_at e.moment x) stays (known-at e.moment x known) (in_range-at e.moment x fits)
+
+  -- or may pay
+  pub rested-pays : (e : MachineEvent) (x : CodeOwing S) → ¬ (f.Stays (seen texts x.phase) e.kind) → (paid : Option ℕ) →
+      FindsFirst (PaysFor (f.Satisfies (seen texts x.phase) e.kind e) texts e.moment) e.moment x.owes paid →
+      Knows (owing_names names) texts x → OwingInRange InRange x →
+      AnswersOne (owing_names names) (OwingInRange InRange) (owing_seen seen) texts (Rests f e (owing_seen seen texts (unexpired_at e.moment x)))
+      (option_map (λ rest. rests_at e.moment rest x) (option_map resting.Pays paid))
+  rested-pays e x moves None finds known fits = rests-repaid e (unexpired_at e.moment x) moves None (repaid-at e x None finds known fits)
+  rested-pays e x moves (Some message) finds known fits =
+      rests-repaid e (unexpired_at e.moment x) moves (Some (repaid_at e.moment message x)) (repaid-at e x (Some message) finds known fits)
+
+  -- what an effect gives is just what leads where P says
+  abbrev pub Gives : (Owing X → Type 0) → ℕ → CodeOwing S → Effect S → Type 0
+  Gives P t x effect = AnswersBoth (owing_names names) (OwingInRange InRange) (owing_seen seen) texts P (given_by p t x effect)
+
+  -- a received message leads where its row does, or stays
+  pub heard-one : (e : MachineEvent) (x : CodeOwing S) (turn : Option (Turn S)) →
+      AnswersOne (turn_names names) (TurnInRange InRange) (turn_seen seen) texts (f.Receives p (seen texts x.phase) e.kind e) turn →
+      Knows (owing_names names) texts x → OwingInRange InRange x → close_at p e.moment 0 < 2 ^ 50 →
+      IsTheOne (owing_names names) (OwingInRange InRange) (owing_seen seen) texts (Hears f p e (owing_seen seen texts (unexpired_at e.moment x)))
+      (led_by p e.moment (unwrap_or turn (record { phase = x.phase; change = code.Keeps })) x)
+  heard-one e x None none known fits small =
+      let now = unexpired_at e.moment x in
+      stays-one (f.Receives p (seen texts x.phase) e.kind e) e now none (known-at e.moment x known) (in_range-at e.moment x fits)
+  heard-one e x (Some turn) one known fits small =
+      let now = unexpired_at e.moment x in
+      let there = led_by p e.moment turn x in
+      let Row = f.Receives p (seen texts x.phase) e.kind e in
+      let led = led-one Row e now turn one (known-at e.moment x known) (in_range-at e.moment x fits) small in
+      record {
+        only = OrStays-one (Follows Row p e (owing_seen seen texts now)) (owing_seen seen texts now) (owing_seen seen texts there) led.only;
+        known = led.known;
+        in_range = led.in_range;
+      }
+
+  pub heard : (e : MachineEvent) (x : CodeOwing S) (turn : Option (Turn S)) →
+      AnswersOne (turn_names names) (TurnInRange InRange) (turn_seen seen) texts (f.Receives p (seen texts x.phase) e.kind e) turn →
+      Knows (owing_names names) texts x → OwingInRange InRange x → close_at p e.moment 0 < 2 ^ 50 →
+      Gives (Hears f p e (owing_seen seen texts (unexpired_at e.moment x))) e.moment x
+      (record { turn = Some (unwrap_or turn (record { phase = x.phase; change = code.Keeps })); rest = None })
+  heard e x turn one known fits small =
+      AnswersBoth-one (owing_names names) (OwingInRange InRange) (owing_seen seen) texts (Hears f p e (owing_seen seen texts (unexpired_at e.moment x)))
+      (Some (led_by p e.moment (unwrap_or turn (record { phase = x.phase; change = code.Keeps })) x)) (heard-one e x turn one known fits small)
+
+  -- one that is sent leads where its row does, and where the phase stays
+  pub emitted : (is : IsFigure f) (e : MachineEvent) (x : CodeOwing S) (turn : Option (Turn S)) (rest : Option Rest) →
+      AnswersOne (turn_names names) (TurnInRange InRange) (turn_seen seen) texts (f.Sends p (seen texts x.phase) e.kind e) turn →
+      AnswersOne (owing_names names) (OwingInRange InRange) (owing_seen seen) texts (Rests f e (owing_seen seen texts (unexpired_at e.moment x)))
+      (option_map (λ rest. rests_at e.moment rest x) rest) →
+      Knows (owing_names names) texts x → OwingInRange InRange x → close_at p e.moment 0 < 2 ^ 50 →
+      Gives (Emits f p e (owing_seen seen texts (unexpired_at e.moment x))) e.moment x (record { turn = turn; rest = rest })
+  emitted is e x turn rest one other known fits small =
+      emitted-both is e (unexpired_at e.moment x) (option_map (λ turn. led_by p e.moment turn x) turn) (option_map (λ rest. rests_at e.moment rest x) rest)
+      (led-at e x turn one known fits small) other
+
+  -- one that was refused counts as sent,
+  pub refused-emits : (e : MachineEvent) (x : CodeOwing S) (effect : Effect S) → f.ends_refused (seen texts x.phase) e.kind ≡ false →
+      Gives (Emits f p e (owing_seen seen texts (unexpired_at e.moment x))) e.moment x effect →
+      Gives (Fails (f.ends_refused (seen texts x.phase) e.kind) f p e (owing_seen seen texts (unexpired_at e.moment x))) e.moment x effect
+  refused-emits e x effect is gives = rw is gives
+
+  -- or ends the transaction, where a sent one has a step,
+  pub refused-ends : (e : MachineEvent) (x : CodeOwing S) (end : S) → f.ends_refused (seen texts x.phase) e.kind ≡ true → seen texts end ≡ f.ended →
+      (names end ≡ []) × InRange end → (z : Owing X) × Emits f p e (owing_seen seen texts (unexpired_at e.moment x)) z →
+      Gives (Fails (f.ends_refused (seen texts x.phase) e.kind) f p e (owing_seen seen texts (unexpired_at e.moment x))) e.moment x (quiets end)
+  refused-ends e x end is stands fits some =
+      let here = owing_seen seen texts (unexpired_at e.moment x) in
+      let over : CodeOwing S = record x { phase = end; owes = [] } in
+      let quiet_over = quiet_fits names InRange end fits in
+      rw is
+      (subst (λ q. AnswersBoth (owing_names names) (OwingInRange InRange) (owing_seen seen) texts
+      (λ y. ((z : Owing X) × Emits f p e here z) × (y ≡ q)) (Some over, None)) (quiet_stands seen texts end f.ended stands)
+      (ends-some (owing_names names) (OwingInRange InRange) (owing_seen seen) texts (Emits f p e here) over (rw quiet_over.0 (All-nil (Keeps texts))) quiet_over.1 some))
+
+  -- and else has none
+  pub refused-none : (e : MachineEvent) (x : CodeOwing S) (effect : Effect S) → f.ends_refused (seen texts x.phase) e.kind ≡ true →
+      (effect.turn ≡ None) × (effect.rest ≡ None) → Gives (Emits f p e (owing_seen seen texts (unexpired_at e.moment x))) e.moment x effect →
+      Gives (Fails (f.ends_refused (seen texts x.phase) e.kind) f p e (owing_seen seen texts (unexpired_at e.moment x))) e.moment x effect
+  refused-none e x effect is nothing gives =
+      let here = owing_seen seen texts (unexpired_at e.moment x) in
+      let none : effect ≡ record { turn = None; rest = None }
+      = ap₂ (λ (turn : Option (Turn S)) (rest : Option Rest). record { turn = turn; rest = rest }) nothing.0 nothing.1 in
+      let left = ends-none (owing_names names) (OwingInRange InRange) (owing_seen seen) texts (Emits f p e here) (λ y. y ≡ quiet f.ended)
+      (subst (Gives (Emits f p e here) e.moment x) none gives) in
+      rw is (subst (Gives (Fails true f p e here) e.moment x) (sym none) left)
+
+  -- where an effect gives something, there is a step
+  pub has_step : (P : Owing X → Type 0) (t : ℕ) (x : CodeOwing S) (turn : Option (Turn S)) (rest : Option Rest) →
+      ((turn ≡ None) × (rest ≡ None) → ⊥) → Gives P t x (record { turn = turn; rest = rest }) → (z : Owing X) × P z
+  has_step P t x None None some gives = absurd (some (refl, refl))
+  has_step P t x None (Some rest) some gives =
+      let z = owing_seen seen texts (rests_at t rest x) in (z, (gives.members z).0 (0, omega arith, refl))
+  has_step P t x (Some turn) rest some gives =
+      let z = owing_seen seen texts (led_by p t turn x) in (z, (gives.members z).0 (0, omega arith, refl))
+
+  -- a restart leaves an idle transaction idle,
+  pub restarted-idle : (t : ℕ) (x : CodeOwing S) (idle : S) → seen texts x.phase ≡ f.idle → seen texts idle ≡ f.idle → (names idle ≡ []) × InRange idle →
+      Gives (Restarts f (owing_seen seen texts (unexpired_at t x))) t x (quiets idle)
+  restarted-idle t x idle is stands fits =
+      let here = owing_seen seen texts (unexpired_at t x) in
+      let over : CodeOwing S = record x { phase = idle; owes = [] } in
+      let there : owing_seen seen texts over ≡ quiet f.idle = quiet_stands seen texts idle f.idle stands in
+      let quiet_over = quiet_fits names InRange idle fits in
+      AnswersBoth-one (owing_names names) (OwingInRange InRange) (owing_seen seen) texts (Restarts f here) (Some over)
+      (record {
+        only = λ y. (
+          λ h. elim h [ inl rests ↦ rests.1 ∙ sym there | inr ends ↦ absurd (ends.0 is) ],
+          λ e. inl (is, e ∙ there),
+        );
+        known = rw quiet_over.0 (All-nil (Keeps texts));
+        in_range = quiet_over.1;
+      })
+
+  -- and ends any other
+  pub restarted-ended : (t : ℕ) (x : CodeOwing S) (end : S) → ¬ (seen texts x.phase ≡ f.idle) → seen texts end ≡ f.ended → (names end ≡ []) × InRange end →
+      Gives (Restarts f (owing_seen seen texts (unexpired_at t x))) t x (quiets end)
+  restarted-ended t x end other stands fits =
+      let here = owing_seen seen texts (unexpired_at t x) in
+      let over : CodeOwing S = record x { phase = end; owes = [] } in
+      let there : owing_seen seen texts over ≡ quiet f.ended = quiet_stands seen texts end f.ended stands in
+      let quiet_over = quiet_fits names InRange end fits in
+      AnswersBoth-one (owing_names names) (OwingInRange InRange) (owing_seen seen) texts (Restarts f here) (Some over)
+      (record {
+        only = λ y. (
+          λ h. elim h [ inl rests ↦ absurd (other rests.0) | inr ends ↦ ends.1 ∙ sym there ],
+          λ e. inr (other, e ∙ there),
+        );
+        known = rw quiet_over.0 (All-nil (Keeps texts));
+        in_range = quiet_over.1;
+      })
+
+  -- the steps of the state at the moment are those of the state that has lasted until then
+  pub taken : (a : Action) (e : MachineEvent) (x : CodeOwing S) (effect : Effect S) → e.action ≡ a →
+      IsWithin e.moment (until_of f p (owing_seen seen texts x)) → Gives (Steps f p a e (owing_seen seen texts (unexpired_at e.moment x))) e.moment x effect →
+      Gives (TakeOf f p (owing_seen seen texts x) e) e.moment x effect
+  taken a e x effect is within gives =
+      let at : Owing X = record { phase = seen texts x.phase; owes = unexpired e.moment (owes_seen texts x.owes) } in
+      let here : owing_seen seen texts (unexpired_at e.moment x) ≡ at
+      = ap (λ (owes : List Owed). record { phase = seen texts x.phase; owes = owes }) (sym (unexpired-seen e.moment texts x.owes)) in
+      let next = given_by p e.moment x effect in
+      StandFor-same (owing_names names) (OwingInRange InRange) (owing_seen seen) texts (Steps f p a e (owing_seen seen texts (unexpired_at e.moment x)))
+      (TakeOf f p (owing_seen seen texts x) e)
+      (λ y. (
+        λ h. (within, subst (λ b. Steps f p b e at y) (sym is) (subst (λ z. Steps f p a e z y) here h)),
+        λ h. subst (λ z. Steps f p a e z y) (sym here) (subst (λ b. Steps f p b e at y) is h.1),
+      ))
+      (option_to_list next.0 ++ option_to_list next.1) gives

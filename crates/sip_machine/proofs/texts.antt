@@ -1,0 +1,5 @@
+pub mod TextLaws
+pub mod OrderLaws
+pub mod RunLaws
+pub mod BesideLemmas
+pub mod RetainLemmas

@@ -1,0 +1,59 @@
+-- Tokens at the front of a text.
+use Rattle.std.proofs.Common.{◌≡◌, ◌≢◌, ◌∙◌, ◌+◌, ℕ, List, [], ◌∷◌, ◌++◌, Bool, Some, None, take, length, cond, nat_eq, true, false, refl, sym, ap, subst, arith}
+use Rattle.std.specs.List.{prefix_len, list_all}
+use Rattle.std.proofs.Math.Seq.{take-append_seam}
+use Rattle.std.proofs.lemmas.Bool.{eqb-true, and_parts}
+use Rattle.sip_standard.specs.Profile.{Token}
+use Rattle.sip_text.specs.Bytes.{is_token_byte}
+use Rattle.sip_text.proofs.texts.ManyLemmas.{many-some}
+use Rattle.sip_text.proofs.texts.RunLemmas.{run-list_all}
+use Rattle.sip_part.specs.Led.{token_at}
+
+-- no token stands there
+pub token_none : (text : List ℕ) → prefix_len is_token_byte text ≡ 0 → token_at text ≡ None
+token_none text none = rw none refl
+
+-- the longest one does
+pub token_some : (text : List ℕ) (n : ℕ) → prefix_len is_token_byte text ≡ n → n ≢ 0 → token_at text ≡ Some (take n text)
+token_some text n is some = by (nat_eq (prefix_len is_token_byte text) 0) refl
+  where
+    by : (b : Bool) → nat_eq (prefix_len is_token_byte text) 0 ≡ b → token_at text ≡ Some (take n text)
+    by true zero = absurd (some (sym is ∙ eqb-true (prefix_len is_token_byte text) 0 zero))
+    by false more = rw more (ap (λ k. Some (take k text)) is)
+
+-- a text that no token stands before begins with no byte of one
+pub no_front : (x : ℕ) (text : List ℕ) → is_token_byte x ≡ true → prefix_len is_token_byte (x ∷ text) ≡ 0 → ⊥
+no_front x text is none = let some : cond true (1 + prefix_len is_token_byte text) 0 ≡ 0 = subst (λ b. cond b (1 + prefix_len is_token_byte text) 0 ≡ 0) is none in absurd (omega (arith, some))
+
+-- two runs of bytes of tokens that cannot go on, in one text, are the same
+pub same_run : (u v rest more : List ℕ) → list_all is_token_byte u ≡ true → list_all is_token_byte v ≡ true → prefix_len is_token_byte rest ≡ 0 → prefix_len is_token_byte more ≡ 0
+    → u ++ rest ≡ v ++ more → (u ≡ v) × (rest ≡ more)
+same_run [] [] rest more left right ends stops same = (refl, same)
+same_run [] (y ∷ v) rest more left right ends stops same = absurd (no_front y (v ++ more) (and_parts (is_token_byte y) (list_all is_token_byte v) right).0 (ap (prefix_len is_token_byte) (sym same) ∙ ends))
+same_run (x ∷ u) [] rest more left right ends stops same = absurd (no_front x (u ++ rest) (and_parts (is_token_byte x) (list_all is_token_byte u) left).0 (ap (prefix_len is_token_byte) same ∙ stops))
+same_run (x ∷ u) (y ∷ v) rest more left right ends stops same =
+    let heads : x ≡ y = cc in
+    let tails : u ++ rest ≡ v ++ more = cc in
+    let on = same_run u v rest more (and_parts (is_token_byte x) (list_all is_token_byte u) left).1 (and_parts (is_token_byte y) (list_all is_token_byte v) right).1 ends stops tails in
+    let one : u ≡ v = on.0 in
+    (cc, on.1)
+
+-- the bytes of a token
+pub token_run : (u : List ℕ) → Token u → list_all is_token_byte u ≡ true
+token_run u token = run-list_all is_token_byte u (many-some _ u token)
+
+-- a run that cannot go on is what is measured
+run_len : (u rest : List ℕ) → list_all is_token_byte u ≡ true → prefix_len is_token_byte rest ≡ 0 → prefix_len is_token_byte (u ++ rest) ≡ length u
+run_len [] rest all ends = ends
+run_len (x ∷ u) rest all ends =
+    let parts = and_parts (is_token_byte x) (list_all is_token_byte u) all in
+    let on = run_len u rest parts.1 ends in
+    ap (λ b. cond b (1 + prefix_len is_token_byte (u ++ rest)) 0) parts.0 ∙ omega (arith, on)
+
+-- a token has a first byte
+token_long : (u : List ℕ) → Token u → length u ≢ 0
+token_long u (first, more, (x, is, one), others, whole) none = let e = ap length (whole ∙ ap (λ t. t ++ more) one) in omega (arith, e, none)
+
+-- a token that cannot go on is what stands at the front
+pub token_whole : (u rest : List ℕ) → Token u → prefix_len is_token_byte rest ≡ 0 → token_at (u ++ rest) ≡ Some u
+token_whole u rest token ends = token_some (u ++ rest) (length u) (run_len u rest (token_run u token) ends) (token_long u token) ∙ ap Some (take-append_seam u rest)

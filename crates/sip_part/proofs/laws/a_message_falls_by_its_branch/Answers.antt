@@ -1,0 +1,5 @@
+use Rattle.sip_part.proofs.Told.{told_branch}
+use Rattle.sip_part.proofs.laws.a_message_falls_by_its_branch.Goals as goal
+
+pub returns : goal.returns
+returns c = told_branch

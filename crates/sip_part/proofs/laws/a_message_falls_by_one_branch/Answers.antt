@@ -1,0 +1,5 @@
+use Rattle.sip_part.proofs.Told.{one_told}
+use Rattle.sip_part.proofs.laws.a_message_falls_by_one_branch.Goals as goal
+
+pub returns : goal.returns
+returns c = one_told

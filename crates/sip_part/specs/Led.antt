@@ -1,0 +1,46 @@
+-- The branch that stands plainly in the first field of a message.
+use Rattle.std.specs.Prelude.{ℕ, ◌==◌, Bool, false, nat_eq, List, [], ◌∷◌, Option, None, Some, take, drop, codes, if◌then◌else◌}
+use Rattle.std.specs.List.{prefix_len, starts_with}
+use Rattle.sip_standard.specs.Chars.{is_among}
+use Rattle.sip_text.specs.Bytes.{line_feed, semicolon, is_token_byte}
+
+-- what stands after the first LF, if there is one
+abbrev pub after_line : List ℕ → Option (List ℕ)
+after_line [] = None
+after_line (byte ∷ text) = if byte == line_feed then Some text else after_line text
+
+-- the longest token that the text begins with, if it begins with one
+abbrev pub token_at : List ℕ → Option (List ℕ)
+token_at text = if prefix_len is_token_byte text == 0 then None else Some (take (prefix_len is_token_byte text) text)
+
+-- the search for a plain branch ends at a comma, a quote and the end of a line
+abbrev pub is_end : ℕ → Bool
+is_end = is_among ",\"\r\n"
+
+-- the parameter begins with a blank, or as a branch may that is spelled otherwise
+abbrev pub opens_other : List ℕ → Bool
+opens_other [] = false
+opens_other (byte ∷ text) = is_among " \tbB" byte
+
+-- the token after the first ";branch=" of the text, if there is one, no search ends before it, and no other parameter opens so
+abbrev pub branch_in : List ℕ → Option (List ℕ)
+branch_in [] = None
+branch_in (byte ∷ text) =
+    if is_end byte then None
+    else if byte == semicolon then (if starts_with nat_eq text (codes "branch=") then token_at (drop 7 text) else if opens_other text then None else branch_in text)
+    else branch_in text
+
+-- the plain branch of a field that is spelled "Via:" or "v:"
+abbrev pub via_branch : List ℕ → Option (List ℕ)
+via_branch field =
+    if starts_with nat_eq field (codes "Via:") then branch_in (drop 4 field)
+    else if starts_with nat_eq field (codes "v:") then branch_in (drop 2 field) else None
+
+-- the plain branch of the first field, which stands after the start line
+abbrev pub first_branch : Option (List ℕ) → Option (List ℕ)
+first_branch None = None
+first_branch (Some fields) = via_branch fields
+
+-- the plain branch of a message
+abbrev pub led_branch : List ℕ → Option (List ℕ)
+led_branch text = first_branch (after_line text)

@@ -1,0 +1,34 @@
+-- The part of a log that is cut by branch into which a message falls.
+use Rattle.std.specs.Prelude.{◌≡◌, ℕ, ◌+◌, ◌*◌, ◌%◌, ◌^◌, ◌==◌, Bool, List, [], Option, None, Some, MatchOption, fold, bit_xor}
+use Rattle.sip_standard.specs.Case.{folded}
+use Rattle.sip_standard.specs.declared.fault.Fault.{Fault}
+use Rattle.sip_standard.specs.Outcome.{gives, stops}
+use Rattle.sip_standard.specs.Says.{Said, Says}
+use Rattle.sip_part.specs.Led.{led_branch}
+
+-- part `number`, from 1, of `count`
+pub record PartOf : Type 0 where
+  pub number : ℕ
+  pub count : ℕ
+
+-- FNV-1a of 32 bits: from 2166136261 on, each byte is put in by exclusive or, and the sum is multiplied by 16777619
+abbrev pub fnv1a : List ℕ → ℕ
+fnv1a text = fold (λ sum byte. (bit_xor sum byte * 16777619) % 2 ^ 32) 2166136261 text
+
+-- a branch, in lower case, falls into this part
+abbrev pub falls_into : PartOf → List ℕ → Bool
+falls_into part branch = fnv1a branch % part.count + 1 == part.number
+
+-- a branch in lower case, as it is compared; nothing where there is none
+abbrev pub compared : Option (List ℕ) → List ℕ
+compared None = []
+compared (Some branch) = folded branch
+
+-- what the reader of whole messages finds: the branch of the top Via, and nothing in a message with a fault
+pub data FindsBranch (text branch : List ℕ) : Type 0 where
+  reads : (s : Said) → Says text (gives s) → branch ≡ compared s.via.branch → FindsBranch text branch
+  is_faulty : (fault : Fault) → Says text (stops fault) → branch ≡ [] → FindsBranch text branch
+
+-- the branch by which a message falls into its part: the one that stands plainly in its first field, and else what the reader of whole messages finds
+abbrev pub TellsBranch : List ℕ → List ℕ → Type 0
+TellsBranch text branch = MatchOption (led_branch text) (FindsBranch text branch) (λ plain. branch ≡ folded plain)

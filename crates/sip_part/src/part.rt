@@ -1,0 +1,92 @@
+//! The parts of a log that is cut by branch.
+ghost use Rattle.std.specs.Prelude.{◌≡◌, ◌≤◌, ◌<◌, MatchOption, IfOk, List, ℕ, option_copied};
+ghost use Rattle.sip_standard.specs.Case.{folded};
+ghost use Rattle.sip_standard.specs.Outcome.{gives};
+ghost use Rattle.sip_standard.specs.Says.{Said, Says};
+ghost use Rattle.sip_part.specs.Part.{FindsBranch, PartOf, TellsBranch, compared, falls_into, fnv1a};
+
+use crate::led::led_branch;
+use sip_message::{Message, ReadError};
+use std::alloc::{AllocError, Global};
+use std::marker::Model;
+
+/// One of the parts of a log that is cut by branch: part `number` of `count`, counted from 1.
+#[derive(Debug, Drop)]
+pub struct Part {
+    number: u32,
+    count: u32,
+}
+
+impl Model for Part {
+    ghost use Rattle.std.specs.Prelude.{◌<◌, ◌≤◌};
+    ghost use Rattle.sip_part.specs.Part.{PartOf};
+
+    ghost Value = { PartOf };
+
+    ghost view = { λ p. record { number = p.number; count = p.count } };
+
+    ghost invariant = { λ p. (0 < p.number) × (p.number ≤ p.count) };
+}
+
+impl Part {
+    /// Part `number` of `count`, if there is such a part.
+    pub fn new(number: u32, count: u32) -> Option<Part>
+        ensures { MatchOption result (¬ ((0 < number) × (number ≤ count))) (λ part. (part ≡ record { number = number; count = count }) × (0 < number) × (number ≤ count)) }
+    {
+        if number == 0 || number > count {
+            return None;
+        }
+        Some(Part { number, count })
+    }
+
+    /// Whether a branch falls into the part: FNV-1a of 32 bits of its bytes in lower case, modulo the count of parts, is one less than
+    /// the number of the part.
+    pub fn has_branch(&self, branch: &[u8]) -> bool
+        ensures { result ≡ falls_into self.now (folded branch.now) }
+    {
+        fnv1a(branch) % self.count + 1 == self.number
+    }
+
+    /// Whether a message falls into the part, by the branch of its top Via. One with a fault does by the branch that stands plainly in
+    /// its first field, or as one without a branch.
+    pub fn has_message(&self, alloc: Global, bytes: &[u8]) -> Result<bool, AllocError>
+        ensures { IfOk result (λ falls. (branch : List ℕ) × TellsBranch bytes.now branch × (falls ≡ falls_into self.now branch)) }
+    {
+        match led_branch(bytes) {
+            Some(branch) => Ok(self.has_branch(branch)),
+            None => self.has_read(alloc, bytes),
+        }
+    }
+
+    /// Whether a message that is read whole falls into the part.
+    fn has_read(&self, alloc: Global, bytes: &[u8]) -> Result<bool, AllocError>
+        ensures { IfOk result (λ falls. (branch : List ℕ) × FindsBranch bytes.now branch × (falls ≡ falls_into self.now branch)) }
+    {
+        match Message::read(alloc, bytes) {
+            Ok(message) => Ok(self.has_compared(message.top_via().branch)),
+            Err(ReadError::Fault(_)) => Ok(self.has_compared(None)),
+            Err(ReadError::Memory) => Err(AllocError),
+        }
+    }
+
+    /// Whether a branch falls into the part, or what has none.
+    fn has_compared(&self, branch: Option<&[u8]>) -> bool
+        ensures { result ≡ falls_into self.now (compared (option_copied branch.entry)) }
+    {
+        match branch {
+            Some(branch) => self.has_branch(branch),
+            None => self.has_branch(b""),
+        }
+    }
+}
+
+/// FNV-1a of 32 bits of the bytes in lower case.
+fn fnv1a(text: &[u8]) -> u32
+    ensures { result ≡ fnv1a (folded text.now) }
+{
+    let mut sum: u32 = 2_166_136_261;
+    for byte in text {
+        sum = (sum ^ u32::from(byte.to_ascii_lowercase())).wrapping_mul(16_777_619);
+    }
+    sum
+}

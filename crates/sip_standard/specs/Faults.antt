@@ -1,0 +1,19 @@
+-- The faults of a message: where one is, and why.
+use Rattle.std.specs.Prelude.{ℕ, List, ◌∷◌}
+use Rattle.sip_standard.specs.declared.fault.Fault.{Fault}
+use Rattle.sip_standard.specs.declared.fault.Unit.TheVariants as place
+use Rattle.sip_standard.specs.declared.fault.Reason.{Reason}
+
+abbrev pub fault_in_head : Reason → Fault
+fault_in_head why = record { unit = place.Head; reason = why }
+
+abbrev pub fault_in_line : ℕ → Reason → Fault
+fault_in_line n why = record { unit = place.Line n; reason = why }
+
+abbrev pub fault_in_body : Reason → Fault
+fault_in_body why = record { unit = place.Body; reason = why }
+
+-- the line of the second of these fields
+abbrev pub second_line : List (ℕ × List ℕ) → ℕ
+second_line (one ∷ two ∷ more) = two.0
+second_line _ = 0

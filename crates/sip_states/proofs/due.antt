@@ -1,0 +1,3 @@
+pub mod AgendaLemmas
+pub mod AdvanceLemmas
+pub mod MarksLemmas

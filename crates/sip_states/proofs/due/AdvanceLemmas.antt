@@ -1,0 +1,314 @@
+-- Sets that wait, one after another, and what the marked ones name.
+use Rattle.std.proofs.Common.{cond, zero, suc, Bool, true, false, true≢false, Result, Ok, Err, OnOk, OnErr, AllPairs, Contains, ◌↔◌, ◌++◌, [], ◌∷◌, ◌≡◌, ◌≢◌, ◌≤◌, ◌<◌, ◌⊎◌, inl, inr, ℕ, Option, Some, None, List, ◌+◌, map, take, option_copied, All, length, get_or, slice_get, slice_set, refl, sym, ap, ◌∙◌, subst, arith}
+use Rattle.std.specs.List.{flat_map}
+use Rattle.std.specs.Result.{is_ok}
+use Rattle.std.specs.Slice.{IsItemAt}
+use Rattle.std.specs.Borrow.{Bor}
+use Rattle.std.proofs.lemmas.Bool.{ltb-true}
+use Rattle.std.proofs.lemmas.Option.{slice_get_within, slice_get-get_or}
+use Rattle.std.proofs.lemmas.List.{length-set, length-map, get_or-map, length-take-le, get_or-take, get_or_default}
+use Rattle.std.proofs.lemmas.List.Elements.{Contains-push, Contains-push_cases, Contains-append_left, Contains-append_right, Contains-get_or}
+use Rattle.sip_key.specs.Key.{KeyParts}
+use Rattle.sip_standard.specs.Times.{Times}
+use Rattle.sip_machine.proofs.texts.TextLaws.{Contains-nil, Contains-cons_cases}
+use Rattle.sip_states.specs.KeyMachine.{machine_of_key}
+use Rattle.sip_states.specs.AnySet.{SetWaits, moment_of, start_of, IsQuietSet}
+use Rattle.sip_states.specs.Tables.{Tabled, IsGiven}
+use Rattle.sip_states.specs.Restarting.{AreToRestart}
+use Rattle.sip_states.proofs.lists.Listed.{Contains-map}
+use Rattle.sip_states.specs.Sweep.{numbers_of, IsAdvanced, AppendsNamed}
+use Rattle.sip_states.specs.inner.Marks.{IsMarked, ElseHolds, AreMarked}
+use Rattle.sip_states.specs.inner.Advance.{AdvancesAt}
+use Rattle.sip_states.specs.declared.any_set.AnySet.{AnySet}
+use Rattle.sip_states.proofs.keyed.NamesLemmas.{Contains-flat_map, Contains-from_flat_map}
+use Rattle.sip_states.proofs.keyed.ByMachine.{start_silent, start_is_quiet}
+
+-- the element at a place, where another was put at one
+pub set_place : {A : Type 0} (xs : List A) (i n : ℕ) (a x : A) → slice_get (slice_set xs i a) n ≡ Some x → ((n ≡ i) × (a ≡ x)) ⊎ ((n ≢ i) × (slice_get xs n ≡ Some x))
+set_place [] i n a x at = absurd cc
+set_place (u ∷ xs) zero zero a x at = inl (refl, cc)
+set_place (u ∷ xs) zero (suc n) a x at = inr (λ same. omega (arith, same), at)
+set_place (u ∷ xs) (suc i) zero a x at = inr (λ same. omega (arith, same), at)
+set_place (u ∷ xs) (suc i) (suc n) a x at =
+    elim (set_place xs i n a x at) [ inl h ↦ inl (ap suc h.0, h.1) | inr h ↦ inr (λ same. h.0 (omega (arith, same)), h.1) ]
+
+-- an element that stands there already
+set_still : {A : Type 0} (xs : List A) (i : ℕ) (a : A) → slice_get xs i ≡ Some a → slice_set xs i a ≡ xs
+set_still [] i a at = absurd cc
+set_still (u ∷ xs) zero a at = (let same : u ≡ a = cc in (λ k. sym same k ∷ xs))
+set_still (u ∷ xs) (suc i) a at = (λ k. u ∷ set_still xs i a at k)
+
+same_of_some : {A : Type 0} (a b : A) → Some a ≡ Some b → a ≡ b
+same_of_some a b h = cc
+
+-- Sets that wait.
+
+-- one more has
+pub advances_more : (moment : ℕ) (indices : List ℕ) (old now : List AnySet) (index : ℕ) (set after : AnySet) → AdvancesAt moment indices old now → ¬ Contains indices index
+    → slice_get now index ≡ Some set → SetWaits moment set after → AdvancesAt moment (indices ++ index ∷ []) old (slice_set now index after)
+advances_more moment indices old now index set after up fresh at waits = record {
+  long = length-set now index after ∙ up.long;
+  each = λ n a b was is. elim (set_place now index n after b is) [
+    | inl here ↦ elim (up.each n a set was (ap (slice_get now) here.0 ∙ at)) [
+      | inl early ↦ absurd (fresh (subst (Contains indices) here.0 early.0))
+      | inr same ↦ inl (
+        subst (Contains (indices ++ index ∷ [])) (sym here.0) (Contains-push indices index),
+        subst (λ x. SetWaits moment a x) here.1 (subst (λ x. SetWaits moment x after) same.1 waits),
+      )
+    ]
+    | inr other ↦ elim (up.each n a b was other.1) [
+      | inl early ↦ inl (Contains-append_left indices (index ∷ []) n early.0, early.1)
+      | inr same ↦ inr (λ has. elim (Contains-push_cases indices index n has) [ inl before ↦ same.0 before | inr e ↦ other.0 (sym e) ], same.1)
+    ]
+  ];
+}
+
+-- one could not
+pub advances_failed : (moment : ℕ) (indices : List ℕ) (old now : List AnySet) (index : ℕ) (set after : AnySet) → AdvancesAt moment indices old now
+    → slice_get now index ≡ Some set → after ≡ set → AdvancesAt moment indices old (slice_set now index after)
+advances_failed moment indices old now index set after up at same =
+    subst (λ xs. AdvancesAt moment indices old xs) (sym (ap (slice_set now index) same ∙ set_still now index set at)) up
+
+-- a set that is not past still is not, where it has not waited
+pub still_early : (moment : ℕ) (indices : List ℕ) (old now : List AnySet) (index : ℕ) (set : AnySet) → AdvancesAt moment indices old now → ¬ Contains indices index
+    → All (λ s. moment_of s ≤ moment) old → slice_get now index ≡ Some set → moment_of set ≤ moment
+still_early moment indices old now index set up fresh early at =
+    let low = slice_get_within now index set at in
+    let long = up.long in
+    let was : slice_get old index ≡ Some (get_or old index set) = slice_get-get_or old index set (omega arith) in
+    elim (up.each index (get_or old index set) set was at) [
+      | inl has ↦ absurd (fresh has.0)
+      | inr same ↦ subst (λ s. moment_of s ≤ moment) (sym same.1) (early index set (omega arith))
+    ]
+
+-- the next of indices that stand there once is not among those before it
+pub fresh_next : (xs : List ℕ) (i d : ℕ) → AllPairs (λ a b. a ≢ b) xs → i < length xs → ¬ Contains (take i xs) (get_or xs i d)
+fresh_next xs i d once low has =
+    let short : length (take i xs) ≡ i = length-take-le i xs (omega arith) in
+    let before : has.0 < i = omega (arith, has.1) in
+    once has.0 i d before low (get_or_default xs has.0 d (get_or xs i d) (omega arith) ∙ sym (get_or-take i xs has.0 (get_or xs i d) before) ∙ has.2)
+
+-- the first indices are among them all
+pub take_among : (i : ℕ) (xs : List ℕ) (n : ℕ) → Contains (take i xs) n → Contains xs n
+take_among zero xs n has = absurd (Contains-nil n has)
+take_among (suc i) [] n has = has
+take_among (suc i) (x ∷ xs) n has =
+    elim (Contains-cons_cases x (take i xs) n has) [
+      | inl same ↦ subst (Contains (x ∷ xs)) same (Contains-get_or (x ∷ xs) 0 x (omega arith))
+      | inr rest ↦ Contains-append_right (x ∷ []) xs n (take_among i xs n rest)
+    ]
+
+-- what is lent of a list is in it
+pub item_among : (xs : List ℕ) (i : ℕ) (r : Option (Bor ℕ)) (o : Option ℕ) (x : ℕ) → IsItemAt xs i r → o ≡ option_copied r → o ≡ Some x → Contains xs x
+item_among xs i None o x item copied is = (let no : Some x ≡ None = sym is ∙ copied in absurd cc)
+item_among xs i (Some b) o x item copied is =
+    let low : i < length xs = ltb-true i (length xs) (sym item.0) in
+    let same : b.now ≡ x = same_of_some b.now x (sym copied ∙ is) in
+    (i, low, get_or_default xs i x b.now low ∙ sym item.1 ∙ same)
+
+-- what is at a place is in the list
+pub place_among : (xs : List ℕ) (i d : ℕ) → i < length xs → Contains xs (get_or xs i d)
+place_among xs i d low = (i, low, get_or_default xs i (get_or xs i d) d low)
+
+-- Sets that are marked.
+
+-- a mark that is not there is the other one
+not_marked : (marks : List Bool) (n : ℕ) → n < length marks → ¬ IsMarked marks n → slice_get marks n ≡ Some false
+not_marked [] n low none = absurd (omega arith)
+not_marked (true ∷ marks) zero low none = absurd (none refl)
+not_marked (false ∷ marks) zero low none = refl
+not_marked (m ∷ marks) (suc n) low none = not_marked marks n (omega arith) none
+
+-- all have waited where those that are marked have
+pub marked_advance : (moment : ℕ) (marked : List ℕ) (marks : List Bool) (old new : List AnySet) → length marks ≡ length old → AreMarked marks old
+    → ((n : ℕ) → Contains marked n ↔ IsMarked marks n) → AdvancesAt moment marked old new
+    → (n : ℕ) (a b : AnySet) → slice_get old n ≡ Some a → slice_get new n ≡ Some b → IsAdvanced moment a b
+marked_advance moment marked marks old new long are members up n a b was is =
+    let low = slice_get_within old n a was in
+    elim (up.each n a b was is) [
+      | inl waited ↦ inl waited.1
+      | inr same ↦ inr (same.1, are n a was (not_marked marks n (omega arith) (λ mark. same.0 ((members n).1 mark))))
+    ]
+
+-- some have
+pub some_advance : (moment : ℕ) (indices : List ℕ) (old new : List AnySet) → AdvancesAt moment indices old new
+    → (n : ℕ) (a b : AnySet) → slice_get old n ≡ Some a → slice_get new n ≡ Some b → IsAdvanced moment a b ⊎ (b ≡ a)
+some_advance moment indices old new up n a b was is = elim (up.each n a b was is) [ inl waited ↦ inl (inl waited.1) | inr same ↦ inr same.1 ]
+
+-- what holds of those that are not marked still does
+pub marked_still : (P : AnySet → Type 0) (moment : ℕ) (indices : List ℕ) (marks : List Bool) (old new : List AnySet) → ElseHolds P marks old → ((n : ℕ) → Contains indices n → IsMarked marks n)
+    → AdvancesAt moment indices old new → ElseHolds P marks new
+marked_still P moment indices marks old new are some up n set at mark =
+    let low = slice_get_within new n set at in
+    let long = up.long in
+    let was : slice_get old n ≡ Some (get_or old n set) = slice_get-get_or old n set (omega arith) in
+    elim (up.each n (get_or old n set) set was at) [
+      | inl waited ↦ absurd (true≢false (same_of_some true false (sym (some n waited.0) ∙ mark)))
+      | inr same ↦ subst P (sym same.1) (are n (get_or old n set) was mark)
+    ]
+
+-- the element at a place, where one more was put after
+push_place : {A : Type 0} (xs : List A) (n : ℕ) (a x : A) → slice_get (xs ++ a ∷ []) n ≡ Some x → (slice_get xs n ≡ Some x) ⊎ ((n ≡ length xs) × (a ≡ x))
+push_place [] zero a x at = inr (refl, cc)
+push_place [] (suc n) a x at = absurd cc
+push_place (u ∷ xs) zero a x at = inl at
+push_place (u ∷ xs) (suc n) a x at = elim (push_place xs n a x at) [ inl h ↦ inl h | inr h ↦ inr (ap suc h.0, h.1) ]
+
+-- one more of which it holds needs no mark
+pub marked_push : (P : AnySet → Type 0) (marks : List Bool) (sets : List AnySet) (set : AnySet) → length marks ≡ length sets → ElseHolds P marks sets → P set
+    → ElseHolds P (marks ++ false ∷ []) (sets ++ set ∷ [])
+marked_push P marks sets set long are silent n other at mark =
+    elim (push_place sets n set other at) [
+      | inl old ↦ elim (push_place marks n false false mark) [
+        | inl was ↦ are n other old was
+        | inr new ↦ (let low = slice_get_within sets n other old in absurd (omega (arith, long, low, new.0)))
+      ]
+      | inr new ↦ subst P new.1 silent
+    ]
+
+-- one that is marked may be any
+pub marked_set : (P : AnySet → Type 0) (marks : List Bool) (sets : List AnySet) (index : ℕ) (set : AnySet) → ElseHolds P marks sets → ElseHolds P (slice_set marks index true) (slice_set sets index set)
+marked_set P marks sets index set are n other at mark =
+    elim (set_place marks index n true false mark) [
+      | inl here ↦ absurd (true≢false here.1)
+      | inr was ↦ elim (set_place sets index n set other at) [ inl here ↦ absurd (was.0 here.0) | inr old ↦ are n other old.1 was.1 ]
+    ]
+
+-- one of which it holds needs no mark
+pub unmarked : (P : AnySet → Type 0) (marks : List Bool) (sets : List AnySet) (index : ℕ) (set : AnySet) → ElseHolds P marks sets → slice_get sets index ≡ Some set → P set
+    → ElseHolds P (slice_set marks index false) sets
+unmarked P marks sets index set are at silent n other is mark =
+    elim (set_place marks index n false false mark) [
+      | inl here ↦ subst P (same_of_some set other (sym at ∙ ap (slice_get sets) (sym here.0) ∙ is)) silent
+      | inr was ↦ are n other is was.1
+    ]
+
+-- what is still marked once a mark was taken off was marked before
+pub not_unmarked : (marks : List Bool) (index n : ℕ) → IsMarked (slice_set marks index false) n → IsMarked marks n
+not_unmarked marks index n mark = elim (set_place marks index n false true mark) [ inl here ↦ absurd (true≢false (sym here.1)) | inr other ↦ other.1 ]
+
+-- Marks of two kinds: what is marked by the first is marked by the second.
+
+abbrev pub AreAmong : List Bool → List Bool → Type 0
+AreAmong marks moved = (index : ℕ) → IsMarked marks index → IsMarked moved index
+
+-- so it is with one more index that neither marks
+pub within_push : (marks moved : List Bool) → length marks ≡ length moved → AreAmong marks moved → AreAmong (marks ++ false ∷ []) (moved ++ false ∷ [])
+within_push marks moved long within index mark =
+    elim (push_place marks index false true mark) [
+      | inl old ↦ slice_get-push moved false index true (within index old)
+      | inr new ↦ absurd (true≢false (sym new.1))
+    ]
+  where
+    slice_get-push : (xs : List Bool) (a : Bool) (n : ℕ) (x : Bool) → slice_get xs n ≡ Some x → slice_get (xs ++ a ∷ []) n ≡ Some x
+    slice_get-push [] a n x at = absurd cc
+    slice_get-push (u ∷ xs) a zero x at = at
+    slice_get-push (u ∷ xs) a (suc n) x at = slice_get-push xs a n x at
+
+-- with one that both mark
+pub within_set : (marks moved : List Bool) (at : ℕ) (b : Bool) → length marks ≡ length moved → AreAmong marks moved → AreAmong (slice_set marks at b) (slice_set moved at b)
+within_set marks moved at b long within index mark =
+    elim (set_place marks at index b true mark) [
+      | inl here ↦ subst (λ n. slice_get (slice_set moved at b) n ≡ Some true) (sym here.0) (set_at moved at b true here.1 (let low = slice_get_within (slice_set marks at b) index true mark in let size = length-set marks at b in omega (arith, here.0, low, size, long)))
+      | inr other ↦ set_other moved at index b true other.0 (within index other.1)
+    ]
+  where
+    set_at : (xs : List Bool) (n : ℕ) (a x : Bool) → a ≡ x → n < length xs → slice_get (slice_set xs n a) n ≡ Some x
+    set_at [] n a x is low = absurd (omega arith)
+    set_at (u ∷ xs) zero a x is low = ap Some is
+    set_at (u ∷ xs) (suc n) a x is low = set_at xs n a x is (omega arith)
+
+    set_other : (xs : List Bool) (i n : ℕ) (a x : Bool) → n ≢ i → slice_get xs n ≡ Some x → slice_get (slice_set xs i a) n ≡ Some x
+    set_other [] i n a x differ at = absurd cc
+    set_other (u ∷ xs) zero zero a x differ at = absurd (differ refl)
+    set_other (u ∷ xs) zero (suc n) a x differ at = at
+    set_other (u ∷ xs) (suc i) zero a x differ at = at
+    set_other (u ∷ xs) (suc i) (suc n) a x differ at = set_other xs i n a x (λ same. differ (ap suc same)) at
+
+-- the set that a key starts with names nothing
+pub start_names : (p : Times) (key : KeyParts) → numbers_of (start_of p key) ≡ []
+start_names p key = start_silent p (machine_of_key p.rules key)
+
+-- and is quiet
+pub start_quiet : (p : Times) (key : KeyParts) → IsQuietSet (start_of p key)
+start_quiet p key = start_is_quiet p (machine_of_key p.rules key)
+
+-- What a restart may change.
+
+-- the numbers of marked sets are those
+pub restart_numbers : (t : Tabled) (moved : List Bool) (marked numbers : List ℕ) → numbers ≡ map (λ i. i + 1) marked → length moved ≡ length t.keys → length t.sets ≡ length t.keys → ElseHolds IsQuietSet moved t.sets
+    → ((n : ℕ) → Contains marked n ↔ IsMarked moved n) → AllPairs (λ a b. a ≢ b) marked → AreToRestart t numbers
+restart_numbers t moved marked numbers is long as_long quiet members once = subst (AreToRestart t) (sym is) (record {
+  given = λ k d low.
+      (let size = length-map marked (λ i. i + 1) in
+      let within : k < length marked = omega (arith, low, size) in
+      let mark = (members (get_or marked k 0)).0 (place_among marked k 0 within) in
+      let high = slice_get_within moved (get_or marked k 0) true mark in
+      subst (IsGiven t) (sym (get_or-map (λ i. i + 1) marked k 0 d within)) (record { low = omega arith; high = omega (arith, high, long) }));
+  apart = λ i j d less low same.
+      (let size = length-map marked (λ n. n + 1) in
+      let last : j < length marked = omega (arith, low, size) in
+      let first : i < length marked = omega (arith, less, last) in
+      once i j 0 less last (omega (arith, sym (get_or-map (λ n. n + 1) marked i 0 d first) ∙ same ∙ get_or-map (λ n. n + 1) marked j 0 d last)));
+  others = λ place set at none.
+      let low = slice_get_within t.sets place set at in
+      quiet place set at (not_marked moved place (omega (arith, low, as_long, long)) (λ mark. none (Contains-map (λ i. i + 1) marked place ((members place).1 mark))));
+})
+
+-- What marked sets name.
+
+-- the numbers that the set at an index names
+abbrev pub numbers_at : List AnySet → ℕ → List ℕ
+numbers_at [] index = []
+numbers_at (set ∷ sets) zero = numbers_of set
+numbers_at (set ∷ sets) (suc index) = numbers_at sets index
+
+pub numbers_at-is : (sets : List AnySet) (index : ℕ) (set : AnySet) → slice_get sets index ≡ Some set → numbers_at sets index ≡ numbers_of set
+numbers_at-is [] index set at = absurd cc
+numbers_at-is (s ∷ sets) zero set at = ap numbers_of (same_of_some s set at)
+numbers_at-is (s ∷ sets) (suc index) set at = numbers_at-is sets index set at
+
+-- it is among those of all
+at_among : (sets : List AnySet) (index n : ℕ) → Contains (numbers_at sets index) n → Contains (flat_map numbers_of sets) n
+at_among [] index n has = has
+at_among (s ∷ sets) zero n has = Contains-append_left (numbers_of s) (flat_map numbers_of sets) n has
+at_among (s ∷ sets) (suc index) n has = Contains-append_right (numbers_of s) (flat_map numbers_of sets) n (at_among sets index n has)
+
+-- what sets name, the marked ones do
+pub marked_names : (marked : List ℕ) (marks : List Bool) (sets : List AnySet) → length marks ≡ length sets → AreMarked marks sets
+    → ((n : ℕ) → Contains marked n ↔ IsMarked marks n) → (n : ℕ) → Contains (flat_map (numbers_at sets) marked) n ↔ Contains (flat_map numbers_of sets) n
+marked_names marked marks sets long are members n = (
+  λ has. (let found = Contains-from_flat_map (numbers_at sets) marked n has in at_among sets found.0 n found.2),
+  λ has.
+      let found = Contains-from_flat_map numbers_of sets n has in
+      let index = found.1.0 in
+      let at : slice_get sets index ≡ Some found.0 = slice_get-get_or sets index found.0 found.1.1 ∙ ap Some found.1.2 in
+      let low = found.1.1 in
+      let here : Contains (numbers_at sets index) n = subst (λ ns. Contains ns n) (sym (numbers_at-is sets index found.0 at)) found.2 in
+      elim (mark_cases marks index (omega arith)) [
+        | inl mark ↦ Contains-flat_map (numbers_at sets) marked index n ((members index).1 mark) here
+        | inr none ↦ absurd (Contains-nil n (subst (λ ns. Contains ns n) (are index found.0 at none) found.2))
+      ],
+)
+  where
+    mark_cases : (marks : List Bool) (n : ℕ) → n < length marks → IsMarked marks n ⊎ (slice_get marks n ≡ Some false)
+    mark_cases [] n low = absurd (omega arith)
+    mark_cases (true ∷ marks) zero low = inl refl
+    mark_cases (false ∷ marks) zero low = inr refl
+    mark_cases (m ∷ marks) (suc n) low = mark_cases marks n (omega arith)
+
+-- what holds always holds of a success
+pub always_ok : {A E : Type 0} (r : Result A E) (P : Type 0) → P → OnOk r P
+always_ok (Ok x) P p = p
+always_ok (Err e) P p = tt
+
+-- and of an error
+pub always_err : {A E : Type 0} (r : Result A E) (P : Type 0) → P → OnErr r P
+always_err (Ok x) P p = tt
+always_err (Err e) P p = p
+
+-- the numbers were appended, unless that was refused
+pub named_if : {T E : Type 0} (r : Result T E) (t : Tabled) (old new added : List ℕ) → new ≡ cond (is_ok r) (old ++ added) old → AllPairs (λ a b. a < b) added
+    → ((n : ℕ) → Contains added n ↔ Contains (flat_map numbers_of t.sets) n) → OnOk r (AppendsNamed t old new)
+named_if (Ok x) t old new added is rising same = (added, is, rising, same)
+named_if (Err e) t old new added is rising same = tt

@@ -1,0 +1,6 @@
+pub mod AnyLemmas
+pub mod ByMachine
+pub mod StartLemmas
+pub mod TablesLemmas
+pub mod QuietLemmas
+pub mod NamesLemmas

@@ -1,0 +1,51 @@
+-- Numbers that were appended, one state after another.
+use Rattle.std.specs.Prelude.{◌≡◌, ◌↔◌, ◌+◌, ◌<◌, ℕ, List, [], ◌∷◌, ◌++◌, Contains, flat_map, take, length}
+use Rattle.std.proofs.Common.{inl, inr, sym, ◌∙◌, ap, subst, append_assoc, get_or, refl, arith}
+use Rattle.std.proofs.lemmas.List.{append-nil, take_more}
+use Rattle.std.proofs.lemmas.List.Concat.{flat_map-append}
+use Rattle.std.proofs.lemmas.List.Elements.{Contains-append_left, Contains-append_right, Contains-append_cases, Contains-get_or}
+use Rattle.sip_machine.specs.Naming.{AppendsAll}
+use Rattle.sip_machine.proofs.texts.TextLaws.{Contains-nil, Contains-cons_cases}
+
+-- the members of two lists, one after the other
+pub append_members : (a b c d : List ℕ) → ((n : ℕ) → Contains a n ↔ Contains c n) → ((n : ℕ) → Contains b n ↔ Contains d n) → (n : ℕ) → Contains (a ++ b) n ↔ Contains (c ++ d) n
+append_members a b c d first second n = (
+  λ h. elim (Contains-append_cases a b n h) [ inl x ↦ Contains-append_left c d n ((first n).0 x) | inr y ↦ Contains-append_right c d n ((second n).0 y) ],
+  λ h. elim (Contains-append_cases c d n h) [ inl x ↦ Contains-append_left a b n ((first n).1 x) | inr y ↦ Contains-append_right a b n ((second n).1 y) ],
+)
+
+-- one more, of states or of sets
+pub appends_more : {S : Type 0} (names : S → List ℕ) (items : List S) (i : ℕ) (d : S) (old mid new : List ℕ) → i < length items → AppendsAll (flat_map names (take i items)) old mid
+    → AppendsAll (names (get_or items i d)) mid new → AppendsAll (flat_map names (take (i + 1) items)) old new
+appends_more names items i d old mid new low first second = (
+  first.0 ++ second.0,
+  second.1 ∙ ap (λ xs. xs ++ second.0) first.1 ∙ append_assoc old first.0 second.0,
+  λ n. subst (λ ns. Contains (first.0 ++ second.0) n ↔ Contains ns n) (sym (ap (flat_map names) (take_more items i d low) ∙ flat_map-append names (take i items) (get_or items i d ∷ [])
+      ∙ ap (λ ns. flat_map names (take i items) ++ ns) (append-nil (names (get_or items i d)))))
+      (append_members first.0 second.0 (flat_map names (take i items)) (names (get_or items i d)) first.2 second.2 n),
+)
+
+-- numbers of which none was appended are none
+pub names_nothing : (numbers old new : List ℕ) → old ≡ [] → new ≡ [] → AppendsAll numbers old new → numbers ≡ []
+names_nothing [] old new none still appends = refl
+names_nothing (n ∷ ns) old new none still appends =
+    let added : appends.0 ≡ [] = ap (λ xs. xs ++ appends.0) (sym none) ∙ sym appends.1 ∙ still in
+    absurd (Contains-nil n (subst (λ xs. Contains xs n) added ((appends.2 n).1 (Contains-get_or (n ∷ ns) 0 n (omega arith)))))
+
+-- Elements of lists that are joined.
+
+pub Contains-flat_map : {X Y : Type 0} (f : X → List Y) (xs : List X) (x : X) (y : Y) → Contains xs x → Contains (f x) y → Contains (flat_map f xs) y
+Contains-flat_map f [] x y among has = absurd (Contains-nil x among)
+Contains-flat_map f (u ∷ xs) x y among has =
+    elim (Contains-cons_cases u xs x among) [
+      | inl same ↦ Contains-append_left (f u) (flat_map f xs) y (subst (λ v. Contains (f v) y) (sym same) has)
+      | inr rest ↦ Contains-append_right (f u) (flat_map f xs) y (Contains-flat_map f xs x y rest has)
+    ]
+
+pub Contains-from_flat_map : {X Y : Type 0} (f : X → List Y) (xs : List X) (y : Y) → Contains (flat_map f xs) y → (x : X) × Contains xs x × Contains (f x) y
+Contains-from_flat_map f [] y has = absurd (Contains-nil y has)
+Contains-from_flat_map f (u ∷ xs) y has =
+    elim (Contains-append_cases (f u) (flat_map f xs) y has) [
+      | inl here ↦ (u, Contains-get_or (u ∷ xs) 0 u (omega arith), here)
+      | inr later ↦ (let found = Contains-from_flat_map f xs y later in (found.0, Contains-append_right (u ∷ []) xs found.0 found.1, found.2))
+    ]

@@ -1,0 +1,37 @@
+-- A key that starts anew: the set with which it comes can wait for ever, and needs no mark.
+use Rattle.std.proofs.Common.{ℕ, Bool, List, [], ◌∷◌, None, Contains, inl, inr, map, slice_set, refl, sym, subst}
+use Rattle.sip_key.specs.Key.{KeyParts}
+use Rattle.sip_standard.specs.Times.{Times}
+use Rattle.sip_machine.specs.Texts.{Texts}
+use Rattle.sip_states.specs.Runs.{IsAgenda}
+use Rattle.sip_states.specs.Held.{Held}
+use Rattle.sip_states.specs.KeyMachine.{MachineKind, StateOf, machine_of_key, start_is, start_of_machine}
+use Rattle.sip_states.specs.Meaning.{HasAgenda}
+use Rattle.sip_states.specs.AnySet.{IsAgendaOf, meaning_of, start_of}
+use Rattle.sip_states.specs.declared.any_set.AnySet.{AnySet}
+use Rattle.sip_states.specs.inner.Marks.{ElseHolds}
+use Rattle.sip_states.proofs.due.AdvanceLemmas.{set_place}
+use Rattle.sip_states.proofs.keyed.ByMachine.{first_of, to_set}
+use Rattle.sip_states.proofs.keyed.QuietLemmas.{quiet_still, waits_still}
+
+module _ (p : Times) (machine : MachineKind) where
+  -- what the set of a new key holds
+  abbrev new : Held Times (StateOf machine)
+  new = record { machine = p; moment = 0; states = first_of machine ∷ [] }
+
+  -- a wait in it has no end
+  waits_on : (texts : Texts) → IsAgenda ((meaning_of machine).rules p) (Contains (map ((meaning_of machine).seen texts) new.states)) 0 None
+  waits_on texts =
+      let (x, one, still) = quiet_still p machine texts new (inl refl) in
+      subst (λ xs. IsAgenda ((meaning_of machine).rules p) (Contains (map ((meaning_of machine).seen texts) xs)) 0 None) (sym one)
+      (λ n low. (λ run. tt, λ within. ((meaning_of machine).seen texts x, (waits_still p machine texts x still 0 n low ((meaning_of machine).seen texts x)).1 refl)))
+
+  start_waits : IsAgendaOf None (start_of_machine p machine)
+  start_waits = subst (IsAgendaOf None) (sym (start_is p machine)) (to_set (λ X M S m s. HasAgenda m None s) machine new waits_on)
+
+pub start_endless : (p : Times) (key : KeyParts) → IsAgendaOf None (start_of p key)
+start_endless p key = start_waits p (machine_of_key p.rules key)
+
+-- a set of which it holds needs no mark, whatever set it takes the place of
+pub else_set : (P : AnySet → Type 0) (marks : List Bool) (sets : List AnySet) (index : ℕ) (set : AnySet) → P set → ElseHolds P marks sets → ElseHolds P marks (slice_set sets index set)
+else_set P marks sets index set holds are n other at mark = elim (set_place sets index n set other at) [ inl here ↦ subst P here.1 holds | inr old ↦ are n other old.1 mark ]

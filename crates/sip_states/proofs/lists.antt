@@ -1,0 +1,4 @@
+pub mod EachOnce
+pub mod Few
+pub mod Listed
+pub mod Twice

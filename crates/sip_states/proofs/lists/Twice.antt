@@ -1,0 +1,62 @@
+use Rattle.std.proofs.Common.{◌≤◌, ◌↔◌, inl, inr, ℕ, arith}
+use Rattle.std.proofs.Math.Decide.{dec_le}
+use Rattle.sip_machine.specs.Rules.{Rules, IsLawful, Waits}
+use Rattle.sip_states.specs.Runs.{Wait}
+use Rattle.sip_states.proofs.sets.Waiting.{StaysFrom, EndsFrom, IsWithin-earlier, IsWithin-none, Wait-stay, Wait-end, Wait-cases, ends_once}
+
+-- One wait or two.
+
+module _ {X : Type 0} (r : Rules X) (lawful : IsLawful r) (P : X → Type 0) (h m n : ℕ) (low : h ≤ m) (high : m ≤ n) where
+  -- after a first wait, staying is one wait
+  stay_after : (y : X) → Wait r P h m y → Waits r y n → Wait r P h n y
+  stay_after y w waits =
+      elim ((Wait-cases r lawful P h m y).0 w) [
+        | inl s ↦ Wait-stay r P h n y (record { among = s.among; reached = omega arith; waits = waits })
+        | inr e ↦ Wait-end r lawful P h n y (record { start = e.start; among = e.among; at = e.at; after = e.after; before = let k = e.before in omega arith; hides = e.hides })
+      ]
+
+  -- after a first wait, an end is one wait
+  end_after : (y : X) → EndsFrom r (Wait r P h m) m n y → Wait r P h n y
+  end_after y e =
+      elim ((Wait-cases r lawful P h m e.start).0 e.among) [
+        | inl s ↦ Wait-end r lawful P h n y (record { start = e.start; among = s.among; at = e.at; after = let k = e.after in omega arith; before = e.before; hides = e.hides })
+        | inr first ↦ absurd (ends_once r lawful first.start first.at e.at e.start y first.hides e.hides)
+      ]
+
+  -- a state that stays from h to n stays in the middle
+  stay_twice : (y : X) → StaysFrom r P h n y → Wait r (Wait r P h m) m n y
+  stay_twice y s =
+      Wait-stay r (Wait r P h m) m n y
+      (record {
+        among = Wait-stay r P h m y (record { among = s.among; reached = low; waits = IsWithin-earlier m n (r.until y) high s.waits });
+        reached = high;
+        waits = s.waits;
+      })
+
+  -- an end is by the middle or after it
+  end_twice : (y : X) → (e : EndsFrom r P h n y) → Dec (e.at ≤ m) → Wait r (Wait r P h m) m n y
+  end_twice y e (yes by) =
+      Wait-stay r (Wait r P h m) m n y
+      (record {
+        among = Wait-end r lawful P h m y (record { start = e.start; among = e.among; at = e.at; after = e.after; before = by; hides = e.hides });
+        reached = high;
+        waits = IsWithin-none n (r.until y) (rw e.hides.gives lawful.ended_stays);
+      })
+  end_twice y e (no later) =
+      let past : m ≤ e.at = omega arith in
+      Wait-end r lawful (Wait r P h m) m n y
+      (record {
+        start = e.start;
+        among = Wait-stay r P h m e.start (record { among = e.among; reached = low; waits = IsWithin-earlier m e.at (r.until e.start) past e.hides.waited });
+        at = e.at;
+        after = past;
+        before = e.before;
+        hides = e.hides;
+      })
+
+  -- one wait or two lead to the same states
+  pub Wait-twice : (y : X) → Wait r (Wait r P h m) m n y ↔ Wait r P h n y
+  Wait-twice y = (
+    λ w. elim ((Wait-cases r lawful (Wait r P h m) m n y).0 w) [ inl s ↦ stay_after y s.among s.waits | inr e ↦ end_after y e ],
+    λ w. elim ((Wait-cases r lawful P h n y).0 w) [ inl s ↦ stay_twice y s | inr e ↦ end_twice y e (dec_le e.at m) ],
+  )

@@ -1,0 +1,6 @@
+pub mod Reaching
+pub mod RunLemmas
+pub mod StandsLemmas
+pub mod FewerLemmas
+pub mod ClientLaws
+pub mod ServerLaws

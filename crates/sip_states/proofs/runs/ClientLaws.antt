@@ -1,0 +1,364 @@
+-- What runs of clients send.
+use Rattle.std.proofs.Common.{◌≡◌, ◌≤◌, ◌⊎◌, inl, inr, ℕ, Bool, true, false, Some, None, List, [], ◌∷◌, ◌++◌, ◌∙◌, refl, sym, subst, arith}
+use Rattle.std.specs.Prelude.{⊤}
+use Rattle.std.proofs.Math.Decide.{dec_le}
+use Rattle.sip_key.specs.declared.role.Role.TheVariants.{Client}
+use Rattle.sip_standard.specs.declared.rules.Rules.{Rules as BuiltBy}
+use Rattle.sip_standard.specs.declared.rules.Rules.TheVariants.{R3261, R6026}
+use Rattle.sip_standard.specs.declared.action.Action.{Action}
+use Rattle.sip_standard.specs.declared.action.Action.TheVariants.{Sent, Received, Failed, Mark, Restart}
+use Rattle.sip_machine.specs.declared.event.Method.{Method}
+use Rattle.sip_machine.specs.declared.event.Method.TheVariants.{Invite, Ack, Cancel}
+use Rattle.sip_machine.specs.declared.event.Kind.{Kind}
+use Rattle.sip_machine.specs.declared.event.Kind.TheVariants.{Request, Response}
+use Rattle.sip_standard.specs.Times.{Times}
+use Rattle.sip_standard.specs.Window.{open_at}
+use Rattle.sip_machine.specs.MachineEvent.{MachineEvent}
+use Rattle.sip_machine.specs.Message.{IsFinal}
+use Rattle.sip_machine.specs.Debts.{Owed, unexpired}
+use Rattle.sip_machine.specs.Figure.{Figure, After as Row, Owing, led_to, Emits, Fails, Steps, rules_of as rules_of_figure}
+use Rattle.sip_machine.specs.InviteClient as invite
+use Rattle.sip_machine.specs.PlainClient as plain
+use Rattle.sip_states.specs.Runs.{Step, Hides, Takes, Does, Goes, taken, AfterRun}
+use Rattle.sip_states.specs.KeyMachine.{OfInviteClient, OfPlainClient, machine_of, PhaseOf, key_rules}
+use Rattle.sip_states.proofs.runs.RunLemmas.{Goes-last}
+use Rattle.sip_states.proofs.runs.FewerLemmas.{Goes-through}
+
+-- what every row of a figure keeps of a phase, and the end has
+record IsKept {X : Type 0} (f : Figure X) (p : Times) (P : X → Type 0) : Type 0 where
+  pub ended : P f.ended
+  pub received : (x : X) (k : Kind) (e : MachineEvent) (y : Row X) → f.Receives p x k e y → P x → P y.0
+  pub sent : (x : X) (k : Kind) (e : MachineEvent) (y : Row X) → f.Sends p x k e y → P x → P y.0
+
+module _ {X : Type 0} (f : Figure X) (p : Times) (P : X → Type 0) (kept : IsKept f p P) where
+  emits_keeps : (e : MachineEvent) (x y : Owing X) → Emits f p e x y → P x.phase → P y.phase
+  emits_keeps e x y (inl (row, is_row, is)) holds = rw is (kept.sent x.phase e.kind e row is_row holds)
+  emits_keeps e x y (inr (inl (left, pays, is))) holds = rw is holds
+  emits_keeps e x y (inr (inr (stays, same))) holds = rw same holds
+
+  fails_keeps : (ends : Bool) (e : MachineEvent) (x y : Owing X) → Fails ends f p e x y → P x.phase → P y.phase
+  fails_keeps true e x y (some, is) holds = rw is kept.ended
+  fails_keeps false e x y h holds = emits_keeps e x y h holds
+
+  steps_keep : (a : Action) (e : MachineEvent) (x y : Owing X) → Steps f p a e x y → P x.phase → P y.phase
+  steps_keep Received e x y (inl (row, is_row, is)) holds = rw is (kept.received x.phase e.kind e row is_row holds)
+  steps_keep Received e x y (inr (none, same)) holds = rw same holds
+  steps_keep Sent e x y h holds = emits_keeps e x y h holds
+  steps_keep Failed e x y h holds = fails_keeps (f.ends_refused x.phase e.kind) e x y h holds
+  steps_keep Mark e x y h holds = absurd h
+  steps_keep Restart e x y (inl (idle, is)) holds = rw is (subst P idle holds)
+  steps_keep Restart e x y (inr (other, is)) holds = rw is kept.ended
+
+  goes_keep : (x : Owing X) (h : ℕ) (steps : List Step) (y : Owing X) (m : ℕ) → Goes (rules_of_figure f p) x h steps y m → P x.phase → P y.phase
+  goes_keep x h [] y m goes holds = rw goes.0 holds
+  goes_keep x h (Hides t ∷ steps) y m (z, low, hides, goes) holds = goes_keep z t steps y m goes (rw hides.gives kept.ended)
+  goes_keep x h (Takes e ∷ steps) y m (z, low, does, goes) holds = goes_keep z e.moment steps y m goes (steps_keep e.action e _ z does.1.1 holds)
+
+module _ {X : Type 0} (f : Figure X) (p : Times) where
+  -- a state when an event comes
+  abbrev when : MachineEvent → Owing X → Owing X
+  when e x = record { phase = x.phase; owes = unexpired e.moment x.owes }
+
+  -- the step of an event with this action
+  step_of : (a : Action) (e : MachineEvent) (x y : Owing X) → e.action ≡ a → Does (rules_of_figure f p) x (Takes e) y → Steps f p a e (when e x) y
+  step_of a e x y is does = subst (λ b. Steps f p b e (when e x) y) is does.1.1
+
+-- Ranks: 0 before a request, 1 before its final response, 2 after it; no row leads to a lower one.
+
+record IsRanked {X : Type 0} (f : Figure X) (p : Times) (rank : X → ℕ) : Type 0 where
+  pub ended : rank f.ended ≡ 2
+  pub received : (x : X) (k : Kind) (e : MachineEvent) (y : Row X) → f.Receives p x k e y → rank x ≤ rank y.0
+  pub sent : (x : X) (k : Kind) (e : MachineEvent) (y : Row X) → f.Sends p x k e y → rank x ≤ rank y.0
+
+module _ {X : Type 0} (f : Figure X) (p : Times) (rank : X → ℕ) (ranked : IsRanked f p rank) where
+  rank_kept : (n : ℕ) → n ≤ 2 → IsKept f p (λ x. n ≤ rank x)
+  rank_kept n low = record {
+    ended = rw ranked.ended low;
+    received = λ x k e y row from. let rises = ranked.received x k e y row in omega arith;
+    sent = λ x k e y row from. let rises = ranked.sent x k e y row in omega arith;
+  }
+
+  -- what leads to ranks 1 and 2, and what may be sent from rank 2
+  module _ (IsFirst IsSent : Kind → Type 0)
+      (opens : (e : MachineEvent) (x y : Owing X) → Emits f p e x y → IsFirst e.kind → 1 ≤ rank y.phase)
+      (finishes : (code : ℕ) (e : MachineEvent) (x y : Owing X) → Steps f p Received e x y → e.kind ≡ Response code → IsFinal code → 1 ≤ rank x.phase → 2 ≤ rank y.phase)
+      (sends : (e : MachineEvent) (x y : Owing X) → Emits f p e x y → 2 ≤ rank x.phase → IsSent e.kind) where
+    behind_final : (before between behind : List MachineEvent) (request final e : MachineEvent) (code : ℕ) (y : Owing X) → request.action ≡ Sent → IsFirst request.kind →
+        final.action ≡ Received → final.kind ≡ Response code → IsFinal code → e.action ≡ Sent →
+        AfterRun (rules_of_figure f p) (before ++ request ∷ (between ++ final ∷ behind)) e y → IsSent e.kind
+    behind_final before between behind request final e code y request_sent first final_received is_response is_final e_sent after =
+        let r = rules_of_figure f p in
+        let last = Goes-last r r.first 0 after.steps (Takes e) y after.goes in
+        let one = Goes-through r r.first 0 after.steps last.before last.at before request (between ++ final ∷ behind) last.goes after.takes in
+        let two = Goes-through r one.behind request.moment one.steps last.before last.at between final behind one.goes one.takes in
+        let opened = opens request (when f p request one.before) one.behind (step_of f p Sent request one.before one.behind request_sent one.does) first in
+        let risen = goes_keep f p (λ x. 1 ≤ rank x) (rank_kept 1 (omega arith)) one.behind request.moment two.front two.before two.at two.to opened in
+        let finished = finishes code final (when f p final two.before) two.behind (step_of f p Received final two.before two.behind final_received two.does) is_response is_final risen in
+        let still = goes_keep f p (λ x. 2 ≤ rank x) (rank_kept 2 (omega arith)) two.behind final.moment two.steps last.before last.at two.goes finished in
+        sends e (when f p e last.before) y (step_of f p Sent e last.before y e_sent last.does) still
+
+-- the row of a received message leads on, where there is one
+module _ {X : Type 0} (f : Figure X) (p : Times) (rank : X → ℕ) (x y : Owing X) (e : MachineEvent) (row : Row X) where
+  leads_on : (k : Kind) → e.kind ≡ k → f.Receives p x.phase k e row → ((other : Row X) → f.Receives p x.phase k e other → 2 ≤ rank other.0) → Steps f p Received e x y → 2 ≤ rank y.phase
+  leads_on k is is_row all (inl (other, is_other, to)) = rw to (all other (subst (λ j. f.Receives p x.phase j e other) is is_other))
+  leads_on k is is_row all (inr (none, same)) = absurd (none (led_to p e.moment x.owes row) (row, subst (λ j. f.Receives p x.phase j e row) (sym is) is_row, refl))
+
+-- The INVITE client.
+
+abbrev invite_rank : invite.InviteClientPhase → ℕ
+invite_rank invite.Idle = 0
+invite_rank (invite.Calling w) = 1
+invite_rank (invite.Proceeding reliable request cancel) = 1
+invite_rank (invite.Accepted set) = 2
+invite_rank (invite.Completed reliable request set) = 2
+invite_rank invite.Ended = 2
+
+invite_received : (p : Times) (x : invite.InviteClientPhase) (k : Kind) (e : MachineEvent) (y : Row invite.InviteClientPhase) → invite.Receives p x k e y → invite_rank x ≤ invite_rank y.0
+invite_received p (invite.Calling w) (Response code) e y (inl h) = rw h.1 (omega arith)
+invite_received p (invite.Calling w) (Response code) e y (inr (inl h)) = rw h.1 (omega arith)
+invite_received p (invite.Calling w) (Response code) e y (inr (inr h)) = rw h.1 (omega arith)
+invite_received p (invite.Proceeding reliable request cancel) (Response code) e y (inl h) = rw h.1 (omega arith)
+invite_received p (invite.Proceeding reliable request cancel) (Response code) e y (inr h) = rw h.1 (omega arith)
+invite_received p (invite.Completed reliable request set) (Response code) e y h = rw h.1 (omega arith)
+invite_received p x k e y h = absurd h
+
+invite_sent : (p : Times) (x : invite.InviteClientPhase) (k : Kind) (e : MachineEvent) (y : Row invite.InviteClientPhase) → invite.Sends p x k e y → invite_rank x ≤ invite_rank y.0
+invite_sent p invite.Idle k e y h = omega arith
+invite_sent p (invite.Calling w) (Request Invite) e y h = rw h.1 (omega arith)
+invite_sent p (invite.Proceeding reliable request None) (Request Cancel) e y h = rw h (omega arith)
+invite_sent p (invite.Proceeding reliable request (Some first)) (Request Cancel) e y h = rw h (omega arith)
+invite_sent p (invite.Accepted set) (Request Cancel) e y h = rw h (omega arith)
+invite_sent p (invite.Completed reliable request set) (Request Cancel) e y h = rw h (omega arith)
+invite_sent p invite.Ended (Request Cancel) e y h = rw h (omega arith)
+invite_sent p x k e y h = absurd h
+
+invite_ranked : (p : Times) → IsRanked invite.invite_client p invite_rank
+invite_ranked p = record { ended = refl; received = invite_received p; sent = invite_sent p }
+
+-- an INVITE that is sent leaves idle
+invite_opens_row : (p : Times) (x : invite.InviteClientPhase) (e : MachineEvent) (y : Row invite.InviteClientPhase) → invite.Sends p x (Request Invite) e y → 1 ≤ invite_rank y.0
+invite_opens_row p invite.Idle e y h = rw h (omega arith)
+invite_opens_row p (invite.Calling w) e y h = rw h.1 (omega arith)
+invite_opens_row p (invite.Proceeding reliable request None) e y h = absurd h
+invite_opens_row p (invite.Proceeding reliable request (Some first)) e y h = absurd h
+invite_opens_row p x e y h = absurd h
+
+-- only an ACK pays
+pays_ack : (x : invite.InviteClientPhase) (k : Kind) (e : MachineEvent) (response : List ℕ) → invite.Satisfies x k e response → k ≡ Request Ack
+pays_ack (invite.Completed reliable request set) (Request Ack) e response h = refl
+pays_ack x k e response h = absurd h
+
+no_invite : Request Invite ≡ Request Ack → ⊥
+no_invite same = cc
+
+invite_opens : (p : Times) (e : MachineEvent) (x y : Owing invite.InviteClientPhase) → Emits invite.invite_client p e x y → e.kind ≡ Request Invite → 1 ≤ invite_rank y.phase
+invite_opens p e x y (inl (row, is_row, to)) is = rw to (invite_opens_row p x.phase e row (subst (λ k. invite.Sends p x.phase k e row) is is_row))
+invite_opens p e x y (inr (inl (left, pays, to))) is = absurd (no_invite (sym is ∙ pays_ack x.phase e.kind e pays.first.message pays.holds.0))
+invite_opens p e x y (inr (inr (stays, same))) is = absurd stays
+
+-- a final response leaves calling and proceeding
+module _ (p : Times) (code : ℕ) (e : MachineEvent) (y : Owing invite.InviteClientPhase) (is : e.kind ≡ Response code) (final : IsFinal code) where
+  still_over : (phase : invite.InviteClientPhase) (owes : List Owed) → 2 ≤ invite_rank phase → Steps invite.invite_client p Received e (record { phase = phase; owes = owes }) y → 2 ≤ invite_rank y.phase
+  still_over phase owes over h = steps_keep invite.invite_client p (λ x. 2 ≤ invite_rank x) (rank_kept invite.invite_client p invite_rank (invite_ranked p) 2 (omega arith)) Received e _ y h over
+
+  invite_finishes : (phase : invite.InviteClientPhase) (owes : List Owed) → 1 ≤ invite_rank phase → Steps invite.invite_client p Received e (record { phase = phase; owes = owes }) y → 2 ≤ invite_rank y.phase
+  invite_finishes invite.Idle owes low h = absurd (omega arith)
+  invite_finishes (invite.Calling w) owes low h = by_code (dec_le code 299)
+    where
+      all : (other : Row invite.InviteClientPhase) → invite.Receives p (invite.Calling w) (Response code) e other → 2 ≤ invite_rank other.0
+      all other (inl h) = absurd (omega (arith, h.0.1, final.0))
+      all other (inr (inl h)) = rw h.1 (omega arith)
+      all other (inr (inr h)) = rw h.1 (omega arith)
+
+      by_code : Dec (code ≤ 299) → 2 ≤ invite_rank y.phase
+      by_code (yes low) = leads_on invite.invite_client p invite_rank _ y e _ (Response code) is (inr (inl ((final.0, low), refl))) all h
+      by_code (no high) = leads_on invite.invite_client p invite_rank _ y e _ (Response code) is (inr (inr ((omega arith, final.1), refl))) all h
+  invite_finishes (invite.Proceeding reliable request cancel) owes low h = by_code (dec_le code 299)
+    where
+      all : (other : Row invite.InviteClientPhase) → invite.Receives p (invite.Proceeding reliable request cancel) (Response code) e other → 2 ≤ invite_rank other.0
+      all other (inl h) = rw h.1 (omega arith)
+      all other (inr h) = rw h.1 (omega arith)
+
+      by_code : Dec (code ≤ 299) → 2 ≤ invite_rank y.phase
+      by_code (yes low) = leads_on invite.invite_client p invite_rank _ y e _ (Response code) is (inl ((final.0, low), refl)) all h
+      by_code (no high) = leads_on invite.invite_client p invite_rank _ y e _ (Response code) is (inr ((omega arith, final.1), refl)) all h
+  invite_finishes (invite.Accepted set) owes low h = still_over (invite.Accepted set) owes (omega arith) h
+  invite_finishes (invite.Completed reliable request set) owes low h = still_over (invite.Completed reliable request set) owes (omega arith) h
+  invite_finishes invite.Ended owes low h = still_over invite.Ended owes (omega arith) h
+
+-- after it only an ACK or a CANCEL is sent
+invite_sends_row : (p : Times) (x : invite.InviteClientPhase) (k : Kind) (e : MachineEvent) (y : Row invite.InviteClientPhase) → 2 ≤ invite_rank x → invite.Sends p x k e y → (k ≡ Request Ack) ⊎ (k ≡ Request Cancel)
+invite_sends_row p invite.Idle k e y low h = absurd (omega arith)
+invite_sends_row p (invite.Calling w) k e y low h = absurd (omega arith)
+invite_sends_row p (invite.Proceeding reliable request cancel) k e y low h = absurd (omega arith)
+invite_sends_row p (invite.Accepted set) (Request Cancel) e y low h = inr refl
+invite_sends_row p (invite.Completed reliable request set) (Request Cancel) e y low h = inr refl
+invite_sends_row p invite.Ended (Request Cancel) e y low h = inr refl
+invite_sends_row p x k e y low h = absurd h
+
+invite_sends : (p : Times) (e : MachineEvent) (x y : Owing invite.InviteClientPhase) → Emits invite.invite_client p e x y → 2 ≤ invite_rank x.phase → (e.kind ≡ Request Ack) ⊎ (e.kind ≡ Request Cancel)
+invite_sends p e x y (inl (row, is_row, to)) low = invite_sends_row p x.phase e.kind e row low is_row
+invite_sends p e x y (inr (inr (stays, same))) low = absurd stays
+invite_sends p e x y (inr (inl (left, pays, to))) low = inl (pays_ack x.phase e.kind e pays.first.message pays.holds.0)
+
+-- after a final response of its INVITE a client sends ACK and CANCEL alone
+pub invite_behind_final : (p : Times) (before between behind : List MachineEvent) (request final e : MachineEvent) (code : ℕ) (y : Owing invite.InviteClientPhase) → request.action ≡ Sent → request.kind ≡ Request Invite →
+    final.action ≡ Received → final.kind ≡ Response code → IsFinal code → e.action ≡ Sent →
+    AfterRun (key_rules p OfInviteClient) (before ++ request ∷ (between ++ final ∷ behind)) e y → (e.kind ≡ Request Ack) ⊎ (e.kind ≡ Request Cancel)
+invite_behind_final p =
+    behind_final invite.invite_client p invite_rank (invite_ranked p) (λ k. k ≡ Request Invite) (λ k. (k ≡ Request Ack) ⊎ (k ≡ Request Cancel)) (invite_opens p)
+    (λ code e x y h is final low. invite_finishes p code e y is final x.phase x.owes low h) (invite_sends p)
+
+-- An INVITE that is sent again.
+
+module _ (p : Times) (one : MachineEvent) where
+  -- a client that waits for a response holds this INVITE, and has waited T1 or longer since it was sent last
+  abbrev Awaits : invite.InviteClientPhase → Type 0
+  Awaits invite.Idle = ⊥
+  Awaits (invite.Calling w) = (w.request ≡ one.text) × (w.reliable ≡ one.reliable) × (one.moment ≤ w.set) × (p.t1 ≤ w.interval)
+  Awaits (invite.Proceeding reliable request cancel) = ⊤
+  Awaits (invite.Accepted set) = ⊤
+  Awaits (invite.Completed reliable request set) = ⊤
+  Awaits invite.Ended = ⊤
+
+  awaits_received : (x : invite.InviteClientPhase) (k : Kind) (e : MachineEvent) (y : Row invite.InviteClientPhase) → invite.Receives p x k e y → Awaits x → Awaits y.0
+  awaits_received (invite.Calling w) (Response code) e y (inl h) holds = rw h.1 tt
+  awaits_received (invite.Calling w) (Response code) e y (inr (inl h)) holds = rw h.1 tt
+  awaits_received (invite.Calling w) (Response code) e y (inr (inr h)) holds = rw h.1 tt
+  awaits_received (invite.Proceeding reliable request cancel) (Response code) e y (inl h) holds = rw h.1 tt
+  awaits_received (invite.Proceeding reliable request cancel) (Response code) e y (inr h) holds = rw h.1 tt
+  awaits_received (invite.Completed reliable request set) (Response code) e y h holds = rw h.1 tt
+  awaits_received x k e y h holds = absurd h
+
+  awaits_sent : (x : invite.InviteClientPhase) (k : Kind) (e : MachineEvent) (y : Row invite.InviteClientPhase) → invite.Sends p x k e y → Awaits x → Awaits y.0
+  awaits_sent invite.Idle k e y h holds = absurd holds
+  awaits_sent (invite.Calling w) (Request Invite) e y h holds = rw h.1 (holds.0, holds.1, omega (arith, h.0.fires, holds.2), omega (arith, holds.3))
+  awaits_sent (invite.Proceeding reliable request None) (Request Cancel) e y h holds = rw h tt
+  awaits_sent (invite.Proceeding reliable request (Some first)) (Request Cancel) e y h holds = rw h tt
+  awaits_sent (invite.Accepted set) (Request Cancel) e y h holds = rw h tt
+  awaits_sent (invite.Completed reliable request set) (Request Cancel) e y h holds = rw h tt
+  awaits_sent invite.Ended (Request Cancel) e y h holds = rw h tt
+  awaits_sent x k e y h holds = absurd h
+
+  awaits_kept : IsKept invite.invite_client p Awaits
+  awaits_kept = record { ended = tt; received = awaits_received; sent = awaits_sent }
+
+  -- it is sent first
+  awaits_opens : (y : Owing invite.InviteClientPhase) → Emits invite.invite_client p one (record { phase = invite.Idle; owes = [] }) y → one.kind ≡ Request Invite → Awaits y.phase
+  awaits_opens y (inl (row, is_row, to)) is =
+      rw to (rw (subst (λ k. invite.Sends p invite.Idle k one row) is is_row) (refl, refl, omega arith, omega arith))
+  awaits_opens y (inr (inr (stays, same))) is = absurd stays
+  awaits_opens y (inr (inl (left, pays, to))) is = absurd (no_invite (sym is ∙ pays_ack invite.Idle one.kind one pays.first.message pays.holds.0))
+
+  -- and again
+  again : (x : invite.InviteClientPhase) (e : MachineEvent) (y : Row invite.InviteClientPhase) → invite.Sends p x (Request Invite) e y → Awaits x → (e.text ≡ one.text) × (one.reliable ≡ false) × (open_at p one.moment p.t1 ≤ e.moment)
+  again invite.Idle e y h holds = absurd holds
+  again (invite.Calling w) e y h holds = (h.0.same ∙ holds.0, sym holds.1 ∙ h.0.unreliable, omega (arith, h.0.fires, holds.2, holds.3))
+  again (invite.Proceeding reliable request None) e y h holds = absurd h
+  again (invite.Proceeding reliable request (Some first)) e y h holds = absurd h
+  again x e y h holds = absurd h
+
+  again_emits : (e : MachineEvent) (x y : Owing invite.InviteClientPhase) → Emits invite.invite_client p e x y → e.kind ≡ Request Invite → Awaits x.phase → (e.text ≡ one.text) × (one.reliable ≡ false) × (open_at p one.moment p.t1 ≤ e.moment)
+  again_emits e x y (inl (row, is_row, to)) is holds = again x.phase e row (subst (λ k. invite.Sends p x.phase k e row) is is_row) holds
+  again_emits e x y (inr (inr (stays, same))) is holds = absurd stays
+  again_emits e x y (inr (inl (left, pays, to))) is holds = absurd (no_invite (sym is ∙ pays_ack x.phase e.kind e pays.first.message pays.holds.0))
+
+  -- after it, a client that waits awaits its response
+  from_first : (h : ℕ) (steps : List Step) (y : Owing invite.InviteClientPhase) (m : ℕ) (between : List MachineEvent) → one.action ≡ Sent → one.kind ≡ Request Invite →
+      Goes (key_rules p OfInviteClient) (record { phase = invite.Idle; owes = [] }) h steps y m → taken steps ≡ one ∷ between → Awaits y.phase
+  from_first h [] y m between sent is goes takes = absurd (cc)
+  from_first h (Hides t ∷ steps) y m between sent is (z, low, hides, goes) takes = absurd hides.opened
+  from_first h (Takes e ∷ steps) y m between sent is (z, low, does, goes) takes =
+      let same : e ≡ one = cc in
+      let emits = subst (λ a. Steps invite.invite_client p a one (record { phase = invite.Idle; owes = [] }) z) sent
+      (subst (λ g. Steps invite.invite_client p g.action g (record { phase = invite.Idle; owes = [] }) z) same does.1.1) in
+      goes_keep invite.invite_client p Awaits awaits_kept z e.moment steps y m goes (awaits_opens z emits is)
+
+  -- the INVITE that begins a run is sent again byte for byte, over an unreliable transport, and T1 later or more, the tolerance aside
+  pub invite_again : (between : List MachineEvent) (e : MachineEvent) (y : Owing invite.InviteClientPhase) → one.action ≡ Sent → one.kind ≡ Request Invite → e.action ≡ Sent → e.kind ≡ Request Invite →
+      AfterRun (key_rules p OfInviteClient) (one ∷ between) e y → (e.text ≡ one.text) × (one.reliable ≡ false) × (open_at p one.moment p.t1 ≤ e.moment)
+  invite_again between e y one_sent one_is e_sent e_is after =
+      let r = key_rules p OfInviteClient in
+      let last = Goes-last r r.first 0 after.steps (Takes e) y after.goes in
+      let awaits = from_first 0 after.steps last.before last.at between one_sent one_is last.goes after.takes in
+      again_emits e (when invite.invite_client p e last.before) y (step_of invite.invite_client p Sent e last.before y e_sent last.does) e_is awaits
+
+-- The non-INVITE client.
+
+abbrev plain_rank : plain.PlainClientPhase → ℕ
+plain_rank plain.Idle = 0
+plain_rank (plain.Trying w) = 1
+plain_rank (plain.Proceeding w) = 1
+plain_rank (plain.Completed reliable set) = 2
+plain_rank plain.Ended = 2
+
+plain_received : (p : Times) (x : plain.PlainClientPhase) (k : Kind) (e : MachineEvent) (y : Row plain.PlainClientPhase) → plain.Receives p x k e y → plain_rank x ≤ plain_rank y.0
+plain_received p (plain.Trying w) (Response code) e y (inl h) = rw h.1 (omega arith)
+plain_received p (plain.Trying w) (Response code) e y (inr h) = rw h.1 (omega arith)
+plain_received p (plain.Proceeding w) (Response code) e y h = rw h.1 (omega arith)
+plain_received p x k e y h = absurd h
+
+plain_sent : (p : Times) (x : plain.PlainClientPhase) (k : Kind) (e : MachineEvent) (y : Row plain.PlainClientPhase) → plain.Sends p x k e y → plain_rank x ≤ plain_rank y.0
+plain_sent p plain.Idle k e y h = omega arith
+plain_sent p (plain.Trying w) (Request method) e y h = rw h.1 (omega arith)
+plain_sent p (plain.Proceeding w) (Request method) e y h = rw h.1 (omega arith)
+plain_sent p x k e y h = absurd h
+
+plain_ranked : (p : Times) → IsRanked plain.plain_client p plain_rank
+plain_ranked p = record { ended = refl; received = plain_received p; sent = plain_sent p }
+
+abbrev IsRequest : Kind → Type 0
+IsRequest k = (method : Method) × (k ≡ Request method)
+
+plain_opens_row : (p : Times) (x : plain.PlainClientPhase) (method : Method) (e : MachineEvent) (y : Row plain.PlainClientPhase) → plain.Sends p x (Request method) e y → 1 ≤ plain_rank y.0
+plain_opens_row p plain.Idle method e y h = rw h (omega arith)
+plain_opens_row p (plain.Trying w) method e y h = rw h.1 (omega arith)
+plain_opens_row p (plain.Proceeding w) method e y h = rw h.1 (omega arith)
+plain_opens_row p x method e y h = absurd h
+
+plain_opens : (p : Times) (e : MachineEvent) (x y : Owing plain.PlainClientPhase) → Emits plain.plain_client p e x y → IsRequest e.kind → 1 ≤ plain_rank y.phase
+plain_opens p e x y (inl (row, is_row, to)) is = rw to (plain_opens_row p x.phase is.0 e row (subst (λ k. plain.Sends p x.phase k e row) is.1 is_row))
+plain_opens p e x y (inr (inr (stays, same))) is = absurd stays
+plain_opens p e x y (inr (inl (left, pays, to))) is = absurd pays.holds.0
+
+module _ (p : Times) (code : ℕ) (e : MachineEvent) (y : Owing plain.PlainClientPhase) (is : e.kind ≡ Response code) (final : IsFinal code) where
+  plain_still_over : (phase : plain.PlainClientPhase) (owes : List Owed) → 2 ≤ plain_rank phase → Steps plain.plain_client p Received e (record { phase = phase; owes = owes }) y → 2 ≤ plain_rank y.phase
+  plain_still_over phase owes over h = steps_keep plain.plain_client p (λ x. 2 ≤ plain_rank x) (rank_kept plain.plain_client p plain_rank (plain_ranked p) 2 (omega arith)) Received e _ y h over
+
+  plain_finishes : (phase : plain.PlainClientPhase) (owes : List Owed) → 1 ≤ plain_rank phase → Steps plain.plain_client p Received e (record { phase = phase; owes = owes }) y → 2 ≤ plain_rank y.phase
+  plain_finishes plain.Idle owes low h = absurd (omega arith)
+  plain_finishes (plain.Trying w) owes low h = leads_on plain.plain_client p plain_rank _ y e _ (Response code) is (inr (final, refl)) all h
+    where
+      all : (other : Row plain.PlainClientPhase) → plain.Receives p (plain.Trying w) (Response code) e other → 2 ≤ plain_rank other.0
+      all other (inl h) = absurd (omega (arith, h.0.1, final.0))
+      all other (inr h) = rw h.1 (omega arith)
+  plain_finishes (plain.Proceeding w) owes low h = leads_on plain.plain_client p plain_rank _ y e _ (Response code) is (final, refl) (λ other is_other. rw is_other.1 (omega arith)) h
+  plain_finishes (plain.Completed reliable set) owes low h = plain_still_over (plain.Completed reliable set) owes (omega arith) h
+  plain_finishes plain.Ended owes low h = plain_still_over plain.Ended owes (omega arith) h
+
+plain_sends_row : (p : Times) (x : plain.PlainClientPhase) (k : Kind) (e : MachineEvent) (y : Row plain.PlainClientPhase) → 2 ≤ plain_rank x → plain.Sends p x k e y → ⊥
+plain_sends_row p plain.Idle k e y low h = omega arith
+plain_sends_row p (plain.Trying w) k e y low h = omega arith
+plain_sends_row p (plain.Proceeding w) k e y low h = omega arith
+plain_sends_row p (plain.Completed reliable set) k e y low h = h
+plain_sends_row p plain.Ended k e y low h = h
+
+plain_sends : (p : Times) (e : MachineEvent) (x y : Owing plain.PlainClientPhase) → Emits plain.plain_client p e x y → 2 ≤ plain_rank x.phase → ⊥
+plain_sends p e x y (inl (row, is_row, to)) low = plain_sends_row p x.phase e.kind e row low is_row
+plain_sends p e x y (inr (inr (stays, same))) low = absurd stays
+plain_sends p e x y (inr (inl (left, pays, to))) low = pays.holds.0
+
+-- after a final response of its request a client sends nothing
+plain_silent : (p : Times) (before between behind : List MachineEvent) (request final e : MachineEvent) (code : ℕ) (y : Owing plain.PlainClientPhase) → request.action ≡ Sent → IsRequest request.kind →
+    final.action ≡ Received → final.kind ≡ Response code → IsFinal code → e.action ≡ Sent →
+    AfterRun (key_rules p OfPlainClient) (before ++ request ∷ (between ++ final ∷ behind)) e y → ⊥
+plain_silent p =
+    behind_final plain.plain_client p plain_rank (plain_ranked p) IsRequest (λ k. ⊥) (plain_opens p)
+    (λ code e x y h is final low. plain_finishes p code e y is final x.phase x.owes low h) (plain_sends p)
+
+-- by whichever rules it was built
+pub plain_behind_final : (p : Times) (rules : BuiltBy) (before between behind : List MachineEvent) (request final e : MachineEvent) (code : ℕ) (y : PhaseOf (machine_of rules Client false)) →
+    request.action ≡ Sent → IsRequest request.kind → final.action ≡ Received → final.kind ≡ Response code → IsFinal code → e.action ≡ Sent →
+    AfterRun (key_rules p (machine_of rules Client false)) (before ++ request ∷ (between ++ final ∷ behind)) e y → ⊥
+plain_behind_final p R6026 = plain_silent p
+plain_behind_final p R3261 = plain_silent p

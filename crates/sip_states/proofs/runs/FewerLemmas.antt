@@ -1,0 +1,116 @@
+-- What a run over some events holds.
+use Rattle.std.proofs.Common.{◌≡◌, ◌≤◌, ◌<◌, ℕ, List, [], ◌∷◌, ◌++◌, All, refl, ap, subst, arith}
+use Rattle.std.proofs.Math.Decide.{dec_le}
+use Rattle.std.proofs.lemmas.List.Elements.{All-nil, All-cons, All-head, All-tail, All-weaker}
+use Rattle.sip_machine.specs.MachineEvent.{MachineEvent}
+use Rattle.sip_machine.specs.Rules.{Rules, Waits, Hide}
+use Rattle.sip_states.specs.Runs.{Step, Hides, Takes, moment_of_step, Does, Goes, Reaches, taken, RuledRun}
+use Rattle.sip_states.proofs.sets.Waiting.{IsWithin-earlier}
+
+-- an event is not before the moment
+abbrev NotBefore : ℕ → MachineEvent → Type 0
+NotBefore m e = m ≤ e.moment
+
+-- an event is not after it
+abbrev NotBehind : ℕ → MachineEvent → Type 0
+NotBehind m e = e.moment ≤ m
+
+module _ {X : Type 0} (r : Rules X) where
+  -- steps from a moment on take no event before it
+  Goes-low : (x : X) (h : ℕ) (steps : List Step) (y : X) (m : ℕ) → Goes r x h steps y m → All (NotBefore h) (taken steps)
+  Goes-low x h [] y m goes = All-nil (NotBefore h)
+  Goes-low x h (Hides t ∷ steps) y m (z, low, does, goes) =
+      All-weaker (NotBefore t) (NotBefore h) (λ e later. omega arith) (taken steps) (Goes-low z t steps y m goes)
+  Goes-low x h (Takes e ∷ steps) y m (z, low, does, goes) =
+      All-cons (NotBefore h) e (taken steps) low (All-weaker (NotBefore e.moment) (NotBefore h) (λ f later. omega arith) (taken steps) (Goes-low z e.moment steps y m goes))
+
+  -- steps over just these events lead to a state that waits until m
+  record Stands (x : X) (h : ℕ) (events : List MachineEvent) (m : ℕ) : Type 0 where
+    pub state : X
+    pub steps : List Step
+    pub stands : Reaches r x h steps state m
+    pub takes : taken steps ≡ events
+
+  -- no step
+  stays : (x : X) (h m : ℕ) → h ≤ m → Waits r x m → Stands x h [] m
+  stays x h m reached waits = record { state = x; steps = []; stands = record { last = h; goes = (refl, refl); reached = reached; waits = waits }; takes = refl }
+
+  -- an end before them
+  hides : (x : X) (h t : ℕ) (z : X) (events : List MachineEvent) (m : ℕ) → h ≤ t → Hide r x t z → Stands z t events m → Stands x h events m
+  hides x h t z events m low does s = record {
+    state = s.state;
+    steps = Hides t ∷ s.steps;
+    stands = record { last = s.stands.last; goes = (z, low, does, s.stands.goes); reached = s.stands.reached; waits = s.stands.waits };
+    takes = s.takes;
+  }
+
+  -- an event before them
+  takes : (x : X) (h : ℕ) (e : MachineEvent) (z : X) (events : List MachineEvent) (m : ℕ) → h ≤ e.moment → Does r x (Takes e) z → Stands z e.moment events m → Stands x h (e ∷ events) m
+  takes x h e z events m low does s = record {
+    state = s.state;
+    steps = Takes e ∷ s.steps;
+    stands = record { last = s.stands.last; goes = (z, low, does, s.stands.goes); reached = s.stands.reached; waits = s.stands.waits };
+    takes = ap (λ es. e ∷ es) s.takes;
+  }
+
+  -- steps over events and more, up to a moment between them
+  Goes-fewer : (x : X) (h : ℕ) (steps : List Step) (y : X) (last : ℕ) (events more : List MachineEvent) (m n : ℕ) → Goes r x h steps y last → Waits r y n → taken steps ≡ events ++ more →
+      All (NotBehind m) events → All (NotBefore m) more → h ≤ m → m ≤ n → Stands x h events m
+  Goes-fewer x h [] y last [] more m n goes waits is low high from to = stays x h m from (IsWithin-earlier m n (r.until x) to (subst (λ z. Waits r z n) goes.0 waits))
+  Goes-fewer x h [] y last (e ∷ events) more m n goes waits is low high from to = absurd (cc)
+  Goes-fewer x h (Hides t ∷ steps) y last events more m n (z, after, does, goes) waits is low high from to =
+      by_end (dec_le t m) (λ early. Goes-fewer z t steps y last events more m n goes waits is low high early to)
+    where
+      of_events : m < t → (es : List MachineEvent) → taken steps ≡ es ++ more → All (NotBehind m) es → Stands x h es m
+      of_events late [] is low = stays x h m from (IsWithin-earlier m t (r.until x) (omega (arith, late)) does.waited)
+      of_events late (e ∷ es) is low =
+          let here : t ≤ e.moment = All-head (NotBefore t) e (es ++ more) (subst (All (NotBefore t)) is (Goes-low z t steps y last goes)) in
+          let there : e.moment ≤ m = All-head (NotBehind m) e es low in
+          absurd (omega (arith, late))
+
+      by_end : Dec (t ≤ m) → (t ≤ m → Stands z t events m) → Stands x h events m
+      by_end (yes early) later = hides x h t z events m after does (later early)
+      by_end (no late) later = of_events (omega (arith, late)) events is low
+  Goes-fewer x h (Takes f ∷ steps) y last [] [] m n (z, after, does, goes) waits is low high from to = absurd (cc)
+  Goes-fewer x h (Takes f ∷ steps) y last [] (e ∷ more) m n (z, after, does, goes) waits is low high from to =
+      let later : m ≤ e.moment = All-head (NotBefore m) e more high in
+      let same : f ≡ e = cc in
+      stays x h m from (IsWithin-earlier m f.moment (r.until x) (rw same later) does.0)
+  Goes-fewer x h (Takes f ∷ steps) y last (e ∷ events) more m n (z, after, does, goes) waits is low high from to =
+      let same : f ≡ e = cc in
+      let early : f.moment ≤ m = rw same (All-head (NotBehind m) e events low) in
+      subst (λ g. Stands x h (g ∷ events) m) same
+      (takes x h f z events m after does (Goes-fewer z f.moment steps y last events more m n goes waits (cc) (All-tail (NotBehind m) e events low) high early to))
+
+  -- a run over events and more holds one over the events, which stands at any moment between them
+  pub Run-fewer : (events more : List MachineEvent) (m n : ℕ) (y : X) → All (λ e. e.moment ≤ m) events → All (λ e. m ≤ e.moment) more → m ≤ n → RuledRun r (events ++ more) n y → (x : X) × RuledRun r events m x
+  Run-fewer events more m n y low high to run =
+      let stands = run.stands in
+      let s = Goes-fewer r.first 0 run.steps y stands.last events more m n stands.goes stands.waits run.takes low high (omega arith) to in
+      (s.state, record { steps = s.steps; stands = s.stands; takes = s.takes })
+
+  -- steps that take an event among others: to the state before it, and from the one after it
+  pub record Through (x : X) (h : ℕ) (e : MachineEvent) (rest : List MachineEvent) (y : X) (m : ℕ) : Type 0 where
+    pub front : List Step
+    pub before : X
+    pub at : ℕ
+    pub to : Goes r x h front before at
+    pub behind : X
+    pub does : Does r before (Takes e) behind
+    pub steps : List Step
+    pub goes : Goes r behind e.moment steps y m
+    pub takes : taken steps ≡ rest
+
+  -- one step more before them
+  step_before : (x : X) (h : ℕ) (step : Step) (z : X) (e : MachineEvent) (rest : List MachineEvent) (y : X) (m : ℕ) → h ≤ moment_of_step step → Does r x step z → Through z (moment_of_step step) e rest y m → Through x h e rest y m
+  step_before x h step z e rest y m low does t =
+      record { front = step ∷ t.front; before = t.before; at = t.at; to = (z, low, does, t.to); behind = t.behind; does = t.does; steps = t.steps; goes = t.goes; takes = t.takes }
+
+  pub Goes-through : (x : X) (h : ℕ) (steps : List Step) (y : X) (m : ℕ) (front : List MachineEvent) (e : MachineEvent) (rest : List MachineEvent) → Goes r x h steps y m → taken steps ≡ front ++ e ∷ rest → Through x h e rest y m
+  Goes-through x h [] y m [] e rest goes is = absurd (cc)
+  Goes-through x h [] y m (f ∷ front) e rest goes is = absurd (cc)
+  Goes-through x h (Hides t ∷ steps) y m front e rest (z, low, does, goes) is = step_before x h (Hides t) z e rest y m low does (Goes-through z t steps y m front e rest goes is)
+  Goes-through x h (Takes f ∷ steps) y m [] e rest (z, low, does, goes) is =
+      let same : f ≡ e = cc in
+      subst (λ g. Through x h g rest y m) same (record { front = []; before = x; at = h; to = (refl, refl); behind = z; does = does; steps = steps; goes = goes; takes = cc })
+  Goes-through x h (Takes f ∷ steps) y m (g ∷ front) e rest (z, low, does, goes) is = step_before x h (Takes f) z e rest y m low does (Goes-through z f.moment steps y m front e rest goes (cc))

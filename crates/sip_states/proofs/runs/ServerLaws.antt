@@ -1,0 +1,109 @@
+-- What runs of servers send.
+use Rattle.std.proofs.Common.{◌≡◌, ◌⊎◌, inl, inr, ℕ, suc, Bool, true, false, None, List, [], ◌∷◌, ◌++◌, refl, subst, arith}
+use Rattle.std.specs.List.{Any}
+use Rattle.sip_standard.specs.declared.action.Action.{Action}
+use Rattle.sip_key.specs.declared.role.Role.TheVariants.{Server}
+use Rattle.sip_standard.specs.declared.rules.Rules.{Rules as BuiltBy}
+use Rattle.sip_standard.specs.declared.rules.Rules.TheVariants.{R3261, R6026}
+use Rattle.sip_standard.specs.declared.action.Action.TheVariants.{Sent, Received, Failed, Mark, Restart}
+use Rattle.sip_machine.specs.declared.event.Method.{Method}
+use Rattle.sip_machine.specs.declared.event.Kind.{Kind}
+use Rattle.sip_machine.specs.declared.event.Kind.TheVariants.{Request, Response}
+use Rattle.sip_standard.specs.Times.{Times}
+use Rattle.sip_machine.specs.MachineEvent.{MachineEvent}
+use Rattle.sip_machine.specs.Debts.{Owed, unexpired}
+use Rattle.sip_machine.specs.Figure.{Figure, After as Row, Owing, quiet, Emits, Fails, Steps, rules_of as rules_of_figure}
+use Rattle.sip_states.specs.Runs.{Step, Hides, Takes, Goes, taken, AfterRun}
+use Rattle.sip_states.specs.KeyMachine.{machine_of, transaction_of, PhaseOf, key_rules}
+use Rattle.sip_states.proofs.sets.Waiting.{IsOpenAt-none}
+use Rattle.sip_states.proofs.runs.RunLemmas.{Goes-last}
+
+-- a request that came in
+abbrev IsAsked : MachineEvent → Type 0
+IsAsked e = (e.action ≡ Received) × ((method : Method) × (e.kind ≡ Request method))
+
+-- in its idle phase a server has no timer, sends nothing, and leaves only for a request
+record IsAsleep {X : Type 0} (f : Figure X) (p : Times) : Type 0 where
+  pub no_end : f.window p f.idle ≡ None
+  pub silent : (k : Kind) (e : MachineEvent) (y : Row X) → f.Sends p f.idle k e y → ⊥
+  pub woken : (k : Kind) (e : MachineEvent) (y : Row X) → f.Receives p f.idle k e y → (method : Method) × (k ≡ Request method)
+  pub unmoved : (k : Kind) → f.Stays f.idle k → ⊥
+
+module _ {X : Type 0} (f : Figure X) (p : Times) (asleep : IsAsleep f p) where
+  emits_nothing : (e : MachineEvent) (y : Owing X) → Emits f p e (quiet f.idle) y → ⊥
+  emits_nothing e y (inl (row, is_row, to)) = asleep.silent e.kind e row is_row
+  emits_nothing e y (inr (inr (stays, same))) = asleep.unmoved e.kind stays
+  emits_nothing e y (inr (inl (left, pays, to))) = none_owed pays.before pays.whole
+    where
+      none_owed : (before : List Owed) → [] ≡ before ++ pays.first ∷ pays.after → ⊥
+      none_owed [] is = cc
+      none_owed (owed ∷ before) is = cc
+
+  fails_nothing : (ends : Bool) (e : MachineEvent) (y : Owing X) → Fails ends f p e (quiet f.idle) y → ⊥
+  fails_nothing true e y (some, to) = emits_nothing e some.0 some.1
+  fails_nothing false e y h = emits_nothing e y h
+
+  -- a step stays there, or is a request's
+  stays_or_asked : (e : MachineEvent) (y : Owing X) (a : Action) → e.action ≡ a → Steps f p a e (quiet f.idle) y → (y ≡ quiet f.idle) ⊎ IsAsked e
+  stays_or_asked e y Received is (inl (row, is_row, to)) = inr (is, asleep.woken e.kind e row is_row)
+  stays_or_asked e y Received is (inr (none, same)) = inl same
+  stays_or_asked e y Sent is h = absurd (emits_nothing e y h)
+  stays_or_asked e y Failed is h = absurd (fails_nothing (f.ends_refused f.idle e.kind) e y h)
+  stays_or_asked e y Mark is h = absurd h
+  stays_or_asked e y Restart is (inl (idle, same)) = inl same
+  stays_or_asked e y Restart is (inr (other, ends)) = absurd (other refl)
+
+  -- and so do several
+  goes_stay_or_asked : (h : ℕ) (steps : List Step) (y : Owing X) (m : ℕ) → Goes (rules_of_figure f p) (quiet f.idle) h steps y m → (y ≡ quiet f.idle) ⊎ Any IsAsked (taken steps)
+  goes_stay_or_asked h [] y m goes = inl goes.0
+  goes_stay_or_asked h (Hides t ∷ steps) y m (z, low, hides, goes) = absurd (IsOpenAt-none t _ asleep.no_end hides.opened)
+  goes_stay_or_asked h (Takes e ∷ steps) y m (z, low, does, goes) =
+      by_step (stays_or_asked e z e.action refl does.1.1) (λ same. goes_stay_or_asked e.moment steps y m (subst (λ x. Goes (rules_of_figure f p) x e.moment steps y m) same goes))
+    where
+      later : (y ≡ quiet f.idle) ⊎ Any IsAsked (taken steps) → (y ≡ quiet f.idle) ⊎ Any IsAsked (e ∷ taken steps)
+      later (inl same) = inl same
+      later (inr (k, asked, within, is, holds)) = inr (suc k, asked, omega (arith, within), is, holds)
+
+      by_step : (z ≡ quiet f.idle) ⊎ IsAsked e → (z ≡ quiet f.idle → (y ≡ quiet f.idle) ⊎ Any IsAsked (taken steps)) → (y ≡ quiet f.idle) ⊎ Any IsAsked (e ∷ taken steps)
+      by_step (inl same) rest = later (rest same)
+      by_step (inr asked) rest = inr (0, e, omega arith, refl, asked)
+
+  -- so what it sends comes after one
+  sends_when_asked : (events : List MachineEvent) (e : MachineEvent) (y : Owing X) → AfterRun (rules_of_figure f p) events e y → e.action ≡ Sent → Any IsAsked events
+  sends_when_asked events e y after sent =
+      let r = rules_of_figure f p in
+      let last = Goes-last r r.first 0 after.steps (Takes e) y after.goes in
+      by_state last.before last.does.1.1 (goes_stay_or_asked 0 after.steps last.before last.at last.goes)
+    where
+      by_state : (x : Owing X) → Steps f p e.action e (record { phase = x.phase; owes = unexpired e.moment x.owes }) y → (x ≡ quiet f.idle) ⊎ Any IsAsked (taken after.steps) → Any IsAsked events
+      by_state x step (inl same) =
+          absurd (emits_nothing e y (subst (λ a. Steps f p a e (quiet f.idle) y) sent (subst (λ z. Steps f p e.action e (record { phase = z.phase; owes = unexpired e.moment z.owes }) y) same step)))
+      by_state x step (inr asked) = subst (Any IsAsked) after.takes asked
+
+-- the figure of a server
+abbrev server : (rules : BuiltBy) (invite : Bool) → Figure (transaction_of (machine_of rules Server invite)).Phase
+server rules invite = (transaction_of (machine_of rules Server invite)).figure
+
+woken : (rules : BuiltBy) (invite : Bool) (p : Times) (k : Kind) (e : MachineEvent) (y : Row (transaction_of (machine_of rules Server invite)).Phase) →
+    (server rules invite).Receives p (server rules invite).idle k e y → (method : Method) × (k ≡ Request method)
+woken rules invite p (Request method) e y h = (method, refl)
+woken R6026 true p (Response code) e y h = absurd h
+woken R6026 false p (Response code) e y h = absurd h
+woken R3261 true p (Response code) e y h = absurd h.1
+woken R3261 false p (Response code) e y h = absurd h
+
+-- each of them sleeps in its idle phase
+asleep : (rules : BuiltBy) (invite : Bool) (p : Times) → IsAsleep (server rules invite) p
+asleep R6026 true p = record { no_end = refl; silent = λ k e y h. h; woken = woken R6026 true p; unmoved = λ k stays. stays }
+asleep R6026 false p = record { no_end = refl; silent = λ k e y h. h; woken = woken R6026 false p; unmoved = λ k stays. stays }
+asleep R3261 true p = record { no_end = refl; silent = λ k e y h. h; woken = woken R3261 true p; unmoved = unmoved }
+  where
+    unmoved : (k : Kind) → (server R3261 true).Stays (server R3261 true).idle k → ⊥
+    unmoved (Request method) stays = absurd stays
+    unmoved (Response code) (again, held, success) = cc
+asleep R3261 false p = record { no_end = refl; silent = λ k e y h. h; woken = woken R3261 false p; unmoved = λ k stays. stays }
+
+-- a server sends nothing before it is asked
+pub server_sends_when_asked : (p : Times) (rules : BuiltBy) (invite : Bool) (events : List MachineEvent) (e : MachineEvent) (y : PhaseOf (machine_of rules Server invite)) →
+    AfterRun (key_rules p (machine_of rules Server invite)) events e y → e.action ≡ Sent → Any IsAsked events
+server_sends_when_asked p rules invite = sends_when_asked (server rules invite) p (asleep rules invite p)

@@ -1,0 +1,135 @@
+-- A run in the words of the standard is one by the rules of its figure.
+use Rattle.std.proofs.Common.{◌≡◌, ◌≤◌, ◌↔◌, ℕ, Option, Some, None, IfSome, IsSomeAnd, Bool, true, false, List, [], ◌∷◌, ◌++◌, All, if◌then◌else◌, refl, sym, ◌∙◌, subst, arith}
+use Rattle.std.specs.List.{list_any}
+use Rattle.std.proofs.lemmas.List.{append_assoc, append-nil}
+use Rattle.std.proofs.lemmas.List.Elements.{All-head, All-nil, All-cons, All-append}
+use Rattle.sip_standard.specs.Times.{Times}
+use Rattle.sip_machine.specs.Limits.{IsOpenAt}
+use Rattle.sip_machine.specs.MachineEvent.{MachineEvent}
+use Rattle.sip_machine.specs.Rules.{Waits, Hide}
+use Rattle.sip_machine.specs.Figure.{Figure, IsFigure, Owing, quiet, Lasts, MayEnd, closes_of, closes_at, rules_of}
+use Rattle.sip_machine.specs.inner.DebtLaws.{All-front, All-back}
+use Rattle.sip_machine.specs.inner.OwesLaws.{IsWithin-owed}
+use Rattle.sip_machine.specs.inner.FigureLaws.{rules_lawful}
+use Rattle.sip_states.specs.Stands.{Stands, begins, waits, ends, takes, StandsBehind}
+use Rattle.sip_states.specs.Runs.{Step, Hides, Takes, Goes, taken, RuledRun, AfterRun}
+use Rattle.sip_states.proofs.sets.Waiting.{IsWithin-none, Wait-stay}
+use Rattle.sip_states.proofs.runs.RunLemmas.{taken-append, Goes-push, Run-wait, After-run}
+
+-- a moment is past no close of a window exactly if it is not past the one that it may have
+closes-within : (h : ℕ) (window : Option (ℕ × Option ℕ)) → All (λ m. h ≤ m) (closes_of window) ↔ IfSome window (λ w. IfSome w.1 (λ close. h ≤ close))
+closes-within h None = (λ _. tt, λ _. All-nil (λ m. h ≤ m))
+closes-within h (Some (from, None)) = (λ _. tt, λ _. All-nil (λ m. h ≤ m))
+closes-within h (Some (from, Some to)) = (λ all. All-head (λ m. h ≤ m) to [] all, λ low. All-cons (λ m. h ≤ m) to [] low (All-nil (λ m. h ≤ m)))
+
+-- an open window that has not closed
+open-within : (h : ℕ) (window : Option (ℕ × Option ℕ)) → IsSomeAnd window (λ w. w.0 ≤ h) → IfSome window (λ w. IfSome w.1 (λ close. h ≤ close)) → IsOpenAt h window
+open-within h None opening low = opening
+open-within h (Some (from, None)) opening low = (opening, tt)
+open-within h (Some (from, Some to)) opening low = (opening, low)
+
+within-open : (h : ℕ) (window : Option (ℕ × Option ℕ)) → IsOpenAt h window → IsSomeAnd window (λ w. w.0 ≤ h)
+within-open h None opening = opening
+within-open h (Some (from, to)) opening = opening.0
+
+-- a window that opens where nothing has to be sent
+open-owed : (h : ℕ) (owed : Bool) (window : Option (ℕ × Option ℕ)) → IsOpenAt h (if owed then None else window) → (owed ≡ false) × IsOpenAt h window
+open-owed h true window opening = absurd opening
+open-owed h false window opening = (refl, opening)
+
+module _ {X : Type 0} (f : Figure X) (is : IsFigure f) (p : Times) where
+  -- a state lasts as long as it waits
+  lasts-waits : (x : Owing X) (h : ℕ) → Lasts f p x h ↔ Waits (rules_of f p) x h
+  lasts-waits x h =
+      let owed = IsWithin-owed h (closes_at f p x.phase) x.owes in
+      let closes = closes-within h (f.window p x.phase) in (
+        λ lasts. owed.1 (All-append (λ m. h ≤ m) (closes_of (f.window p x.phase)) (f.sends_by p x.phase) (closes.1 lasts.0) lasts.1, lasts.2),
+        λ within.
+            let halves = owed.0 within in (
+              closes.0 (All-front (λ m. h ≤ m) (closes_of (f.window p x.phase)) (f.sends_by p x.phase) halves.0),
+              All-back (λ m. h ≤ m) (closes_of (f.window p x.phase)) (f.sends_by p x.phase) halves.0,
+              halves.1,
+            ),
+      )
+
+  -- it may end where its window is open
+  may-hide : (x : Owing X) (h : ℕ) → MayEnd f p x h → Waits (rules_of f p) x h → Hide (rules_of f p) x h (quiet f.ended)
+  may-hide x h may waiting =
+      record {
+        opened = rw may.1 (open-within h (f.window p x.phase) may.0 ((lasts-waits x h).1 waiting).0);
+        waited = waiting;
+        gives = refl;
+      }
+
+  hide-may : (x : Owing X) (h : ℕ) (y : Owing X) → Hide (rules_of f p) x h y → MayEnd f p x h
+  hide-may x h y hide =
+      let opened = open-owed h (list_any (λ owed. owed.must) x.owes) (f.window p x.phase) hide.opened in (within-open h (f.window p x.phase) opened.1, opened.0)
+
+  -- from where a run stands steps lead on
+  goes-stand : (events : List MachineEvent) (h : ℕ) (x : Owing X) → Stands f p events h x → (steps : List Step) (y : Owing X) (m : ℕ) →
+      Goes (rules_of f p) x h steps y m → Stands f p (events ++ taken steps) m y
+  goes-stand events h x stands [] y m goes = rw (goes.0, goes.1, append-nil events) stands
+  goes-stand events h x stands (Hides t ∷ steps) y m (z, low, does, goes) =
+      let ended = ends events t x (waits events h t x stands low ((lasts-waits x t).1 does.waited)) (hide-may x t z does) in
+      goes-stand events t z (subst (Stands f p events t) (sym does.gives) ended) steps y m goes
+  goes-stand events h x stands (Takes e ∷ steps) y m (z, low, does, goes) =
+      let led = takes events e x z (waits events h e.moment x stands low ((lasts-waits x e.moment).1 does.0)) (does.1).1 in
+      subst (λ es. Stands f p es m y) (append_assoc events (e ∷ []) (taken steps)) (goes-stand (events ++ e ∷ []) e.moment z led steps y m goes)
+
+  run-stands : (events : List MachineEvent) (m : ℕ) (y : Owing X) → RuledRun (rules_of f p) events m y → Stands f p events m y
+  run-stands events m y run =
+      let stands = run.stands in
+      let there = goes-stand [] 0 (quiet f.idle) begins run.steps y stands.last stands.goes in
+      waits events stands.last m y (subst (λ es. Stands f p es stands.last y) run.takes there) stands.reached ((lasts-waits y m).1 stands.waits)
+
+  -- where a run stands, one by the rules does
+  stands-run : (events : List MachineEvent) (m : ℕ) (y : Owing X) → Stands f p events m y → RuledRun (rules_of f p) events m y
+  stands-run _ _ _ begins =
+      record {
+        steps = [];
+        stands = record { last = 0; goes = (refl, refl); reached = omega arith; waits = IsWithin-none 0 _ (rules_lawful f is p).first_stays };
+        takes = refl;
+      }
+  stands-run _ _ _ (waits events h m x stands low lasts) =
+      let run = stands-run events h x stands in
+      let before = run.stands.reached in
+      record {
+        steps = run.steps;
+        stands = record { last = run.stands.last; goes = run.stands.goes; reached = omega arith; waits = (lasts-waits x m).0 lasts };
+        takes = run.takes;
+      }
+  stands-run _ _ _ (ends events h x stands may) =
+      let run = stands-run events h x stands in
+      record {
+        steps = run.steps ++ Hides h ∷ [];
+        stands = record {
+          last = h;
+          goes = Goes-push (rules_of f p) (quiet f.idle) 0 run.steps (Hides h) (quiet f.ended)
+              (record { before = x; at = run.stands.last; goes = run.stands.goes; low = run.stands.reached; does = may-hide x h may run.stands.waits });
+          reached = omega arith;
+          waits = IsWithin-none h _ (rules_lawful f is p).ended_stays;
+        };
+        takes = taken-append run.steps (Hides h ∷ []) ∙ append-nil (taken run.steps) ∙ run.takes;
+      }
+  stands-run _ _ _ (takes events e x y stands led) =
+      let run = stands-run events e.moment x stands in
+      let r = rules_of f p in
+      let taking : r.Take x e y = (run.stands.waits, led) in
+      (Run-wait r events e e.moment y).1
+      (Wait-stay r (AfterRun r events e) e.moment e.moment y
+      (record { among = (After-run r events e y).1 (record { before = x; among = run; takes = taking }); reached = omega arith; waits = (rules_lawful f is p).fresh x e y taking }))
+
+  pub stands-runs : (events : List MachineEvent) (m : ℕ) (y : Owing X) → Stands f p events m y ↔ RuledRun (rules_of f p) events m y
+  stands-runs events m y = (stands-run events m y, run-stands events m y)
+
+  -- where an event leads from there, it does by the rules
+  pub behind-after : (events : List MachineEvent) (e : MachineEvent) (y : Owing X) → StandsBehind f p events e y ↔ AfterRun (rules_of f p) events e y
+  behind-after events e y = (
+    λ behind.
+        let (x, stands, led) = behind in
+        let run = stands-run events e.moment x stands in
+        (After-run (rules_of f p) events e y).1 (record { before = x; among = run; takes = (run.stands.waits, led) }),
+    λ after.
+        let gives = (After-run (rules_of f p) events e y).0 after in
+        (gives.before, run-stands events e.moment gives.before gives.among, gives.takes.1),
+  )

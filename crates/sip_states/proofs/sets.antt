@@ -1,0 +1,5 @@
+pub mod Advancing
+pub mod Following
+pub mod Stepping
+pub mod Taking
+pub mod Waiting

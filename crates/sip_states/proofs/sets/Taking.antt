@@ -1,0 +1,92 @@
+use Rattle.std.proofs.Common.{◌≢◌, ◌≤◌, ◌<◌, inl, inr, ℕ, Option, List, [], ◌∷◌, All, AllPairs, Contains, map, length, get_or, arith}
+use Rattle.std.proofs.lemmas.List.{length-map}
+use Rattle.std.proofs.lemmas.List.Elements.{All-contains_itself, All-head, All-weaker, Contains-get_or}
+use Rattle.sip_machine.specs.Limits.{IsWithin}
+use Rattle.sip_machine.specs.Texts.{Texts}
+use Rattle.sip_machine.specs.MachineEvent.{MachineEvent}
+use Rattle.sip_machine.specs.Rules.{Rules, IsLawful, Waits, StandFor}
+use Rattle.sip_states.specs.Held.{IsKept}
+use Rattle.sip_states.specs.inner.Ways.{Advances}
+use Rattle.sip_states.specs.Runs.{RunGives, IsWide, widest}
+use Rattle.sip_states.proofs.lists.Few.{distinct_few}
+use Rattle.sip_states.proofs.sets.Following.{Follows, seen_waits, ended_stays}
+use Rattle.sip_states.proofs.lists.Listed.{Contains-map}
+use Rattle.sip_states.proofs.sets.Waiting.{IsWithin-none}
+
+-- What a set of states keeps when it takes an event.
+
+-- more states than are followed stand for more
+pub many_wide : {X S : Type 0} (names : S → List ℕ) (InRange : S → Type 0) (seen : Texts → S → X) (texts : Texts) (P : X → Type 0) (new : List S) →
+    StandFor names InRange seen texts P new → widest < length new → IsWide P
+many_wide names InRange seen texts P new s many =
+    record {
+      many = map (seen texts) new;
+      distinct = s.distinct;
+      wide = rw length-map many;
+      each = All-weaker (Contains (map (seen texts) new)) P (λ x. (s.members x).0) (map (seen texts) new) (All-contains_itself (map (seen texts) new));
+    }
+
+-- a set that is too wide is in sets that are
+pub wide_among : {X : Type 0} (P Q : X → Type 0) → ((x : X) → P x → Q x) → IsWide P → IsWide Q
+wide_among P Q among w = record { many = w.many; distinct = w.distinct; wide = w.wide; each = All-weaker P Q among w.many w.each }
+
+-- a set that is too wide is not empty
+pub wide_some : {X : Type 0} (P : X → Type 0) → IsWide P → (x : X) × P x
+wide_some {X} P w = go w.many w.wide w.each
+  where
+    go : (many : List X) → widest < length many → All P many → (x : X) × P x
+    go [] wide each = absurd (omega arith)
+    go (x ∷ many) wide each = (x, All-head P x many each)
+
+-- what no more states than are followed stand for is not too wide
+pub few_narrow : {X S : Type 0} (names : S → List ℕ) (InRange : S → Type 0) (seen : Texts → S → X) (texts : Texts) (P : X → Type 0) (new : List S) →
+    StandFor names InRange seen texts P new → length new ≤ widest → IsWide P → ⊥
+few_narrow names InRange seen texts P new stands few w =
+    let fits = distinct_few w.many (map (seen texts) new) w.distinct (All-weaker P (Contains (map (seen texts) new)) (λ x. (stands.members x).1) w.many w.each) in
+    let wide = w.wide in
+    omega (arith, fits, length-map new (seen texts))
+
+module _ {X S : Type 0} (names : S → List ℕ) (InRange : S → Type 0) (seen : Texts → S → X) (texts : Texts) (r : Rules X) where
+  -- a state that an event gave can wait at its moment
+  pub took_waits : IsLawful r → (P : X → Type 0) (e : MachineEvent) (new : List S) → StandFor names InRange seen texts (RunGives r P e) new → All (λ s. Waits r (seen texts s) e.moment) new
+  took_waits lawful P e new gives k d within =
+      let given = (gives.members (seen texts (get_or new k d))).0 (Contains-map (seen texts) new (get_or new k d) (Contains-get_or new k d within)) in
+      lawful.fresh given.before e (seen texts (get_or new k d)) given.takes
+
+-- after an event the set is kept, if it is not too wide
+pub took_kept : {M X S : Type 0} (names : S → List ℕ) (InRange : S → Type 0) (seen : Texts → S → X) (r : M → Rules X) (ended : M → S) (window : M → S → Option (ℕ × Option ℕ)) (until : M → S → Option ℕ)
+    (machine : M) → Follows names seen (r machine) (ended machine) (window machine) (until machine) → (texts : Texts) (P : X → Type 0) (e : MachineEvent) (new : List S) →
+    StandFor names InRange seen texts (RunGives (r machine) P e) new → AllPairs (λ x y. x ≢ y) new → length new ≤ widest →
+    IsKept InRange until ended (record { machine = machine; moment = e.moment; states = new })
+took_kept names InRange seen r ended window until machine follows texts P e new s apart few =
+    record {
+      in_range = s.in_range;
+      distinct = apart;
+      waiting = All-weaker (λ x. Waits (r machine) (seen texts x) e.moment) (λ x. IsWithin e.moment (until machine x))
+          (λ x. (seen_waits names InRange seen (r machine) (ended machine) (window machine) (until machine) follows texts e.moment x).0) new
+          (took_waits names InRange seen texts (r machine) follows.lawful P e new s);
+      few = inl few;
+    }
+
+-- a set that waited is kept
+pub advanced_kept : {M X S : Type 0} (names : S → List ℕ) (InRange : S → Type 0) (seen : Texts → S → X) (r : M → Rules X) (ended : M → S) (window : M → S → Option (ℕ × Option ℕ)) (until : M → S → Option ℕ)
+    (machine : M) → Follows names seen (r machine) (ended machine) (window machine) (until machine) → (h m : ℕ) (xs ys : List S) →
+    IsKept InRange until ended (record { machine = machine; moment = h; states = xs }) → Advances InRange (window machine) (until machine) (ended machine) h m xs ys →
+    IsKept InRange until ended (record { machine = machine; moment = m; states = ys })
+advanced_kept names InRange seen r ended window until machine follows h m xs ys kept a =
+    let stays = ended_stays names InRange seen (r machine) (ended machine) (window machine) (until machine) follows in
+    record {
+      in_range = a.in_range;
+      distinct = a.distinct;
+      waiting = λ k d low. ((a.members (get_or ys k d)).0 (Contains-get_or ys k d low)).0;
+      few = elim a.grows [
+        | inl fewer ↦ elim kept.few [
+          | inl few ↦ inl (omega arith)
+          | inr (most, there) ↦ inr (omega arith, (a.members (ended machine)).1 (IsWithin-none m (until machine (ended machine)) stays, inl there))
+        ]
+        | inr (more, absent, there) ↦ elim kept.few [
+          | inl few ↦ inr (omega arith, there)
+          | inr (most, was) ↦ absurd (absent was)
+        ]
+      ];
+    }

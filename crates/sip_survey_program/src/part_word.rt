@@ -1,0 +1,35 @@
+//! The word for a part of a log.
+ghost use Rattle.sip_survey_program.specs.PartWords.{IsNumberFor, IsPartBetween, IsPartFor};
+
+use itoa::Buffer;
+use sip_part::Part;
+
+/// The number that a word is, below 2^32 and without a leading zero.
+fn number_of(word: &str) -> Option<u32>
+    ensures { IsNumberFor word.now result }
+{
+    let Ok(number) = word.parse::<u32>() else {
+        return None;
+    };
+    if Buffer::new().format(number) != word {
+        return None;
+    }
+    Some(number)
+}
+
+/// The part that two numbers name, its own first.
+fn part_between(number: &str, count: &str) -> Option<Part>
+    ensures { IsPartBetween number.now count.now result }
+{
+    let number = number_of(number)?;
+    let count = number_of(count)?;
+    Part::new(number, count)
+}
+
+/// The part that a word names: `K/N` is part K of N, the least being 1.
+pub fn part_of(word: &str) -> Option<Part>
+    ensures { IsPartFor word.now result }
+{
+    let (number, count) = word.split_once('/')?;
+    part_between(number, count)
+}

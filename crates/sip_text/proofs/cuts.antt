@@ -1,0 +1,5 @@
+pub mod CutLemmas
+pub mod DoubleLemmas
+pub mod EndLemmas
+pub mod LastLemmas
+pub mod RunCutLemmas

@@ -1,0 +1,7 @@
+pub mod HexLemmas
+pub mod HostLemmas
+pub mod HostnameLemmas
+pub mod LabelLemmas
+pub mod V4Lemmas
+pub mod V6Lemmas
+pub mod ProfileLemmas

@@ -1,0 +1,2 @@
+pub mod BlanksLemmas
+pub mod QuotedLemmas

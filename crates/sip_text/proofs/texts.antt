@@ -1,0 +1,7 @@
+pub mod BlockLemmas
+pub mod ClassLemmas
+pub mod GroupLemmas
+pub mod JoinedLemmas
+pub mod LacksLemmas
+pub mod ManyLemmas
+pub mod RunLemmas

@@ -1,0 +1,100 @@
+-- Runs of bytes of one class: the longest front that passes a test.
+use Rattle.std.proofs.Common.{◌≡◌, ℕ, ◌+◌, ◌≤◌, ◌⊎◌, Bool, true, false, List, [], ◌∷◌, ◌++◌, length, cond, nat_eq, refl, sym, ap, ◌∙◌, inl, inr, arith}
+use Rattle.std.specs.List.{AllByRecursion, concat, prefix_len, list_all}
+use Rattle.std.proofs.lemmas.Bool.{and_from, and_parts, eq-eqb, eqb-true}
+use Rattle.std.proofs.lemmas.List.{append-nil}
+use Rattle.std.proofs.lemmas.List.Sums.{prefix_len-le-length}
+use Rattle.sip_standard.specs.Text.{One, Many, OneOrMore}
+use Rattle.sip_text.specs.Parts.{HasFront, IsLongestFront}
+use Rattle.sip_text.proofs.texts.ManyLemmas.{many-cons, many-nil, many-some, front-whole}
+
+-- a run of bytes of the class passes the test throughout
+pub run-list_all : (test : ℕ → Bool) (text : List ℕ) → Many (One test) text → list_all test text ≡ true
+run-list_all test text many = ap (list_all test) many.2 ∙ go many.0 many.1
+  where
+    go : (us : List (List ℕ)) → AllByRecursion (One test) us → list_all test (concat us) ≡ true
+    go [] all = refl
+    go (u ∷ us) all =
+        ap (λ t. list_all test (t ++ concat us)) all.0.2 ∙ and_from _ _ all.0.1 (go us all.1)
+
+-- a text that passes the test throughout is a run of bytes of the class
+pub list_all-run : (test : ℕ → Bool) (text : List ℕ) → list_all test text ≡ true → Many (One test) text
+list_all-run test [] all = many-nil (One test)
+list_all-run test (b ∷ text) all =
+    let parts = and_parts (test b) (list_all test text) all in
+    many-cons (One test) (b ∷ []) text (b, parts.0, refl) (list_all-run test text parts.1)
+
+-- the front that passes is a run
+pub run-front : (test : ℕ → Bool) (text : List ℕ) → HasFront (Many (One test)) text (prefix_len test text)
+run-front test [] = ([], [], many-nil (One test), refl, refl)
+run-front test (b ∷ text) = at (run-front test text) (test b) refl
+  where
+    at : HasFront (Many (One test)) text (prefix_len test text) → (passes : Bool) → test b ≡ passes → HasFront (Many (One test)) (b ∷ text) (cond passes (1 + prefix_len test text) 0)
+    at rest true is = (
+      b ∷ rest.0,
+      rest.1,
+      many-cons (One test) (b ∷ []) rest.0 (b, is, refl) rest.2,
+      ap (λ t. b ∷ t) rest.3,
+      omega (arith, rest.4),
+    )
+    at rest false is = ([], b ∷ text, many-nil (One test), refl, refl)
+
+-- a front that is a run passes
+pub run-longest : (test : ℕ → Bool) (text : List ℕ) (n : ℕ) → HasFront (Many (One test)) text n → n ≤ prefix_len test text
+run-longest test text n front =
+    let same : prefix_len test text ≡ prefix_len test (concat front.2.0 ++ front.1) =
+    ap (prefix_len test) (front.3 ∙ ap (λ t. t ++ front.1) front.2.2) in
+    omega (arith, same, go front.2.0 front.1 front.2.1, front.4, ap length front.2.2)
+  where
+    go : (us : List (List ℕ)) (v : List ℕ) → AllByRecursion (One test) us → length (concat us) ≤ prefix_len test (concat us ++ v)
+    go [] v all = omega arith
+    go (u ∷ us) v all =
+        let first : prefix_len test ((u ++ concat us) ++ v) ≡ 1 + prefix_len test (concat us ++ v) =
+        ap (λ t. prefix_len test ((t ++ concat us) ++ v)) all.0.2
+        ∙ ap (λ passes. cond passes (1 + prefix_len test (concat us ++ v)) 0) all.0.1 in
+        omega (arith, first, go us v all.1, ap (λ t. length (t ++ concat us)) all.0.2)
+
+-- one or more bytes of the class: the longest front is what passes the test
+pub longest-run : (test : ℕ → Bool) (text : List ℕ) → IsLongestFront (OneOrMore (One test)) text (prefix_len test text)
+longest-run test text = record {
+  front = front text;
+  longest = λ m other. run-longest test text m (other.0, other.1, many-some (One test) other.0 other.2, other.3, other.4);
+}
+  where
+    front : (xs : List ℕ) → (prefix_len test xs ≡ 0) ⊎ HasFront (OneOrMore (One test)) xs (prefix_len test xs)
+    front [] = inl refl
+    front (b ∷ xs) = at (test b) refl
+      where
+        rest : HasFront (Many (One test)) xs (prefix_len test xs)
+        rest = run-front test xs
+
+        at : (passes : Bool) → test b ≡ passes → (cond passes (1 + prefix_len test xs) 0 ≡ 0) ⊎ HasFront (OneOrMore (One test)) (b ∷ xs) (cond passes (1 + prefix_len test xs) 0)
+        at true is = inr (
+          b ∷ rest.0,
+          rest.1,
+          (b ∷ [], rest.0, (b, is, refl), rest.2, refl),
+          ap (λ t. b ∷ t) rest.3,
+          omega (arith, rest.4),
+        )
+        at false is = inl refl
+
+-- there is one longest front
+pub longest-same : (P : List ℕ → Type 0) (text : List ℕ) (n m : ℕ) → IsLongestFront P text n → IsLongestFront P text m → n ≡ m
+longest-same P text n m one other = omega (arith, within n m one.front other, within m n other.front one)
+  where
+    within : (k l : ℕ) → (k ≡ 0) ⊎ HasFront P text k → IsLongestFront P text l → k ≤ l
+    within k l (inl none) longest = omega (arith, none)
+    within k l (inr front) longest = longest.longest k front
+
+-- the longest run is the whole text exactly if the text passes the test throughout
+pub run-whole : (test : ℕ → Bool) (text : List ℕ) (n : ℕ) → n ≡ prefix_len test text → nat_eq n (length text) ≡ list_all test text
+run-whole test text n is = agree (nat_eq n (length text)) (list_all test text)
+    (λ whole. run-list_all test text (front-whole (Many (One test)) text (prefix_len test text) (run-front test text) (sym is ∙ eqb-true n (length text) whole)))
+    (λ all.
+    let front : HasFront (Many (One test)) text (length text) = (text, [], list_all-run test text all, sym (append-nil text), refl) in
+    eq-eqb n (length text) (omega (arith, is, run-longest test text (length text) front, prefix_len-le-length test text)))
+  where
+    agree : (r s : Bool) → (r ≡ true → s ≡ true) → (s ≡ true → r ≡ true) → r ≡ s
+    agree true s there back = sym (there refl)
+    agree false false there back = refl
+    agree false true there back = back refl

@@ -1,0 +1,227 @@
+-- A part of a URI is cut at its mark: parameters and headers.
+use Rattle.std.proofs.Common.{◌≡◌, ℕ, ◌<◌, ◌↔◌, ◌==◌, nat_eq, Bool, true, false, List, [], ◌∷◌, ◌++◌, Option, None, Some, IfSome, IsSomeAnd, if◌then◌else◌, length, refl, sym, ap, ◌∙◌, subst, inl, inr, arith}
+use Rattle.std.specs.Prelude.{⊤}
+use Rattle.std.specs.Bool.{Decides}
+use Rattle.std.specs.List.{AllByRecursion}
+use Rattle.std.proofs.lemmas.Bool.{both_ways, false≢true, eqb-true}
+use Rattle.std.proofs.lemmas.Bool.Decides.{Decides-like}
+use Rattle.std.proofs.lemmas.List.{length-append}
+use Rattle.sip_standard.specs.Text.{◌then◌, Optional, Many, OneOrMore}
+use Rattle.sip_standard.specs.Profile.{UriParameters, Headers}
+use Rattle.sip_text.specs.Bytes.{equals, semicolon, ampersand, Byte}
+use Rattle.sip_text.specs.Parts.{led}
+use Rattle.sip_text.specs.inner.Class.{is_param_unreserved, is_hnv_unreserved}
+use Rattle.sip_text.specs.inner.Cut.{before, behind, past, parts}
+use Rattle.sip_text.specs.inner.Pieces.{Joined, ParamChar, ParamWord, UriParameter, HeaderChar, Header}
+use Rattle.sip_text.proofs.texts.ManyLemmas.{many-nil, many-cons, some-many}
+use Rattle.sip_text.proofs.texts.LacksLemmas.{AllLack, lack-byte, lack-then, lack-optional, lack-many, lack-some}
+use Rattle.sip_text.proofs.cuts.CutLemmas.{cut-whole, before-led, behind-led, later_parts, parts-cut}
+use Rattle.sip_text.proofs.uris.UriCharLemmas.{is_char_byte, lack-char}
+use Rattle.sip_text.proofs.texts.JoinedLemmas.{parts-joined, joined-parts}
+
+-- P [ mark Q ]: cut at the mark
+pub cut-optional : (mark : ℕ) (P Q : List ℕ → Type 0) (text : List ℕ) → AllLack mark P → (P then Optional (Byte mark then Q)) text → P (before mark text) × IfSome (behind mark text) Q
+cut-optional mark P Q text lack (u, v, one, inl none, whole) =
+    let same : text ≡ u ++ led mark None = whole ∙ ap (λ t. u ++ t) none in (
+      subst P (sym (ap (before mark) same ∙ before-led mark u None (lack u one))) one,
+      subst (λ o. IfSome o Q) (sym (ap (behind mark) same ∙ behind-led mark u None (lack u one))) tt,
+    )
+cut-optional mark P Q text lack (u, v, one, inr (m, w, is_mark, other, both), whole) =
+    let same : text ≡ u ++ led mark (Some w) = whole ∙ ap (λ t. u ++ t) (both ∙ ap (λ t. t ++ w) is_mark) in (
+      subst P (sym (ap (before mark) same ∙ before-led mark u (Some w) (lack u one))) one,
+      subst (λ o. IfSome o Q) (sym (ap (behind mark) same ∙ behind-led mark u (Some w) (lack u one))) other,
+    )
+
+-- and put together again
+pub optional-cut : (mark : ℕ) (P Q : List ℕ → Type 0) (text : List ℕ) → P (before mark text) → IfSome (behind mark text) Q → (P then Optional (Byte mark then Q)) text
+optional-cut mark P Q text one other = at (behind mark text) other (cut-whole mark text)
+  where
+    at : (o : Option (List ℕ)) → IfSome o Q → text ≡ before mark text ++ led mark o → (P then Optional (Byte mark then Q)) text
+    at None none whole = (before mark text, [], one, inl refl, whole)
+    at (Some v) some whole = (before mark text, mark ∷ v, one, inr (mark ∷ [], v, refl, some, refl), whole)
+
+-- P mark Q: the mark is there
+pub cut-then : (mark : ℕ) (P Q : List ℕ → Type 0) (text : List ℕ) → AllLack mark P → (P then Byte mark then Q) text → P (before mark text) × IsSomeAnd (behind mark text) Q
+cut-then mark P Q text lack (u, v, one, (m, w, is_mark, other, both), whole) =
+    let same : text ≡ u ++ led mark (Some w) = whole ∙ ap (λ t. u ++ t) (both ∙ ap (λ t. t ++ w) is_mark) in (
+      subst P (sym (ap (before mark) same ∙ before-led mark u (Some w) (lack u one))) one,
+      subst (λ o. IsSomeAnd o Q) (sym (ap (behind mark) same ∙ behind-led mark u (Some w) (lack u one))) other,
+    )
+
+-- and put together again
+pub then-cut : (mark : ℕ) (P Q : List ℕ → Type 0) (text : List ℕ) → P (before mark text) → IsSomeAnd (behind mark text) Q → (P then Byte mark then Q) text
+then-cut mark P Q text one other = at (behind mark text) other (cut-whole mark text)
+  where
+    at : (o : Option (List ℕ)) → IsSomeAnd o Q → text ≡ before mark text ++ led mark o → (P then Byte mark then Q) text
+    at None none whole = absurd none
+    at (Some v) some whole = (before mark text, mark ∷ v, one, (mark ∷ [], v, refl, some, refl), whole)
+
+-- a "=" stands in no name of a parameter
+lack-param_word : AllLack equals ParamWord
+lack-param_word = lack-some equals ParamChar (lack-char equals is_param_unreserved refl)
+
+-- nor in one of a header
+lack-hname : AllLack equals (OneOrMore HeaderChar)
+lack-hname = lack-some equals HeaderChar (lack-char equals is_hnv_unreserved refl)
+
+-- what decides its two parts decides a parameter
+pub decides-param : (text name : List ℕ) (value : Option (List ℕ)) (r : Bool) → name ≡ before equals text → value ≡ behind equals text → Decides r (ParamWord name × IfSome value ParamWord) → Decides r (UriParameter text)
+decides-param text name value r name_is value_is =
+    Decides-like r
+    (λ both.
+    optional-cut equals ParamWord ParamWord text
+    (subst ParamWord name_is both.0) (subst (λ o. IfSome o ParamWord) value_is both.1))
+    (λ whole.
+    let both = cut-optional equals ParamWord ParamWord text lack-param_word whole in
+    (subst ParamWord (sym name_is) both.0, subst (λ o. IfSome o ParamWord) (sym value_is) both.1))
+
+-- what decides its two parts decides a header
+pub decides-header : (text name : List ℕ) (value : Option (List ℕ)) (r : Bool) → name ≡ before equals text → value ≡ behind equals text → Decides r (OneOrMore HeaderChar name × IsSomeAnd value (Many HeaderChar)) → Decides r (Header text)
+decides-header text name value r name_is value_is =
+    Decides-like r
+    (λ both.
+    then-cut equals (OneOrMore HeaderChar) (Many HeaderChar) text
+    (subst (OneOrMore HeaderChar) name_is both.0) (subst (λ o. IsSomeAnd o (Many HeaderChar)) value_is both.1))
+    (λ whole.
+    let both = cut-then equals (OneOrMore HeaderChar) (Many HeaderChar) text lack-hname whole in
+    (subst (OneOrMore HeaderChar) (sym name_is) both.0, subst (λ o. IsSomeAnd o (Many HeaderChar)) (sym value_is) both.1))
+
+-- where the first of two tests passes, the second decides both
+pub both-when : {P Q : Type 0} (x y : Bool) → x ≡ true → Decides x P → Decides y Q → Decides y (P × Q)
+both-when x y is first second = (λ yes_second. (first.0 is, second.0 yes_second), λ both. second.1 both.1)
+
+-- where the first fails, neither holds
+pub both-unless : {P Q : Type 0} (x : Bool) → x ≡ false → Decides x P → Decides x (P × Q)
+both-unless x is first = (λ passes. absurd (both_ways x is passes), λ both. first.1 both.0)
+
+-- where the second does not hold, both do not
+pub neither : {P Q : Type 0} → (Q → ⊥) → Decides false (P × Q)
+neither no_second = (λ is. absurd (false≢true is), λ both. absurd (no_second both.1))
+
+-- what does not hold is decided by false
+pub decides-not : {P : Type 0} → (P → ⊥) → Decides false P
+decides-not none = (λ is. absurd (false≢true is), λ one. absurd (none one))
+
+-- where there is no second, the first decides
+pub first-alone : {P : Type 0} (x : Bool) → Decides x P → Decides x (P × ⊤)
+first-alone x first = (λ is. (first.0 is, tt), λ both. first.1 both.0)
+
+-- P of each part of the text between its marks
+abbrev pub Each : ℕ → (List ℕ → Type 0) → List ℕ → Type 0
+Each mark P text = AllByRecursion P (parts mark text)
+
+-- past a mark stands the rest
+past-is : (mark : ℕ) (text rest : List ℕ) → past mark text ≡ Some rest → text ≡ mark ∷ rest
+past-is mark [] rest is = cc
+past-is mark (b ∷ text) rest is = at (b == mark) refl is
+  where
+    at : (same : Bool) → (b == mark) ≡ same → (if same then Some text else None) ≡ Some rest → b ∷ text ≡ mark ∷ rest
+    at false same is = cc
+    at true same is = let tail : text ≡ rest = cc in ap (λ x. x ∷ text) (eqb-true b mark same) ∙ ap (λ t. mark ∷ t) tail
+
+-- past a part of P and its mark, P holds of each part exactly if it did, and the rest is shorter
+pub each-past : (mark : ℕ) (P : List ℕ → Type 0) (text part rest : List ℕ) → part ≡ before mark text → Some rest ≡ behind mark text → P part → (Each mark P rest ↔ Each mark P text) × (length rest < length text)
+each-past mark P text part rest part_is rest_is one =
+    let split : parts mark text ≡ part ∷ parts mark rest =
+    parts-cut mark text ∙ ap (λ t. t ∷ later_parts mark (behind mark text)) (sym part_is)
+    ∙ ap (λ o. part ∷ later_parts mark o) (sym rest_is) in
+    let whole : text ≡ part ++ led mark (Some rest) =
+    cut-whole mark text ∙ ap (λ t. t ++ led mark (behind mark text)) (sym part_is)
+    ∙ ap (λ o. part ++ led mark o) (sym rest_is) in (
+      (
+        λ each. subst (AllByRecursion P) (sym split) (one, each),
+        λ each. (subst (AllByRecursion P) split each).1,
+      ),
+      omega (arith, ap length whole, length-append part (mark ∷ rest)),
+    )
+
+-- a last part of P is each part
+pub each-last : (mark : ℕ) (P : List ℕ → Type 0) (text part : List ℕ) → part ≡ before mark text → None ≡ behind mark text → P part → Each mark P text
+each-last mark P text part part_is rest_is one =
+    subst (AllByRecursion P)
+    (sym (parts-cut mark text ∙ ap (λ t. t ∷ later_parts mark (behind mark text)) (sym part_is)
+    ∙ ap (λ o. part ∷ later_parts mark o) (sym rest_is)))
+    (one, tt)
+
+-- the first part is one of them
+pub each-first : (mark : ℕ) (P : List ℕ → Type 0) (text part : List ℕ) → part ≡ before mark text → Each mark P text → P part
+each-first mark P text part part_is each =
+    subst P (sym part_is) (subst (AllByRecursion P) (parts-cut mark text) each).0
+
+-- a "&" stands in no header
+lack-ampersand : AllLack ampersand Header
+lack-ampersand =
+    let char = lack-char ampersand is_hnv_unreserved refl in
+    lack-then ampersand _ _ (lack-some ampersand HeaderChar char)
+    (lack-then ampersand _ _ (lack-byte ampersand equals refl) (lack-many ampersand HeaderChar char))
+
+-- headers are texts joined by "&", each a header
+pub headers-each : (text : List ℕ) → Headers text → Each ampersand Header text
+headers-each text = parts-joined ampersand Header text lack-ampersand
+
+-- and back
+pub each-headers : (text : List ℕ) → Each ampersand Header text → Headers text
+each-headers text = joined-parts ampersand Header text
+
+-- a byte of neither stands in no parameter
+pub lack-param : (mark : ℕ) → is_char_byte is_param_unreserved mark ≡ false → nat_eq equals mark ≡ false → AllLack mark UriParameter
+lack-param mark no_char no_equals =
+    let word = lack-some mark ParamChar (lack-char mark is_param_unreserved no_char) in
+    lack-then mark _ _ word (lack-optional mark _ (lack-then mark _ _ (lack-byte mark equals no_equals) word))
+
+-- parameters joined by ";" are texts joined by it, each a parameter
+pub joined-each : (text : List ℕ) → Joined semicolon UriParameter text → Each semicolon UriParameter text
+joined-each text = parts-joined semicolon UriParameter text (lack-param semicolon refl refl)
+
+-- and back
+pub each-joined : (text : List ℕ) → Each semicolon UriParameter text → Joined semicolon UriParameter text
+each-joined text = joined-parts semicolon UriParameter text
+
+-- parameters after the first ";" are joined by it
+pub params-joined : (text : List ℕ) → UriParameters (semicolon ∷ text) → Joined semicolon UriParameter text
+params-joined text many =
+    elim (some-many (Byte semicolon then UriParameter) (semicolon ∷ text) many) [
+      | inl empty ↦ cc
+      | inr (u, v, (m, p, is_mark, one, both), more, whole) ↦
+          let same : semicolon ∷ text ≡ semicolon ∷ (p ++ v) =
+          whole ∙ ap (λ t. t ++ v) (both ∙ ap (λ t. t ++ p) is_mark) in
+          let tail : text ≡ p ++ v = cc in
+          (p, v, one, more, tail)
+    ]
+
+-- and back
+pub joined-params : (text : List ℕ) → Joined semicolon UriParameter text → UriParameters (semicolon ∷ text)
+joined-params text (p, v, one, more, whole) =
+    subst UriParameters (ap (λ t. semicolon ∷ t) (sym whole))
+    (many-cons (Byte semicolon then UriParameter) (semicolon ∷ p) v (semicolon ∷ [], p, refl, one, refl) more)
+
+-- parameters are none, or begin with a ";"
+pub params-led : (text : List ℕ) → UriParameters text → (rest : Option (List ℕ)) × (text ≡ led semicolon rest)
+params-led text many =
+    elim (some-many (Byte semicolon then UriParameter) text many) [
+      | inl empty ↦ (None, empty)
+      | inr (u, v, (m, p, is_mark, one, both), more, whole) ↦
+          (Some (p ++ v), whole ∙ ap (λ t. t ++ v) (both ∙ ap (λ t. t ++ p) is_mark))
+    ]
+
+-- past the ";" at their front, what decides the rest decides parameters
+pub decides-params : (text params : List ℕ) (r : Bool) → Some params ≡ past semicolon text → Decides r (Joined semicolon UriParameter params) → Decides r (UriParameters text)
+decides-params text params r is =
+    let same : text ≡ semicolon ∷ params = past-is semicolon text params (sym is) in
+    Decides-like r (λ joined. subst UriParameters (sym same) (joined-params params joined))
+    (λ many. params-joined params (subst UriParameters same many))
+
+-- where there is no ";" at the front, only the empty text is parameters
+pub decides-no_params : (text : List ℕ) (r : Bool) → None ≡ past semicolon text → r ≡ (length text == 0) → Decides r (UriParameters text)
+decides-no_params [] r none is = (λ _. many-nil (Byte semicolon then UriParameter), λ _. is)
+decides-no_params (b ∷ text) r none is = (
+  λ empty. absurd (omega (arith, eqb-true (length (b ∷ text)) 0 (sym is ∙ empty))),
+  λ many.
+      let (rest, led_is) = params-led (b ∷ text) many in
+      elim rest as (λ o. b ∷ text ≡ led semicolon o → r ≡ true) [
+        | None ↦ λ none. cc
+        | Some more ↦ λ some.
+            let other : None ≡ Some more = none ∙ ap (past semicolon) some in
+            cc
+      ] led_is,
+)

@@ -1,0 +1,333 @@
+-- What follows the scheme of a SIP URI is cut into its parts in one way.
+use Rattle.std.proofs.Common.{◌≡◌, ℕ, Bool, true, false, nat_eq, List, [], ◌∷◌, ◌++◌, Option, None, Some, IsNone, IfSome, is_some, length, drop, ◌≤◌, arith, refl, sym, ap, ◌∙◌, subst}
+use Rattle.std.specs.List.{list_all}
+use Rattle.std.proofs.lemmas.Bool.{false≢true, both_ways, and_parts, eq-eqb}
+use Rattle.std.proofs.lemmas.List.{append-nil, append_assoc, length-append}
+use Rattle.std.specs.Char.{is_ascii_digit}
+use Rattle.sip_standard.specs.Text.{One}
+use Rattle.sip_standard.specs.Profile.{User, Password, Port, UriParameters, Headers}
+use Rattle.sip_text.specs.Bytes.{ampersand, equals, colon, semicolon, question, at_sign}
+use Rattle.sip_text.specs.Parts.{led}
+use Rattle.sip_text.specs.Host.{HostParts, HostText, host_text}
+use Rattle.sip_text.specs.Uri.{sip, other, SipParts, SipFits, userinfo_text, hostport_text, sip_text, UriParts}
+use Rattle.sip_text.specs.inner.Class.{is_user_unreserved, is_password_unreserved, is_param_unreserved, is_hnv_unreserved}
+use Rattle.sip_text.specs.inner.Cut.{before, behind, before_last, behind_last}
+use Rattle.sip_text.specs.inner.Pieces.{Header}
+use Rattle.sip_text.specs.inner.UriCut.{IsInfoCut, IsPortCut, CutParts, IsSipCut, InfoFits, TailFits, SipText}
+use Rattle.sip_text.proofs.texts.LacksLemmas.{Lacks, AllLack, lacks-append, lack-one, lack-byte, lack-then, lack-many, lack-some, lack-between, lack-joined}
+use Rattle.sip_text.proofs.texts.ManyLemmas.{drop-front}
+use Rattle.sip_text.proofs.cuts.CutLemmas.{cut-whole, before-led, behind-led}
+use Rattle.sip_text.proofs.cuts.LastLemmas.{before_last-mark, behind_last-mark}
+use Rattle.sip_text.proofs.uris.UriCharLemmas.{is_char_byte, lack-char}
+use Rattle.sip_text.proofs.uris.UriPartLemmas.{lack-param, params-led}
+use Rattle.sip_text.proofs.uris.UriPortLemmas.{lack-port}
+use Rattle.sip_text.proofs.uris.UriHostLemmas.{IsForeign, lack-host, host-spelled, host-no_port}
+
+-- an optional part after another mark lacks the mark where the part does
+lacks-led : (mark sep : ℕ) (o : Option (List ℕ)) → nat_eq sep mark ≡ false → IfSome o (Lacks mark) → Lacks mark (led sep o)
+lacks-led mark sep None apart lacks = tt
+lacks-led mark sep (Some v) apart lacks = (apart, lacks)
+
+-- a text that lacks the mark is not cut
+uncut : (mark : ℕ) (u : List ℕ) → Lacks mark u → (before mark u ≡ u) × (behind mark u ≡ None)
+uncut mark u lacks = (
+  ap (before mark) (sym (append-nil u)) ∙ before-led mark u None lacks,
+  ap (behind mark) (sym (append-nil u)) ∙ behind-led mark u None lacks,
+)
+
+-- of a missing part nothing need be shown
+weaker : (P Q : List ℕ → Type 0) (o : Option (List ℕ)) → ((u : List ℕ) → P u → Q u) → IfSome o P → IfSome o Q
+weaker P Q None each fits = tt
+weaker P Q (Some u) each fits = each u fits
+
+-- what is none is None
+none-is : (o : Option (List ℕ)) → IsNone o → o ≡ None
+none-is None none = refl
+none-is (Some u) none = absurd (false≢true (sym none))
+
+-- the userinfo of a text that spells one is cut off, and nothing else is
+pub info-agrees : (text : List ℕ) (user password : Option (List ℕ)) (rest : List ℕ) (owner key : Option (List ℕ)) (tail : List ℕ) → IsInfoCut text user password rest → text ≡ userinfo_text owner key ++ tail → IfSome owner (Lacks at_sign) → IfSome owner (Lacks colon) → IfSome key (Lacks at_sign) → (IsNone owner → IsNone key) → Lacks at_sign tail → (user ≡ owner) × (password ≡ key) × (rest ≡ tail)
+info-agrees text None password rest None key tail (_, password_is, rest_is) whole _ _ _ unowned _ =
+    (refl, password_is ∙ sym (none-is key (unowned refl)), rest_is ∙ whole)
+info-agrees text (Some user) password rest None key tail (behind_is, _, _) whole _ _ _ _ lacks =
+    let none : behind at_sign text ≡ None = ap (behind at_sign) whole ∙ (uncut at_sign tail lacks).1 in
+    cc
+info-agrees text None password rest (Some owner) key tail (behind_is, _, _) whole no_at _ key_at _ _ =
+    let info = owner ++ led colon key in
+    let lacks : Lacks at_sign info = lacks-append at_sign owner (led colon key) no_at (lacks-led at_sign colon key refl key_at) in
+    let same : text ≡ info ++ led at_sign (Some tail) = whole ∙ append_assoc info (at_sign ∷ []) tail in
+    let some : behind at_sign text ≡ Some tail = ap (behind at_sign) same ∙ behind-led at_sign info (Some tail) lacks in
+    cc
+info-agrees text (Some user) password rest (Some owner) key tail (behind_is, user_is, password_is) whole no_at no_colon key_at _ _ =
+    let info = owner ++ led colon key in
+    let lacks : Lacks at_sign info = lacks-append at_sign owner (led colon key) no_at (lacks-led at_sign colon key refl key_at) in
+    let same : text ≡ info ++ led at_sign (Some tail) = whole ∙ append_assoc info (at_sign ∷ []) tail in
+    let some : behind at_sign text ≡ Some tail = ap (behind at_sign) same ∙ behind-led at_sign info (Some tail) lacks in
+    let front : before at_sign text ≡ info = ap (before at_sign) same ∙ before-led at_sign info (Some tail) lacks in
+    let user_same : user ≡ owner = user_is ∙ ap (before colon) front ∙ before-led colon owner key no_colon in
+    let rest_same : rest ≡ tail = cc in (
+      ap Some user_same,
+      password_is ∙ ap (behind colon) front ∙ behind-led colon owner key no_colon,
+      rest_same,
+    )
+
+-- the port of a text that spells a host and one is cut off, and nothing else is
+pub port-agrees : (text host : List ℕ) (port : Option (List ℕ)) (name : List ℕ) (parts : HostParts) (number : Option (List ℕ)) → IsPortCut text host port → HostText name parts → IfSome number Port → text ≡ name ++ led colon number → (host ≡ name) × (port ≡ number)
+port-agrees text host None name parts None (host_is, _) fits _ whole =
+    (host_is ∙ whole ∙ append-nil name, refl)
+port-agrees text host None name parts (Some number) (_, none) fits is_port whole = absurd (none name number is_port whole)
+port-agrees text host (Some port) name parts None (is_port, there) fits _ whole =
+    absurd (host-no_port name parts host port fits is_port (sym (append-nil name) ∙ sym whole ∙ there))
+port-agrees text host (Some port) name parts (Some number) (is_port, there) fits is_number whole =
+    let same : host ++ colon ∷ port ≡ name ++ colon ∷ number = sym there ∙ whole in
+    let lacks = lack-port port is_port.0 in
+    let number_lacks = lack-port number is_number.0 in
+    let hosts : Some host ≡ Some name =
+    sym (before_last-mark colon host port lacks) ∙ ap (before_last colon) same
+    ∙ before_last-mark colon name number number_lacks in
+    let ports : port ≡ number =
+    sym (behind_last-mark colon host port lacks) ∙ ap (behind_last colon) same
+    ∙ behind_last-mark colon name number number_lacks in
+    (cc, ap Some ports)
+
+-- "@" is in no host
+at_sign-foreign : IsForeign at_sign
+at_sign-foreign = record { label = refl; alphanumeric = refl; alphabetic = refl; hexdigit = refl; digit = refl; of_colon = refl; of_dot = refl; of_left = refl; of_right = refl }
+
+-- "?", too
+question-foreign : IsForeign question
+question-foreign = record { label = refl; alphanumeric = refl; alphabetic = refl; hexdigit = refl; digit = refl; of_colon = refl; of_dot = refl; of_left = refl; of_right = refl }
+
+-- ";", too
+semicolon-foreign : IsForeign semicolon
+semicolon-foreign = record { label = refl; alphanumeric = refl; alphabetic = refl; hexdigit = refl; digit = refl; of_colon = refl; of_dot = refl; of_left = refl; of_right = refl }
+
+-- a user lacks "@"
+user-at_sign : AllLack at_sign User
+user-at_sign = lack-some at_sign _ (lack-char at_sign is_user_unreserved refl)
+
+-- and ":"
+user-colon : AllLack colon User
+user-colon = lack-some colon _ (lack-char colon is_user_unreserved refl)
+
+-- a password lacks "@"
+password-at_sign : AllLack at_sign Password
+password-at_sign = lack-many at_sign _ (lack-char at_sign is_password_unreserved refl)
+
+-- a port lacks what is no digit
+port-lacks : (mark : ℕ) → is_ascii_digit mark ≡ false → AllLack mark Port
+port-lacks mark no_digit port fits = lack-between mark 1 5 (One is_ascii_digit) (lack-one mark is_ascii_digit no_digit) port fits.0
+
+-- parameters lack what is no byte of one
+params-lack : (mark : ℕ) → is_char_byte is_param_unreserved mark ≡ false → nat_eq equals mark ≡ false → nat_eq semicolon mark ≡ false → AllLack mark UriParameters
+params-lack mark no_char no_equals no_semicolon =
+    lack-many mark _ (lack-then mark _ _ (lack-byte mark semicolon no_semicolon) (lack-param mark no_char no_equals))
+
+-- headers lack "@"
+headers-at_sign : AllLack at_sign Headers
+headers-at_sign =
+    let char = lack-char at_sign is_hnv_unreserved refl in
+    lack-joined at_sign ampersand Header refl
+    (lack-then at_sign _ _ (lack-some at_sign _ char)
+    (lack-then at_sign _ _ (lack-byte at_sign equals refl) (lack-many at_sign _ char)))
+
+-- host and port lack what neither has
+hostport-lacks : (mark : ℕ) (host : HostParts) (port : Option (List ℕ)) → IsForeign mark → HostText (host_text host) host → IfSome port Port → Lacks mark (hostport_text host port)
+hostport-lacks mark host port foreign fits is_port =
+    lacks-append mark (host_text host) (led colon port) (lack-host mark (host_text host) host foreign fits)
+    (lacks-led mark colon port foreign.of_colon (weaker Port (Lacks mark) port (port-lacks mark foreign.digit) is_port))
+
+-- the parts that the reader cuts are those that the text spells
+pub record Agrees (cut : CutParts) (p : SipParts) : Type 0 where
+  pub user : cut.user ≡ p.user
+  pub password : cut.password ≡ p.password
+  pub host : cut.host ≡ host_text p.host
+  pub port : cut.port ≡ p.port
+  pub params : cut.params ≡ p.params
+  pub headers : cut.headers ≡ p.headers
+
+-- of a text that spells parts that fit they are
+pub cuts-agree : (text : List ℕ) (cut : CutParts) (p : SipParts) → IsSipCut text cut → SipFits p → text ≡ sip_text p → Agrees cut p
+cuts-agree text cut p is fits whole =
+    let hostport = hostport_text p.host p.port in
+    let no_at : Lacks at_sign (hostport ++ p.params) =
+    lacks-append at_sign hostport p.params (hostport-lacks at_sign p.host p.port at_sign-foreign fits.host fits.port)
+    (params-lack at_sign refl refl refl p.params fits.params) in
+    let info = info-agrees text cut.user cut.password is.rest p.user p.password (hostport ++ p.params ++ led question p.headers)
+    is.userinfo whole
+    (weaker User (Lacks at_sign) p.user user-at_sign fits.user) (weaker User (Lacks colon) p.user user-colon fits.user)
+    (weaker Password (Lacks at_sign) p.password password-at_sign fits.password) fits.owner
+    (lacks-append at_sign (hostport ++ p.params) (led question p.headers) no_at
+    (lacks-led at_sign question p.headers refl (weaker Headers (Lacks at_sign) p.headers headers-at_sign fits.headers))) in
+    let no_question : Lacks question (hostport ++ p.params) =
+    lacks-append question hostport p.params (hostport-lacks question p.host p.port question-foreign fits.host fits.port)
+    (params-lack question refl refl refl p.params fits.params) in
+    let (listed, listed_is) = params-led p.params fits.params in
+    let front : before question is.rest ≡ hostport ++ led semicolon listed =
+    ap (before question) info.2 ∙ before-led question (hostport ++ p.params) p.headers no_question
+    ∙ ap (λ t. hostport ++ t) listed_is in
+    let no_semicolon = hostport-lacks semicolon p.host p.port semicolon-foreign fits.host fits.port in
+    let port = port-agrees (before semicolon (before question is.rest)) cut.host cut.port (host_text p.host) p.host p.port
+    is.port fits.host fits.port (ap (before semicolon) front ∙ before-led semicolon hostport listed no_semicolon) in
+    record {
+      user = info.0;
+      password = info.1;
+      host = port.0;
+      port = port.1;
+      params = is.params ∙ ap (λ t. led semicolon (behind semicolon t)) front
+          ∙ ap (led semicolon) (behind-led semicolon hostport listed no_semicolon) ∙ sym listed_is;
+      headers = is.headers ∙ ap (behind question) info.2 ∙ behind-led question (hostport ++ p.params) p.headers no_question;
+    }
+
+-- what stands before a mark is no longer than the text
+pub before-within : (mark : ℕ) (text front : List ℕ) → front ≡ before mark text → length front ≤ length text
+before-within mark text front is =
+    omega (arith, ap length is, ap length (cut-whole mark text), length-append (before mark text) (led mark (behind mark text)))
+
+-- bytes of a class without the mark
+lacks-all : (mark : ℕ) (test : ℕ → Bool) (u : List ℕ) → test mark ≡ false → list_all test u ≡ true → Lacks mark u
+lacks-all mark test [] fails all = tt
+lacks-all mark test (b ∷ u) fails all =
+    let both = and_parts (test b) (list_all test u) all in
+    ((lack-one mark test fails (b ∷ []) (b, both.0, refl)).0, lacks-all mark test u fails both.1)
+
+-- a text with the mark in it does not lack it
+not-lacks : (mark : ℕ) (u v : List ℕ) → Lacks mark (u ++ mark ∷ v) → ⊥
+not-lacks mark [] v lacks = both_ways (nat_eq mark mark) lacks.0 (eq-eqb mark mark refl)
+not-lacks mark (b ∷ u) v lacks = not-lacks mark u v lacks.1
+
+-- after the userinfo stands a host alone, where no byte there ends one
+pub host-cut : (test : ℕ → Bool) (text : List ℕ) (user password : Option (List ℕ)) (rest : List ℕ) → test question ≡ false → test semicolon ≡ false → test colon ≡ false → IsInfoCut text user password rest → list_all test rest ≡ true → IsSipCut text (record { user = user; password = password; host = rest; port = None; params = []; headers = None })
+host-cut test text user password rest no_question no_semicolon no_colon info all =
+    let headers = uncut question rest (lacks-all question test rest no_question all) in
+    let params = uncut semicolon rest (lacks-all semicolon test rest no_semicolon all) in
+    let whole : before semicolon (before question rest) ≡ rest = ap (before semicolon) (headers.0) ∙ params.0 in
+    record {
+      rest = rest;
+      userinfo = info;
+      headers = sym (headers.1);
+      params = sym (ap (λ t. led semicolon (behind semicolon t)) (headers.0) ∙ ap (led semicolon) (params.1));
+      port = (
+        sym whole,
+        λ u v is_port split. not-lacks colon u v (subst (Lacks colon) (sym whole ∙ split) (lacks-all colon test rest no_colon all)),
+      );
+    }
+
+-- the reader's cuts, one after the other, are those of a SIP URI
+pub sip-cut : (text : List ℕ) (cut : CutParts) (rest front hostport : List ℕ) → IsInfoCut text cut.user cut.password rest → front ≡ before question rest → cut.headers ≡ behind question rest → hostport ≡ before semicolon front → IsPortCut hostport cut.host cut.port → cut.params ≡ drop (length hostport) front → IsSipCut text cut
+sip-cut text cut rest front hostport info front_is headers_is hostport_is port params_is =
+    let hostport_cut : hostport ≡ before semicolon (before question rest) = hostport_is ∙ ap (before semicolon) front_is in
+    let whole : front ≡ hostport ++ led semicolon (behind semicolon front) =
+    cut-whole semicolon front ∙ ap (λ t. t ++ led semicolon (behind semicolon front)) (sym hostport_is) in
+    record {
+      rest = rest;
+      userinfo = info;
+      headers = headers_is;
+      params = params_is ∙ ap (drop (length hostport)) whole
+          ∙ drop-front hostport (led semicolon (behind semicolon front))
+          ∙ ap (λ t. led semicolon (behind semicolon t)) front_is;
+      port = subst (λ t. IsPortCut t cut.host cut.port) hostport_cut port;
+    }
+
+-- a text is its userinfo and what follows
+info-whole : (text : List ℕ) (user password : Option (List ℕ)) (rest : List ℕ) → IsInfoCut text user password rest → text ≡ userinfo_text user password ++ rest
+info-whole text None password rest (_, _, rest_is) = sym rest_is
+info-whole text (Some user) password rest (behind_is, user_is, password_is) =
+    let info : before at_sign text ≡ user ++ led colon password =
+    cut-whole colon (before at_sign text) ∙ ap (λ t. t ++ led colon (behind colon (before at_sign text))) (sym user_is)
+    ∙ ap (λ o. user ++ led colon o) (sym password_is) in
+    cut-whole at_sign text ∙ ap (λ o. before at_sign text ++ led at_sign o) behind_is
+    ∙ ap (λ t. t ++ at_sign ∷ rest) info ∙ sym (append_assoc (user ++ led colon password) (at_sign ∷ []) rest)
+
+-- and a password stands after a user
+info-owner : (text : List ℕ) (user password : Option (List ℕ)) (rest : List ℕ) → IsInfoCut text user password rest → IsNone user → IsNone password
+info-owner text None password rest (_, password_is, _) none = ap is_some password_is
+info-owner text (Some user) password rest cut none = absurd (false≢true (sym none))
+
+-- a text is its host and its port
+port-whole : (text host : List ℕ) (port : Option (List ℕ)) → IsPortCut text host port → text ≡ host ++ led colon port
+port-whole text host None (host_is, _) = sym host_is ∙ sym (append-nil host)
+port-whole text host (Some port) (_, whole) = whole
+
+-- and the port is one
+port-fits : (text host : List ℕ) (port : Option (List ℕ)) → IsPortCut text host port → IfSome port Port
+port-fits text host None cut = tt
+port-fits text host (Some port) (fits, _) = fits
+
+-- the parts that were cut, with the host that was read
+abbrev pub read_parts : Bool → CutParts → HostParts → SipParts
+read_parts secure cut host = record {
+  secure = secure;
+  user = cut.user;
+  password = cut.password;
+  host = host;
+  port = cut.port;
+  params = cut.params;
+  headers = cut.headers;
+}
+
+-- parts that fit are those of the text
+pub parts-fit : (secure : Bool) (text : List ℕ) (cut : CutParts) (host : HostParts) → IsSipCut text cut → InfoFits cut → TailFits cut → HostText cut.host host → SipText secure text (sip (read_parts secure cut host))
+parts-fit secure text cut host is info tail fits =
+    let spelled = host-spelled cut.host host fits in
+    let hostport = before semicolon (before question is.rest) in
+    let whole : is.rest ≡ host_text host ++ led colon cut.port ++ cut.params ++ led question cut.headers =
+    cut-whole question is.rest ∙ ap (λ o. before question is.rest ++ led question o) (sym is.headers)
+    ∙ ap (λ t. t ++ led question cut.headers) (
+    cut-whole semicolon (before question is.rest) ∙ ap (λ t. hostport ++ t) (sym is.params)
+    ∙ ap (λ t. t ++ cut.params) (port-whole hostport cut.host cut.port is.port
+    ∙ ap (λ t. t ++ led colon cut.port) (sym spelled))) in (
+      refl,
+      record {
+        user = info.0;
+        password = info.1;
+        owner = info-owner text cut.user cut.password is.rest is.userinfo;
+        host = subst (λ t. HostText t host) (sym spelled) fits;
+        port = port-fits hostport cut.host cut.port is.port;
+        params = tail.0;
+        headers = tail.1;
+      },
+      info-whole text cut.user cut.password is.rest is.userinfo ∙ ap (λ t. userinfo_text cut.user cut.password ++ t) whole,
+    )
+
+-- parts are the same where each is
+same-parts : (p : SipParts) (secure : Bool) (cut : CutParts) (host : HostParts) → p.secure ≡ secure → Agrees cut p → p.host ≡ host → p ≡ read_parts secure cut host
+same-parts p secure cut host secure_is same host_is =
+    ap (λ (s : Bool). read_parts s (cut_of p) p.host) secure_is
+    ∙ ap (λ (h : HostParts). read_parts secure (cut_of p) h) host_is
+    ∙ ap (λ (u : Option (List ℕ)). read_parts secure (record (cut_of p) { user = u }) host) (sym same.user)
+    ∙ ap (λ (u : Option (List ℕ)). read_parts secure (record (cut_of p) { user = cut.user; password = u }) host) (sym same.password)
+    ∙ ap (λ (u : Option (List ℕ)). read_parts secure (record (cut_of p) { user = cut.user; password = cut.password; port = u }) host) (sym same.port)
+    ∙ ap (λ (u : List ℕ). read_parts secure (record (cut_of p) { user = cut.user; password = cut.password; port = cut.port; params = u }) host) (sym same.params)
+    ∙ ap (λ (u : Option (List ℕ)). read_parts secure (record cut { headers = u }) host) (sym same.headers)
+  where
+    cut_of : SipParts → CutParts
+    cut_of q = record { user = q.user; password = q.password; host = cut.host; port = q.port; params = q.params; headers = q.headers }
+
+-- parts that the text has are those that were cut
+pub parts-only : (secure : Bool) (text : List ℕ) (cut : CutParts) (host : HostParts) (x : UriParts) → IsSipCut text cut → ((y : HostParts) → HostText cut.host y → y ≡ host) → SipText secure text x → x ≡ sip (read_parts secure cut host)
+parts-only secure text cut host (sip p) is only (secure_is, fits, whole) =
+    let same = cuts-agree text cut p is fits whole in
+    ap sip (same-parts p secure cut host secure_is same (only p.host (subst (λ t. HostText t p.host) (sym same.host) fits.host)))
+parts-only secure text cut host (other scheme rest) is only none = absurd none
+
+-- where no host was cut off, the text is no SIP URI
+pub no-host_cut : (secure : Bool) (text : List ℕ) (cut : CutParts) (x : UriParts) → IsSipCut text cut → ((y : HostParts) → HostText cut.host y → ⊥) → SipText secure text x → ⊥
+no-host_cut secure text cut (sip p) is none (_, fits, whole) =
+    none p.host (subst (λ t. HostText t p.host) (sym (cuts-agree text cut p is fits whole).host) fits.host)
+no-host_cut secure text cut (other scheme rest) is none not_sip = absurd not_sip
+
+-- the parts of a SIP URI fit
+pub info-fits : (secure : Bool) (text : List ℕ) (cut : CutParts) (x : UriParts) → IsSipCut text cut → SipText secure text x → InfoFits cut × TailFits cut
+info-fits secure text cut (sip p) is (_, fits, whole) =
+    let same = cuts-agree text cut p is fits whole in (
+      (
+        subst (λ o. IfSome o User) (sym same.user) fits.user,
+        subst (λ o. IfSome o Password) (sym same.password) fits.password,
+      ),
+      (
+        subst UriParameters (sym same.params) fits.params,
+        subst (λ o. IfSome o Headers) (sym same.headers) fits.headers,
+      ),
+    )
+info-fits secure text cut (other scheme rest) is not_sip = absurd not_sip

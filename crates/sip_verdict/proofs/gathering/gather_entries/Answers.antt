@@ -1,0 +1,53 @@
+use Rattle.std.proofs.Common.{◌∙◌, None, refl, sym, subst, rules, arith}
+use Rattle.sip_log.specs.Reading as log
+use Rattle.sip_log.specs.Reading.{beside_source}
+use Rattle.sip_verdict.specs.inner.SurveyingLogs.{SurveysRead}
+use Rattle.sip_verdict.proofs.judges.StandingLemmas.{same_some}
+use Rattle.sip_verdict.proofs.surveys.Gathering.{gathered_on, gathered_end, gathered_stop}
+use Rattle.sip_verdict.proofs.gathering.gather_entries.Goals as goal
+
+pub loop-found-init : goal.loop-found-init
+loop-found-init g c = record {
+  fine = refl;
+  at = c.requires.at;
+  counts_are = sym c.requires.first;
+  told = λ start reads. subst (λ fs. SurveysRead None c.args.survey.now fs start (beside_source c.args.progress.now (g.R.Source.left c.args.reader.now) (g.R.Source.has_failed c.args.reader.now))) (sym c.new-found.ensures.items) reads;
+}
+
+pub loop-found-preserved : goal.loop-found-preserved
+loop-found-preserved g c =
+    let l = c.loop-found in
+    let old : log.ReaderState = beside_source l.progress (g.R.Source.left l.reader) (g.R.Source.has_failed l.reader) in
+    let new : log.ReaderState = beside_source c.read_next.new.progress (g.R.Source.left c.read_next.new.reader) (g.R.Source.has_failed c.read_next.new.reader) in
+    let moves = rw c.in-Entry.is at c.in_ok-entry.ensures.moves in
+    let taken = c.in_ok-entry-in-Entry.ensures in
+    record {
+      fine = c.in_ok-entry.ensures.ok ∙ l.invariant.fine;
+      at = record {
+        on = moves.0;
+        goes_on = search rules;
+        counts = taken.newest.0 ∙ sym moves.2;
+        newest = taken.newest.1 ∙ sym moves.3;
+        few = (let number = moves.1.number_is in let count = moves.2 in let low = moves.4 in omega arith);
+      };
+      counts_are = sym taken.newest.0;
+      told = λ start reads.
+          let read = l.invariant.told start reads in
+          let more = (rw c.in-Entry.is at c.in_ok-entry.ensures.gives) start l.survey.tables.times read.items read.read in
+          gathered_on None start old l.survey l.found.items read c.in-Entry.entry c.in-Entry.entry new more refl c.entry.new.self taken.times c.entry.new.found.items taken.found;
+    }
+
+pub returns-in-End-clause-survey : goal.returns-in-End-clause-survey
+returns-in-End-clause-survey g c start reads =
+    let l = c.loop-found in
+    let old : log.ReaderState = beside_source l.progress (g.R.Source.left l.reader) (g.R.Source.has_failed l.reader) in
+    let read = l.invariant.told start reads in
+    let logs = (rw c.in-End.is at c.in_ok-entry.ensures.gives) start l.survey.tables.times read.items read.read in
+    gathered_end None start old l.survey l.found.items read c.unwrap.result (same_some _ _ (sym c.unwrap.ensures ∙ c.end.ensures.clean read.es read.follows)) logs
+
+pub returns-in-Fault-clause-survey : goal.returns-in-Fault-clause-survey
+returns-in-Fault-clause-survey g c start reads =
+    let l = c.loop-found in
+    let old : log.ReaderState = beside_source l.progress (g.R.Source.left l.reader) (g.R.Source.has_failed l.reader) in
+    let read = l.invariant.told start reads in
+    gathered_stop None start old l.survey l.found.items read l.count c.in-Fault.reason l.invariant.counts_are ((rw c.in-Fault.is at c.in_ok-entry.ensures.gives) start l.survey.tables.times read.items read.read)

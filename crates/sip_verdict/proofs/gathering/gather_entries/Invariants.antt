@@ -1,0 +1,18 @@
+use Rattle.std.proofs.Common.{◌≡◌, ◌-◌, [], None, Option, List, ℕ}
+use Rattle.sip_standard.specs.LogSays.{most_entries}
+use Rattle.sip_log.specs.Reading.{beside_source}
+use Rattle.sip_verdict.specs.inner.SurveyingLogs.{IsSurveyAt, SurveysRead}
+use Rattle.sip_verdict.proofs.gathering.gather_entries.Given as goal
+
+abbrev pub invariant-loop-found : goal.invariant-loop-found
+invariant-loop-found g l =
+    record {
+      fine : g.R.Source.has_failed l.reader ≡ g.R.Source.has_failed l.fn.reader;
+      at : IsSurveyAt l.survey l.progress;
+      counts_are : l.count ≡ l.survey.number;
+      told : (start : Option (List ℕ)) → SurveysRead None l.fn.survey [] start (beside_source l.fn.progress (g.R.Source.left l.fn.reader) (g.R.Source.has_failed l.fn.reader))
+          → SurveysRead None l.survey l.found.items start (beside_source l.progress (g.R.Source.left l.reader) (g.R.Source.has_failed l.reader));
+    }
+
+abbrev pub decreases-loop-found : goal.decreases-loop-found
+decreases-loop-found g l = most_entries - l.progress.count

@@ -1,0 +1,5 @@
+pub mod DueLemmas
+pub mod JudgeLemmas
+pub mod JudgingLemmas
+pub mod ObservingLemmas
+pub mod StandingLemmas

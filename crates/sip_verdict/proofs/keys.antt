@@ -1,0 +1,11 @@
+pub mod AnyHearing
+pub mod FewerEntries
+pub mod Hearing
+pub mod KeyPassing
+pub mod Keys
+pub mod Leading
+pub mod OneMachine
+pub mod Overdue
+pub mod QuietSets
+pub mod Splitting
+pub mod Stepped

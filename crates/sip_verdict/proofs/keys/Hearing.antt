@@ -1,0 +1,64 @@
+-- What an event leaves of the runs of one transaction, whatever its machine is.
+use Rattle.std.proofs.Common.{◌≡◌, ◌≢◌, ◌≤◌, ℕ, List, [], ◌∷◌, ◌++◌, Contains, map, length, sym, ◌∙◌, subst, arith}
+use Rattle.sip_machine.specs.Texts.{Texts}
+use Rattle.sip_machine.specs.MachineEvent.{MachineEvent}
+use Rattle.sip_machine.specs.Rules.{Rules, IsLawful, StandFor}
+use Rattle.sip_verdict.specs.declared.passing.Fate.TheVariants.{Runs, NoRun, TooWide}
+use Rattle.sip_states.specs.Runs.{Wait, RunGives, AfterRun, IsWide, widest}
+use Rattle.sip_states.specs.Held.{Held}
+use Rattle.sip_verdict.specs.inner.Leads.{Leads}
+use Rattle.sip_verdict.specs.inner.Stepping.{LeadsTo, IsStepped}
+use Rattle.sip_verdict.proofs.keys.Leading.{Leads-take}
+use Rattle.sip_verdict.proofs.keys.OneMachine.{none_runs, some_runs, took_after, took_narrow, wide_runs}
+use Rattle.sip_states.proofs.sets.Taking.{took_waits}
+
+module _ {M X S : Type 0} (names : S → List ℕ) (InRange : S → Type 0) (seen : Texts → S → X) (rules : M → Rules X) (lawful : (machine : M) → IsLawful (rules machine))
+    (texts : Texts) (machine : M) (events : List MachineEvent) (from : ℕ) (set new : Held M S) (leads : LeadsTo names seen rules texts machine set events from) where
+  -- where one can stand at a moment after waiting from the set, by the rules of this machine
+  abbrev WaitFrom : M → ℕ → X → Type 0
+  WaitFrom own moment = Wait (rules own) (Contains (map (seen texts) set.states)) set.moment moment
+
+  -- a set of the same machine at the moment leads to the runs over its events
+  led : (more : List MachineEvent) (moment : ℕ) → new.machine ≡ set.machine → new.moment ≡ moment → Leads names seen texts (rules machine) more moment moment new.states → LeadsTo names seen rules texts machine new more moment
+  led more moment same at l = record {
+    machine_is = same ∙ leads.machine_is;
+    leads = subst (λ m. Leads names seen texts (rules machine) more moment m new.states) (sym at) l;
+  }
+
+  -- the new set is just the last states of the runs that end with an event
+  abbrev pub Stands : MachineEvent → Type 0
+  Stands e = StandFor names InRange seen texts (AfterRun (rules machine) events e) new.states
+
+  module _ (e : MachineEvent) (late : from ≤ e.moment) (low : set.moment ≤ e.moment) (gives : StandFor names InRange seen texts (RunGives (rules set.machine) (WaitFrom set.machine e.moment) e) new.states) where
+    given : StandFor names InRange seen texts (RunGives (rules machine) (WaitFrom machine e.moment) e) new.states
+    given = subst (λ own. StandFor names InRange seen texts (RunGives (rules own) (WaitFrom own e.moment) e) new.states) leads.machine_is gives
+
+    taken : Leads names seen texts (rules machine) (events ++ e ∷ []) e.moment e.moment new.states
+    taken = Leads-take names InRange seen texts (rules machine) events from set.moment set.states leads.leads e late low new.states given
+
+    -- no state is left: no run takes the event
+    pub heard_none : new.states ≡ [] → IsStepped (rules machine) events e (λ es. LeadsTo names seen rules texts machine new es e.moment) Stands NoRun
+    heard_none none run = none_runs names seen texts (rules machine) (events ++ e ∷ []) e.moment e.moment new.states taken (omega arith) none run
+
+    -- some are left, and not too many: the runs go on
+    pub heard_some : new.machine ≡ set.machine → new.moment ≡ e.moment → new.states ≢ [] → length new.states ≤ widest
+        → IsStepped (rules machine) events e (λ es. LeadsTo names seen rules texts machine new es e.moment) Stands Runs
+    heard_some same at some few = (
+      some_runs names seen texts (rules machine) (events ++ e ∷ []) e.moment e.moment new.states taken (omega arith)
+          (took_waits names InRange seen texts (rules machine) (lawful machine) _ e new.states given) some,
+      λ wide. took_narrow names InRange seen texts (rules machine) events from set.moment set.states leads.leads e late low new.states given few wide,
+      led (events ++ e ∷ []) e.moment same at taken,
+      record {
+        members = took_after names InRange seen texts (rules machine) events from set.moment set.states leads.leads e late low new.states given;
+        distinct = given.distinct;
+        known = given.known;
+        in_range = given.in_range;
+      },
+    )
+
+  -- too many come out: there is a run, and too many last states
+  pub heard_wide : (e : MachineEvent) → from ≤ e.moment → set.moment ≤ e.moment → IsWide (RunGives (rules set.machine) (WaitFrom set.machine e.moment) e)
+      → IsStepped (rules machine) events e (λ es. LeadsTo names seen rules texts machine new es e.moment) Stands TooWide
+  heard_wide e late low wide =
+      wide_runs names seen texts (rules machine) (lawful machine) events from set.moment set.states leads.leads e late low
+      (subst (λ own. IsWide (RunGives (rules own) (WaitFrom own e.moment) e)) leads.machine_is wide)

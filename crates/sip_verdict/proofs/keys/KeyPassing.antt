@@ -1,0 +1,68 @@
+-- What one entry leaves of a key whose set leads to its runs.
+use Rattle.std.proofs.Common.{◌≡◌, ◌≤◌, ℕ, true, false, Option, Some, List, [], ◌∷◌, ◌++◌, sym, subst}
+use Rattle.sip_standard.specs.declared.action.Action.TheVariants.{Restart}
+use Rattle.sip_key.specs.Key.{KeyParts}
+use Rattle.sip_standard.specs.Times.{Times}
+use Rattle.sip_machine.specs.Texts.{Texts}
+use Rattle.sip_machine.specs.NumberedEvent.{NumberedEvent}
+use Rattle.sip_machine.specs.MachineEvent.{MachineEvent, event_in}
+use Rattle.sip_states.specs.KeyMachine.{MachineKind, machine_of_key, key_rules}
+use Rattle.sip_states.specs.Agenda.{is_overdue}
+use Rattle.sip_states.specs.AnySet.{moment_of, IsQuietSet, IsAgendaOf}
+use Rattle.sip_states.specs.declared.any_set.AnySet.{AnySet}
+use Rattle.sip_verdict.specs.declared.passing.Fate.{Fate}
+use Rattle.sip_verdict.specs.declared.passing.Fate.TheVariants.{Runs}
+use Rattle.sip_verdict.specs.Keyed.{Observation, Machines, concerns, events_of, newest_moment, HasRun}
+use Rattle.sip_verdict.specs.MessageReading.{key_machines}
+use Rattle.sip_verdict.specs.inner.Stepping.{IsStepped}
+use Rattle.sip_verdict.specs.inner.Tracking.{Keeping, IsReady, GoesOn, IsPassed}
+use Rattle.sip_verdict.specs.inner.TablesTracking.{LeadsOf, StandsOf, key_keeping}
+use Rattle.sip_verdict.proofs.keys.Overdue.{overdue_none, in_time_some}
+use Rattle.sip_verdict.proofs.keys.QuietSets.{leads_later, quiet_stepped}
+use Rattle.sip_verdict.proofs.keys.Stepped.{own_passed, other_passed, run_still}
+
+module _ (texts : Texts) (p : Times) (es : List (Observation KeyParts)) (e : Observation KeyParts) (key : KeyParts) (s : AnySet)
+    (ready : IsReady (key_machines p) (key_keeping texts p) es (key, s)) (late : newest_moment es ≤ e.event.moment) where
+  abbrev m : Machines KeyParts
+  m = key_machines p
+
+  abbrev k : Keeping KeyParts (KeyParts × AnySet)
+  k = key_keeping texts p
+
+  abbrev machine : MachineKind
+  machine = machine_of_key p.rules key
+
+  abbrev events : List MachineEvent
+  events = events_of m key es
+
+  -- what an event leaves of it
+  abbrev Steps : MachineEvent → AnySet → Fate → Type 0
+  Steps f after fate = IsStepped (key_rules p machine) events f (λ fs. LeadsOf texts p machine fs f.moment after) (λ g. StandsOf texts p machine events g after) fate
+
+  -- once it has heard the entry's event
+  pub heard_left : (event : NumberedEvent) → e.event ≡ event_in texts event → concerns m key e ≡ true → (after : AnySet) (fate : Fate)
+      → ((q : Times) (kind : MachineKind) (fs : List MachineEvent) (from : ℕ) → from ≤ event.moment → LeadsOf texts q kind fs from s
+      → IsStepped (key_rules q kind) fs (event_in texts event) (λ gs. LeadsOf texts q kind gs event.moment after) (λ g. StandsOf texts q kind fs g after) fate)
+      → IsPassed m k es e (key, after) fate
+  heard_left event is concerned after fate stepped =
+      own_passed m k es e (key, after) concerned fate
+      (subst (λ f. Steps f after fate) (sym is) (stepped p machine events (newest_moment es) (subst (λ f. newest_moment es ≤ f.moment) is late) ready))
+
+  module _ (low : moment_of s ≤ e.event.moment) where
+    -- after its last moment it has no run
+    pub overdue_breaks : (limit : Option ℕ) → IsAgendaOf limit s → is_overdue e.event.moment (Some limit) ≡ true → ¬ HasRun m key (es ++ e ∷ [])
+    overdue_breaks limit agenda past run =
+        overdue_none texts p machine events (newest_moment es) s ready limit agenda e.event.moment late low past (run_still m k es e (key, s) run)
+
+    -- up to it, it goes on if the entry does not concern it
+    pub in_time_goes : (limit : Option ℕ) → IsAgendaOf limit s → is_overdue e.event.moment (Some limit) ≡ false → concerns m key e ≡ false → GoesOn m k es e (key, s)
+    in_time_goes limit agenda in_time apart =
+        other_passed m k es e (key, s) apart (in_time_some texts p machine events (newest_moment es) s ready limit agenda e.event.moment late low in_time)
+        (leads_later texts p machine events (newest_moment es) e.event.moment s late ready)
+
+    -- and a restart leaves it where it is quiet
+    pub quiet_goes : (event : NumberedEvent) → e.event ≡ event_in texts event → event.action ≡ Restart → IsQuietSet s → concerns m key e ≡ true → GoesOn m k es e (key, s)
+    quiet_goes event is restart quiet concerned =
+        own_passed m k es e (key, s) concerned Runs
+        (subst (λ f. Steps f s Runs) (sym is)
+        (quiet_stepped texts p machine events (newest_moment es) s ready quiet event restart (subst (λ f. newest_moment es ≤ f.moment) is late) (subst (λ f. moment_of s ≤ f.moment) is low)))

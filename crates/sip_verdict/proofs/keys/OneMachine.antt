@@ -1,0 +1,64 @@
+use Rattle.std.proofs.Common.{◌≡◌, ◌≢◌, ◌≤◌, ◌↔◌, ℕ, List, [], ◌∷◌, ◌++◌, All, Contains, map, length, refl, arith}
+use Rattle.std.proofs.lemmas.List.Elements.{All-contains}
+use Rattle.sip_machine.specs.Texts.{Texts}
+use Rattle.sip_machine.specs.MachineEvent.{MachineEvent}
+use Rattle.sip_machine.specs.Rules.{Rules, IsLawful, Waits, StandFor}
+use Rattle.sip_states.specs.Runs.{Wait, RunGives, RuledRun, AfterRun, IsWide, widest}
+use Rattle.sip_verdict.specs.inner.Leads.{Leads}
+use Rattle.sip_states.proofs.lists.Listed.{Contains-here}
+use Rattle.sip_states.proofs.sets.Taking.{wide_among, wide_some, few_narrow}
+use Rattle.sip_states.proofs.runs.RunLemmas.{Run-wait}
+use Rattle.sip_states.proofs.sets.Waiting.{Wait-stay}
+use Rattle.sip_verdict.proofs.keys.Leading.{iff_trans, gives_after, Leads-none, Leads-some}
+
+-- What one event leaves of the runs of one machine, and how a set tells it.
+
+module _ {X S : Type 0} (names : S → List ℕ) (seen : Texts → S → X) (texts : Texts) (r : Rules X) (events : List MachineEvent) (from moment : ℕ) (states : List S)
+    (leads : Leads names seen texts r events from moment states) (late : from ≤ moment) where
+  -- an empty set means that there is no run at its moment
+  pub none_runs : states ≡ [] → ¬ ((x : X) × RuledRun r events moment x)
+  none_runs none (x, run) = Leads-none names seen texts r events from moment states leads none moment late (omega arith) x run
+
+  -- a set with a state that can wait means that there is one
+  pub some_runs : All (λ s. Waits r (seen texts s) moment) states → states ≢ [] → (x : X) × RuledRun r events moment x
+  some_runs waits some =
+      let (s, member) = first_of_some states some in
+      (seen texts s, Leads-some names seen texts r events from moment states leads late s member (All-contains (λ t. Waits r (seen texts t) moment) states s waits member))
+    where
+      first_of_some : (xs : List S) → xs ≢ [] → (s : S) × Contains xs s
+      first_of_some [] some = absurd (some refl)
+      first_of_some (x ∷ xs) some = (x, Contains-here x xs)
+
+module _ {X S : Type 0} (names : S → List ℕ) (InRange : S → Type 0) (seen : Texts → S → X) (texts : Texts) (r : Rules X)
+    (events : List MachineEvent) (from moment : ℕ) (states : List S) (leads : Leads names seen texts r events from moment states) (e : MachineEvent) (late : from ≤ e.moment) (low : moment ≤ e.moment) where
+  -- after the event the set holds just the last states of the runs that end with it
+  pub took_after : (new : List S) → StandFor names InRange seen texts (RunGives r (Wait r (Contains (map (seen texts) states)) moment e.moment) e) new →
+      (x : X) → Contains (map (seen texts) new) x ↔ AfterRun r events e x
+  took_after new gives x = iff_trans (gives.members x) (gives_after names seen texts r events from moment states leads e late low x)
+
+  -- states that are not too many mean that the last states are not more
+  pub took_narrow : (new : List S) → StandFor names InRange seen texts (RunGives r (Wait r (Contains (map (seen texts) states)) moment e.moment) e) new →
+      length new ≤ widest → ¬ IsWide (AfterRun r events e)
+  took_narrow new gives few wide =
+      few_narrow names InRange seen texts (RunGives r (Wait r (Contains (map (seen texts) states)) moment e.moment) e) new gives few
+      (wide_among (AfterRun r events e) (RunGives r (Wait r (Contains (map (seen texts) states)) moment e.moment) e)
+      (λ x. (gives_after names seen texts r events from moment states leads e late low x).1) wide)
+
+module _ {X S : Type 0} (names : S → List ℕ) (seen : Texts → S → X) (texts : Texts) (r : Rules X) (lawful : IsLawful r)
+    (events : List MachineEvent) (from moment : ℕ) (states : List S) (leads : Leads names seen texts r events from moment states) (e : MachineEvent) (late : from ≤ e.moment) (low : moment ≤ e.moment) where
+  -- a state that the event gives is where a run stands at its moment
+  pub given_runs : (x : X) → RunGives r (Wait r (Contains (map (seen texts) states)) moment e.moment) e x → RuledRun r (events ++ e ∷ []) e.moment x
+  given_runs x given =
+      (Run-wait r events e e.moment x).1
+      (Wait-stay r (AfterRun r events e) e.moment e.moment x
+      (record { among = (gives_after names seen texts r events from moment states leads e late low x).0 given; reached = omega arith; waits = lawful.fresh given.before e x given.takes }))
+
+  -- too many states mean that there is a run, and that the last states are too many
+  pub wide_runs : IsWide (RunGives r (Wait r (Contains (map (seen texts) states)) moment e.moment) e) →
+      ((x : X) × RuledRun r (events ++ e ∷ []) e.moment x) × IsWide (AfterRun r events e)
+  wide_runs wide =
+      let given = wide_some (RunGives r (Wait r (Contains (map (seen texts) states)) moment e.moment) e) wide in (
+        (given.0, given_runs given.0 given.1),
+        wide_among (RunGives r (Wait r (Contains (map (seen texts) states)) moment e.moment) e) (AfterRun r events e)
+            (λ x. (gives_after names seen texts r events from moment states leads e late low x).0) wide,
+      )

@@ -1,0 +1,61 @@
+-- How long the runs of a key can wait, by the last moment on record of its set.
+use Rattle.std.proofs.Common.{◌≡◌, ◌≤◌, ◌↔◌, ℕ, true, false, Option, Some, None, List, [], ◌∷◌, ◌++◌, Contains, map, ap, ◌∙◌, subst, arith}
+use Rattle.std.proofs.lemmas.Bool.{ltb-true, ltb-false, false≢true}
+use Rattle.sip_standard.specs.Times.{Times}
+use Rattle.sip_machine.specs.Texts.{Texts}
+use Rattle.sip_machine.specs.MachineEvent.{MachineEvent}
+use Rattle.sip_machine.specs.Limits.{IsWithin}
+use Rattle.sip_machine.specs.Rules.{Rules}
+use Rattle.sip_states.specs.Runs.{IsAgenda}
+use Rattle.sip_states.specs.KeyMachine.{MachineKind, key_rules}
+use Rattle.sip_states.specs.Meaning.{HasAgenda}
+use Rattle.sip_states.specs.AnySet.{moment_of, IsAgendaOf}
+use Rattle.sip_states.specs.Agenda.{is_overdue}
+use Rattle.sip_states.specs.declared.any_set.AnySet.{AnySet}
+use Rattle.sip_states.proofs.runs.RunLemmas.{Run-wait, After-run}
+use Rattle.sip_verdict.specs.inner.Stepping.{RunsUntil}
+use Rattle.sip_states.specs.AnySet.{meaning_of}
+use Rattle.sip_verdict.specs.inner.TablesTracking.{LeadsOf}
+use Rattle.sip_states.proofs.keyed.ByMachine.{rules_are, moment_is, of_set}
+
+-- a run over one event more holds one that stands at its moment
+pub run_before : {X : Type 0} (r : Rules X) (events : List MachineEvent) (e : MachineEvent) (n : ℕ) → RunsUntil r (events ++ e ∷ []) n → RunsUntil r events e.moment
+run_before r events e n (y, run) =
+    let wait = (Run-wait r events e n y).0 run in
+    let given = (After-run r events e wait.start).0 wait.begins in
+    (given.before, given.among)
+
+module _ (texts : Texts) (p : Times) (machine : MachineKind) (events : List MachineEvent) (from : ℕ) (set : AnySet) (leads : LeadsOf texts p machine events from set) (limit : Option ℕ) (agenda : IsAgendaOf limit set)
+    (moment : ℕ) (late : from ≤ moment) (low : moment_of set ≤ moment) where
+  -- a wait from the states of the set lasts until then just where that is within the limit
+  waits : IsAgenda ((meaning_of machine).rules p) (Contains (map ((meaning_of machine).seen texts) leads.0.states)) leads.0.moment limit
+  waits =
+      subst (λ q. IsAgenda ((meaning_of machine).rules q) (Contains (map ((meaning_of machine).seen texts) leads.0.states)) leads.0.moment limit) leads.2.machine_is
+      (of_set (λ X M S m s. HasAgenda m limit s) machine leads.0 (subst (IsAgendaOf limit) leads.1 agenda) texts)
+
+  not_later : leads.0.moment ≤ moment
+  not_later = subst (λ m. m ≤ moment) (ap moment_of leads.1 ∙ moment_is machine leads.0) low
+
+  -- so there is a run over the events that stands then just where that is within it
+  runs_within : RunsUntil (key_rules p machine) events moment ↔ IsWithin moment limit
+  runs_within =
+      subst (λ r. RunsUntil r events moment ↔ IsWithin moment limit) (rules_are p machine) (
+        λ run. (waits moment not_later).0 (run.0, (leads.2.leads.runs moment run.0 late not_later).1 run.1),
+        λ within. let wait = (waits moment not_later).1 within in (wait.0, (leads.2.leads.runs moment wait.0 late not_later).0 wait.1),
+      )
+
+  -- none stands after the last moment
+  pub overdue_none : is_overdue moment (Some limit) ≡ true → ¬ RunsUntil (key_rules p machine) events moment
+  overdue_none past run = go limit past (runs_within.0 run)
+    where
+      go : (l : Option ℕ) → is_overdue moment (Some l) ≡ true → IsWithin moment l → ⊥
+      go None past within = false≢true past
+      go (Some last) past within = omega (arith, ltb-true last moment past, within)
+
+  -- and one does up to it
+  pub in_time_some : is_overdue moment (Some limit) ≡ false → RunsUntil (key_rules p machine) events moment
+  in_time_some in_time = runs_within.1 (go limit in_time)
+    where
+      go : (l : Option ℕ) → is_overdue moment (Some l) ≡ false → IsWithin moment l
+      go None in_time = tt
+      go (Some last) in_time = omega (arith, ltb-false last moment in_time)

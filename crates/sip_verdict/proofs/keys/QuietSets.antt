@@ -1,0 +1,68 @@
+-- A set that is quiet passes a restart as it is.
+use Rattle.std.proofs.Common.{◌≡◌, ◌≢◌, ◌≤◌, ◌↔◌, ℕ, List, [], ◌∷◌, ◌++◌, Contains, map, length, refl, sym, ap, ◌∙◌, subst, arith}
+use Rattle.sip_standard.specs.declared.action.Action.TheVariants.{Restart}
+use Rattle.sip_standard.specs.Times.{Times}
+use Rattle.sip_machine.specs.Texts.{Texts}
+use Rattle.sip_machine.specs.NumberedEvent.{NumberedEvent}
+use Rattle.sip_machine.specs.MachineEvent.{MachineEvent, event_in}
+use Rattle.sip_machine.specs.Rules.{Rules, StandFor}
+use Rattle.sip_states.specs.Runs.{Wait, RunGives, AfterRun, IsWide}
+use Rattle.sip_states.specs.Held.{Held}
+use Rattle.sip_states.specs.KeyMachine.{MachineKind, PhaseOf, key_rules, StateOf}
+use Rattle.sip_states.specs.AnySet.{meaning_of, moment_of, IsQuietSet}
+use Rattle.sip_states.specs.declared.any_set.AnySet.{AnySet}
+use Rattle.sip_states.proofs.keyed.ByMachine.{rules_are, lawful_of, moment_is, quiet_in}
+use Rattle.sip_states.proofs.keyed.QuietLemmas.{quiet_still, waits_still, restart_still}
+use Rattle.sip_verdict.specs.declared.passing.Fate.TheVariants.{Runs}
+use Rattle.sip_verdict.specs.inner.Stepping.{RunsUntil, IsStepped}
+use Rattle.sip_verdict.specs.inner.TablesTracking.{LeadsOf, StandsOf}
+use Rattle.sip_verdict.proofs.keys.Hearing.{heard_some}
+use Rattle.sip_verdict.proofs.keys.Leading.{iff_trans, iff_sym, Leads-later}
+
+-- a set leads to the runs from any later moment on
+pub leads_later : (texts : Texts) (p : Times) (machine : MachineKind) (events : List MachineEvent) (from later : ℕ) (set : AnySet) → from ≤ later → LeadsOf texts p machine events from set → LeadsOf texts p machine events later set
+leads_later texts p machine events from later set low (s, is, leads) =
+    let m = meaning_of machine in
+    (s, is, record { machine_is = leads.machine_is; leads = Leads-later m.names m.seen texts (m.rules p) events from later s.moment s.states low leads.leads })
+
+module _ (texts : Texts) (p : Times) (machine : MachineKind) (events : List MachineEvent) (from : ℕ) (set : AnySet) (leads : LeadsOf texts p machine events from set) (quiet : IsQuietSet set)
+    (e : NumberedEvent) (is : e.action ≡ Restart) (late : from ≤ e.moment) (low : moment_of set ≤ e.moment) where
+  abbrev held : Held Times (StateOf machine)
+  held = leads.0
+
+  abbrev r : Rules (PhaseOf machine)
+  r = (meaning_of machine).rules p
+
+  -- the same set at the moment of the restart
+  abbrev new : Held Times (StateOf machine)
+  new = record { machine = held.machine; moment = e.moment; states = held.states }
+
+  not_later : held.moment ≤ e.moment
+  not_later = subst (λ m. m ≤ e.moment) (ap moment_of leads.1 ∙ moment_is machine held) low
+
+  pub quiet_stepped : IsStepped (key_rules p machine) events (event_in texts e) (λ es. LeadsOf texts p machine es e.moment set) (λ f. StandsOf texts p machine events f set) Runs
+  quiet_stepped =
+      let m = meaning_of machine in
+      let (x, one, still) = quiet_still p machine texts held (quiet_in machine held (subst IsQuietSet leads.1 quiet)) in
+      let gives : StandFor m.names m.in_range m.seen texts (RunGives r (Wait r (Contains (map (m.seen texts) held.states)) held.moment e.moment) (event_in texts e)) held.states =
+      subst (λ xs. StandFor m.names m.in_range m.seen texts (RunGives r (Wait r (Contains (map (m.seen texts) xs)) held.moment e.moment) (event_in texts e)) xs) (sym one)
+      (restart_still p machine texts x still held.moment (event_in texts e) is not_later) in
+      let own = subst (λ q. StandFor m.names m.in_range m.seen texts (RunGives (m.rules q) (Wait (m.rules q) (Contains (map (m.seen texts) held.states)) held.moment e.moment) (event_in texts e)) held.states)
+      (sym leads.2.machine_is) gives in
+      let some : held.states ≢ [] = λ none. (let never : x ∷ [] ≡ [] = sym one ∙ none in cc) in
+      let h = heard_some m.names m.in_range m.seen m.rules (lawful_of machine) texts p events from held new leads.2 (event_in texts e) late not_later own refl refl some (omega (arith, ap length one)) in
+      let same : (n : ℕ) → e.moment ≤ n → (y : PhaseOf machine) → Wait r (Contains (map (m.seen texts) held.states)) held.moment n y ↔ Wait r (Contains (map (m.seen texts) held.states)) e.moment n y
+      = λ n reached y. subst (λ xs. Wait r (Contains (map (m.seen texts) xs)) held.moment n y ↔ Wait r (Contains (map (m.seen texts) xs)) e.moment n y) (sym one)
+      (iff_trans (waits_still p machine texts x still held.moment n (omega (arith, not_later, reached)) y) (iff_sym (waits_still p machine texts x still e.moment n reached y))) in (
+        subst (λ q. RunsUntil q (events ++ event_in texts e ∷ []) e.moment) (rules_are p machine) h.0,
+        subst (λ q. ¬ IsWide (AfterRun q events (event_in texts e))) (rules_are p machine) h.1,
+        (
+          held,
+          leads.1,
+          record {
+            machine_is = leads.2.machine_is;
+            leads = record { known = h.2.leads.known; runs = λ n y reached after. iff_trans (same n reached y) (h.2.leads.runs n y reached reached) };
+          },
+        ),
+        (held, leads.1, subst (λ q. StandFor m.names m.in_range m.seen texts (AfterRun q events (event_in texts e)) held.states) (rules_are p machine) h.3),
+      )

@@ -1,0 +1,5 @@
+pub mod EntryText
+pub mod ListingLemmas
+pub mod NumberingLemmas
+pub mod WalkingLemmas
+pub mod WalksLemmas

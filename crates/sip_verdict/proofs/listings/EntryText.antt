@@ -1,0 +1,161 @@
+-- The text of an entry.
+use Rattle.std.proofs.Common.{◌≡◌, ◌≢◌, ◌∙◌, ◌<◌, ◌+◌, ◌-◌, ℕ, zero, suc, Bool, true, false, cond, Option, Some, None, MatchOption, List, [], ◌∷◌, ◌++◌, All, AllPairs, length, slice_get, refl, sym, ap, subst, arith, append_assoc}
+use Rattle.std.specs.Prelude.{IsAscii, fold}
+use Rattle.std.specs.List.{list_any}
+use Rattle.sip_standard.specs.declared.action.Action.{Action}
+use Rattle.sip_standard.specs.declared.action.Action.TheVariants.{Sent, Received, Failed, Mark, Restart}
+use Rattle.sip_standard.specs.declared.rules.Rules.TheVariants.{R6026}
+use Rattle.sip_verdict.specs.Reading.{AreObserved}
+use Rattle.sip_verdict.specs.VerdictOf.{keys_in}
+use Rattle.std.proofs.lemmas.List.{append-nil}
+use Rattle.std.proofs.lemmas.List.Elements.{All-nil, All-cons, All-head, All-tail, All-push, Contains-get_or}
+use Rattle.std.proofs.lemmas.Option.{slice_get_within, get_or_from_slice_get}
+use Rattle.sip_key.specs.Key.{KeyParts, same_key}
+use Rattle.sip_key.specs.inner.KeyLaws.{same_key-decides}
+use Rattle.sip_key.specs.declared.role.Direction.{Direction}
+use Rattle.sip_standard.specs.Times.{Times}
+use Rattle.sip_machine.specs.Texts.{Texts}
+use Rattle.sip_states.specs.KeyMachine.{machine_of_key}
+use Rattle.sip_states.specs.AnySet.{IsKnownSet}
+use Rattle.sip_states.specs.Tables.{Tabled}
+use Rattle.sip_listing.specs.Transaction.{transaction_text}
+use Rattle.sip_standard.specs.LogEntry.{Item}
+use Rattle.sip_verdict.specs.Keyed.{Observation, with_key, concerns, events_of}
+use Rattle.sip_verdict.specs.Verdicts.{IsFirst}
+use Rattle.sip_verdict.specs.MessageReading.{key_machines, message_reading, direction_of, silent_observation, ObservesMessage, has_fault, has_no_cookie, is_heard}
+use Rattle.sip_verdict.specs.Listing.{IsKeyText, AreKeyTexts, IsEntryText}
+use Rattle.sip_verdict.specs.ListingOf.{key_words}
+use Rattle.sip_verdict.specs.inner.Tracking.{IsJudged, IsStanding}
+use Rattle.sip_verdict.specs.inner.TablesTracking.{key_keeping, transactions_of, HaveNumbers}
+use Rattle.sip_verdict.specs.inner.Numbering.{Appends, AppendsEach, IsTextOf}
+use Rattle.sip_verdict.proofs.keys.Keys.{contains-among, keys_of-push}
+use Rattle.sip_verdict.proofs.tables.TablesPassing.{All-place, zip-place, keys_are}
+use Rattle.sip_verdict.proofs.tables.TablesTouching.{keys_exact}
+use Rattle.sip_message.proofs.lemmas.says.Reading.{says-reads}
+use Rattle.sip_key.specs.Concerns.{Concerns}
+use Rattle.sip_key.proofs.MethodLemmas.{keys_ascii}
+use Rattle.sip_verdict.proofs.listings.ListingLemmas.{TellsBook, told_set, standing_lines}
+
+-- The keys of an entry have methods that are ASCII.
+
+message_ascii : (i : Item) (e : Observation KeyParts) (d : Direction) → ObservesMessage d i e → All (λ k. IsAscii k.method) e.keys
+message_ascii i e d (has_fault fault has is) = subst (All (λ k. IsAscii k.method)) (sym (ap (λ x. x.keys) is)) (All-nil (λ k. IsAscii k.method))
+message_ascii i e d (has_no_cookie s says lacks is) = subst (All (λ k. IsAscii k.method)) (sym (ap (λ x. x.keys) is)) (All-nil (λ k. IsAscii k.method))
+message_ascii i e d (is_heard s keys says has concerns is) =
+    let read = says-reads i.text s says in
+    subst (All (λ k. IsAscii k.method)) (sym (ap (λ x. x.keys) is)) (keys_ascii i.text read.0 d keys read.1 (subst (λ x. Concerns x d keys) read.2 concerns))
+
+silent_ascii : (a : Action) (moment : ℕ) (keys : List KeyParts) → All (λ k. IsAscii k.method) keys → All (λ k. IsAscii k.method) (silent_observation a moment keys).keys
+silent_ascii Sent moment keys ascii = All-nil (λ k. IsAscii k.method)
+silent_ascii Received moment keys ascii = All-nil (λ k. IsAscii k.method)
+silent_ascii Failed moment keys ascii = All-nil (λ k. IsAscii k.method)
+silent_ascii Mark moment keys ascii = All-nil (λ k. IsAscii k.method)
+silent_ascii Restart moment keys ascii = ascii
+
+ways_ascii : (i : Item) (keys : List KeyParts) (e : Observation KeyParts) (way : Option Direction) → All (λ k. IsAscii k.method) keys → MatchOption way (e ≡ silent_observation i.action i.moment keys) (λ d. ObservesMessage d i e)
+    → All (λ k. IsAscii k.method) e.keys
+ways_ascii i keys e None ascii is = subst (All (λ k. IsAscii k.method)) (sym (ap (λ x. x.keys) is)) (silent_ascii i.action i.moment keys ascii)
+ways_ascii i keys e (Some d) ascii observes = message_ascii i e d observes
+
+-- so have those of an entry after others whose keys have
+entry_ascii : (before : List (Observation KeyParts)) (i : Item) (e : Observation KeyParts) → All (λ k. IsAscii k.method) (keys_in before) → message_reading.Observes before i e → All (λ k. IsAscii k.method) e.keys
+entry_ascii before i e ascii observes = ways_ascii i (keys_in before) e (direction_of i.action) ascii observes
+
+-- and the keys of entries, one after another
+more_ascii : (keys more : List KeyParts) → All (λ k. IsAscii k.method) keys → All (λ k. IsAscii k.method) more → All (λ k. IsAscii k.method) (fold (with_key same_key) keys more)
+more_ascii keys [] old new = old
+more_ascii keys (k ∷ more) old new = more_ascii (with_key same_key keys k) more (one (list_any (same_key k) keys)) (All-tail (λ x. IsAscii x.method) k more new)
+  where
+    one : (b : Bool) → All (λ x. IsAscii x.method) (cond b keys (keys ++ k ∷ []))
+    one true = old
+    one false = All-push (λ x. IsAscii x.method) keys k old (All-head (λ x. IsAscii x.method) k more new)
+
+keys_ascii_behind : (before : List (Observation KeyParts)) (items : List Item) (es : List (Observation KeyParts)) → All (λ k. IsAscii k.method) (keys_in before) → AreObserved message_reading before items es
+    → All (λ k. IsAscii k.method) (keys_in (before ++ es))
+keys_ascii_behind before [] [] ascii seen = subst (λ es. All (λ k. IsAscii k.method) (keys_in es)) (sym (append-nil before)) ascii
+keys_ascii_behind before [] (e ∷ es) ascii seen = absurd seen
+keys_ascii_behind before (i ∷ items) [] ascii seen = absurd seen
+keys_ascii_behind before (i ∷ items) (e ∷ es) ascii seen =
+    subst (λ all. All (λ k. IsAscii k.method) (keys_in all)) (append_assoc before (e ∷ []) es)
+    (keys_ascii_behind (before ++ e ∷ []) items es
+    (subst (All (λ k. IsAscii k.method)) (sym (keys_of-push (key_machines any_times) before e)) (more_ascii (keys_in before) e.keys ascii (entry_ascii before i e ascii seen.0))) seen.1)
+  where
+    any_times : Times
+    any_times = record { t1 = 0; t2 = 0; t4 = 0; early = 0; late = 0; rules = R6026 }
+
+pub observed_ascii : (items : List Item) (before : List (Observation KeyParts)) (i : Item) (e : Observation KeyParts) → AreObserved message_reading [] items before → message_reading.Observes before i e
+    → All (λ k. IsAscii k.method) e.keys
+observed_ascii items before i e seen observes = entry_ascii before i e (keys_ascii_behind [] items before (All-nil (λ k. IsAscii k.method)) seen) observes
+
+-- Among keys that differ, the one at a place is the first that is the same.
+first_place : (keys : List KeyParts) → AllPairs (λ a b. a ≢ b) keys → (n : ℕ) (key : KeyParts) → slice_get keys n ≡ Some key → IsFirst (λ k. same_key key k ≡ true) keys (n + 1)
+first_place [] apart n key at = absurd cc
+first_place (u ∷ us) apart zero key at = record {
+  before = [];
+  key = u;
+  rest = us;
+  is = refl;
+  holds = (same_key-decides key u).1 (let e : u ≡ key = cc in sym e);
+  earlier = All-nil (λ k. same_key key k ≡ true → ⊥);
+  counts = refl;
+}
+first_place (u ∷ us) apart (suc n) key at =
+    let f = first_place us (λ m k d low within. apart (suc m) (suc k) d (omega arith) (omega arith)) n key at in
+    record {
+      before = u ∷ f.before;
+      key = f.key;
+      rest = f.rest;
+      is = ap (λ z. u ∷ z) f.is;
+      holds = f.holds;
+      earlier = All-cons (λ k. same_key key k ≡ true → ⊥) u f.before
+          (λ same. apart zero (suc n) key (omega arith) (let low = slice_get_within us n key at in omega arith) (sym ((same_key-decides key u).0 same) ∙ sym (get_or_from_slice_get us n key key at))) f.earlier;
+      counts = (let c = f.counts in omega (arith, c));
+    }
+
+module _ (number : List ℕ → ℕ) (texts : Texts) (tells : TellsBook number texts) (p : Times) (es : List (Observation KeyParts)) (e : Observation KeyParts) (t : Tabled)
+    (known : All (IsKnownSet texts) t.sets) (long : length t.sets ≡ length t.keys) (apart : AllPairs (λ a b. a ≢ b) t.keys)
+    (judged : IsJudged (key_machines p) (key_keeping texts p) es e (transactions_of t) None) where
+  -- a transaction that was appended
+  key_text : (key : KeyParts) (n : ℕ) (old new : List ℕ) → concerns (key_machines p) key e ≡ true → IsAscii key.method → 0 < n → slice_get t.keys (n - 1) ≡ Some key → Appends t n old new
+      → (text : List ℕ) × IsKeyText (key_machines p) (key_words p) number es e key text × (new ≡ old ++ text)
+  key_text key n old new concerned ascii low at (k, set, lines, key_at, set_at, lists, is) =
+      let same : k ≡ key = (let both : Some k ≡ Some key = sym key_at ∙ at in cc) in
+      let count : (n - 1) + 1 ≡ n = omega (arith, low) in
+      let stands = All-place (IsStanding (key_machines p) (key_keeping texts p) es e) (transactions_of t) (n - 1) (key, set) (zip-place t.keys t.sets (n - 1) key set at set_at) judged.1 in (
+        transaction_text n key lines,
+        record {
+          place = n;
+          placed = subst (λ ks. IsFirst (λ k. same_key key k ≡ true) ks n) (sym (keys_are t long) ∙ judged.0.keys)
+              (subst (IsFirst (λ k. same_key key k ≡ true) t.keys) count (first_place t.keys apart (n - 1) key at));
+          lines = lines;
+          states = standing_lines number texts p (machine_of_key p.rules key) (events_of (key_machines p) key es) e.event set lines (stands concerned)
+              (told_set number texts tells set (All-place (IsKnownSet texts) t.sets (n - 1) set set_at known)) lists;
+          whole = refl;
+        },
+        subst (λ x. new ≡ old ++ transaction_text n x lines) same (is (subst (λ x. IsAscii x.method) (sym same) ascii)),
+      )
+
+  -- and others after it
+  key_texts : (ks : List KeyParts) (ns : List ℕ) (old new : List ℕ) → All (λ k. (concerns (key_machines p) k e ≡ true) × IsAscii k.method) ks → HaveNumbers t.keys ns ks → AppendsEach t ns old new
+      → (text : List ℕ) × AreKeyTexts (key_machines p) (key_words p) number es e ks text × (new ≡ old ++ text)
+  key_texts [] [] old new good have same = ([], refl, same ∙ sym (append-nil old))
+  key_texts [] (n ∷ ns) old new good have more = absurd have
+  key_texts (k ∷ ks) [] old new good have more = absurd have
+  key_texts (k ∷ ks) (n ∷ ns) old new good (low, at, rest) (between, first, more) =
+      let here = All-head (λ x. (concerns (key_machines p) x e ≡ true) × IsAscii x.method) k ks good in
+      let one = key_text k n old between here.0 here.1 low at first in
+      let others = key_texts ks ns between new (All-tail (λ x. (concerns (key_machines p) x e ≡ true) × IsAscii x.method) k ks good) rest more in
+      (one.0 ++ others.0, (one.0, others.0, one.1, others.1, refl), others.2 ∙ ap (λ z. z ++ others.0) one.2 ∙ append_assoc old one.0 others.0)
+
+  -- the text of the entry
+  texts_of : (ks : List KeyParts) (ns : List ℕ) (text : List ℕ) → All (λ k. (concerns (key_machines p) k e ≡ true) × IsAscii k.method) ks → HaveNumbers t.keys ns ks → IsTextOf t ns text
+      → IsEntryText (key_machines p) (key_words p) number es e ks text
+  texts_of [] [] text good have is = is
+  texts_of [] (n ∷ ns) text good have is = absurd have
+  texts_of (k ∷ ks) [] text good have is = absurd have
+  texts_of (k ∷ ks) (n ∷ ns) text good have is =
+      let all = key_texts (k ∷ ks) (n ∷ ns) [] text good have is in
+      subst (AreKeyTexts (key_machines p) (key_words p) number es e (k ∷ ks)) (sym all.2) all.1
+
+  pub entry_text : (ns : List ℕ) (text : List ℕ) → All (λ k. IsAscii k.method) e.keys → HaveNumbers t.keys ns e.keys → IsTextOf t ns text → IsEntryText (key_machines p) (key_words p) number es e e.keys text
+  entry_text ns text ascii have is = texts_of e.keys ns text (λ i d low. (contains-among (key_machines p) (keys_exact p) _ e.keys (Contains-get_or e.keys i d low), ascii i d low)) have is

@@ -1,0 +1,159 @@
+-- What is shown of the entries that were read, one after another.
+use Rattle.std.proofs.Common.{◌≡◌, true, inr, ℕ, ◌+◌, Result, Ok, Err, IfOk, OnOk, Option, Some, None, IfSome, List, [], ◌∷◌, ◌++◌, length, refl, sym, ap, ◌∙◌, subst, append_assoc, arith}
+use Rattle.std.proofs.lemmas.List.{append-nil}
+use Rattle.std.specs.Io.KnownBytes.{Appends}
+use Rattle.std.proofs.KnownBytes.{Appends-nil, Appends-trans}
+use Rattle.sip_standard.specs.Times.{Times}
+use Rattle.sip_log.specs.declared.entry.Entry.{Entry}
+use Rattle.sip_log.specs.declared.log_error.LogError.{LogError}
+use Rattle.sip_standard.specs.LogSays.{line_feed, LogEnd, Clean, Stops, LogSays}
+use Rattle.sip_standard.specs.LogEntry.{Item}
+use Rattle.sip_log.specs.Told.{FailsAs, item}
+use Rattle.sip_log.specs.Reading as log
+use Rattle.sip_log.specs.Reading.{entries, Nexts}
+use Rattle.sip_log.proofs.answers.ReadingLemmas.{FailsAs-map, IfSome-map}
+use Rattle.sip_log.proofs.answers.CallerLemmas.{Stands, StandsAt, StopsAt, Stands-gives, Stands-ends, Stands-stops, Stands-log, Nexts-counted, Nexts-times}
+use Rattle.sip_standard.specs.declared.fault.Fault.{Fault}
+use Rattle.sip_standard.specs.Outcome.{stops}
+use Rattle.sip_standard.specs.Says.{Says}
+use Rattle.sip_verdict.specs.declared.shown.Shown.{Shown}
+use Rattle.sip_verdict.specs.declared.shown.Shown.TheVariants.{End, Malformed, LogFault as FaultOfLog}
+use Rattle.sip_verdict.specs.LogReason.{reason_of}
+use Rattle.sip_verdict.specs.Listing.{has_message}
+use Rattle.sip_verdict.specs.Showing.{IsCanonOf, shown_entry, AreShown, last_text, EndsAs, IsShownOf}
+
+-- one more entry is shown
+AreShown-push : (count : ℕ) (items : List Item) (text : List ℕ) (e : Item) (form : List ℕ) (n : ℕ) → n ≡ count + length items + 1 → AreShown count items text → IsCanonOf e.action e.text form
+    → AreShown count (items ++ e ∷ []) (text ++ shown_entry n e form)
+AreShown-push count [] text e form n number none is =
+    let one : n ≡ count + 1 = omega (arith, number) in (
+      form,
+      [],
+      is,
+      refl,
+      ap (λ (t : List ℕ). t ++ shown_entry n e form) none ∙ ap (λ k. shown_entry k e form) one ∙ sym (append-nil (shown_entry (count + 1) e form)),
+    )
+AreShown-push count (x ∷ xs) text e form n number (first, more, is_first, shown, whole) is = (
+  first,
+  more ++ shown_entry n e form,
+  is_first,
+  AreShown-push (count + 1) xs more e form n (omega (arith, number)) shown is,
+  ap (λ (t : List ℕ). t ++ shown_entry n e form) whole ∙ append_assoc (shown_entry (count + 1) x first) more (shown_entry n e form),
+)
+
+-- these entries were read of the input, and this text was written of them
+pub record Showed (start : Option (List ℕ)) (now : log.ReaderState) (old new : Option (List ℕ)) : Type 0 where
+  pub times : Times
+  pub items : List Item
+  pub text : List ℕ
+  pub shown : AreShown 0 items text
+  pub appends : Appends old new text
+  pub on : now.stage ≡ entries
+  pub times_are : now.times ≡ Some times
+  pub stands : Stands start items now
+
+-- what was shown, where an answer is given
+abbrev pub Answers : Option (List ℕ) → Option (List ℕ) → Option (List ℕ) → Shown → Type 0
+Answers start old new shown = IfSome start (λ input. (text : List ℕ) × IsShownOf input text shown × Appends old new text)
+
+-- the last line was written, which is the answer
+pub finished : {E : Type 0} (r : Result Shown E) (shown : Shown) (P : Shown → Type 0) (Q : Type 0) → IfOk r (λ answer. answer ≡ shown) → OnOk r Q → (Q → P shown) → IfOk r P
+finished (Ok answer) shown P Q same wrote f = subst P (sym same) (f wrote)
+finished (Err e) shown P Q same wrote f = tt
+
+-- nothing was shown yet
+pub showed_start : (start : Option (List ℕ)) (now : log.ReaderState) (p : Times) (w : Option (List ℕ)) → now.stage ≡ entries → now.times ≡ Some p → Stands start [] now → Showed start now w w
+showed_start start now p w on times stands = record {
+  times = p;
+  items = [];
+  text = [];
+  shown = refl;
+  appends = Appends-nil w;
+  on = on;
+  times_are = times;
+  stands = stands;
+}
+
+module _ (start : Option (List ℕ)) (now : log.ReaderState) (old w : Option (List ℕ)) (s : Showed start now old w) (new : log.ReaderState) where
+  -- so many entries were read
+  count_is : now.count ≡ length s.items
+  count_is = (subst (λ x. StandsAt x start s.items now) s.on s.stands).1
+
+  -- the last line was written after them
+  module _ (w2 : Option (List ℕ)) where
+    ends : (end : LogEnd) (shown : Shown) → EndsAs (length s.items) [] end shown → (t : Option Times) → t ≡ Some s.times → IfSome start (λ input. IfSome t (λ p. LogSays input p s.items end))
+        → Appends w w2 (last_text shown ++ line_feed ∷ []) → Answers start old w2 shown
+    ends end shown is t same logs last =
+        IfSome-map start (λ input. IfSome t (λ p. LogSays input p s.items end)) (λ input. (text : List ℕ) × IsShownOf input text shown × Appends old w2 text) (λ input l. (
+          s.text ++ (last_text shown ++ line_feed ∷ []),
+          inr (record {
+            times = s.times;
+            items = s.items;
+            rest = [];
+            end = end;
+            log = subst (λ all. LogSays input s.times all end) (sym (append-nil s.items)) (subst (λ o. IfSome o (λ p. LogSays input p s.items end)) same l);
+            front = s.text;
+            entries = s.shown;
+            ends = is;
+            whole = refl;
+          }),
+          Appends-trans old w w2 s.text (last_text shown ++ line_feed ∷ []) s.appends last,
+        )) logs
+
+    -- the log ends
+    pub showed_end : (n : ℕ) → n ≡ now.count → Nexts now new (Ok None) → Appends w w2 (last_text (End n) ++ line_feed ∷ []) → Answers start old w2 (End n)
+    showed_end n many nexts last =
+        ends Clean (End n) (ap End (many ∙ count_is)) new.times (Nexts-times now new (Ok None) s.times s.on s.times_are nexts) (Stands-ends start s.items now new (inr s.on) s.stands nexts) last
+
+    -- the next entry cannot be read
+    pub showed_stops : (n : ℕ) → n ≡ now.count → (e : LogError) → Nexts now new (Err e)
+        → FailsAs now.has_failed new.has_failed (λ fault. Appends w w2 (last_text (FaultOfLog (n + 1) (reason_of fault)) ++ line_feed ∷ []) → Answers start old w2 (FaultOfLog (n + 1) (reason_of fault))) e
+    showed_stops n many e nexts =
+        let times = Nexts-times now new (Err e) s.times s.on s.times_are nexts in
+        FailsAs-map now.has_failed new.has_failed (λ fault. IfSome start (λ input. StopsAt start s.items now new input new.times fault))
+        (λ fault. Appends w w2 (last_text (FaultOfLog (n + 1) (reason_of fault)) ++ line_feed ∷ []) → Answers start old w2 (FaultOfLog (n + 1) (reason_of fault))) e
+        (λ fault stop last. ends (Stops fault) (FaultOfLog (n + 1) (reason_of fault)) (ap (λ c. FaultOfLog (c + 1) (reason_of fault)) (many ∙ count_is)) (Some s.times) refl
+        (IfSome-map start (λ input. StopsAt start s.items now new input new.times fault) (λ input. LogSays input s.times s.items (Stops fault))
+        (λ input is. subst (λ t. StopsAt start s.items now new input t fault) times is) stop) last)
+        (Stands-stops start s.items now new e (inr s.on) s.stands nexts)
+
+  module _ (e : Entry) (nexts : Nexts now new (Ok (Some e))) where
+    number_is : e.number ≡ length s.items + 1
+    number_is = (Nexts-counted start s.items now new e nexts).continues.number_is ∙ ap (λ n. n + 1) count_is
+
+    -- the next entry was shown
+    pub showed_more : (w2 : Option (List ℕ)) (form : List ℕ) → IsCanonOf e.action e.bytes.items form → Appends w w2 (shown_entry e.number (item e) form) → Showed start new old w2
+    showed_more w2 form is appends = record {
+      times = s.times;
+      items = s.items ++ item e ∷ [];
+      text = s.text ++ shown_entry e.number (item e) form;
+      shown = AreShown-push 0 s.items s.text (item e) form e.number (omega (arith, number_is)) s.shown is;
+      appends = Appends-trans old w w2 s.text (shown_entry e.number (item e) form) s.appends appends;
+      on = (Nexts-counted start s.items now new e nexts).on;
+      times_are = Nexts-times now new (Ok (Some e)) s.times s.on s.times_are nexts;
+      stands = Stands-gives start s.items now new e s.stands nexts;
+    }
+
+    -- the next entry's message has a fault
+    pub showed_fault : (w2 : Option (List ℕ)) (fault : Fault) → has_message e.action ≡ true → Says e.bytes.items (stops fault) → Appends w w2 (last_text (Malformed e.number fault) ++ line_feed ∷ []) → Answers start old w2 (Malformed e.number fault)
+    showed_fault w2 fault some is last =
+        let counted = Nexts-counted start s.items now new e nexts in
+        let whole = Stands-log start (s.items ++ item e ∷ []) new counted.on (Stands-gives start s.items now new e s.stands nexts) in
+        let times = Nexts-times now new (Ok (Some e)) s.times s.on s.times_are nexts in
+        IfSome-map start (λ input. IfSome new.times (λ q. (more : List Item) × (end : LogEnd) × LogSays input q ((s.items ++ item e ∷ []) ++ more) end))
+        (λ input. (text : List ℕ) × IsShownOf input text (Malformed e.number fault) × Appends old w2 text) (λ input found.
+        let l = subst (λ t. IfSome t (λ q. (more : List Item) × (end : LogEnd) × LogSays input q ((s.items ++ item e ∷ []) ++ more) end)) times found in (
+          s.text ++ (last_text (Malformed e.number fault) ++ line_feed ∷ []),
+          inr (record {
+            times = s.times;
+            items = s.items;
+            rest = item e ∷ l.0;
+            end = l.1;
+            log = subst (λ all. LogSays input s.times all l.1) (append_assoc s.items (item e ∷ []) l.0) l.2;
+            front = s.text;
+            entries = s.shown;
+            ends = (fault, some, is, ap (λ n. Malformed n fault) number_is);
+            whole = refl;
+          }),
+          Appends-trans old w w2 s.text (last_text (Malformed e.number fault) ++ line_feed ∷ []) s.appends last,
+        )) whole

@@ -1,0 +1,6 @@
+use Rattle.std.proofs.Common.{[]}
+use Rattle.sip_verdict.proofs.surveys.PartLogs.{part_cut}
+use Rattle.sip_verdict.proofs.survey_laws.the_log_of_a_part_is_cut_by_branch.Goals as goal
+
+pub returns : goal.returns
+returns c = λ part items cuts es seen are. part_cut part [] items cuts es seen are

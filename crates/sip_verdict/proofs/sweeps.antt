@@ -1,0 +1,5 @@
+pub mod FollowedLemmas
+pub mod NamedLemmas
+pub mod SweptBook
+pub mod SweptSets
+pub mod SweptTables

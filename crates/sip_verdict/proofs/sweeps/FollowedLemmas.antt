@@ -1,0 +1,160 @@
+-- Messages and sets that follow entries, with one entry more, and after a sweep.
+use Rattle.std.proofs.Common.{◌≡◌, ◌<◌, ◌≤◌, ◌+◌, ◌∙◌, ℕ, zero, suc, Option, Some, None, MatchOption, List, [], ◌∷◌, ◌++◌, AllPairs, length, get_or, refl, sym, ap, subst, append_assoc, arith}
+use Rattle.std.proofs.lemmas.List.{append-nil}
+use Rattle.std.proofs.lemmas.List.Elements.{Contains-get_or}
+use Rattle.std.proofs.lemmas.Slice.Zip.{firsts-zip}
+use Rattle.sip_key.specs.declared.role.Direction.{Direction}
+use Rattle.sip_key.specs.Key.{KeyParts}
+use Rattle.sip_standard.specs.Times.{Times}
+use Rattle.sip_machine.specs.Texts.{Texts, IsBook, Keeps}
+use Rattle.sip_states.specs.KeyMachine.{machine_of_key}
+use Rattle.sip_states.specs.Tables.{Tabled}
+use Rattle.sip_states.proofs.lists.Listed.{Contains-none, Contains-map}
+use Rattle.sip_standard.specs.LogEntry.{Item}
+use Rattle.sip_verdict.specs.declared.verdict.Verdict.{Verdict}
+use Rattle.sip_verdict.specs.Keyed.{Observation, Machines, keys_of, newest_moment}
+use Rattle.sip_standard.specs.declared.action.Action.{Action}
+use Rattle.sip_standard.specs.declared.action.Action.TheVariants.{Sent, Received, Failed, Mark, Restart}
+use Rattle.sip_verdict.specs.VerdictOf.{keys_in}
+use Rattle.sip_verdict.specs.MessageReading.{key_machines, silent_observation, message_reading, ObservesMessage, direction_of, has_fault, has_no_cookie, is_heard}
+use Rattle.sip_verdict.specs.Named.{IsNamed, AreMany, WereNamed, key_messages}
+use Rattle.sip_verdict.specs.Judging.{AreFollowed}
+use Rattle.sip_verdict.specs.inner.Sweeping.{AreFollowedOn}
+use Rattle.sip_verdict.specs.inner.Tracking.{Tracks, IsJudged}
+use Rattle.sip_verdict.specs.inner.TablesTracking.{key_keeping, transactions_of, TablesTrack, MayPass, AllAreOnRecord, MayTake}
+use Rattle.sip_verdict.proofs.keys.Keys.{newest_moment-push}
+use Rattle.sip_verdict.proofs.tables.TrackingLemmas.{tracks_none}
+use Rattle.sip_verdict.proofs.tables.NamedTables.{no_events_silent}
+
+-- How many messages a book keeps.
+
+-- the numbers of a book are not below their places
+not_below : (texts : Texts) → AllPairs (λ a b. a.0 < b.0) texts → (d : ℕ × List ℕ) (i : ℕ) → i < length texts → i ≤ (get_or texts i d).0
+not_below texts rising d zero low = omega arith
+not_below texts rising d (suc i) low =
+    let before = not_below texts rising d i (omega (arith, low)) in
+    let more = rising i (suc i) d (omega arith) low in
+    omega (arith, before, more)
+
+-- so it keeps at most so many messages with numbers below this one
+pub book_few : (texts : Texts) → IsBook texts → (number : ℕ) → ((n : ℕ) → Keeps texts n → n < number) → length texts ≤ number
+book_few texts book number below = go (length texts) refl
+  where
+    go : (count : ℕ) → length texts ≡ count → length texts ≤ number
+    go zero size = omega (arith, size)
+    go (suc last) size =
+        let low : last < length texts = omega (arith, size) in
+        let kept = get_or texts last (0, []) in
+        let high = not_below texts book.rising (0, []) last low in
+        let under = below kept.0 (Contains-map (λ k. k.0) texts kept (Contains-get_or texts last (0, []) low)) in
+        omega (arith, size, high, under)
+
+-- What was named.
+
+-- so many were named after the entries
+pub now_named : {K : Type 0} (m : Machines K) (messages : (key : K) → m.State key → List (List ℕ)) (es : List (Observation K)) (count : ℕ) → AreMany (IsNamed m messages es) count → WereNamed m messages es count
+now_named m messages es count many = record { front = es; rest = []; whole = sym (append-nil es); many = many }
+
+-- or before one more
+more_named : {K : Type 0} (m : Machines K) (messages : (key : K) → m.State key → List (List ℕ)) (es : List (Observation K)) (e : Observation K) (count : ℕ) → WereNamed m messages es count
+    → WereNamed m messages (es ++ e ∷ []) count
+more_named m messages es e count w = record { front = w.front; rest = w.rest ++ e ∷ []; whole = ap (λ xs. xs ++ e ∷ []) w.whole ∙ append_assoc w.front w.rest (e ∷ []); many = w.many }
+
+-- no message is named before the first entry
+none_named : (p : Times) → AreMany (IsNamed (key_machines p) (key_messages p) []) 0
+none_named p = record {
+  texts = [];
+  distinct = λ i j d lt low. absurd (omega (arith, low));
+  just = λ text. (λ h. absurd (Contains-none text h), λ h. absurd (no_events_silent p 0 (machine_of_key p.rules h.key) [] text refl (h.state, h.stands, h.names)));
+  counts = refl;
+}
+
+-- What is observed of an entry has its moment.
+
+heard_moment : (direction : Direction) (i : Item) (e : Observation KeyParts) → ObservesMessage direction i e → e.event.moment ≡ i.moment
+heard_moment direction i e (has_fault fault has is) = ap (λ x. x.event.moment) is
+heard_moment direction i e (has_no_cookie r reads lacks is) = ap (λ x. x.event.moment) is
+heard_moment direction i e (is_heard r keys reads fine concerns is) = ap (λ x. x.event.moment) is
+
+silent_moment : (a : Action) (moment : ℕ) (keys : List KeyParts) → (silent_observation a moment keys).event.moment ≡ moment
+silent_moment Sent moment keys = refl
+silent_moment Received moment keys = refl
+silent_moment Failed moment keys = refl
+silent_moment Mark moment keys = refl
+silent_moment Restart moment keys = refl
+
+moment_going : (direction : Option Direction) (i : Item) (keys : List KeyParts) (e : Observation KeyParts) → MatchOption direction (e ≡ silent_observation i.action i.moment keys) (λ way. ObservesMessage way i e)
+    → e.event.moment ≡ i.moment
+moment_going None i keys e seen = ap (λ x. x.event.moment) seen ∙ silent_moment i.action i.moment keys
+moment_going (Some direction) i keys e seen = heard_moment direction i e seen
+
+pub observed_moment : (es : List (Observation KeyParts)) (i : Item) (e : Observation KeyParts) → message_reading.Observes es i e → newest_moment (es ++ e ∷ []) ≡ i.moment
+observed_moment es i e seen = newest_moment-push es e ∙ moment_going (direction_of i.action) i (keys_in es) e seen
+
+-- What follows the entries.
+
+-- nothing follows none
+pub followed_none : (p : Times) (texts : Texts) (t : Tabled) → texts ≡ [] → t ≡ record { times = p; keys = []; sets = []; records = [] } → AreFollowed texts t 0 []
+followed_none p texts t none empty =
+    subst (λ b. AreFollowed b t 0 []) (sym none) (subst (λ u. AreFollowed [] u 0 []) (sym empty) (record {
+      tracks = tracks_none (key_machines p) (key_keeping [] p);
+      named = now_named (key_machines p) (key_messages p) [] 0 (none_named p);
+      few = omega arith;
+    }))
+
+-- there are as many transactions as keys of the entries
+pub followed_keys : (texts : Texts) (t : Tabled) (es : List (Observation KeyParts)) → length t.sets ≡ length t.keys → TablesTrack texts es t → length t.keys ≡ length (keys_of (key_machines t.times) es)
+followed_keys texts t es long tracks = ap length (sym (firsts-zip t.keys t.sets long) ∙ tracks.keys)
+
+module _ (old mid : Texts) (t u : Tabled) (times : u.times ≡ t.times) (number : ℕ) (i : Item) where
+  -- what was judged of an entry after those that old and t follow
+  abbrev Says : Option Verdict → Type 0
+  Says verdict = (es : List (Observation KeyParts)) → TablesTrack old es t → number ≡ length es + 1 → newest_moment es ≤ i.moment
+      → (e : Observation KeyParts) × message_reading.Observes es i e × IsJudged (key_machines t.times) (key_keeping mid t.times) es e (transactions_of u) verdict
+
+  tracks_on : (es : List (Observation KeyParts)) (e : Observation KeyParts) → IsJudged (key_machines t.times) (key_keeping mid t.times) es e (transactions_of u) None → TablesTrack mid (es ++ e ∷ []) u
+  tracks_on es e judged = subst (λ p. Tracks (key_machines p) (key_keeping mid p) (es ++ e ∷ []) (transactions_of u)) (sym times) judged.0
+
+  -- it is not, and few messages are kept
+  pub followed_kept : Says None → (left : ℕ) → length mid ≤ left + left + 64 → (es : List (Observation KeyParts)) → AreFollowed old t left es → number ≡ length es + 1 → newest_moment es ≤ i.moment
+      → (e : Observation KeyParts) × message_reading.Observes es i e × AreFollowedOn mid u left es e None
+  followed_kept says left few es follows counts order =
+      let h = says es follows.tracks counts order in (
+        h.0,
+        h.1,
+        record {
+          tracks = tracks_on es h.0 h.2;
+          named = subst (λ p. WereNamed (key_machines p) (key_messages p) (es ++ h.0 ∷ []) left) (sym times) (more_named (key_machines t.times) (key_messages t.times) es h.0 left follows.named);
+          few = few;
+        },
+      )
+
+  -- it is not, and messages were forgotten
+  pub followed_swept : Says None → (texts : Texts) (v : Tabled) → v.times ≡ u.times → ((es : List (Observation KeyParts)) → TablesTrack mid es u → TablesTrack texts es v)
+      → ((es : List (Observation KeyParts)) → TablesTrack mid es u → newest_moment es ≡ i.moment → AreMany (IsNamed (key_machines u.times) (key_messages u.times) es) (length texts))
+      → (now : ℕ) → now ≡ length texts → (left : ℕ) (es : List (Observation KeyParts)) → AreFollowed old t left es → number ≡ length es + 1 → newest_moment es ≤ i.moment
+      → (e : Observation KeyParts) × message_reading.Observes es i e × AreFollowedOn texts v now es e None
+  followed_swept says texts v same tracks named now is left es follows counts order =
+      let h = says es follows.tracks counts order in
+      let on = tracks_on es h.0 h.2 in
+      let many = named (es ++ h.0 ∷ []) on (observed_moment es i h.0 h.1) in (
+        h.0,
+        h.1,
+        record {
+          tracks = tracks (es ++ h.0 ∷ []) on;
+          named = subst (λ n. WereNamed (key_machines v.times) (key_messages v.times) (es ++ h.0 ∷ []) n) (sym is)
+              (subst (λ p. WereNamed (key_machines p) (key_messages p) (es ++ h.0 ∷ []) (length texts)) (sym same) (now_named (key_machines u.times) (key_messages u.times) (es ++ h.0 ∷ []) (length texts) many));
+          few = omega (arith, is);
+        },
+      )
+
+-- an entry may come next where messages were forgotten
+pub swept_take : (old texts : Texts) (t u : Tabled) (number moment : ℕ) → MayTake old t number moment → MayPass texts u moment → AllAreOnRecord u → ((n : ℕ) → Keeps texts n → Keeps old n) → u.keys ≡ t.keys
+    → MayTake texts u number moment
+swept_take old texts t u number moment may passes recorded fewer keys = record {
+  passes = passes;
+  recorded = recorded;
+  numbered = λ n keeps. may.numbered n (fewer n keeps);
+  some = λ n keeps. may.some n (fewer n keeps);
+  few = subst (λ ks. length ks + 2 ≤ number + number) (sym keys) may.few;
+}

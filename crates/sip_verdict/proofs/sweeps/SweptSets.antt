@@ -1,0 +1,149 @@
+-- A sweep: sets wait, and the book keeps what they name. They still lead to the same runs, and their last moments stay.
+use Rattle.std.proofs.Common.{◌≡◌, ◌≤◌, ◌<◌, ◌↔◌, ◌⊎◌, inl, inr, ℕ, Option, List, All, AllPairs, Contains, map, get_or, refl, sym, ap, ◌∙◌, subst, arith}
+use Rattle.std.specs.List.{flat_map}
+use Rattle.std.proofs.lemmas.List.Elements.{Contains-get_or}
+use Rattle.sip_standard.specs.Times.{Times}
+use Rattle.sip_machine.specs.Texts.{Texts, IsBook, Keeps, text_of}
+use Rattle.sip_machine.specs.Retained.{only}
+use Rattle.sip_machine.specs.MachineEvent.{MachineEvent}
+use Rattle.sip_machine.specs.Limits.{IsWithin, IsOpenAt}
+use Rattle.sip_machine.specs.Rules.{Rules, IsLawful, StandFor}
+use Rattle.sip_machine.specs.inner.OwingLaws.{window_same, until_same}
+use Rattle.sip_machine.proofs.texts.RetainLemmas.{only-Keeps, text_of-only}
+use Rattle.sip_states.specs.Runs.{Wait, IsAgenda}
+use Rattle.sip_states.specs.KeyMachine.{MachineKind, transaction_of, coded_of, coded_holds, StateOf}
+use Rattle.sip_states.specs.Meaning.{IsKnown, HasWaited, HasAgenda}
+use Rattle.sip_states.specs.AnySet.{meaning_of, moment_of, SetWaits, IsKnownSet, IsAgendaOf}
+use Rattle.sip_states.specs.Sweep.{numbers_of, IsAdvanced}
+use Rattle.sip_states.specs.declared.any_set.AnySet.{AnySet}
+use Rattle.sip_states.proofs.lists.Listed.{Contains-map, Contains-from_map}
+use Rattle.sip_states.proofs.sets.Waiting.{StaysFrom, EndsFrom, Wait-cases, Wait-stay, Wait-end, Wait-iff}
+use Rattle.sip_states.proofs.lists.Twice.{Wait-twice}
+use Rattle.sip_verdict.specs.inner.Leads.{Leads}
+use Rattle.sip_verdict.specs.inner.TablesTracking.{LeadsOf}
+use Rattle.sip_verdict.proofs.keys.Leading.{iff_trans, Leads-book}
+use Rattle.sip_states.proofs.keyed.ByMachine.{some_machine, lawful_of, moment_is, numbers_are, of_set, to_set, of_sets, seen_by_names_of}
+use Rattle.sip_verdict.proofs.sweeps.NamedLemmas.{Contains-flat_map}
+
+-- once a set that leads has waited, it leads
+pub waited_leads : {X S : Type 0} (names : S → List ℕ) (InRange : S → Type 0) (seen : Texts → S → X) (texts : Texts) (r : Rules X) → IsLawful r → (events : List MachineEvent) (from at moment : ℕ) (old new : List S) → at ≤ moment
+    → Leads names seen texts r events from at old → StandFor names InRange seen texts (Wait r (Contains (map (seen texts) old)) at moment) new → Leads names seen texts r events from moment new
+waited_leads names InRange seen texts r lawful events from at moment old new low leads stand = record {
+  known = stand.known;
+  runs = λ n x late later.
+      iff_trans (Wait-iff r (Contains (map (seen texts) new)) (Wait r (Contains (map (seen texts) old)) at moment) stand.members moment n x)
+      (iff_trans (Wait-twice r lawful (Contains (map (seen texts) old)) at moment n low later x) (leads.runs n x late (omega (arith, low, later))));
+}
+
+-- and beside a book that keeps what it names
+pub kept_leads : {X S : Type 0} (names : S → List ℕ) (seen : Texts → S → X) → ((a b : Texts) (x : S) → ((n : ℕ) → Contains (names x) n → text_of a n ≡ text_of b n) → seen a x ≡ seen b x)
+    → (texts : Texts) (numbers : List ℕ) → IsBook texts → AllPairs (λ a b. a < b) numbers → All (Keeps texts) numbers → (r : Rules X) (events : List MachineEvent) (from moment : ℕ) (states : List S)
+    → ((n : ℕ) → Contains (flat_map names states) n → Contains numbers n) → Leads names seen texts r events from moment states → Leads names seen (only numbers texts) r events from moment states
+kept_leads names seen by_names texts numbers book up kept r events from moment states within leads =
+    Leads-book names seen by_names texts (only numbers texts) r events from moment states
+    (λ k d low n has.
+    (let among : Contains numbers n = within n (Contains-flat_map names states (get_or states k d) n (Contains-get_or states k d low) has) in
+    (only-Keeps texts numbers book up kept n among, sym (text_of-only texts numbers book up kept n among)))) leads
+
+module _ (texts : Texts) (numbers : List ℕ) (book : IsBook texts) (up : AllPairs (λ a b. a < b) numbers) (kept : All (Keeps texts) numbers) (p : Times) (machine : MachineKind) (events : List MachineEvent) (from : ℕ) where
+  -- the set of a key, of the tables
+  pub swept_leads : (moment : ℕ) (old new : AnySet) → moment_of old ≤ moment → IsAdvanced moment old new → ((n : ℕ) → Contains (numbers_of new) n → Contains numbers n)
+      → LeadsOf texts p machine events from old → LeadsOf (only numbers texts) p machine events from new
+  swept_leads moment old new low (inl waits) within (s, is, leads) =
+      let m = meaning_of machine in
+      let (t, new_is, waited) = of_sets (λ X M S m s u. HasWaited m moment s u) machine s new (subst (λ o. SetWaits moment o new) is waits) in
+      let not_later : s.moment ≤ moment = subst (λ n. n ≤ moment) (ap moment_of is ∙ moment_is machine s) low in
+      let stand = subst (λ q. StandFor m.names m.in_range m.seen texts (Wait (m.rules q) (Contains (map (m.seen texts) s.states)) s.moment moment) t.states) leads.machine_is (waited.states texts book leads.leads.known) in
+      let leads_on = waited_leads m.names m.in_range m.seen texts (m.rules p) (lawful_of machine p) events from s.moment moment s.states t.states not_later leads.leads stand in
+      let here = subst (λ n. Leads m.names m.seen texts (m.rules p) events from n t.states) (sym waited.at) leads_on in (
+        t,
+        new_is,
+        record {
+          machine_is = waited.machine ∙ leads.machine_is;
+          leads = kept_leads m.names m.seen (seen_by_names_of machine) texts numbers book up kept (m.rules p) events from t.moment t.states
+              (λ n has. within n (subst (λ ns. Contains ns n) (sym (ap numbers_of new_is ∙ numbers_are machine t)) has)) here;
+        },
+      )
+  swept_leads moment old new low (inr (same, silent)) within (s, is, leads) =
+      let m = meaning_of machine in (
+        s,
+        same ∙ is,
+        record {
+          machine_is = leads.machine_is;
+          leads = kept_leads m.names m.seen (seen_by_names_of machine) texts numbers book up kept (m.rules p) events from s.moment s.states
+              (λ n has. within n (subst (λ ns. Contains ns n) (sym (ap numbers_of (same ∙ is) ∙ numbers_are machine s)) has)) leads.leads;
+        },
+      )
+
+-- Until when a wait lasts does not depend on the book.
+
+module _ {X S : Type 0} (seen : Texts → S → X) (r : Rules X) (lawful : IsLawful r) (window_same : (a b : Texts) (x : S) → r.window (seen a x) ≡ r.window (seen b x))
+    (until_same : (a b : Texts) (x : S) → r.until (seen a x) ≡ r.until (seen b x)) where
+  some_wait : (a b : Texts) (states : List S) (h m : ℕ) → ((y : X) × Wait r (Contains (map (seen a) states)) h m y) → (y : X) × Wait r (Contains (map (seen b) states)) h m y
+  some_wait a b states h m (y, wait) = go ((Wait-cases r lawful (Contains (map (seen a) states)) h m y).0 wait)
+    where
+      go : StaysFrom r (Contains (map (seen a) states)) h m y ⊎ EndsFrom r (Contains (map (seen a) states)) h m y → (y : X) × Wait r (Contains (map (seen b) states)) h m y
+      go (inl stays) =
+          let (x, among, is) = Contains-from_map (seen a) states y stays.among in (
+            seen b x,
+            Wait-stay r (Contains (map (seen b) states)) h m (seen b x) (record {
+              among = Contains-map (seen b) states x among;
+              reached = stays.reached;
+              waits = subst (IsWithin m) (ap r.until (sym is) ∙ until_same a b x) stays.waits;
+            }),
+          )
+      go (inr ends) =
+          let (x, among, is) = Contains-from_map (seen a) states ends.start ends.among in (
+            r.ended,
+            Wait-end r lawful (Contains (map (seen b) states)) h m r.ended (record {
+              start = seen b x;
+              among = Contains-map (seen b) states x among;
+              at = ends.at;
+              after = ends.after;
+              before = ends.before;
+              hides = record {
+                opened = subst (IsOpenAt ends.at) (ap r.window (sym is) ∙ window_same a b x) ends.hides.opened;
+                waited = subst (IsWithin ends.at) (ap r.until (sym is) ∙ until_same a b x) ends.hides.waited;
+                gives = refl;
+              };
+            }),
+          )
+
+  pub agenda_any : (a b : Texts) (states : List S) (h : ℕ) (limit : Option ℕ) → IsAgenda r (Contains (map (seen a) states)) h limit → IsAgenda r (Contains (map (seen b) states)) h limit
+  agenda_any a b states h limit agenda m low = (λ some. (agenda m low).0 (some_wait b a states h m some), λ within. some_wait a b states h m ((agenda m low).1 within))
+
+-- a wait lasts as long after a wait
+pub agenda_waited : {X S : Type 0} (names : S → List ℕ) (InRange : S → Type 0) (seen : Texts → S → X) (texts : Texts) (r : Rules X) → IsLawful r → (at moment : ℕ) (old new : List S) → at ≤ moment
+    → StandFor names InRange seen texts (Wait r (Contains (map (seen texts) old)) at moment) new → (limit : Option ℕ) → IsAgenda r (Contains (map (seen texts) old)) at limit
+    → IsAgenda r (Contains (map (seen texts) new)) moment limit
+agenda_waited {X} names InRange seen texts r lawful at moment old new low stand limit agenda n later =
+    let same : (x : X) → Wait r (Contains (map (seen texts) new)) moment n x ↔ Wait r (Contains (map (seen texts) old)) at n x = λ x.
+    iff_trans (Wait-iff r (Contains (map (seen texts) new)) (Wait r (Contains (map (seen texts) old)) at moment) stand.members moment n x) (Wait-twice r lawful (Contains (map (seen texts) old)) at moment n low later x) in
+    let lasts = agenda n (omega (arith, low, later)) in
+    (λ some. lasts.0 (some.0, (same some.0).0 some.1), λ within. let some = lasts.1 within in (some.0, (same some.0).1 some.1))
+
+-- the timers of a state do not depend on it
+window_of : (machine : MachineKind) (p : Times) (a b : Texts) (x : StateOf machine) → ((meaning_of machine).rules p).window ((meaning_of machine).seen a x) ≡ ((meaning_of machine).rules p).window ((meaning_of machine).seen b x)
+window_of machine p a b x = window_same (transaction_of machine).figure (coded_of machine).seen a b p x ((coded_holds machine).window_same a b p x.phase)
+
+until_of : (machine : MachineKind) (p : Times) (a b : Texts) (x : StateOf machine) → ((meaning_of machine).rules p).until ((meaning_of machine).seen a x) ≡ ((meaning_of machine).rules p).until ((meaning_of machine).seen b x)
+until_of machine p a b x = until_same (transaction_of machine).figure (coded_of machine).seen a b p x ((coded_holds machine).closes_same a b p x.phase)
+
+-- so the last moment on record stays that of the set
+pub swept_agenda : (texts : Texts) → IsBook texts → (moment : ℕ) (old new : AnySet) → moment_of old ≤ moment → IsAdvanced moment old new
+    → IsKnownSet texts old → (limit : Option ℕ) → IsAgendaOf limit old → IsAgendaOf limit new
+swept_agenda texts book moment old new low (inr (same, silent)) known limit agenda = subst (IsAgendaOf limit) (sym same) agenda
+swept_agenda texts book moment old new low (inl waits) known limit agenda =
+    let (machine, s, is) = some_machine old in
+    let m = meaning_of machine in
+    let known_s = of_set (λ X M S m s. IsKnown m texts s) machine s (subst (IsKnownSet texts) is known) in
+    let (t, new_is, waited) = of_sets (λ X M S m s u. HasWaited m moment s u) machine s new (subst (λ o. SetWaits moment o new) is waits) in
+    let not_later : s.moment ≤ moment = subst (λ n. n ≤ moment) (ap moment_of is ∙ moment_is machine s) low in
+    let r = m.rules s.machine in
+    let stand = waited.states texts book known_s in
+    let was : IsAgenda r (Contains (map (m.seen texts) s.states)) s.moment limit = of_set (λ X M S m s. HasAgenda m limit s) machine s (subst (IsAgendaOf limit) is agenda) texts in
+    let now : IsAgenda r (Contains (map (m.seen texts) t.states)) moment limit = agenda_waited m.names m.in_range m.seen texts r (lawful_of machine s.machine) s.moment moment s.states t.states not_later stand limit was in
+    subst (IsAgendaOf limit) (sym new_is) (to_set (λ X M S m s. HasAgenda m limit s) machine t (λ other.
+    subst (λ q. IsAgenda (m.rules q) (Contains (map (m.seen other) t.states)) t.moment limit) (sym waited.machine)
+    (subst (λ n. IsAgenda r (Contains (map (m.seen other) t.states)) n limit) (sym waited.at)
+    (agenda_any m.seen r (lawful_of machine s.machine) (window_of machine s.machine) (until_of machine s.machine) texts other t.states moment limit now))))

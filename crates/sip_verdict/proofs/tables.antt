@@ -1,0 +1,6 @@
+pub mod Halfway
+pub mod JudgeTables
+pub mod NamedTables
+pub mod TablesPassing
+pub mod TablesTouching
+pub mod TrackingLemmas

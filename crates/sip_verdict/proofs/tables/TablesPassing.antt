@@ -1,0 +1,233 @@
+-- The sets of the tables hear the event of an entry, one after another.
+use Rattle.std.proofs.Common.{◌≡◌, ◌≢◌, ◌<◌, ◌+◌, ◌-◌, ◌⊎◌, ◌||◌, inl, inr, ℕ, zero, suc, Bool, true, false, nat_eq, Option, Some, None, List, [], ◌∷◌, ◌++◌, All, AllPairs, Contains, map, length, set, slice_get, refl, sym, ap, ◌∙◌, subst, arith}
+use Rattle.std.specs.List.{zip}
+use Rattle.std.specs.Cmp.{unsigned_Decides}
+use Rattle.std.proofs.lemmas.Bool.{false≢true}
+use Rattle.std.proofs.lemmas.List.{length-set}
+use Rattle.std.proofs.lemmas.List.Elements.{All-head, All-tail, All-weaker}
+use Rattle.std.proofs.lemmas.List.Folds.{list_any_none}
+use Rattle.std.proofs.lemmas.Option.{slice_get_within, get_or_from_slice_get}
+use Rattle.std.proofs.lemmas.Slice.Zip.{firsts-zip}
+use Rattle.sip_machine.specs.Texts.{Texts}
+use Rattle.sip_machine.specs.NumberedEvent.{NumberedEvent}
+use Rattle.sip_states.specs.AnySet.{IsAgendaOf}
+use Rattle.sip_states.specs.Tables.{Tabled, IsGiven, Settles, with_set}
+use Rattle.sip_states.specs.declared.any_set.AnySet.{AnySet}
+use Rattle.sip_verdict.specs.declared.passing.Fate.{Fate}
+use Rattle.sip_verdict.specs.declared.passing.Fate.TheVariants.{Runs, NoRun, TooWide}
+use Rattle.sip_verdict.specs.declared.passing.Outcome.{Outcome}
+use Rattle.sip_verdict.specs.declared.passing.Outcome.TheVariants as all
+use Rattle.sip_verdict.specs.inner.Tracking.{outcome_of, first_of}
+use Rattle.sip_verdict.specs.inner.TablesTracking.{transactions_of, is_among, IsOnRecord, AreOnRecord, AllAreOnRecord, AreOnRecordIf, Leaves, Hears, HearsOne, HearsEach, AreHearers}
+use Rattle.sip_states.specs.Restarting.{AreToRestart}
+use Rattle.sip_states.proofs.lists.Listed.{Contains-none, Contains-cons}
+use Rattle.sip_verdict.specs.declared.concerned.Concerned.{Concerned}
+use Rattle.sip_verdict.specs.declared.concerned.Concerned.TheVariants as concerned
+use Rattle.sip_verdict.specs.inner.Concerned.{each, is_all}
+use Rattle.sip_verdict.proofs.verdicts.Outcomes.{both_fine}
+
+-- a list has an element at each place
+pub at_place : {A : Type 0} (xs : List A) (n : ℕ) → n < length xs → (x : A) × (slice_get xs n ≡ Some x)
+at_place [] n low = absurd (omega arith)
+at_place (x ∷ xs) zero low = (x, refl)
+at_place (x ∷ xs) (suc n) low = at_place xs n (omega arith)
+
+-- what holds of each element holds of the one at a place
+pub All-place : {A : Type 0} (P : A → Type 0) (xs : List A) (n : ℕ) (x : A) → slice_get xs n ≡ Some x → All P xs → P x
+All-place P xs n x at all = subst P (get_or_from_slice_get xs n x x at) (all n x (slice_get_within xs n x at))
+
+-- and what holds of the one at each place holds of all
+pub All-places : {A : Type 0} (P : A → Type 0) (xs : List A) → ((n : ℕ) (x : A) → slice_get xs n ≡ Some x → P x) → All P xs
+All-places P xs each n d low = let x = at_place xs n low in subst P (sym (get_or_from_slice_get xs n x.0 d x.1)) (each n x.0 x.1)
+
+-- lists side by side at a place
+pub zip-place : {A B : Type 0} (xs : List A) (ys : List B) (n : ℕ) (x : A) (y : B) → slice_get xs n ≡ Some x → slice_get ys n ≡ Some y → slice_get (zip xs ys) n ≡ Some (x, y)
+zip-place [] ys n x y a b = absurd cc
+zip-place (u ∷ xs) [] n x y a b = absurd cc
+zip-place (u ∷ xs) (v ∷ ys) zero x y a b = cc
+zip-place (u ∷ xs) (v ∷ ys) (suc n) x y a b = zip-place xs ys n x y a b
+
+pub place-zip : {A B : Type 0} (xs : List A) (ys : List B) (n : ℕ) (z : A × B) → slice_get (zip xs ys) n ≡ Some z → (slice_get xs n ≡ Some z.0) × (slice_get ys n ≡ Some z.1)
+place-zip [] ys n z at = absurd cc
+place-zip (u ∷ xs) [] n z at = absurd cc
+place-zip (u ∷ xs) (v ∷ ys) zero z at = let same : (u, v) ≡ z = cc in (ap (λ w. Some w.0) same, ap (λ w. Some w.1) same)
+place-zip (u ∷ xs) (v ∷ ys) (suc n) z at = place-zip xs ys n z at
+
+-- the element at a place, where another was put at one
+pub set-place : {A : Type 0} (xs : List A) (i n : ℕ) (a x : A) → slice_get (set xs i a) n ≡ Some x → ((n ≡ i) × (a ≡ x)) ⊎ ((n ≢ i) × (slice_get xs n ≡ Some x))
+set-place [] i n a x at = absurd cc
+set-place (u ∷ xs) zero zero a x at = inl (refl, cc)
+set-place (u ∷ xs) zero (suc n) a x at = inr (λ same. omega (arith, same), at)
+set-place (u ∷ xs) (suc i) zero a x at = inr (λ same. omega (arith, same), at)
+set-place (u ∷ xs) (suc i) (suc n) a x at =
+    elim (set-place xs i n a x at) [ inl h ↦ inl (ap suc h.0, h.1) | inr h ↦ inr (λ same. h.0 (omega (arith, same)), h.1) ]
+
+-- each transaction's key
+pub keys_are : (t : Tabled) → length t.sets ≡ length t.keys → map (λ x. x.0) (transactions_of t) ≡ t.keys
+keys_are t long = firsts-zip t.keys t.sets long
+
+-- a number that is this one or among these
+pub among_one : (n number : ℕ) (ns : List ℕ) → is_among (number ∷ ns) n ≡ true → n ≢ number → is_among ns n ≡ true
+among_one n number ns h differ = go (nat_eq n number) refl
+  where
+    go : (b : Bool) → nat_eq n number ≡ b → is_among ns n ≡ true
+    go true same = absurd (differ ((unsigned_Decides n number).0 same))
+    go false same = sym (ap (λ b. b || is_among ns n) same) ∙ h
+
+-- and one that is not
+pub among_not : (n number : ℕ) (ns : List ℕ) → is_among ns n ≡ false → (is_among (number ∷ ns) n ≡ false) ⊎ (n ≡ number)
+among_not n number ns h = go (nat_eq n number) refl
+  where
+    go : (b : Bool) → nat_eq n number ≡ b → (is_among (number ∷ ns) n ≡ false) ⊎ (n ≡ number)
+    go true same = inr ((unsigned_Decides n number).0 same)
+    go false same = inl (ap (λ b. b || is_among ns n) same ∙ h)
+
+-- the first of these is among them, and so is each of the others
+pub among_first : (n number : ℕ) (ns : List ℕ) → n ≡ number → is_among (number ∷ ns) n ≡ true
+among_first n number ns same = ap (λ b. b || is_among ns n) ((unsigned_Decides n number).1 same)
+
+pub among_rest : (n number : ℕ) (ns : List ℕ) → is_among ns n ≡ true → is_among (number ∷ ns) n ≡ true
+among_rest n number ns h = go (nat_eq n number)
+  where
+    go : (b : Bool) → (b || is_among ns n) ≡ true
+    go true = refl
+    go false = h
+
+-- where all differ, the first is not among the others
+pub first_apart : (number : ℕ) (ns : List ℕ) → AllPairs (λ a b. a ≢ b) (number ∷ ns) → is_among ns number ≡ false
+first_apart number ns apart = list_any_none (nat_eq number) ns (λ k d low. differ _ (apart 0 (suc k) d (omega arith) (omega arith)))
+  where
+    differ : (n : ℕ) → number ≢ n → nat_eq number n ≡ false
+    differ n apart_from = go (nat_eq number n) refl
+      where
+        go : (b : Bool) → nat_eq number n ≡ b → b ≡ false
+        go true same = absurd (apart_from ((unsigned_Decides number n).0 same))
+        go false same = refl
+
+-- a set that has heard leaves the keys and the other sets as they were
+pub leaves_keys : (number : ℕ) (after : AnySet) (fate : Fate) (t u : Tabled) → Leaves number after fate t u → u.keys ≡ t.keys
+leaves_keys number after Runs t u h = ap (λ x. x.keys) h.2
+leaves_keys number after NoRun t u h = ap (λ x. x.keys) h
+leaves_keys number after TooWide t u h = ap (λ x. x.keys) h
+
+pub leaves_sets : (number : ℕ) (after : AnySet) (fate : Fate) (t u : Tabled) → Leaves number after fate t u → u.sets ≡ set t.sets (number - 1) after
+leaves_sets number after Runs t u h = ap (λ x. x.sets) h.2
+leaves_sets number after NoRun t u h = ap (λ x. x.sets) h
+leaves_sets number after TooWide t u h = ap (λ x. x.sets) h
+
+-- a set that was settled
+pub settles_leaves : (number : ℕ) (after : AnySet) (t u : Tabled) → Settles number (with_set t number after) u → Leaves number after Runs t u
+settles_leaves number after t u s = (s.limit, subst (IsAgendaOf s.limit) same s.agenda, s.recorded)
+  where
+    same : s.set ≡ after
+    same = elim (set-place t.sets (number - 1) (number - 1) after s.set s.at) [ inl h ↦ sym h.1 | inr h ↦ absurd (h.0 refl) ]
+
+-- a number that was given still is
+pub given_still : (number : ℕ) (t u : Tabled) → u.keys ≡ t.keys → IsGiven t number → IsGiven u number
+given_still number t u keys g = record { low = g.low; high = (let same = ap length keys in let high = g.high in omega arith) }
+
+-- once a set has heard its event and has a state, its last moment is on record
+module _ (t : Tabled) (number : ℕ) (ns : List ℕ) (low : 0 < number) (after : AnySet) (limit : Option ℕ) (agenda : IsAgendaOf limit after) (old : AreOnRecord (number ∷ ns) t) where
+  recorded_at : (n : ℕ) (s : AnySet) (r : Option (Option ℕ)) → slice_get (set t.sets (number - 1) after) n ≡ Some s → slice_get (set t.records (number - 1) (Some limit)) n ≡ Some r → IsOnRecord ns (n + 1) s r
+  recorded_at n s r at here = go (set-place t.sets (number - 1) n after s at) (set-place t.records (number - 1) n (Some limit) r here)
+    where
+      go : ((n ≡ number - 1) × (after ≡ s)) ⊎ ((n ≢ number - 1) × (slice_get t.sets n ≡ Some s)) → ((n ≡ number - 1) × (Some limit ≡ r)) ⊎ ((n ≢ number - 1) × (slice_get t.records n ≡ Some r))
+          → IsOnRecord ns (n + 1) s r
+      go (inl a) (inl b) = subst (IsOnRecord ns (n + 1) s) b.1 (subst (IsAgendaOf limit) a.1 agenda)
+      go (inl a) (inr b) = absurd (b.0 a.0)
+      go (inr a) (inl b) = absurd (a.0 b.0)
+      go (inr a) (inr b) = only r (old.each n s r a.1 b.1)
+        where
+          only : (x : Option (Option ℕ)) → IsOnRecord (number ∷ ns) (n + 1) s x → IsOnRecord ns (n + 1) s x
+          only None h = among_one (n + 1) number ns h (λ same. a.0 (omega (arith, same)))
+          only (Some l) h = h
+
+  pub settled : (u : Tabled) → u.keys ≡ t.keys → u.sets ≡ set t.sets (number - 1) after → u.records ≡ set t.records (number - 1) (Some limit) → AreOnRecord ns u
+  settled u keys sets records = record {
+    long = ap length records ∙ length-set t.records (number - 1) (Some limit) ∙ old.long ∙ ap length (sym keys);
+    each = λ n s r at here. recorded_at n s r (ap (λ xs. slice_get xs n) (sym sets) ∙ at) (ap (λ xs. slice_get xs n) (sym records) ∙ here);
+  }
+
+heard_record : (texts : Texts) (event : NumberedEvent) (number : ℕ) (ns : List ℕ) (t u : Tabled) (outcome : Outcome) → IsGiven t number → AreOnRecord (number ∷ ns) t → HearsOne texts event number t u outcome → outcome ≡ all.Fine
+    → AreOnRecord ns u
+heard_record texts event number ns t u outcome given old (fate, h, is) fine = go fate h (sym is ∙ fine)
+  where
+    go : (f : Fate) → Hears texts event number t u f → outcome_of number f ≡ all.Fine → AreOnRecord ns u
+    go Runs heard same =
+        let (limit, agenda, left) = heard.leaves in
+        settled t number ns given.low heard.after limit agenda old u (ap (λ x. x.keys) left) (ap (λ x. x.sets) left) (ap (λ x. x.records) left)
+    go NoRun heard same = absurd cc
+    go TooWide heard same = absurd cc
+
+-- a set that has heard leaves the numbers as they were given
+pub heard_given : (texts : Texts) (event : NumberedEvent) (number : ℕ) (t u : Tabled) (outcome : Outcome) → HearsOne texts event number t u outcome → (ns : List ℕ) → All (IsGiven t) ns → All (IsGiven u) ns
+heard_given texts event number t u outcome (fate, h, is) ns given =
+    let keys = leaves_keys number h.after fate t u h.leaves in
+    All-weaker (IsGiven t) (IsGiven u) (λ n g. given_still n t u keys g) ns given
+
+-- those before were fine where those after are
+each_fine : (texts : Texts) (event : NumberedEvent) (ns : List ℕ) (t u : Tabled) (before after : Outcome) → HearsEach texts event ns t before u after → after ≡ all.Fine → before ≡ all.Fine
+each_fine texts event [] t u before after h fine = sym h.1 ∙ fine
+each_fine texts event (n ∷ ns) t u before after (between, one, first, rest) fine = (both_fine before one (each_fine texts event ns between u (first_of before one) after rest fine)).0
+
+-- once each has heard its event and none is in trouble, all last moments are on record
+heard_records : (texts : Texts) (event : NumberedEvent) (ns : List ℕ) (t u : Tabled) (before after : Outcome) → All (IsGiven t) ns → AreOnRecord ns t → HearsEach texts event ns t before u after → after ≡ all.Fine → AllAreOnRecord u
+heard_records texts event [] t u before after given old h fine = subst AllAreOnRecord (sym h.0) old
+heard_records texts event (n ∷ ns) t u before after given old (between, one, first, rest) fine =
+    let one_fine = (both_fine before one (each_fine texts event ns between u (first_of before one) after rest fine)).1 in
+    heard_records texts event ns between u (first_of before one) after (heard_given texts event n t between one first ns (All-tail (IsGiven t) n ns given))
+    (heard_record texts event n ns t between one (All-head (IsGiven t) n ns given) old first one_fine) rest fine
+
+-- all are on record after an entry in no trouble
+pub on_record_if : (outcome : Outcome) (t : Tabled) → (outcome ≡ all.Fine → AllAreOnRecord t) → AreOnRecordIf outcome t
+on_record_if all.Fine t h = h refl
+on_record_if (all.NoRun number) t h = tt
+on_record_if (all.TooWide number) t h = tt
+
+pub heard_recorded : (texts : Texts) (event : NumberedEvent) (ns : List ℕ) (t u : Tabled) (before after : Outcome) → All (IsGiven t) ns → AreOnRecord ns t → HearsEach texts event ns t before u after → AreOnRecordIf after u
+heard_recorded texts event ns t u before after given old h = on_record_if after u (heard_records texts event ns t u before after given old h)
+
+-- Which sets hear an event.
+
+-- each last moment is on record, but those of sets that are still to hear it, also where more are to
+pub recorded_more : (few more : List ℕ) (t : Tabled) → ((n : ℕ) → is_among few n ≡ true → is_among more n ≡ true) → AreOnRecord few t → AreOnRecord more t
+recorded_more few more t among recorded = record { long = recorded.long; each = λ n set r at here. one n set r (recorded.each n set r at here) }
+  where
+    one : (n : ℕ) (set : AnySet) (r : Option (Option ℕ)) → IsOnRecord few (n + 1) set r → IsOnRecord more (n + 1) set r
+    one n set None h = among (n + 1) h
+    one n set (Some limit) h = h
+
+-- those that an event names, where it names them one by one
+pub named_hearers : (t : Tabled) (c : Concerned ℕ) → is_all c ≡ false → All (IsGiven t) (each c) → AllPairs (λ a b. a ≢ b) (each c) → AreHearers t c (each c)
+named_hearers t c some given apart = record {
+  given = given;
+  apart = apart;
+  named = λ n among. among;
+  heard = λ n among. ap (λ b. b || is_among (each c) n) some ∙ among;
+  others = λ all. absurd (false≢true (sym some ∙ all));
+}
+
+-- a number that is one of some is among them
+pub is_among-of : (ns : List ℕ) (n : ℕ) → Contains ns n → is_among ns n ≡ true
+is_among-of [] n has = absurd (Contains-none n has)
+is_among-of (m ∷ ns) n has = elim (Contains-cons m ns n has) [ inl same ↦ among_first n m ns (sym same) | inr rest ↦ among_rest n m ns (is_among-of ns n rest) ]
+
+-- those that a restart may change
+pub all_hearers : (t : Tabled) (numbers : List ℕ) → AreToRestart t numbers → AreHearers t concerned.All numbers
+all_hearers t numbers are = record {
+  given = are.given;
+  apart = are.apart;
+  named = λ n among. absurd (false≢true among);
+  heard = λ n among. refl;
+  others = λ all n set at none. are.others n set at (λ has. false≢true (sym none ∙ is_among-of numbers (n + 1) has));
+}
+
+-- One after another.
+
+-- one more has heard the event
+pub hears_more : (texts : Texts) (event : NumberedEvent) (ns : List ℕ) (n : ℕ) (t u v : Tabled) (before mid one : Outcome) → HearsEach texts event ns t before u mid → HearsOne texts event n u v one
+    → HearsEach texts event (ns ++ n ∷ []) t before v (first_of mid one)
+hears_more texts event [] n t u v before mid one (same, fine) last =
+    (v, one, subst (λ x. HearsOne texts event n x v one) same last, (refl, ap (λ o. first_of o one) fine))
+hears_more texts event (m ∷ ns) n t u v before mid one (between, first, hears, rest) last =
+    (between, first, hears, hears_more texts event ns n between u v (first_of before first) mid one rest last)

@@ -1,0 +1,247 @@
+-- Keys that an entry concerns are looked up in the tables.
+use Rattle.std.proofs.Common.{◌≡◌, ◌≢◌, ◌≤◌, ◌<◌, ◌+◌, ◌-◌, ◌⊎◌, ◌||◌, inl, inr, ℕ, zero, suc, Bool, true, false, nat_eq, Option, Some, None, List, [], ◌∷◌, ◌++◌, All, AllPairs, Contains, length, slice_get, refl, sym, ap, ◌∙◌, subst, arith, length-append}
+use Rattle.std.specs.Prelude.{fold}
+use Rattle.std.specs.List.{list_any, zip}
+use Rattle.std.specs.Cmp.{unsigned_Decides}
+use Rattle.std.proofs.lemmas.List.Elements.{All-push}
+use Rattle.std.proofs.lemmas.Option.{slice_get_within, get_or_from_slice_get}
+use Rattle.sip_key.specs.Key.{KeyParts, same_key}
+use Rattle.sip_key.specs.inner.KeyLaws.{same_key-decides}
+use Rattle.sip_standard.specs.Times.{Times}
+use Rattle.sip_machine.specs.Texts.{Texts, Keeps}
+use Rattle.sip_machine.specs.MachineEvent.{event_in}
+use Rattle.sip_states.specs.KeyMachine.{machine_of_key, start_is}
+use Rattle.sip_states.specs.Meaning.{IsKnown}
+use Rattle.sip_states.specs.AnySet.{moment_of, IsKnownSet, start_of}
+use Rattle.sip_states.specs.Tables.{Tabled, Touches, with_key}
+use Rattle.sip_states.specs.declared.any_set.AnySet.{AnySet}
+use Rattle.sip_verdict.specs.declared.passing.Hearing.{Hearing}
+use Rattle.sip_verdict.specs.Keyed.{Observation, newest_moment}
+use Rattle.sip_verdict.specs.Keyed as keyed
+use Rattle.sip_verdict.specs.MessageReading.{key_machines}
+use Rattle.sip_verdict.specs.inner.Tracking.{IsTouched}
+use Rattle.sip_states.specs.AnySet.{meaning_of}
+use Rattle.sip_verdict.specs.inner.TablesTracking.{LeadsOf, key_keeping, transactions_of, AreTold, TouchesEach, HaveNumbers, is_among, MayPass, IsOnRecord, AreOnRecord}
+use Rattle.sip_verdict.specs.inner.Concerned.{each, is_all}
+use Rattle.sip_verdict.proofs.keys.Keys.{IsExact, contains-among}
+use Rattle.sip_verdict.proofs.keys.Leading.{Leads-start}
+use Rattle.sip_states.proofs.keyed.ByMachine.{first_of, first_is_of, first_knows, moment_is, to_set}
+use Rattle.sip_verdict.proofs.tables.TablesPassing.{keys_are, among_first, among_rest}
+use Rattle.sip_verdict.proofs.tables.TrackingLemmas.{AreKept, kept_touched}
+
+-- what holds of tables, and of them with any key more, holds after keys were looked up
+touched_elim : (Q : Tabled → Type 0) → ((t : Tabled) (key : KeyParts) → Q t → Q (with_key t key)) → (key : KeyParts) (number : ℕ) (old new : Tabled) → Q old → Touches key number old new → Q new
+touched_elim Q more key number old new holds (inl h) = subst Q (sym h.1) holds
+touched_elim Q more key number old new holds (inr h) = subst Q (sym h.2) (more old key holds)
+
+pub touches_elim : (Q : Tabled → Type 0) → ((t : Tabled) (key : KeyParts) → Q t → Q (with_key t key)) → (ks : List KeyParts) (ns : List ℕ) (old new : Tabled) → Q old → TouchesEach ks ns old new → Q new
+touches_elim Q more [] [] old new holds same = subst Q (sym same) holds
+touches_elim Q more [] (n ∷ ns) old new holds h = absurd h
+touches_elim Q more (k ∷ ks) [] old new holds h = absurd h
+touches_elim Q more (k ∷ ks) (n ∷ ns) old new holds (between, one, rest) = touches_elim Q more ks ns between new (touched_elim Q more k n old between holds one) rest
+
+-- the times stay
+pub touches_times : (ks : List KeyParts) (ns : List ℕ) (old new : Tabled) → TouchesEach ks ns old new → new.times ≡ old.times
+touches_times ks ns old new h = touches_elim (λ t. t.times ≡ old.times) (λ t key same. same) ks ns old new refl h
+
+-- each key has a set
+long_more : (t : Tabled) (key : KeyParts) → length t.sets ≡ length t.keys → length (t.sets ++ start_of t.times key ∷ []) ≡ length (t.keys ++ key ∷ [])
+long_more t key long = length-append t.sets (start_of t.times key ∷ []) ∙ ap (λ n. n + 1) long ∙ sym (length-append t.keys (key ∷ []))
+
+-- there is at most one key more for each
+pub touches_few : (ks : List KeyParts) (ns : List ℕ) (old new : Tabled) → TouchesEach ks ns old new → length new.keys ≤ length old.keys + length ks
+touches_few [] [] old new same = let long = ap (λ t. length t.keys) same in omega arith
+touches_few [] (n ∷ ns) old new h = absurd h
+touches_few (k ∷ ks) [] old new h = absurd h
+touches_few (k ∷ ks) (n ∷ ns) old new (between, one, rest) =
+    let more = touches_few ks ns between new rest in
+    elim one [ inl h ↦ (let long = ap (λ t. length t.keys) h.1 in omega arith) | inr h ↦ (let long = ap (λ t. length t.keys) h.2 ∙ length-append old.keys (k ∷ []) in omega arith) ]
+
+-- a set starts at moment 0, and names no message
+pub start_at : (p : Times) (key : KeyParts) → moment_of (start_of p key) ≡ 0
+start_at p key =
+    let machine = machine_of_key p.rules key in
+    ap moment_of (start_is p machine) ∙ moment_is machine (record { machine = p; moment = 0; states = first_of machine ∷ [] })
+
+pub start_known : (texts : Texts) (p : Times) (key : KeyParts) → IsKnownSet texts (start_of p key)
+start_known texts p key =
+    let machine = machine_of_key p.rules key in
+    subst (IsKnownSet texts) (sym (start_is p machine))
+    (to_set (λ X M S m s. IsKnown m texts s) machine (record { machine = p; moment = 0; states = first_of machine ∷ [] })
+    (known_one machine))
+  where
+    known_one : (machine : _) → IsKnown (meaning_of machine) texts (record { machine = p; moment = 0; states = first_of machine ∷ [] })
+    known_one machine = All-push (λ x. All (Keeps texts) ((meaning_of machine).names x)) [] (first_of machine) (λ k d l. absurd (omega (arith, l))) (first_knows machine texts)
+
+-- an entry may still pass
+pub touches_may : (texts : Texts) (moment : ℕ) (ks : List KeyParts) (ns : List ℕ) (old new : Tabled) → MayPass texts old moment → TouchesEach ks ns old new → MayPass texts new moment
+touches_may texts moment ks ns old new may h = touches_elim (λ t. MayPass texts t moment) more ks ns old new may h
+  where
+    more : (t : Tabled) (key : KeyParts) → MayPass texts t moment → MayPass texts (with_key t key) moment
+    more t key m = record {
+      order = All-push (λ set. moment_of set ≤ moment) t.sets (start_of t.times key) m.order (let at = start_at t.times key in omega arith);
+      known = All-push (IsKnownSet texts) t.sets (start_of t.times key) m.known (start_known texts t.times key);
+      long = long_more t key m.long;
+    }
+
+-- an element of a list with one more
+pub push-place : {A : Type 0} (xs : List A) (a : A) (n : ℕ) (x : A) → slice_get (xs ++ a ∷ []) n ≡ Some x → (slice_get xs n ≡ Some x) ⊎ ((n ≡ length xs) × (a ≡ x))
+push-place [] a zero x at = inr (refl, cc)
+push-place [] a (suc n) x at = absurd cc
+push-place (u ∷ xs) a zero x at = inl at
+push-place (u ∷ xs) a (suc n) x at = elim (push-place xs a n x at) [ inl h ↦ inl h | inr h ↦ inr (ap suc h.0, h.1) ]
+
+-- each last moment stays on record, and there is none yet of a key that waits
+module _ (waits : List ℕ) where
+  with_key_recorded : (key : KeyParts) (number : ℕ) (old : Tabled) → length old.sets ≡ length old.keys → number ≡ length old.keys + 1 → is_among waits number ≡ true → AreOnRecord waits old → AreOnRecord waits (with_key old key)
+  with_key_recorded key number old long counts waiting h = record {
+    long = length-append old.records (None ∷ []) ∙ ap (λ i. i + 1) h.long ∙ sym (length-append old.keys (key ∷ []));
+    each = λ i s r at here. go i s r (push-place old.sets (start_of old.times key) i s at) (push-place old.records None i r here);
+  }
+    where
+      go : (i : ℕ) (s : AnySet) (r : Option (Option ℕ)) → (slice_get old.sets i ≡ Some s) ⊎ ((i ≡ length old.sets) × (start_of old.times key ≡ s))
+          → (slice_get old.records i ≡ Some r) ⊎ ((i ≡ length old.records) × (None ≡ r)) → IsOnRecord waits (i + 1) s r
+      go i s r (inl a) (inl b) = h.each i s r a b
+      go i s r (inl a) (inr b) = (let within = slice_get_within old.sets i s a in let same = h.long in absurd (omega (arith, b.0)))
+      go i s r (inr a) (inl b) = (let within = slice_get_within old.records i r b in let same = h.long in absurd (omega (arith, a.0)))
+      go i s r (inr a) (inr b) = subst (IsOnRecord waits (i + 1) s) b.1 (subst (λ n. is_among waits n ≡ true) (let same = h.long in omega (arith, counts, b.0)) waiting)
+
+  pub touches_recorded : (ks : List KeyParts) (ns : List ℕ) (old new : Tabled) → ((n : ℕ) → is_among ns n ≡ true → is_among waits n ≡ true) → length old.sets ≡ length old.keys → AreOnRecord waits old → TouchesEach ks ns old new
+      → AreOnRecord waits new
+  touches_recorded [] [] old new wait long h same = subst (AreOnRecord waits) (sym same) h
+  touches_recorded [] (n ∷ ns) old new wait long h touched = absurd touched
+  touches_recorded (k ∷ ks) [] old new wait long h touched = absurd touched
+  touches_recorded (k ∷ ks) (n ∷ ns) old new wait long h (between, one, rest) =
+      touches_recorded ks ns between new (λ i more. wait i (among_rest i n ns more)) (touched_elim (λ t. length t.sets ≡ length t.keys) long_more k n old between long one) (recorded one) rest
+    where
+      recorded : Touches k n old between → AreOnRecord waits between
+      recorded (inl same) = subst (AreOnRecord waits) (sym same.1) h
+      recorded (inr new_one) = subst (AreOnRecord waits) (sym new_one.2) (with_key_recorded k n old long new_one.1 (wait n (among_first n n ns refl)) h)
+
+-- lists side by side with one more pair
+zip-push : {A B : Type 0} (xs : List A) (ys : List B) (x : A) (y : B) → length ys ≡ length xs → zip (xs ++ x ∷ []) (ys ++ y ∷ []) ≡ zip xs ys ++ (x, y) ∷ []
+zip-push [] [] x y long = refl
+zip-push [] (v ∷ ys) x y long = absurd (omega arith)
+zip-push (u ∷ xs) [] x y long = absurd (omega arith)
+zip-push (u ∷ xs) (v ∷ ys) x y long = ap (λ z. (u, v) ∷ z) (zip-push xs ys x y (omega arith))
+
+-- the comparison of keys is exact
+pub keys_exact : (p : Times) → IsExact (key_machines p)
+keys_exact p a b = same_key-decides a b
+
+module _ (texts : Texts) (p : Times) where
+  -- a new key's set leads to the runs over no event
+  pub starts : (key : KeyParts) (from : ℕ) → LeadsOf texts p (machine_of_key p.rules key) [] from (start_of p key)
+  starts key from =
+      let machine = machine_of_key p.rules key in
+      let m = meaning_of machine in (
+        record { machine = p; moment = 0; states = first_of machine ∷ [] },
+        start_is p machine,
+        record { machine_is = refl; leads = Leads-start m.names m.seen texts (m.rules p) (first_of machine) (first_is_of machine texts p) (first_knows machine texts) from },
+      )
+
+  -- the transactions of a key that is looked up
+  touched : (key : KeyParts) (number : ℕ) (old new : Tabled) → old.times ≡ p → length old.sets ≡ length old.keys → Touches key number old new
+      → IsTouched (key_keeping texts p) (key, start_of p key) (transactions_of old) (transactions_of new)
+  touched key number old new times long (inl h) = inl (
+    ap transactions_of h.1,
+    subst (λ ks. Contains ks key) (sym (keys_are old long)) (number - 1, slice_get_within old.keys (number - 1) key h.0.1, get_or_from_slice_get old.keys (number - 1) key key h.0.1),
+  )
+  touched key number old new times long (inr h) = inr (
+    λ among. absent (subst (λ ks. Contains ks key) (keys_are old long) among),
+    ap transactions_of h.2 ∙ zip-push old.keys old.sets key (start_of old.times key) long ∙ ap (λ q. transactions_of old ++ (key, start_of q key) ∷ []) times,
+  )
+    where
+      absent : ¬ Contains old.keys key
+      absent (i, low, is) = h.0 i key low is
+
+  -- and of all that are
+  pub kept_each : (es : List (Observation KeyParts)) (keys ks : List KeyParts) (ns : List ℕ) (old new : Tabled) → old.times ≡ p → length old.sets ≡ length old.keys → TouchesEach ks ns old new
+      → AreKept (key_machines p) (key_keeping texts p) es keys (transactions_of old) → AreKept (key_machines p) (key_keeping texts p) es (fold (keyed.with_key same_key) keys ks) (transactions_of new)
+  kept_each es keys [] [] old new times long same kept = subst (λ t. AreKept (key_machines p) (key_keeping texts p) es keys (transactions_of t)) (sym same) kept
+  kept_each es keys [] (n ∷ ns) old new times long h kept = absurd h
+  kept_each es keys (k ∷ ks) [] old new times long h kept = absurd h
+  kept_each es keys (k ∷ ks) (n ∷ ns) old new times long (between, one, rest) kept =
+      kept_each es (keyed.with_key same_key keys k) ks ns between new (touched_elim (λ t. t.times ≡ p) (λ t key same. same) k n old between times one)
+      (touched_elim (λ t. length t.sets ≡ length t.keys) long_more k n old between long one) rest
+      (kept_touched (key_machines p) (key_keeping texts p) es (keys_exact p) (k, start_of p k) (starts k (newest_moment es)) keys (transactions_of old) (transactions_of between) kept (touched k n old between times long one))
+
+-- an element of a list stays where it is
+pub slice_get-more : {A : Type 0} (xs ys : List A) (n : ℕ) (x : A) → slice_get xs n ≡ Some x → slice_get (xs ++ ys) n ≡ Some x
+slice_get-more [] ys n x at = absurd cc
+slice_get-more (u ∷ xs) ys zero x at = at
+slice_get-more (u ∷ xs) ys (suc n) x at = slice_get-more xs ys n x at
+
+-- and the last one is after them
+slice_get-last : {A : Type 0} (xs : List A) (x : A) → slice_get (xs ++ x ∷ []) (length xs) ≡ Some x
+slice_get-last [] x = refl
+slice_get-last (u ∷ xs) x = slice_get-last xs x
+
+-- keys that were looked up have their numbers
+pub have_numbers : (ks : List KeyParts) (ns : List ℕ) (old new : Tabled) → TouchesEach ks ns old new → HaveNumbers new.keys ns ks
+have_numbers [] [] old new h = tt
+have_numbers [] (n ∷ ns) old new h = absurd h
+have_numbers (k ∷ ks) [] old new h = absurd h
+have_numbers (k ∷ ks) (n ∷ ns) old new (between, one, rest) =
+    let here = has_number one in
+    (here.0, touches_elim (λ t. slice_get t.keys (n - 1) ≡ Some k) (λ t key at. slice_get-more t.keys (key ∷ []) (n - 1) k at) ks ns between new here.1 rest, have_numbers ks ns between new rest)
+  where
+    has_number : Touches k n old between → (0 < n) × (slice_get between.keys (n - 1) ≡ Some k)
+    has_number (inl h) = (h.0.0, subst (λ t. slice_get t.keys (n - 1) ≡ Some k) (sym h.1) h.0.1)
+    has_number (inr h) =
+        let last : length old.keys ≡ n - 1 = omega (arith, h.1) in
+        (omega (arith, h.1), subst (λ t. slice_get t.keys (n - 1) ≡ Some k) (sym h.2) (subst (λ i. slice_get (old.keys ++ k ∷ []) i ≡ Some k) last (slice_get-last old.keys k)))
+
+-- two tests that hold alike are the same
+same_test : (a b : Bool) → (a ≡ true → b ≡ true) → (b ≡ true → a ≡ true) → a ≡ b
+same_test true b f g = sym (f refl)
+same_test false true f g = g refl
+same_test false false f g = refl
+
+-- no two places hold the same
+same_place : {A : Type 0} (xs : List A) → AllPairs (λ a b. a ≢ b) xs → (i k : ℕ) (x : A) → slice_get xs i ≡ Some x → slice_get xs k ≡ Some x → i ≡ k
+same_place [] apart i k x a b = absurd cc
+same_place (u ∷ xs) apart zero zero x a b = refl
+same_place (u ∷ xs) apart zero (suc k) x a b =
+    let is : u ≡ x = cc in
+    absurd (apart zero (suc k) x (omega arith) (let low = slice_get_within xs k x b in omega arith) (is ∙ sym (get_or_from_slice_get xs k x x b)))
+same_place (u ∷ xs) apart (suc i) zero x a b =
+    let is : u ≡ x = cc in
+    absurd (apart zero (suc i) x (omega arith) (let low = slice_get_within xs i x a in omega arith) (is ∙ sym (get_or_from_slice_get xs i x x a)))
+same_place (u ∷ xs) apart (suc i) (suc k) x a b =
+    ap suc (same_place xs (λ m n d low within. apart (suc m) (suc n) d (omega arith) (omega arith)) i k x a b)
+
+-- a key is one of those of an event just where its number is
+same_numbers : (all : List KeyParts) → AllPairs (λ a b. a ≢ b) all → (ns : List ℕ) (ks : List KeyParts) → HaveNumbers all ns ks → (n : ℕ) (k : KeyParts) → slice_get all n ≡ Some k → list_any (same_key k) ks ≡ is_among ns (n + 1)
+same_numbers all apart [] [] h n k at = refl
+same_numbers all apart [] (key ∷ ks) h n k at = absurd h
+same_numbers all apart (i ∷ ns) [] h n k at = absurd h
+same_numbers all apart (i ∷ ns) (key ∷ ks) (some, there, rest) n k at = λ j. one j || same_numbers all apart ns ks rest n k at j
+  where
+    one : same_key k key ≡ nat_eq (n + 1) i
+    one =
+        same_test (same_key k key) (nat_eq (n + 1) i)
+        (λ same. (let place : n ≡ i - 1 = same_place all apart n (i - 1) key (at ∙ ap Some ((same_key-decides k key).0 same)) there in (unsigned_Decides (n + 1) i).1 (omega (arith, place, some))))
+        (λ same. (let place : i - 1 ≡ n = omega (arith, (unsigned_Decides (n + 1) i).0 same) in
+        let both : Some key ≡ Some k = sym there ∙ ap (slice_get all) place ∙ at in
+        (same_key-decides k key).1 (let own : k ≡ key = cc in own)))
+
+-- an entry that is not heard tells each key its moment
+pub told_unheard : (texts : Texts) (keys : List KeyParts) (moment : ℕ) (e : Observation KeyParts) → e.event.moment ≡ moment → e.keys ≡ [] → AreTold texts keys moment None e
+told_unheard texts keys moment e at none n k there = record { at = at; event = tt; concerned = λ p. ap (list_any (same_key k)) none }
+
+-- an event is told to the keys that it concerns
+pub told_event : (texts : Texts) (keys : List KeyParts) (moment : ℕ) (h : Hearing) (e : Observation KeyParts) → AllPairs (λ a b. a ≢ b) keys → is_all h.concerned ≡ false → HaveNumbers keys (each h.concerned) e.keys → e.event.moment ≡ moment
+    → e.event ≡ event_in texts h.event → AreTold texts keys moment (Some h) e
+told_event texts keys moment h e apart some numbers at event n k there =
+    record { at = at; event = event; concerned = λ p. same_numbers keys apart (each h.concerned) e.keys numbers n k there ∙ sym (ap (λ b. b || is_among (each h.concerned) (n + 1)) some) }
+
+-- a restart is told to all
+pub told_restart : (texts : Texts) (keys : List KeyParts) (moment : ℕ) (h : Hearing) (e : Observation KeyParts) → is_all h.concerned ≡ true → e.keys ≡ keys → e.event.moment ≡ moment → e.event ≡ event_in texts h.event
+    → AreTold texts keys moment (Some h) e
+told_restart texts keys moment h e all same at event n k there = record {
+  at = at;
+  event = event;
+  concerned = λ p. contains-among (key_machines p) (keys_exact p) k e.keys (subst (λ ks. Contains ks k) (sym same) (n, slice_get_within keys n k there, get_or_from_slice_get keys n k k there))
+      ∙ sym (ap (λ b. b || is_among (each h.concerned) (n + 1)) all);
+}

@@ -1,0 +1,141 @@
+-- Each input has a verdict: none is without.
+use Rattle.std.proofs.Common.{◌≡◌, ◌⊎◌, inl, inr, ◌+◌, ℕ, Bool, true, false, Option, Some, None, List, [], ◌∷◌, ◌++◌, length, All, refl, sym, ap, subst, arith, MatchOption}
+use Rattle.std.proofs.lemmas.List.Elements.{All-nil, All-cons, All-head, All-tail}
+use Rattle.sip_standard.specs.declared.fault.Fault.{Fault}
+use Rattle.sip_standard.specs.Outcome.{stops}
+use Rattle.sip_standard.specs.Says.{Says}
+use Rattle.sip_message.specs.Reading as message
+use Rattle.sip_message.specs.Reads.{Reads}
+use Rattle.sip_message.specs.SaidOf.{said_of}
+use Rattle.sip_message.proofs.lemmas.message.Total.{reading-or-fault}
+use Rattle.sip_key.specs.declared.role.Direction.{Direction}
+use Rattle.sip_key.specs.declared.role.Direction.TheVariants as way
+use Rattle.sip_key.specs.Key.{KeyParts}
+use Rattle.sip_key.specs.Concerns.{lacks_cookie}
+use Rattle.sip_standard.specs.declared.action.Action.{Action}
+use Rattle.sip_standard.specs.declared.action.Action.TheVariants.{Sent, Received, Failed, Mark, Restart}
+use Rattle.sip_standard.specs.Times.{Times}
+use Rattle.sip_standard.specs.LogEntry.{Item}
+use Rattle.sip_standard.specs.LogSays.{LogEnd, Clean, Stops}
+use Rattle.sip_log.specs.Log.{Log, Faulty, Readable, IsLogOf}
+use Rattle.sip_log.proofs.logs.Logs.{log_is_some}
+use Rattle.sip_verdict.specs.declared.verdict.Verdict.{Verdict}
+use Rattle.sip_verdict.specs.declared.verdict.Verdict.TheVariants.{Legal, Malformed, Breach, Undecided, LogFault}
+use Rattle.sip_verdict.specs.declared.log_reason.LogReason.TheVariants.{Header}
+use Rattle.sip_verdict.specs.LogReason.{reason_of}
+use Rattle.sip_verdict.specs.Keyed.{Observation, Machines, keys_of, HasRun}
+use Rattle.sip_verdict.specs.Verdicts.{IsFirst, IsTooWide, AllRun, IsFine, IsTrouble}
+use Rattle.sip_verdict.specs.Reading.{EntryReading, Judges, IsVerdictBy}
+use Rattle.sip_verdict.specs.VerdictOf.{keys_in}
+use Rattle.sip_verdict.specs.MessageReading.{message_reading, direction_of, silent_observation, ObservesMessage, has_fault, has_no_cookie, is_heard}
+use Rattle.sip_verdict.specs.inner.Observing.{mark_observation, restart_observation}
+
+-- it is not false
+abbrev Weakly : Type 0 → Type 0
+Weakly A = ¬ (¬ A)
+
+-- P is false of all of these, or there is a first of which it holds
+first_or_none : {K : Type 0} (P : K → Type 0) (keys : List K) → Weakly (All (λ k. ¬ (P k)) keys ⊎ ((n : ℕ) × IsFirst P keys n))
+first_or_none P [] never = never (inl (All-nil (λ k. ¬ (P k))))
+first_or_none {K} P (key ∷ keys) never = first_or_none P keys at
+  where
+    here : P key → ⊥
+    here holds = never (inr (1, record { before = []; key = key; rest = keys; is = refl; holds = holds; earlier = All-nil (λ k. ¬ (P k)); counts = refl }))
+
+    at : (All (λ k. ¬ (P k)) keys ⊎ ((n : ℕ) × IsFirst P keys n)) → ⊥
+    at (inl none) = never (inl (All-cons (λ k. ¬ (P k)) key keys here none))
+    at (inr (n, f)) =
+        let counts : n ≡ length f.before + 1 = f.counts in
+        never (inr (
+          n + 1,
+          record {
+            before = key ∷ f.before;
+            key = f.key;
+            rest = f.rest;
+            is = ap (λ xs. key ∷ xs) f.is;
+            holds = f.holds;
+            earlier = All-cons (λ k. ¬ (P k)) key f.before here f.earlier;
+            counts = omega arith;
+          },
+        ))
+
+-- what is not false of each is not false of all
+all_of : {K : Type 0} (P : K → Type 0) (keys : List K) → All (λ k. ¬ (¬ (P k))) keys → Weakly (All P keys)
+all_of P [] all never = never (All-nil P)
+all_of P (key ∷ keys) all never =
+    All-head (λ k. ¬ (¬ (P k))) key keys all (λ holds. all_of P keys (All-tail (λ k. ¬ (¬ (P k))) key keys all) (λ later. never (All-cons P key keys holds later)))
+
+-- something is observed of each entry
+abbrev pub Sees : {K : Type 0} → EntryReading K → Type 0
+Sees {K} r = (before : List (Observation K)) (item : Item) → Weakly ((e : Observation K) × r.Observes before item e)
+
+module _ {K : Type 0} (r : EntryReading K) (sees : Sees r) where
+  module _ (m : Machines K) (es : List (Observation K)) (e : Observation K) where
+    abbrev keys : List K
+    keys = keys_of m (es ++ e ∷ [])
+
+    -- an entry that has no verdict is in no trouble
+    fine_or_trouble : ((v : Verdict) → ¬ (IsTrouble m es e v)) → Weakly (IsFine m es e)
+    fine_or_trouble no_trouble not_fine = by_fault e.fault refl
+      where
+        by_width : e.fault ≡ None → AllRun m (es ++ e ∷ []) → (All (λ key. ¬ (IsTooWide m es e key)) keys ⊎ ((n : ℕ) × IsFirst (IsTooWide m es e) keys n)) → ⊥
+        by_width none runs (inl narrow) = not_fine (record { formed = none; runs = runs; narrow = narrow })
+        by_width none runs (inr (n, first)) = no_trouble (Undecided (length es + 1) n) (refl, none, runs, first)
+
+        by_run : e.fault ≡ None → (All (λ key. ¬ (¬ (HasRun m key (es ++ e ∷ [])))) keys ⊎ ((n : ℕ) × IsFirst (λ key. ¬ (HasRun m key (es ++ e ∷ []))) keys n)) → ⊥
+        by_run none (inl all) = all_of (λ key. HasRun m key (es ++ e ∷ [])) keys all (λ runs. first_or_none (IsTooWide m es e) keys (by_width none runs))
+        by_run none (inr (n, first)) = no_trouble (Breach (length es + 1) n) (refl, none, first)
+
+        by_fault : (fault : Option Fault) → e.fault ≡ fault → ⊥
+        by_fault None none = first_or_none (λ key. ¬ (HasRun m key (es ++ e ∷ []))) keys (by_run none)
+        by_fault (Some fault) some = no_trouble (Malformed (length es + 1) fault) (refl, some)
+
+  -- entries have a verdict after others
+  judges_some : (p : Times) (es : List (Observation K)) (items : List Item) (end : LogEnd) → Weakly ((v : Verdict) × Judges r p es items end v)
+  judges_some p es [] Clean never = never (Legal (length es) (length (keys_of (r.machines p) es)), refl)
+  judges_some p es [] (Stops fault) never = never (LogFault (length es + 1) (reason_of fault), refl)
+  judges_some p es (item ∷ items) end never =
+      sees es item (λ seen.
+      fine_or_trouble (r.machines p) es seen.0 (λ v trouble. never (v, (seen.0, seen.1, inl trouble))) (λ fine.
+      judges_some p (es ++ seen.0 ∷ []) items end (λ left. never (left.0, (seen.0, seen.1, inr (fine, left.1))))))
+
+  -- and so has an input
+  verdict_of_log : (input : List ℕ) (log : Log) → IsLogOf input log → Weakly ((v : Verdict) × IsVerdictBy r input v)
+  verdict_of_log input Faulty is never = never (LogFault 0 Header, inl (is, refl))
+  verdict_of_log input (Readable p items end) is never = judges_some p [] items end (λ one. never (one.0, inr (p, items, end, is, one.1)))
+
+-- something is observed of each message
+observes_message : (direction : Direction) (item : Item) → Weakly ((e : Observation KeyParts) × ObservesMessage direction item e)
+observes_message direction item never = reading-or-fault item.text no_reading no_fault
+  where
+    no_fault : (fault : Fault) → ¬ (Says item.text (stops fault))
+    no_fault fault is = never (_, has_fault fault is refl)
+
+    no_reading : (r : message.Reading) → ¬ (Reads item.text r)
+    no_reading r reads = by_cookie (lacks_cookie (said_of r) direction) refl
+      where
+        by_cookie : (b : Bool) → lacks_cookie (said_of r) direction ≡ b → ⊥
+        by_cookie true lacks = never (_, has_no_cookie (said_of r) reads.says lacks refl)
+        by_cookie false has = never (_, is_heard (said_of r) _ reads.says has refl refl)
+
+-- and of each entry
+pub sees_entry : Sees message_reading
+sees_entry before item = by_action item.action refl
+  where
+    keys : List KeyParts
+    keys = keys_in before
+
+    -- this is observed of an entry with which this was done
+    Seen : Observation KeyParts → Action → Type 0
+    Seen e a = MatchOption (direction_of a) (e ≡ silent_observation a item.moment keys) (λ d. ObservesMessage d item e)
+
+    by_action : (a : Action) → item.action ≡ a → Weakly ((e : Observation KeyParts) × message_reading.Observes before item e)
+    by_action Sent is never = observes_message way.Sent item (λ seen. never (seen.0, subst (Seen seen.0) (sym is) seen.1))
+    by_action Received is never = observes_message way.Received item (λ seen. never (seen.0, subst (Seen seen.0) (sym is) seen.1))
+    by_action Failed is never = observes_message way.Sent item (λ seen. never (seen.0, subst (Seen seen.0) (sym is) seen.1))
+    by_action Mark is never = never (mark_observation item.moment, subst (Seen (mark_observation item.moment)) (sym is) refl)
+    by_action Restart is never = never (restart_observation item.moment keys, subst (Seen (restart_observation item.moment keys)) (sym is) refl)
+
+-- each input has a verdict
+pub has_verdict : (input : List ℕ) → ¬ ((v : Verdict) → ¬ (IsVerdictBy message_reading input v))
+has_verdict input never = let log = log_is_some input in verdict_of_log message_reading sees_entry input log.0 log.1 (λ one. never one.0 one.1)

@@ -1,0 +1,32 @@
+-- The surveys of the parts of a log that is cut by branch.
+use Rattle.std.specs.Prelude.{◌≡◌, ◌⊎◌, ℕ, MatchOption, List, [], ◌∷◌, if◌then◌else◌, ⊤}
+use Rattle.sip_standard.specs.declared.action.Action.TheVariants.{Mark}
+use Rattle.sip_standard.specs.Times.{Times}
+use Rattle.sip_standard.specs.LogEntry.{Item}
+use Rattle.sip_standard.specs.LogSays.{LogEnd}
+use Rattle.sip_standard.specs.LogSays.{LogSays, LacksHeader}
+use Rattle.sip_part.specs.Part.{PartOf, TellsBranch, falls_into}
+use Rattle.sip_verdict.specs.declared.finding.Finding.{Finding}
+use Rattle.sip_verdict.specs.declared.survey_end.SurveyEnd.{SurveyEnd}
+use Rattle.sip_verdict.specs.declared.survey_end.SurveyEnd.TheVariants as ended
+use Rattle.sip_verdict.specs.declared.log_reason.LogReason.TheVariants.{Header}
+use Rattle.sip_verdict.specs.MessageReading.{direction_of}
+use Rattle.sip_verdict.specs.SurveyOf.{IsSurveyAfter}
+
+-- an item as it is in the log of the part: itself where it has no message or its message falls into the part, and else a mark of its moment
+abbrev pub IsPartItem : PartOf → Item → Item → Type 0
+IsPartItem part item cut =
+    MatchOption (direction_of item.action) (cut ≡ item)
+    (λ direction. (branch : List ℕ) × TellsBranch item.text branch × (cut ≡ if falls_into part branch then item else record { action = Mark; moment = item.moment; text = [] }))
+
+-- the log of the part
+abbrev pub IsPartLog : PartOf → List Item → List Item → Type 0
+IsPartLog part [] [] = ⊤
+IsPartLog part (item ∷ items) (cut ∷ cuts) = IsPartItem part item cut × IsPartLog part items cuts
+IsPartLog part items cuts = ⊥
+
+-- the survey of a part of an input: how its header ends it, or what is found at the entries of the log of the part, and how the log ends
+abbrev pub IsPartSurveyOf : PartOf → List ℕ → List Finding → SurveyEnd → Type 0
+IsPartSurveyOf part input found end =
+    (LacksHeader input × (found ≡ []) × (end ≡ ended.LogFault 0 Header))
+    ⊎ ((p : Times) × (items : List Item) × (close : LogEnd) × (cuts : List Item) × LogSays input p items close × IsPartLog part items cuts × IsSurveyAfter p [] cuts close found end)

@@ -1,0 +1,109 @@
+"""The lines of a watch as they come, and what they tell of the time. All moments are nanoseconds."""
+import fcntl
+import os
+import time
+from collections import deque
+
+from sip_lines import SECOND
+
+PIECE, PIPE = 1 << 18, 1 << 20  # bytes that are read at once, and that may wait to be read
+PASS = SECOND // 2  # a pass that takes longer cannot know that nothing came
+REMEMBERED = 30 * SECOND
+MOST_LAG = 10 * SECOND
+STEP = SECOND // 100  # by which the clock differs after it was set, and not before
+GONE_BACK = 10  # lines in a row whose moments lie further back than the most lag: the clock that gives them was set
+
+
+class Clock:
+    """The clock of this machine, and whether it was set."""
+
+    def __init__(self):
+        self.ahead = self.ahead_of_steady()
+
+    @staticmethod
+    def ahead_of_steady():
+        """By how much it is ahead of a clock that nobody sets; None where this process was held up while it asked."""
+        before, now, after = time.monotonic_ns(), time.time_ns(), time.monotonic_ns()
+        return now - before if after - before < STEP // 10 else None
+
+    def was_set_by(self):
+        """By how much the clock was set since the last call, or 0."""
+        ahead = self.ahead_of_steady()
+        if ahead is None or self.ahead is None:
+            self.ahead = self.ahead or ahead
+            return 0
+        step, self.ahead = ahead - self.ahead, ahead
+        return step if abs(step) > STEP else 0
+
+
+class Input:
+    """The lines of a file with this descriptor, and the moment up to which they have come."""
+
+    def __init__(self, number, lag, still, is_stored):
+        self.number, self.lag, self.still, self.is_stored = number, lag, still, is_stored
+        self.rest, self.lines, self.is_ended = b"", 0, False
+        if not is_stored:
+            try:
+                fcntl.fcntl(number, fcntl.F_SETPIPE_SZ, PIPE)
+            except OSError:  # it is no pipe
+                pass
+        self.begin()
+
+    def begin(self):
+        """Knows nothing of the time yet."""
+        now = time.time_ns()
+        self.heard = self.settled = 0  # the newest moment of a line; that of the lines which came a lag ago
+        self.came = deque()  # when lines came, and the newest moment that was heard then
+        self.begun = self.still_since = self.last_pass = self.delays_since = now
+        self.delay = self.delay_before = 0  # after their moments that lines came, at most, lately and before that
+        self.back = 0  # lines in a row that lie far back
+
+    def read(self):
+        """The lines that have come, each with its number. A last one that is cut is none."""
+        piece = os.read(self.number, PIECE)
+        self.is_ended = not piece
+        *lines, self.rest = (self.rest + piece).split(b"\n")
+        for line in lines:
+            self.lines += 1
+            yield self.lines, line
+
+    def hear(self, moment, now):
+        """Hears of the moment of a line. Answers whether the clock that gives the moments was set back."""
+        if not self.is_stored:
+            moment = min(moment, now)
+            if moment > self.begun:
+                self.delay = max(self.delay, min(now - moment, MOST_LAG))
+        self.back = self.back + 1 if moment < self.heard - MOST_LAG else 0
+        self.heard = max(self.heard, moment)
+        return self.back == GONE_BACK
+
+    def has_come(self, now):
+        """After the lines of a pass."""
+        self.still_since = now
+        self.came.append((now, self.heard))
+
+    def passed(self, now):
+        """Looks at the clock at each pass."""
+        if now - self.last_pass > PASS:
+            self.still_since = now
+        self.last_pass = now
+        if now - self.delays_since > REMEMBERED:
+            self.delay_before, self.delay, self.delays_since = self.delay, 0, now
+
+    def late(self):
+        """How long after their moments lines come, at most."""
+        return max(self.delay, self.delay_before)
+
+    def known(self, now):
+        """The moment up to which all lines have come, as far as can be known. A line waits for older ones until a newer one by the lag has come, or until
+        the lag is over; where nothing comes the clock tells the time, less as much as a line may be late."""
+        if self.is_stored:
+            return self.heard - self.lag
+        while self.came and self.came[0][0] <= now - self.lag:
+            self.settled = self.came.popleft()[1]
+        by_clock = now - self.still - self.late() if now - self.still_since > self.still else 0
+        return max(self.heard - self.lag, self.settled, by_clock)
+
+    def next_known(self, now):
+        """In how many nanoseconds a line that has come is known to be the next."""
+        return max(0, self.came[0][0] + self.lag - now) if self.came else None

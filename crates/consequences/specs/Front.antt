@@ -1,6 +1,6 @@
 -- The front of a log that is in no trouble, and what a verdict says by itself.
 use Rattle.std.specs.Prelude.{◌≡◌, ◌+◌, ◌⊎◌, ℕ, Some, None, List, [], ◌∷◌, ◌++◌, length, All, ⊤}
-use Rattle.sip_key.specs.Key.{KeyParts}
+use Rattle.sip_standard.specs.Key.{KeyParts}
 use Rattle.sip_standard.specs.Times.{Times}
 use Rattle.sip_standard.specs.declared.fault.Fault.{Fault}
 use Rattle.sip_standard.specs.LogEntry.{Item}

@@ -1,7 +1,7 @@
 //! The INVITE client transaction, RFC 3261 section 17.1.1, by either rules.
 ghost use Rattle.std.specs.List.{Any};
 ghost use Rattle.std.specs.Prelude.{◌≡◌, ◌≤◌, ◌<◌, ◌*◌, ◌⊎◌, ◌++◌, ◌∷◌, ℕ, true, false, List, All};
-ghost use Rattle.sip_key.specs.declared.role.Role.TheVariants.{Client};
+ghost use Rattle.sip_standard.specs.declared.role.Role.TheVariants.{Client};
 ghost use Rattle.sip_standard.specs.declared.action.Action.TheVariants.{Sent};
 ghost use Rattle.sip_standard.specs.declared.rules.Rules.{Rules};
 ghost use Rattle.sip_machine.specs.declared.event.Kind.TheVariants.{Request};

@@ -1,7 +1,7 @@
 //! The INVITE server transaction, RFC 3261 section 17.2.1, by either rules. A response that the transport refuses counts as sent.
 ghost use Rattle.std.specs.List.{Any};
 ghost use Rattle.std.specs.Prelude.{◌≡◌, ◌≤◌, ◌<◌, ◌⊎◌, ◌++◌, ◌∷◌, ℕ, true, List, All};
-ghost use Rattle.sip_key.specs.declared.role.Role.TheVariants.{Server};
+ghost use Rattle.sip_standard.specs.declared.role.Role.TheVariants.{Server};
 ghost use Rattle.sip_standard.specs.declared.action.Action.TheVariants.{Sent};
 ghost use Rattle.sip_standard.specs.declared.rules.Rules.{Rules};
 ghost use Rattle.sip_standard.specs.declared.rules.Rules.TheVariants.{R3261, R6026};

@@ -1,7 +1,7 @@
 //! The non-INVITE server transaction, RFC 3261 section 17.2.2. A response that the transport refuses counts as sent.
 ghost use Rattle.std.specs.List.{Any};
 ghost use Rattle.std.specs.Prelude.{◌≡◌, ◌≤◌, ◌<◌, ◌*◌, ◌⊎◌, ◌++◌, ◌∷◌, ℕ, false, List, All};
-ghost use Rattle.sip_key.specs.declared.role.Role.TheVariants.{Server};
+ghost use Rattle.sip_standard.specs.declared.role.Role.TheVariants.{Server};
 ghost use Rattle.sip_standard.specs.declared.rules.Rules.{Rules};
 ghost use Rattle.sip_standard.specs.Window.{open_at, close_at};
 ghost use Rattle.sip_machine.specs.MachineEvent.{MachineEvent};

@@ -1,6 +1,6 @@
 //! A restart of the element, by which its transactions are lost (own, in no RFC).
 ghost use Rattle.std.specs.Prelude.{◌≡◌, ◌++◌, ◌∷◌, [], ◌⊎◌, Bool, true, false, List, All};
-ghost use Rattle.sip_key.specs.declared.role.Role.TheVariants.{Client, Server};
+ghost use Rattle.sip_standard.specs.declared.role.Role.TheVariants.{Client, Server};
 ghost use Rattle.sip_standard.specs.declared.action.Action.TheVariants.{Sent};
 ghost use Rattle.sip_standard.specs.declared.rules.Rules.{Rules};
 ghost use Rattle.sip_machine.specs.declared.event.Kind.TheVariants.{Request};

@@ -1,8 +1,7 @@
 //! A wider tolerance.
 ghost use Rattle.std.specs.Prelude.{◌≡◌, ◌≤◌, ℕ, List, []};
-ghost use Rattle.sip_key.specs.Key.{KeyParts};
-ghost use Rattle.sip_standard.specs.LogSays.{LogEnd};
-ghost use Rattle.sip_standard.specs.LogSays.{LogSays};
+ghost use Rattle.sip_standard.specs.Key.{KeyParts};
+ghost use Rattle.sip_standard.specs.LogSays.{LogEnd, LogSays};
 ghost use Rattle.sip_standard.specs.LogEntry.{Item};
 ghost use Rattle.sip_machine.specs.Figure.{Owing};
 ghost use Rattle.sip_machine.specs.MachineEvent.{MachineEvent};

@@ -1,6 +1,6 @@
 //! Branches, and the cookie at their front (RFC 3261, section 8.1.1.7).
 ghost use Rattle.std.specs.Prelude.{◌≡◌};
-ghost use Rattle.sip_key.specs.Branch.{has_cookie};
+ghost use Rattle.sip_standard.specs.Branch.{has_cookie};
 
 use sip_text::same_text;
 

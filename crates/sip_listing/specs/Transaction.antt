@@ -1,7 +1,7 @@
 use Rattle.std.specs.Prelude.{◌++◌, ℕ, List, All, codes, decimal, length, map}
-use Rattle.sip_key.specs.declared.role.Role.{Role}
-use Rattle.sip_key.specs.declared.role.Role.TheVariants.{Client, Server}
-use Rattle.sip_key.specs.Key.{KeyParts}
+use Rattle.sip_standard.specs.declared.role.Role.{Role}
+use Rattle.sip_standard.specs.declared.role.Role.TheVariants.{Client, Server}
+use Rattle.sip_standard.specs.Key.{KeyParts}
 use Rattle.sip_machine.specs.Texts.{Texts}
 use Rattle.sip_standard.specs.Times.{Times}
 use Rattle.sip_states.specs.Held.{Held}

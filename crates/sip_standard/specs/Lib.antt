@@ -13,6 +13,12 @@ pub mod Lines
 pub mod Says
 pub mod Transport
 pub mod Reason
+pub mod Branch
+pub mod SentBy
+pub mod Key
+pub mod Concerns
+pub mod Solid
+pub mod AckOf
 pub mod Times
 pub mod Window
 pub mod Source

@@ -6,9 +6,11 @@
 mod action;
 mod fault;
 mod format;
+mod role;
 mod rules;
 
 pub use crate::fault::{Fault, Reason, Unit};
 pub use action::Action;
 pub use format::Format;
+pub use role::{Direction, Role};
 pub use rules::Rules;

@@ -1,6 +1,6 @@
 -- A set of states of one of the machines.
 use Rattle.std.specs.Prelude.{◌≡◌, ◌⊎◌, ℕ, Option, [], ◌∷◌}
-use Rattle.sip_key.specs.Key.{KeyParts}
+use Rattle.sip_standard.specs.Key.{KeyParts}
 use Rattle.sip_standard.specs.Times.{Times}
 use Rattle.sip_machine.specs.Texts.{Texts}
 use Rattle.sip_machine.specs.NumberedEvent.{NumberedEvent}

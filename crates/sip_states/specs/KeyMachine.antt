@@ -1,9 +1,9 @@
 -- The machine of each key (RFC 3261 section 17), its figure, and how the code has it: the list of machines.
 use Rattle.std.specs.Prelude.{◌≡◌, [], ◌∷◌, Bool, true, false, codes, bytes_eq}
 use Rattle.std.proofs.Common.{refl}
-use Rattle.sip_key.specs.declared.role.Role.{Role}
-use Rattle.sip_key.specs.declared.role.Role.TheVariants.{Client, Server}
-use Rattle.sip_key.specs.Key.{KeyParts}
+use Rattle.sip_standard.specs.declared.role.Role.{Role}
+use Rattle.sip_standard.specs.declared.role.Role.TheVariants.{Client, Server}
+use Rattle.sip_standard.specs.Key.{KeyParts}
 use Rattle.sip_standard.specs.declared.rules.Rules.{Rules as BuiltBy}
 use Rattle.sip_standard.specs.declared.rules.Rules.TheVariants.{R3261, R6026}
 use Rattle.sip_standard.specs.Times.{Times}

@@ -12,7 +12,7 @@ ghost use Rattle.sip_standard.specs.Times.{Times};
 ghost use Rattle.sip_states.specs.KeyMachine.{MachineKind, PhaseOf, machine_of, transaction_of, key_rules};
 ghost use Rattle.sip_states.specs.Runs.{Wait, RunGives, RuledRun, AfterRun};
 ghost use Rattle.sip_states.specs.Stands.{Stands, StandsBehind};
-ghost use Rattle.sip_key.specs.declared.role.Role.TheVariants.{Client, Server};
+ghost use Rattle.sip_standard.specs.declared.role.Role.TheVariants.{Client, Server};
 ghost use Rattle.sip_standard.specs.declared.action.Action.TheVariants.{Sent, Received};
 ghost use Rattle.sip_standard.specs.declared.rules.Rules.{Rules as BuiltBy};
 ghost use Rattle.sip_standard.specs.declared.rules.Rules.TheVariants.{R6026};

@@ -1,6 +1,6 @@
 -- What a judge that takes the entries of a log as they come stands for.
 use Rattle.std.specs.Prelude.{◌≡◌, ◌≢◌, ◌≤◌, ◌+◌, ℕ, List, [], ◌∷◌, ◌++◌, Option, Some, None, Result, Ok, Err, All, length}
-use Rattle.sip_key.specs.Key.{KeyParts}
+use Rattle.sip_standard.specs.Key.{KeyParts}
 use Rattle.sip_standard.specs.Times.{Times, last_moment}
 use Rattle.sip_machine.specs.Texts.{Texts}
 use Rattle.sip_states.specs.Runs.{RuledRun}

@@ -2,8 +2,8 @@
 use Rattle.std.specs.Prelude.{◌≡◌, ℕ, false, List, All, IfSome}
 use Rattle.sip_standard.specs.Outcome.{gives}
 use Rattle.sip_standard.specs.Says.{Said, Says}
-use Rattle.sip_key.specs.declared.role.Direction.{Direction}
-use Rattle.sip_key.specs.Concerns.{lacks_cookie}
+use Rattle.sip_standard.specs.declared.role.Direction.{Direction}
+use Rattle.sip_standard.specs.Concerns.{lacks_cookie}
 use Rattle.sip_verdict.specs.Reading.{HasRuns}
 use Rattle.sip_verdict.specs.MessageReading.{direction_of, message_reading}
 

@@ -6,10 +6,10 @@ use Rattle.sip_standard.specs.declared.fault.Reason.TheVariants.{NoCookie}
 use Rattle.sip_standard.specs.Transport.{is_reliable}
 use Rattle.sip_standard.specs.Outcome.{gives, stops}
 use Rattle.sip_standard.specs.Says.{Said, Says}
-use Rattle.sip_key.specs.declared.role.Direction.{Direction}
-use Rattle.sip_key.specs.declared.role.Direction.TheVariants as way
-use Rattle.sip_key.specs.Key.{KeyParts, same_key}
-use Rattle.sip_key.specs.Concerns.{Concerns, lacks_cookie}
+use Rattle.sip_standard.specs.declared.role.Direction.{Direction}
+use Rattle.sip_standard.specs.declared.role.Direction.TheVariants as way
+use Rattle.sip_standard.specs.Key.{KeyParts, same_key}
+use Rattle.sip_standard.specs.Concerns.{Concerns, lacks_cookie}
 use Rattle.sip_standard.specs.declared.action.Action.{Action}
 use Rattle.sip_standard.specs.declared.action.Action.TheVariants.{Sent, Received, Failed, Mark, Restart}
 use Rattle.sip_machine.specs.declared.event.Kind.TheVariants.{Request}

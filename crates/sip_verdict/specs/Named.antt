@@ -1,6 +1,6 @@
 -- Which messages of a log are still needed: those that a state of a transaction names.
 use Rattle.std.specs.Prelude.{◌≡◌, ◌≢◌, ◌≤◌, ◌↔◌, ◌+◌, ℕ, List, ◌++◌, AllPairs, Contains, length, map}
-use Rattle.sip_key.specs.Key.{KeyParts}
+use Rattle.sip_standard.specs.Key.{KeyParts}
 use Rattle.sip_standard.specs.Times.{Times}
 use Rattle.sip_machine.specs.Told.{messages_told}
 use Rattle.sip_states.specs.Runs.{RuledRun}

@@ -3,8 +3,7 @@ use Rattle.std.specs.Prelude.{◌≡◌, ◌⊎◌, ℕ, MatchOption, List, [], 
 use Rattle.sip_standard.specs.declared.action.Action.TheVariants.{Mark}
 use Rattle.sip_standard.specs.Times.{Times}
 use Rattle.sip_standard.specs.LogEntry.{Item}
-use Rattle.sip_standard.specs.LogSays.{LogEnd}
-use Rattle.sip_standard.specs.LogSays.{LogSays, LacksHeader}
+use Rattle.sip_standard.specs.LogSays.{LogEnd, LogSays, LacksHeader}
 use Rattle.sip_part.specs.Part.{PartOf, TellsBranch, falls_into}
 use Rattle.sip_verdict.specs.declared.finding.Finding.{Finding}
 use Rattle.sip_verdict.specs.declared.survey_end.SurveyEnd.{SurveyEnd}

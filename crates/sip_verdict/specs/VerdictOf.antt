@@ -1,7 +1,7 @@
 -- The verdict of an input, its messages being those of RFC 3261.
 use Rattle.std.specs.Prelude.{◌≡◌, ◌≢◌, ◌+◌, ◌<◌, ◌⊎◌, ℕ, true, Some, None, MatchOption, List, [], ◌∷◌, ◌++◌, length, map, filter, fold, flat_map, if◌then◌else◌, All, AllPairs}
 use Rattle.std.specs.List.{list_any}
-use Rattle.sip_key.specs.Key.{KeyParts, same_key}
+use Rattle.sip_standard.specs.Key.{KeyParts, same_key}
 use Rattle.sip_standard.specs.Times.{Times}
 use Rattle.sip_machine.specs.MachineEvent.{MachineEvent}
 use Rattle.sip_machine.specs.Figure.{Owing}

@@ -7,7 +7,7 @@ ghost use Rattle.sip_verdict.specs.declared.verdict.Verdict.{Verdict as VerdictV
 ghost use Rattle.sip_verdict.specs.Keyed.{Observation, HasRun};
 ghost use Rattle.sip_verdict.specs.MessageReading.{key_machines, message_reading};
 ghost use Rattle.sip_verdict.specs.Reading.{IsVerdictBy};
-ghost use Rattle.sip_key.specs.Key.{KeyParts};
+ghost use Rattle.sip_standard.specs.Key.{KeyParts};
 ghost use Rattle.sip_standard.specs.declared.format.Format.{Format};
 ghost use Rattle.sip_standard.specs.declared.format.Format.TheVariants.{One, Two};
 ghost use Rattle.sip_standard.specs.LogEntry.{Item};

@@ -2,7 +2,7 @@
 ghost use Rattle.std.specs.Prelude.{◌≤◌, ◌<◌, ◌≡◌, ℕ, List, IfOk, OnErr};
 ghost use Rattle.sip_standard.specs.Times.{last_moment};
 ghost use Rattle.sip_machine.specs.Texts.{Keeps};
-ghost use Rattle.sip_key.specs.Key.{KeyParts};
+ghost use Rattle.sip_standard.specs.Key.{KeyParts};
 ghost use Rattle.sip_message.specs.SaidOf.{said_of};
 ghost use Rattle.sip_log.specs.Told.{item};
 ghost use Rattle.sip_verdict.specs.Keyed.{Observation};

@@ -1,7 +1,7 @@
 //! What one entry leaves of the runs of the transactions.
 ghost use Rattle.std.specs.Prelude.{◌≡◌, ◌≤◌, ℕ, List, All, IfOk, OnOk};
 ghost use Rattle.std.specs.Option.{ForSome, option_copied};
-ghost use Rattle.sip_key.specs.Key.{KeyParts};
+ghost use Rattle.sip_standard.specs.Key.{KeyParts};
 ghost use Rattle.sip_standard.specs.Times.{Times};
 ghost use Rattle.sip_machine.specs.MachineEvent.{MachineEvent, event_in, FitsBook};
 ghost use Rattle.sip_states.specs.KeyMachine.{MachineKind, key_rules};

@@ -1,7 +1,7 @@
 //! What is kept of the entries of a log that were judged.
 ghost use Rattle.std.specs.Prelude.{◌≡◌, ◌≢◌, ◌≤◌, ◌<◌, ◌+◌, ◌++◌, ◌∷◌, [], ℕ, Bool, None, List, All, AllPairs, Contains, IfOk, IfNone, OnOk, length, string_bytes, ◌↔◌, IfSome, MatchOption};
 ghost use Rattle.std.specs.Option.{ForSome, option_copied};
-ghost use Rattle.sip_key.specs.Key.{KeyParts};
+ghost use Rattle.sip_standard.specs.Key.{KeyParts};
 ghost use Rattle.sip_standard.specs.Times.{last_moment};
 ghost use Rattle.sip_machine.specs.Texts.{Keeps};
 ghost use Rattle.sip_states.specs.Tables.{HasNumber, IsGiven, due_of, most_keys};

@@ -1,6 +1,6 @@
 //! A judge that takes the entries of a log as they come.
 ghost use Rattle.std.specs.Prelude.{◌≡◌, ◌≢◌, ◌↔◌, ◌≤◌, ◌-◌, [], ℕ, None, Some, List, All, Contains, IsTrue, IfOk, IfNone, IfSome, MatchOption, OnOk, length, slice_get};
-ghost use Rattle.sip_key.specs.Key.{KeyParts};
+ghost use Rattle.sip_standard.specs.Key.{KeyParts};
 ghost use Rattle.sip_log.specs.Told.{item};
 ghost use Rattle.sip_states.specs.Tables.{HasNumber, IsGiven, due_of};
 ghost use Rattle.sip_verdict.specs.declared.stage.Stage.TheVariants.{Open};

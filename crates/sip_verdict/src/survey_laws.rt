@@ -13,7 +13,7 @@ ghost use Rattle.sip_verdict.specs.Keyed.{Observation, newest_moment};
 ghost use Rattle.sip_verdict.specs.MessageReading.{message_reading};
 ghost use Rattle.sip_verdict.specs.Reading.{AreObserved};
 ghost use Rattle.sip_standard.specs.declared.fault.Fault.{Fault as FaultValue};
-ghost use Rattle.sip_key.specs.Key.{KeyParts};
+ghost use Rattle.sip_standard.specs.Key.{KeyParts};
 ghost use Rattle.sip_standard.specs.LogEntry.{Item};
 ghost use Rattle.sip_standard.specs.LogSays.{LogEnd};
 ghost use Rattle.sip_standard.specs.Times.{Times};

@@ -1,6 +1,6 @@
 -- A key that starts anew: the set with which it comes can wait for ever, and needs no mark.
 use Rattle.std.proofs.Common.{ℕ, Bool, List, [], ◌∷◌, None, Contains, inl, inr, map, slice_set, refl, sym, subst}
-use Rattle.sip_key.specs.Key.{KeyParts}
+use Rattle.sip_standard.specs.Key.{KeyParts}
 use Rattle.sip_standard.specs.Times.{Times}
 use Rattle.sip_machine.specs.Texts.{Texts}
 use Rattle.sip_states.specs.Runs.{IsAgenda}

@@ -1,7 +1,7 @@
 -- A judge after one entry more, and what it tells of the input that the entries were read of.
 use Rattle.std.proofs.Common.{◌≡◌, ◌+◌, ◌-◌, ◌∙◌, ℕ, Option, Some, None, IfSome, MatchOption, slice_get, List, [], ◌∷◌, ◌++◌, length, refl, sym, ap, subst}
 use Rattle.std.proofs.lemmas.List.{length_push}
-use Rattle.sip_key.specs.Key.{KeyParts}
+use Rattle.sip_standard.specs.Key.{KeyParts}
 use Rattle.sip_machine.specs.Texts.{Texts}
 use Rattle.sip_states.specs.Tables.{HasNumber, IsGiven, Tabled}
 use Rattle.sip_log.specs.declared.entry.Entry.{Entry}

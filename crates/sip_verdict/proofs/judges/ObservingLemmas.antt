@@ -9,11 +9,11 @@ use Rattle.sip_message.specs.Reads.{Reads}
 use Rattle.sip_standard.specs.Outcome.{gives, stops}
 use Rattle.sip_standard.specs.Says.{Said, Says}
 use Rattle.sip_message.specs.SaidOf.{said_of}
-use Rattle.sip_key.specs.declared.role.Direction.{Direction}
-use Rattle.sip_key.specs.declared.role.Direction.TheVariants as way
-use Rattle.sip_key.specs.Key.{KeyParts}
-use Rattle.sip_key.specs.Branch.{cookie_branch}
-use Rattle.sip_key.specs.Concerns.{Concerns, is_sent, lacks_cookie}
+use Rattle.sip_standard.specs.declared.role.Direction.{Direction}
+use Rattle.sip_standard.specs.declared.role.Direction.TheVariants as way
+use Rattle.sip_standard.specs.Key.{KeyParts}
+use Rattle.sip_standard.specs.Branch.{cookie_branch}
+use Rattle.sip_standard.specs.Concerns.{Concerns, is_sent, lacks_cookie}
 use Rattle.sip_standard.specs.declared.action.Action.{Action}
 use Rattle.sip_standard.specs.declared.action.Action.TheVariants.{Sent, Received, Failed, Mark, Restart}
 use Rattle.sip_machine.specs.Message.{kind_of}

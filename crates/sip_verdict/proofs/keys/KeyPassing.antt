@@ -1,7 +1,7 @@
 -- What one entry leaves of a key whose set leads to its runs.
 use Rattle.std.proofs.Common.{◌≡◌, ◌≤◌, ℕ, true, false, Option, Some, List, [], ◌∷◌, ◌++◌, sym, subst}
 use Rattle.sip_standard.specs.declared.action.Action.TheVariants.{Restart}
-use Rattle.sip_key.specs.Key.{KeyParts}
+use Rattle.sip_standard.specs.Key.{KeyParts}
 use Rattle.sip_standard.specs.Times.{Times}
 use Rattle.sip_machine.specs.Texts.{Texts}
 use Rattle.sip_machine.specs.NumberedEvent.{NumberedEvent}

@@ -9,12 +9,11 @@ use Rattle.sip_machine.specs.Rules.{Rules}
 use Rattle.sip_states.specs.Runs.{IsAgenda}
 use Rattle.sip_states.specs.KeyMachine.{MachineKind, key_rules}
 use Rattle.sip_states.specs.Meaning.{HasAgenda}
-use Rattle.sip_states.specs.AnySet.{moment_of, IsAgendaOf}
+use Rattle.sip_states.specs.AnySet.{moment_of, IsAgendaOf, meaning_of}
 use Rattle.sip_states.specs.Agenda.{is_overdue}
 use Rattle.sip_states.specs.declared.any_set.AnySet.{AnySet}
 use Rattle.sip_states.proofs.runs.RunLemmas.{Run-wait, After-run}
 use Rattle.sip_verdict.specs.inner.Stepping.{RunsUntil}
-use Rattle.sip_states.specs.AnySet.{meaning_of}
 use Rattle.sip_verdict.specs.inner.TablesTracking.{LeadsOf}
 use Rattle.sip_states.proofs.keyed.ByMachine.{rules_are, moment_is, of_set}
 

@@ -1,6 +1,6 @@
 -- What is found at an entry, as it was appended.
 use Rattle.std.proofs.Common.{◌≡◌, ◌+◌, ◌≤◌, ℕ, Option, Some, None, List, [], ◌∷◌, ◌++◌, length, append_assoc, slice_get, refl, sym, ap, ◌∙◌, subst}
-use Rattle.sip_key.specs.Key.{KeyParts}
+use Rattle.sip_standard.specs.Key.{KeyParts}
 use Rattle.sip_standard.specs.Times.{Times}
 use Rattle.sip_machine.specs.Texts.{Texts}
 use Rattle.sip_standard.specs.declared.fault.Fault.{Fault}

@@ -1,6 +1,6 @@
 -- Numbers of transactions, one after another.
 use Rattle.std.proofs.Common.{◌≡◌, ◌≢◌, ◌≤◌, ◌<◌, ◌+◌, ℕ, zero, suc, true, false, List, [], ◌∷◌, AllPairs, length, get_or, drop, slice_get, refl, sym, ap, ◌∙◌, subst, arith, add-one, drop-cons}
-use Rattle.sip_key.specs.Key.{KeyParts}
+use Rattle.sip_standard.specs.Key.{KeyParts}
 use Rattle.sip_standard.specs.Times.{Times}
 use Rattle.sip_machine.specs.Texts.{Texts}
 use Rattle.sip_machine.specs.NumberedEvent.{NumberedEvent}

@@ -3,7 +3,7 @@ use Rattle.std.proofs.Common.{◌≡◌, ◌⊎◌, inl, inr, Bool, true, false,
 use Rattle.std.specs.List.{list_any}
 use Rattle.std.proofs.lemmas.Bool.{false≢true}
 use Rattle.std.proofs.lemmas.List.Elements.{All-contains}
-use Rattle.sip_key.specs.Key.{KeyParts, same_key}
+use Rattle.sip_standard.specs.Key.{KeyParts, same_key}
 use Rattle.sip_standard.specs.Times.{Times}
 use Rattle.sip_machine.specs.Figure.{quiet}
 use Rattle.sip_states.specs.Stands.{Stands, begins, waits}

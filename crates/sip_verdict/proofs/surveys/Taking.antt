@@ -1,7 +1,7 @@
 -- An item as it is in the log of a part.
 use Rattle.std.proofs.Common.{◌≡◌, ◌∙◌, ℕ, Bool, false, Option, Some, None, MatchOption, List, [], if◌then◌else◌, ap}
 use Rattle.std.specs.Prelude.{is_none}
-use Rattle.sip_key.specs.declared.role.Direction.{Direction}
+use Rattle.sip_standard.specs.declared.role.Direction.{Direction}
 use Rattle.sip_standard.specs.declared.action.Action.TheVariants.{Mark}
 use Rattle.sip_standard.specs.LogEntry.{Item}
 use Rattle.sip_part.specs.Part.{PartOf, TellsBranch, falls_into}

@@ -1,8 +1,8 @@
 -- The messages of a legal log.
 use Rattle.std.proofs.Common.{◌≡◌, ℕ, Option, Some, None, IfSome, MatchOption, List, [], ◌∷◌, ◌++◌, All, sym, ap, ◌∙◌}
 use Rattle.std.proofs.lemmas.List.Elements.{All-nil, All-cons, All-head, All-tail}
-use Rattle.sip_key.specs.declared.role.Direction.{Direction}
-use Rattle.sip_key.specs.Key.{KeyParts}
+use Rattle.sip_standard.specs.declared.role.Direction.{Direction}
+use Rattle.sip_standard.specs.Key.{KeyParts}
 use Rattle.sip_standard.specs.LogEntry.{Item}
 use Rattle.sip_verdict.specs.declared.verdict.Verdict.TheVariants.{Legal}
 use Rattle.sip_verdict.specs.Keyed.{Observation}

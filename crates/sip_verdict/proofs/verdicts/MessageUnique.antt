@@ -5,9 +5,9 @@ use Rattle.sip_standard.specs.declared.fault.Fault.{Fault}
 use Rattle.sip_standard.specs.Outcome.{Outcome, gives, stops}
 use Rattle.sip_standard.specs.Says.{Said, Says}
 use Rattle.sip_message.proofs.lemmas.says.Reading.{says-one, says-no_fault}
-use Rattle.sip_key.specs.declared.role.Direction.{Direction}
-use Rattle.sip_key.specs.Key.{KeyParts}
-use Rattle.sip_key.specs.Concerns.{Concerns, lacks_cookie, own_key, cancelled_key}
+use Rattle.sip_standard.specs.declared.role.Direction.{Direction}
+use Rattle.sip_standard.specs.Key.{KeyParts}
+use Rattle.sip_standard.specs.Concerns.{Concerns, lacks_cookie, own_key, cancelled_key}
 use Rattle.sip_standard.specs.LogEntry.{Item}
 use Rattle.sip_verdict.specs.Keyed.{Observation}
 use Rattle.sip_verdict.specs.MessageReading.{fault_observation, message_event, ObservesMessage, has_fault, has_no_cookie, is_heard, direction_of, message_reading}

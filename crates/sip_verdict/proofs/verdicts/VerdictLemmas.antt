@@ -1,7 +1,7 @@
 -- The verdict of an input by one recursion for SIP messages is that by any reading's, for theirs.
 use Rattle.std.proofs.Common.{◌↔◌, inl, inr, ℕ, List, [], ◌∷◌, ◌++◌}
 use Rattle.std.proofs.lemmas.List.Elements.{All-weaker}
-use Rattle.sip_key.specs.Key.{KeyParts}
+use Rattle.sip_standard.specs.Key.{KeyParts}
 use Rattle.sip_standard.specs.Times.{Times}
 use Rattle.sip_machine.specs.Figure.{Owing}
 use Rattle.sip_standard.specs.LogEntry.{Item}

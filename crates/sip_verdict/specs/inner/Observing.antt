@@ -2,9 +2,9 @@ use Rattle.std.specs.Prelude.{◌≡◌, ◌≢◌, ◌⊎◌, ◌++◌, ◌∷�
 use Rattle.sip_machine.specs.Texts.{Texts, Keeps, text_of}
 use Rattle.sip_machine.specs.MachineEvent.{event_in, FitsBook}
 use Rattle.sip_standard.specs.Says.{Said}
-use Rattle.sip_key.specs.Key.{KeyParts}
-use Rattle.sip_key.specs.Concerns.{Concerns, lacks_cookie}
-use Rattle.sip_key.specs.declared.role.Direction.{Direction}
+use Rattle.sip_standard.specs.Key.{KeyParts}
+use Rattle.sip_standard.specs.Concerns.{Concerns, lacks_cookie}
+use Rattle.sip_standard.specs.declared.role.Direction.{Direction}
 use Rattle.sip_key.specs.declared.concern.KeyError.{KeyError}
 use Rattle.sip_key.specs.declared.concern.KeyError.TheVariants as error
 use Rattle.sip_log.specs.declared.entry.Entry.{Entry}

@@ -1,7 +1,7 @@
 -- How a whole log is read and surveyed, entry by entry.
 use Rattle.std.specs.Prelude.{◌≡◌, ◌≤◌, ◌+◌, ◌++◌, [], ◌∷◌, ℕ, false, Option, Some, None, List, length, filter, flat_map, ⊤}
 use Rattle.std.specs.Io.KnownBytes.{Appends}
-use Rattle.sip_key.specs.Key.{KeyParts}
+use Rattle.sip_standard.specs.Key.{KeyParts}
 use Rattle.sip_standard.specs.LogEntry.{Item}
 use Rattle.sip_standard.specs.LogSays.{LogEnd, most_entries}
 use Rattle.sip_part.specs.Part.{PartOf}

@@ -1,6 +1,6 @@
 -- How a judge goes on after an entry.
 use Rattle.std.specs.Prelude.{◌≡◌, ◌≤◌, ◌++◌, ◌∷◌, [], ℕ, List, Option, Some, None}
-use Rattle.sip_key.specs.Key.{KeyParts}
+use Rattle.sip_standard.specs.Key.{KeyParts}
 use Rattle.sip_machine.specs.Texts.{Texts}
 use Rattle.sip_states.specs.Tables.{Tabled}
 use Rattle.sip_standard.specs.LogSays.{most_entries}

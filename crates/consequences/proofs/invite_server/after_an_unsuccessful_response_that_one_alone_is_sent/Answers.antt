@@ -1,6 +1,6 @@
 use Rattle.std.proofs.Common.{◌≡◌, ◌≤◌, ◌⊎◌, inl, inr, ◌++◌, ◌∷◌, ◌∙◌, ℕ, Bool, true, Option, List, All, refl, sym, arith}
 use Rattle.std.specs.List.{Any}
-use Rattle.sip_key.specs.declared.role.Role.TheVariants.{Server}
+use Rattle.sip_standard.specs.declared.role.Role.TheVariants.{Server}
 use Rattle.sip_standard.specs.declared.action.Action.TheVariants.{Sent}
 use Rattle.sip_standard.specs.declared.rules.Rules.{Rules}
 use Rattle.sip_standard.specs.declared.rules.Rules.TheVariants.{R3261, R6026}

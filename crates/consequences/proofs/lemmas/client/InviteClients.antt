@@ -1,6 +1,6 @@
 -- Both INVITE clients. They send by the same rows, and differ in where a received 2xx leads.
 use Rattle.std.proofs.Common.{◌≡◌, ◌*◌, ◌⊎◌, inl, inr, ℕ, Bool, true, Option, Some, None, List, refl}
-use Rattle.sip_key.specs.AckOf.{AckOf}
+use Rattle.sip_standard.specs.AckOf.{AckOf}
 use Rattle.sip_machine.specs.declared.event.Method.TheVariants.{Invite, Ack, Cancel}
 use Rattle.sip_machine.specs.declared.event.Kind.{Kind}
 use Rattle.sip_machine.specs.declared.event.Kind.TheVariants.{Request, Response}

@@ -1,6 +1,6 @@
 use Rattle.std.proofs.Common.{◌≡◌, ◌++◌, ◌∷◌, Bool, true, false, List, All, subst}
 use Rattle.std.proofs.lemmas.List.Elements.{All-weaker}
-use Rattle.sip_key.specs.declared.role.Role.TheVariants.{Server}
+use Rattle.sip_standard.specs.declared.role.Role.TheVariants.{Server}
 use Rattle.sip_standard.specs.declared.action.Action.TheVariants.{Sent, Received}
 use Rattle.sip_standard.specs.declared.rules.Rules.{Rules}
 use Rattle.sip_standard.specs.declared.rules.Rules.TheVariants.{R3261, R6026}

@@ -14,8 +14,7 @@ use Rattle.sip_message.specs.Reading.{IsValueOf, AddressValue, CSeqValue, Readin
 use Rattle.sip_message.specs.inner.Codes.{parts_code}
 use Rattle.sip_message.specs.inner.Kept.{KeepsRead}
 use Rattle.sip_message.specs.Reads.{Reads}
-use Rattle.sip_message.proofs.lemmas.message.Faults.{text-read}
-use Rattle.sip_message.proofs.lemmas.message.Faults.{one-read}
+use Rattle.sip_message.proofs.lemmas.message.Faults.{text-read, one-read}
 use Rattle.sip_message.proofs.lemmas.via.Elements.{first-front, One-is}
 
 -- what must be read is read

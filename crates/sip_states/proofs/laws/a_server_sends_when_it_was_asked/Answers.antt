@@ -1,4 +1,4 @@
-use Rattle.sip_key.specs.declared.role.Role.TheVariants.{Server}
+use Rattle.sip_standard.specs.declared.role.Role.TheVariants.{Server}
 use Rattle.sip_states.specs.KeyMachine.{machine_of, transaction_of, coded_holds}
 use Rattle.sip_states.proofs.runs.StandsLemmas.{behind-after}
 use Rattle.sip_states.proofs.runs.ServerLaws.{server_sends_when_asked}

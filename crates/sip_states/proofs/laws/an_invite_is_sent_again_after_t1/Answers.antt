@@ -1,5 +1,5 @@
 use Rattle.std.specs.Prelude.{◌∷◌, true}
-use Rattle.sip_key.specs.declared.role.Role.TheVariants.{Client}
+use Rattle.sip_standard.specs.declared.role.Role.TheVariants.{Client}
 use Rattle.sip_standard.specs.declared.rules.Rules.TheVariants.{R6026}
 use Rattle.sip_states.specs.KeyMachine.{machine_of, transaction_of, coded_holds}
 use Rattle.sip_states.proofs.runs.StandsLemmas.{behind-after}

@@ -1,5 +1,5 @@
 use Rattle.std.proofs.Common.{◌≡◌, ◌≢◌, ◌≤◌, List, AllPairs, length, drop}
-use Rattle.sip_key.specs.Key.{KeyParts}
+use Rattle.sip_standard.specs.Key.{KeyParts}
 use Rattle.sip_standard.specs.Times.{Times}
 use Rattle.sip_verdict.specs.Keyed.{Observation, newest_moment}
 use Rattle.sip_verdict.specs.inner.TablesTracking.{MayPass, is_among}

@@ -1,27 +1,12 @@
--- Keys of transactions.
-use Rattle.std.specs.Prelude.{ℕ, ◌/◌, ◌%◌, Bool, ◌&&◌, List, [], ◌∷◌, ◌++◌, length, drop, replicate, slice_range}
-use Rattle.std.specs.Str.{bytes_eq}
-use Rattle.sip_key.specs.declared.role.Role.{Role}
-use Rattle.sip_key.specs.declared.role.Role.TheVariants.{Client, Server}
-use Rattle.sip_key.specs.contracts.role.RolePartialEq.TheImpl as role_eq
-
--- what tells one transaction from another (sections 17.1.3 and 17.2.3), its texts folded
-pub record KeyParts : Type 0 where
-  pub role : Role
-  pub branch : List ℕ
-  pub sent_by : List ℕ
-  pub method : List ℕ
+use Rattle.std.specs.Prelude.{ℕ, ◌/◌, ◌%◌, List, [], ◌∷◌, ◌++◌, length, drop, replicate, slice_range}
+use Rattle.sip_standard.specs.declared.role.Role.{Role}
+use Rattle.sip_standard.specs.declared.role.Role.TheVariants.{Client, Server}
+use Rattle.sip_standard.specs.Key.{KeyParts}
 
 -- the parts of a key whose text has its branch, its sent-by and its method between these places
 abbrev pub parts_at : Role → List ℕ → (branch_start branch_end sent_by_end : ℕ) → KeyParts
 parts_at role text branch_start branch_end sent_by_end =
     record { role = role; branch = slice_range text branch_start branch_end; sent_by = slice_range text branch_end sent_by_end; method = drop sent_by_end text }
-
--- the keys are equal
-abbrev pub same_key : KeyParts → KeyParts → Bool
-same_key a b =
-    role_eq.ghosts.eq a.role b.role
-    && (bytes_eq a.branch b.branch && (bytes_eq a.sent_by b.sent_by && bytes_eq a.method b.method))
 
 -- a length in bytes: 64 as often as it goes, and what is left, which ends it
 unfoldable pub length_bytes : ℕ → List ℕ

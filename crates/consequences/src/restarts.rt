@@ -3,10 +3,10 @@ ghost use Rattle.std.specs.Prelude.{◌≡◌, ◌++◌, ◌∷◌, [], ◌⊎�
 ghost use Rattle.sip_standard.specs.declared.role.Role.TheVariants.{Client, Server};
 ghost use Rattle.sip_standard.specs.declared.action.Action.TheVariants.{Sent};
 ghost use Rattle.sip_standard.specs.declared.rules.Rules.{Rules};
-ghost use Rattle.sip_machine.specs.declared.event.Kind.TheVariants.{Request};
-ghost use Rattle.sip_machine.specs.declared.event.Method.TheVariants.{Invite, Cancel};
-ghost use Rattle.sip_machine.specs.Figure.{Owing, quiet};
-ghost use Rattle.sip_machine.specs.MachineEvent.{MachineEvent};
+ghost use Rattle.sip_standard.specs.declared.kind.Kind.TheVariants.{Request};
+ghost use Rattle.sip_standard.specs.declared.kind.Method.TheVariants.{Invite, Cancel};
+ghost use Rattle.sip_standard.specs.Figure.{Owing, quiet};
+ghost use Rattle.sip_standard.specs.MachineEvent.{MachineEvent};
 ghost use Rattle.sip_standard.specs.Times.{Times};
 ghost use Rattle.sip_states.specs.KeyMachine.{MachineKind, transaction_of};
 ghost use Rattle.sip_states.specs.Stands.{StandsBehind};

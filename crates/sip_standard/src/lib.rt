@@ -6,11 +6,13 @@
 mod action;
 mod fault;
 mod format;
+mod kind;
 mod role;
 mod rules;
 
 pub use crate::fault::{Fault, Reason, Unit};
 pub use action::Action;
 pub use format::Format;
+pub use kind::{Kind, Method};
 pub use role::{Direction, Role};
 pub use rules::Rules;

@@ -8,22 +8,29 @@ use Rattle.sip_standard.specs.declared.rules.Rules.{Rules as BuiltBy}
 use Rattle.sip_standard.specs.declared.rules.Rules.TheVariants.{R3261, R6026}
 use Rattle.sip_standard.specs.Times.{Times}
 use Rattle.sip_machine.specs.Rules.{Rules}
-use Rattle.sip_machine.specs.Figure.{Owing, rules_of as rules_of_figure}
+use Rattle.sip_standard.specs.Figure.{Owing}
+use Rattle.sip_machine.specs.FigureRules.{rules_of as rules_of_figure}
 use Rattle.sip_machine.specs.Owing.{CodeOwing}
-use Rattle.sip_machine.specs.Transaction.{Transaction, Coded, idle_state}
-use Rattle.sip_machine.specs.InviteClient.{InviteClientPhase, invite_client, invite_client_coded}
-use Rattle.sip_machine.specs.PlainClient.{PlainClientPhase, plain_client, plain_client_coded}
-use Rattle.sip_machine.specs.InviteServer.{InviteServerPhase, invite_server, invite_server_coded}
-use Rattle.sip_machine.specs.InviteClient3261.{invite_client_3261, invite_client_3261_coded}
-use Rattle.sip_machine.specs.InviteServer3261.{InviteServer3261Phase, invite_server_3261, invite_server_3261_coded}
-use Rattle.sip_machine.specs.PlainServer.{PlainServerPhase, plain_server, plain_server_coded}
-use Rattle.sip_machine.specs.inner.Coded.{IsCoded}
-use Rattle.sip_machine.specs.InviteClient.Laws.{invite_client_is_coded}
-use Rattle.sip_machine.specs.PlainClient.Laws.{plain_client_is_coded}
-use Rattle.sip_machine.specs.InviteServer.Laws.{invite_server_is_coded}
-use Rattle.sip_machine.specs.InviteClient3261.Laws.{invite_client_3261_is_coded}
-use Rattle.sip_machine.specs.InviteServer3261.Laws.{invite_server_3261_is_coded}
-use Rattle.sip_machine.specs.PlainServer.Laws.{plain_server_is_coded}
+use Rattle.sip_standard.specs.Transaction.{Transaction}
+use Rattle.sip_machine.specs.inner.Coded.{Coded, idle_state, IsCoded}
+use Rattle.sip_standard.specs.InviteClient.{InviteClientPhase, invite_client}
+use Rattle.sip_machine.specs.inner.InviteClient.{invite_client_coded}
+use Rattle.sip_standard.specs.PlainClient.{PlainClientPhase, plain_client}
+use Rattle.sip_machine.specs.inner.PlainClient.{plain_client_coded}
+use Rattle.sip_standard.specs.InviteServer.{InviteServerPhase, invite_server}
+use Rattle.sip_machine.specs.inner.InviteServer.{invite_server_coded}
+use Rattle.sip_standard.specs.InviteClient3261.{invite_client_3261}
+use Rattle.sip_machine.specs.inner.InviteClient3261.{invite_client_3261_coded}
+use Rattle.sip_standard.specs.InviteServer3261.{InviteServer3261Phase, invite_server_3261}
+use Rattle.sip_machine.specs.inner.InviteServer3261.{invite_server_3261_coded}
+use Rattle.sip_standard.specs.PlainServer.{PlainServerPhase, plain_server}
+use Rattle.sip_machine.specs.inner.PlainServer.{plain_server_coded}
+use Rattle.sip_machine.specs.inner.InviteClient.Laws.{invite_client_is_coded}
+use Rattle.sip_machine.specs.inner.PlainClient.Laws.{plain_client_is_coded}
+use Rattle.sip_machine.specs.inner.InviteServer.Laws.{invite_server_is_coded}
+use Rattle.sip_machine.specs.inner.InviteClient3261.Laws.{invite_client_3261_is_coded}
+use Rattle.sip_machine.specs.inner.InviteServer3261.Laws.{invite_server_3261_is_coded}
+use Rattle.sip_machine.specs.inner.PlainServer.Laws.{plain_server_is_coded}
 use Rattle.sip_states.specs.Held.{Held}
 use Rattle.sip_states.specs.declared.any_set.AnySet.{AnySet}
 use Rattle.sip_states.specs.declared.any_set.AnySet.TheVariants.{InviteClient, PlainClient, InviteServer, PlainServer, InviteClient3261, InviteServer3261}

@@ -1,7 +1,7 @@
 use Rattle.std.specs.Prelude.{◌≤◌, ℕ, List, [], ◌∷◌, ◌++◌}
 use Rattle.sip_standard.specs.Times.{Times}
-use Rattle.sip_machine.specs.MachineEvent.{MachineEvent}
-use Rattle.sip_machine.specs.Figure.{Figure, Owing, quiet, Takes, Lasts, MayEnd}
+use Rattle.sip_standard.specs.MachineEvent.{MachineEvent}
+use Rattle.sip_standard.specs.Figure.{Figure, Owing, quiet, Takes, Lasts, MayEnd}
 
 -- a run over just these events, in order, stands in a state at a moment
 pub data Stands {X : Type 0} (f : Figure X) (p : Times) : List MachineEvent → ℕ → Owing X → Type 0 where

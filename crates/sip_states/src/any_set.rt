@@ -1,6 +1,6 @@
 //! The states of one transaction, whichever machine it has.
 ghost use Rattle.std.specs.Prelude.{◌≡◌, ◌↔◌, ◌≤◌, IfOk, IsErrOf, IsTrue, OnErr, OnOk};
-ghost use Rattle.sip_machine.specs.MachineEvent.{FitsBook};
+ghost use Rattle.sip_machine.specs.NumberedEvent.{FitsBook};
 ghost use Rattle.sip_states.specs.AnySet.{moment_of, start_of, IsEmpty, IsKeptSet, IsQuietSet, IsKnownSet, SetWaits, SetTakes, IsSetTooWide, IsAgendaOf};
 ghost use Rattle.sip_states.specs.Sweep.{AppendsNumbers};
 ghost use Rattle.sip_states.specs.Told.{AreTold};

@@ -1,6 +1,6 @@
 use Rattle.std.specs.Prelude.{ℕ, Bool, Option, List, [], ◌∷◌, ◌++◌, if◌then◌else◌, map, filter, fold, flat_map}
 use Rattle.std.specs.List.{list_any}
-use Rattle.sip_machine.specs.MachineEvent.{MachineEvent}
+use Rattle.sip_standard.specs.MachineEvent.{MachineEvent}
 use Rattle.sip_machine.specs.Rules.{Rules}
 use Rattle.sip_standard.specs.declared.fault.Fault.{Fault}
 use Rattle.sip_states.specs.Runs.{RuledRun}

@@ -3,8 +3,8 @@ use Rattle.std.specs.Prelude.{◌≡◌, ◌↔◌, ◌⊎◌, ◌+◌, ◌≢�
 use Rattle.sip_standard.specs.Key.{KeyParts}
 use Rattle.sip_standard.specs.declared.action.Action.TheVariants.{Mark, Restart}
 use Rattle.sip_standard.specs.Times.{Times}
-use Rattle.sip_machine.specs.MachineEvent.{MachineEvent}
-use Rattle.sip_machine.specs.Figure.{Owing, quiet}
+use Rattle.sip_standard.specs.MachineEvent.{MachineEvent}
+use Rattle.sip_standard.specs.Figure.{Owing, quiet}
 use Rattle.sip_states.specs.Stands.{Stands}
 use Rattle.sip_states.specs.KeyMachine.{MachineKind, transaction_of}
 use Rattle.sip_standard.specs.LogEntry.{Item}

@@ -3,8 +3,8 @@ use Rattle.std.specs.Prelude.{◌≡◌, ◌≢◌, ◌+◌, ◌<◌, ◌⊎◌,
 use Rattle.std.specs.List.{list_any}
 use Rattle.sip_standard.specs.Key.{KeyParts, same_key}
 use Rattle.sip_standard.specs.Times.{Times}
-use Rattle.sip_machine.specs.MachineEvent.{MachineEvent}
-use Rattle.sip_machine.specs.Figure.{Owing}
+use Rattle.sip_standard.specs.MachineEvent.{MachineEvent}
+use Rattle.sip_standard.specs.Figure.{Owing}
 use Rattle.sip_states.specs.KeyMachine.{machine_of_key, transaction_of}
 use Rattle.sip_states.specs.Stands.{Stands, StandsBehind}
 use Rattle.sip_standard.specs.LogEntry.{Item}

@@ -3,7 +3,8 @@ ghost use Rattle.std.specs.Prelude.{◌≡◌, ◌≤◌, ℕ, List, All, IfOk, 
 ghost use Rattle.std.specs.Option.{ForSome, option_copied};
 ghost use Rattle.sip_standard.specs.Key.{KeyParts};
 ghost use Rattle.sip_standard.specs.Times.{Times};
-ghost use Rattle.sip_machine.specs.MachineEvent.{MachineEvent, event_in, FitsBook};
+ghost use Rattle.sip_standard.specs.MachineEvent.{MachineEvent};
+ghost use Rattle.sip_machine.specs.NumberedEvent.{event_in, FitsBook};
 ghost use Rattle.sip_states.specs.KeyMachine.{MachineKind, key_rules};
 ghost use Rattle.sip_states.specs.AnySet.{moment_of, IsEmpty, IsKnownSet};
 ghost use Rattle.sip_states.specs.Tables.{IsGiven, due_of};

@@ -4,7 +4,7 @@ ghost use Rattle.std.specs.Option.{ForSome, option_copied};
 ghost use Rattle.sip_standard.specs.Key.{KeyParts};
 ghost use Rattle.sip_standard.specs.Times.{Times};
 ghost use Rattle.sip_machine.specs.Texts.{Texts};
-ghost use Rattle.sip_machine.specs.MachineEvent.{FitsBook};
+ghost use Rattle.sip_machine.specs.NumberedEvent.{FitsBook};
 ghost use Rattle.sip_states.specs.Tables.{IsGiven, due_of};
 ghost use Rattle.sip_verdict.specs.Keyed.{Observation, newest_moment};
 ghost use Rattle.sip_verdict.specs.inner.Concerned.{each};

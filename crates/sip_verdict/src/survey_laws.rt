@@ -17,8 +17,8 @@ ghost use Rattle.sip_standard.specs.Key.{KeyParts};
 ghost use Rattle.sip_standard.specs.LogEntry.{Item};
 ghost use Rattle.sip_standard.specs.LogSays.{LogEnd};
 ghost use Rattle.sip_standard.specs.Times.{Times};
-ghost use Rattle.sip_machine.specs.MachineEvent.{MachineEvent};
-ghost use Rattle.sip_machine.specs.Figure.{Owing, Lasts};
+ghost use Rattle.sip_standard.specs.MachineEvent.{MachineEvent};
+ghost use Rattle.sip_standard.specs.Figure.{Owing, Lasts};
 ghost use Rattle.sip_states.specs.Stands.{Stands};
 ghost use Rattle.sip_states.specs.KeyMachine.{MachineKind, machine_of_key, transaction_of};
 

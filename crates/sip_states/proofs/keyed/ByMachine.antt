@@ -7,7 +7,7 @@ use Rattle.std.specs.List.{flat_map}
 use Rattle.sip_machine.specs.Owing.{owing_names}
 use Rattle.sip_machine.specs.Naming.{AppendsAll}
 use Rattle.sip_machine.specs.Rules.{IsLawful, Knows}
-use Rattle.sip_machine.specs.Transaction.{idle_state, ended_state}
+use Rattle.sip_machine.specs.inner.Coded.{idle_state, ended_state}
 use Rattle.sip_machine.specs.inner.FigureLaws.{rules_lawful}
 use Rattle.sip_machine.specs.inner.OwingLaws.{owing_by_names, quiet_stands}
 use Rattle.sip_states.specs.Held.{Held}

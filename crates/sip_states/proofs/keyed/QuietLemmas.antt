@@ -4,9 +4,9 @@ use Rattle.std.proofs.lemmas.List.Elements.{All-nil, All-cons}
 use Rattle.sip_standard.specs.declared.action.Action.TheVariants.{Restart}
 use Rattle.sip_standard.specs.Times.{Times}
 use Rattle.sip_machine.specs.Texts.{Texts}
-use Rattle.sip_machine.specs.MachineEvent.{MachineEvent}
+use Rattle.sip_standard.specs.MachineEvent.{MachineEvent}
 use Rattle.sip_machine.specs.Rules.{Rules, IsLawful, StandFor, Knows}
-use Rattle.sip_machine.specs.Figure.{Figure, Owing, quiet, Restarts, Steps}
+use Rattle.sip_standard.specs.Figure.{Figure, Owing, quiet, Restarts, Steps}
 use Rattle.sip_states.specs.Runs.{Wait, RunGives}
 use Rattle.sip_states.specs.Held.{Held}
 use Rattle.sip_states.specs.KeyMachine.{MachineKind, transaction_of, coded_holds, PhaseOf, StateOf, key_rules}

@@ -16,10 +16,9 @@ use Rattle.sip_standard.specs.Branch.{cookie_branch}
 use Rattle.sip_standard.specs.Concerns.{Concerns, is_sent, lacks_cookie}
 use Rattle.sip_standard.specs.declared.action.Action.{Action}
 use Rattle.sip_standard.specs.declared.action.Action.TheVariants.{Sent, Received, Failed, Mark, Restart}
-use Rattle.sip_machine.specs.Message.{kind_of}
-use Rattle.sip_machine.specs.NumberedEvent.{NumberedEvent}
+use Rattle.sip_standard.specs.Kind.{kind_of}
+use Rattle.sip_machine.specs.NumberedEvent.{NumberedEvent, event_in, FitsBook}
 use Rattle.sip_machine.specs.Texts.{Texts, Keeps, text_of}
-use Rattle.sip_machine.specs.MachineEvent.{event_in, FitsBook}
 use Rattle.sip_standard.specs.Times.{last_moment}
 use Rattle.sip_log.specs.declared.entry.Entry.{Entry}
 use Rattle.sip_log.specs.Told.{item}

@@ -10,11 +10,10 @@ use Rattle.std.proofs.lemmas.List.Elements.{All-nil, All-cons, All-weaker}
 use Rattle.sip_standard.specs.Key.{KeyParts, same_key}
 use Rattle.sip_standard.specs.Times.{Times, last_moment}
 use Rattle.sip_standard.specs.declared.action.Action.TheVariants.{Restart}
-use Rattle.sip_machine.specs.declared.event.Kind.TheVariants.{Request}
-use Rattle.sip_machine.specs.declared.event.Method.TheVariants.{Other}
+use Rattle.sip_standard.specs.declared.kind.Kind.TheVariants.{Request}
+use Rattle.sip_standard.specs.declared.kind.Method.TheVariants.{Other}
 use Rattle.sip_machine.specs.Texts.{Texts, Keeps, text_of}
-use Rattle.sip_machine.specs.MachineEvent.{event_in, FitsBook}
-use Rattle.sip_machine.specs.NumberedEvent.{NumberedEvent}
+use Rattle.sip_machine.specs.NumberedEvent.{event_in, FitsBook, NumberedEvent}
 use Rattle.sip_machine.specs.Rules.{Knows}
 use Rattle.sip_machine.proofs.texts.TextLaws.{Keeps-grow, Keeps-grow_cases}
 use Rattle.sip_states.specs.KeyMachine.{machine_of_key}

@@ -4,8 +4,8 @@ use Rattle.sip_standard.specs.declared.action.Action.TheVariants.{Restart}
 use Rattle.sip_standard.specs.Key.{KeyParts}
 use Rattle.sip_standard.specs.Times.{Times}
 use Rattle.sip_machine.specs.Texts.{Texts}
-use Rattle.sip_machine.specs.NumberedEvent.{NumberedEvent}
-use Rattle.sip_machine.specs.MachineEvent.{MachineEvent, event_in}
+use Rattle.sip_machine.specs.NumberedEvent.{NumberedEvent, event_in}
+use Rattle.sip_standard.specs.MachineEvent.{MachineEvent}
 use Rattle.sip_states.specs.KeyMachine.{MachineKind, machine_of_key, key_rules}
 use Rattle.sip_states.specs.Agenda.{is_overdue}
 use Rattle.sip_states.specs.AnySet.{moment_of, IsQuietSet, IsAgendaOf}

@@ -8,7 +8,7 @@ use Rattle.std.proofs.lemmas.List.Elements.{filter-append}
 use Rattle.sip_standard.specs.Key.{KeyParts, same_key}
 use Rattle.sip_key.specs.inner.KeyLaws.{same_key-decides}
 use Rattle.sip_standard.specs.Times.{Times}
-use Rattle.sip_machine.specs.MachineEvent.{MachineEvent}
+use Rattle.sip_standard.specs.MachineEvent.{MachineEvent}
 use Rattle.sip_states.specs.Stands.{Stands, StandsBehind}
 use Rattle.sip_states.specs.KeyMachine.{machine_of_key, transaction_of}
 use Rattle.sip_verdict.specs.Keyed.{Observation, with_key, newest_moment}

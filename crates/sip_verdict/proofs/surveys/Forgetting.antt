@@ -3,7 +3,7 @@ use Rattle.std.proofs.Common.{◌≡◌, ◌≤◌, ◌↔◌, ◌⊎◌, inl, i
 use Rattle.std.proofs.lemmas.List.Elements.{All-weaker}
 use Rattle.sip_standard.specs.Key.{KeyParts}
 use Rattle.sip_standard.specs.Times.{Times}
-use Rattle.sip_machine.specs.Figure.{Owing}
+use Rattle.sip_standard.specs.Figure.{Owing}
 use Rattle.sip_states.specs.Stands.{Stands, StandsBehind}
 use Rattle.sip_states.specs.KeyMachine.{machine_of_key, transaction_of}
 use Rattle.sip_verdict.specs.Keyed.{Observation, newest_moment}

@@ -6,7 +6,7 @@ use Rattle.sip_standard.specs.Key.{KeyParts, same_key}
 use Rattle.sip_standard.specs.Times.{Times}
 use Rattle.sip_machine.specs.Texts.{Texts, IsBook, Keeps}
 use Rattle.sip_machine.specs.Retained.{only}
-use Rattle.sip_machine.specs.MachineEvent.{MachineEvent}
+use Rattle.sip_standard.specs.MachineEvent.{MachineEvent}
 use Rattle.sip_states.specs.Runs.{RuledRun}
 use Rattle.sip_states.specs.KeyMachine.{machine_of_key, key_rules}
 use Rattle.sip_states.specs.AnySet.{moment_of}

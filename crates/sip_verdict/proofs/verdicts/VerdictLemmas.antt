@@ -3,7 +3,7 @@ use Rattle.std.proofs.Common.{◌↔◌, inl, inr, ℕ, List, [], ◌∷◌, ◌
 use Rattle.std.proofs.lemmas.List.Elements.{All-weaker}
 use Rattle.sip_standard.specs.Key.{KeyParts}
 use Rattle.sip_standard.specs.Times.{Times}
-use Rattle.sip_machine.specs.Figure.{Owing}
+use Rattle.sip_standard.specs.Figure.{Owing}
 use Rattle.sip_standard.specs.LogEntry.{Item}
 use Rattle.sip_standard.specs.LogSays.{LogEnd, Clean, Stops}
 use Rattle.sip_verdict.specs.declared.verdict.Verdict.{Verdict}

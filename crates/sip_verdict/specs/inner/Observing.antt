@@ -1,6 +1,6 @@
 use Rattle.std.specs.Prelude.{◌≡◌, ◌≢◌, ◌⊎◌, ◌++◌, ◌∷◌, [], ℕ, true, false, List, None, AllPairs, Result, Ok, Err, ⊤}
 use Rattle.sip_machine.specs.Texts.{Texts, Keeps, text_of}
-use Rattle.sip_machine.specs.MachineEvent.{event_in, FitsBook}
+use Rattle.sip_machine.specs.NumberedEvent.{event_in, FitsBook}
 use Rattle.sip_standard.specs.Says.{Said}
 use Rattle.sip_standard.specs.Key.{KeyParts}
 use Rattle.sip_standard.specs.Concerns.{Concerns, lacks_cookie}

@@ -3,8 +3,8 @@ use Rattle.std.specs.List.{zip, list_any}
 use Rattle.sip_standard.specs.Key.{KeyParts}
 use Rattle.sip_standard.specs.Times.{Times}
 use Rattle.sip_machine.specs.Texts.{Texts, Keeps}
-use Rattle.sip_machine.specs.NumberedEvent.{NumberedEvent}
-use Rattle.sip_machine.specs.MachineEvent.{MachineEvent, event_in, FitsBook}
+use Rattle.sip_machine.specs.NumberedEvent.{NumberedEvent, event_in, FitsBook}
+use Rattle.sip_standard.specs.MachineEvent.{MachineEvent}
 use Rattle.sip_machine.specs.Rules.{StandFor}
 use Rattle.sip_states.specs.Runs.{AfterRun}
 use Rattle.sip_states.specs.Held.{Held}

@@ -8,10 +8,10 @@ use Rattle.sip_standard.specs.declared.format.Format.{Format}
 use Rattle.sip_standard.specs.LogEntry.{InOrder, Item, HasMessage}
 use Rattle.sip_standard.specs.declared.action.Action.{Action}
 use Rattle.sip_standard.specs.declared.action.Action.TheVariants.{Sent, Received, Failed, Mark, Restart}
-use Rattle.sip_machine.specs.declared.event.Kind.TheVariants.{Request}
-use Rattle.sip_machine.specs.declared.event.Method.TheVariants.{Other}
-use Rattle.sip_machine.specs.MachineEvent.{MachineEvent}
-use Rattle.sip_machine.specs.Message.{kind_of}
+use Rattle.sip_standard.specs.declared.kind.Kind.TheVariants.{Request}
+use Rattle.sip_standard.specs.declared.kind.Method.TheVariants.{Other}
+use Rattle.sip_standard.specs.MachineEvent.{MachineEvent}
+use Rattle.sip_standard.specs.Kind.{kind_of}
 use Rattle.sip_standard.specs.Outcome.{gives}
 use Rattle.sip_standard.specs.Says.{Said, Says}
 use Rattle.sip_verdict.specs.Keyed.{Observation}

@@ -1,9 +1,9 @@
 use Rattle.std.specs.Prelude.{◌≤◌, ℕ, List, codes, bytes_eq, if◌then◌else◌}
 use Rattle.sip_standard.specs.StartLine.{StartLine, request, status}
-use Rattle.sip_machine.specs.declared.event.Method.{Method}
-use Rattle.sip_machine.specs.declared.event.Method.TheVariants.{Invite, Ack, Cancel, Other}
-use Rattle.sip_machine.specs.declared.event.Kind.{Kind}
-use Rattle.sip_machine.specs.declared.event.Kind.TheVariants.{Request, Response}
+use Rattle.sip_standard.specs.declared.kind.Method.{Method}
+use Rattle.sip_standard.specs.declared.kind.Method.TheVariants.{Invite, Ack, Cancel, Other}
+use Rattle.sip_standard.specs.declared.kind.Kind.{Kind}
+use Rattle.sip_standard.specs.declared.kind.Kind.TheVariants.{Request, Response}
 
 -- the method of this name, which is compared with case, RFC 3261 section 7.1
 abbrev pub method_named : List ℕ → Method

@@ -1,14 +1,12 @@
 use Rattle.std.specs.Prelude.{◌≡◌, ◌⊎◌, true, None}
-use Rattle.sip_machine.specs.declared.event.Kind.{Kind}
-use Rattle.sip_machine.specs.declared.event.Kind.TheVariants.{Response}
+use Rattle.sip_standard.specs.declared.kind.Kind.{Kind}
+use Rattle.sip_standard.specs.declared.kind.Kind.TheVariants.{Response}
 use Rattle.sip_standard.specs.Times.{Times}
-use Rattle.sip_machine.specs.MachineEvent.{MachineEvent}
-use Rattle.sip_machine.specs.Message.{IsProvisional, IsSuccess, IsUnsuccessful}
-use Rattle.sip_machine.specs.Figure.{Figure, Change, keeps, drops, gains}
-use Rattle.sip_machine.specs.InviteClient as corrected
-use Rattle.sip_machine.specs.InviteClient.{InviteClientPhase, Ended, Calling, Proceeding, Completed, invite_client, invite_client_coded}
-use Rattle.sip_machine.specs.Transaction.{Coded}
-pub mod Laws
+use Rattle.sip_standard.specs.MachineEvent.{MachineEvent}
+use Rattle.sip_standard.specs.Kind.{IsProvisional, IsSuccess, IsUnsuccessful}
+use Rattle.sip_standard.specs.Figure.{Figure, Change, keeps, drops, gains}
+use Rattle.sip_standard.specs.InviteClient as corrected
+use Rattle.sip_standard.specs.InviteClient.{InviteClientPhase, Ended, Calling, Proceeding, Completed, invite_client}
 
 -- The INVITE client transaction of RFC 3261 section 17.1.1 and its figure 5, without RFC 6026: its phases are those of InviteClient, of which it never
 -- enters accepted.
@@ -27,7 +25,3 @@ Receives p x k e y = corrected.Receives p x k e y
 -- the figure of the INVITE client
 abbrev pub invite_client_3261 : Figure InviteClientPhase
 invite_client_3261 = record invite_client { Receives = Receives }
-
--- how the code has it: as InviteClient
-abbrev pub invite_client_3261_coded : Coded InviteClientPhase
-invite_client_3261_coded = invite_client_coded

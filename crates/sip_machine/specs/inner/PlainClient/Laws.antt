@@ -1,13 +1,14 @@
 use Rattle.std.specs.Prelude.{◌≡◌, ◌*◌, true, min, if◌then◌else◌}
 use Rattle.std.proofs.Common.{refl, ap, inl, inr, arith}
 use Rattle.std.proofs.lemmas.Bool.Decides.{nat_tests}
-use Rattle.sip_machine.specs.declared.event.Kind.TheVariants.{Request, Response}
+use Rattle.sip_standard.specs.declared.kind.Kind.TheVariants.{Request, Response}
 use Rattle.sip_machine.specs.declared.plain_client.PlainClientPhase.{PlainClientPhase as CodePhase}
 use Rattle.sip_machine.specs.declared.plain_client.PlainClientPhase.TheVariants as code
 use Rattle.sip_machine.specs.contracts.plain_client.PlainClientPhasePartialEq.TheImpl as derived
 use Rattle.sip_standard.specs.Window.{close_at}
-use Rattle.sip_machine.specs.Figure.{IsFigure}
-use Rattle.sip_machine.specs.PlainClient.{Idle, Trying, Proceeding, Receives, Sends, plain_client, plain_client_seen, plain_client_names, plain_client_coded, plain_client_told}
+use Rattle.sip_machine.specs.FigureRules.{IsFigure}
+use Rattle.sip_standard.specs.PlainClient.{Idle, Trying, Proceeding, Receives, Sends, plain_client}
+use Rattle.sip_machine.specs.inner.PlainClient.{plain_client_seen, plain_client_names, plain_client_coded, plain_client_told}
 use Rattle.sip_machine.specs.inner.Coded.{IsCoded, AreApart, StandByNames, TellNames, SameWindow, SameCloses, LeadOn, LeadAway}
 use Rattle.sip_machine.specs.inner.FigureLaws.{keeps_them}
 use Rattle.sip_machine.specs.inner.WaitingLaws.{waiting_exact, waiting_apart, waiting_by_names, timer_starts, repeat_starts, patience_lasts}

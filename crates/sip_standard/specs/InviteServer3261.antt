@@ -1,20 +1,13 @@
-use Rattle.std.specs.Prelude.{◌≡◌, ◌⊎◌, ◌++◌, ℕ, Bool, true, false, Option, None, List, [], ◌∷◌, if◌then◌else◌, codes, ⊤}
-use Rattle.sip_machine.specs.declared.event.Method.TheVariants.{Invite}
-use Rattle.sip_machine.specs.declared.event.Kind.{Kind}
-use Rattle.sip_machine.specs.declared.event.Kind.TheVariants.{Request, Response}
-use Rattle.sip_machine.specs.declared.invite_server_3261.InviteServer3261Phase.{InviteServer3261Phase as CodePhase}
-use Rattle.sip_machine.specs.declared.invite_server_3261.InviteServer3261Phase.TheVariants as code
-use Rattle.sip_machine.specs.declared.invite_server.InviteServerPhase.TheVariants as code_phase
+use Rattle.std.specs.Prelude.{◌≡◌, ◌⊎◌, ℕ, Bool, true, false, Option, None, List, []}
+use Rattle.sip_standard.specs.declared.kind.Method.TheVariants.{Invite}
+use Rattle.sip_standard.specs.declared.kind.Kind.{Kind}
+use Rattle.sip_standard.specs.declared.kind.Kind.TheVariants.{Request, Response}
 use Rattle.sip_standard.specs.Times.{Times}
-use Rattle.sip_machine.specs.Texts.{Texts}
-use Rattle.sip_machine.specs.MachineEvent.{MachineEvent}
-use Rattle.sip_machine.specs.Message.{IsSuccess}
-use Rattle.sip_machine.specs.Figure.{Figure, Change, keeps, drops}
-use Rattle.sip_machine.specs.InviteServer as corrected
-use Rattle.sip_machine.specs.InviteServer.{InviteServerPhase, Idle, Proceeding, Accepted, Completed, invite_server_seen, invite_server_names, InviteServerInRange, invite_server_told}
-use Rattle.sip_machine.specs.Told.{Told, Flag}
-use Rattle.sip_machine.specs.Transaction.{Coded}
-pub mod Laws
+use Rattle.sip_standard.specs.MachineEvent.{MachineEvent}
+use Rattle.sip_standard.specs.Kind.{IsSuccess}
+use Rattle.sip_standard.specs.Figure.{Figure, Change, keeps, drops}
+use Rattle.sip_standard.specs.InviteServer as corrected
+use Rattle.sip_standard.specs.InviteServer.{InviteServerPhase, Idle, Proceeding, Accepted, Completed}
 
 -- The INVITE server transaction of RFC 3261 section 17.2.1 and its figure 7, without RFC 6026: a 2xx is the last that it does, and the INVITE, when it
 -- comes again after one, begins it anew.
@@ -73,40 +66,3 @@ sends_by p (In x again) = corrected.sends_by p x
 abbrev pub invite_server_3261 : Figure InviteServer3261Phase
 invite_server_3261 =
     record { idle = In Idle false; ended = In Idle false; Receives = Receives; Sends = Sends; Satisfies = Satisfies; Stays = Stays; ends_refused = λ x k. false; window = timer_window; sends_by = sends_by }
-
--- The phases of the code, whose messages are numbers of a book.
-
--- the phase that a phase of the code stands for
-abbrev pub invite_server_3261_seen : Texts → CodePhase → InviteServer3261Phase
-invite_server_3261_seen texts code.Passed = Passed
-invite_server_3261_seen texts (code.In phase again) = In (invite_server_seen texts phase) again
-
--- the numbers of the messages that it names
-abbrev pub invite_server_3261_names : CodePhase → List ℕ
-invite_server_3261_names code.Passed = []
-invite_server_3261_names (code.In phase again) = invite_server_names phase
-
--- its moments are within the limits, and its interval is below 2^50, so that no sum wraps
-abbrev pub InviteServer3261InRange : CodePhase → Type 0
-InviteServer3261InRange code.Passed = ⊤
-InviteServer3261InRange (code.In phase again) = InviteServerInRange phase
-
--- a phase in words, as a listing tells it: whether the INVITE came again stands after the rest, where it matters
-abbrev pub invite_server_3261_told : InviteServer3261Phase → Told (List ℕ)
-invite_server_3261_told Passed = record { name = codes "passed"; fields = [] }
-invite_server_3261_told (In x again) =
-    let told = invite_server_told x in
-    if remembers x then record { name = told.name; fields = told.fields ++ Flag (codes "again") again ∷ [] } else told
-
--- how the code has it
-abbrev pub invite_server_3261_coded : Coded InviteServer3261Phase
-invite_server_3261_coded =
-    record {
-      Code = CodePhase;
-      seen = invite_server_3261_seen;
-      names = invite_server_3261_names;
-      InRange = InviteServer3261InRange;
-      idle = code.In code_phase.Idle false;
-      ended = code.In code_phase.Idle false;
-      told = invite_server_3261_told;
-    }

@@ -1,14 +1,15 @@
 use Rattle.std.specs.Prelude.{◌≤◌}
 use Rattle.std.proofs.Common.{inl, inr}
 use Rattle.std.proofs.lemmas.List.Elements.{All-nil}
-use Rattle.sip_machine.specs.declared.event.Kind.{Kind}
-use Rattle.sip_machine.specs.declared.event.Kind.TheVariants.{Response}
-use Rattle.sip_machine.specs.Message.{IsSuccess}
-use Rattle.sip_machine.specs.Figure.{IsFigure}
-use Rattle.sip_machine.specs.InviteClient.{InviteClientPhase, Calling, Proceeding, Completed}
-use Rattle.sip_machine.specs.InviteClient3261.{Receives, invite_client_3261, invite_client_3261_coded}
+use Rattle.sip_standard.specs.declared.kind.Kind.{Kind}
+use Rattle.sip_standard.specs.declared.kind.Kind.TheVariants.{Response}
+use Rattle.sip_standard.specs.Kind.{IsSuccess}
+use Rattle.sip_machine.specs.FigureRules.{IsFigure}
+use Rattle.sip_standard.specs.InviteClient.{InviteClientPhase, Calling, Proceeding, Completed}
+use Rattle.sip_standard.specs.InviteClient3261.{Receives, invite_client_3261}
+use Rattle.sip_machine.specs.inner.InviteClient3261.{invite_client_3261_coded}
 use Rattle.sip_machine.specs.inner.Coded.{IsCoded, LeadOn}
-use Rattle.sip_machine.specs.InviteClient.Laws.{timer_d_starts, invite_client_is_figure, invite_client_is_coded}
+use Rattle.sip_machine.specs.inner.InviteClient.Laws.{timer_d_starts, invite_client_is_figure, invite_client_is_coded}
 
 -- Laws of the INVITE client of RFC 3261.
 

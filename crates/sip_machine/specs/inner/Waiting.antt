@@ -4,14 +4,7 @@ use Rattle.sip_standard.specs.Times.{Times, last_moment}
 use Rattle.sip_standard.specs.Window.{close_at}
 use Rattle.sip_machine.specs.Texts.{Texts, text_of}
 use Rattle.sip_machine.specs.Told.{ToldField, Flag, Number, Message}
-
--- a request that waits for its response, sections 17.1.1.2 and 17.1.2.2: when timer B or F started, and when timer A or E was set, and for how long
-pub record Waiting : Type 0 where
-  pub reliable : Bool
-  pub request : List ℕ
-  pub start : ℕ
-  pub set : ℕ
-  pub interval : ℕ
+use Rattle.sip_standard.specs.Waiting.{Waiting}
 
 -- until when its timers let it wait: timer B or F, which was set for so long, and over an unreliable transport timer A or E
 abbrev pub waiting_closes : Times → Waiting → ℕ → List ℕ

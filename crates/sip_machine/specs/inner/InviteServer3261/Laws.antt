@@ -2,9 +2,9 @@ use Rattle.std.specs.Prelude.{◌≡◌, ◌≤◌, ℕ, Bool, true, false, None
 use Rattle.std.specs.Bool.{beq}
 use Rattle.std.proofs.Common.{refl, ap, sym, ◌∙◌, inl, inr}
 use Rattle.std.proofs.lemmas.List.Elements.{All-nil}
-use Rattle.sip_machine.specs.declared.event.Method.TheVariants.{Invite}
-use Rattle.sip_machine.specs.declared.event.Kind.{Kind}
-use Rattle.sip_machine.specs.declared.event.Kind.TheVariants.{Request, Response}
+use Rattle.sip_standard.specs.declared.kind.Method.TheVariants.{Invite}
+use Rattle.sip_standard.specs.declared.kind.Kind.{Kind}
+use Rattle.sip_standard.specs.declared.kind.Kind.TheVariants.{Request, Response}
 use Rattle.sip_machine.specs.declared.invite_server.InviteServerPhase.{InviteServerPhase as CodeCorrected}
 use Rattle.sip_machine.specs.declared.invite_server.InviteServerPhase.TheVariants as code_phase
 use Rattle.sip_machine.specs.declared.invite_server_3261.InviteServer3261Phase.{InviteServer3261Phase as CodePhase}
@@ -13,16 +13,18 @@ use Rattle.sip_machine.specs.contracts.invite_server_3261.InviteServer3261PhaseP
 use Rattle.sip_machine.specs.contracts.invite_server.InviteServerPhasePartialEq.TheImpl as phase_eq
 use Rattle.sip_machine.specs.declared.phases.Turn.{Turn}
 use Rattle.sip_standard.specs.Times.{Times}
-use Rattle.sip_machine.specs.MachineEvent.{MachineEvent}
-use Rattle.sip_machine.specs.Figure.{IsFigure, After, drops}
-use Rattle.sip_machine.specs.InviteServer as corrected
-use Rattle.sip_machine.specs.InviteServer.{InviteServerPhase, Proceeding, Completed}
-use Rattle.sip_machine.specs.InviteServer3261.{InviteServer3261Phase, Passed, In, Receives, Sends, Satisfies, Stays, invite_server_3261, invite_server_3261_seen, invite_server_3261_names, invite_server_3261_coded, invite_server_3261_told}
+use Rattle.sip_standard.specs.MachineEvent.{MachineEvent}
+use Rattle.sip_machine.specs.FigureRules.{IsFigure, After}
+use Rattle.sip_standard.specs.Figure.{drops}
+use Rattle.sip_standard.specs.InviteServer as corrected
+use Rattle.sip_standard.specs.InviteServer.{InviteServerPhase, Proceeding, Completed}
+use Rattle.sip_standard.specs.InviteServer3261.{InviteServer3261Phase, Passed, In, Receives, Sends, Satisfies, Stays, invite_server_3261}
+use Rattle.sip_machine.specs.inner.InviteServer3261.{invite_server_3261_seen, invite_server_3261_names, invite_server_3261_coded, invite_server_3261_told}
 use Rattle.sip_machine.specs.inner.Coded.{IsCoded, AreApart, StandByNames, TellNames, SameWindow, SameCloses, LeadOn, LeadAway}
 use Rattle.sip_machine.specs.inner.OwesLaws.{both_true}
 use Rattle.sip_machine.specs.inner.FigureLaws.{keeps_them}
 use Rattle.sip_machine.specs.inner.WaitingLaws.{timer_starts}
-use Rattle.sip_machine.specs.InviteServer.Laws.{invite_server_exact, invite_server_apart, invite_server_by_names, invite_server_window_same, invite_server_closes_same, invite_server_is_figure}
+use Rattle.sip_machine.specs.inner.InviteServer.Laws.{invite_server_exact, invite_server_apart, invite_server_by_names, invite_server_window_same, invite_server_closes_same, invite_server_is_figure}
 
 -- Laws of the phases of the INVITE server of RFC 3261.
 

@@ -2,15 +2,16 @@ use Rattle.std.specs.Prelude.{◌≡◌, ◌≤◌, ◌*◌, ℕ, Bool, true, fa
 use Rattle.std.proofs.Common.{refl, ap, inl, inr, arith}
 use Rattle.std.proofs.lemmas.Bool.Decides.{nat_tests}
 use Rattle.std.proofs.lemmas.List.Elements.{All-nil}
-use Rattle.sip_machine.specs.declared.event.Method.TheVariants.{Invite, Ack, Cancel}
-use Rattle.sip_machine.specs.declared.event.Kind.TheVariants.{Request, Response}
+use Rattle.sip_standard.specs.declared.kind.Method.TheVariants.{Invite, Ack, Cancel}
+use Rattle.sip_standard.specs.declared.kind.Kind.TheVariants.{Request, Response}
 use Rattle.sip_machine.specs.declared.invite_client.InviteClientPhase.{InviteClientPhase as CodePhase}
 use Rattle.sip_machine.specs.declared.invite_client.InviteClientPhase.TheVariants as code
 use Rattle.sip_machine.specs.contracts.invite_client.InviteClientPhasePartialEq.TheImpl as derived
 use Rattle.sip_standard.specs.Times.{Times}
 use Rattle.sip_standard.specs.Window.{open_at, close_at, window_at}
-use Rattle.sip_machine.specs.Figure.{IsFigure, closes_of}
-use Rattle.sip_machine.specs.InviteClient.{Idle, Calling, Proceeding, Completed, Receives, Sends, invite_client, invite_client_seen, invite_client_names, invite_client_coded, invite_client_told}
+use Rattle.sip_machine.specs.FigureRules.{IsFigure, closes_of}
+use Rattle.sip_standard.specs.InviteClient.{Idle, Calling, Proceeding, Completed, Receives, Sends, invite_client}
+use Rattle.sip_machine.specs.inner.InviteClient.{invite_client_seen, invite_client_names, invite_client_coded, invite_client_told}
 use Rattle.sip_machine.specs.inner.Coded.{IsCoded, AreApart, StandByNames, TellNames, SameWindow, SameCloses, LeadOn, LeadAway}
 use Rattle.sip_machine.specs.inner.FigureLaws.{keeps_them}
 use Rattle.sip_machine.specs.inner.MessageLaws.{option_exact, message_apart}

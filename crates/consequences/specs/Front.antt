@@ -6,11 +6,11 @@ use Rattle.sip_standard.specs.declared.fault.Fault.{Fault}
 use Rattle.sip_standard.specs.LogEntry.{Item}
 use Rattle.sip_standard.specs.LogSays.{LogEnd, Stops, LogSays, LacksHeader}
 use Rattle.sip_standard.specs.LogFault.{LogFault}
-use Rattle.sip_verdict.specs.declared.log_reason.LogReason.{LogReason}
-use Rattle.sip_verdict.specs.declared.log_reason.LogReason.TheVariants.{Header}
-use Rattle.sip_verdict.specs.LogReason.{reason_of}
-use Rattle.sip_verdict.specs.Keyed.{Observation}
-use Rattle.sip_verdict.specs.VerdictOf.{keys_in, Sees, RunsOver, IsWideAt, IsFirstKey}
+use Rattle.sip_standard.specs.declared.log_reason.LogReason.{LogReason}
+use Rattle.sip_standard.specs.declared.log_reason.LogReason.TheVariants.{Header}
+use Rattle.sip_standard.specs.LogReason.{reason_of}
+use Rattle.sip_standard.specs.Observation.{Observation}
+use Rattle.sip_standard.specs.VerdictOf.{keys_in, Sees, RunsOver, IsWideAt, IsFirstKey}
 
 -- each transaction of these entries has a run over all of them
 abbrev pub AllRun : Times → List (Observation KeyParts) → Type 0

@@ -3,7 +3,7 @@ use Rattle.std.specs.Prelude.{Bool}
 use Rattle.sip_standard.specs.declared.role.Role.{Role}
 use Rattle.sip_standard.specs.declared.rules.Rules.{Rules}
 use Rattle.sip_standard.specs.Figure.{Figure, Owing}
-use Rattle.sip_states.specs.KeyMachine.{machine_of, transaction_of}
+use Rattle.sip_standard.specs.KeyMachine.{machine_of, transaction_of}
 
 -- the figure of a role by these rules, for INVITE or for any other method
 abbrev pub figure_of : (rules : Rules) (role : Role) (invite : Bool) → Figure (transaction_of (machine_of rules role invite)).Phase

@@ -11,7 +11,7 @@ ghost use Rattle.sip_standard.specs.Window.{open_at, close_at};
 ghost use Rattle.sip_standard.specs.MachineEvent.{MachineEvent};
 ghost use Rattle.sip_standard.specs.Kind.{IsFinal, IsSuccess, IsUnsuccessful};
 ghost use Rattle.sip_standard.specs.Times.{Times};
-ghost use Rattle.sip_states.specs.Stands.{Stands, StandsBehind};
+ghost use Rattle.sip_standard.specs.Stands.{Stands, StandsBehind};
 ghost use Rattle.consequences.specs.Acknowledged.{Acknowledges};
 ghost use Rattle.consequences.specs.Events.{SendsRequest, GetsResponse, IsAnyCode, IsRefused, IsRestart};
 ghost use Rattle.consequences.specs.Machines.{figure_of, StateOf};

@@ -10,7 +10,7 @@ ghost use Rattle.sip_standard.specs.Window.{close_at};
 ghost use Rattle.sip_standard.specs.MachineEvent.{MachineEvent};
 ghost use Rattle.sip_standard.specs.Kind.{IsProvisional, IsFinal, IsSuccess, IsUnsuccessful};
 ghost use Rattle.sip_standard.specs.Times.{Times};
-ghost use Rattle.sip_states.specs.Stands.{Stands, StandsBehind};
+ghost use Rattle.sip_standard.specs.Stands.{Stands, StandsBehind};
 ghost use Rattle.consequences.specs.Events.{IsOfOneKind, GetsRequest, IsResponse, SendsResponse, IsAnyCode, IsRestart};
 ghost use Rattle.consequences.specs.Machines.{figure_of, StateOf};
 ghost use Rattle.consequences.specs.Servers.{BeginNoneAnew};

@@ -7,7 +7,7 @@ ghost use Rattle.sip_standard.specs.Window.{open_at, close_at};
 ghost use Rattle.sip_standard.specs.MachineEvent.{MachineEvent};
 ghost use Rattle.sip_standard.specs.Kind.{IsFinal};
 ghost use Rattle.sip_standard.specs.Times.{Times};
-ghost use Rattle.sip_states.specs.Stands.{Stands};
+ghost use Rattle.sip_standard.specs.Stands.{Stands};
 ghost use Rattle.consequences.specs.Events.{IsOfOneKind, GetsAnyRequest, SendsResponse, SendsBytes, IsRestart};
 ghost use Rattle.consequences.specs.Machines.{figure_of, StateOf};
 

@@ -8,8 +8,8 @@ ghost use Rattle.sip_standard.specs.declared.kind.Method.TheVariants.{Invite, Ca
 ghost use Rattle.sip_standard.specs.Figure.{Owing, quiet};
 ghost use Rattle.sip_standard.specs.MachineEvent.{MachineEvent};
 ghost use Rattle.sip_standard.specs.Times.{Times};
-ghost use Rattle.sip_states.specs.KeyMachine.{MachineKind, transaction_of};
-ghost use Rattle.sip_states.specs.Stands.{StandsBehind};
+ghost use Rattle.sip_standard.specs.KeyMachine.{MachineKind, transaction_of};
+ghost use Rattle.sip_standard.specs.Stands.{StandsBehind};
 ghost use Rattle.consequences.specs.Events.{SendsRequest, SendsAnyRequest, GetsAnyRequest, IsRestart};
 ghost use Rattle.consequences.specs.Machines.{figure_of, StateOf};
 

@@ -6,10 +6,10 @@ ghost use Rattle.sip_standard.specs.LogEntry.{Item};
 ghost use Rattle.sip_standard.specs.Figure.{Owing};
 ghost use Rattle.sip_standard.specs.MachineEvent.{MachineEvent};
 ghost use Rattle.sip_standard.specs.Times.{Times};
-ghost use Rattle.sip_states.specs.KeyMachine.{MachineKind, transaction_of};
-ghost use Rattle.sip_states.specs.Stands.{Stands};
-ghost use Rattle.sip_verdict.specs.Keyed.{Observation};
-ghost use Rattle.sip_verdict.specs.VerdictOf.{RunsOver};
+ghost use Rattle.sip_standard.specs.KeyMachine.{MachineKind, transaction_of};
+ghost use Rattle.sip_standard.specs.Stands.{Stands};
+ghost use Rattle.sip_standard.specs.Observation.{Observation};
+ghost use Rattle.sip_standard.specs.VerdictOf.{RunsOver};
 ghost use Rattle.consequences.specs.Front.{AreSeen};
 ghost use Rattle.consequences.specs.Tolerance.{tolerant, AreOneKind};
 

@@ -41,3 +41,9 @@ pub mod InviteServer
 pub mod InviteClient3261
 pub mod InviteServer3261
 pub mod Transaction
+pub mod KeyMachine
+pub mod Stands
+pub mod Observation
+pub mod LogReason
+pub mod VerdictOf
+pub mod Rendering

@@ -6,13 +6,19 @@
 mod action;
 mod fault;
 mod format;
+mod judge_error;
 mod kind;
+mod log_reason;
 mod role;
 mod rules;
+mod verdict;
 
 pub use crate::fault::{Fault, Reason, Unit};
 pub use action::Action;
 pub use format::Format;
+pub use judge_error::JudgeError;
 pub use kind::{Kind, Method};
+pub use log_reason::LogReason;
 pub use role::{Direction, Role};
 pub use rules::Rules;
+pub use verdict::Verdict;

@@ -9,7 +9,8 @@ use Rattle.sip_machine.specs.Owing.{owing_seen, owing_names, OwingInRange}
 use Rattle.sip_machine.specs.inner.Coded.{idle_state, ended_state}
 use Rattle.sip_states.specs.Runs.{IsWide}
 use Rattle.sip_states.specs.Held.{Held}
-use Rattle.sip_states.specs.KeyMachine.{MachineKind, machine_of_key, transaction_of, coded_of, PhaseOf, StateOf, held_of, by_machine, by_one_machine, start_of_machine}
+use Rattle.sip_standard.specs.KeyMachine.{MachineKind, machine_of_key, transaction_of}
+use Rattle.sip_states.specs.KeySets.{coded_of, PhaseOf, StateOf, held_of, by_machine, by_one_machine, start_of_machine}
 use Rattle.sip_states.specs.Meaning.{Meaning, IsKeptBy, IsKnown, Given, HasWaited, HasTaken, HasAgenda}
 use Rattle.sip_states.specs.declared.any_set.AnySet.{AnySet}
 

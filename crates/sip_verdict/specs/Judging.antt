@@ -10,9 +10,10 @@ use Rattle.sip_verdict.specs.declared.stage.Stage.{Stage}
 use Rattle.sip_verdict.specs.declared.stage.Stage.TheVariants.{Open, Told, Failed}
 use Rattle.sip_verdict.specs.declared.step_error.StepError.{StepError}
 use Rattle.sip_verdict.specs.declared.step_error.StepError.TheVariants as errors
-use Rattle.sip_verdict.specs.declared.verdict.Verdict.{Verdict}
-use Rattle.sip_verdict.specs.declared.verdict.Verdict.TheVariants.{Legal}
-use Rattle.sip_verdict.specs.Keyed.{Observation, keys_of, events_of, newest_moment}
+use Rattle.sip_standard.specs.declared.verdict.Verdict.{Verdict}
+use Rattle.sip_standard.specs.declared.verdict.Verdict.TheVariants.{Legal}
+use Rattle.sip_standard.specs.Observation.{Observation}
+use Rattle.sip_verdict.specs.Keyed.{keys_of, events_of, newest_moment}
 use Rattle.sip_verdict.specs.Verdicts.{IsTrouble}
 use Rattle.sip_verdict.specs.MessageReading.{key_machines}
 use Rattle.sip_verdict.specs.Named.{WereNamed, key_messages}

@@ -2,11 +2,12 @@ use Rattle.std.specs.Prelude.{◌≡◌, ◌+◌, ◌⊎◌, [], ◌∷◌, ◌+
 use Rattle.sip_standard.specs.Times.{Times}
 use Rattle.sip_standard.specs.LogEntry.{Item}
 use Rattle.sip_standard.specs.LogSays.{LogEnd, Clean, Stops, LogSays, LacksHeader}
-use Rattle.sip_verdict.specs.declared.log_reason.LogReason.TheVariants.{Header}
-use Rattle.sip_verdict.specs.declared.verdict.Verdict.{Verdict}
-use Rattle.sip_verdict.specs.declared.verdict.Verdict.TheVariants.{Legal, LogFault}
-use Rattle.sip_verdict.specs.LogReason.{reason_of}
-use Rattle.sip_verdict.specs.Keyed.{Observation, Machines, keys_of}
+use Rattle.sip_standard.specs.declared.log_reason.LogReason.TheVariants.{Header}
+use Rattle.sip_standard.specs.declared.verdict.Verdict.{Verdict}
+use Rattle.sip_standard.specs.declared.verdict.Verdict.TheVariants.{Legal, LogFault}
+use Rattle.sip_standard.specs.LogReason.{reason_of}
+use Rattle.sip_standard.specs.Observation.{Observation}
+use Rattle.sip_verdict.specs.Keyed.{Machines, keys_of}
 use Rattle.sip_verdict.specs.Verdicts.{AllRun, IsFine, IsGood, IsTrouble}
 
 -- The verdict of an input of any bytes, whatever its messages are.

@@ -10,13 +10,13 @@ use Rattle.sip_message.specs.Message.{Message, Spells}
 use Rattle.sip_standard.specs.Outcome.{stops}
 use Rattle.sip_standard.specs.Says.{Says}
 use Rattle.sip_message.specs.Canon.{canon}
-use Rattle.sip_verdict.specs.declared.log_reason.LogReason.TheVariants as reasons
-use Rattle.sip_verdict.specs.declared.verdict.Verdict.TheVariants as verdicts
+use Rattle.sip_standard.specs.declared.log_reason.LogReason.TheVariants as reasons
+use Rattle.sip_standard.specs.declared.verdict.Verdict.TheVariants as verdicts
 use Rattle.sip_verdict.specs.declared.shown.Shown.{Shown}
 use Rattle.sip_verdict.specs.declared.shown.Shown.TheVariants.{End, Malformed, LogFault}
-use Rattle.sip_verdict.specs.LogReason.{reason_of}
+use Rattle.sip_standard.specs.LogReason.{reason_of}
 use Rattle.sip_verdict.specs.Listing.{has_message}
-use Rattle.sip_verdict.specs.Rendering.{rendered}
+use Rattle.sip_standard.specs.Rendering.{rendered}
 
 -- What is shown of an input: its entries, one after another, each with its message in the canonical form.
 

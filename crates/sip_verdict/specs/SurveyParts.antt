@@ -8,8 +8,8 @@ use Rattle.sip_part.specs.Part.{PartOf, TellsBranch, falls_into}
 use Rattle.sip_verdict.specs.declared.finding.Finding.{Finding}
 use Rattle.sip_verdict.specs.declared.survey_end.SurveyEnd.{SurveyEnd}
 use Rattle.sip_verdict.specs.declared.survey_end.SurveyEnd.TheVariants as ended
-use Rattle.sip_verdict.specs.declared.log_reason.LogReason.TheVariants.{Header}
-use Rattle.sip_verdict.specs.MessageReading.{direction_of}
+use Rattle.sip_standard.specs.declared.log_reason.LogReason.TheVariants.{Header}
+use Rattle.sip_standard.specs.Observation.{direction_of}
 use Rattle.sip_verdict.specs.SurveyOf.{IsSurveyAfter}
 
 -- an item as it is in the log of the part: itself where it has no message or its message falls into the part, and else a mark of its moment

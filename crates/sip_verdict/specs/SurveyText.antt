@@ -6,8 +6,8 @@ use Rattle.sip_verdict.specs.declared.finding.Finding.TheVariants.{Malformed, Br
 use Rattle.sip_verdict.specs.declared.survey_end.SurveyEnd.{SurveyEnd}
 use Rattle.sip_verdict.specs.declared.survey_end.SurveyEnd.TheVariants.{Clean, LogFault}
 use Rattle.sip_verdict.specs.declared.summary.Summary.{Summary}
-use Rattle.sip_verdict.specs.declared.verdict.Verdict.TheVariants as verdicts
-use Rattle.sip_verdict.specs.Rendering.{rendered}
+use Rattle.sip_standard.specs.declared.verdict.Verdict.TheVariants as verdicts
+use Rattle.sip_standard.specs.Rendering.{rendered}
 use Rattle.sip_verdict.specs.SurveyOf.{verdict_of}
 
 -- the line of a finding, in the words of a verdict

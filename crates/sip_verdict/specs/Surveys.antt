@@ -9,7 +9,8 @@ use Rattle.sip_verdict.specs.declared.step_error.StepError.{StepError}
 use Rattle.sip_verdict.specs.declared.step_error.StepError.TheVariants as errors
 use Rattle.sip_verdict.specs.declared.survey_end.SurveyEnd.{SurveyEnd}
 use Rattle.sip_verdict.specs.declared.survey_end.SurveyEnd.TheVariants as ended
-use Rattle.sip_verdict.specs.Keyed.{Observation, events_of, newest_moment}
+use Rattle.sip_standard.specs.Observation.{Observation}
+use Rattle.sip_verdict.specs.Keyed.{events_of, newest_moment}
 use Rattle.sip_verdict.specs.MessageReading.{key_machines}
 use Rattle.sip_verdict.specs.Named.{AreMany, key_messages}
 use Rattle.sip_verdict.specs.SurveyOf.{IsSound}

@@ -1,9 +1,8 @@
 //! What is found at an entry of a log.
 ghost use Rattle.std.specs.Prelude.{◌≡◌};
 ghost use Rattle.sip_verdict.specs.SurveyOf.{verdict_of};
+use sip_standard::{Fault, Verdict};
 
-use crate::verdict::Verdict;
-use sip_standard::Fault;
 
 /// What a survey finds at an entry. Entries and transactions are numbered from 1, as in a verdict.
 #[derive(Clone, Copy, Debug, PartialEq, Eq)]

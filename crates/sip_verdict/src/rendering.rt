@@ -1,17 +1,15 @@
 //! The text of a verdict.
 ghost use Rattle.std.specs.Prelude.{◌≡◌, ◌++◌, IfOk, OnOk, codes, decimal, string_bytes};
-ghost use Rattle.sip_verdict.specs.Rendering.{rendered, rendered_unit};
+ghost use Rattle.sip_standard.specs.Rendering.{rendered, rendered_unit};
 ghost use Rattle.sip_verdict.specs.Showing.{last_text};
 ghost use Rattle.sip_verdict.specs.SurveyText.{end_text, finding_text};
-ghost use Rattle.sip_verdict.specs.declared.verdict.Verdict.TheVariants.{Malformed, LogFault};
+ghost use Rattle.sip_standard.specs.declared.verdict.Verdict.TheVariants.{Malformed, LogFault};
 
 use crate::finding::Finding;
-use crate::log_reason::LogReason;
 use crate::shown::Shown;
 use crate::survey_end::SurveyEnd;
-use crate::verdict::Verdict;
 use itoa::Buffer;
-use sip_standard::{Fault, Unit};
+use sip_standard::{Fault, LogReason, Unit, Verdict};
 use std::alloc::{AllocError, Global};
 
 /// The text of a verdict, one line without its end: `legal entries E transactions T`, `malformed E UNIT NO REASON`,

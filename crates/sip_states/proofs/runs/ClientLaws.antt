@@ -22,7 +22,8 @@ use Rattle.sip_machine.specs.FigureRules.{After as Row, led_to, rules_of as rule
 use Rattle.sip_standard.specs.InviteClient as invite
 use Rattle.sip_standard.specs.PlainClient as plain
 use Rattle.sip_states.specs.Runs.{Step, Hides, Takes, Does, Goes, taken, AfterRun}
-use Rattle.sip_states.specs.KeyMachine.{OfInviteClient, OfPlainClient, machine_of, PhaseOf, key_rules}
+use Rattle.sip_standard.specs.KeyMachine.{OfInviteClient, OfPlainClient, machine_of}
+use Rattle.sip_states.specs.KeySets.{PhaseOf, key_rules}
 use Rattle.sip_states.proofs.runs.RunLemmas.{Goes-last}
 use Rattle.sip_states.proofs.runs.FewerLemmas.{Goes-through}
 

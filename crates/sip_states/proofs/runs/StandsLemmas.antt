@@ -12,7 +12,7 @@ use Rattle.sip_machine.specs.FigureRules.{IsFigure, closes_of, closes_at, rules_
 use Rattle.sip_machine.specs.inner.DebtLaws.{All-front, All-back}
 use Rattle.sip_machine.specs.inner.OwesLaws.{IsWithin-owed}
 use Rattle.sip_machine.specs.inner.FigureLaws.{rules_lawful}
-use Rattle.sip_states.specs.Stands.{Stands, begins, waits, ends, takes, StandsBehind}
+use Rattle.sip_standard.specs.Stands.{Stands, begins, waits, ends, takes, StandsBehind}
 use Rattle.sip_states.specs.Runs.{Step, Hides, Takes, Goes, taken, RuledRun, AfterRun}
 use Rattle.sip_states.proofs.sets.Waiting.{IsWithin-none, Wait-stay}
 use Rattle.sip_states.proofs.runs.RunLemmas.{taken-append, Goes-push, Run-wait, After-run}

@@ -9,14 +9,15 @@ use Rattle.sip_standard.specs.LogFault.{LogFault}
 use Rattle.sip_standard.specs.LogSays.{Clean, Stops, LogSays}
 use Rattle.sip_log.specs.Told.{item}
 use Rattle.sip_log.specs.Reading as log
-use Rattle.sip_verdict.specs.declared.log_reason.LogReason.{LogReason}
+use Rattle.sip_standard.specs.declared.log_reason.LogReason.{LogReason}
 use Rattle.sip_verdict.specs.declared.stage.Stage.TheVariants.{Open}
-use Rattle.sip_verdict.specs.declared.verdict.Verdict.{Verdict}
-use Rattle.sip_verdict.specs.declared.verdict.Verdict.TheVariants.{Legal, LogFault as FaultOfLog}
-use Rattle.sip_verdict.specs.LogReason.{reason_of}
-use Rattle.sip_verdict.specs.Keyed.{Observation, keys_of}
+use Rattle.sip_standard.specs.declared.verdict.Verdict.{Verdict}
+use Rattle.sip_standard.specs.declared.verdict.Verdict.TheVariants.{Legal, LogFault as FaultOfLog}
+use Rattle.sip_standard.specs.LogReason.{reason_of}
+use Rattle.sip_standard.specs.Observation.{Observation}
+use Rattle.sip_verdict.specs.Keyed.{keys_of}
 use Rattle.sip_verdict.specs.Verdicts.{IsTrouble}
-use Rattle.sip_verdict.specs.VerdictOf.{IsVerdictOf}
+use Rattle.sip_standard.specs.VerdictOf.{IsVerdictOf}
 use Rattle.sip_verdict.specs.MessageReading.{key_machines, message_reading}
 use Rattle.sip_verdict.specs.Judging.{Judging, StandsFor, MayComeNext, IsNext}
 use Rattle.sip_verdict.specs.inner.Sweeping.{AreFollowedOn, StandsForRead}

@@ -16,7 +16,7 @@ use Rattle.sip_machine.specs.Texts.{Texts, Keeps, text_of}
 use Rattle.sip_machine.specs.NumberedEvent.{event_in, FitsBook, NumberedEvent}
 use Rattle.sip_machine.specs.Rules.{Knows}
 use Rattle.sip_machine.proofs.texts.TextLaws.{Keeps-grow, Keeps-grow_cases}
-use Rattle.sip_states.specs.KeyMachine.{machine_of_key}
+use Rattle.sip_standard.specs.KeyMachine.{machine_of_key}
 use Rattle.sip_states.specs.Meaning.{IsKnown}
 use Rattle.sip_states.specs.AnySet.{IsKnownSet, meaning_of}
 use Rattle.sip_states.specs.Tables.{Tabled, IsGiven}
@@ -27,8 +27,9 @@ use Rattle.sip_verdict.specs.declared.concerned.Concerned.TheVariants as concern
 use Rattle.sip_verdict.specs.declared.observing.Told.{Told}
 use Rattle.sip_verdict.specs.declared.observing.Told.TheVariants.{Unheard, Heard}
 use Rattle.sip_verdict.specs.declared.observing.Told.TheVariants as told
-use Rattle.sip_verdict.specs.declared.verdict.Verdict.{Verdict}
-use Rattle.sip_verdict.specs.Keyed.{Observation, events_of, keys_of, newest_moment}
+use Rattle.sip_standard.specs.declared.verdict.Verdict.{Verdict}
+use Rattle.sip_standard.specs.Observation.{Observation}
+use Rattle.sip_verdict.specs.Keyed.{events_of, keys_of, newest_moment}
 use Rattle.sip_verdict.specs.Keyed as keyed
 use Rattle.sip_verdict.specs.MessageReading.{key_machines, message_reading}
 use Rattle.sip_verdict.specs.inner.Concerned.{each, is_all, up_to, listed}

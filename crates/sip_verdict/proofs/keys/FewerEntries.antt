@@ -7,7 +7,8 @@ use Rattle.sip_standard.specs.MachineEvent.{MachineEvent}
 use Rattle.sip_states.specs.Runs.{RuledRun}
 use Rattle.sip_states.proofs.lists.Few.{AllPairs-head, AllPairs-tail}
 use Rattle.sip_states.proofs.runs.FewerLemmas.{Run-fewer}
-use Rattle.sip_verdict.specs.Keyed.{Observation, Machines, concerns, events_of, newest_moment, HasRun}
+use Rattle.sip_standard.specs.Observation.{Observation}
+use Rattle.sip_verdict.specs.Keyed.{Machines, concerns, events_of, newest_moment, HasRun}
 
 module _ {K : Type 0} where
   -- the first is not after the second

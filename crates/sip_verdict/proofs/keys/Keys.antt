@@ -8,7 +8,8 @@ use Rattle.std.proofs.lemmas.List.Elements.{filter-append}
 use Rattle.std.proofs.lemmas.List.Folds.{list_any-append}
 use Rattle.std.proofs.lemmas.List.Sums.{fold-append}
 use Rattle.std.proofs.lemmas.Grind.{flat_map-append}
-use Rattle.sip_verdict.specs.Keyed.{Observation, Machines, with_key, keys_of, concerns, events_of, newest_moment}
+use Rattle.sip_standard.specs.Observation.{Observation}
+use Rattle.sip_verdict.specs.Keyed.{Machines, with_key, keys_of, concerns, events_of, newest_moment}
 
 -- the comparison of keys is exact
 abbrev pub IsExact : {K : Type 0} → Machines K → Type 0

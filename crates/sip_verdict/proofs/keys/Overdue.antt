@@ -7,7 +7,8 @@ use Rattle.sip_standard.specs.MachineEvent.{MachineEvent}
 use Rattle.sip_machine.specs.Limits.{IsWithin}
 use Rattle.sip_machine.specs.Rules.{Rules}
 use Rattle.sip_states.specs.Runs.{IsAgenda}
-use Rattle.sip_states.specs.KeyMachine.{MachineKind, key_rules}
+use Rattle.sip_standard.specs.KeyMachine.{MachineKind}
+use Rattle.sip_states.specs.KeySets.{key_rules}
 use Rattle.sip_states.specs.Meaning.{HasAgenda}
 use Rattle.sip_states.specs.AnySet.{moment_of, IsAgendaOf, meaning_of}
 use Rattle.sip_states.specs.Agenda.{is_overdue}

@@ -11,10 +11,10 @@ use Rattle.sip_log.specs.Reading as log
 use Rattle.sip_log.specs.Reading.{Nexts}
 use Rattle.sip_log.proofs.answers.ReadingLemmas.{FailsAs-map}
 use Rattle.sip_log.proofs.answers.CallerLemmas.{StandsAt, StopsAt, Stands-gives, Stands-ends, Stands-stops, Stands-log, Nexts-counted, Nexts-times}
-use Rattle.sip_verdict.specs.declared.log_reason.LogReason.{LogReason}
-use Rattle.sip_verdict.specs.declared.log_reason.LogReason.TheVariants as reasons
+use Rattle.sip_standard.specs.declared.log_reason.LogReason.{LogReason}
+use Rattle.sip_standard.specs.declared.log_reason.LogReason.TheVariants as reasons
 use Rattle.sip_verdict.specs.declared.reading.Next.TheVariants.{Fault}
-use Rattle.sip_verdict.specs.LogReason.{reason_of}
+use Rattle.sip_standard.specs.LogReason.{reason_of}
 use Rattle.sip_verdict.specs.inner.Judging.{told_as}
 use Rattle.sip_verdict.specs.inner.Walking.{HasRead, WalkGives}
 

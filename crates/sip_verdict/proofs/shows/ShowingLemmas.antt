@@ -18,7 +18,7 @@ use Rattle.sip_standard.specs.Outcome.{stops}
 use Rattle.sip_standard.specs.Says.{Says}
 use Rattle.sip_verdict.specs.declared.shown.Shown.{Shown}
 use Rattle.sip_verdict.specs.declared.shown.Shown.TheVariants.{End, Malformed, LogFault as FaultOfLog}
-use Rattle.sip_verdict.specs.LogReason.{reason_of}
+use Rattle.sip_standard.specs.LogReason.{reason_of}
 use Rattle.sip_verdict.specs.Listing.{has_message}
 use Rattle.sip_verdict.specs.Showing.{IsCanonOf, shown_entry, AreShown, last_text, EndsAs, IsShownOf}
 

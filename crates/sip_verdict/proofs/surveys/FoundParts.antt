@@ -7,8 +7,8 @@ use Rattle.sip_standard.specs.Times.{Times}
 use Rattle.sip_states.proofs.lists.Listed.{Contains-none, Contains-here, Contains-cons, Contains-map, Contains-from_map}
 use Rattle.sip_verdict.specs.declared.finding.Finding.{Finding}
 use Rattle.sip_verdict.specs.declared.finding.Finding.TheVariants.{Malformed, Breach, Undecided}
-use Rattle.sip_verdict.specs.Keyed.{Observation}
-use Rattle.sip_verdict.specs.VerdictOf.{keys_in}
+use Rattle.sip_standard.specs.Observation.{Observation}
+use Rattle.sip_standard.specs.VerdictOf.{keys_in}
 use Rattle.sip_verdict.specs.SurveyOf.{Breaks, Widens, IsFoundAt, Precedes, AreFoundAt}
 use Rattle.sip_verdict.proofs.surveys.Ordered.{ordered_append, ordered_map}
 use Rattle.sip_verdict.proofs.surveys.Numbers.{AreNumbers}

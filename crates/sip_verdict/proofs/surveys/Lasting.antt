@@ -9,8 +9,9 @@ use Rattle.sip_machine.specs.FigureRules.{IsFigure, closes_of, closes_at, rules_
 use Rattle.sip_machine.specs.inner.DebtLaws.{All-front, All-back}
 use Rattle.sip_machine.specs.inner.OwesLaws.{IsWithin-owed}
 use Rattle.sip_machine.specs.inner.FigureLaws.{rules_lawful}
-use Rattle.sip_states.specs.Stands.{Stands}
-use Rattle.sip_states.specs.KeyMachine.{MachineKind, transaction_of, coded_holds}
+use Rattle.sip_standard.specs.Stands.{Stands}
+use Rattle.sip_standard.specs.KeyMachine.{MachineKind, transaction_of}
+use Rattle.sip_states.specs.KeySets.{coded_holds}
 use Rattle.sip_states.proofs.runs.StandsLemmas.{stands-runs}
 use Rattle.sip_states.proofs.sets.Waiting.{IsWithin-none}
 

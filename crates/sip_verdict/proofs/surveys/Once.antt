@@ -17,10 +17,11 @@ use Rattle.sip_states.proofs.lists.Listed.{Contains-none}
 use Rattle.sip_verdict.specs.declared.finding.Finding.{Finding}
 use Rattle.sip_verdict.specs.declared.finding.Finding.TheVariants.{Malformed, Breach, Undecided}
 use Rattle.sip_verdict.specs.declared.survey_end.SurveyEnd.{SurveyEnd}
-use Rattle.sip_verdict.specs.Keyed.{Observation, with_key}
+use Rattle.sip_standard.specs.Observation.{Observation}
+use Rattle.sip_verdict.specs.Keyed.{with_key}
 use Rattle.sip_verdict.specs.MessageReading.{message_reading}
 use Rattle.sip_verdict.specs.Reading.{AreObserved}
-use Rattle.sip_verdict.specs.VerdictOf.{keys_in}
+use Rattle.sip_standard.specs.VerdictOf.{keys_in}
 use Rattle.sip_verdict.specs.SurveyOf.{Breaks, Widens, HoldsOf, IsFoundAt, IsSurveyAfter, IsSurveyOf}
 use Rattle.sip_verdict.specs.SurveyLaws.{IsOf}
 use Rattle.sip_verdict.proofs.keys.Splitting.{split_compare}

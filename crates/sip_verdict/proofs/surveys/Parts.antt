@@ -8,10 +8,10 @@ use Rattle.sip_standard.specs.LogSays.{LogEnd}
 use Rattle.sip_verdict.specs.declared.finding.Finding.{Finding}
 use Rattle.sip_verdict.specs.declared.finding.Finding.TheVariants.{Breach, Undecided}
 use Rattle.sip_verdict.specs.declared.survey_end.SurveyEnd.{SurveyEnd}
-use Rattle.sip_verdict.specs.Keyed.{Observation}
+use Rattle.sip_standard.specs.Observation.{Observation}
 use Rattle.sip_verdict.specs.MessageReading.{message_reading}
 use Rattle.sip_verdict.specs.Reading.{AreObserved}
-use Rattle.sip_verdict.specs.VerdictOf.{keys_in}
+use Rattle.sip_standard.specs.VerdictOf.{keys_in}
 use Rattle.sip_verdict.specs.SurveyOf.{Breaks, Widens, HoldsOf, IsFoundAt, IsSurveyAfter}
 use Rattle.sip_verdict.specs.SurveyLaws.{Names, chosen_in, IsCutLog, IsCutOf}
 use Rattle.sip_verdict.proofs.keys.Splitting.{split_compare}

@@ -13,7 +13,8 @@ use Rattle.sip_states.specs.Tables.{Tabled, IsGiven, due_of}
 use Rattle.sip_states.specs.declared.any_set.AnySet.{AnySet}
 use Rattle.sip_verdict.specs.declared.passing.Hearing.{Hearing}
 use Rattle.sip_verdict.specs.declared.troubled.Troubled.{Troubled}
-use Rattle.sip_verdict.specs.Keyed.{Observation, Machines, concerns, newest_moment}
+use Rattle.sip_standard.specs.Observation.{Observation}
+use Rattle.sip_verdict.specs.Keyed.{Machines, concerns, newest_moment}
 use Rattle.sip_verdict.specs.MessageReading.{key_machines}
 use Rattle.sip_verdict.specs.inner.Concerned.{each, is_all}
 use Rattle.sip_verdict.specs.inner.Tracking.{Keeping, IsReady, GoesOn}

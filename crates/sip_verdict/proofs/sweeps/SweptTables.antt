@@ -8,14 +8,15 @@ use Rattle.sip_machine.specs.Texts.{Texts, IsBook, Keeps}
 use Rattle.sip_machine.specs.Retained.{only}
 use Rattle.sip_machine.specs.Rules.{Knows}
 use Rattle.sip_machine.proofs.texts.RetainLemmas.{only-Keeps}
-use Rattle.sip_states.specs.KeyMachine.{machine_of_key}
+use Rattle.sip_standard.specs.KeyMachine.{machine_of_key}
 use Rattle.sip_states.specs.Meaning.{HasWaited, IsKnown}
 use Rattle.sip_states.specs.AnySet.{meaning_of, moment_of, SetWaits, IsKnownSet}
 use Rattle.sip_states.specs.Sweep.{numbers_of, IsAdvanced, AdvancesAll, AppendsNamed}
 use Rattle.sip_states.specs.Tables.{Tabled}
 use Rattle.sip_states.specs.declared.any_set.AnySet.{AnySet}
 use Rattle.sip_states.proofs.lists.Listed.{Contains-none}
-use Rattle.sip_verdict.specs.Keyed.{Observation, events_of, newest_moment}
+use Rattle.sip_standard.specs.Observation.{Observation}
+use Rattle.sip_verdict.specs.Keyed.{events_of, newest_moment}
 use Rattle.sip_verdict.specs.MessageReading.{key_machines}
 use Rattle.sip_verdict.specs.inner.Tracking.{IsReady, Tracks}
 use Rattle.sip_verdict.specs.inner.TablesTracking.{key_keeping, transactions_of, TablesTrack, MayPass, IsOnRecord, AllAreOnRecord}

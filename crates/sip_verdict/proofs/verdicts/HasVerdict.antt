@@ -19,15 +19,16 @@ use Rattle.sip_standard.specs.LogEntry.{Item}
 use Rattle.sip_standard.specs.LogSays.{LogEnd, Clean, Stops}
 use Rattle.sip_log.specs.Log.{Log, Faulty, Readable, IsLogOf}
 use Rattle.sip_log.proofs.logs.Logs.{log_is_some}
-use Rattle.sip_verdict.specs.declared.verdict.Verdict.{Verdict}
-use Rattle.sip_verdict.specs.declared.verdict.Verdict.TheVariants.{Legal, Malformed, Breach, Undecided, LogFault}
-use Rattle.sip_verdict.specs.declared.log_reason.LogReason.TheVariants.{Header}
-use Rattle.sip_verdict.specs.LogReason.{reason_of}
-use Rattle.sip_verdict.specs.Keyed.{Observation, Machines, keys_of, HasRun}
+use Rattle.sip_standard.specs.declared.verdict.Verdict.{Verdict}
+use Rattle.sip_standard.specs.declared.verdict.Verdict.TheVariants.{Legal, Malformed, Breach, Undecided, LogFault}
+use Rattle.sip_standard.specs.declared.log_reason.LogReason.TheVariants.{Header}
+use Rattle.sip_standard.specs.LogReason.{reason_of}
+use Rattle.sip_standard.specs.Observation.{Observation, direction_of, silent_observation, ObservesMessage, has_fault, has_no_cookie, is_heard}
+use Rattle.sip_verdict.specs.Keyed.{Machines, keys_of, HasRun}
 use Rattle.sip_verdict.specs.Verdicts.{IsFirst, IsTooWide, AllRun, IsFine, IsTrouble}
 use Rattle.sip_verdict.specs.Reading.{EntryReading, Judges, IsVerdictBy}
-use Rattle.sip_verdict.specs.VerdictOf.{keys_in}
-use Rattle.sip_verdict.specs.MessageReading.{message_reading, direction_of, silent_observation, ObservesMessage, has_fault, has_no_cookie, is_heard}
+use Rattle.sip_standard.specs.VerdictOf.{keys_in}
+use Rattle.sip_verdict.specs.MessageReading.{message_reading}
 use Rattle.sip_verdict.specs.inner.Observing.{mark_observation, restart_observation}
 
 -- it is not false

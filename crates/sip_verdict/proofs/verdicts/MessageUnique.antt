@@ -9,8 +9,8 @@ use Rattle.sip_standard.specs.declared.role.Direction.{Direction}
 use Rattle.sip_standard.specs.Key.{KeyParts}
 use Rattle.sip_standard.specs.Concerns.{Concerns, lacks_cookie, own_key, cancelled_key}
 use Rattle.sip_standard.specs.LogEntry.{Item}
-use Rattle.sip_verdict.specs.Keyed.{Observation}
-use Rattle.sip_verdict.specs.MessageReading.{fault_observation, message_event, ObservesMessage, has_fault, has_no_cookie, is_heard, direction_of, message_reading}
+use Rattle.sip_standard.specs.Observation.{Observation, fault_observation, message_event, ObservesMessage, has_fault, has_no_cookie, is_heard, direction_of}
+use Rattle.sip_verdict.specs.MessageReading.{message_reading}
 
 -- bytes that have a fault say no message
 fault_says_none : (text : List ℕ) (fault : Fault) (s : Said) → Says text (stops fault) → Says text (gives s) → ⊥

@@ -8,7 +8,8 @@ use Rattle.sip_standard.specs.LogEntry.{Item}
 use Rattle.sip_listing.specs.Transaction.{transaction_text, Lists}
 use Rattle.sip_verdict.specs.declared.listing.Listing.{Listing}
 use Rattle.sip_verdict.specs.declared.listing.Listing.TheVariants.{Text, Stopped, NoEntry}
-use Rattle.sip_verdict.specs.Keyed.{Observation, Machines}
+use Rattle.sip_standard.specs.Observation.{Observation}
+use Rattle.sip_verdict.specs.Keyed.{Machines}
 use Rattle.sip_verdict.specs.MessageReading.{ConcernsNone}
 use Rattle.sip_verdict.specs.Verdicts.{IsGood, IsTrouble}
 use Rattle.sip_verdict.specs.Listing.{Words, first_entry, IsEntryText}

@@ -8,14 +8,14 @@ use Rattle.sip_part.specs.Part.{PartOf}
 use Rattle.sip_log.specs.Reading as log
 use Rattle.sip_log.specs.Reading.{Place, entries}
 use Rattle.sip_verdict.specs.declared.finding.Finding.{Finding}
-use Rattle.sip_verdict.specs.declared.judge_error.JudgeError.{JudgeError}
-use Rattle.sip_verdict.specs.declared.judge_error.JudgeError.TheVariants as judging
+use Rattle.sip_standard.specs.declared.judge_error.JudgeError.{JudgeError}
+use Rattle.sip_standard.specs.declared.judge_error.JudgeError.TheVariants as judging
 use Rattle.sip_verdict.specs.declared.summary.Summary.{Summary}
 use Rattle.sip_verdict.specs.declared.survey_end.SurveyEnd.{SurveyEnd}
 use Rattle.sip_verdict.specs.declared.survey_error.SurveyError.{SurveyError}
 use Rattle.sip_verdict.specs.declared.survey_error.SurveyError.TheVariants.{Read, Memory}
 use Rattle.sip_verdict.specs.declared.surveying.Counts.{Counts}
-use Rattle.sip_verdict.specs.Keyed.{Observation}
+use Rattle.sip_standard.specs.Observation.{Observation}
 use Rattle.sip_verdict.specs.SurveyOf.{IsSurveyAfter, IsSurveyOf}
 use Rattle.sip_verdict.specs.SurveyParts.{IsPartItem, IsPartSurveyOf}
 use Rattle.sip_verdict.specs.SurveyText.{SumsUp, finding_text, is_undecided, survey_text}

@@ -13,14 +13,15 @@ use Rattle.sip_log.specs.Reading.{Place, entries, Continues}
 use Rattle.sip_log.proofs.answers.CallerLemmas.{Stands}
 use Rattle.sip_verdict.specs.declared.reading.Next.{Next}
 use Rattle.sip_verdict.specs.declared.reading.Next.TheVariants.{Entry, End, Fault}
-use Rattle.sip_verdict.specs.declared.verdict.Verdict.{Verdict}
-use Rattle.sip_verdict.specs.declared.verdict.Verdict.TheVariants.{Legal, Malformed, Breach, Undecided, LogFault as FaultOfLog}
+use Rattle.sip_standard.specs.declared.verdict.Verdict.{Verdict}
+use Rattle.sip_standard.specs.declared.verdict.Verdict.TheVariants.{Legal, Malformed, Breach, Undecided, LogFault as FaultOfLog}
 use Rattle.sip_verdict.specs.declared.listing.Listing.{Listing}
 use Rattle.sip_verdict.specs.declared.listing.Listing.TheVariants.{Stopped, NoEntry}
-use Rattle.sip_verdict.specs.LogReason.{reason_of}
-use Rattle.sip_verdict.specs.Keyed.{Observation, newest_moment}
+use Rattle.sip_standard.specs.LogReason.{reason_of}
+use Rattle.sip_standard.specs.Observation.{Observation}
+use Rattle.sip_verdict.specs.Keyed.{newest_moment}
 use Rattle.sip_verdict.specs.Reading.{EntryReading, AreObserved}
-use Rattle.sip_verdict.specs.VerdictOf.{IsVerdictOf}
+use Rattle.sip_standard.specs.VerdictOf.{IsVerdictOf}
 use Rattle.sip_verdict.specs.MessageReading.{message_reading}
 use Rattle.sip_verdict.specs.inner.Numbering.{AreNumbered}
 use Rattle.sip_verdict.specs.inner.TablesTracking.{TablesTrack, MayTake}

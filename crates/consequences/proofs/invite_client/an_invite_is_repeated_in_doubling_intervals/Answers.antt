@@ -6,7 +6,7 @@ use Rattle.sip_standard.specs.MachineEvent.{MachineEvent}
 use Rattle.sip_standard.specs.Times.{Times}
 use Rattle.sip_standard.specs.InviteClient as corrected
 use Rattle.sip_standard.specs.InviteClient3261 as without
-use Rattle.sip_states.specs.Stands.{Stands}
+use Rattle.sip_standard.specs.Stands.{Stands}
 use Rattle.consequences.specs.Machines.{figure_of, StateOf}
 use Rattle.consequences.specs.Repeats.{IsSpaced, invites_of}
 use Rattle.consequences.proofs.lemmas.client.InviteClients.{receives_6026, receives_3261}

@@ -11,8 +11,8 @@ use Rattle.sip_standard.specs.Kind.{IsFinal, IsSuccess, IsUnsuccessful}
 use Rattle.sip_standard.specs.Times.{Times}
 use Rattle.sip_standard.specs.InviteClient as corrected
 use Rattle.sip_standard.specs.InviteClient3261 as without
-use Rattle.sip_states.specs.KeyMachine.{OfInviteClient, OfInviteClient3261}
-use Rattle.sip_states.specs.Stands.{Stands}
+use Rattle.sip_standard.specs.KeyMachine.{OfInviteClient, OfInviteClient3261}
+use Rattle.sip_standard.specs.Stands.{Stands}
 use Rattle.consequences.specs.Acknowledged.{Acknowledges}
 use Rattle.consequences.specs.Events.{SendsRequest, GetsResponse, IsRefused, IsRestart}
 use Rattle.consequences.specs.Machines.{figure_of, StateOf}

@@ -14,7 +14,7 @@ use Rattle.sip_standard.specs.InviteServer.{InviteServerPhase, Proceeding, invit
 use Rattle.sip_standard.specs.InviteServer as corrected
 use Rattle.sip_standard.specs.InviteServer3261.{InviteServer3261Phase, invite_server_3261}
 use Rattle.sip_standard.specs.InviteServer3261 as without
-use Rattle.sip_states.specs.Stands.{StandsBehind}
+use Rattle.sip_standard.specs.Stands.{StandsBehind}
 use Rattle.consequences.specs.Events.{IsResponse, SendsResponse}
 use Rattle.consequences.specs.Machines.{figure_of, StateOf}
 use Rattle.consequences.specs.Servers.{BeginNoneAnew}

@@ -9,7 +9,7 @@ use Rattle.sip_standard.specs.MachineEvent.{MachineEvent}
 use Rattle.sip_standard.specs.Times.{Times}
 use Rattle.sip_standard.specs.InviteServer.{invite_server}
 use Rattle.sip_standard.specs.InviteServer3261.{invite_server_3261}
-use Rattle.sip_states.specs.Stands.{Stands}
+use Rattle.sip_standard.specs.Stands.{Stands}
 use Rattle.consequences.specs.Events.{GetsRequest, SendsResponse, IsAnyCode, IsRestart}
 use Rattle.consequences.specs.Machines.{figure_of, StateOf}
 use Rattle.consequences.proofs.lemmas.server.Asleep.{corrected-asleep, without-asleep}

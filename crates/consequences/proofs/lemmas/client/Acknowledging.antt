@@ -15,7 +15,7 @@ use Rattle.sip_standard.specs.Kind.{IsSuccess, IsUnsuccessful}
 use Rattle.sip_standard.specs.Debts.{Owed}
 use Rattle.sip_standard.specs.Figure.{Figure, keeps, gains, Owing, changed, quiet, Emits, Steps, Takes, Lasts, MayEnd}
 use Rattle.sip_standard.specs.InviteClient.{InviteClientPhase, Idle, Ended, Calling, Proceeding, Completed, Sends, Satisfies}
-use Rattle.sip_states.specs.Stands.{Stands}
+use Rattle.sip_standard.specs.Stands.{Stands}
 use Rattle.consequences.specs.Acknowledged.{Acknowledges}
 use Rattle.consequences.specs.Events.{SendsRequest, GetsResponse, IsRefused, IsRestart}
 use Rattle.consequences.proofs.lemmas.run.Lists.{any-last, any-earlier}

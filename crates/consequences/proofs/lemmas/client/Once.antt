@@ -11,7 +11,7 @@ use Rattle.sip_standard.specs.MachineEvent.{MachineEvent}
 use Rattle.sip_standard.specs.Figure.{Figure, Change, keeps, Owing, quiet, Emits, Fails, Steps, Takes}
 use Rattle.sip_standard.specs.InviteClient as invite
 use Rattle.sip_standard.specs.PlainClient as plain
-use Rattle.sip_states.specs.Stands.{Stands, StandsBehind}
+use Rattle.sip_standard.specs.Stands.{Stands, StandsBehind}
 use Rattle.consequences.specs.Events.{IsRestart}
 use Rattle.consequences.proofs.lemmas.server.Asleep.{nothing-to-pay}
 use Rattle.consequences.proofs.lemmas.client.InviteClients.{Row, Receiving, client, IsDone, Answers, IsReceiving, pays-nothing, sends-idle, sends-calling, sends-proceeding, sends-accepted, sends-completed, sends-ended}

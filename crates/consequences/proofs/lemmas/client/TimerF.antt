@@ -12,7 +12,7 @@ use Rattle.sip_standard.specs.Kind.{IsFinal}
 use Rattle.sip_standard.specs.Debts.{Owed}
 use Rattle.sip_standard.specs.Figure.{Change, Owing, quiet, Emits, Steps, Takes, Lasts}
 use Rattle.sip_standard.specs.PlainClient.{PlainClientPhase, Idle, Ended, Trying, Proceeding, Completed, Receives, Sends, plain_client}
-use Rattle.sip_states.specs.Stands.{Stands, StandsBehind}
+use Rattle.sip_standard.specs.Stands.{Stands, StandsBehind}
 use Rattle.consequences.specs.Events.{SendsAnyRequest, GetsResponse}
 use Rattle.consequences.proofs.lemmas.run.Lists.{any-last, any-earlier, any-none}
 use Rattle.consequences.proofs.lemmas.run.Running.{IsKept, left_at, step-of, stands-run, Cut, cut, run-keeps}

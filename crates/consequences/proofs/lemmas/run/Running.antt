@@ -6,7 +6,7 @@ use Rattle.sip_standard.specs.Debts.{Owed}
 use Rattle.sip_standard.specs.Times.{Times}
 use Rattle.sip_standard.specs.MachineEvent.{MachineEvent}
 use Rattle.sip_standard.specs.Figure.{Figure, Owing, quiet, Steps, Takes, Lasts, MayEnd}
-use Rattle.sip_states.specs.Stands.{Stands, begins, waits, ends, takes}
+use Rattle.sip_standard.specs.Stands.{Stands, begins, waits, ends, takes}
 
 -- from x at h, waits and ends lead to a state at a moment
 pub data Rests {X : Type 0} (f : Figure X) (p : Times) (x : Owing X) (h : ℕ) : ℕ → Owing X → Type 0 where

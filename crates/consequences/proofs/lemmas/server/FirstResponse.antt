@@ -14,7 +14,7 @@ use Rattle.sip_standard.specs.Kind.{IsSuccess}
 use Rattle.sip_standard.specs.Figure.{Figure, keeps, Owing, changed, quiet, Follows, Emits, Fails, Steps, Takes, Lasts, MayEnd}
 use Rattle.sip_standard.specs.InviteServer.{InviteServerPhase, Idle, Proceeding, Accepted, Completed, Confirmed}
 use Rattle.sip_standard.specs.InviteServer as corrected
-use Rattle.sip_states.specs.Stands.{Stands}
+use Rattle.sip_standard.specs.Stands.{Stands}
 use Rattle.consequences.specs.Events.{GetsRequest, SendsResponse, IsAnyCode, IsRestart}
 use Rattle.consequences.proofs.lemmas.server.Asleep.{IsAsleep, IsInvite, nothing-to-pay, sleeps-on}
 use Rattle.consequences.proofs.lemmas.run.Lists.{any-last, any-earlier}

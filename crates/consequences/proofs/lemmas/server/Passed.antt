@@ -12,7 +12,7 @@ use Rattle.sip_standard.specs.Debts.{Owed}
 use Rattle.sip_standard.specs.Figure.{Figure, Change, drops, Owing, quiet, Emits, Fails, Steps, Takes}
 use Rattle.sip_standard.specs.InviteServer.{InviteServerPhase, Idle, Proceeding}
 use Rattle.sip_standard.specs.InviteServer3261.{InviteServer3261Phase, Passed, In, Receives, Sends, invite_server_3261}
-use Rattle.sip_states.specs.Stands.{StandsBehind}
+use Rattle.sip_standard.specs.Stands.{StandsBehind}
 use Rattle.consequences.specs.Events.{GetsRequest, IsResponse, SendsResponse}
 use Rattle.consequences.proofs.lemmas.server.Asleep.{IsInvite, nothing-to-pay, without-asleep, asleep-emits, asleep-steps}
 use Rattle.consequences.proofs.lemmas.server.InviteServers.{first_in, is-server-3261}

@@ -15,7 +15,7 @@ use Rattle.sip_standard.specs.Kind.{IsProvisional, IsFinal}
 use Rattle.sip_standard.specs.Debts.{Owed, IsWithoutFirst}
 use Rattle.sip_standard.specs.Figure.{Figure, Change, gains, Owing, changed, quiet, Emits, Steps, Takes, Lasts, MayEnd}
 use Rattle.sip_standard.specs.PlainServer.{PlainServerPhase, Idle, Trying, Proceeding, Completed, Receives, Sends, plain_server}
-use Rattle.sip_states.specs.Stands.{Stands}
+use Rattle.sip_standard.specs.Stands.{Stands}
 use Rattle.consequences.specs.Events.{GetsAnyRequest, SendsResponse, SendsBytes, IsRestart}
 use Rattle.consequences.proofs.lemmas.server.Asleep.{nothing-to-pay}
 use Rattle.consequences.proofs.lemmas.run.Lists.{any-last, any-earlier, any-none, All-front, All-last}

@@ -9,8 +9,8 @@ use Rattle.sip_standard.specs.InviteServer.{invite_server}
 use Rattle.sip_standard.specs.InviteServer3261.{invite_server_3261}
 use Rattle.sip_standard.specs.PlainClient.{plain_client}
 use Rattle.sip_standard.specs.PlainServer.{plain_server}
-use Rattle.sip_states.specs.KeyMachine.{MachineKind, OfInviteClient, OfPlainClient, OfInviteServer, OfPlainServer, OfInviteClient3261, OfInviteServer3261, transaction_of}
-use Rattle.sip_states.specs.Stands.{Stands}
+use Rattle.sip_standard.specs.KeyMachine.{MachineKind, OfInviteClient, OfPlainClient, OfInviteServer, OfPlainServer, OfInviteClient3261, OfInviteServer3261, transaction_of}
+use Rattle.sip_standard.specs.Stands.{Stands}
 use Rattle.consequences.specs.Tolerance.{tolerant, AreOneKind}
 use Rattle.consequences.proofs.lemmas.run.Lasting.{what_stands_lasts}
 use Rattle.consequences.proofs.lemmas.tolerance.Sorted.{MayIn, MayIn3261, client-sorted, client-3261-sorted, plain-client-sorted, server-sorted, server-3261-sorted}

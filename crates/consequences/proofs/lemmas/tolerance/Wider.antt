@@ -12,7 +12,7 @@ use Rattle.sip_standard.specs.Window.{close_at}
 use Rattle.sip_standard.specs.MachineEvent.{MachineEvent}
 use Rattle.sip_standard.specs.Debts.{Owed, softened, IsWithoutFirst}
 use Rattle.sip_standard.specs.Figure.{Figure, Change, keeps, softens, drops, gains, Owing, changed, quiet, Emits, Fails, Steps, Takes, Lasts, MayEnd}
-use Rattle.sip_states.specs.Stands.{Stands, begins, waits, ends, takes}
+use Rattle.sip_standard.specs.Stands.{Stands, begins, waits, ends, takes}
 use Rattle.consequences.specs.Tolerance.{tolerant, AreOneKind}
 use Rattle.consequences.proofs.lemmas.run.Lists.{contains-here, contains-later}
 use Rattle.consequences.proofs.lemmas.run.Running.{left_at}

@@ -14,7 +14,7 @@ use Rattle.sip_standard.specs.Times.{Times}
 use Rattle.sip_standard.specs.InviteServer.{invite_server}
 use Rattle.sip_standard.specs.InviteServer3261.{invite_server_3261}
 use Rattle.sip_standard.specs.PlainServer.{plain_server}
-use Rattle.sip_states.specs.Stands.{StandsBehind}
+use Rattle.sip_standard.specs.Stands.{StandsBehind}
 use Rattle.consequences.specs.Events.{GetsAnyRequest, IsRestart}
 use Rattle.consequences.specs.Machines.{figure_of, StateOf}
 use Rattle.consequences.proofs.lemmas.server.Asleep.{IsAsleep, IsInvite, IsAnyRequest, corrected-asleep, without-asleep, plain-asleep, asleep-emits, sleeps-on, restart-sleeps}

@@ -5,16 +5,15 @@ use Rattle.sip_standard.specs.Key.{KeyParts, same_key}
 use Rattle.sip_standard.specs.Times.{Times}
 use Rattle.sip_standard.specs.MachineEvent.{MachineEvent}
 use Rattle.sip_standard.specs.Figure.{Owing}
-use Rattle.sip_states.specs.KeyMachine.{machine_of_key, transaction_of}
-use Rattle.sip_states.specs.Stands.{Stands, StandsBehind}
+use Rattle.sip_standard.specs.KeyMachine.{machine_of_key, transaction_of}
+use Rattle.sip_standard.specs.Stands.{Stands, StandsBehind}
 use Rattle.sip_standard.specs.LogEntry.{Item}
 use Rattle.sip_standard.specs.LogSays.{LogEnd, Clean, Stops, LogSays, LacksHeader}
-use Rattle.sip_verdict.specs.declared.verdict.Verdict.{Verdict}
-use Rattle.sip_verdict.specs.declared.verdict.Verdict.TheVariants.{Legal, Malformed, Breach, Undecided, LogFault}
-use Rattle.sip_verdict.specs.declared.log_reason.LogReason.TheVariants.{Header}
-use Rattle.sip_verdict.specs.LogReason.{reason_of}
-use Rattle.sip_verdict.specs.Keyed.{Observation}
-use Rattle.sip_verdict.specs.MessageReading.{direction_of, silent_observation, ObservesMessage}
+use Rattle.sip_standard.specs.declared.verdict.Verdict.{Verdict}
+use Rattle.sip_standard.specs.declared.verdict.Verdict.TheVariants.{Legal, Malformed, Breach, Undecided, LogFault}
+use Rattle.sip_standard.specs.declared.log_reason.LogReason.TheVariants.{Header}
+use Rattle.sip_standard.specs.LogReason.{reason_of}
+use Rattle.sip_standard.specs.Observation.{Observation, direction_of, silent_observation, ObservesMessage}
 
 -- the keys of the entries, in the order of their first appearance
 abbrev pub keys_in : List (Observation KeyParts) → List KeyParts

@@ -1,7 +1,7 @@
 use Rattle.sip_standard.specs.LogFault.{LogFault}
 use Rattle.sip_standard.specs.LogFault as faults
-use Rattle.sip_verdict.specs.declared.log_reason.LogReason.{LogReason}
-use Rattle.sip_verdict.specs.declared.log_reason.LogReason.TheVariants as reasons
+use Rattle.sip_standard.specs.declared.log_reason.LogReason.{LogReason}
+use Rattle.sip_standard.specs.declared.log_reason.LogReason.TheVariants as reasons
 
 -- the reason by which a verdict names a log's fault
 abbrev pub reason_of : LogFault → LogReason

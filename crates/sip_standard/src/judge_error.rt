@@ -1,6 +1,6 @@
 //! Why a log has no verdict.
 ghost use Rattle.std.specs.Prelude.{◌≡◌};
-ghost use Rattle.sip_verdict.specs.declared.judge_error.JudgeError.TheVariants.{Memory};
+ghost use Rattle.sip_standard.specs.declared.judge_error.JudgeError.TheVariants.{Memory};
 
 use std::alloc::AllocError;
 use thiserror::Error;

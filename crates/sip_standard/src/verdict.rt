@@ -1,6 +1,6 @@
 //! What is said of a log.
+use crate::fault::Fault;
 use crate::log_reason::LogReason;
-use sip_standard::Fault;
 
 /// The verdict on a log. Entries and transactions are numbered from 1; a fault of the header is at entry 0.
 #[derive(Clone, Copy, Debug, PartialEq, Eq)]

@@ -1,10 +1,6 @@
 -- Branches (RFC 3261, section 8.1.1.7).
-use Rattle.std.specs.Prelude.{ℕ, Bool, List, take, codes, bytes_eq, Option, None, Some, if◌then◌else◌}
+use Rattle.std.specs.Prelude.{ℕ, List, take, codes, bytes_eq, Option, None, Some, if◌then◌else◌}
 use Rattle.sip_standard.specs.Case.{folded}
-
--- the magic cookie z9hG4bK stands at the front of the branch, without case
-abbrev pub has_cookie : List ℕ → Bool
-has_cookie branch = bytes_eq (take 7 (folded branch)) (codes "z9hg4bk")
 
 -- a branch in lower case, as parameter values are compared (section 7.3.1), if it is there and begins with the magic cookie z9hG4bK
 abbrev pub cookie_branch : Option (List ℕ) → Option (List ℕ)

@@ -1,6 +1,7 @@
 //! What one must believe of SIP (RFC 3261) to read what this repository proves: the definitions that its contracts cite, each once, in the
 //! order in which one reads, and the types that entries and answers are made of. `specs/` has a file for each noun: sets of texts, case, characters,
-//! the profile of the grammar, what a message says or why bytes are none, times and windows, and what an input says as a log.
+//! the profile of the grammar, what a message says or why bytes are none, keys, times and windows, what an input says as a log, the six machines,
+//! runs, and the verdict.
 #![tactic(auto)]
 
 mod action;
@@ -8,6 +9,7 @@ mod fault;
 mod format;
 mod judge_error;
 mod kind;
+pub mod laws;
 mod log_reason;
 mod role;
 mod rules;

@@ -1,6 +1,6 @@
 //! Why a log cannot be read on.
 ghost use Rattle.std.specs.Prelude.{◌≡◌};
-ghost use Rattle.sip_standard.specs.Rendering.{log_reason_number, log_reason_name};
+ghost use Rattle.sip_standard.specs.Reason.{log_reason_number, log_reason_name};
 
 /// Why an entry of a log, or its header, cannot be read.
 #[derive(Clone, Copy, Debug, PartialEq, Eq)]

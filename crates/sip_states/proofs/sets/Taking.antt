@@ -8,7 +8,7 @@ use Rattle.sip_machine.specs.Rules.{Rules, IsLawful, Waits, StandFor}
 use Rattle.sip_states.specs.Held.{IsKept}
 use Rattle.sip_states.specs.inner.Ways.{Advances}
 use Rattle.sip_states.specs.Runs.{RunGives, IsWide, widest}
-use Rattle.sip_states.proofs.lists.Few.{distinct_few}
+use Rattle.sip_standard.proofs.Few.{distinct_few}
 use Rattle.sip_states.proofs.sets.Following.{Follows, seen_waits, ended_stays}
 use Rattle.sip_states.proofs.lists.Listed.{Contains-map}
 use Rattle.sip_states.proofs.sets.Waiting.{IsWithin-none}

@@ -5,7 +5,7 @@ use Rattle.std.proofs.lemmas.List.{map-append}
 use Rattle.std.proofs.lemmas.List.Elements.{All-nil, All-cons, All-head, All-map, All-filter, filter-append}
 use Rattle.sip_standard.specs.MachineEvent.{MachineEvent}
 use Rattle.sip_states.specs.Runs.{RuledRun}
-use Rattle.sip_states.proofs.lists.Few.{AllPairs-head, AllPairs-tail}
+use Rattle.sip_standard.proofs.Few.{AllPairs-head, AllPairs-tail}
 use Rattle.sip_states.proofs.runs.FewerLemmas.{Run-fewer}
 use Rattle.sip_standard.specs.Observation.{Observation}
 use Rattle.sip_verdict.specs.Keyed.{Machines, concerns, events_of, newest_moment, HasRun}

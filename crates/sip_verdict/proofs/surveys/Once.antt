@@ -12,7 +12,7 @@ use Rattle.sip_machine.specs.inner.DebtLaws.{All-front}
 use Rattle.sip_standard.specs.declared.format.Format.{Format}
 use Rattle.sip_standard.specs.LogEntry.{Item, InOrder}
 use Rattle.sip_standard.specs.LogSays.{LogEnd}
-use Rattle.sip_states.proofs.lists.Few.{AllPairs-head, AllPairs-tail}
+use Rattle.sip_standard.proofs.Few.{AllPairs-head, AllPairs-tail}
 use Rattle.sip_states.proofs.lists.Listed.{Contains-none}
 use Rattle.sip_verdict.specs.declared.finding.Finding.{Finding}
 use Rattle.sip_verdict.specs.declared.finding.Finding.TheVariants.{Malformed, Breach, Undecided}

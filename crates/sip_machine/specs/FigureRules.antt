@@ -6,7 +6,7 @@ use Rattle.sip_standard.specs.MachineEvent.{MachineEvent}
 use Rattle.sip_standard.specs.Debts.{Owed}
 use Rattle.sip_machine.specs.Deadlines.{unexpired, must_deadlines, earliest, unless_owed}
 use Rattle.sip_machine.specs.Rules.{Rules}
-use Rattle.sip_standard.specs.Figure.{Change, keeps, drops, Figure, Owing, changed, quiet, Steps}
+use Rattle.sip_standard.specs.Figure.{Change, drops, Figure, Owing, changed, quiet, Steps}
 
 -- The figure as rules, which are the same (sip_states, laws.rt).
 

@@ -21,7 +21,7 @@ PARTS = {
     "Text": (["Text", "Case", "Chars", "Profile"], ["TEXT.md"]),
     "Message": (["Outcome", "Faults", "StartLine", "Via", "Values", "Field", "Body", "Lines", "Says", "Transport", "Reason", "fault", "sip_message"], ["MESSAGE.md"]),
     "Keys": (["sip_key"], ["KEYS.md"]),
-    "Log": (["rules", "Times", "Window", "Source", "format", "LogHeader", "action", "LogEntry", "LogFault", "LogSays", "sip_log"], ["LOG.md", "MACHINES.md"]),
+    "Log": (["rules", "Times", "Window", "Source", "format", "LogHeader", "action", "LogEntry", "log_reason", "LogSays", "sip_log"], ["LOG.md", "MACHINES.md"]),
     "Machines": (["sip_machine", "sip_states"], ["MACHINES.md", "VERDICT.md"]),
     "Verdict": (["sip_verdict"], ["VERDICT.md"]),
 }

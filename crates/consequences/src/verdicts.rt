@@ -2,7 +2,7 @@
 ghost use Rattle.std.specs.Prelude.{ℕ, List};
 ghost use Rattle.sip_standard.specs.declared.fault.Fault.{Fault};
 ghost use Rattle.sip_verdict.specs.VerdictOf.{IsVerdictOf};
-ghost use Rattle.sip_verdict.specs.declared.log_reason.LogReason.{LogReason};
+ghost use Rattle.sip_standard.specs.declared.log_reason.LogReason.{LogReason};
 ghost use Rattle.sip_verdict.specs.declared.verdict.Verdict.TheVariants.{Malformed, Breach, Undecided, LogFault};
 ghost use Rattle.consequences.specs.Front.{IsFirstFault, IsFirstBreach, IsFirstWide, CannotBeRead};
 

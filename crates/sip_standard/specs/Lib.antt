@@ -18,5 +18,4 @@ pub mod Window
 pub mod Source
 pub mod LogHeader
 pub mod LogEntry
-pub mod LogFault
 pub mod LogSays

@@ -6,9 +6,11 @@
 mod action;
 mod fault;
 mod format;
+mod log_reason;
 mod rules;
 
 pub use crate::fault::{Fault, Reason, Unit};
 pub use action::Action;
 pub use format::Format;
+pub use log_reason::LogReason;
 pub use rules::Rules;

@@ -3,7 +3,6 @@ pub mod Keyed
 pub mod LegalLog
 pub mod Listing
 pub mod ListingOf
-pub mod LogReason
 pub mod MessageReading
 pub mod Named
 pub mod Reading

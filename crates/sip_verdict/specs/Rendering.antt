@@ -2,27 +2,9 @@
 use Rattle.std.specs.Prelude.{ℕ, List, ◌++◌, codes, decimal}
 use Rattle.sip_standard.specs.declared.fault as fault
 use Rattle.sip_standard.specs.declared.fault.Unit.TheVariants.{Head, Line, Body}
-use Rattle.sip_standard.specs.Reason.{reason_number, reason_name}
-use Rattle.sip_verdict.specs.declared.log_reason.LogReason.{LogReason}
-use Rattle.sip_verdict.specs.declared.log_reason.LogReason.TheVariants.{Header, EntryLine, Truncated, Order, Limit}
+use Rattle.sip_standard.specs.Reason.{reason_number, reason_name, log_reason_number, log_reason_name}
 use Rattle.sip_verdict.specs.declared.verdict.Verdict.{Verdict}
 use Rattle.sip_verdict.specs.declared.verdict.Verdict.TheVariants.{Legal, Malformed, Breach, Undecided, LogFault}
-
--- the number of a log's fault
-abbrev pub log_reason_number : LogReason → ℕ
-log_reason_number Header = 20
-log_reason_number EntryLine = 21
-log_reason_number Truncated = 22
-log_reason_number Order = 23
-log_reason_number Limit = 24
-
--- its name
-abbrev pub log_reason_name : LogReason → List ℕ
-log_reason_name Header = codes "Header"
-log_reason_name EntryLine = codes "EntryLine"
-log_reason_name Truncated = codes "Truncated"
-log_reason_name Order = codes "Order"
-log_reason_name Limit = codes "Limit"
 
 -- where a message has its fault
 abbrev pub rendered_unit : fault.Unit.Unit → List ℕ

@@ -10,11 +10,10 @@ use Rattle.sip_message.specs.Message.{Message, Spells}
 use Rattle.sip_standard.specs.Outcome.{stops}
 use Rattle.sip_standard.specs.Says.{Says}
 use Rattle.sip_message.specs.Canon.{canon}
-use Rattle.sip_verdict.specs.declared.log_reason.LogReason.TheVariants as reasons
+use Rattle.sip_standard.specs.declared.log_reason.LogReason.TheVariants as reasons
 use Rattle.sip_verdict.specs.declared.verdict.Verdict.TheVariants as verdicts
 use Rattle.sip_verdict.specs.declared.shown.Shown.{Shown}
 use Rattle.sip_verdict.specs.declared.shown.Shown.TheVariants.{End, Malformed, LogFault}
-use Rattle.sip_verdict.specs.LogReason.{reason_of}
 use Rattle.sip_verdict.specs.Listing.{has_message}
 use Rattle.sip_verdict.specs.Rendering.{rendered}
 
@@ -52,7 +51,7 @@ last_text (LogFault entry reason) = rendered (verdicts.LogFault entry reason)
 abbrev pub EndsAs : ℕ → List Item → LogEnd → Shown → Type 0
 EndsAs count (e ∷ rest) end shown = (fault : Fault) × (has_message e.action ≡ true) × Says e.text (stops fault) × (shown ≡ Malformed (count + 1) fault)
 EndsAs count [] Clean shown = shown ≡ End count
-EndsAs count [] (Stops fault) shown = shown ≡ LogFault (count + 1) (reason_of fault)
+EndsAs count [] (Stops fault) shown = shown ≡ LogFault (count + 1) fault
 
 -- what is shown of an input with a header
 pub record ShowsEntries (input text : List ℕ) (shown : Shown) : Type 0 where

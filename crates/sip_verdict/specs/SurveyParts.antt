@@ -9,7 +9,7 @@ use Rattle.sip_part.specs.Part.{PartOf, TellsBranch, falls_into}
 use Rattle.sip_verdict.specs.declared.finding.Finding.{Finding}
 use Rattle.sip_verdict.specs.declared.survey_end.SurveyEnd.{SurveyEnd}
 use Rattle.sip_verdict.specs.declared.survey_end.SurveyEnd.TheVariants as ended
-use Rattle.sip_verdict.specs.declared.log_reason.LogReason.TheVariants.{Header}
+use Rattle.sip_standard.specs.declared.log_reason.LogReason.TheVariants.{Header}
 use Rattle.sip_verdict.specs.MessageReading.{direction_of}
 use Rattle.sip_verdict.specs.SurveyOf.{IsSurveyAfter}
 

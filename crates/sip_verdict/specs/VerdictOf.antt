@@ -11,8 +11,7 @@ use Rattle.sip_standard.specs.LogEntry.{Item}
 use Rattle.sip_standard.specs.LogSays.{LogEnd, Clean, Stops, LogSays, LacksHeader}
 use Rattle.sip_verdict.specs.declared.verdict.Verdict.{Verdict}
 use Rattle.sip_verdict.specs.declared.verdict.Verdict.TheVariants.{Legal, Malformed, Breach, Undecided, LogFault}
-use Rattle.sip_verdict.specs.declared.log_reason.LogReason.TheVariants.{Header}
-use Rattle.sip_verdict.specs.LogReason.{reason_of}
+use Rattle.sip_standard.specs.declared.log_reason.LogReason.TheVariants.{Header}
 use Rattle.sip_verdict.specs.Keyed.{Observation}
 use Rattle.sip_verdict.specs.MessageReading.{direction_of, silent_observation, ObservesMessage}
 
@@ -63,7 +62,7 @@ HasTrouble p front e v = ⊥
 -- cannot be read; or that of the next entry, if it is in trouble, and if it is not, that of what is left after it
 abbrev pub IsVerdictBehind : Times → List (Observation KeyParts) → List Item → LogEnd → Verdict → Type 0
 IsVerdictBehind p es [] Clean v = v ≡ Legal (length es) (length (keys_in es))
-IsVerdictBehind p es [] (Stops fault) v = v ≡ LogFault (length es + 1) (reason_of fault)
+IsVerdictBehind p es [] (Stops fault) v = v ≡ LogFault (length es + 1) fault
 IsVerdictBehind p es (item ∷ items) end v =
     (e : Observation KeyParts) × Sees es item e
     × (HasTrouble p es e v

@@ -45,13 +45,12 @@ pub use laws::{
     a_verdict_is_that_by_the_reading_of_messages, an_input_has_a_verdict, an_input_has_one_verdict,
 };
 pub use listing::{Listing, states_at};
-pub use log_reason::LogReason;
 pub use rendering::{end_line, finding_line, render};
 pub use show_error::ShowError;
 pub use showing::show;
 pub use shown::Shown;
 pub use sip_part::Part;
-pub use sip_standard::{Fault, Reason, Unit};
+pub use sip_standard::{Fault, LogReason, Reason, Unit};
 pub use step_error::StepError;
 pub use stream::Judge;
 pub use summary::Summary;

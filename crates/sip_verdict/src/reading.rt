@@ -8,10 +8,11 @@ ghost use Rattle.sip_verdict.specs.Listing.{trouble_of};
 ghost use Rattle.sip_verdict.specs.inner.Walking.{HasRead, WalkGives, MovesOn};
 
 use crate::judge_error::JudgeError;
-use crate::log_reason::{LogReason, reason_of};
+use crate::log_reason::reason_of;
 use crate::verdict::Verdict;
 use sip_log::{Entry, Progress, Source};
 use sip_machine::Params;
+use sip_standard::LogReason;
 use std::alloc::Global;
 
 /// What a log has after the entries that were read.

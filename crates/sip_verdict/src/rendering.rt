@@ -6,12 +6,11 @@ ghost use Rattle.sip_verdict.specs.SurveyText.{end_text, finding_text};
 ghost use Rattle.sip_verdict.specs.declared.verdict.Verdict.TheVariants.{Malformed, LogFault};
 
 use crate::finding::Finding;
-use crate::log_reason::LogReason;
 use crate::shown::Shown;
 use crate::survey_end::SurveyEnd;
 use crate::verdict::Verdict;
 use itoa::Buffer;
-use sip_standard::{Fault, Unit};
+use sip_standard::{Fault, LogReason, Unit};
 use std::alloc::{AllocError, Global};
 
 /// The text of a verdict, one line without its end: `legal entries E transactions T`, `malformed E UNIT NO REASON`,

@@ -12,7 +12,6 @@ ghost use Rattle.sip_verdict.specs.inner.SurveyingLogs.{AreCounted, IsSurveyAt, 
 
 use crate::finding::Finding;
 use crate::following::Survey;
-use crate::log_reason::LogReason;
 use crate::observing::direction_of;
 use crate::reading::{Next, read_header, read_next};
 use crate::rendering::{end_line, finding_line};
@@ -22,6 +21,7 @@ use crate::survey_error::SurveyError;
 use sip_log::{Entry, Progress, Sink, Source};
 use sip_machine::Action;
 use sip_part::Part;
+use sip_standard::LogReason;
 use std::alloc::{AllocError, Global};
 use std::hash::BuildHasher;
 

@@ -1,6 +1,5 @@
 //! What is said of a log.
-use crate::log_reason::LogReason;
-use sip_standard::Fault;
+use sip_standard::{Fault, LogReason};
 
 /// The verdict on a log. Entries and transactions are numbered from 1; a fault of the header is at entry 0.
 #[derive(Clone, Copy, Debug, PartialEq, Eq)]

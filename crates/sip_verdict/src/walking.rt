@@ -10,11 +10,11 @@ ghost use Rattle.sip_verdict.specs.inner.Walking.{Walks, WalksOn, MayStep};
 
 use crate::judge_error::JudgeError;
 use crate::listing::Listing;
-use crate::log_reason::LogReason;
 use crate::reading::{Next, read_header, read_next};
 use crate::standing::Standing;
 use crate::verdict::Verdict;
 use sip_log::{Progress, Source};
+use sip_standard::LogReason;
 use std::alloc::Global;
 use std::hash::BuildHasher;
 

@@ -6,18 +6,16 @@ use Rattle.sip_standard.specs.Times.{Times}
 use Rattle.sip_machine.specs.Texts.{Texts}
 use Rattle.sip_states.specs.Tables.{Tabled}
 use Rattle.sip_log.specs.declared.entry.Entry.{Entry}
-use Rattle.sip_standard.specs.LogFault.{LogFault}
+use Rattle.sip_standard.specs.declared.log_reason.LogReason.{LogReason}
 use Rattle.sip_standard.specs.LogEntry.{Item}
 use Rattle.sip_standard.specs.LogSays.{LogEnd, Clean, Stops, LogSays}
 use Rattle.sip_log.specs.Told.{item}
 use Rattle.sip_log.specs.Reading as log
 use Rattle.sip_log.proofs.answers.ReadingLemmas.{IfSome-map}
-use Rattle.sip_verdict.specs.declared.log_reason.LogReason.{LogReason}
 use Rattle.sip_verdict.specs.declared.verdict.Verdict.{Verdict}
 use Rattle.sip_verdict.specs.declared.verdict.Verdict.TheVariants.{Legal, Malformed, Breach, Undecided, LogFault as FaultOfLog}
 use Rattle.sip_verdict.specs.declared.listing.Listing.{Listing}
 use Rattle.sip_verdict.specs.declared.listing.Listing.TheVariants.{Text, Stopped, NoEntry}
-use Rattle.sip_verdict.specs.LogReason.{reason_of}
 use Rattle.sip_verdict.specs.Keyed.{Observation, Machines, keys_of, newest_moment}
 use Rattle.sip_verdict.specs.Verdicts.{IsTrouble}
 use Rattle.sip_verdict.specs.VerdictOf.{IsVerdictOf}
@@ -102,7 +100,7 @@ module _ (start : Option (List ℕ)) (now : log.ReaderState) (texts : Texts) (t 
       )
 
   -- it cannot be read on
-  pub walks_fault : (count : ℕ) (reason : LogReason) → count ≡ now.count → (fault : LogFault) × (reason ≡ reason_of fault) × IfSome start (λ input. LogSays input t.times walks.judged.items (Stops fault))
+  pub walks_fault : (count : ℕ) (reason : LogReason) → count ≡ now.count → (fault : LogReason) × (reason ≡ fault) × IfSome start (λ input. LogSays input t.times walks.judged.items (Stops fault))
       → IfSome start (λ input. IsVerdictOf input (FaultOfLog (count + 1) reason))
   walks_fault count reason counts (fault, is, logs) =
       let j = walks.judged in

@@ -5,22 +5,20 @@ use Rattle.sip_key.specs.Key.{KeyParts}
 use Rattle.sip_standard.specs.Times.{Times}
 use Rattle.sip_part.specs.Part.{PartOf}
 use Rattle.sip_log.specs.declared.entry.Entry.{Entry}
-use Rattle.sip_standard.specs.LogFault.{LogFault}
+use Rattle.sip_standard.specs.declared.log_reason.LogReason.{LogReason}
 use Rattle.sip_standard.specs.LogSays.{LogEnd, Clean, Stops, LogSays, LacksHeader}
 use Rattle.sip_standard.specs.LogEntry.{Item}
 use Rattle.sip_log.specs.Told.{item}
 use Rattle.sip_log.specs.Reading as log
 use Rattle.sip_log.proofs.answers.ReadingLemmas.{IfSome-map}
 use Rattle.sip_verdict.specs.declared.finding.Finding.{Finding}
-use Rattle.sip_verdict.specs.declared.log_reason.LogReason.{LogReason}
-use Rattle.sip_verdict.specs.declared.log_reason.LogReason.TheVariants.{Header}
+use Rattle.sip_standard.specs.declared.log_reason.LogReason.TheVariants.{Header}
 use Rattle.sip_verdict.specs.declared.survey_end.SurveyEnd.{SurveyEnd}
 use Rattle.sip_verdict.specs.declared.survey_end.SurveyEnd.TheVariants as ended
 use Rattle.sip_verdict.specs.declared.verdict.Verdict.{Verdict}
 use Rattle.sip_verdict.specs.declared.verdict.Verdict.TheVariants.{Legal, Malformed, Breach, Undecided, LogFault as FaultOfLog}
 use Rattle.sip_verdict.specs.Keyed.{Observation}
 use Rattle.sip_verdict.specs.Listing.{trouble_of}
-use Rattle.sip_verdict.specs.LogReason.{reason_of}
 use Rattle.sip_verdict.specs.MessageReading.{message_reading}
 use Rattle.sip_verdict.specs.VerdictOf.{keys_in, HasTrouble, IsVerdictBehind, IsVerdictOf}
 use Rattle.sip_verdict.specs.SurveyOf.{AreFoundAt, IsSurveyAfter}
@@ -112,7 +110,7 @@ module _ (part : Option PartOf) (start : Option (List ℕ)) (now : log.ReaderSta
   gathered_end end is logs = gathered Clean end (refl, is) logs
 
   -- what comes after so many entries cannot be read
-  pub gathered_stop : (count : ℕ) (reason : LogReason) → count ≡ s.number → (fault : LogFault) × (reason ≡ reason_of fault) × IfSome start (λ input. LogSays input s.tables.times read.items (Stops fault))
+  pub gathered_stop : (count : ℕ) (reason : LogReason) → count ≡ s.number → (fault : LogReason) × (reason ≡ fault) × IfSome start (λ input. LogSays input s.tables.times read.items (Stops fault))
       → IfSome start (λ input. IsSurveyIn part input found (ended.LogFault (count + 1) reason))
   gathered_stop count reason counted (fault, same, logs) =
       gathered (Stops fault) (ended.LogFault (count + 1) reason)

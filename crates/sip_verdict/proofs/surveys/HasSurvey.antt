@@ -9,8 +9,7 @@ use Rattle.sip_log.proofs.logs.Logs.{log_is_some}
 use Rattle.sip_verdict.specs.declared.finding.Finding.{Finding}
 use Rattle.sip_verdict.specs.declared.survey_end.SurveyEnd.{SurveyEnd}
 use Rattle.sip_verdict.specs.declared.survey_end.SurveyEnd.TheVariants as ended
-use Rattle.sip_verdict.specs.declared.log_reason.LogReason.TheVariants.{Header}
-use Rattle.sip_verdict.specs.LogReason.{reason_of}
+use Rattle.sip_standard.specs.declared.log_reason.LogReason.TheVariants.{Header}
 use Rattle.sip_verdict.specs.Keyed.{Observation}
 use Rattle.sip_verdict.specs.VerdictOf.{keys_in}
 use Rattle.sip_verdict.specs.SurveyOf.{Breaks, Widens, AreFoundAt, IsSurveyAfter, IsSurveyOf}
@@ -29,7 +28,7 @@ found_some p es e never =
 -- entries have a survey after others
 after_some : (p : Times) (es : List (Observation KeyParts)) (items : List Item) (close : LogEnd) → Weakly ((found : List Finding) × (end : SurveyEnd) × IsSurveyAfter p es items close found end)
 after_some p es [] Clean never = never ([], ended.Clean (length es) (length (keys_in es)), (refl, refl))
-after_some p es [] (Stops fault) never = never ([], ended.LogFault (length es + 1) (reason_of fault), (refl, refl))
+after_some p es [] (Stops fault) never = never ([], ended.LogFault (length es + 1) fault, (refl, refl))
 after_some p es (item ∷ items) close never =
     sees_entry es item (λ seen.
     found_some p es seen.0 (λ here.

@@ -9,14 +9,13 @@ use Rattle.sip_key.specs.Key.{KeyParts}
 use Rattle.sip_standard.specs.Times.{Times}
 use Rattle.sip_part.specs.Part.{PartOf}
 use Rattle.sip_log.specs.declared.entry.Entry.{Entry}
-use Rattle.sip_standard.specs.LogFault.{LogFault}
+use Rattle.sip_standard.specs.declared.log_reason.LogReason.{LogReason}
 use Rattle.sip_standard.specs.LogSays.{LogEnd, Clean, Stops, LogSays}
 use Rattle.sip_log.specs.Told.{item}
 use Rattle.sip_log.specs.Reading as log
 use Rattle.sip_log.proofs.answers.ReadingLemmas.{IfSome-map}
 use Rattle.sip_verdict.specs.declared.finding.Finding.{Finding}
-use Rattle.sip_verdict.specs.declared.log_reason.LogReason.{LogReason}
-use Rattle.sip_verdict.specs.declared.log_reason.LogReason.TheVariants.{Header}
+use Rattle.sip_standard.specs.declared.log_reason.LogReason.TheVariants.{Header}
 use Rattle.sip_verdict.specs.declared.summary.Summary.{Summary}
 use Rattle.sip_verdict.specs.declared.survey_end.SurveyEnd.{SurveyEnd}
 use Rattle.sip_verdict.specs.declared.survey_end.SurveyEnd.TheVariants as ended
@@ -24,7 +23,6 @@ use Rattle.sip_verdict.specs.declared.surveying.Counts.{Counts}
 use Rattle.sip_verdict.specs.declared.verdict.Verdict.{Verdict}
 use Rattle.sip_verdict.specs.Keyed.{Observation}
 use Rattle.sip_verdict.specs.Listing.{trouble_of}
-use Rattle.sip_verdict.specs.LogReason.{reason_of}
 use Rattle.sip_verdict.specs.MessageReading.{message_reading}
 use Rattle.sip_verdict.specs.VerdictOf.{keys_in, IsVerdictOf}
 use Rattle.sip_verdict.specs.SurveyOf.{AreFoundAt, IsSurveyAfter}
@@ -103,7 +101,7 @@ module _ (part : Option PartOf) (start : Option (List ℕ)) (now : log.ReaderSta
     surveys_end is last logs = ends Clean (ended.Clean (length read.es) (length (keys_in read.es))) is last (refl, refl) logs
 
     pub surveys_stop : (count : ℕ) (reason : LogReason) → count ≡ s.number → summary.end ≡ ended.LogFault (count + 1) reason → Appends mid after (end_text (ended.LogFault (count + 1) reason) counts.findings)
-        → (fault : LogFault) × (reason ≡ reason_of fault) × IfSome start (λ input. LogSays input s.tables.times read.items (Stops fault)) → IfSome start (λ input. IsWritten part input summary before after)
+        → (fault : LogReason) × (reason ≡ fault) × IfSome start (λ input. LogSays input s.tables.times read.items (Stops fault)) → IfSome start (λ input. IsWritten part input summary before after)
     surveys_stop count reason counted is last (fault, same, logs) =
         ends (Stops fault) (ended.LogFault (count + 1) reason) is last
         (refl, ap (λ n. ended.LogFault (n + 1) reason) (counted ∙ read.follows.number) ∙ ap (ended.LogFault (length read.es + 1)) same) logs

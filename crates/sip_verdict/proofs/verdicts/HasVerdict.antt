@@ -21,8 +21,7 @@ use Rattle.sip_log.specs.Log.{Log, Faulty, Readable, IsLogOf}
 use Rattle.sip_log.proofs.logs.Logs.{log_is_some}
 use Rattle.sip_verdict.specs.declared.verdict.Verdict.{Verdict}
 use Rattle.sip_verdict.specs.declared.verdict.Verdict.TheVariants.{Legal, Malformed, Breach, Undecided, LogFault}
-use Rattle.sip_verdict.specs.declared.log_reason.LogReason.TheVariants.{Header}
-use Rattle.sip_verdict.specs.LogReason.{reason_of}
+use Rattle.sip_standard.specs.declared.log_reason.LogReason.TheVariants.{Header}
 use Rattle.sip_verdict.specs.Keyed.{Observation, Machines, keys_of, HasRun}
 use Rattle.sip_verdict.specs.Verdicts.{IsFirst, IsTooWide, AllRun, IsFine, IsTrouble}
 use Rattle.sip_verdict.specs.Reading.{EntryReading, Judges, IsVerdictBy}
@@ -93,7 +92,7 @@ module _ {K : Type 0} (r : EntryReading K) (sees : Sees r) where
   -- entries have a verdict after others
   judges_some : (p : Times) (es : List (Observation K)) (items : List Item) (end : LogEnd) → Weakly ((v : Verdict) × Judges r p es items end v)
   judges_some p es [] Clean never = never (Legal (length es) (length (keys_of (r.machines p) es)), refl)
-  judges_some p es [] (Stops fault) never = never (LogFault (length es + 1) (reason_of fault), refl)
+  judges_some p es [] (Stops fault) never = never (LogFault (length es + 1) fault, refl)
   judges_some p es (item ∷ items) end never =
       sees es item (λ seen.
       fine_or_trouble (r.machines p) es seen.0 (λ v trouble. never (v, (seen.0, seen.1, inl trouble))) (λ fine.

@@ -1,8 +1,8 @@
 use Rattle.std.specs.Prelude.{Result, Ok, Err}
 use Rattle.sip_log.specs.declared.log_error.LogError.{LogError}
 use Rattle.sip_log.specs.declared.log_error.LogError.TheVariants as log
-use Rattle.sip_verdict.specs.declared.log_reason.LogReason.{LogReason}
-use Rattle.sip_verdict.specs.declared.log_reason.LogReason.TheVariants as reasons
+use Rattle.sip_standard.specs.declared.log_reason.LogReason.{LogReason}
+use Rattle.sip_standard.specs.declared.log_reason.LogReason.TheVariants as reasons
 use Rattle.sip_verdict.specs.declared.judge_error.JudgeError.{JudgeError}
 use Rattle.sip_verdict.specs.declared.judge_error.JudgeError.TheVariants.{Io, Memory}
 

@@ -11,6 +11,7 @@ pub mod Field
 pub mod Body
 pub mod Lines
 pub mod Says
+pub mod Canonical
 pub mod Transport
 pub mod Reason
 pub mod Times

@@ -6,10 +6,9 @@ use Rattle.sip_standard.specs.LogSays.{line_feed, LogEnd, Clean, Stops}
 use Rattle.sip_standard.specs.LogEntry.{entry_says, Item}
 use Rattle.sip_log.specs.Log.{Faulty, Readable, IsLogOf}
 use Rattle.sip_standard.specs.declared.fault.Fault.{Fault}
-use Rattle.sip_message.specs.Message.{Message, Spells}
 use Rattle.sip_standard.specs.Outcome.{stops}
 use Rattle.sip_standard.specs.Says.{Says}
-use Rattle.sip_message.specs.Canon.{canon}
+use Rattle.sip_standard.specs.Canonical.{IsCanonical}
 use Rattle.sip_standard.specs.declared.log_reason.LogReason.TheVariants as reasons
 use Rattle.sip_verdict.specs.declared.verdict.Verdict.TheVariants as verdicts
 use Rattle.sip_verdict.specs.declared.shown.Shown.{Shown}
@@ -19,15 +18,11 @@ use Rattle.sip_verdict.specs.Rendering.{rendered}
 
 -- What is shown of an input: its entries, one after another, each with its message in the canonical form.
 
--- the canonical form of the message that bytes spell
-abbrev pub IsCanon : List ℕ → List ℕ → Type 0
-IsCanon bytes text = (m : Message) × Spells bytes m × (text ≡ canon m)
-
 -- what stands for an entry's message: its canonical form, and nothing where it has none
 abbrev pub IsCanonOf : Action → List ℕ → List ℕ → Type 0
-IsCanonOf Sent bytes text = IsCanon bytes text
-IsCanonOf Received bytes text = IsCanon bytes text
-IsCanonOf Failed bytes text = IsCanon bytes text
+IsCanonOf Sent bytes text = IsCanonical bytes text
+IsCanonOf Received bytes text = IsCanonical bytes text
+IsCanonOf Failed bytes text = IsCanonical bytes text
 IsCanonOf Mark bytes text = text ≡ []
 IsCanonOf Restart bytes text = text ≡ []
 

@@ -12,8 +12,8 @@ returns-in_default c = subst (λ t. Appends c.args.out.now.items c.append.new.ou
 pub bytes-init : goal.bytes-init
 bytes-init c = unfold-start c.args.out.now.items c.args.text.now
 
-pub bytes-preserved-then-is_lws_byte : goal.bytes-preserved-then-is_lws_byte
-bytes-preserved-then-is_lws_byte c =
+pub bytes-preserved-then-is_blank : goal.bytes-preserved-then-is_blank
+bytes-preserved-then-is_blank c =
     unfold-blank c.args.out.now.items c.args.text.now c.bytes.out.items c.bytes.from c.bytes.at c.bytes-test.true (sym c.is_blank.ensures ∙ c.if-is_blank.true) c.bytes.invariant
 
 pub returns-in_err-append : goal.returns-in_err-append

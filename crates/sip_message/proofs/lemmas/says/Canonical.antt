@@ -23,31 +23,31 @@ use Rattle.sip_message.proofs.lemmas.says.Alike.{Alike}
 use Rattle.sip_message.proofs.lemmas.says.Bytes.{IsField, AreFields, IsTold, same-read}
 
 -- a name that has no compact form, and one that has
-one : (b : Bool) (k : Known) {name : FieldName} {text : List ℕ} → name_text name ≡ text → name_text (cond b (known k) name) ≡ cond b (long_name k) text
-one true k same = refl
-one false k same = same
+one : (b : Bool) (k : Known) (name : FieldName) {text : List ℕ} → name_text name ≡ text → name_text (cond b (known k) name) ≡ cond b (long_name k) text
+one true k name same = refl
+one false k name same = same
 
-two : (b c : Bool) (k : Known) {name : FieldName} {text : List ℕ} → name_text name ≡ text → name_text (cond b (known k) (cond c (known k) name)) ≡ cond (b || c) (long_name k) text
-two true c k same = refl
-two false true k same = refl
-two false false k same = same
+two : (b c : Bool) (k : Known) (name : FieldName) {text : List ℕ} → name_text name ≡ text → name_text (cond b (known k) (cond c (known k) name)) ≡ cond (b || c) (long_name k) text
+two true c k name same = refl
+two false true k name same = refl
+two false false k name same = same
 
 -- the names are written alike
 long-name : (token : List ℕ) → name_text (name_of token) ≡ form.long_name token
 long-name token =
     let has = λ (text : String). bytes_eq (folded token) (codes text) in
-    two (has "via") (has "v") known_name.Via
-    (two (has "from") (has "f") known_name.From
-    (two (has "to") (has "t") known_name.To
-    (two (has "call-id") (has "i") known_name.CallId
-    (one (has "cseq") known_name.CSeq
-    (two (has "content-length") (has "l") known_name.ContentLength
-    (two (has "contact") (has "m") known_name.Contact
-    (two (has "content-encoding") (has "e") known_name.ContentEncoding
-    (two (has "content-type") (has "c") known_name.ContentType
-    (two (has "subject") (has "s") known_name.Subject
-    (two (has "supported") (has "k") known_name.Supported
-    (one (has "route") known_name.Route refl)))))))))))
+    two (has "via") (has "v") known_name.Via _
+    (two (has "from") (has "f") known_name.From _
+    (two (has "to") (has "t") known_name.To _
+    (two (has "call-id") (has "i") known_name.CallId _
+    (one (has "cseq") known_name.CSeq _
+    (two (has "content-length") (has "l") known_name.ContentLength _
+    (two (has "contact") (has "m") known_name.Contact _
+    (two (has "content-encoding") (has "e") known_name.ContentEncoding _
+    (two (has "content-type") (has "c") known_name.ContentType _
+    (two (has "subject") (has "s") known_name.Subject _
+    (two (has "supported") (has "k") known_name.Supported _
+    (one (has "route") known_name.Route _ refl)))))))))))
 
 -- and so are fields
 same-text : (n : ℕ) (f : Field) (g : SaidField) → IsField n f g → field_text (unfolded_field f) ≡ form.field_text g
@@ -62,8 +62,8 @@ same-texts n (f ∷ fs) (g ∷ gs) (is, are) = ap₂ (λ t ts. t ∷ ts) (same-t
 
 -- the form of a message is that of what is told of it
 same-form : (m : Message) (told : StartLine × List SaidField × List ℕ) → IsTold m told → canon (message_of m) ≡ canonical told
-same-form m told (start_is, are, body_is) =
-    let fields = same-texts 1 m.fields told.1 are in
+same-form m (start, gs, body) (start_is, are, body_is) =
+    let fields = same-texts 1 m.fields gs are in
     λ i. flat_map with_end (start_text (start_is i) ∷ fields i) ++ (crlf ++ body_is i)
 
 -- bytes that spell a message have its canonical form

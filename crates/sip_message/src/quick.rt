@@ -42,9 +42,9 @@ pub(crate) fn read_ordinary<'a>(
     ensures head { IfOk result (λ found. IfSome found (λ read. IsOrdinary bytes.now (start_parts read.0) (fields_parts fields.new) read.1.now)) }
     ensures asked { IfOk result (λ found. IfSome found (λ _. AskedOf (fields_parts fields.new) asked.new)) }
 {
-    let mut others = [0; WORDS];
-    let mut controls = [0; WORDS];
-    let masks = Masks::of(front(bytes), &mut others, &mut controls);
+    let mut words = [0; 2 * WORDS];
+    let (others, controls) = words.split_at_mut(WORDS);
+    let masks = Masks::of(front(bytes), others, controls);
     let Some(end) = line_end(&masks, 0) else {
         return Ok(None);
     };

@@ -7,6 +7,7 @@ mod entries;
 mod finding;
 mod following;
 mod gathering;
+mod histories;
 mod judge_error;
 mod judging;
 mod laws;
@@ -30,6 +31,7 @@ mod survey_error;
 mod survey_laws;
 mod surveying;
 mod sweeping;
+mod transaction;
 mod troubled;
 mod verdict;
 mod walking;
@@ -67,4 +69,5 @@ pub use survey_laws::{
     what_stands_lasts,
 };
 pub use surveying::{survey, survey_part};
+pub use transaction::Transaction;
 pub use verdict::Verdict;

@@ -145,7 +145,7 @@ event_kept item r texts event number bytes is keeps text = let same : number ≡
 -- What concerns no key.
 
 -- without a branch there is no key
-no_keys : {A B : Type 0} (own other : A → B) (cancels : Bool) (branch : Option A) → branch ≡ None
+pub no_keys : {A B : Type 0} (own other : A → B) (cancels : Bool) (branch : Option A) → branch ≡ None
     → option_to_list (option_map own branch) ++ option_to_list (if cancels then option_map other branch else None) ≡ []
 no_keys own other cancels (Some x) none = absurd cc
 no_keys own other true None none = refl
@@ -182,7 +182,7 @@ other_way way direction i j e same (is_heard s keys says fine concerns is) none 
     (no_branch _ _ (is_sent (λ method. bytes_eq method (codes "CANCEL")) s.start way) (cookie_branch s.via.branch) (sym concerns ∙ sym (ap (λ o. o.keys) is) ∙ none))
 
 -- an entry with a message went some way
-went : (action : Action) → has_message action ≡ true → (direction : Direction) × (direction_of action ≡ Some direction)
+pub went : (action : Action) → has_message action ≡ true → (direction : Direction) × (direction_of action ≡ Some direction)
 went Sent says = (way.Sent, refl)
 went Received says = (way.Received, refl)
 went Failed says = (way.Sent, refl)

@@ -22,7 +22,7 @@ pub cond_true : {A : Type 0} (b : Bool) (x y : A) → b ≡ true → cond b x y 
 cond_true b x y e = ap (λ t. cond t x y) e
 
 -- neither is true where their disjunction is not
-or_false : (a b : Bool) → (a || b) ≡ false → (a ≡ false) × (b ≡ false)
+pub or_false : (a b : Bool) → (a || b) ≡ false → (a ≡ false) × (b ≡ false)
 or_false true b h = absurd (false≢true (sym h))
 or_false false b h = (refl, h)
 

@@ -34,7 +34,7 @@ pub record AreMore (old t : Tabled) : Type 0 where
   pub each : (n : ℕ) (key : KeyParts) (s : AnySet) → slice_get t.keys n ≡ Some key → slice_get t.sets n ≡ Some s
       → ((slice_get old.keys n ≡ Some key) × (slice_get old.sets n ≡ Some s)) ⊎ ((length old.keys ≤ n) × (s ≡ start_of old.times key) × ¬ Contains old.keys key)
 
-none_more : (t : Tabled) → length t.sets ≡ length t.keys → AreMore t t
+pub none_more : (t : Tabled) → length t.sets ≡ length t.keys → AreMore t t
 none_more t long = record { times = refl; long = long; few = omega arith; among = λ key has. has; each = λ n key s at here. inl (at, here) }
 
 -- one key more
@@ -63,7 +63,7 @@ module _ (old t : Tabled) (h : AreMore old t) (k : KeyParts) (n : ℕ) where
         λ has. absent t.keys new (subst (Contains t.keys) (sym a.1) (h.among key has)),
       )
 
-more_each : (old : Tabled) (ks : List KeyParts) (ns : List ℕ) (t u : Tabled) → AreMore old t → TouchesEach ks ns t u → AreMore old u
+pub more_each : (old : Tabled) (ks : List KeyParts) (ns : List ℕ) (t u : Tabled) → AreMore old t → TouchesEach ks ns t u → AreMore old u
 more_each old [] [] t u h same = subst (AreMore old) (sym same) h
 more_each old [] (n ∷ ns) t u h touched = absurd touched
 more_each old (k ∷ ks) [] t u h touched = absurd touched

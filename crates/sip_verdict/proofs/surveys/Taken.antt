@@ -58,7 +58,7 @@ grown_survey old new number bytes grown es t deaf h = record { order = h.order; 
     by key s false (leads, sound) = (grown_leads old new number bytes t.times grown (machine_of_key t.times.rules key) _ (newest_moment es) s leads, sound)
 
 -- keys that are there are no more
-known_keys : (p : Times) (keys more : List KeyParts) → All (Contains keys) more → fold (with_key same_key) keys more ≡ keys
+pub known_keys : (p : Times) (keys more : List KeyParts) → All (Contains keys) more → fold (with_key same_key) keys more ≡ keys
 known_keys p keys [] among = refl
 known_keys p keys (key ∷ more) among =
     ap (λ ks. fold (with_key same_key) ks more)
@@ -77,7 +77,7 @@ Passes texts moment hearing t b u c =
     → ArePassing texts p es e any t b → ArePassing texts p es e (is_among []) u c
 
 -- the keys of the entries, and of one more that concerns none
-keys_none : (p : Times) (es : List (Observation KeyParts)) (e : Observation KeyParts) → e.keys ≡ [] → keys_in (es ++ e ∷ []) ≡ keys_in es
+pub keys_none : (p : Times) (es : List (Observation KeyParts)) (e : Observation KeyParts) → e.keys ≡ [] → keys_in (es ++ e ∷ []) ≡ keys_in es
 keys_none p es e none = keys_of-push (key_machines p) es e ∙ ap (fold (with_key same_key) (keys_in es)) none
 
 module _ (old mid : Texts) (number : ℕ) (bytes : List ℕ) (grown : IsGrown old number bytes mid) (i : Item) (moment : ℕ) (at : i.moment ≡ moment) where
